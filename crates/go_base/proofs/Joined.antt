@@ -1,0 +1,52 @@
+-- One set added to another point by point.
+use Rattle.std.proofs.Common.{◌≡◌, ℕ, ◌+◌, ◌≤◌, ◌||◌, ◌&&◌, Bool, true, false, ltb, refl, sym, arith, inl, inr, ◌⊎◌, ◌∙◌}
+use Rattle.std.proofs.lemmas.Bool.{cases_eq, cases_lt, eq-eqb, ne_eqb, lt-ltb, le-ltb}
+use Rattle.std.specs.Ordering.{nat_cmp}
+use Rattle.std.specs.Cmp.{nat_cmp_total}
+use Rattle.std.specs.FinSet as sets
+use Rattle.go_rules.proofs.Sets.{contains-insert_nat, same_nat_set}
+
+-- the members below n have come
+abbrev pub JoinedBelow : sets.FinSet nat_cmp → sets.FinSet nat_cmp → ℕ → sets.FinSet nat_cmp → Type 0
+JoinedBelow old more n new = (r : ℕ) → sets.contains new r ≡ (sets.contains old r || (ltb r n && sets.contains more r))
+
+or-false : (a : Bool) → a ≡ (a || false)
+or-false true = refl
+or-false false = refl
+
+pub joined_none : (old more : sets.FinSet nat_cmp) → JoinedBelow old more 0 old
+joined_none old more r = rw (le-ltb r 0 (omega arith)) (or-false _)
+
+joined_step : (old more : sets.FinSet nat_cmp) (n : ℕ) (r : ℕ) → r ≡ n ⊎ (ltb r (n + 1) ≡ ltb r n)
+joined_step old more n r = elim (cases_eq r n) [
+  | inl e ↦ inl e
+  | inr ne ↦ elim (cases_lt r n) [
+    | inl l ↦ inr (lt-ltb r (n + 1) (omega arith) ∙ sym (lt-ltb r n l))
+    | inr g ↦ inr (le-ltb r (n + 1) (omega arith) ∙ sym (le-ltb r n g))
+  ]
+]
+
+pub joined_skip : (old more new : sets.FinSet nat_cmp) (n : ℕ) → JoinedBelow old more n new → sets.contains more n ≡ false → JoinedBelow old more (n + 1) new
+joined_skip old more new n h miss r = h r ∙ elim (joined_step old more n r) [
+  | inl e ↦ rw (e, le-ltb n n (omega arith), lt-ltb n (n + 1) (omega arith), miss) refl
+  | inr same ↦ rw same refl
+]
+
+or-true : (a : Bool) → (a || true) ≡ true
+or-true true = refl
+or-true false = refl
+
+pub joined_add : (old more new : sets.FinSet nat_cmp) (n : ℕ) → JoinedBelow old more n new → sets.contains more n ≡ true → JoinedBelow old more (n + 1) (sets.insert new n)
+joined_add old more new n h hit r = contains-insert_nat new n r ∙ elim (joined_step old more n r) [
+  | inl e ↦ rw (e, eq-eqb n n refl, lt-ltb n (n + 1) (omega arith), hit) (sym (or-true _))
+  | inr same ↦ elim (cases_eq r n) [
+    | inl e ↦ rw (e, eq-eqb n n refl, lt-ltb n (n + 1) (omega arith), hit) (sym (or-true _))
+    | inr ne ↦ rw (ne_eqb r n ne, same) (h r)
+  ]
+]
+
+pub joined_all : (old more new : sets.FinSet nat_cmp) (n : ℕ) → JoinedBelow old more n new → ((r : ℕ) → n ≤ r → sets.contains more r ≡ false) → new ≡ sets.union old more
+joined_all old more new n h above = same_nat_set _ _ (λ r. h r ∙ elim (cases_lt r n) [
+  | inl l ↦ rw (lt-ltb r n l) refl
+  | inr g ↦ rw (le-ltb r n g, above r g) refl
+] ∙ sym (sets.contains-union nat_cmp_total old more r))

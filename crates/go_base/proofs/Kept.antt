@@ -1,0 +1,33 @@
+-- The empty board as it is kept.
+use Rattle.std.proofs.Common.{◌≡◌, ℕ, zero, suc, ◌*◌, ◌≤◌, List, take, drop, replicate, None, refl, sym, ap, subst, ◌∙◌}
+use Rattle.std.proofs.lemmas.List.{length-replicate, take-replicate, drop-replicate}
+use Rattle.std.proofs.lemmas.Bool.{both_ways}
+use Rattle.go_rules.specs.declared.Cell.{Cell}
+use Rattle.go_rules.specs.declared.Cell.TheVariants.{Empty}
+use Rattle.go_rules.specs.Strings.{cell_at, is_stone}
+use Rattle.go_rules.specs.Position.{IsPosition}
+use Rattle.go_base.specs.Positions.{IsKept}
+use Rattle.go_base.proofs.Beside.{square_small}
+
+at_replicate : (n p : ℕ) → cell_at (replicate n Empty) p ≡ Empty
+at_replicate zero p = refl
+at_replicate (suc n) zero = refl
+at_replicate (suc n) (suc p) = at_replicate n p
+
+pub empty_position : (s : ℕ) → 2 ≤ s → s ≤ 19 → IsPosition (record { size = s; cells = replicate (s * s) Empty; ban = None })
+empty_position s low high = record {
+  size_at_least = low;
+  size_at_most = high;
+  cells = length-replicate (s * s) Empty;
+  alive = λ p h stone. absurd (both_ways (is_stone (cell_at (replicate (s * s) Empty) p)) (ap is_stone (at_replicate (s * s) p)) stone);
+  ban = tt;
+}
+
+pub view_empty : (s : ℕ) (cells : List Cell) → s ≤ 19 → cells ≡ replicate 361 Empty → take (s * s) cells ≡ replicate (s * s) Empty
+view_empty s cells high e = ap (take (s * s)) e ∙ take-replicate (s * s) 361 Empty (square_small s high)
+
+pub IsKept-empty : (s : ℕ) (cells : List Cell) → 2 ≤ s → s ≤ 19 → cells ≡ replicate 361 Empty → IsKept (record { size = s; ban = None; cells = cells })
+IsKept-empty s cells low high e = record {
+  position = subst (λ t. IsPosition (record { size = s; cells = t; ban = None })) (sym (view_empty s cells high e)) (empty_position s low high);
+  padded = ap (drop (s * s)) e ∙ drop-replicate (s * s) 361 Empty;
+}

@@ -1,0 +1,16 @@
+pub mod Marks
+pub mod Beside
+pub mod Trailed
+pub mod Flooded
+pub mod Liberties
+pub mod Joined
+pub mod Looking
+pub mod Takes
+pub mod Removing
+pub mod PlayedOn
+pub mod Kept
+pub mod Held
+pub mod Closing
+pub mod PlayNear
+pub mod Seeing
+pub mod Standing

@@ -1,0 +1,46 @@
+-- What a play on a board gives, by the cells that it left.
+use Rattle.std.proofs.Common.{◌≡◌, ◌≢◌, ℕ, ◌*◌, ◌<◌, true, false, cond, Option, List, Ok, Err, length, map, refl, sym, ap, subst, ◌∙◌}
+use Rattle.std.proofs.Math.ListN.{set, length-set}
+use Rattle.std.specs.List.{range_with_len}
+use Rattle.std.specs.Ordering.{nat_cmp}
+use Rattle.std.specs.FinSet as sets
+use Rattle.go_rules.specs.declared.Cell.{Cell}
+use Rattle.go_rules.specs.declared.Cell.TheVariants.{Empty}
+use Rattle.go_rules.specs.declared.Colour.{Colour}
+use Rattle.go_rules.specs.declared.Illegal.TheVariants.{Suicide}
+use Rattle.go_rules.specs.Strings.{cell_at, is_stone, liberties}
+use Rattle.go_rules.specs.Position.{IsPosition, stone_of, board_of}
+use Rattle.go_rules.specs.Play.{taken_at, cells_after, ban_after, play_free}
+use Rattle.go_rules.proofs.Plays.{taken_beside, empty_from, after_from}
+use Rattle.go_rules.proofs.Results.{put_on, after_on, result_of, free_suicide, free_done}
+use Rattle.go_base.specs.Takes.{TakenBeside}
+
+-- a stone of c was put at p, and what it takes was removed
+pub record PlaysOn (s : ℕ) (old put after : List Cell) (c : Colour) (p : ℕ) (taken : sets.FinSet nat_cmp) : Type 0 where
+  pub good : IsPosition (board_of s old)
+  pub on_board : p < s * s
+  pub is_empty : is_stone (cell_at old p) ≡ false
+  pub put_is : put ≡ set old p (stone_of c)
+  pub taken_is : TakenBeside s put c p → taken ≡ taken_at s put c
+  pub after_is : after ≡ map (λ q. cond (sets.contains taken q) Empty (cell_at put q)) (range_with_len 0 (s * s))
+
+module _ {s : ℕ} {old put after : List Cell} {c : Colour} {p : ℕ} {taken : sets.FinSet nat_cmp} (h : PlaysOn s old put after c p taken) where
+  pub plays_taken : taken ≡ taken_at s put c
+  plays_taken = h.taken_is (subst (λ t. TakenBeside s t c p) (sym h.put_is) (taken_beside (board_of s old) h.good c p h.on_board (empty_from _ h.is_empty)))
+
+  plays_length : length put ≡ s * s
+  plays_length = ap length h.put_is ∙ length-set old p (stone_of c) ∙ h.good.cells
+
+  pub plays_after : after ≡ after_on (board_of s old) c p
+  plays_after = h.after_is ∙ ap (λ n. map (λ q. cond (sets.contains taken q) Empty (cell_at put q)) (range_with_len 0 n)) (sym plays_length)
+      ∙ after_from s put c taken plays_taken plays_length ∙ ap (λ t. cells_after s t c) h.put_is
+
+  pub plays_suicide : liberties s after p ≡ 0 → play_free (board_of s old) c p ≡ Err Suicide
+  plays_suicide z = sym (free_suicide (board_of s old) c p h.is_empty (ap (λ t. liberties s t p) (sym plays_after) ∙ z))
+
+  pub plays_done : (ban : Option (ℕ × Colour)) → liberties s after p ≢ 0 → ((put : List Cell) → taken ≡ taken_at s put c → ban ≡ ban_after s put after c p)
+      → play_free (board_of s old) c p ≡ Ok (record { size = s; cells = after; ban = ban })
+  plays_done ban nz b =
+      sym (free_done (board_of s old) c p h.is_empty (λ z. nz (ap (λ t. liberties s t p) plays_after ∙ z)))
+      ∙ ap (λ (t : List Cell). Ok (record { size = s; cells = t; ban = ban_after s (put_on (board_of s old) c p) t c p })) (sym plays_after)
+      ∙ ap (λ (t : Option (ℕ × Colour)). Ok (record { size = s; cells = after; ban = t })) (sym (b (put_on (board_of s old) c p) (plays_taken ∙ ap (λ t. taken_at s t c) h.put_is)))

@@ -1,0 +1,98 @@
+-- The strings that a play takes, gathered side by side.
+use Rattle.std.proofs.Common.{◌≡◌, ℕ, ◌+◌, ◌*◌, ◌<◌, ◌≤◌, ◌&&◌, Bool, true, false, eqb, Some, List, refl, sym, ap, subst, arith, inl, inr, ◌∙◌}
+use Rattle.std.proofs.lemmas.Bool.{cases_eq, or_cases, or_left, or_right, both_ways, and_parts, and_from, lt-ltb, ltb-true}
+use Rattle.std.specs.Ordering.{nat_cmp}
+use Rattle.std.specs.Cmp.{nat_cmp_total}
+use Rattle.std.specs.FinSet as sets
+use Rattle.go_rules.specs.declared.Cell.{Cell}
+use Rattle.go_rules.specs.declared.Colour.{Colour}
+use Rattle.go_rules.specs.Strings.{cell_at, is_stone, is_in_string, string_at, liberties, Path}
+use Rattle.go_rules.specs.Play.{is_taken, taken_at}
+use Rattle.go_rules.specs.Position.{other, stone_of}
+use Rattle.go_rules.proofs.Sets.{contains-set_below, same_nat_set}
+use Rattle.go_rules.proofs.Cells.{eq_is_same_cell}
+use denote.Enum.Bare.{sameb}
+use Rattle.go_rules.specs.contracts.Cell.{the_type}
+use Rattle.go_rules.proofs.Paths.{path_on_board, IsInString-from_test, is_is_in_string-from_fact}
+use Rattle.go_rules.proofs.Plays.{taken_whole, taken_parts, stone_is}
+use Rattle.go_base.specs.Sides.{neighbour_at}
+use Rattle.go_base.specs.Takes.{TakenBeside}
+use Rattle.go_base.proofs.Beside.{neighbour_at-all}
+
+-- what the first n sides gave
+pub record Takes (s : ℕ) (put : List Cell) (c : Colour) (p n : ℕ) (taken : sets.FinSet nat_cmp) : Type 0 where
+  pub only : (q : ℕ) → sets.contains taken q ≡ true → (q < s * s) × (is_taken s put c q ≡ true)
+  pub all : (k : ℕ) → k < n → (r : ℕ) → neighbour_at s p k ≡ Some r → is_taken s put c r ≡ true → (q : ℕ) → Path s put r q → sets.contains taken q ≡ true
+
+pub Takes-none : (s : ℕ) (put : List Cell) (c : Colour) (p : ℕ) (taken : sets.FinSet nat_cmp) → taken ≡ sets.empty → Takes s put c p 0 taken
+Takes-none s put c p taken e = record {
+  only = λ q h. absurd (both_ways (sets.contains taken q) (ap (λ t. sets.contains t q) e ∙ sets.contains-empty nat_cmp q) h);
+  all = λ k l. absurd (omega arith);
+}
+
+pub Takes-skip : (s : ℕ) (put : List Cell) (c : Colour) (p n : ℕ) (taken : sets.FinSet nat_cmp) → Takes s put c p n taken
+    → ((r : ℕ) → neighbour_at s p n ≡ Some r → is_taken s put c r ≡ true → ⊥) → Takes s put c p (n + 1) taken
+Takes-skip s put c p n taken h none = record {
+  only = h.only;
+  all = λ k l r e t q path. elim (cases_eq k n) [
+    | inl f ↦ absurd (none r (ap (neighbour_at s p) (sym f) ∙ e) t)
+    | inr ne ↦ h.all k (omega arith) r e t q path
+  ];
+}
+
+string_has : (s : ℕ) (cells : List Cell) (r q : ℕ) → r < s * s → is_stone (cell_at cells r) ≡ true → Path s cells r q → sets.contains (string_at s cells r) q ≡ true
+unfolding string_at
+string_has s cells r q on stone path =
+    contains-set_below (s * s) (is_in_string s cells r) q ∙ and_from _ _ (lt-ltb q (s * s) (path_on_board s cells r on path)) (is_is_in_string-from_fact s cells r q on (record { stone = stone; path = path }))
+
+string_path : (s : ℕ) (cells : List Cell) (r q : ℕ) → sets.contains (string_at s cells r) q ≡ true → Path s cells r q
+unfolding string_at
+string_path s cells r q h = (IsInString-from_test s cells r q (and_parts _ _ (sym (contains-set_below (s * s) (is_in_string s cells r) q) ∙ h)).1).path
+
+pub Takes-add : (s : ℕ) (put : List Cell) (c : Colour) (p n r : ℕ) (taken new : sets.FinSet nat_cmp) → Takes s put c p n taken → r < s * s
+    → neighbour_at s p n ≡ Some r → is_taken s put c r ≡ true → new ≡ sets.union taken (string_at s put r) → Takes s put c p (n + 1) new
+Takes-add s put c p n r taken new h on e t is =
+    let has = λ (q : ℕ). ap (λ x. sets.contains x q) is ∙ sets.contains-union nat_cmp_total taken (string_at s put r) q in
+    record {
+      only = λ q b. elim (or_cases _ _ (sym (has q) ∙ b)) [
+        | inl before ↦ h.only q before
+        | inr now ↦ let path = string_path s put r q now in (path_on_board s put r on path, taken_whole s put c r q on t path)
+      ];
+      all = λ k l r' e' t' q path. has q ∙ elim (cases_eq k n) [
+        | inl f ↦
+            let g : r ≡ r' = (let k : Some r ≡ Some r' = sym e ∙ ap (neighbour_at s p) (sym f) ∙ e' in cc) in
+            or_right _ _ (string_has s put r q on (ap is_stone (taken_parts s put c r t).0 ∙ stone_is (other c)) (subst (λ x. Path s put x q) (sym g) path))
+        | inr ne ↦ or_left _ _ (h.all k (omega arith) r' e' t' q path)
+      ];
+    }
+
+same_tests : (a b : Bool) → (a ≡ true → b ≡ true) → (b ≡ true → a ≡ true) → a ≡ b
+same_tests true true f g = refl
+same_tests false false f g = refl
+same_tests true false f g = sym (f refl)
+same_tests false true f g = g refl
+
+pub Takes-all : (s : ℕ) (put : List Cell) (c : Colour) (p n : ℕ) (taken : sets.FinSet nat_cmp) → p < s * s → 4 ≤ n → Takes s put c p n taken → TakenBeside s put c p → taken ≡ taken_at s put c
+unfolding taken_at
+Takes-all s put c p n taken on four h beside =
+    same_nat_set _ _ (λ q. same_tests _ _
+    (λ b. let o = h.only q b in and_from _ _ (lt-ltb q (s * s) o.0) o.1)
+    (λ b.
+    let parts = and_parts _ _ b in
+    let x = beside q (ltb-true _ _ parts.0) parts.1 in
+    let side = neighbour_at-all s p x.0 on x.1 x.2 in
+    h.all side.0 (omega (arith, side.1, four)) x.0 side.2 x.3 q x.4)
+    ∙ sym (contains-set_below (s * s) (is_taken s put c) q))
+
+pub is_taken_from : (s : ℕ) (put : List Cell) (c : Colour) (q : ℕ) (k : Cell) (r : Bool) (n : ℕ) → k ≡ stone_of (other c) → r ≡ sameb the_type (cell_at put q) k → n ≡ liberties s put q
+    → (r && eqb n 0) ≡ is_taken s put c q
+unfolding is_taken
+is_taken_from s put c q k r n ke re ne = rw (re ∙ eq_is_same_cell (cell_at put q) k, ke, ne) refl
+
+pub not_taken_from : (s : ℕ) (put : List Cell) (c : Colour) (q : ℕ) (k : Cell) (r : Bool) → k ≡ stone_of (other c) → r ≡ sameb the_type (cell_at put q) k → r ≡ false
+    → r ≡ is_taken s put c q
+not_taken_from s put c q k r ke re f =
+    is_taken_from' s put c q k r ke re f
+  where
+    is_taken_from' : (s : ℕ) (put : List Cell) (c : Colour) (q : ℕ) (k : Cell) (r : Bool) → k ≡ stone_of (other c) → r ≡ sameb the_type (cell_at put q) k → r ≡ false → r ≡ is_taken s put c q
+    is_taken_from' s put c q k r ke re f = f ∙ sym (ap (λ b. b && eqb (liberties s put q) 0) f) ∙ is_taken_from s put c q k r (liberties s put q) ke re refl

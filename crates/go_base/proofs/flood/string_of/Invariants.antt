@@ -1,0 +1,19 @@
+use Rattle.std.proofs.Common.{◌≡◌, ℕ, ◌-◌, ◌*◌, ◌<◌, true}
+use Rattle.go_rules.specs.Position.{BoardState}
+use Rattle.go_rules.specs.Neighbourhood.{neighbourhood_of}
+use Rattle.go_base.specs.Trails.{has_point}
+use Rattle.go_base.specs.Views.{Looks, anywhere, alone}
+use Rattle.go_base.proofs.Flooded.{Flooded}
+use Rattle.go_base.proofs.flood.string_of.Given as goal
+
+abbrev pub invariant-loop-next : goal.invariant-loop-next
+invariant-loop-next g l = record {
+  looks : Looks g.V.View.cells g.V.View.asks l.fn.board l.board anywhere;
+  more : Looks g.V.View.cells g.V.View.asks l.initial.board l.board anywhere;
+  over : (pos : BoardState) → g.V.View.agrees l.board pos → Flooded (g.V.View.rows l.fn.board) (g.V.View.cells l.fn.board pos) l.p l.next l.trail;
+  near : (pos : BoardState) → g.V.View.agrees l.board pos → g.V.View.asks l.fn.board l.board (neighbourhood_of (g.V.View.rows l.fn.board) (g.V.View.cells l.fn.board pos) (alone l.p));
+  on_board : (r : ℕ) → has_point l.trail r ≡ true → r < g.V.View.rows l.fn.board * g.V.View.rows l.fn.board;
+}
+
+abbrev pub decreases-loop-next : goal.decreases-loop-next
+decreases-loop-next g l = 361 - l.next

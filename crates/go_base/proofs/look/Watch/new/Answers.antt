@@ -1,0 +1,17 @@
+use Rattle.std.proofs.Common.{ap, ◌∙◌}
+use Rattle.std.proofs.lemmas.List.{length-replicate}
+use Rattle.go_base.specs.declared.facts.Known.TheVariants.{Unseen}
+use Rattle.go_base.specs.declared.facts.Asked.TheVariants.{Neither}
+use Rattle.std.proofs.Common.{length}
+use Rattle.go_base.proofs.Seeing.{none_agrees, none_at}
+use Rattle.go_base.proofs.look.Watch.new.Goals as goal
+
+pub invariant_of-result : goal.invariant_of-result
+invariant_of-result c = record {
+  holds = none_agrees c.size.result c.ban.result c.no_cells.result c.no_bans.result c.args.position.now c.size.ensures.position c.size.ensures.value c.no_cells.ensures c.no_bans.ensures;
+  ban = c.ban.ensures;
+  whole = (ap length c.no_cells.ensures ∙ length-replicate 361 Unseen, ap length c.no_bans.ensures ∙ length-replicate 361 Neither);
+}
+
+pub returns-clause-none : goal.returns-clause-none
+returns-clause-none c = λ p. none_at c.size.result c.ban.result c.no_cells.result c.no_bans.result p c.no_cells.ensures c.no_bans.ensures

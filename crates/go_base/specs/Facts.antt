@@ -1,0 +1,95 @@
+-- What a reading has looked at, and the positions on which it holds.
+use Rattle.std.specs.Prelude.{◌≡◌, ◌≢◌, ℕ, ◌*◌, ◌<◌, Bool, true, IsTrue, ◌⊎◌, Option, Some, None, IfSome}
+use Rattle.std.proofs.Common.{inl, inr}
+use Rattle.std.specs.Coded.{le_prop}
+use native.Mathlib.Nat.{ℕ_set}
+use mathlib.Core.Sum.{⊎_set}
+use Rattle.go_rules.specs.declared.Cell.{Cell}
+use Rattle.go_rules.specs.declared.Cell.TheVariants.{Empty}
+use Rattle.go_rules.specs.declared.Colour.{Colour}
+use Rattle.go_rules.specs.Strings.{cell_at}
+use Rattle.go_rules.specs.Position.{BoardState, IsPosition, is_banned}
+
+-- a fact about a position: its size, the cell of a point, or whether the ban forbids a play
+pub data Fact : Type 0 where
+  SizeIs : ℕ → Fact
+  CellIs : ℕ → Cell → Fact
+  BanIs : ℕ → Colour → Bool → Fact
+
+-- the fact is so on the position
+abbrev pub Holds : BoardState → Fact → Type 0
+Holds pos (SizeIs n) = pos.size ≡ n
+Holds pos (CellIs p cell) = cell_at pos.cells p ≡ cell
+Holds pos (BanIs p c forbidden) = is_banned pos.ban c p ≡ forbidden
+
+-- it is a position, and each fact seen is so on it
+pub record Agrees (seen : Fact → Bool) (pos : BoardState) : Type 0 where
+  pub sound : IsPosition pos
+  pub each : (fact : Fact) → IsTrue (seen fact) → Holds pos fact
+
+-- whatever was seen before is seen now
+pub record Grows (before now : Fact → Bool) : Type 0 where
+  pub kept : (fact : Fact) → IsTrue (before fact) → IsTrue (now fact)
+
+-- the fact's point, if it has one, is in the set
+abbrev pub IsAbout : (ℕ → Bool) → Fact → Type 0
+IsAbout S (SizeIs n) = Unit {0}
+IsAbout S (CellIs p cell) = IsTrue (S p)
+IsAbout S (BanIs p c forbidden) = IsTrue (S p)
+
+-- each fact that came is about a point of the set
+pub record AddsIn (before now : Fact → Bool) (S : ℕ → Bool) : Type 0 where
+  pub added : (fact : Fact) → IsTrue (now fact) → IsTrue (before fact) ⊎ IsAbout S fact
+
+-- a position that agrees with more agrees with less
+pub agrees_before : {before now : Fact → Bool} {pos : BoardState} → Grows before now → Agrees now pos → Agrees before pos
+agrees_before g a = record { sound = a.sound; each = λ fact h. a.each fact (g.kept fact h) }
+
+pub Grows-refl : (seen : Fact → Bool) → Grows seen seen
+Grows-refl seen = record { kept = λ _ h. h }
+
+pub Grows-trans : {a b c : Fact → Bool} → Grows a b → Grows b c → Grows a c
+Grows-trans g h = record { kept = λ fact i. h.kept fact (g.kept fact i) }
+
+-- a position that agrees has the size that was seen
+pub same_size : {seen : Fact → Bool} {pos : BoardState} {n : ℕ} → IsTrue (seen (SizeIs n)) → Agrees seen pos → pos.size ≡ n
+same_size {n} told a = a.each (SizeIs n) told
+
+pub AddsIn-refl : (seen : Fact → Bool) (S : ℕ → Bool) → AddsIn seen seen S
+AddsIn-refl seen S = record { added = λ _ h. inl h }
+
+IsAbout-mono : (S T : ℕ → Bool) (fact : Fact) → ((p : ℕ) → IsTrue (S p) → IsTrue (T p)) → IsAbout S fact → IsAbout T fact
+IsAbout-mono S T (SizeIs n) h i = tt
+IsAbout-mono S T (CellIs p cell) h i = h p i
+IsAbout-mono S T (BanIs p c forbidden) h i = h p i
+
+pub AddsIn-trans : {a b c : Fact → Bool} {S : ℕ → Bool} → AddsIn a b S → AddsIn b c S → AddsIn a c S
+AddsIn-trans g h = record { added = λ fact i. elim (h.added fact i) [ inl j ↦ g.added fact j | inr j ↦ inr j ] }
+
+pub AddsIn-mono : {a b : Fact → Bool} {S T : ℕ → Bool} → AddsIn a b S → ((p : ℕ) → IsTrue (S p) → IsTrue (T p)) → AddsIn a b T
+AddsIn-mono {S} {T} g m = record { added = λ fact i. elim (g.added fact i) [ inl j ↦ inl j | inr j ↦ inr (IsAbout-mono S T fact m j) ] }
+
+IfSome-prop : {A : Type 0} (o : Option A) (P : A → Type 0) → ((a : A) → IsProp (P a)) → IsProp (IfSome o P)
+IfSome-prop None P h = hlevel
+IfSome-prop (Some a) P h = h a
+
+ban-prop : (pos : BoardState) → IsProp (IfSome pos.ban (λ b. (b.0 < pos.size * pos.size) × (cell_at pos.cells b.0 ≡ Empty)))
+ban-prop pos = IfSome-prop pos.ban _ (λ b. hlevel (le_prop, ⊎_set))
+
+IsPosition-prop : (pos : BoardState) → IsProp (IsPosition pos)
+IsPosition-prop pos = hlevel (le_prop, ℕ_set, ban-prop)
+
+Holds-prop : (pos : BoardState) (fact : Fact) → IsProp (Holds pos fact)
+Holds-prop pos (SizeIs n) = hlevel (ℕ_set pos.size n)
+Holds-prop pos (CellIs p cell) = hlevel ⊎_set
+Holds-prop pos (BanIs p c forbidden) = hlevel ⊎_set
+
+pub Agrees-prop : (seen : Fact → Bool) (pos : BoardState) → IsProp (Agrees seen pos)
+Agrees-prop seen pos = hlevel (IsPosition-prop, Holds-prop)
+
+-- bans are a set
+pub ban_set : (a b : Option (ℕ × Colour)) → IsProp (a ≡ b)
+ban_set a b = hlevel (⊎_set, ℕ_set)
+
+pub whole_prop : (a b : ℕ) → IsProp ((a ≡ 361) × (b ≡ 361))
+whole_prop a b = hlevel (ℕ_set)

@@ -1,0 +1,34 @@
+-- A board that is held whole.
+use Rattle.std.specs.Prelude.{◌≡◌, ℕ, ◌*◌, ◌≤◌, List, length, take, drop, refl}
+use Rattle.std.proofs.Common.{ap, sym, subst, ◌∙◌, arith, length-take}
+use Rattle.std.proofs.lemmas.Nat.{mul-le}
+use Rattle.go_rules.specs.declared.Cell.{Cell}
+use Rattle.go_base.specs.declared.view.Flat.{Flat}
+
+-- the size is as it was, and so are the cells past the board
+pub record KeepsRest (old new : Flat) : Type 0 where
+  pub size : new.size ≡ old.size
+  pub length : length new.cells ≡ length old.cells
+  pub rest : drop (old.size * old.size) new.cells ≡ drop (old.size * old.size) old.cells
+
+pub KeepsRest-refl : (v : Flat) → KeepsRest v v
+KeepsRest-refl v = record { size = refl; length = refl; rest = refl }
+
+pub KeepsRest-trans : (u v w : Flat) → KeepsRest u v → KeepsRest v w → KeepsRest u w
+KeepsRest-trans u v w a b = record {
+  size = b.size ∙ a.size;
+  length = b.length ∙ a.length;
+  rest = subst (λ n. drop (n * n) w.cells ≡ drop (n * n) v.cells) a.size b.rest ∙ a.rest;
+}
+
+pub KeepsRest-back : (u v : Flat) → KeepsRest u v → (length v.cells ≡ 361) × (v.size ≤ 19) → (length u.cells ≡ 361) × (u.size ≤ 19)
+KeepsRest-back u v a b = (sym a.length ∙ b.0, subst (λ n. n ≤ 19) a.size b.1)
+
+-- the cells of the board are as many as its points
+pub flat_whole : (v : Flat) → (length v.cells ≡ 361) × (v.size ≤ 19) → length (take (v.size * v.size) v.cells) ≡ v.size * v.size
+flat_whole v a =
+    let small : v.size * v.size ≤ 361 = mul-le v.size v.size 19 19 a.1 a.1 in
+    length-take' (v.size * v.size) v.cells (subst (λ n. v.size * v.size ≤ n) (sym a.0) small)
+  where
+    length-take' : (n : ℕ) (xs : List Cell) → n ≤ length xs → length (take n xs) ≡ n
+    length-take' n xs h = simp length-take (omega (arith, h))

@@ -1,0 +1,11 @@
+pub mod Bits
+pub mod Sides
+pub mod Trails
+pub mod Floods
+pub mod Views
+pub mod Takes
+pub mod Flats
+pub mod Positions
+pub mod Facts
+pub mod Told
+pub mod Sizes

@@ -1,0 +1,36 @@
+-- How a position is kept: the cells past the board are empty.
+use Rattle.std.specs.Prelude.{◌≡◌, ℕ, ◌-◌, ◌*◌, ◌≤◌, length, List, ◌++◌, take, drop, replicate}
+use Rattle.std.proofs.Common.{ap, sym, ◌∙◌}
+use Rattle.std.proofs.lemmas.List.{take-append-drop}
+use Rattle.go_rules.specs.declared.Cell.{Cell}
+use Rattle.go_rules.specs.declared.Cell.TheVariants.{Empty}
+use Rattle.go_rules.specs.Position.{BoardState, IsPosition}
+use Rattle.go_base.specs.declared.position.Position.TheInside.{Inside}
+use Rattle.go_base.specs.declared.view.Flat.{Flat}
+
+abbrev pub padding : ℕ → List Cell
+padding s = replicate (361 - s * s) Empty
+
+abbrev pub position_of : Inside → BoardState
+position_of a = record { size = a.size; cells = take (a.size * a.size) a.cells; ban = a.ban }
+
+pub record IsKept (a : Inside) : Type 0 where
+  pub position : IsPosition (position_of a)
+  pub padded : drop (a.size * a.size) a.cells ≡ padding a.size
+
+abbrev pub kept_of : BoardState → Inside
+kept_of pos = record { size = pos.size; cells = pos.cells ++ padding pos.size; ban = pos.ban }
+
+-- the fields come back from the position
+pub kept_of-position_of : (a : Inside) → IsKept a → kept_of (position_of a) ≡ a
+kept_of-position_of a h =
+    ap (λ (cells : List Cell). record { size = a.size; ban = a.ban; cells = cells })
+    (ap (λ t. take (a.size * a.size) a.cells ++ t) (sym h.padded) ∙ take-append-drop (a.size * a.size) a.cells)
+
+-- the board holds the position
+pub record Holds (pos : BoardState) (board : Flat) : Type 0 where
+  pub position : IsPosition pos
+  pub size : board.size ≡ pos.size
+  pub cells : take (board.size * board.size) board.cells ≡ pos.cells
+  pub whole : (length board.cells ≡ 361) × (board.size ≤ 19)
+  pub padded : drop (board.size * board.size) board.cells ≡ padding board.size

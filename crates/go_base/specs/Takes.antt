@@ -1,0 +1,18 @@
+-- Where a stone was put on a position, it is next to each string that has no liberty.
+use Rattle.std.specs.Prelude.{◌≡◌, ℕ, ◌*◌, ◌<◌, ◌==◌, ◌&&◌, ◌||◌, Bool, true, List}
+use Rattle.go_rules.specs.declared.Cell.{Cell}
+use Rattle.go_rules.specs.declared.Colour.{Colour}
+use Rattle.go_rules.specs.Board.{are_neighbours}
+use Rattle.go_rules.specs.Below.{any_below}
+use Rattle.go_rules.specs.Strings.{cell_at, same_cell, Path}
+use Rattle.go_rules.specs.Neighbourhood.{neighbourhood_of}
+use Rattle.go_rules.specs.Play.{is_taken}
+use Rattle.go_rules.specs.Position.{other, stone_of}
+use Rattle.go_base.specs.Views.{alone}
+
+abbrev pub TakenBeside : ℕ → List Cell → Colour → ℕ → Type 0
+TakenBeside s put c p = (q : ℕ) → q < s * s → is_taken s put c q ≡ true → (x : ℕ) × (x < s * s) × (are_neighbours s p x ≡ true) × (is_taken s put c x ≡ true) × Path s put x q
+
+-- r is a neighbour of p, or close to one that holds an enemy of c
+unfoldable pub near_taken : ℕ → List Cell → Colour → ℕ → ℕ → Bool
+near_taken s cells c p r = any_below (s * s) (λ q. are_neighbours s p q && ((r == q) || (same_cell (cell_at cells q) (stone_of (other c)) && neighbourhood_of s cells (alone q) r)))

@@ -1,0 +1,25 @@
+-- What a look at a view keeps.
+use Rattle.std.specs.Prelude.{◌≡◌, ℕ, Bool, true, false, ◌==◌, ◌||◌, List}
+use Rattle.go_rules.specs.declared.Cell.{Cell}
+use Rattle.go_rules.specs.Position.{BoardState}
+use Rattle.go_rules.specs.Board.{are_neighbours}
+
+-- only points of S were asked for, and the cells are as they were
+pub record Looks {V : Type 0} (cells : V → BoardState → List Cell) (asks : V → V → (ℕ → Bool) → Type 0) (old new : V) (S : ℕ → Bool) : Type 0 where
+  pub asked : asks old new S
+  pub same : (pos : BoardState) → cells new pos ≡ cells old pos
+
+-- every point
+abbrev pub anywhere : ℕ → Bool
+anywhere q = true
+
+abbrev pub nowhere : ℕ → Bool
+nowhere q = false
+
+-- q alone
+abbrev pub alone : ℕ → ℕ → Bool
+alone p q = q == p
+
+-- p and its neighbours
+abbrev pub around : ℕ → ℕ → ℕ → Bool
+around s p q = (q == p) || are_neighbours s p q

@@ -1,0 +1,26 @@
+//! The Go board: sizes, points, sets of points, positions and plays, and views of a position that record what was asked.
+//! Every crate that knows of stones stands on this one.
+//!
+//! A point of a board of size `s` is a number below `s * s`: point `r * s + c` stands in row `r` from the top and column `c`
+//! from the left, both counted from 0. Reading order is the order of these numbers. Each call meets the rules as `go_rules`
+//! defines them, and none takes memory.
+#![tactic(auto)]
+
+pub mod boundary;
+pub mod capture;
+pub mod facts;
+pub mod flood;
+pub mod look;
+pub mod points;
+pub mod position;
+pub mod sides;
+pub mod size;
+pub mod trail;
+pub mod view;
+
+pub use facts::Facts;
+pub use go_rules::{Cell, Colour, Illegal};
+pub use look::{Look, Watch};
+pub use points::PointSet;
+pub use position::Position;
+pub use size::{Point, Size};

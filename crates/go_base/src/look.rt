@@ -1,0 +1,112 @@
+//! The view of a position that keeps what it was asked.
+
+ghost use Rattle.std.specs.Prelude.{◌≡◌, ℕ, ◌*◌, ◌<◌, Bool, IsTrue, false, length};
+ghost use Rattle.go_rules.specs.Strings.{cell_at};
+ghost use Rattle.go_rules.specs.Position.{BoardState, is_banned};
+ghost use Rattle.go_base.specs.Views.{alone};
+ghost use Rattle.go_base.specs.Facts.{Agrees, Grows, AddsIn, Agrees-prop, ban_set, whole_prop};
+ghost use Rattle.go_base.specs.Told.{told, is_fact_at};
+
+use crate::facts::{Facts, Known, no_bans, no_cells};
+use crate::position::Position;
+use crate::size::{Point, Size};
+use go_rules::{Cell, Colour};
+
+/// A view of one position, which keeps what it was told.
+pub trait Look {
+    ghost use Rattle.go_rules.specs.Position.{BoardState};
+    ghost use Rattle.go_base.specs.Facts.{Fact, SizeIs, CellIs, BanIs};
+
+    /// The position that it shows, which no call changes.
+    ghost shows: { Self → BoardState };
+
+    /// The facts seen so far.
+    ghost seen: { Self → Fact → Bool };
+
+    fn size(&self) -> Size
+        ensures { result ≡ (shows self.now).size };
+
+    fn cell(&mut self, p: Point) -> Cell
+        requires { p < (shows self.old).size * (shows self.old).size }
+        ensures same { shows self.new ≡ shows self.old }
+        ensures grows { Grows (seen self.old) (seen self.new) }
+        ensures told { IsTrue (seen self.new (CellIs p result)) }
+        ensures near { AddsIn (seen self.old) (seen self.new) (alone p) };
+
+    fn ko(&mut self, p: Point, c: Colour) -> bool
+        requires { p < (shows self.old).size * (shows self.old).size }
+        ensures same { shows self.new ≡ shows self.old }
+        ensures grows { Grows (seen self.old) (seen self.new) }
+        ensures told { IsTrue (seen self.new (BanIs p c result)) }
+        ensures near { AddsIn (seen self.old) (seen self.new) (alone p) };
+
+    /// What was seen holds on the position shown.
+    ghost holds: { (look : Self) → Agrees (seen look) (shows look) };
+
+    /// The size is always among the facts.
+    ghost sized: { (look : Self) → IsTrue (seen look (SizeIs (shows look).size)) };
+}
+
+/// A view of a position that records what it was asked.
+#[derive(Drop)]
+pub struct Watch<'a> {
+    position: &'a Position,
+    facts: Facts,
+    ghost holds: { Agrees (told facts) position.now } by { Agrees-prop _ _ },
+    ghost ban: { facts.ban ≡ position.now.ban } by { ban_set _ _ },
+    ghost whole: { (length facts.cells ≡ 361) × (length facts.bans ≡ 361) } by { whole_prop _ _ },
+}
+
+impl<'a> Watch<'a> {
+    /// A view with no facts but the size.
+    pub fn new(position: &'a Position) -> Watch<'a>
+        ensures shows { result.position.now ≡ position.now }
+        ensures none { (p : ℕ) → is_fact_at result.facts p ≡ false }
+    {
+        let facts = Facts {
+            size: position.size(),
+            ban: position.ban(),
+            cells: no_cells(),
+            bans: no_bans(),
+        };
+        Watch { position, facts }
+    }
+
+    /// What was seen until now.
+    pub fn facts(&self) -> Facts
+        ensures { result ≡ self.now.facts }
+    {
+        self.facts
+    }
+}
+
+impl<'a> Look for Watch<'a> {
+    ghost use Rattle.go_base.specs.Told.{told};
+    ghost use Rattle.go_base.specs.Sizes.{sized_of};
+
+    ghost shows = { λ w. w.position.now };
+
+    ghost seen = { λ w. told w.facts };
+
+    ghost holds = { λ w. w.holds };
+
+    ghost sized = { λ w. sized_of w.facts w.position.now w.holds };
+
+    fn size(&self) -> Size {
+        self.position.size()
+    }
+
+    fn cell(&mut self, p: Point) -> Cell {
+        let _ = self.position.size().points();
+        let cell = self.position.cell(p);
+        self.facts.cells[p as usize] = Known::of(cell);
+        cell
+    }
+
+    fn ko(&mut self, p: Point, c: Colour) -> bool {
+        let _ = self.position.size().points();
+        let asked = self.facts.bans[p as usize];
+        self.facts.bans[p as usize] = asked.with(c);
+        self.position.bans(c, p)
+    }
+}

@@ -1,0 +1,161 @@
+//! Positions and plays: the public calls over the shared flood and play.
+
+ghost use Rattle.std.specs.Prelude.{◌≡◌, ℕ, ◌*◌, ◌<◌, replicate, None, IfOk};
+ghost use Rattle.go_rules.specs.Position.{BoardState, IsPosition, is_banned};
+ghost use Rattle.go_rules.specs.Play.{pass as passed, play as played, play_free as played_free};
+ghost use Rattle.go_rules.specs.Strings.{cell_at, string_at, liberties as liberties_at};
+ghost use Rattle.go_base.specs.Positions.{Holds};
+
+use crate::capture::play_on;
+use crate::flood::{liberties_of, string_of};
+use crate::points::PointSet;
+use crate::size::{Point, Size};
+use crate::view::Flat;
+use go_rules::{Cell, Colour, Illegal};
+use std::marker::Model;
+
+/// A position of the game: each string has a liberty, and the ban's point is empty.
+#[derive(Clone, Copy)]
+pub struct Position {
+    size: Size,
+    ban: Option<(Point, Colour)>,
+    cells: [Cell; 361],
+}
+
+impl Model for Position {
+    ghost use Rattle.go_rules.specs.Position.{BoardState};
+
+    ghost Value = { BoardState };
+
+    ghost use Rattle.go_base.specs.Positions.{position_of, IsKept, kept_of, kept_of-position_of};
+
+    ghost view = { position_of };
+
+    ghost invariant = { IsKept };
+
+    ghost inverse = { kept_of };
+
+    ghost inverse_ok = { kept_of-position_of };
+}
+
+/// A board with no stone.
+fn empty_cells() -> [Cell; 361]
+    ensures { result ≡ replicate 361 Cell.Empty }
+{
+    [Cell::Empty; 361]
+}
+
+impl Position {
+    /// The empty board.
+    pub fn new(size: Size) -> Position
+        ensures { result ≡ record { size = size; cells = replicate (size * size) Cell.Empty; ban = None } }
+    {
+        let _ = size.get();
+        Position {
+            size,
+            ban: None,
+            cells: empty_cells(),
+        }
+    }
+
+    pub fn size(&self) -> Size
+        ensures value { result ≡ self.now.size }
+        ensures position { IsPosition self.now }
+    {
+        self.size
+    }
+
+    pub fn cell(&self, p: Point) -> Cell
+        requires { p < self.now.size * self.now.size }
+        ensures { result ≡ cell_at self.now.cells p }
+    {
+        self.cells[p as usize]
+    }
+
+    pub fn ban(&self) -> Option<(Point, Colour)>
+        ensures { result ≡ self.now.ban }
+    {
+        self.ban
+    }
+
+    pub fn pass(&self) -> Position
+        ensures { result ≡ passed self.now }
+    {
+        Position {
+            size: self.size,
+            ban: None,
+            cells: self.cells,
+        }
+    }
+
+    /// A copy of the board.
+    fn board(&self) -> Flat
+        ensures { Holds self.now result }
+    {
+        let _ = self.size.get();
+        Flat {
+            size: self.size,
+            cells: self.cells,
+        }
+    }
+
+    /// The string of p, with no point where p is empty.
+    pub fn string(&self, p: Point) -> PointSet
+        requires { p < self.now.size * self.now.size }
+        ensures { result ≡ string_at self.now.size self.now.cells p }
+    {
+        let mut board = self.board();
+        string_of(&mut board, p)
+    }
+
+    /// How many liberties the string of p has, 0 where p is empty.
+    pub fn liberties(&self, p: Point) -> u16
+        requires { p < self.now.size * self.now.size }
+        ensures { result ≡ liberties_at self.now.size self.now.cells p }
+    {
+        let mut board = self.board();
+        liberties_of(&mut board, p).count()
+    }
+
+    /// Whether the ban is on this play.
+    pub fn bans(&self, c: Colour, p: Point) -> bool
+        ensures { result ≡ is_banned self.now.ban c p }
+    {
+        match self.ban {
+            Some((q, colour)) => q == p && colour == c,
+            None => false,
+        }
+    }
+
+    /// The play with no regard to the ban.
+    pub fn play_free(&self, c: Colour, p: Point) -> Result<Position, Illegal>
+        requires { p < self.now.size * self.now.size }
+        ensures value { result ≡ played_free self.now c p }
+        ensures same_size { IfOk result (λ next. next.size ≡ self.now.size) }
+    {
+        let mut board = self.board();
+        match play_on(&mut board, c, p) {
+            Ok(ban) => Ok(Position {
+                size: board.size,
+                ban,
+                cells: board.cells,
+            }),
+            Err(e) => Err(e),
+        }
+    }
+
+    /// The play, or the first reason that forbids it.
+    pub fn play(&self, c: Colour, p: Point) -> Result<Position, Illegal>
+        requires { p < self.now.size * self.now.size }
+        ensures value { result ≡ played self.now c p }
+        ensures same_size { IfOk result (λ next. next.size ≡ self.now.size) }
+    {
+        if self.cells[p as usize] != Cell::Empty {
+            return Err(Illegal::Occupied);
+        }
+        if self.bans(c, p) {
+            return Err(Illegal::Ko);
+        }
+        self.play_free(c, p)
+    }
+}

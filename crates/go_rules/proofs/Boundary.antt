@@ -1,0 +1,185 @@
+-- Strings that are the same, and the least point of each.
+use Rattle.std.proofs.Common.{◌≡◌, ◌⊎◌, ℕ, ◌+◌, ◌*◌, ◌<◌, ◌≤◌, ◌&&◌, ltb, Bool, true, false, not, List, refl, sym, ap, subst, arith, inl, inr, ◌∙◌}
+use Rattle.std.proofs.lemmas.Bool.{cases_Bool, cases_eq, cases_lt, or_cases, or_left, or_right, eqb-true, eq-eqb, both_ways, and_parts, and_from, lt-ltb, ltb-true, not-true, not_from_false}
+use Rattle.std.specs.Ordering.{nat_cmp}
+use Rattle.std.specs.FinSet as sets
+use Rattle.go_rules.specs.declared.Cell.{Cell}
+use Rattle.go_rules.specs.declared.Cell.TheVariants.{Empty, Black, White}
+use Rattle.go_rules.specs.Board.{are_neighbours}
+use Rattle.go_rules.specs.Below.{any_below}
+use Rattle.go_rules.specs.Strings.{cell_at, is_stone, is_in_string, string_at, Path, start, IsInString}
+use Rattle.go_rules.specs.Boundary.{is_enemy, is_beside_string, is_boundary, boundary_points}
+use Rattle.go_rules.proofs.Counts.{any_below_gives, any_below_from, any_below_none, any_below_false, any_below_same}
+use Rattle.go_rules.proofs.Sets.{contains-set_below, contains-insert_nat, same_nat_set}
+use Rattle.go_rules.proofs.Paths.{path_on_board, IsInString-from_test, is_is_in_string-from_fact}
+use Rattle.go_rules.proofs.Links.{path_same, path_on, path_back}
+
+pub is_in_string_on : (s : ℕ) (cells : List Cell) (p q : ℕ) → p < s * s → is_in_string s cells p q ≡ true → q < s * s
+is_in_string_on s cells p q on h = path_on_board s cells p on (IsInString-from_test s cells p q h).path
+
+-- the points of one string have the same string
+pub string_on : (s : ℕ) (cells : List Cell) (p q k : ℕ) → p < s * s → is_in_string s cells p q ≡ true → is_in_string s cells q k ≡ true → is_in_string s cells p k ≡ true
+string_on s cells p q k on h i =
+    let a = IsInString-from_test s cells p q h in
+    is_is_in_string-from_fact s cells p k on (record { stone = a.stone; path = path_on s cells p q a.path (IsInString-from_test s cells q k i).path })
+
+pub string_back : (s : ℕ) (cells : List Cell) (p q : ℕ) → p < s * s → is_in_string s cells p q ≡ true → is_in_string s cells q p ≡ true
+string_back s cells p q on h =
+    let a = IsInString-from_test s cells p q h in
+    is_is_in_string-from_fact s cells q p (path_on_board s cells p on a.path) (record { stone = ap is_stone (path_same s cells p a.path) ∙ a.stone; path = path_back s cells p on a.path })
+
+pub string_cell : (s : ℕ) (cells : List Cell) (p q : ℕ) → is_in_string s cells p q ≡ true → cell_at cells q ≡ cell_at cells p
+string_cell s cells p q h = path_same s cells p (IsInString-from_test s cells p q h).path
+
+pub string_self : (s : ℕ) (cells : List Cell) (p : ℕ) → p < s * s → is_stone (cell_at cells p) ≡ true → is_in_string s cells p p ≡ true
+string_self s cells p on h = is_is_in_string-from_fact s cells p p on (record { stone = h; path = start })
+
+pub enemy_stone : (a b : Cell) → is_enemy a b ≡ true → is_stone b ≡ true
+enemy_stone Black White h = refl
+enemy_stone White Black h = refl
+enemy_stone Empty b h = absurd (both_ways false refl h)
+enemy_stone Black Empty h = absurd (both_ways false refl h)
+enemy_stone Black Black h = absurd (both_ways false refl h)
+enemy_stone White Empty h = absurd (both_ways false refl h)
+enemy_stone White White h = absurd (both_ways false refl h)
+
+-- r is the least point of the string of q
+pub record LeastOf (s : ℕ) (cells : List Cell) (q r : ℕ) : Type 0 where
+  pub inside : is_in_string s cells q r ≡ true
+  pub least : (k : ℕ) → k < r → is_in_string s cells q k ≡ false
+
+-- the least points of the enemy strings that the points below n belong to are there, and nothing else is
+pub record Bounds (s : ℕ) (cells : List Cell) (p n : ℕ) (least : sets.FinSet nat_cmp) : Type 0 where
+  pub only : (r : ℕ) → sets.contains least r ≡ true → (r < s * s) × (is_boundary s cells p r ≡ true)
+  pub all : (q : ℕ) → q < n → is_beside_string s cells p q ≡ true → is_enemy (cell_at cells p) (cell_at cells q) ≡ true → (r : ℕ) → LeastOf s cells q r → sets.contains least r ≡ true
+
+-- what is added for one point
+pub record AddsLeast (s : ℕ) (cells : List Cell) (q : ℕ) (old new : sets.FinSet nat_cmp) : Type 0 where
+  pub kept : (r : ℕ) → sets.contains old r ≡ true → sets.contains new r ≡ true
+  pub only : (r : ℕ) → sets.contains new r ≡ true → (sets.contains old r ≡ true) ⊎ LeastOf s cells q r
+  pub all : (r : ℕ) → LeastOf s cells q r → sets.contains new r ≡ true
+
+pub Bounds-none : (s : ℕ) (cells : List Cell) (p : ℕ) (least : sets.FinSet nat_cmp) → least ≡ sets.empty → Bounds s cells p 0 least
+Bounds-none s cells p least e = record {
+  only = λ r h. absurd (both_ways (sets.contains least r) (ap (λ t. sets.contains t r) e ∙ sets.contains-empty nat_cmp r) h);
+  all = λ q l. absurd (omega arith);
+}
+
+-- the next point is not next to the string, or no enemy
+pub Bounds-skip : (s : ℕ) (cells : List Cell) (p n : ℕ) (least : sets.FinSet nat_cmp) → Bounds s cells p n least
+    → (is_beside_string s cells p n ≡ true → is_enemy (cell_at cells p) (cell_at cells n) ≡ true → ⊥) → Bounds s cells p (n + 1) least
+Bounds-skip s cells p n least b none = record {
+  only = b.only;
+  all = λ q l beside enemy r h. elim (cases_eq q n) [
+    | inl e ↦ absurd (none (subst (λ x. is_beside_string s cells p x ≡ true) e beside) (subst (λ x. is_enemy (cell_at cells p) (cell_at cells x) ≡ true) e enemy))
+    | inr ne ↦ b.all q (omega arith) beside enemy r h
+  ];
+}
+
+-- the least point of an enemy string next to the string is of the boundary
+boundary_of : (s : ℕ) (cells : List Cell) (p q r : ℕ) → q < s * s → is_beside_string s cells p q ≡ true → is_enemy (cell_at cells p) (cell_at cells q) ≡ true → LeastOf s cells q r
+    → (r < s * s) × (is_boundary s cells p r ≡ true)
+unfolding is_boundary
+boundary_of s cells p q r on beside enemy h =
+    let r_on = is_in_string_on s cells q r on h.inside in
+    let back = string_back s cells q r on h.inside in (
+      r_on,
+      and_from _ _ (and_from _ _ (ap (is_enemy (cell_at cells p)) (string_cell s cells q r h.inside) ∙ enemy)
+          (not_from_false _ (any_below_false r (is_in_string s cells r) (λ k l. elim (cases_Bool (is_in_string s cells r k)) [
+            | inl t ↦ absurd (both_ways (is_in_string s cells q k) (h.least k l) (string_on s cells q r k on h.inside t))
+            | inr f ↦ f
+          ]))))
+          (any_below_from (s * s) _ q on (and_from _ _ back beside)),
+    )
+
+pub Bounds-add : (s : ℕ) (cells : List Cell) (p n : ℕ) (least new : sets.FinSet nat_cmp) → Bounds s cells p n least → n < s * s
+    → is_beside_string s cells p n ≡ true → is_enemy (cell_at cells p) (cell_at cells n) ≡ true → AddsLeast s cells n least new → Bounds s cells p (n + 1) new
+Bounds-add s cells p n least new b on beside enemy add = record {
+  only = λ r h. elim (add.only r h) [ inl old ↦ b.only r old | inr now ↦ boundary_of s cells p n r on beside enemy now ];
+  all = λ q l beside' enemy' r h. elim (cases_eq q n) [
+    | inl e ↦ add.all r (subst (λ x. LeastOf s cells x r) e h)
+    | inr ne ↦ add.kept r (b.all q (omega arith) beside' enemy' r h)
+  ];
+}
+
+-- each least point is found from a point of its string
+least_found : (s : ℕ) (cells : List Cell) (p n r : ℕ) (least : sets.FinSet nat_cmp) → Bounds s cells p n least → s * s ≤ n → r < s * s → is_boundary s cells p r ≡ true → sets.contains least r ≡ true
+unfolding is_boundary
+least_found s cells p n r least b whole on h =
+    let parts = and_parts _ _ h in
+    let first = and_parts _ _ parts.0 in
+    let found = any_below_gives (s * s) _ parts.1 in
+    let both = and_parts _ _ found.2 in
+    b.all found.0 (omega (arith, found.1, whole)) both.1 (ap (is_enemy (cell_at cells p)) (string_cell s cells r found.0 both.0) ∙ first.0) r (record {
+      inside = string_back s cells r found.0 on both.0;
+      least = λ k l. elim (cases_Bool (is_in_string s cells found.0 k)) [
+        | inl t ↦ absurd (both_ways (is_in_string s cells r k) (any_below_none r (is_in_string s cells r) k (not-true _ first.1) l) (string_on s cells r found.0 k on both.0 t))
+        | inr f ↦ f
+      ];
+    })
+
+pub Bounds-all : (s : ℕ) (cells : List Cell) (p n : ℕ) (least : sets.FinSet nat_cmp) → Bounds s cells p n least → s * s ≤ n → least ≡ boundary_points s cells p
+unfolding boundary_points
+Bounds-all s cells p n least b whole =
+    same_nat_set _ _ (λ r. same_tests _ _ (λ h. let o = b.only r h in and_from _ _ (lt-ltb r (s * s) o.0) o.1)
+    (λ h. let parts = and_parts _ _ h in least_found s cells p n r least b whole (ltb-true r (s * s) parts.0) parts.1)
+    ∙ sym (contains-set_below (s * s) (is_boundary s cells p) r))
+  where
+    same_tests : (a b : Bool) → (a ≡ true → b ≡ true) → (b ≡ true → a ≡ true) → a ≡ b
+    same_tests true true f g = refl
+    same_tests false false f g = refl
+    same_tests true false f g = sym (f refl)
+    same_tests false true f g = g refl
+
+-- the string's set tells its least point
+pub least_in : (s : ℕ) (cells : List Cell) (q r : ℕ) (found : sets.FinSet nat_cmp) → q < s * s → found ≡ string_at s cells q → sets.contains found r ≡ true → ((k : ℕ) → k < r → sets.contains found k ≡ false) → LeastOf s cells q r
+unfolding string_at
+least_in s cells q r found on e h none =
+    let at = λ (k : ℕ). ap (λ t. sets.contains t k) e ∙ contains-set_below (s * s) (is_in_string s cells q) k in
+    let parts = and_parts _ _ (sym (at r) ∙ h) in
+    record { inside = parts.1; least = λ k l. sym (at k ∙ ap (λ b. b && is_in_string s cells q k) (lt-ltb k (s * s) (omega (arith, l, ltb-true r (s * s) parts.0)))) ∙ none k l }
+
+-- a string's least point is the first of its set
+pub least_is : (s : ℕ) (cells : List Cell) (q r : ℕ) (found : sets.FinSet nat_cmp) → q < s * s → found ≡ string_at s cells q → LeastOf s cells q r → (sets.contains found r ≡ true) × ((k : ℕ) → k < r → sets.contains found k ≡ false)
+unfolding string_at
+least_is s cells q r found on e h =
+    let at = λ (k : ℕ). ap (λ t. sets.contains t k) e ∙ contains-set_below (s * s) (is_in_string s cells q) k in
+    let r_on = is_in_string_on s cells q r on h.inside in
+    (at r ∙ and_from _ _ (lt-ltb r (s * s) r_on) h.inside, λ k l. at k ∙ ap (λ b. b && is_in_string s cells q k) (lt-ltb k (s * s) (omega (arith, l, r_on))) ∙ h.least k l)
+
+-- a string's least point was added
+pub AddsLeast-some : (s : ℕ) (cells : List Cell) (q r : ℕ) (found old new : sets.FinSet nat_cmp) → q < s * s → found ≡ string_at s cells q → sets.contains found r ≡ true
+    → ((k : ℕ) → k < r → sets.contains found k ≡ false) → new ≡ sets.insert old r → AddsLeast s cells q old new
+AddsLeast-some s cells q r found old new on e h none is =
+    let at = λ (k : ℕ). ap (λ t. sets.contains t k) is ∙ contains-insert_nat old r k in
+    record {
+      kept = λ k i. at k ∙ or_right _ _ i;
+      only = λ k i. elim (or_cases _ _ (sym (at k) ∙ i)) [
+        | inl same ↦ inr (subst (λ x. LeastOf s cells q x) (sym (eqb-true k r same)) (least_in s cells q r found on e h none))
+        | inr before ↦ inl before
+      ];
+      all = λ k l.
+          let its = least_is s cells q k found on e l in
+          at k ∙ or_left _ _ (eq-eqb k r (elim (cases_lt k r) [
+            | inl below ↦ absurd (both_ways (sets.contains found k) (none k below) its.0)
+            | inr above ↦ elim (cases_lt r k) [
+              | inl below ↦ absurd (both_ways (sets.contains found r) (its.1 r below) h)
+              | inr not_below ↦ omega arith
+            ]
+          ]));
+    }
+
+-- an empty string has no least point
+pub AddsLeast-none : (s : ℕ) (cells : List Cell) (q : ℕ) (found old : sets.FinSet nat_cmp) → q < s * s → found ≡ string_at s cells q → ((k : ℕ) → 0 ≤ k → sets.contains found k ≡ false) → AddsLeast s cells q old old
+AddsLeast-none s cells q found old on e none = record {
+  kept = λ k i. i;
+  only = λ k i. inl i;
+  all = λ k l. absurd (both_ways (sets.contains found k) (none k (omega arith)) (least_is s cells q k found on e l).0);
+}
+
+-- a point that touches the string's set is beside the string
+pub beside_by : (s : ℕ) (cells : List Cell) (p q : ℕ) (found : sets.FinSet nat_cmp) → found ≡ string_at s cells p
+    → any_below (s * s) (λ x. sets.contains found x && are_neighbours s x q) ≡ is_beside_string s cells p q
+unfolding is_beside_string string_at
+beside_by s cells p q found e = any_below_same (s * s) _ _
+    (λ k h. ap (λ b. b && are_neighbours s k q) (ap (λ t. sets.contains t k) e ∙ contains-set_below (s * s) (is_in_string s cells p) k ∙ ap (λ b. b && is_in_string s cells p k) (lt-ltb k (s * s) h)))

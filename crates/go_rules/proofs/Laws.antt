@@ -1,0 +1,171 @@
+-- The computing definitions say what the rules say of paths.
+use Rattle.std.proofs.Common.{◌≡◌, ◌≢◌, ◌↔◌, ℕ, ◌*◌, ◌<◌, true, false, cond, eqb, Option, Some, None, List, Ok, Err, refl, sym, ap, subst, arith, inl, inr, ◌∙◌}
+use Rattle.std.proofs.lemmas.Bool.{cases_Bool, eqb-true, eqb-false, eq-eqb, both_ways, and_parts, and_from, true_from_ne_false}
+use Rattle.go_rules.specs.declared.Cell.{Cell}
+use Rattle.go_rules.specs.declared.Cell.TheVariants.{Empty}
+use Rattle.go_rules.specs.declared.Colour.{Colour}
+use Rattle.go_rules.specs.declared.Illegal.TheVariants.{Occupied, Ko, Suicide}
+use Rattle.go_rules.specs.Strings.{cell_at, is_stone, liberties, IsLiberty}
+use Rattle.go_rules.specs.declared.Colour.TheVariants.{Black as black, White as white}
+use Rattle.go_rules.specs.Position.{BoardState, IsPosition, same_colour, is_banned}
+use Rattle.go_rules.specs.Play.{is_taken, cells_after, play, play_free}
+use Rattle.go_rules.specs.Rules.{IsCaptured, Removes, Follows, IsSuicide}
+use Rattle.go_rules.proofs.Links.{liberties_some, liberties_from, path_keeps}
+use Rattle.go_rules.proofs.Paths.{path_on_board}
+use Rattle.go_rules.proofs.Plays.{taken_parts, taken_from, at_after, empty_from}
+use Rattle.go_rules.proofs.Results.{after_on, put_on, result_of, free_occupied, free_suicide, free_done, result_good, play_occupied, play_ko, play_else}
+
+none_from_zero : (s : ℕ) (cells : List Cell) (p : ℕ) → p < s * s → liberties s cells p ≡ 0 → (l : ℕ) → IsLiberty s cells p l → ⊥
+none_from_zero s cells p h z l lib = let some = liberties_from s cells p l h lib in omega arith
+
+zero_from_none : (s : ℕ) (cells : List Cell) (p : ℕ) → ((l : ℕ) → IsLiberty s cells p l → ⊥) → liberties s cells p ≡ 0
+zero_from_none s cells p none =
+    elim (cases_Bool (eqb (liberties s cells p) 0)) [
+      | inl t ↦ eqb-true _ _ t
+      | inr f ↦ let ne = eqb-false _ _ f in let some = liberties_some s cells p (omega arith) in absurd (none some.0 some.1)
+    ]
+
+pub captured_from : (s : ℕ) (put : List Cell) (c : Colour) (q : ℕ) → q < s * s → is_taken s put c q ≡ true → IsCaptured s put c q
+captured_from s put c q h t = let parts = taken_parts s put c q t in record { enemy = parts.0; dead = none_from_zero s put q h parts.1 }
+
+pub removes : (s : ℕ) (put : List Cell) (c : Colour) → Removes s put c (cells_after s put c)
+removes s put c = record {
+  removed = λ q h dead. at_after s put c q h ∙ ap (λ b. cond b Empty (cell_at put q)) (taken_from s put c q dead.enemy (zero_from_none s put q dead.dead));
+  kept = λ q h alive. at_after s put c q h ∙ elim (cases_Bool (is_taken s put c q)) [
+    | inl t ↦ absurd (alive (captured_from s put c q h t))
+    | inr f ↦ ap (λ b. cond b Empty (cell_at put q)) f
+  ];
+}
+
+-- the cases of a play
+data FreeCases (pos : BoardState) (c : Colour) (p : ℕ) : Type 0 where
+  occupied : is_stone (cell_at pos.cells p) ≡ true → Err Occupied ≡ play_free pos c p → FreeCases pos c p
+  suicide : is_stone (cell_at pos.cells p) ≡ false → liberties pos.size (after_on pos c p) p ≡ 0 → Err Suicide ≡ play_free pos c p → FreeCases pos c p
+  done : is_stone (cell_at pos.cells p) ≡ false → liberties pos.size (after_on pos c p) p ≢ 0 → Ok (result_of pos c p) ≡ play_free pos c p → FreeCases pos c p
+
+free_cases : (pos : BoardState) (c : Colour) (p : ℕ) → FreeCases pos c p
+free_cases pos c p = elim (cases_Bool (is_stone (cell_at pos.cells p))) [
+  | inl t ↦ occupied t (free_occupied pos c p t)
+  | inr f ↦ elim (cases_Bool (eqb (liberties pos.size (after_on pos c p) p) 0)) [
+    | inl z ↦ suicide f (eqb-true _ _ z) (free_suicide pos c p f (eqb-true _ _ z))
+    | inr nz ↦ done f (eqb-false _ _ nz) (free_done pos c p f (eqb-false _ _ nz))
+  ]
+]
+
+pub free_follows : (pos : BoardState) (c : Colour) (p : ℕ) (new : BoardState) → p < pos.size * pos.size → play_free pos c p ≡ Ok new → Follows pos c p new
+free_follows pos c p new h e = elim (free_cases pos c p) [
+  | occupied t is ↦ absurd (let w : Err Occupied ≡ Ok new = is ∙ e in cc)
+  | suicide f z is ↦ absurd (let w : Err Suicide ≡ Ok new = is ∙ e in cc)
+  | done f nz is ↦
+      let same : result_of pos c p ≡ new = (let w : Ok (result_of pos c p) ≡ Ok new = is ∙ e in cc) in
+      subst (Follows pos c p) same (record {
+        was_empty = empty_from (cell_at pos.cells p) f;
+        size = refl;
+        cells = removes pos.size (put_on pos c p) c;
+        alive = liberties_some pos.size (after_on pos c p) p (omega arith);
+      })
+]
+
+pub free_occupied_only : (pos : BoardState) (c : Colour) (p : ℕ) → play_free pos c p ≡ Err Occupied → is_stone (cell_at pos.cells p) ≡ true
+free_occupied_only pos c p e = elim (free_cases pos c p) [
+  | occupied t is ↦ t
+  | suicide f z is ↦ absurd (let w = is ∙ e in cc)
+  | done f nz is ↦ absurd (let w = is ∙ e in cc)
+]
+
+pub free_never_ko : (pos : BoardState) (c : Colour) (p : ℕ) → play_free pos c p ≡ Err Ko → ⊥
+free_never_ko pos c p e = elim (free_cases pos c p) [
+  | occupied t is ↦ (let w = is ∙ e in cc)
+  | suicide f z is ↦ (let w = is ∙ e in cc)
+  | done f nz is ↦ (let w = is ∙ e in cc)
+]
+
+-- Two boards that remove the same from one board hold the same at each point.
+same_removed : (s : ℕ) (put : List Cell) (c : Colour) (a : List Cell) → Removes s put c a → (q : ℕ) → q < s * s → cell_at a q ≡ cell_at (cells_after s put c) q
+same_removed s put c a h q on = elim (cases_Bool (is_taken s put c q)) [
+  | inl t ↦ h.removed q on (captured_from s put c q on t) ∙ sym ((removes s put c).removed q on (captured_from s put c q on t))
+  | inr f ↦
+      let alive : IsCaptured s put c q → ⊥ = λ d. both_ways (is_taken s put c q) f (taken_from s put c q d.enemy (zero_from_none s put q d.dead)) in
+      h.kept q on alive ∙ sym ((removes s put c).kept q on alive)
+]
+
+-- a liberty on one board is one on a board that holds the same at each point
+liberty_same : (s : ℕ) (a b : List Cell) (p l : ℕ) → p < s * s → ((q : ℕ) → q < s * s → cell_at b q ≡ cell_at a q) → IsLiberty s a p l → IsLiberty s b p l
+liberty_same s a b p l h same lib = record {
+  on_board = lib.on_board;
+  is_empty = same l lib.on_board ∙ lib.is_empty;
+  beside = (
+    lib.beside.0,
+    record {
+      stone = ap is_stone (same p h) ∙ lib.beside.1.stone;
+      path = path_keeps s a b p (λ x w. same x (path_on_board s a p h w)) lib.beside.1.path;
+    },
+    lib.beside.2,
+  );
+}
+
+pub free_suicide_only : (pos : BoardState) (c : Colour) (p : ℕ) → p < pos.size * pos.size → play_free pos c p ≡ Err Suicide → IsSuicide pos c p
+free_suicide_only pos c p h e = elim (free_cases pos c p) [
+  | occupied t is ↦ absurd (let w = is ∙ e in cc)
+  | done f nz is ↦ absurd (let w = is ∙ e in cc)
+  | suicide f z is ↦ record {
+    was_empty = empty_from (cell_at pos.cells p) f;
+    dead = λ after r l lib. none_from_zero pos.size (after_on pos c p) p h z l
+        (liberty_same pos.size after (after_on pos c p) p l h (λ q on. sym (same_removed pos.size (put_on pos c p) c after r q on)) lib);
+  }
+]
+
+pub free_keeps : (pos : BoardState) (c : Colour) (p : ℕ) (new : BoardState) → IsPosition pos → p < pos.size * pos.size → play_free pos c p ≡ Ok new → IsPosition new
+free_keeps pos c p new good h e = elim (free_cases pos c p) [
+  | occupied t is ↦ absurd (let w : Err Occupied ≡ Ok new = is ∙ e in cc)
+  | suicide f z is ↦ absurd (let w : Err Suicide ≡ Ok new = is ∙ e in cc)
+  | done f nz is ↦
+      let same : result_of pos c p ≡ new = (let w : Ok (result_of pos c p) ≡ Ok new = is ∙ e in cc) in
+      subst IsPosition same (result_good pos c p good h f nz)
+]
+
+same_colour-true : (a b : Colour) → same_colour a b ≡ true → a ≡ b
+same_colour-true black black h = refl
+same_colour-true white white h = refl
+same_colour-true black white h = absurd (both_ways false refl h)
+same_colour-true white black h = absurd (both_ways false refl h)
+
+banned_is : (b : Option (ℕ × Colour)) (c : Colour) (p : ℕ) → is_banned b c p ≡ true → b ≡ Some (p, c)
+banned_is None c p h = absurd (both_ways false refl h)
+banned_is (Some b) c p h =
+    let parts = and_parts _ _ h in
+    ap (λ (x : ℕ). Some (x, b.1)) (eqb-true b.0 p parts.0) ∙ ap (λ (k : Colour). Some (p, k)) (same_colour-true b.1 c parts.1)
+
+same_colour-itself : (c : Colour) → same_colour c c ≡ true
+same_colour-itself black = refl
+same_colour-itself white = refl
+
+is_banned-from : (b : Option (ℕ × Colour)) (c : Colour) (p : ℕ) → b ≡ Some (p, c) → is_banned b c p ≡ true
+is_banned-from b c p e = ap (λ x. is_banned x c p) e ∙ and_from _ _ (eq-eqb p p refl) (same_colour-itself c)
+
+pub ko_exactly : (pos : BoardState) (c : Colour) (p : ℕ) → (play pos c p ≡ Err Ko) ↔ ((cell_at pos.cells p ≡ Empty) × (pos.ban ≡ Some (p, c)))
+ko_exactly pos c p = (
+  λ e. elim (cases_Bool (is_stone (cell_at pos.cells p))) [
+    | inl t ↦ absurd (let w = play_occupied pos c p t ∙ e in cc)
+    | inr f ↦ elim (cases_Bool (is_banned pos.ban c p)) [
+      | inl b ↦ (empty_from (cell_at pos.cells p) f, banned_is pos.ban c p b)
+      | inr n ↦ absurd (free_never_ko pos c p (play_else pos c p f n ∙ e))
+    ]
+  ],
+  λ h. sym (play_ko pos c p (ap is_stone h.0) (is_banned-from pos.ban c p h.1)),
+)
+
+pub occupied_exactly : (pos : BoardState) (c : Colour) (p : ℕ) → (play pos c p ≡ Err Occupied) ↔ (cell_at pos.cells p ≢ Empty)
+occupied_exactly pos c p = (
+  λ e z. elim (cases_Bool (is_banned pos.ban c p)) [
+    | inl b ↦ (let w = play_ko pos c p (ap is_stone z) b ∙ e in cc)
+    | inr n ↦ both_ways (is_stone (cell_at pos.cells p)) (ap is_stone z) (free_occupied_only pos c p (play_else pos c p (ap is_stone z) n ∙ e))
+  ],
+  λ ne. sym (play_occupied pos c p (true_from_ne_false _ (λ f. ne (empty_from (cell_at pos.cells p) f)))),
+)
+
+pub free_otherwise : (pos : BoardState) (c : Colour) (p : ℕ) → cell_at pos.cells p ≡ Empty → pos.ban ≢ Some (p, c) → play pos c p ≡ play_free pos c p
+free_otherwise pos c p z ne = elim (cases_Bool (is_banned pos.ban c p)) [
+  | inl b ↦ absurd (ne (banned_is pos.ban c p b))
+  | inr n ↦ sym (play_else pos c p (ap is_stone z) n)
+]

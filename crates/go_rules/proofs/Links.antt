@@ -1,0 +1,76 @@
+-- Paths lead back and on, and a string has its liberties wherever it is looked at.
+use Rattle.std.proofs.Common.{◌≡◌, ℕ, zero, suc, ◌+◌, ◌*◌, ◌/◌, ◌%◌, ◌<◌, ◌||◌, Bool, true, false, eqb, List, refl, sym, arith, inl, inr, ◌∙◌}
+use Rattle.std.proofs.lemmas.Bool.{cases_Bool, cases_eq, eq-eqb, ne_eqb, both_ways}
+use Rattle.go_rules.specs.declared.Cell.{Cell}
+use Rattle.go_rules.specs.Board.{are_neighbours, are_one_apart}
+use Rattle.go_rules.specs.Below.{any_below, count_below}
+use Rattle.go_rules.specs.Strings.{cell_at, Path, start, step, IsInString, IsLiberty, is_liberty, liberties}
+use Rattle.go_rules.proofs.Counts.{count_below_less, any_below_gives}
+use Rattle.go_rules.proofs.Paths.{path_on_board, IsLiberty-from_test, is_liberty-from_fact}
+
+eqb_comm : (a b : ℕ) → eqb a b ≡ eqb b a
+eqb_comm a b = elim (cases_eq a b) [
+  | inl e ↦ eq-eqb a b e ∙ sym (eq-eqb b a (sym e))
+  | inr ne ↦ ne_eqb a b ne ∙ sym (ne_eqb b a (λ e. ne (sym e)))
+]
+
+or_comm : (a b : Bool) → (a || b) ≡ (b || a)
+or_comm true true = refl
+or_comm true false = refl
+or_comm false true = refl
+or_comm false false = refl
+
+one_apart_comm : (a b : ℕ) → are_one_apart a b ≡ are_one_apart b a
+one_apart_comm a b = or_comm (eqb a (b + 1)) (eqb b (a + 1))
+
+pub are_neighbours_comm : (s p q : ℕ) → are_neighbours s p q ≡ are_neighbours s q p
+unfolding are_neighbours
+are_neighbours_comm s p q = rw (eqb_comm (p / s) (q / s), one_apart_comm (p % s) (q % s), eqb_comm (p % s) (q % s), one_apart_comm (p / s) (q / s)) refl
+
+pub path_same : (s : ℕ) (cells : List Cell) (p : ℕ) {q : ℕ} → Path s cells p q → cell_at cells q ≡ cell_at cells p
+path_same s cells p start = refl
+path_same s cells p (step path on near same) = same
+
+pub path_on : (s : ℕ) (cells : List Cell) (p q : ℕ) → Path s cells p q → {r : ℕ} → Path s cells q r → Path s cells p r
+path_on s cells p q first start = first
+path_on s cells p q first (step path on near same) = step (path_on s cells p q first path) on near (same ∙ path_same s cells p first)
+
+pub path_back : (s : ℕ) (cells : List Cell) (p : ℕ) → p < s * s → {q : ℕ} → Path s cells p q → Path s cells q p
+path_back s cells p h start = start
+path_back s cells p h (step {q} {r} path on near same) =
+    path_on s cells r q
+    (step start (path_on_board s cells p h path) (are_neighbours_comm s r q ∙ near) (path_same s cells p path ∙ sym same))
+    (path_back s cells p h path)
+
+-- Where each point of the paths from q holds the same on another board, the paths are there too.
+pub path_keeps : (s : ℕ) (a b : List Cell) (q : ℕ) → ((x : ℕ) → Path s a q x → cell_at b x ≡ cell_at a x) → {r : ℕ} → Path s a q r → Path s b q r
+path_keeps s a b q same start = start
+path_keeps s a b q same (step {q = x} {r} path on near e) =
+    step (path_keeps s a b q same path) on near (same r (step path on near e) ∙ e ∙ sym (same q start))
+
+-- two points of one string have the same liberties
+pub liberty_moves : (s : ℕ) (cells : List Cell) (p q l : ℕ) → p < s * s → IsInString s cells p q → IsLiberty s cells q l → IsLiberty s cells p l
+liberty_moves s cells p q l h link lib = record {
+  on_board = lib.on_board;
+  is_empty = lib.is_empty;
+  beside = (lib.beside.0, record { stone = link.stone; path = path_on s cells p q link.path lib.beside.1.path }, lib.beside.2);
+}
+
+count_below_some : (n : ℕ) (test : ℕ → Bool) → 0 < count_below n test → any_below n test ≡ true
+count_below_some zero test h = absurd (omega arith)
+count_below_some (suc n) test h =
+    elim (cases_Bool (test n)) [
+      | inl t ↦ rw t refl
+      | inr f ↦ rw f (count_below_some n test (let g = rw f at h in omega arith))
+    ]
+
+pub liberties_some : (s : ℕ) (cells : List Cell) (p : ℕ) → 0 < liberties s cells p → (l : ℕ) × IsLiberty s cells p l
+unfolding liberties
+liberties_some s cells p h =
+    let found = any_below_gives (s * s) (is_liberty s cells p) (count_below_some (s * s) (is_liberty s cells p) h) in
+    (found.0, IsLiberty-from_test s cells p found.0 found.2)
+
+pub liberties_from : (s : ℕ) (cells : List Cell) (p l : ℕ) → p < s * s → IsLiberty s cells p l → 0 < liberties s cells p
+unfolding liberties
+liberties_from s cells p l h lib =
+    omega (arith, count_below_less (s * s) (λ _. false) (is_liberty s cells p) (λ k i f. absurd (both_ways false refl f)) l lib.on_board refl (is_liberty-from_fact s cells p l h lib))

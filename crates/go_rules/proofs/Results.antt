@@ -1,0 +1,75 @@
+-- What a play gives in each case, and that it gives a position.
+use Rattle.std.proofs.Common.{◌≡◌, ◌≢◌, ℕ, ◌*◌, ◌<◌, Bool, true, false, cond, Option, Some, None, List, Ok, Err, IfSome, refl, ap, arith, ◌∙◌}
+use Rattle.std.proofs.Math.ListN.{set}
+use Rattle.std.proofs.lemmas.Bool.{ne_eqb}
+use Rattle.std.specs.Option.{option_map}
+use Rattle.go_rules.specs.declared.Cell.{Cell}
+use Rattle.go_rules.specs.declared.Cell.TheVariants.{Empty}
+use Rattle.go_rules.specs.declared.Colour.{Colour}
+use Rattle.go_rules.specs.declared.Illegal.TheVariants.{Occupied, Ko, Suicide}
+use Rattle.go_rules.specs.Below.{first_below}
+use Rattle.go_rules.specs.Strings.{cell_at, is_stone, liberties}
+use Rattle.go_rules.specs.Position.{BoardState, IsPosition, other, stone_of, is_banned}
+use Rattle.go_rules.specs.Play.{is_taken, cells_after, ban_after, play_free, play}
+use Rattle.go_rules.proofs.Counts.{first_below_gives}
+use Rattle.go_rules.proofs.Plays.{length_after, at_after, after_alive, empty_from}
+
+abbrev pub put_on : BoardState → Colour → ℕ → List Cell
+put_on pos c p = set pos.cells p (stone_of c)
+
+abbrev pub after_on : BoardState → Colour → ℕ → List Cell
+after_on pos c p = cells_after pos.size (put_on pos c p) c
+
+abbrev pub result_of : BoardState → Colour → ℕ → BoardState
+result_of pos c p = record { size = pos.size; cells = after_on pos c p; ban = ban_after pos.size (put_on pos c p) (after_on pos c p) c p }
+
+pub free_occupied : (pos : BoardState) (c : Colour) (p : ℕ) → is_stone (cell_at pos.cells p) ≡ true → Err Occupied ≡ play_free pos c p
+unfolding play_free
+free_occupied pos c p t = rw t refl
+
+pub free_suicide : (pos : BoardState) (c : Colour) (p : ℕ) → is_stone (cell_at pos.cells p) ≡ false → liberties pos.size (after_on pos c p) p ≡ 0 → Err Suicide ≡ play_free pos c p
+unfolding play_free
+free_suicide pos c p f z = rw (f, z) refl
+
+pub free_done : (pos : BoardState) (c : Colour) (p : ℕ) → is_stone (cell_at pos.cells p) ≡ false → liberties pos.size (after_on pos c p) p ≢ 0 → Ok (result_of pos c p) ≡ play_free pos c p
+unfolding play_free
+free_done pos c p f nz = rw (f, ne_eqb (liberties pos.size (after_on pos c p) p) 0 nz) refl
+
+pub play_occupied : (pos : BoardState) (c : Colour) (p : ℕ) → is_stone (cell_at pos.cells p) ≡ true → Err Occupied ≡ play pos c p
+unfolding play
+play_occupied pos c p t = rw t refl
+
+pub play_ko : (pos : BoardState) (c : Colour) (p : ℕ) → is_stone (cell_at pos.cells p) ≡ false → is_banned pos.ban c p ≡ true → Err Ko ≡ play pos c p
+unfolding play
+play_ko pos c p f b = rw (f, b) refl
+
+pub play_else : (pos : BoardState) (c : Colour) (p : ℕ) → is_stone (cell_at pos.cells p) ≡ false → is_banned pos.ban c p ≡ false → play_free pos c p ≡ play pos c p
+unfolding play
+play_else pos c p f b = rw (f, b) refl
+
+-- the ban's point is one that was taken
+ban_of_first : (s : ℕ) (put after : List Cell) (c : Colour) (o : Option ℕ) → after ≡ cells_after s put c → first_below (s * s) (is_taken s put c) ≡ o
+    → IfSome (option_map {T = ℕ} {U = ℕ × Colour} (λ q. (q, other c)) o) (λ b. (b.0 < s * s) × (cell_at after b.0 ≡ Empty))
+ban_of_first s put after c None is e = tt
+ban_of_first s put after c (Some q) is e =
+    let found = first_below_gives (s * s) (is_taken s put c) q e in
+    (found.0, ap (λ t. cell_at t q) is ∙ at_after s put c q found.0 ∙ ap (λ b. cond b Empty (cell_at put q)) found.1)
+
+pub ban_good : (s : ℕ) (put after : List Cell) (c : Colour) (p : ℕ) → after ≡ cells_after s put c
+    → IfSome (ban_after s put after c p) (λ b. (b.0 < s * s) × (cell_at after b.0 ≡ Empty))
+unfolding ban_after
+ban_good s put after c p is = chosen _ _ (ban_of_first s put after c (first_below (s * s) (is_taken s put c)) is refl)
+  where
+    chosen : (b : Bool) (o : Option (ℕ × Colour)) → IfSome o (λ b. (b.0 < s * s) × (cell_at after b.0 ≡ Empty)) → IfSome (cond b o None) (λ b. (b.0 < s * s) × (cell_at after b.0 ≡ Empty))
+    chosen true o h = h
+    chosen false o h = tt
+
+pub result_good : (pos : BoardState) (c : Colour) (p : ℕ) → IsPosition pos → p < pos.size * pos.size → is_stone (cell_at pos.cells p) ≡ false → liberties pos.size (after_on pos c p) p ≢ 0
+    → IsPosition (result_of pos c p)
+result_good pos c p good on f nz = record {
+  size_at_least = good.size_at_least;
+  size_at_most = good.size_at_most;
+  cells = length_after pos.size (put_on pos c p) c;
+  alive = λ q q_on stone. after_alive pos good c p on (empty_from (cell_at pos.cells p) f) (after_on pos c p) refl (omega arith) q q_on stone;
+  ban = ban_good pos.size (put_on pos c p) (after_on pos c p) c p refl;
+}

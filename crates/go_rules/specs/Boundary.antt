@@ -1,0 +1,30 @@
+-- The enemy strings next to a string, each named by the least of its points.
+use Rattle.std.specs.Prelude.{ℕ, ◌*◌, ◌&&◌, Bool, true, false, not, List}
+use Rattle.std.specs.Ordering.{nat_cmp}
+use Rattle.std.specs.FinSet as set
+use Rattle.go_rules.specs.declared.Cell.{Cell}
+use Rattle.go_rules.specs.declared.Cell.TheVariants.{Black, White}
+use Rattle.go_rules.specs.Below.{any_below, set_below}
+use Rattle.go_rules.specs.Board.{are_neighbours}
+use Rattle.go_rules.specs.Strings.{cell_at, is_in_string}
+
+-- the two cells hold stones of different colours
+abbrev pub is_enemy : Cell → Cell → Bool
+is_enemy Black White = true
+is_enemy White Black = true
+is_enemy _ _ = false
+
+-- q is a neighbour of a stone of the string of p
+unfoldable pub is_beside_string : ℕ → List Cell → ℕ → ℕ → Bool
+is_beside_string s cells p q = any_below (s * s) (λ x. is_in_string s cells p x && are_neighbours s x q)
+
+-- r is the least point of an enemy string that is next to the string of p
+unfoldable pub is_boundary : ℕ → List Cell → ℕ → ℕ → Bool
+is_boundary s cells p r =
+    is_enemy (cell_at cells p) (cell_at cells r)
+    && not (any_below r (is_in_string s cells r))
+    && any_below (s * s) (λ q. is_in_string s cells r q && is_beside_string s cells p q)
+
+-- the least points of the enemy strings that are next to the string of p
+unfoldable pub boundary_points : ℕ → List Cell → ℕ → set.FinSet nat_cmp
+boundary_points s cells p = set_below (s * s) (is_boundary s cells p)

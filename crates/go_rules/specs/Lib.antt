@@ -1,0 +1,9 @@
+pub mod Below
+pub mod Board
+pub mod Strings
+pub mod Boundary
+pub mod Neighbourhood
+pub mod Position
+pub mod Play
+pub mod Rules
+pub mod Replay

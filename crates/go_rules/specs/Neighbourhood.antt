@@ -1,0 +1,15 @@
+-- The neighbourhood of a set of points: the set, the whole strings of its stones, and the neighbours of all of these. What a
+-- look at a position may need is said by neighbourhoods.
+use Rattle.std.specs.Prelude.{ℕ, ◌*◌, ◌&&◌, ◌||◌, Bool, List}
+use Rattle.go_rules.specs.declared.Cell.{Cell}
+use Rattle.go_rules.specs.Below.{any_below}
+use Rattle.go_rules.specs.Board.{are_neighbours}
+use Rattle.go_rules.specs.Strings.{is_in_string}
+
+-- q is in S, or in the string of a point of S
+unfoldable pub whole_strings_of : ℕ → List Cell → (ℕ → Bool) → ℕ → Bool
+whole_strings_of s cells S q = S q || any_below (s * s) (λ x. S x && is_in_string s cells x q)
+
+-- q is in S or in the string of a point of S, or a neighbour of such a point
+unfoldable pub neighbourhood_of : ℕ → List Cell → (ℕ → Bool) → ℕ → Bool
+neighbourhood_of s cells S q = whole_strings_of s cells S q || any_below (s * s) (λ y. whole_strings_of s cells S y && are_neighbours s y q)

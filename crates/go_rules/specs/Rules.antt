@@ -1,0 +1,29 @@
+-- The rules of a play in terms of paths: what the computing definitions of Play are proved to mean.
+use Rattle.std.specs.Prelude.{◌≡◌, ℕ, ◌*◌, ◌<◌, List, slice_set}
+use Rattle.go_rules.specs.declared.Cell.{Cell}
+use Rattle.go_rules.specs.declared.Cell.TheVariants.{Empty}
+use Rattle.go_rules.specs.declared.Colour.{Colour}
+use Rattle.go_rules.specs.Strings.{cell_at, IsLiberty}
+use Rattle.go_rules.specs.Position.{BoardState, other, stone_of}
+
+-- q holds an enemy of c, and no point is a liberty of its string
+pub record IsCaptured (s : ℕ) (put : List Cell) (c : Colour) (q : ℕ) : Type 0 where
+  pub enemy : cell_at put q ≡ stone_of (other c)
+  pub dead : (l : ℕ) → IsLiberty s put q l → ⊥
+
+-- after is the board with what is captured removed
+pub record Removes (s : ℕ) (put : List Cell) (c : Colour) (after : List Cell) : Type 0 where
+  pub removed : (q : ℕ) → q < s * s → IsCaptured s put c q → cell_at after q ≡ Empty
+  pub kept : (q : ℕ) → q < s * s → (IsCaptured s put c q → ⊥) → cell_at after q ≡ cell_at put q
+
+-- new comes from pos by the play of c at p
+pub record Follows (pos : BoardState) (c : Colour) (p : ℕ) (new : BoardState) : Type 0 where
+  pub was_empty : cell_at pos.cells p ≡ Empty
+  pub size : new.size ≡ pos.size
+  pub cells : Removes pos.size (slice_set pos.cells p (stone_of c)) c new.cells
+  pub alive : (l : ℕ) × IsLiberty pos.size new.cells p l
+
+-- the stone that c puts at p has no liberty after its captures
+pub record IsSuicide (pos : BoardState) (c : Colour) (p : ℕ) : Type 0 where
+  pub was_empty : cell_at pos.cells p ≡ Empty
+  pub dead : (after : List Cell) → Removes pos.size (slice_set pos.cells p (stone_of c)) c after → (l : ℕ) → IsLiberty pos.size after p l → ⊥

@@ -1,0 +1,71 @@
+use Rattle.std.proofs.Common.{◌≡◌, ◌<◌, ◌*◌, length, List, ◌∷◌, ap, sym, subst, refl, ◌∙◌, arith, None, Ok, Err}
+use Rattle.go_rules.specs.Position.{BoardState, is_banned}
+use Rattle.go_base.specs.Facts.{Agrees, agrees_before, same_size}
+use Rattle.trial_board.specs.declared.moves.TrialMove.TheVariants.{Play}
+use Rattle.trial_board.specs.declared.trial.Kept.{Kept}
+use Rattle.trial_board.specs.Trials.{after, tried_free}
+use Rattle.trial_board.specs.Standing.{newest_first}
+use Rattle.trial_board.proofs.StandingLemmas.{IsStanding-push, IsStanding-looks, newest_first-push, length-newest_first, put_at, put_tried, put_refused, board_good}
+use Rattle.trial_board.proofs.trial.Trial.put.Given.{Over}
+use Rattle.trial_board.proofs.trial.Trial.put.Goals as goal
+use Rattle.trial_board.proofs.trial.Trial.put.Goals.{After-play_on}
+
+-- there is room for one more move
+room : (g : Over) (c : After-play_on g) → length c.args.self.now.moves < 200 → c.self.inside.standing < 200
+room g c r = omega (arith, length-newest_first c.self.inside.kept c.self.inside.standing, ap (λ t. length t.moves) c.self.view_is, r)
+
+-- the size over a position that agrees
+fits : (g : Over) (c : After-play_on g) (pos : BoardState) → Agrees (g.L.Look.seen c.play_on.new.board.look) pos → pos.size ≡ (g.L.Look.shows c.self.inside.board.look).size
+fits g c pos a = same_size (g.met.L.Look.sized c.play_on.new.board.look) a ∙ ap (λ x. x.size) c.play_on.ensures.asks.0.shown
+
+pub invariant_of-self : goal.invariant_of-self
+invariant_of-self g c =
+    let i = c.self.invariant in
+    let d = (goal.at.invariant_of-self g c).After-play_on in
+    let whole = c.play_on.ensures.asks.1 ∙ i.whole in
+    let now_moves = rw (← c.self.view_is) at c.requires.dropped in
+    let on = rw (← c.self.view_is) at c.requires.on_board in
+    IsStanding-push (record { changed = c.self.inside.board.changed; ban = c.self.inside.ban; made = Play (record { colour = c.args.c; at = c.args.p; dropped = c.args.dropped }) }) c.in-Ok.ban i
+    (room g d c.requires.room) c.play_on.ensures.asks.0.grows refl refl whole
+    (λ pos a.
+    let a0 = agrees_before c.play_on.ensures.asks.0.grows a in
+    let s = (g.L.Look.shows c.self.inside.board.look).size in
+    let e = fits g d pos a in
+    put_at pos (newest_first c.self.inside.kept c.self.inside.standing) c.self.inside.board.changed c.self.inside.ban (i.now pos a0) c.args.c c.args.p c.args.dropped (now_moves pos a0) s e on
+    c.play_on.new.board.changed c.in-Ok.ban (c.in-Ok.ensures.over pos (a, whole) (board_good s (i.now pos a0) e)))
+
+pub invariant_of-self-in-Err : goal.invariant_of-self-in-Err
+invariant_of-self-in-Err g c = IsStanding-looks c.self.invariant c.play_on.ensures.asks.0.grows refl (λ pos. refl)
+
+pub returns-in-Ok-clause-moves : goal.returns-in-Ok-clause-moves
+returns-in-Ok-clause-moves g c =
+    let d = (goal.at.returns-in-Ok-clause-moves g c).After-play_on in
+    rw (← c.self.view_is) (newest_first-push c.self.inside.kept c.self.inside.standing _ (omega (arith, c.self.invariant.full, room g d c.requires.room)))
+
+pub returns-in-Ok-clause-over : goal.returns-in-Ok-clause-over
+returns-in-Ok-clause-over g c = λ pos a.
+    let i = c.self.invariant in
+    let d = (goal.at.returns-in-Ok-clause-over g c).After-play_on in
+    let whole = c.play_on.ensures.asks.1 ∙ i.whole in
+    let a0 = agrees_before c.play_on.ensures.asks.0.grows a in
+    let s = (g.L.Look.shows c.self.inside.board.look).size in
+    let e = fits g d pos a in
+    let now_moves = rw (← c.self.view_is) at c.requires.dropped in
+    let on = rw (← c.self.view_is) at c.requires.on_board in
+    rw (← c.self.view_is, newest_first-push c.self.inside.kept c.self.inside.standing (record { changed = c.self.inside.board.changed; ban = c.self.inside.ban; made = Play (record { colour = c.args.c; at = c.args.p; dropped = c.args.dropped }) }) (omega (arith, i.full, room g d c.requires.room)))
+    (put_tried pos (newest_first c.self.inside.kept c.self.inside.standing) c.self.inside.board.changed c.self.inside.ban (i.now pos a0) c.args.c c.args.p c.args.dropped (now_moves pos a0) s e on
+    c.play_on.new.board.changed c.in-Ok.ban (c.in-Ok.ensures.over pos (a, whole) (board_good s (i.now pos a0) e)))
+
+pub returns-in-Err-clause-over : goal.returns-in-Err-clause-over
+returns-in-Err-clause-over g c = λ pos a.
+    let i = c.self.invariant in
+    let d = (goal.at.returns-in-Err-clause-over g c).After-play_on in
+    let whole = c.play_on.ensures.asks.1 ∙ i.whole in
+    let a0 = agrees_before c.play_on.ensures.asks.0.grows a in
+    let s = (g.L.Look.shows c.self.inside.board.look).size in
+    let e = fits g d pos a in
+    let now_moves = rw (← c.self.view_is) at c.requires.dropped in
+    let on = rw (← c.self.view_is) at c.requires.on_board in
+    rw (← c.self.view_is)
+    (put_refused pos (newest_first c.self.inside.kept c.self.inside.standing) c.self.inside.board.changed c.self.inside.ban (i.now pos a0) c.args.c c.args.p c.args.dropped (now_moves pos a0) s e on
+    c.play_on.new.board.changed c.in-Err.field-0 (c.in-Err.ensures.over pos (a, whole) (board_good s (i.now pos a0) e)))

@@ -1,0 +1,38 @@
+-- A board over a position: where a cell was changed it is what it was changed to, and elsewhere what the position has.
+use Rattle.std.specs.Prelude.{◌≡◌, ℕ, ◌*◌, Bool, IsTrue, List, map, length, slice_index_or, Option, Some, None, refl}
+use Rattle.std.proofs.Common.{◌∙◌, sym}
+use Rattle.std.specs.List.{range_with_len}
+use Rattle.go_rules.specs.declared.Cell.{Cell}
+use Rattle.go_rules.specs.Strings.{cell_at}
+use Rattle.go_rules.specs.Neighbourhood.{neighbourhood_of}
+use Rattle.go_base.specs.Views.{alone}
+use Rattle.go_rules.specs.Position.{BoardState}
+use Rattle.go_base.specs.Facts.{Fact, Grows, Grows-refl, Grows-trans, AddsIn, AddsIn-refl, AddsIn-trans, AddsIn-mono}
+
+-- the change, or else the cell
+abbrev pub over : Option Cell → Cell → Cell
+over None cell = cell
+over (Some changed) cell = changed
+
+-- the cells of a board of s rows with the changes
+unfoldable pub overlaid : ℕ → List (Option Cell) → List Cell → List Cell
+overlaid s changed cells = map (λ q. over (slice_index_or changed q None) (cell_at cells q)) (range_with_len 0 (s * s))
+
+-- the look shows the same position, its facts only grew, and by facts of points of S alone
+pub record AsksLook {L : Type 0} (shows : L → BoardState) (seen : L → Fact → Bool) (old new : L) (S : ℕ → Bool) : Type 0 where
+  pub shown : shows new ≡ shows old
+  pub grows : Grows (seen old) (seen new)
+  pub adds : AddsIn (seen old) (seen new) S
+
+pub AsksLook-none : {L : Type 0} (shows : L → BoardState) (seen : L → Fact → Bool) (u : L) (S : ℕ → Bool) → AsksLook shows seen u u S
+AsksLook-none shows seen u S = record { shown = refl; grows = Grows-refl _; adds = AddsIn-refl _ _ }
+
+pub AsksLook-more : {L : Type 0} {shows : L → BoardState} {seen : L → Fact → Bool} {u v w : L} {S : ℕ → Bool} → AsksLook shows seen u v S → AsksLook shows seen v w S → AsksLook shows seen u w S
+AsksLook-more a b = record { shown = b.shown ∙ a.shown; grows = Grows-trans a.grows b.grows; adds = AddsIn-trans a.adds b.adds }
+
+pub AsksLook-within : {L : Type 0} {shows : L → BoardState} {seen : L → Fact → Bool} {u v : L} {S T : ℕ → Bool} → AsksLook shows seen u v S → ((q : ℕ) → IsTrue (S q) → IsTrue (T q)) → AsksLook shows seen u v T
+AsksLook-within a h = record { shown = a.shown; grows = a.grows; adds = AddsIn-mono a.adds h }
+
+-- what is close to what is close to p
+abbrev pub close_twice : ℕ → List Cell → ℕ → ℕ → Bool
+close_twice s cells p = neighbourhood_of s cells (neighbourhood_of s cells (alone p))

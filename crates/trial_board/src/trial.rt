@@ -1,0 +1,290 @@
+//! A board of trial moves over a look.
+
+ghost use Rattle.std.specs.Prelude.{◌≡◌, ℕ, ◌+◌, ◌*◌, ◌-◌, ◌^◌, ◌<◌, ◌≤◌, min, Bool, IsTrue, true, false, not, ◌&&◌, [], ◌∷◌, length, replicate, Some, None};
+ghost use Rattle.go_rules.specs.Strings.{cell_at, liberty_points};
+ghost use Rattle.go_rules.specs.Boundary.{boundary_points};
+ghost use Rattle.go_rules.specs.Neighbourhood.{neighbourhood_of};
+ghost use Rattle.go_base.specs.Views.{alone};
+ghost use Rattle.trial_board.specs.Overlays.{close_twice};
+ghost use Rattle.go_rules.specs.Position.{BoardState, is_banned};
+ghost use Rattle.go_rules.specs.Play.{play_free};
+ghost use Rattle.go_base.specs.Facts.{Agrees, Grows, AddsIn};
+ghost use Rattle.trial_board.specs.declared.moves.TrialMove.{TrialMove};
+ghost use Rattle.trial_board.specs.declared.moves.TrialPlay.{TrialPlay};
+ghost use Rattle.trial_board.specs.Trials.{Trying, Stays, Moved, Put, after, tried, tried_free, made_or_suicide, tail, is_some_move};
+
+use crate::moves::{TrialMove, TrialPlay, Tried};
+use crate::overlay::Overlay;
+use go_base::boundary::boundary_of;
+use go_base::capture::play_on;
+use go_base::flood::liberties_of;
+use go_base::points::PointSet;
+use go_base::size::{Point, Size};
+use go_base::view::View;
+use go_base::{Cell, Colour};
+use go_base::Look;
+use std::marker::Model;
+
+/// What stood before a move, and the move.
+#[derive(Clone, Copy)]
+pub struct Kept {
+    pub changed: [Option<Cell>; 361],
+    pub ban: Option<(Point, Colour)>,
+    pub made: TrialMove,
+}
+
+/// A position with trial moves that can be taken back. It holds its look.
+pub struct Trial<L: Look> {
+    board: Overlay<L>,
+    /// The ban after the newest move; before the first the look is asked.
+    ban: Option<(Point, Colour)>,
+    kept: [Kept; 200],
+    standing: u8,
+    trials: u64,
+}
+
+impl<L: Look> Model for Trial<L> {
+    ghost use Rattle.trial_board.specs.Trials.{Trying};
+
+    ghost Value = { Trying L };
+
+    ghost use Rattle.trial_board.specs.Standing.{newest_first, IsStanding};
+
+    ghost view = { λ t. record { look = t.board.look; moves = newest_first t.kept t.standing; count = t.trials } };
+
+    ghost invariant = { λ t. IsStanding (L.seen t.board.look) t.board.changed t.ban t.kept t.standing };
+}
+
+fn no_changes() -> [Option<Cell>; 361]
+    ensures { result ≡ replicate 361 None }
+{
+    [None; 361]
+}
+
+fn nothing_kept() -> [Kept; 200]
+    ensures { length result ≡ 200 }
+{
+    [Kept {
+        changed: no_changes(),
+        ban: None,
+        made: TrialMove::Pass,
+    }; 200]
+}
+
+/// Whether a play is refused that a ban forbids, or not.
+fn is_refused(banned: bool, allow: bool) -> bool
+    ensures { result ≡ (banned && not allow) }
+{
+    banned && !allow
+}
+
+/// Whether the ban is on this play.
+fn is_on(ban: Option<(Point, Colour)>, c: Colour, p: Point) -> bool
+    ensures { result ≡ is_banned ban c p }
+{
+    match ban {
+        Some((q, colour)) => q == p && colour == c,
+        None => false,
+    }
+}
+
+impl<L: Look> Trial<L> {
+    /// A board with no trial moves.
+    pub fn new(look: L) -> Self
+        ensures { result ≡ record { look = look; moves = []; count = 0 } }
+    {
+        Trial {
+            board: Overlay {
+                look,
+                changed: no_changes(),
+            },
+            ban: None,
+            kept: nothing_kept(),
+            standing: 0,
+            trials: 0,
+        }
+    }
+
+    /// Hands the look back.
+    pub fn finish(self) -> L
+        ensures { result ≡ self.look }
+    {
+        let Trial {
+            board,
+            ban: _,
+            kept: _,
+            standing: _,
+            trials: _,
+        } = self;
+        let Overlay { look, changed: _ } = board;
+        look
+    }
+
+    /// The size of the position. It looks at no point.
+    pub fn size(&self) -> Size
+        ensures { result ≡ (L.shows self.now.look).size }
+    {
+        self.board.size()
+    }
+
+    /// How many plays were tried.
+    pub fn trials(&self) -> u64
+        ensures { result ≡ self.now.count }
+    {
+        self.trials
+    }
+
+    /// What stands at p.
+    pub fn cell(&mut self, p: Point) -> Cell
+        requires { p < (L.shows self.old.look).size * (L.shows self.old.look).size }
+        ensures stays { Stays L.shows L.seen self.old self.new }
+        ensures count { self.new.count ≡ self.old.count }
+        ensures over { (pos : BoardState) → Agrees (L.seen self.new.look) pos
+            → result ≡ cell_at (after pos self.old.moves).cells p }
+        ensures near { AddsIn (L.seen self.old.look) (L.seen self.new.look) (alone p) }
+    {
+        self.board.at(p)
+    }
+
+    /// The liberties of the string of p.
+    pub fn liberties(&mut self, p: Point) -> PointSet
+        requires { p < (L.shows self.old.look).size * (L.shows self.old.look).size }
+        ensures stays { Stays L.shows L.seen self.old self.new }
+        ensures count { self.new.count ≡ self.old.count }
+        ensures over { (pos : BoardState) → Agrees (L.seen self.new.look) pos
+            → result ≡ liberty_points pos.size (after pos self.old.moves).cells p }
+        ensures near { (pos : BoardState) → Agrees (L.seen self.new.look) pos
+            → AddsIn (L.seen self.old.look) (L.seen self.new.look) (neighbourhood_of pos.size (after pos self.old.moves).cells (alone p)) }
+    {
+        liberties_of(&mut self.board, p)
+    }
+
+    /// The least point of each enemy string next to the string of p.
+    pub fn boundary(&mut self, p: Point) -> PointSet
+        requires { p < (L.shows self.old.look).size * (L.shows self.old.look).size }
+        ensures stays { Stays L.shows L.seen self.old self.new }
+        ensures count { self.new.count ≡ self.old.count }
+        ensures over { (pos : BoardState) → Agrees (L.seen self.new.look) pos
+            → result ≡ boundary_points pos.size (after pos self.old.moves).cells p }
+        ensures near { (pos : BoardState) → Agrees (L.seen self.new.look) pos
+            → AddsIn (L.seen self.old.look) (L.seen self.new.look) (close_twice pos.size (after pos self.old.moves).cells p) }
+    {
+        boundary_of(&mut self.board, p)
+    }
+
+    /// Whether the ban is on this play.
+    fn bans(&mut self, c: Colour, p: Point) -> bool
+        requires { p < (L.shows self.old.look).size * (L.shows self.old.look).size }
+        ensures stays { Stays L.shows L.seen self.old self.new }
+        ensures count { self.new.count ≡ self.old.count }
+        ensures over { (pos : BoardState) → Agrees (L.seen self.new.look) pos
+            → result ≡ is_banned (after pos self.old.moves).ban c p }
+        ensures near { AddsIn (L.seen self.old.look) (L.seen self.new.look) (alone p) }
+    {
+        if self.standing == 0 {
+            return self.board.look.ko(p, c);
+        }
+        is_on(self.ban, c, p)
+    }
+
+    /// Adds a pass.
+    pub fn pass(&mut self)
+        requires { length self.old.moves < 200 }
+        ensures { self.new ≡ record self.old { moves = TrialMove.Pass ∷ self.old.moves } }
+    {
+        self.kept[self.standing as usize] = Kept {
+            changed: self.board.changed,
+            ban: self.ban,
+            made: TrialMove::Pass,
+        };
+        self.standing += 1;
+        self.ban = None;
+    }
+
+    /// Takes the last trial move back.
+    pub fn back(&mut self) -> bool
+        ensures some { result ≡ is_some_move self.old.moves }
+        ensures moves { self.new ≡ record self.old { moves = tail self.old.moves } }
+    {
+        if self.standing == 0 {
+            return false;
+        }
+        self.standing -= 1;
+        let before = self.kept[self.standing as usize];
+        let changed = before.changed;
+        self.board.changed = changed;
+        self.ban = before.ban;
+        true
+    }
+
+    fn count_one(&mut self)
+        ensures { self.new ≡ record self.old { count = min (self.old.count + 1) (2 ^ 64 - 1) } }
+    {
+        self.trials = self.trials.saturating_add(1);
+    }
+
+    /// Puts a stone with no regard to the ban, where that is no suicide.
+    fn put(&mut self, c: Colour, p: Point, dropped: bool) -> bool
+        requires room { length self.old.moves < 200 }
+        requires on_board { p < (L.shows self.old.look).size * (L.shows self.old.look).size }
+        requires dropped { (pos : BoardState) → Agrees (L.seen self.old.look) pos → dropped ≡ is_banned (after pos self.old.moves).ban c p }
+        ensures shown { L.shows self.new.look ≡ L.shows self.old.look }
+        ensures grows { Grows (L.seen self.old.look) (L.seen self.new.look) }
+        ensures count { self.new.count ≡ self.old.count }
+        ensures moves { Put result (TrialMove.Play (record { colour = c; at = p; dropped = dropped })) self.old.moves self.new.moves }
+        ensures over { (pos : BoardState) → Agrees (L.seen self.new.look) pos
+            → tried_free (after pos self.old.moves) (play_free (after pos self.old.moves) c p) ≡ (made_or_suicide result, after pos self.new.moves) }
+        ensures near { (pos : BoardState) → Agrees (L.seen self.new.look) pos
+            → AddsIn (L.seen self.old.look) (L.seen self.new.look) (close_twice pos.size (after pos self.old.moves).cells p) }
+    {
+        let before = self.board.changed;
+        match play_on(&mut self.board, c, p) {
+            Ok(ban) => {
+                self.kept[self.standing as usize] = Kept {
+                    changed: before,
+                    ban: self.ban,
+                    made: TrialMove::Play(TrialPlay {
+                        colour: c,
+                        at: p,
+                        dropped,
+                    }),
+                };
+                self.standing += 1;
+                self.ban = ban;
+                true
+            }
+            Err(_) => {
+                self.board.changed = before;
+                false
+            }
+        }
+    }
+
+    /// Plays c at p, and with `allow` also where the ban alone forbids it.
+    pub fn play(&mut self, c: Colour, p: Point, allow: bool) -> Tried
+        requires room { length self.old.moves < 200 }
+        requires on_board { p < (L.shows self.old.look).size * (L.shows self.old.look).size }
+        ensures shown { L.shows self.new.look ≡ L.shows self.old.look }
+        ensures grows { Grows (L.seen self.old.look) (L.seen self.new.look) }
+        ensures count { self.new.count ≡ min (self.old.count + 1) (2 ^ 64 - 1) }
+        ensures moves { Moved result c p self.old.moves self.new.moves }
+        ensures over { (pos : BoardState) → Agrees (L.seen self.new.look) pos
+            → tried (after pos self.old.moves) c p allow ≡ (result, after pos self.new.moves) }
+        ensures near { (pos : BoardState) → Agrees (L.seen self.new.look) pos
+            → AddsIn (L.seen self.old.look) (L.seen self.new.look) (close_twice pos.size (after pos self.old.moves).cells p) }
+    {
+        self.count_one();
+        if self.cell(p) != Cell::Empty {
+            return Tried::Occupied;
+        }
+        let dropped = self.bans(c, p);
+        if is_refused(dropped, allow) {
+            return Tried::Banned;
+        }
+        if self.put(c, p, dropped) {
+            Tried::Done
+        } else {
+            Tried::Suicide
+        }
+    }
+}
