@@ -13,7 +13,7 @@ use Rattle.go_rules.specs.Strings.{cell_at, is_stone}
 use Rattle.go_rules.specs.Position.{BoardState, IsPosition, board_of}
 use Rattle.go_rules.specs.Play.{played_on, play_free}
 use Rattle.go_rules.proofs.Cells.{stone_test}
-use Rattle.go_rules.proofs.Laws.{free_keeps}
+use Rattle.go_rules.proofs.PlayLaws.{free_keeps}
 use Rattle.go_base.specs.declared.view.Flat.{Flat}
 use Rattle.go_base.specs.declared.position.Position.TheInside.{Inside}
 use Rattle.go_base.specs.Flats.{KeepsRest}

@@ -14,6 +14,9 @@ pub const MAX_SIZE: u8 = 19;
 /// How many points the largest board has.
 pub const MAX_POINTS: usize = MAX_SIZE as usize * MAX_SIZE as usize;
 
+/// The greatest number of rows or of columns between two points of a board.
+pub const MAX_OFFSET: i8 = MAX_SIZE as i8 - 1;
+
 /// A point of a board, as row * size + column.
 pub use go_rules::Point;
 
