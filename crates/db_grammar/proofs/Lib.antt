@@ -1,0 +1,4 @@
+pub mod TableLemmas
+pub mod Walk
+pub mod Cut
+mod Samples
