@@ -11,7 +11,7 @@ use Rattle.db_grammar.specs.Kinds.{first_of, constraint_shape}
 use Rattle.db_grammar.specs.Diagram.{is_row, is_letter, rows_of}
 use Rattle.db_grammar.specs.Labels.{is_label, repeats, labels_of_line, labels_under, labels_of, constraint_fault}
 use Rattle.db_diagram.specs.Reads.{IsMarked}
-use Rattle.db_diagram.proofs.DiagramLemmas.{length-rows_of-push}
+use Rattle.db_grammar.proofs.OneMoreLine.{length-rows_of-push}
 
 -- words of other lengths don't repeat one another
 pub repeats-lengths : (main word : List ℕ) → length main ≢ length word → repeats main word ≡ false

@@ -5,12 +5,7 @@ use Rattle.db_diagram.specs.declared.marks.Marks.{Marks}
 use Rattle.db_grammar.specs.Labels.{labels_of}
 use Rattle.db_grammar.specs.declared.shape.Shape.{Shape}
 use Rattle.db_grammar.specs.Kinds.{first_of, bad_letter, edge_place, ragged, too_large}
-use Rattle.db_grammar.specs.Diagram.{is_edge_line, is_row, line_shape, other_sides, other_width, rows_of, has_top, has_bottom, wanted, letters_of}
-
--- the width of a shape, or 0
-abbrev pub width_of : Option Shape → ℕ
-width_of None = 0
-width_of (Some s) = s.width
+use Rattle.db_grammar.specs.Diagram.{is_edge_line, is_row, line_shape, other_sides, other_width, rows_of, has_top, has_bottom, wanted, letters_of, width_of}
 
 -- the first fault of a line, by what is kept of the lines before
 abbrev pub kept_fault : Diagram → List ℕ → Option ℕ

@@ -87,6 +87,11 @@ wanted_of [] (top ∷ more) = Some (shape_of plus top)
 unfoldable pub wanted : List (List ℕ) → Option Shape
 wanted diagram = wanted_of (rows_of diagram) diagram
 
+-- the width of a shape, and 0 where there is none
+abbrev pub width_of : Option Shape → ℕ
+width_of None = 0
+width_of (Some s) = s.width
+
 -- the shape of a word that is an edge line or a row
 abbrev pub line_shape : List ℕ → Shape
 line_shape word = if is_row word then shape_of bar word else shape_of plus word
@@ -114,7 +119,7 @@ diagram_fault diagram word = first_of (
     (not (is_edge_line word || is_row word), bad_letter)
     ∷ (is_misplaced diagram word, edge_place)
     ∷ (other_width (line_shape word) (wanted diagram), ragged)
-    ∷ (nat_lt 19 (length word) || nat_le 19 (length diagram), too_large)
+    ∷ (nat_lt largest_size (length word) || nat_le largest_size (length diagram), too_large)
     ∷ [])
 
 -- the letters of a row

@@ -5,4 +5,5 @@ pub mod Labels
 pub mod Blocks
 pub mod Entries
 pub mod Faults
+pub mod Accepted
 pub mod Database

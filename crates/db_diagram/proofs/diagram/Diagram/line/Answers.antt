@@ -4,7 +4,8 @@ use Rattle.db_grammar.specs.Diagram.{letters_of_row}
 use Rattle.std.specs.Prelude.{nat_lt, nat_le}
 use Rattle.std.proofs.lemmas.Bool.{or_parts, ltb-false, leb-false}
 use Rattle.db_grammar.specs.Kinds.{bad_letter, edge_place, ragged, too_large}
-use Rattle.db_diagram.proofs.DiagramLemmas.{Draws-push, fault_is, none_of_four}
+use Rattle.db_grammar.proofs.OneMoreLine.{none_of_four}
+use Rattle.db_diagram.proofs.DiagramLemmas.{Draws-push, fault_is}
 use Rattle.db_diagram.specs.Reads.{kept_fault}
 use Rattle.db_diagram.proofs.diagram.Diagram.line.Goals as goal
 
