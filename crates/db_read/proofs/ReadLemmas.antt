@@ -4,8 +4,8 @@ use Rattle.std.specs.Prelude.{if◌then◌else◌}
 use Rattle.db_lex.specs.declared.line.BadByte.{BadByte}
 use Rattle.db_lex.specs.declared.line.Line.{Line}
 use Rattle.db_lex.specs.Lines.{KeptLine, kind_of, shown}
-use Rattle.db_grammar.specs.declared.fault.DbError.{DbError}
-use Rattle.db_grammar.specs.declared.fault.DbError.TheVariants as errors
+use Rattle.db_read.specs.declared.error.DbError.{DbError}
+use Rattle.db_read.specs.declared.error.DbError.TheVariants as errors
 use Rattle.db_grammar.specs.declared.fault.Fault.{Fault}
 use Rattle.db_read.specs.declared.reader.Reader.{Reader}
 use Rattle.db_grammar.specs.Kinds.{bad_byte}

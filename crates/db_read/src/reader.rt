@@ -1,15 +1,15 @@
 //! What is kept while a text is read.
 
 use crate::draft::Draft;
-use crate::parsed::Parsed;
 use db_grammar::Stage;
+use pat_types::Pattern;
 
 /// A reader of a text.
 #[derive(Drop)]
 pub struct Reader<'a> {
     pub stage: Stage,
     /// The entries that another follows.
-    pub done: Vec<Parsed>,
+    pub done: Vec<Pattern>,
     /// The number of entries that were begun.
     pub begun: usize,
     /// The entry that may go on; of no meaning at the start.

@@ -9,19 +9,20 @@ ghost use Rattle.db_grammar.specs.Blocks.{SoFar, Block, at_start, placed, blocks
 ghost use Rattle.db_grammar.specs.Faults.{pattern_fault as first_pattern_fault, own_fault, table_fault, closing_fault as fault_closed, found, found_at_end, first_fault, entries};
 ghost use Rattle.std.specs.Option.{option_to_list};
 ghost use Rattle.db_grammar.specs.Entries.{entry_of, entry_of_block};
-ghost use Rattle.db_read.specs.Reading.{BlamesAt, ReadsNow, Shows};
+ghost use Rattle.db_read.specs.Drafts.{IsComplete};
+ghost use Rattle.db_read.specs.Reading.{BlamesAt, ReadsNow, Shows, IsReading, IsTaking};
 ghost use Rattle.db_grammar.specs.Faults.{Blames};
 
 use crate::draft::Draft;
 use crate::drafting::begin;
-use db_grammar::{BAD_BYTE, DbError, Fault, LineError};
+use crate::error::DbError;
+use db_grammar::{BAD_BYTE, Fault, LineError};
 use crate::names::pattern_fault;
-use crate::parsed::Parsed;
 use crate::reader::Reader;
 use db_grammar::{TableCell, Stage};
 use crate::stages::{at, closes, end_kind, finish, gathered, table};
 use db_lex::{LineKind, line_count, lines, word_len};
-use pat_types::{Bytes, NoMemory};
+use pat_types::{Bytes, NoMemory, Pattern};
 use std::alloc::Global;
 use std::mem;
 
@@ -32,7 +33,8 @@ fn is_start(stage: Stage) -> bool
 }
 
 /// Puts the entry that was read at the end, unless there is none.
-fn close(done: &mut Vec<Parsed>, stage: Stage, before: Draft<'_>) -> Result<(), NoMemory>
+fn close(done: &mut Vec<Pattern>, stage: Stage, before: Draft<'_>) -> Result<(), NoMemory>
+    requires { (stage ≡ Stage.Start → ⊥) → IsComplete before }
     ensures { OnOk result ((now : Option Block) → ReadsNow before.entry stage now →
         map entry_of done.new.items ≡ map entry_of done.old.items ++ map entry_of_block (option_to_list now)) }
 {
@@ -67,6 +69,7 @@ impl<'a> Reader<'a> {
 
     /// Reads a Pattern line that the table takes.
     fn pattern_line(&mut self, alloc: Global, line: &[u8]) -> Result<(), LineError>
+        requires { IsTaking self.old LineKind.Pattern (slice_index line.now 0) Stage.Diagram }
         ensures ok { OnOk result ((s : SoFar) (k : KeptLine) → k.bytes ≡ line.now → Shows self.old s →
             (first_pattern_fault (length (blocks_of s)) line.now ≡ None) × Shows self.new (placed k Stage.Diagram s LineKind.Pattern)) }
         ensures err { IfErr result (λ e. (s : SoFar) → Shows self.old s → Blames e (first_pattern_fault (length (blocks_of s)) line.now)) }
@@ -123,7 +126,7 @@ impl<'a> Reader<'a> {
 
     /// Reads an expression line that the table takes.
     fn expression_line(&mut self, number: u64)
-        ensures { (s : SoFar) (k : KeptLine) → k.number ≡ number → (s.stage ≡ Stage.Start → ⊥) → Shows self.old s → Shows self.new (placed k Stage.Expression s LineKind.Semicolon) }
+        ensures { (s : SoFar) (k : KeptLine) → k.number ≡ number → (s.stage ≡ Stage.Start → ⊥) → (s.stage ≡ Stage.Diagram → ⊥) → Shows self.old s → Shows self.new (placed k Stage.Expression s LineKind.Semicolon) }
     {
         self.draft.expression_line(number);
         self.stage = Stage::Expression;
@@ -131,7 +134,7 @@ impl<'a> Reader<'a> {
 
     /// Passes over an action line that the table takes.
     fn action_line(&mut self)
-        ensures { (s : SoFar) (k : KeptLine) → (s.stage ≡ Stage.Start → ⊥) → Shows self.old s → Shows self.new (placed k Stage.Actions s LineKind.Action) }
+        ensures { (s : SoFar) (k : KeptLine) → (s.stage ≡ Stage.Start → ⊥) → (s.stage ≡ Stage.Diagram → ⊥) → Shows self.old s → Shows self.new (placed k Stage.Actions s LineKind.Action) }
     {
         self.stage = Stage::Actions;
     }
@@ -163,7 +166,8 @@ impl<'a> Reader<'a> {
         stage: Stage,
         line: &'a [u8],
     ) -> Result<(), LineError>
-        requires { 0 < length line.now }
+        requires some { 0 < length line.now }
+        requires taking { IsTaking self.old kind (slice_index line.now 0) stage }
         ensures ok { OnOk result ((s : SoFar) (k : KeptLine) → k.number ≡ number → k.bytes ≡ line.now → next_by_table s.stage kind (slice_index line.now 0) ≡ TableCell.Next stage → Shows self.old s →
             (own_fault helpers.now s k kind ≡ None) × Shows self.new (placed k stage s kind)) }
         ensures err { IfErr result (λ e. (s : SoFar) (k : KeptLine) → k.number ≡ number → k.bytes ≡ line.now → next_by_table s.stage kind (slice_index line.now 0) ≡ TableCell.Next stage → Shows self.old s →
@@ -193,7 +197,8 @@ impl<'a> Reader<'a> {
         kind: LineKind,
         line: &'a [u8],
     ) -> Result<(), LineError>
-        requires { 0 < length line.now }
+        requires some { 0 < length line.now }
+        requires reading { IsReading self.old }
         ensures ok { OnOk result ((s : SoFar) (k : KeptLine) → k.number ≡ number → k.bytes ≡ line.now → kind ≡ kind_of k.bytes → Shows self.old s →
             (table_fault helpers.now s k (cell_for s.stage k) ≡ None) × Shows self.new (after_line s k)) }
         ensures err { IfErr result (λ e. (s : SoFar) (k : KeptLine) → k.number ≡ number → k.bytes ≡ line.now → kind ≡ kind_of k.bytes → Shows self.old s →
@@ -214,7 +219,8 @@ impl<'a> Reader<'a> {
         kind: LineKind,
         line: &'a [u8],
     ) -> Result<(), DbError>
-        requires { 0 < length line.now }
+        requires some { 0 < length line.now }
+        requires reading { IsReading self.old }
         ensures ok { OnOk result ((s : SoFar) (k : KeptLine) → k.number ≡ number → k.is_bad ≡ false → k.bytes ≡ line.now → kind ≡ kind_of k.bytes → Shows self.old s →
             (found helpers.now s k ≡ None) × Shows self.new (after_line s k)) }
         ensures err { IfErr result (λ e. (s : SoFar) (k : KeptLine) → k.number ≡ number → k.is_bad ≡ false → k.bytes ≡ line.now → kind ≡ kind_of k.bytes → Shows self.old s →
@@ -236,7 +242,8 @@ impl<'a> Reader<'a> {
 
 impl<'a> Reader<'a> {
     /// The entries at the end of the text, whose line has this number.
-    fn end(self, number: u64) -> Result<Vec<Parsed>, DbError>
+    fn end(self, number: u64) -> Result<Vec<Pattern>, DbError>
+        requires { IsReading self }
         ensures ok { IfOk result (λ v. (s : SoFar) → Shows self.entry s → (found_at_end number s ≡ None)
             × (map entry_of v.items ≡ map entry_of_block (blocks_of s))) }
         ensures err { IfErr result (λ e. (s : SoFar) → Shows self.entry s → BlamesAt e (found_at_end number s)) }
@@ -264,7 +271,7 @@ impl<'a> Reader<'a> {
     }
 }
 
-fn start<'a>(alloc: Global, out: Vec<Parsed>) -> Result<Reader<'a>, DbError>
+fn start<'a>(alloc: Global, out: Vec<Pattern>) -> Result<Reader<'a>, DbError>
     requires { out.items ≡ [] }
     ensures ok { IfOk result (λ r. Shows r at_start) }
     ensures err { IfErr result (λ e. e ≡ DbError.NoMemory) }
@@ -287,8 +294,8 @@ pub fn read(
     alloc: Global,
     text: &[u8],
     helpers: &[Bytes],
-    out: Vec<Parsed>,
-) -> Result<Vec<Parsed>, DbError>
+    out: Vec<Pattern>,
+) -> Result<Vec<Pattern>, DbError>
     requires { out.items ≡ [] }
     // The entries are told exactly where there is no fault, want of memory aside.
     ensures ok { IfOk result (λ v. (first_fault helpers.now text.now ≡ None) × (map entry_of v.items ≡ entries text.now)) }

@@ -7,19 +7,17 @@ ghost use Rattle.db_grammar.specs.Blocks.{Block, table as next_by_table, end_ref
 ghost use Rattle.db_grammar.specs.Faults.{closes as leaves};
 ghost use Rattle.db_read.specs.Reading.{error_at, gathered as fault_gathered};
 ghost use Rattle.db_grammar.specs.Entries.{entry_of, entry_of_block};
-ghost use Rattle.db_read.specs.Drafts.{Drafts};
+ghost use Rattle.db_read.specs.Drafts.{Drafts, IsComplete};
 
-use db_diagram::{Diagram, Shape};
+use db_diagram::{Diagram, Marks, is_ascii_letter};
 use crate::draft::Draft;
 use db_grammar::{
-    CONSTRAINT_SHAPE, DbError, EXPR_FAULT, Fault, LineError, NO_COLON_LINE, STRAY_LINE,
+    CONSTRAINT_SHAPE, EXPR_FAULT, Fault, LineError, NO_COLON_LINE, STRAY_LINE,
 };
-use db_colon::is_ascii_letter;
-use db_diagram::Marks;
-use crate::parsed::Parsed;
-use db_grammar::{TableCell, Stage};
+use db_grammar::{Shape, Stage, TableCell};
+use crate::error::DbError;
 use db_lex::LineKind;
-use pat_types::Letter;
+use pat_types::{Letter, Pattern};
 
 /// The table's cell for a line of this kind and first byte.
 pub fn table(stage: Stage, kind: LineKind, first: u8) -> TableCell
@@ -127,8 +125,9 @@ fn shape_or_none(shape: Option<Shape>) -> Shape
     }
 }
 
-/// The entry that was read.
-pub fn finish(draft: Draft<'_>) -> Parsed
+/// The pattern that was read, where the colon line had no fault.
+pub fn finish(draft: Draft<'_>) -> Pattern
+    requires { IsComplete draft }
     ensures { (b : Block) → Drafts draft.entry b → entry_of result ≡ entry_of_block b }
 {
     let Draft {
@@ -157,19 +156,20 @@ pub fn finish(draft: Draft<'_>) -> Parsed
     } = marks;
     let star = star_index(letters.as_slice());
     let Shape { left, right, width } = shape_or_none(shape);
-    Parsed {
+    Pattern {
         name,
-        rows,
-        cols: width,
+        rows: rows as u8,
+        cols: width as u8,
         letters,
         top,
         bottom,
         left,
         right,
-        star,
+        star: ((star / width) as u8, (star % width) as u8),
         mark,
         classes,
         items,
         labels,
+        constraint: None,
     }
 }

@@ -1,5 +1,6 @@
 use Rattle.std.proofs.Common.{◌∙◌, sym, refl, ap, map}
 use Rattle.db_grammar.specs.Colon.{split_at_commas}
+use Rattle.db_grammar.specs.Accepted.{no_line}
 use Rattle.db_grammar.specs.Entries.{name_on}
 use Rattle.db_read.proofs.drafting.begin.Goals as goal
 
@@ -15,4 +16,6 @@ returns c = λ k e. record {
   marks = c.empty_marks.ensures;
   has_expression = refl;
   first = refl;
+  drawn = no_line;
+  labelled = no_line;
 }

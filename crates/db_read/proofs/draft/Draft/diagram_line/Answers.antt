@@ -2,6 +2,7 @@ use Rattle.std.proofs.Common.{◌≡◌, ◌∙◌, ◌++◌, ◌∷◌, [], Lis
 use Rattle.std.specs.Prelude.{ℕ}
 use Rattle.std.proofs.lemmas.List.{map_push}
 use Rattle.db_lex.specs.Lines.{word_of}
+use Rattle.db_grammar.specs.Accepted.{IsDrawn, IsLabelled, no_line, one_line_more}
 use Rattle.db_grammar.specs.Blocks.{words_in}
 use Rattle.db_diagram.specs.Reads.{Draws}
 use Rattle.db_read.proofs.DraftLemmas.{shorts-pushed, IsMarked-under}
@@ -26,5 +27,7 @@ returns-in-Ok-clause-ok c = λ b k word_is no_labels d.
         marks = IsMarked-under _ (words_in b.diagram) (words_in (b.diagram ++ k ∷ [])) (words_in b.constraint) (ap words_in no_labels) d.marks;
         has_expression = d.has_expression;
         first = d.first;
+        drawn = subst IsDrawn (sym words) (one_line_more (words_in b.diagram) c.args.word.now d.drawn read.0);
+        labelled = subst (λ ws. IsLabelled (words_in (b.diagram ++ k ∷ [])) ws) (sym (ap words_in no_labels)) no_line;
       },
     )

@@ -1,6 +1,6 @@
 use Rattle.std.proofs.Common.{◌≡◌, ◌∙◌, sym, ap, subst, Some, None}
 use Rattle.std.specs.Prelude.{ℕ}
-use Rattle.db_grammar.specs.declared.fault.DbError.{DbError}
+use Rattle.db_read.specs.declared.error.DbError.{DbError}
 use Rattle.db_grammar.specs.Blocks.{cell_for}
 use Rattle.db_grammar.specs.Faults.{closing_fault, found, table_fault, at_line}
 use Rattle.db_read.specs.Reading.{BlamesAt, error_at}

@@ -1,6 +1,7 @@
 use Rattle.std.proofs.Common.{◌≡◌, ◌∙◌, sym, subst, refl, ap, None, length}
 use Rattle.db_grammar.specs.Blocks.{blocks_of, begun_with}
-use Rattle.db_read.specs.Drafts.{Drafts}
+use Rattle.db_read.specs.Drafts.{Drafts, IsComplete}
+use Rattle.db_read.proofs.FinishLemmas.{complete_at_pattern_line}
 use Rattle.db_grammar.specs.Faults.{pattern_fault}
 use Rattle.db_read.specs.Reading.{ReadsNow}
 use Rattle.db_read.specs.declared.draft.Draft.{Draft}
@@ -15,3 +16,8 @@ returns-clause-ok c = λ s k e h.
     subst (λ (d : Draft). ReadsNow d r.stage s.now) (sym c.replace-before.ensures.value) (subst (λ t. ReadsNow r.draft t s.now) (sym h.stage) h.draft) in
     let begun : Drafts c.replace-before.new.dest (begun_with k) = subst (λ (d : Draft). Drafts d (begun_with k)) (sym c.replace-before.ensures.after) (c.in-Ok.ensures k e) in
     (none, pattern_ok r _ s k h refl refl begun (c.in-Ok-close.ensures s.now before))
+
+-- the draft that the line ends is complete
+pub close-requires : goal.close-requires
+close-requires c = λ on.
+    subst (λ (d : Draft). IsComplete d) (sym c.replace-before.ensures.value) (complete_at_pattern_line c.args.self.now _ c.requires on)
