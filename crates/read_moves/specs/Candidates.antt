@@ -1,7 +1,6 @@
 -- The moves that a reading tries.
 use Rattle.std.specs.Prelude.{ℕ, ◌*◌, ◌==◌, ◌&&◌, ◌||◌, Bool, nat_lt, not, List}
-use Rattle.std.specs.Ordering.{nat_cmp}
-use Rattle.std.specs.FinSet as set
+use Rattle.std.specs.List.{range_with_len, filter}
 use Rattle.go_rules.specs.declared.Cell.{Cell}
 use Rattle.go_rules.specs.declared.Cell.TheVariants.{Empty}
 use Rattle.go_rules.specs.Board.{are_neighbours}
@@ -29,3 +28,7 @@ is_candidate pos target k p =
     is_liberty pos.size pos.cells target p
     || ((nat_lt 0 k && nat_lt (liberties pos.size pos.cells target) 3) && is_empty_beside pos.size pos.cells (is_liberty pos.size pos.cells target) p)
     || takes_attacker pos.size pos.cells target p
+
+-- the candidates in reading order
+abbrev pub candidates_of : BoardState → ℕ → ℕ → List ℕ
+candidates_of pos target k = filter (is_candidate pos target k) (range_with_len 0 (pos.size * pos.size))

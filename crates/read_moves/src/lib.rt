@@ -1,6 +1,10 @@
 //! The moves that a reading tries for a target.
 #![tactic(auto)]
 
+pub mod depths;
+
+pub use depths::Depths;
+
 ghost use Rattle.std.specs.Prelude.{◌≡◌, ℕ, ◌*◌, ◌<◌, ◌&&◌, ◌||◌, ◌==◌, Bool, IsTrue, nat_lt};
 ghost use Rattle.std.specs.FinSet as set;
 ghost use Rattle.go_rules.specs.Below.{any_below};

@@ -1,0 +1,3 @@
+pub mod GameTree
+pub mod Answer
+pub mod Steps
