@@ -7,7 +7,7 @@ use Rattle.go_rules.specs.Position.{BoardState}
 use Rattle.go_base.specs.Facts.{Agrees, AddsIn}
 use Rattle.trial_board.specs.Trials.{Stays, after}
 use Rattle.read_moves.specs.Candidates.{is_only_liberty}
-use Rattle.read_moves.proofs.add_only_liberties.Given as goal
+use Rattle.read_moves.proofs.moves.add_only_liberties.Given as goal
 
 abbrev pub invariant-loop-r : goal.invariant-loop-r
 invariant-loop-r g l = record {

@@ -6,7 +6,7 @@ use Rattle.go_rules.specs.Position.{BoardState}
 use Rattle.go_base.specs.Facts.{Agrees, AddsIn}
 use Rattle.trial_board.specs.Trials.{Stays, after}
 use Rattle.read_moves.specs.Candidates.{is_empty_beside}
-use Rattle.read_moves.proofs.add_beside.Given as goal
+use Rattle.read_moves.proofs.moves.add_beside.Given as goal
 
 abbrev pub invariant-loop-q : goal.invariant-loop-q
 invariant-loop-q g l = record {

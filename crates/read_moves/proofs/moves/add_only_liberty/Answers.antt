@@ -6,7 +6,7 @@ use Rattle.go_rules.specs.Strings.{liberties}
 use Rattle.go_base.proofs.Liberties.{len-liberty_points}
 use Rattle.trial_board.specs.Trials.{after}
 use Rattle.read_moves.proofs.CandidateLemmas.{contains-liberty_points, only_yes, only_no}
-use Rattle.read_moves.proofs.add_only_liberty.Goals as goal
+use Rattle.read_moves.proofs.moves.add_only_liberty.Goals as goal
 
 pub returns-then-count-eq1-clause-over : goal.returns-then-count-eq1-clause-over
 returns-then-count-eq1-clause-over g c = λ pos a p.

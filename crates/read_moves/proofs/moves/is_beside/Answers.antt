@@ -9,7 +9,7 @@ use Rattle.go_rules.proofs.Cells.{eq_is_same_cell}
 use Rattle.go_base.specs.Facts.{same_size, AddsIn-mono}
 use Rattle.trial_board.specs.Trials.{after}
 use Rattle.read_moves.proofs.CandidateLemmas.{empty_beside_no, empty_beside_yes}
-use Rattle.read_moves.proofs.is_beside.Goals as goal
+use Rattle.read_moves.proofs.moves.is_beside.Goals as goal
 
 pub returns-then-not-touches-clause-over : goal.returns-then-not-touches-clause-over
 returns-then-not-touches-clause-over g c = λ pos a.

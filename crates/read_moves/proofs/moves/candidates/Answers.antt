@@ -16,8 +16,8 @@ use Rattle.trial_board.specs.Trials.{after}
 use Rattle.trial_board.proofs.AfterLemmas.{size-after}
 use Rattle.read_moves.specs.Candidates.{is_empty_beside}
 use Rattle.read_moves.proofs.CandidateLemmas.{candidate_is, near_liberties, near_boundary}
-use Rattle.read_moves.proofs.candidates.Goals as goal
-use Rattle.read_moves.proofs.candidates.Goals.{then-wide-gt0+then-count-lt3, then-wide-gt0+else-count-lt3, else-wide-gt0}
+use Rattle.read_moves.proofs.moves.candidates.Goals as goal
+use Rattle.read_moves.proofs.moves.candidates.Goals.{then-wide-gt0+then-count-lt3, then-wide-gt0+else-count-lt3, else-wide-gt0}
 
 or-false : (a : Bool) → a ≡ (a || false)
 or-false true = refl

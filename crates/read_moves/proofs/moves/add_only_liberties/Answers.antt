@@ -7,8 +7,8 @@ use Rattle.go_base.specs.Facts.{agrees_before, Grows-trans, AddsIn-trans, AddsIn
 use Rattle.trial_board.specs.Trials.{after}
 use Rattle.read_moves.specs.Candidates.{is_only_liberty}
 use Rattle.read_moves.proofs.CandidateLemmas.{any_more, any_same}
-use Rattle.read_moves.proofs.add_only_liberties.Goals as goal
-use Rattle.read_moves.proofs.add_only_liberties.Goals.{then-has, else-has}
+use Rattle.read_moves.proofs.moves.add_only_liberties.Goals as goal
+use Rattle.read_moves.proofs.moves.add_only_liberties.Goals.{then-has, else-has}
 
 pub add_only_liberty-requires : goal.add_only_liberty-requires
 add_only_liberty-requires g c =

@@ -4,8 +4,8 @@ use Rattle.go_base.specs.Facts.{agrees_before, Grows-trans, AddsIn-trans, AddsIn
 use Rattle.trial_board.specs.Trials.{after}
 use Rattle.read_moves.specs.Candidates.{is_empty_beside}
 use Rattle.read_moves.proofs.CandidateLemmas.{FilledBelow, filled_miss, filled_hit, filled_all, empty_beside_off, near_one}
-use Rattle.read_moves.proofs.add_beside.Goals as goal
-use Rattle.read_moves.proofs.add_beside.Goals.{then-is_beside, else-is_beside}
+use Rattle.read_moves.proofs.moves.add_beside.Goals as goal
+use Rattle.read_moves.proofs.moves.add_beside.Goals.{then-is_beside, else-is_beside}
 
 pub loop-q-preserved : goal.loop-q-preserved
 loop-q-preserved g c = record {
