@@ -1,3 +1,4 @@
 pub mod GameTree
 pub mod Answer
 pub mod Steps
+pub mod Rules

@@ -7,6 +7,7 @@
 //! After GNU Go Manual, "Tactical reading"; the tree, its bounds and its ko allowances are this project's own.
 #![tactic(auto)]
 
+pub mod laws;
 pub mod node;
 pub mod question;
 pub mod reading;
