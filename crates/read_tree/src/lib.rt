@@ -16,3 +16,6 @@ pub mod tree;
 pub use node::Node;
 pub use question::{Answer, Kind, Question, Spot, Told};
 pub use reading::{attack, defend};
+
+#[cfg(test)]
+mod tests;
