@@ -13,6 +13,9 @@ use Rattle.go_rules.proofs.Counts.{any_below_gives, any_below_from}
 use Rattle.go_rules.proofs.Sets.{contains-set_below, contains-insert_nat, same_nat_set}
 use Rattle.go_rules.proofs.Paths.{path_on_board, same_cell-true, same_cell-from, IsInString-from_test, is_is_in_string-from_fact}
 use Rattle.go_rules.proofs.Links.{path_same}
+use Rattle.go_rules.specs.Neighbourhood.{neighbourhood_of}
+use Rattle.go_base.specs.Views.{alone}
+use Rattle.go_base.proofs.Closing.{close_next, whole_string, alone_self}
 use Rattle.go_base.specs.Sides.{neighbour_at}
 use Rattle.go_base.specs.Trails.{has_point, add_once}
 use Rattle.go_base.specs.Floods.{Spreads, Gathers, Visits, SpreadsOut, enemy_points}
@@ -239,3 +242,27 @@ no_liberties s cells p free e is = none_beside s cells p (λ cell. same_cell cel
 
 pub no_enemies : (s : ℕ) (cells : List Cell) (p : ℕ) (foes : sets.FinSet nat_cmp) → cell_at cells p ≡ Empty → foes ≡ sets.empty → foes ≡ enemy_points s cells p
 no_enemies s cells p foes e is = none_beside s cells p (is_enemy (cell_at cells p)) foes e is
+
+-- an empty set has no member
+pub none_at : (found : sets.FinSet nat_cmp) (q : ℕ) → found ≡ sets.empty → sets.contains found q ≡ true → ⊥
+none_at found q e h = both_ways (sets.contains found q) (ap (λ t. sets.contains t q) e ∙ sets.contains-empty nat_cmp q) h
+
+module _ (s : ℕ) (cells : List Cell) (p q : ℕ) (foes : sets.FinSet nat_cmp) (e : foes ≡ enemy_points s cells p) where
+  its_parts : (ltb q (s * s) && (is_beside_string s cells p q && is_enemy (cell_at cells p) (cell_at cells q))) ≡ sets.contains foes q
+  its_parts = sym (contains-set_below (s * s) (λ x. is_beside_string s cells p x && is_enemy (cell_at cells p) (cell_at cells x)) q) ∙ ap (λ t. sets.contains t q) (sym e)
+
+  -- a member is an enemy next to the string
+  pub enemy_beside : sets.contains foes q ≡ true → (is_beside_string s cells p q ≡ true) × (is_enemy (cell_at cells p) (cell_at cells q) ≡ true)
+  enemy_beside h = and_parts _ _ (and_parts _ _ (its_parts ∙ h)).1
+
+  -- a point of the board that is none of them is no enemy next to the string
+  pub no_enemy : q < s * s → sets.contains foes q ≡ false → is_beside_string s cells p q ≡ true → is_enemy (cell_at cells p) (cell_at cells q) ≡ true → ⊥
+  no_enemy on miss beside enemy = both_ways (sets.contains foes q) miss (sym its_parts ∙ and_from _ _ (lt-ltb q (s * s) on) (and_from _ _ beside enemy))
+
+-- an enemy next to the string is close to its points
+pub enemy_close : (s : ℕ) (cells : List Cell) (p q : ℕ) (foes : sets.FinSet nat_cmp) → p < s * s → foes ≡ enemy_points s cells p → sets.contains foes q ≡ true → neighbourhood_of s cells (alone p) q ≡ true
+unfolding is_beside_string
+enemy_close s cells p q foes on e h =
+    let it = any_below_gives (s * s) _ (enemy_beside s cells p q foes e h).0 in
+    let both = and_parts _ _ it.2 in
+    close_next s cells (alone p) it.0 q it.1 (whole_string s cells (alone p) p it.0 on (alone_self p) both.0) both.1

@@ -46,7 +46,8 @@ fn visit<V: View>(
     ensures looks { Looks V.cells V.asks board.old board.new (alone r) }
     ensures over { (pos : BoardState) → V.agrees board.new pos
         → Visits own (cell_at (V.cells board.old pos) r) r trail.old trail.new liberties.old liberties.new enemies.old enemies.new }
-    ensures alone { (q : ℕ) → has_point trail.new q ≡ true → (has_point trail.old q ≡ true) ⊎ (r ≡ q) }
+    ensures trail_alone { (q : ℕ) → has_point trail.new q ≡ true → (has_point trail.old q ≡ true) ⊎ (r ≡ q) }
+    ensures enemies_alone { (q : ℕ) → set.contains enemies.new q ≡ true → (set.contains enemies.old q ≡ true) ⊎ (q ≡ r) }
 {
     let cell = board.at(r);
     if cell == own {
@@ -73,7 +74,8 @@ fn spread<V: View>(
     ensures looks { Looks V.cells V.asks board.old board.new (around (V.rows board.old) q) }
     ensures over { (pos : BoardState) → V.agrees board.new pos → cell_at (V.cells board.old pos) q ≡ own
         → SpreadsOut (V.rows board.old) (V.cells board.old pos) own q 4 trail.old trail.new liberties.old liberties.new enemies.old enemies.new }
-    ensures on_board { AddsOnBoard (V.rows board.old) trail.old trail.new }
+    ensures trail_on_board { AddsOnBoard (V.rows board.old) trail.old trail.new }
+    ensures enemies_on_board { (r : ℕ) → set.contains enemies.new r ≡ true → (set.contains enemies.old r ≡ true) ⊎ (r < V.rows board.old * V.rows board.old) }
 {
     let size = board.size();
     for side in 0..4 {
@@ -94,7 +96,8 @@ pub fn flood<V: View>(board: &mut V, p: Point) -> Found
         → result.liberties ≡ liberty_points (V.rows board.old) (V.cells board.old pos) p }
     ensures enemies { (pos : BoardState) → V.agrees board.new pos
         → result.enemies ≡ enemy_points (V.rows board.old) (V.cells board.old pos) p }
-    ensures on_board { (q : ℕ) → IsTrue (set.contains result.stones q) → q < V.rows board.old * V.rows board.old }
+    ensures stones_on_board { (q : ℕ) → IsTrue (set.contains result.stones q) → q < V.rows board.old * V.rows board.old }
+    ensures enemies_on_board { (q : ℕ) → IsTrue (set.contains result.enemies q) → q < V.rows board.old * V.rows board.old }
     ensures near { (pos : BoardState) → V.agrees board.new pos
         → V.asks board.old board.new (neighbourhood_of (V.rows board.old) (V.cells board.old pos) (alone p)) }
 {

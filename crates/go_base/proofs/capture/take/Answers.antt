@@ -72,7 +72,7 @@ pub returns-then-count-eq0-clause-on_board : goal.returns-then-count-eq0-clause-
 returns-then-count-eq0-clause-on_board g c = λ r h.
     elim (or_cases _ _ (sym (ap (λ t. set.contains t r) c.join.ensures ∙ set.contains-union nat_cmp_total c.args.taken.now c.flood-found.result.stones r) ∙ h)) [
       | inl before ↦ inl before
-      | inr now ↦ inr (subst (λ n. r < n * n) (g.met.V.View.asks_rows _ _ _ c.at.ensures.looks.asked) (c.flood-found.ensures.on_board r now))
+      | inr now ↦ inr (subst (λ n. r < n * n) (g.met.V.View.asks_rows _ _ _ c.at.ensures.looks.asked) (c.flood-found.ensures.stones_on_board r now))
     ]
 
 pub returns-then-count-eq0-clause-near : goal.returns-then-count-eq0-clause-near

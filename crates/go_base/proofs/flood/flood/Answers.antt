@@ -1,9 +1,9 @@
 use Rattle.std.proofs.lemmas.Bool.{both_ways}
-use Rattle.std.proofs.Common.{◌≡◌, ◌≢◌, ◌*◌, ◌<◌, [], ap, sym, subst, refl, ◌∙◌, arith}
+use Rattle.std.proofs.Common.{◌≡◌, ◌≢◌, ◌*◌, ◌<◌, [], inl, inr, ap, sym, subst, refl, ◌∙◌, arith}
 use Rattle.go_rules.specs.declared.Cell.TheVariants.{Empty}
 use Rattle.go_base.specs.Trails.{add_once, has_point}
 use Rattle.go_base.proofs.Flooded.{string_is, string_is_none, has_at, stone_from, on_board_one, on_board_more}
-use Rattle.go_base.proofs.Visiting.{FloodsOut-start, FloodsOut-next, trail_like, stone_at, flood_liberties, flood_enemies, no_liberties, no_enemies}
+use Rattle.go_base.proofs.Visiting.{none_at, FloodsOut-start, FloodsOut-next, trail_like, stone_at, flood_liberties, flood_enemies, no_liberties, no_enemies}
 use Rattle.go_base.specs.Views.{alone}
 use Rattle.go_base.proofs.Closing.{close_self, close_around}
 use Rattle.go_base.proofs.Looking.{Looks-none, Looks-more, Looks-within}
@@ -43,13 +43,14 @@ loop-next-init g c =
       more = Looks-none g.met.V.View.asks_none _ _;
       over = λ pos a. FloodsOut-start (g.V.View.rows c.args.board.now) (g.V.View.cells c.args.board.now pos) _ c.args.p _ _ _ begun c.new-liberties.ensures c.new-enemies.ensures;
       near = λ pos a. g.met.V.View.asks_within _ _ _ _ c.at-own.ensures.looks.asked (λ r h. close_self (g.V.View.rows c.args.board.now) (g.V.View.cells c.args.board.now pos) (alone c.args.p) r h);
-      on_board = λ r h. on_board_one (g.V.View.rows c.args.board.now) c.args.p c.requires r (ap (λ t. has_point t r) (sym begun) ∙ h);
+      enemies_on_board = λ r h. absurd (none_at c.new-enemies.result r c.new-enemies.ensures h);
+      stones_on_board = λ r h. on_board_one (g.V.View.rows c.args.board.now) c.args.p c.requires r (ap (λ t. has_point t r) (sym begun) ∙ h);
     }
 
 -- a point of the trail is on the board
 pub spread-requires-clause-on_board : goal.spread-requires-clause-on_board
 spread-requires-clause-on_board g c = rw (g.met.V.View.asks_rows _ _ _ c.loop-next.invariant.looks.asked, c.at-q.ensures)
-    (c.loop-next.invariant.on_board _ (has_at c.loop-next.trail c.loop-next.next (omega arith)))
+    (c.loop-next.invariant.stones_on_board _ (has_at c.loop-next.trail c.loop-next.next (omega arith)))
 
 -- one more stone has its neighbours where they belong
 pub loop-next-preserved : goal.loop-next-preserved
@@ -76,7 +77,8 @@ loop-next-preserved g c =
           let path = (i.over pos a1).stones.only _ (has_at c.loop-next.trail c.loop-next.next (omega arith)) in
           g.met.V.View.asks_more _ _ _ _ (i.near pos a1)
           (g.met.V.View.asks_within _ _ _ _ (rw (rows, c.at-q.ensures) at c.spread.ensures.looks.asked) (λ r h. close_around s cells c.args.p _ r c.requires stone path h));
-      on_board = on_board_more s c.loop-next.trail c.spread.new.trail i.on_board (rw rows at c.spread.ensures.on_board);
+      enemies_on_board = λ r h. elim (rw rows at (c.spread.ensures.enemies_on_board r h)) [ inl before ↦ i.enemies_on_board r before | inr on ↦ on ];
+      stones_on_board = on_board_more s c.loop-next.trail c.spread.new.trail i.stones_on_board (rw rows at c.spread.ensures.trail_on_board);
     }
 
 -- the trail is the string
@@ -101,9 +103,12 @@ returns-clause-enemies g c = λ pos a.
     (c.at-own.ensures.over pos a0) (cells_differ _ _ c.eq.result c.eq.ensures c.if-eq.false) (c.loop-next.invariant.over pos a) (omega arith)
 
 -- an empty set has no member off the board
-pub returns-then-eq-clause-on_board : goal.returns-then-eq-clause-on_board
-returns-then-eq-clause-on_board g c = λ q h. absurd (both_ways (has_point [] q) refl (ap (λ t. has_point t q) (sym c.new-trail.ensures) ∙ sym (c.into_set.ensures q) ∙ h))
+pub returns-then-eq-clause-stones_on_board : goal.returns-then-eq-clause-stones_on_board
+returns-then-eq-clause-stones_on_board g c = λ q h. absurd (both_ways (has_point [] q) refl (ap (λ t. has_point t q) (sym c.new-trail.ensures) ∙ sym (c.into_set.ensures q) ∙ h))
 
 -- each stone of the trail is on the board
-pub returns-clause-on_board : goal.returns-clause-on_board
-returns-clause-on_board g c = λ q h. c.loop-next.invariant.on_board q (sym (c.into_set-2.ensures q) ∙ h)
+pub returns-then-eq-clause-enemies_on_board : goal.returns-then-eq-clause-enemies_on_board
+returns-then-eq-clause-enemies_on_board g c = λ q h. absurd (none_at c.new-enemies.result q c.new-enemies.ensures h)
+
+pub returns-clause-stones_on_board : goal.returns-clause-stones_on_board
+returns-clause-stones_on_board g c = λ q h. c.loop-next.invariant.stones_on_board q (sym (c.into_set-2.ensures q) ∙ h)

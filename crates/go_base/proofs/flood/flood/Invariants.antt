@@ -1,4 +1,5 @@
 use Rattle.std.proofs.Common.{◌≡◌, ℕ, ◌-◌, ◌*◌, ◌<◌, true}
+use Rattle.std.specs.FinSet as set
 use Rattle.go_rules.specs.Board.{largest_points}
 use Rattle.go_rules.specs.Position.{BoardState}
 use Rattle.go_rules.specs.Neighbourhood.{neighbourhood_of}
@@ -16,7 +17,8 @@ invariant-loop-next g l = record {
       → FloodsOut (g.V.View.rows l.fn.board) (g.V.View.cells l.fn.board pos) l.own l.p l.next l.trail l.liberties l.enemies;
   near : (pos : BoardState) → g.V.View.agrees l.board pos
       → g.V.View.asks l.fn.board l.board (neighbourhood_of (g.V.View.rows l.fn.board) (g.V.View.cells l.fn.board pos) (alone l.p));
-  on_board : (r : ℕ) → has_point l.trail r ≡ true → r < g.V.View.rows l.fn.board * g.V.View.rows l.fn.board;
+  enemies_on_board : (r : ℕ) → set.contains l.enemies r ≡ true → r < g.V.View.rows l.fn.board * g.V.View.rows l.fn.board;
+  stones_on_board : (r : ℕ) → has_point l.trail r ≡ true → r < g.V.View.rows l.fn.board * g.V.View.rows l.fn.board;
 }
 
 -- how many points may still come

@@ -12,7 +12,8 @@ pub loop-side-init : goal.loop-side-init
 loop-side-init g c = record {
   looks = Looks-none g.met.V.View.asks_none _ _;
   over = λ pos a like. SpreadsOut-none _ _ _ _ _ _ _;
-  on_board = λ r h. inl h;
+  trail_on_board = λ r h. inl h;
+  enemies_on_board = λ r h. inl h;
 }
 
 -- a side of the point is on the board
@@ -45,9 +46,13 @@ loop-side-preserved g c =
                 let came = rw (i.looks.same pos) at (w.visit.ensures.over pos a2) in
                 rw (w.trail-is, w.liberties-is, w.enemies-is)
                 (SpreadsOut-visit s (g.V.View.cells c.args.board.now pos) c.args.own q side w.in-Some.r _ _ _ _ _ _ _ _ _ (i.over pos a1 like) c.requires.on_board like at came);
-            on_board = λ r h. elim (w.visit.ensures.alone r (rw w.trail-is at h)) [
-              | inl old ↦ i.on_board r old
+            trail_on_board = λ r h. elim (w.visit.ensures.trail_alone r (rw w.trail-is at h)) [
+              | inl old ↦ i.trail_on_board r old
               | inr e ↦ inr (subst (λ x. x < s * s) e (neighbour_at-near s q side w.in-Some.r c.requires.on_board at).0)
+            ];
+            enemies_on_board = λ r h. elim (w.visit.ensures.enemies_alone r (rw w.enemies-is at h)) [
+              | inl old ↦ i.enemies_on_board r old
+              | inr e ↦ inr (subst (λ x. x < s * s) (sym e) (neighbour_at-near s q side w.in-Some.r c.requires.on_board at).0)
             ];
           }
       | in_default w ↦ record {
@@ -56,6 +61,7 @@ loop-side-preserved g c =
             rw (w.trail-is, w.liberties-is, w.enemies-is)
             (SpreadsOut-skip s (g.V.View.cells c.args.board.now pos) c.args.own q side _ _ _ _ _ _ (i.over pos (rw w.board-is at a) like)
             (λ r e. w.in_default.not-Some r (c.neighbour.ensures.value ∙ sym here ∙ e)));
-        on_board = λ r h. i.on_board r (rw w.trail-is at h);
+        trail_on_board = λ r h. i.trail_on_board r (rw w.trail-is at h);
+        enemies_on_board = λ r h. i.enemies_on_board r (rw w.enemies-is at h);
       }
     ]
