@@ -1,0 +1,4 @@
+pub mod Machine
+pub mod Headline
+pub mod Serving
+pub mod Reply
