@@ -23,3 +23,6 @@ pub fn pieces_give_the_lines_of_the_stream()
     ensures two_pieces { (held : RawLine) (first second : List ℕ) →
         lines_from held (first ++ second) ≡ lines_from held first ++ lines_from (held_from held first) second }
 {}
+
+#[cfg(test)]
+mod tests;
