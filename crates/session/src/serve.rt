@@ -1,14 +1,14 @@
-// The loops of a run: a reply that is put, the lines of a piece, and the pieces of a source.
-ghost use Rattle.std.specs.Prelude.{◌≡◌, ◌≢◌, ◌+◌, ◌≤◌, ◌<◌, Bool, true, false, List, ℕ, [], ◌∷◌, ◌++◌, length, take, IfOk, OnOk, OnErr};
+//! The loops of a run: a reply that is put, the lines of a piece, and the pieces of a source.
+ghost use Rattle.std.specs.Prelude.{◌≡◌, ◌≢◌, ◌≤◌, ◌<◌, true, false, length, take, IfOk, OnOk, OnErr};
 ghost use Rattle.std.specs.Io.{ReadsAtMost};
 ghost use Rattle.std.specs.Io.KnownBytes.{Appends, ReadConsumes};
 ghost use Rattle.gtp_io.specs.Outside.{IsCounted, Gave};
-ghost use Rattle.gtp_lex.specs.LinesTaken.{taken_of, given_state};
-ghost use Rattle.gtp_rules.specs.Lines.{RawLine, Line, TooLong};
+ghost use Rattle.gtp_rules.specs.Lines.{RawLine};
 ghost use Rattle.gtp_lex.specs.Held.{lines_from, held_from, held_line};
 ghost use Rattle.gtp_lex.specs.Lines.{no_line};
-ghost use Rattle.session.specs.Machine.{step};
+ghost use Rattle.gtp_lex.specs.LinesTaken.{taken_of, given_state};
 ghost use Rattle.gtp_lex.specs.Raw.{raw_line};
+ghost use Rattle.session.specs.Machine.{step};
 ghost use Rattle.session.specs.Headline.{Serves, IsCauseOf};
 ghost use Rattle.session.specs.Serving.{PutsPart, Replies, RepliesPart, RunsTo, RunsPart};
 
@@ -19,12 +19,14 @@ use crate::session::Session;
 use gtp_io::{Failed, Sink, Source};
 use gtp_lex::{Lines, Raw, Taken};
 
+/// The most bytes that are asked of a source at once.
 const PIECE: usize = 4096;
 
+/// How many bytes are too many to take.
 const MOST_TAKEN: usize = 1 << 32;
 
 /// Puts all the bytes, or fails where the sink does.
-pub fn put_all<K: Sink>(output: &mut K, bytes: &[u8]) -> Result<(), Failed>
+pub(crate) fn put_all<K: Sink>(output: &mut K, bytes: &[u8]) -> Result<(), Failed>
     ensures ok { OnOk result (Appends (K.written output.old) (K.written output.new) bytes.now) }
     ensures part { OnErr result (PutsPart (K.written output.old) (K.written output.new) bytes.now) }
     ensures cause { IsCounted (K.faults output.old) (K.faults output.new) result }
@@ -39,8 +41,10 @@ pub fn put_all<K: Sink>(output: &mut K, bytes: &[u8]) -> Result<(), Failed>
 
 // Answers one line, and says whether it ends the session.
 fn answer<K: Sink>(session: &mut Session, raw: Raw<'_>, output: &mut K) -> Result<bool, Failed>
-    ensures ok { IfOk result (λ ends. Replies step session.old (raw_line raw.entry) session.new ends (K.written output.old) (K.written output.new)) }
-    ensures part { OnErr result (RepliesPart step session.old (raw_line raw.entry) (K.written output.old) (K.written output.new)) }
+    ensures ok { IfOk result (λ ends.
+        Replies step session.old (raw_line raw.entry) session.new ends (K.written output.old) (K.written output.new)) }
+    ensures part { OnErr result
+        (RepliesPart step session.old (raw_line raw.entry) (K.written output.old) (K.written output.new)) }
     ensures cause { IsCounted (K.faults output.old) (K.faults output.new) result }
 {
     match session.line(raw) {
@@ -71,8 +75,10 @@ fn answer_taken<K: Sink>(
     output: &mut K,
 ) -> Result<bool, Failed>
     requires { (held : RawLine) × (lines.now ≡ given_state held) × (taken ≡ taken_of held) }
-    ensures ok { (held : RawLine) → lines.now ≡ given_state held → taken ≡ taken_of held → IfOk result (λ ends. Replies step session.old held session.new ends (K.written output.old) (K.written output.new)) }
-    ensures part { (held : RawLine) → lines.now ≡ given_state held → taken ≡ taken_of held → OnErr result (RepliesPart step session.old held (K.written output.old) (K.written output.new)) }
+    ensures ok { (held : RawLine) → lines.now ≡ given_state held → taken ≡ taken_of held → IfOk result (λ ends.
+        Replies step session.old held session.new ends (K.written output.old) (K.written output.new)) }
+    ensures part { (held : RawLine) → lines.now ≡ given_state held → taken ≡ taken_of held → OnErr result
+        (RepliesPart step session.old held (K.written output.old) (K.written output.new)) }
     ensures cause { IsCounted (K.faults output.old) (K.faults output.new) result }
 {
     match taken {
@@ -91,9 +97,11 @@ fn answer_next<K: Sink>(
 ) -> Result<(usize, bool), Failed>
     requires { lines.old.waits ≡ false }
     ensures bound { IfOk result (λ turn. (turn.0 ≤ length rest.now) × (0 < length rest.now → 0 < turn.0)) }
-    ensures ok { IfOk result (λ turn. RunsTo step session.old (lines_from lines.old.held (take turn.0 rest.now)) session.new turn.1 (K.written output.old) (K.written output.new)) }
+    ensures ok { IfOk result (λ turn. RunsTo step session.old (lines_from lines.old.held (take turn.0 rest.now)) session.new turn.1
+        (K.written output.old) (K.written output.new)) }
     ensures held { IfOk result (λ turn. (lines.new.held ≡ held_from lines.old.held (take turn.0 rest.now)) × (lines.new.waits ≡ false)) }
-    ensures part { OnErr result (RunsPart step session.old (lines_from lines.old.held rest.now) (K.written output.old) (K.written output.new)) }
+    ensures part { OnErr result (RunsPart step session.old (lines_from lines.old.held rest.now)
+        (K.written output.old) (K.written output.new)) }
     ensures cause { IsCounted (K.faults output.old) (K.faults output.new) result }
 {
     let count = lines.feed(rest);
@@ -114,9 +122,12 @@ fn answer_piece<K: Sink>(
     output: &mut K,
 ) -> Result<bool, Failed>
     requires { lines.old.waits ≡ false }
-    ensures ok { IfOk result (λ ended. RunsTo step session.old (lines_from lines.old.held piece.now) session.new ended (K.written output.old) (K.written output.new)) }
-    ensures held { IfOk result (λ ended. ended ≡ false → (lines.new.held ≡ held_from lines.old.held piece.now) × (lines.new.waits ≡ false)) }
-    ensures part { OnErr result (RunsPart step session.old (lines_from lines.old.held piece.now) (K.written output.old) (K.written output.new)) }
+    ensures ok { IfOk result (λ ended. RunsTo step session.old (lines_from lines.old.held piece.now) session.new ended
+        (K.written output.old) (K.written output.new)) }
+    ensures held { IfOk result (λ ended. ended ≡ false →
+        (lines.new.held ≡ held_from lines.old.held piece.now) × (lines.new.waits ≡ false)) }
+    ensures part { OnErr result (RunsPart step session.old (lines_from lines.old.held piece.now)
+        (K.written output.old) (K.written output.new)) }
     ensures cause { IsCounted (K.faults output.old) (K.faults output.new) result }
 {
     let mut rest = piece;
@@ -137,7 +148,8 @@ fn answer_rest<K: Sink>(
     output: &mut K,
 ) -> Result<bool, Failed>
     requires { lines.old.waits ≡ false }
-    ensures ok { IfOk result (λ ended. RunsTo step session.old (held_line lines.old.held) session.new ended (K.written output.old) (K.written output.new)) }
+    ensures ok { IfOk result (λ ended. RunsTo step session.old (held_line lines.old.held) session.new ended
+        (K.written output.old) (K.written output.new)) }
     ensures part { OnErr result (RunsPart step session.old (held_line lines.old.held) (K.written output.old) (K.written output.new)) }
     ensures cause { IsCounted (K.faults output.old) (K.faults output.new) result }
 {
@@ -147,7 +159,7 @@ fn answer_rest<K: Sink>(
     }
 }
 
-// The next bytes, at most as many as there is room for.
+// The next bytes, at most as many as may still be taken.
 fn next_piece<S: Source>(input: &mut S, buf: &mut [u8], room: usize) -> Result<usize, Failed>
     requires room { 0 < room }
     requires some { 0 < length buf.old }
@@ -161,8 +173,8 @@ fn next_piece<S: Source>(input: &mut S, buf: &mut [u8], room: usize) -> Result<u
     input.next(&mut buf[..most])
 }
 
-/// Answers the lines of the source until its end, or a fault, or the line that ends the session.
-pub fn serve<S: Source, K: Sink>(
+/// Answers the lines of the source until its end, a fault, or the line that ends the session.
+pub(crate) fn serve<S: Source, K: Sink>(
     session: &mut Session,
     lines: &mut Lines,
     input: &mut S,
@@ -170,7 +182,8 @@ pub fn serve<S: Source, K: Sink>(
 ) -> Outcome
     requires { lines.old ≡ no_line }
     ensures ran { (result ≢ Outcome.Usage) × (result ≢ Outcome.NoMemory) }
-    ensures serves { Serves step session.old (S.left input.old) (S.left input.new) (K.written output.old) (K.written output.new) (S.piece input.new) result }
+    ensures serves { Serves step session.old (S.left input.old) (S.left input.new) (K.written output.old) (K.written output.new)
+        (S.piece input.new) result }
     ensures input { IsCauseOf (result ≡ Outcome.InputFault) (S.faults input.old) (S.faults input.new) }
     ensures output { IsCauseOf (result ≡ Outcome.OutputFault) (K.faults output.old) (K.faults output.new) }
 {
