@@ -2,7 +2,7 @@
 use Rattle.std.proofs.Common.{◌≡◌, ℕ, zero, suc, ◌+◌, ◌-◌, ◌*◌, ◌/◌, ◌%◌, ◌<◌, ◌≤◌, true, eqb, ltb, Some, refl, sym, ap, arith, inl, inr, ◌⊎◌, ◌∙◌, lit<}
 use Rattle.std.proofs.lemmas.Bool.{cases_Bool, cases_eq, lt-ltb, le-ltb, eq-eqb, eqb-true, ne_eqb, and_parts, and_from, or_cases, or_left, or_right, ltb-true, ltb-false, eqb-false}
 use Rattle.std.proofs.lemmas.Nat.{div-mul-add, mod-mul-add, div_below, mod_below, div-add-mod', mul-add-lt, mul-le}
-use Rattle.go_rules.specs.Board.{are_neighbours, are_one_apart}
+use Rattle.go_rules.specs.Board.{largest_size, largest_points, are_neighbours, are_one_apart}
 use Rattle.go_base.specs.Sides.{neighbour_at}
 
 row_column : (s p r c : ℕ) → c < s → p ≡ r * s + c → (p / s ≡ r) × (p % s ≡ c)
@@ -147,24 +147,24 @@ neighbour_at-all s p q h k n =
     ]
 
 -- a board has at most 361 points
-pub square_small : (s : ℕ) → s ≤ 19 → s * s ≤ 361
-square_small s h = mul-le s s 19 19 h h
+pub square_small : (s : ℕ) → s ≤ largest_size → s * s ≤ largest_points
+square_small s h = mul-le s s largest_size largest_size h h
 
 -- The same with the bound of the largest board, where the code has t for s.
 abbrev pub IsNear : ℕ → ℕ → ℕ → Type 0
-IsNear s p q = (q < s * s) × (q < 361) × (are_neighbours s p q ≡ true)
+IsNear s p q = (q < s * s) × (q < largest_points) × (are_neighbours s p q ≡ true)
 
-near_from : (s p q : ℕ) → s ≤ 19 → (q < s * s) × (are_neighbours s p q ≡ true) → IsNear s p q
+near_from : (s p q : ℕ) → s ≤ largest_size → (q < s * s) × (are_neighbours s p q ≡ true) → IsNear s p q
 near_from s p q small h = (h.0, omega (arith, square_small s small, h.0), h.1)
 
-pub near_above : (s t p : ℕ) → t ≡ s → s ≤ 19 → p < s * s → t ≤ p → IsNear s p (p - t)
+pub near_above : (s t p : ℕ) → t ≡ s → s ≤ largest_size → p < s * s → t ≤ p → IsNear s p (p - t)
 near_above s t p e small h l = let l' : s ≤ p = rw e at l in rw e (near_from s p (p - s) small (above s p h l'))
 
-pub near_below : (s t p : ℕ) → t ≡ s → s ≤ 19 → p < s * s → p + t < t * t → IsNear s p (p + t)
+pub near_below : (s t p : ℕ) → t ≡ s → s ≤ largest_size → p < s * s → p + t < t * t → IsNear s p (p + t)
 near_below s t p e small h l = let l' = rw e at l in rw e (near_from s p (p + s) small (l', below s p h l'))
 
-pub near_left : (s t p : ℕ) → t ≡ s → s ≤ 19 → p < s * s → (p % t ≡ 0 → ⊥) → IsNear s p (p - 1)
+pub near_left : (s t p : ℕ) → t ≡ s → s ≤ largest_size → p < s * s → (p % t ≡ 0 → ⊥) → IsNear s p (p - 1)
 near_left s t p e small h l = let l' = rw e at l in near_from s p (p - 1) small (left s p h l')
 
-pub near_right : (s t p : ℕ) → t ≡ s → s ≤ 19 → p < s * s → (p % t + 1 ≡ t → ⊥) → IsNear s p (p + 1)
+pub near_right : (s t p : ℕ) → t ≡ s → s ≤ largest_size → p < s * s → (p % t + 1 ≡ t → ⊥) → IsNear s p (p + 1)
 near_right s t p e small h l = let l' = rw e at l in near_from s p (p + 1) small (right s p h l')

@@ -1,6 +1,7 @@
 -- A board that holds a position, and what a play on it gives.
 use Rattle.std.proofs.Common.{◌≡◌, ℕ, ◌-◌, ◌*◌, arith, length-append, ◌≤◌, ◌<◌, Bool, not, Option, List, Result, Ok, Err, take, drop, length, refl, sym, ap, subst, ◌∙◌, get_or-take}
 use Rattle.std.proofs.lemmas.List.{take-append-drop, length-replicate}
+use Rattle.go_rules.specs.Board.{largest_size, largest_points}
 use Rattle.go_base.proofs.Beside.{square_small}
 use denote.Enum.Bare.{sameb}
 use Rattle.go_rules.specs.contracts.Cell.{the_type}
@@ -12,21 +13,21 @@ use Rattle.go_rules.specs.Strings.{cell_at, is_stone}
 use Rattle.go_rules.specs.Position.{BoardState, IsPosition, board_of}
 use Rattle.go_rules.specs.Play.{played_on, play_free}
 use Rattle.go_rules.proofs.Cells.{stone_test}
-use Rattle.go_rules.proofs.Laws.{free_keeps}
+use Rattle.go_rules.proofs.PlayLaws.{free_keeps}
 use Rattle.go_base.specs.declared.view.Flat.{Flat}
 use Rattle.go_base.specs.declared.position.Position.TheInside.{Inside}
 use Rattle.go_base.specs.Flats.{KeepsRest}
 use Rattle.go_base.specs.Positions.{position_of, padding, IsKept, Holds}
 
 -- the cells fill their array
-kept_length : (a : Inside) → IsKept a → a.size ≤ 19 → length a.cells ≡ 361
+kept_length : (a : Inside) → IsKept a → a.size ≤ largest_size → length a.cells ≡ largest_points
 kept_length a k small =
     let few = square_small a.size small in
     let front = k.position.cells in
-    let back = ap length k.padded ∙ length-replicate (361 - a.size * a.size) Empty in
+    let back = ap length k.padded ∙ length-replicate (largest_points - a.size * a.size) Empty in
     ap length (sym (take-append-drop (a.size * a.size) a.cells)) ∙ length-append (take (a.size * a.size) a.cells) (drop (a.size * a.size) a.cells) ∙ omega (arith, few, front, back)
 
-pub holds_of : (a : Inside) (pos : BoardState) → position_of a ≡ pos → IsKept a → a.size ≤ 19 → Holds pos (record { size = a.size; cells = a.cells })
+pub holds_of : (a : Inside) (pos : BoardState) → position_of a ≡ pos → IsKept a → a.size ≤ largest_size → Holds pos (record { size = a.size; cells = a.cells })
 holds_of a pos e k small = record {
   position = subst IsPosition e k.position;
   size = ap (λ x. x.size) e;
@@ -35,8 +36,8 @@ holds_of a pos e k small = record {
   padded = k.padded;
 }
 
-pub whole_after : (old new : Flat) → KeepsRest old new → (length old.cells ≡ 361) × (old.size ≤ 19) → (length new.cells ≡ 361) × (new.size ≤ 19)
-whole_after old new k w = (k.length ∙ w.0, subst (λ n. n ≤ 19) (sym k.size) w.1)
+pub whole_after : (old new : Flat) → KeepsRest old new → (length old.cells ≡ largest_points) × (old.size ≤ largest_size) → (length new.cells ≡ largest_points) × (new.size ≤ largest_size)
+whole_after old new k w = (k.length ∙ w.0, subst (λ n. n ≤ largest_size) (sym k.size) w.1)
 
 pub stone_is_test : (a : Inside) (p : ℕ) (r : Bool) → p < a.size * a.size → r ≡ not (sameb the_type (cell_at a.cells p) Empty) → r ≡ is_stone (cell_at (take (a.size * a.size) a.cells) p)
 stone_is_test a p r on e = e ∙ stone_test (cell_at a.cells p) ∙ ap is_stone (sym (get_or-take (a.size * a.size) a.cells p Empty on))
@@ -47,7 +48,7 @@ unfolding play_free
 free_board pos c p = refl
 
 module _ {pos : BoardState} {old new : Flat} (c : Colour) (p : ℕ) (result : Result (Option (ℕ × Colour)) Illegal) (h : Holds pos old) (k : KeepsRest old new)
-    (over : (x : BoardState) → (length new.cells ≡ 361) × (new.size ≤ 19) → IsPosition (board_of old.size (take (old.size * old.size) old.cells))
+    (over : (x : BoardState) → (length new.cells ≡ largest_points) × (new.size ≤ largest_size) → IsPosition (board_of old.size (take (old.size * old.size) old.cells))
     → play_free (board_of old.size (take (old.size * old.size) old.cells)) c p ≡ played_on old.size (take (new.size * new.size) new.cells) result) where
   -- the board as the cells of the position
   board_is : board_of old.size (take (old.size * old.size) old.cells) ≡ board_of pos.size pos.cells

@@ -2,6 +2,7 @@
 use Rattle.std.proofs.Common.{◌≡◌, ℕ, zero, suc, ◌*◌, ◌≤◌, List, take, drop, replicate, None, refl, sym, ap, subst, ◌∙◌}
 use Rattle.std.proofs.lemmas.List.{length-replicate, take-replicate, drop-replicate}
 use Rattle.std.proofs.lemmas.Bool.{both_ways}
+use Rattle.go_rules.specs.Board.{smallest_size, largest_size, largest_points}
 use Rattle.go_rules.specs.declared.Cell.{Cell}
 use Rattle.go_rules.specs.declared.Cell.TheVariants.{Empty}
 use Rattle.go_rules.specs.Strings.{cell_at, is_stone}
@@ -14,7 +15,7 @@ at_replicate zero p = refl
 at_replicate (suc n) zero = refl
 at_replicate (suc n) (suc p) = at_replicate n p
 
-pub empty_position : (s : ℕ) → 2 ≤ s → s ≤ 19 → IsPosition (record { size = s; cells = replicate (s * s) Empty; ban = None })
+pub empty_position : (s : ℕ) → smallest_size ≤ s → s ≤ largest_size → IsPosition (record { size = s; cells = replicate (s * s) Empty; ban = None })
 empty_position s low high = record {
   size_at_least = low;
   size_at_most = high;
@@ -23,11 +24,11 @@ empty_position s low high = record {
   ban = tt;
 }
 
-pub view_empty : (s : ℕ) (cells : List Cell) → s ≤ 19 → cells ≡ replicate 361 Empty → take (s * s) cells ≡ replicate (s * s) Empty
-view_empty s cells high e = ap (take (s * s)) e ∙ take-replicate (s * s) 361 Empty (square_small s high)
+pub view_empty : (s : ℕ) (cells : List Cell) → s ≤ largest_size → cells ≡ replicate largest_points Empty → take (s * s) cells ≡ replicate (s * s) Empty
+view_empty s cells high e = ap (take (s * s)) e ∙ take-replicate (s * s) largest_points Empty (square_small s high)
 
-pub IsKept-empty : (s : ℕ) (cells : List Cell) → 2 ≤ s → s ≤ 19 → cells ≡ replicate 361 Empty → IsKept (record { size = s; ban = None; cells = cells })
+pub IsKept-empty : (s : ℕ) (cells : List Cell) → smallest_size ≤ s → s ≤ largest_size → cells ≡ replicate largest_points Empty → IsKept (record { size = s; ban = None; cells = cells })
 IsKept-empty s cells low high e = record {
   position = subst (λ t. IsPosition (record { size = s; cells = t; ban = None })) (sym (view_empty s cells high e)) (empty_position s low high);
-  padded = ap (drop (s * s)) e ∙ drop-replicate (s * s) 361 Empty;
+  padded = ap (drop (s * s)) e ∙ drop-replicate (s * s) largest_points Empty;
 }

@@ -7,17 +7,18 @@ use Rattle.std.specs.Int.{bit_at, w64}
 use Rattle.std.specs.Ordering.{nat_cmp}
 use Rattle.std.specs.Cmp.{nat_cmp_total}
 use Rattle.std.specs.FinSet as sets
+use Rattle.go_rules.specs.Board.{largest_points}
 use Rattle.go_rules.proofs.Sets.{contains-set_below, contains-insert_nat, same_nat_set, len-set_below}
 use Rattle.go_rules.proofs.Counts.{count_below_at_most}
-use Rattle.go_base.specs.Bits.{is_marked, marked}
+use Rattle.go_base.specs.Bits.{set_words, is_marked, marked}
 
-pub contains-marked : (words : List ℕ) (q : ℕ) → sets.contains (marked words) q ≡ (ltb q 361 && is_marked words q)
+pub contains-marked : (words : List ℕ) (q : ℕ) → sets.contains (marked words) q ≡ (ltb q largest_points && is_marked words q)
 unfolding marked
-contains-marked words q = contains-set_below 361 (is_marked words) q
+contains-marked words q = contains-set_below largest_points (is_marked words) q
 
-pub len-marked : (words : List ℕ) → sets.len (marked words) ≤ 361
+pub len-marked : (words : List ℕ) → sets.len (marked words) ≤ largest_points
 unfolding marked
-len-marked words = rw (len-set_below 361 (is_marked words)) (count_below_at_most 361 (is_marked words))
+len-marked words = rw (len-set_below largest_points (is_marked words)) (count_below_at_most largest_points (is_marked words))
 
 abbrev zeros : List ℕ
 zeros = 0 ∷ 0 ∷ 0 ∷ 0 ∷ 0 ∷ 0 ∷ []
@@ -39,7 +40,7 @@ is_marked-none : (q : ℕ) → is_marked (0 ∷ 0 ∷ 0 ∷ 0 ∷ 0 ∷ 0 ∷ []
 is_marked-none q = ap (λ n. eqb (bit_at n (q % 64)) 1) (six_zeros (q / 64)) ∙ ap (λ n. eqb n 1) (bit_at-zero (q % 64))
 
 pub marked-none : marked (0 ∷ 0 ∷ 0 ∷ 0 ∷ 0 ∷ 0 ∷ []) ≡ sets.empty
-marked-none = same_nat_set _ _ (λ q. contains-marked _ q ∙ ap (λ b. ltb q 361 && b) (is_marked-none q) ∙ and-false (ltb q 361) ∙ sym (sets.contains-empty nat_cmp q))
+marked-none = same_nat_set _ _ (λ q. contains-marked _ q ∙ ap (λ b. ltb q largest_points && b) (is_marked-none q) ∙ and-false (ltb q largest_points) ∙ sym (sets.contains-empty nat_cmp q))
 
 -- one more bit
 abbrev pub with_bit : List ℕ → ℕ → List ℕ
@@ -60,22 +61,22 @@ is_marked-with_bit_other words p q h ne =
       | inr f ↦ ap (λ n. eqb (bit_at n (q % 64)) 1) (get_or-set_other words (p / 64) (q / 64) _ 0 f)
     ]
 
-pub marked-with_bit : (words : List ℕ) (p : ℕ) → length words ≡ 6 → p < 361 → marked (with_bit words p) ≡ sets.insert (marked words) p
+pub marked-with_bit : (words : List ℕ) (p : ℕ) → length words ≡ set_words → p < largest_points → marked (with_bit words p) ≡ sets.insert (marked words) p
 marked-with_bit words p six h =
     let in_words : p / 64 < length words = omega arith in
     same_nat_set _ _ (λ q.
     contains-marked (with_bit words p) q
-    ∙ elim (cases_eq q p) as (λ _. (ltb q 361 && is_marked (with_bit words p) q) ≡ (eqb q p || (ltb q 361 && is_marked words q))) [
-      | inl e ↦ rw (e, eq-eqb p p refl, lt-ltb p 361 h, is_marked-with_bit_same words p in_words) refl
+    ∙ elim (cases_eq q p) as (λ _. (ltb q largest_points && is_marked (with_bit words p) q) ≡ (eqb q p || (ltb q largest_points && is_marked words q))) [
+      | inl e ↦ rw (e, eq-eqb p p refl, lt-ltb p largest_points h, is_marked-with_bit_same words p in_words) refl
       | inr ne ↦ rw (ne_eqb q p ne, is_marked-with_bit_other words p q in_words ne) refl
     ]
     ∙ sym (contains-insert_nat (marked words) p q ∙ ap (λ b. eqb q p || b) (contains-marked words q)))
 
 -- what the code's test says
-pub has_bit : (words : List ℕ) (p : ℕ) → p < 361 → eqb (bit_and (get_or words (p / 64) 0 / 2 ^ (p % 64)) 1) 1 ≡ sets.contains (marked words) p
-has_bit words p h = ap (λ n. eqb n 1) (shr_and_one (get_or words (p / 64) 0) (p % 64)) ∙ sym (contains-marked words p ∙ ap (λ b. b && is_marked words p) (lt-ltb p 361 h))
+pub has_bit : (words : List ℕ) (p : ℕ) → p < largest_points → eqb (bit_and (get_or words (p / 64) 0 / 2 ^ (p % 64)) 1) 1 ≡ sets.contains (marked words) p
+has_bit words p h = ap (λ n. eqb n 1) (shr_and_one (get_or words (p / 64) 0) (p % 64)) ∙ sym (contains-marked words p ∙ ap (λ b. b && is_marked words p) (lt-ltb p largest_points h))
 
-pub len-with_bit : (words : List ℕ) (p : ℕ) → length words ≡ 6 → p < 361 → sets.contains (marked words) p ≡ false → sets.len (marked (with_bit words p)) ≡ sets.len (marked words) + 1
+pub len-with_bit : (words : List ℕ) (p : ℕ) → length words ≡ set_words → p < largest_points → sets.contains (marked words) p ≡ false → sets.len (marked (with_bit words p)) ≡ sets.len (marked words) + 1
 len-with_bit words p six h new = ap sets.len (marked-with_bit words p six h) ∙ sets.len-insert nat_cmp_total (marked words) p ∙ ap (λ b. cond b (sets.len (marked words)) (sets.len (marked words) + 1)) new
 
 pub insert-member : (s : sets.FinSet nat_cmp) (p : ℕ) → sets.contains s p ≡ true → s ≡ sets.insert s p
@@ -84,5 +85,5 @@ insert-member s p h = same_nat_set _ _ (λ q. elim (cases_eq q p) as (λ _. sets
   | inr ne ↦ rw (contains-insert_nat s p q, ne_eqb q p ne) refl
 ])
 
-pub contains-above : (words : List ℕ) (q : ℕ) → 361 ≤ q → sets.contains (marked words) q ≡ false
-contains-above words q h = contains-marked words q ∙ ap (λ b. b && is_marked words q) (le-ltb q 361 h)
+pub contains-above : (words : List ℕ) (q : ℕ) → largest_points ≤ q → sets.contains (marked words) q ≡ false
+contains-above words q h = contains-marked words q ∙ ap (λ b. b && is_marked words q) (le-ltb q largest_points h)

@@ -2,6 +2,7 @@
 use Rattle.std.proofs.Common.{◌≡◌, ◌↔◌, ◌⊎◌, ℕ, zero, suc, ◌*◌, ◌<◌, ◌&&◌, Bool, true, false, ltb, List, Option, length, replicate, refl, sym, ap, subst, arith, inl, inr, ◌∙◌, get_or, get_or-set_same, get_or-set_other}
 use Rattle.std.proofs.Math.ListN.{set}
 use Rattle.std.proofs.lemmas.Bool.{cases_Bool, cases_eq, both_ways, and_parts, and_from, lt-ltb, ltb-true, eqb-true, eq-eqb}
+use Rattle.go_rules.specs.Board.{largest_points}
 use Rattle.go_rules.specs.declared.Cell.{Cell}
 use Rattle.go_rules.specs.declared.Colour.{Colour}
 use Rattle.go_rules.specs.Strings.{cell_at}
@@ -133,14 +134,14 @@ at_neither (suc n) (suc q) = at_neither n q
 abbrev pub nothing_of : ℕ → Option (ℕ × Colour) → List Known → List Asked → Facts
 nothing_of s ban cells bans = record { size = s; ban = ban; cells = cells; bans = bans }
 
-pub none_agrees : (s : ℕ) (ban : Option (ℕ × Colour)) (cells : List Known) (bans : List Asked) (pos : BoardState) → IsPosition pos → s ≡ pos.size → cells ≡ replicate 361 Unseen → bans ≡ replicate 361 Neither
+pub none_agrees : (s : ℕ) (ban : Option (ℕ × Colour)) (cells : List Known) (bans : List Asked) (pos : BoardState) → IsPosition pos → s ≡ pos.size → cells ≡ replicate largest_points Unseen → bans ≡ replicate largest_points Neither
     → Agrees (told (nothing_of s ban cells bans)) pos
 none_agrees s ban cells bans pos good e ce be = record { sound = good; each = each }
   where
     each : (fact : Fact) → told (nothing_of s ban cells bans) fact ≡ true → Holds pos fact
     each (SizeIs n) h = sym e ∙ eqb-true s n h
-    each (CellIs q x) h = absurd (both_ways false refl (sym (ap (λ y. is_known y x) (ap (λ t. get_or t q Unseen) ce ∙ at_unseen 361 q)) ∙ (and_parts _ _ h).1))
-    each (BanIs q x b) h = absurd (both_ways false refl (sym (ap (λ y. is_asked y x) (ap (λ t. get_or t q Neither) be ∙ at_neither 361 q)) ∙ (and_parts _ _ (and_parts _ _ h).1).0))
+    each (CellIs q x) h = absurd (both_ways false refl (sym (ap (λ y. is_known y x) (ap (λ t. get_or t q Unseen) ce ∙ at_unseen largest_points q)) ∙ (and_parts _ _ h).1))
+    each (BanIs q x b) h = absurd (both_ways false refl (sym (ap (λ y. is_asked y x) (ap (λ t. get_or t q Neither) be ∙ at_neither largest_points q)) ∙ (and_parts _ _ (and_parts _ _ h).1).0))
 
-pub none_at : (s : ℕ) (ban : Option (ℕ × Colour)) (cells : List Known) (bans : List Asked) (q : ℕ) → cells ≡ replicate 361 Unseen → bans ≡ replicate 361 Neither → is_fact_at (nothing_of s ban cells bans) q ≡ false
-none_at s ban cells bans q ce be = rw (ap (λ t. get_or t q Unseen) ce ∙ at_unseen 361 q, ap (λ t. get_or t q Neither) be ∙ at_neither 361 q) refl
+pub none_at : (s : ℕ) (ban : Option (ℕ × Colour)) (cells : List Known) (bans : List Asked) (q : ℕ) → cells ≡ replicate largest_points Unseen → bans ≡ replicate largest_points Neither → is_fact_at (nothing_of s ban cells bans) q ≡ false
+none_at s ban cells bans q ce be = rw (ap (λ t. get_or t q Unseen) ce ∙ at_unseen largest_points q, ap (λ t. get_or t q Neither) be ∙ at_neither largest_points q) refl

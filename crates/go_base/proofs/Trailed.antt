@@ -6,6 +6,7 @@ use Rattle.std.proofs.lemmas.Bool.{cases_eq, eq-eqb, ne_eqb}
 use Rattle.std.specs.Cmp.{nat_cmp_total}
 use Rattle.std.specs.Ordering.{nat_cmp}
 use Rattle.std.specs.FinSet as sets
+use Rattle.go_rules.specs.Board.{largest_points}
 use Rattle.go_rules.proofs.Sets.{contains-insert_nat}
 use Rattle.go_base.specs.Trails.{has_point, add_once, IsTrail}
 
@@ -27,14 +28,14 @@ has_push (x ∷ points) p q = ap (λ b. eqb x q || b) (has_push points p q) ∙ 
 pub view_length : (members : sets.FinSet nat_cmp) (order : List ℕ) → IsTrail members order → length (take (sets.len members) order) ≡ sets.len members
 view_length members order t = simp length-take (omega (arith, t.few, t.whole))
 
-pub view_add : (members : sets.FinSet nat_cmp) (order : List ℕ) (p n : ℕ) → IsTrail members order → sets.contains members p ≡ false → n ≡ sets.len (sets.insert members p) → n ≤ 361
+pub view_add : (members : sets.FinSet nat_cmp) (order : List ℕ) (p n : ℕ) → IsTrail members order → sets.contains members p ≡ false → n ≡ sets.len (sets.insert members p) → n ≤ largest_points
     → (n ≡ sets.len members + 1) × (take n (set order (n - 1) p) ≡ take (sets.len members) order ++ p ∷ [])
 view_add members order p n t new is small =
     let e : n ≡ sets.len members + 1 = is ∙ sets.len-insert nat_cmp_total members p ∙ ap (λ b. cond b (sets.len members) (sets.len members + 1)) new in
     let f : n - 1 ≡ sets.len members = omega arith in
     (e, rw f (take-set_at order (sets.len members) n p e (omega (arith, t.whole))))
 
-pub IsTrail-add : (members : sets.FinSet nat_cmp) (order : List ℕ) (p n : ℕ) → IsTrail members order → sets.contains members p ≡ false → n ≡ sets.len (sets.insert members p) → n ≤ 361
+pub IsTrail-add : (members : sets.FinSet nat_cmp) (order : List ℕ) (p n : ℕ) → IsTrail members order → sets.contains members p ≡ false → n ≡ sets.len (sets.insert members p) → n ≤ largest_points
     → IsTrail (sets.insert members p) (set order (n - 1) p)
 IsTrail-add members order p n t new is small =
     let v = view_add members order p n t new is small in
@@ -45,7 +46,7 @@ IsTrail-add members order p n t new is small =
           ∙ sym (ap (λ k. has_point (take k (set order (n - 1) p)) q) (sym is) ∙ ap (λ xs. has_point xs q) v.1 ∙ has_push (take (sets.len members) order) p q);
     }
 
-pub IsTrail-none : (order : List ℕ) → length order ≡ 361 → IsTrail sets.empty order
+pub IsTrail-none : (order : List ℕ) → length order ≡ largest_points → IsTrail sets.empty order
 IsTrail-none order whole = record {
   whole = whole;
   few = omega (arith, sets.len-empty nat_cmp);

@@ -1,13 +1,19 @@
 -- A set of points kept as bits.
-use Rattle.std.specs.Prelude.{ℕ, ◌/◌, ◌%◌, ◌==◌, Bool, List, slice_index}
+use Rattle.std.specs.Prelude.{ℕ, ◌+◌, ◌/◌, ◌%◌, ◌==◌, Bool, List, slice_index}
 use Rattle.std.specs.Int.{bit_at}
 use Rattle.std.specs.Ordering.{nat_cmp}
 use Rattle.std.specs.FinSet as set
+use Rattle.go_rules.specs.Board.{largest_points}
 use Rattle.go_rules.specs.Below.{set_below}
 
--- bit q % 64 of word q / 64
+-- how many words of 64 bits hold a bit for each point of the largest board
+abbrev pub set_words : ℕ
+set_words = (largest_points + 63) / 64
+
+-- point q is in the set that the words keep: bit q % 64 of word q / 64 is set
 abbrev pub is_marked : List ℕ → ℕ → Bool
 is_marked words q = bit_at (slice_index words (q / 64)) (q % 64) == 1
 
+-- the set that the words keep
 unfoldable pub marked : List ℕ → set.FinSet nat_cmp
-marked words = set_below 361 (is_marked words)
+marked words = set_below largest_points (is_marked words)

@@ -2,6 +2,7 @@
 use Rattle.std.specs.Prelude.{◌≡◌, ℕ, ◌*◌, ◌≤◌, List, length, take, drop, refl}
 use Rattle.std.proofs.Common.{ap, sym, subst, ◌∙◌, arith, length-take}
 use Rattle.std.proofs.lemmas.Nat.{mul-le}
+use Rattle.go_rules.specs.Board.{largest_size, largest_points}
 use Rattle.go_rules.specs.declared.Cell.{Cell}
 use Rattle.go_base.specs.declared.view.Flat.{Flat}
 
@@ -21,13 +22,13 @@ KeepsRest-trans u v w a b = record {
   rest = subst (λ n. drop (n * n) w.cells ≡ drop (n * n) v.cells) a.size b.rest ∙ a.rest;
 }
 
-pub KeepsRest-back : (u v : Flat) → KeepsRest u v → (length v.cells ≡ 361) × (v.size ≤ 19) → (length u.cells ≡ 361) × (u.size ≤ 19)
-KeepsRest-back u v a b = (sym a.length ∙ b.0, subst (λ n. n ≤ 19) a.size b.1)
+pub KeepsRest-back : (u v : Flat) → KeepsRest u v → (length v.cells ≡ largest_points) × (v.size ≤ largest_size) → (length u.cells ≡ largest_points) × (u.size ≤ largest_size)
+KeepsRest-back u v a b = (sym a.length ∙ b.0, subst (λ n. n ≤ largest_size) a.size b.1)
 
 -- the cells of the board are as many as its points
-pub flat_whole : (v : Flat) → (length v.cells ≡ 361) × (v.size ≤ 19) → length (take (v.size * v.size) v.cells) ≡ v.size * v.size
+pub flat_whole : (v : Flat) → (length v.cells ≡ largest_points) × (v.size ≤ largest_size) → length (take (v.size * v.size) v.cells) ≡ v.size * v.size
 flat_whole v a =
-    let small : v.size * v.size ≤ 361 = mul-le v.size v.size 19 19 a.1 a.1 in
+    let small : v.size * v.size ≤ largest_points = mul-le v.size v.size largest_size largest_size a.1 a.1 in
     length-take' (v.size * v.size) v.cells (subst (λ n. v.size * v.size ≤ n) (sym a.0) small)
   where
     length-take' : (n : ℕ) (xs : List Cell) → n ≤ length xs → length (take n xs) ≡ n

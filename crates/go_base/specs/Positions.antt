@@ -2,6 +2,7 @@
 use Rattle.std.specs.Prelude.{◌≡◌, ℕ, ◌-◌, ◌*◌, ◌≤◌, length, List, ◌++◌, take, drop, replicate}
 use Rattle.std.proofs.Common.{ap, sym, ◌∙◌}
 use Rattle.std.proofs.lemmas.List.{take-append-drop}
+use Rattle.go_rules.specs.Board.{largest_size, largest_points}
 use Rattle.go_rules.specs.declared.Cell.{Cell}
 use Rattle.go_rules.specs.declared.Cell.TheVariants.{Empty}
 use Rattle.go_rules.specs.Position.{BoardState, IsPosition}
@@ -9,7 +10,7 @@ use Rattle.go_base.specs.declared.position.Position.TheInside.{Inside}
 use Rattle.go_base.specs.declared.view.Flat.{Flat}
 
 abbrev pub padding : ℕ → List Cell
-padding s = replicate (361 - s * s) Empty
+padding s = replicate (largest_points - s * s) Empty
 
 abbrev pub position_of : Inside → BoardState
 position_of a = record { size = a.size; cells = take (a.size * a.size) a.cells; ban = a.ban }
@@ -32,5 +33,5 @@ pub record Holds (pos : BoardState) (board : Flat) : Type 0 where
   pub position : IsPosition pos
   pub size : board.size ≡ pos.size
   pub cells : take (board.size * board.size) board.cells ≡ pos.cells
-  pub whole : (length board.cells ≡ 361) × (board.size ≤ 19)
+  pub whole : (length board.cells ≡ largest_points) × (board.size ≤ largest_size)
   pub padded : drop (board.size * board.size) board.cells ≡ padding board.size

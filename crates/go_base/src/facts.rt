@@ -3,6 +3,7 @@
 ghost use Rattle.std.specs.Prelude.{◌≡◌, ℕ, ◌*◌, ◌<◌, ◌↔◌, Bool, IsTrue, false, not, ◌||◌, ◌&&◌, slice_index_or, replicate};
 ghost use Rattle.std.specs.FinSet as set;
 ghost use Rattle.go_rules.specs.Below.{set_below};
+ghost use Rattle.go_rules.specs.Board.{largest_points};
 ghost use Rattle.go_rules.specs.Strings.{cell_at};
 ghost use Rattle.go_rules.specs.Position.{BoardState, is_banned};
 ghost use Rattle.go_base.specs.Facts.{Agrees};
@@ -12,7 +13,7 @@ ghost use Rattle.go_base.specs.declared.facts.Asked.{Asked};
 
 use crate::points::PointSet;
 use crate::position::Position;
-use crate::size::{Point, Size};
+use crate::size::{MAX_POINTS, Point, Size};
 use go_rules::{Cell, Colour};
 
 /// What is known of a cell.
@@ -38,20 +39,20 @@ pub enum Asked {
 pub struct Facts {
     pub size: Size,
     pub ban: Option<(Point, Colour)>,
-    pub cells: [Known; 361],
-    pub bans: [Asked; 361],
+    pub cells: [Known; MAX_POINTS],
+    pub bans: [Asked; MAX_POINTS],
 }
 
-pub fn no_cells() -> [Known; 361]
-    ensures { result ≡ replicate 361 Known.Unseen }
+pub fn no_cells() -> [Known; MAX_POINTS]
+    ensures { result ≡ replicate largest_points Known.Unseen }
 {
-    [Known::Unseen; 361]
+    [Known::Unseen; MAX_POINTS]
 }
 
-pub fn no_bans() -> [Asked; 361]
-    ensures { result ≡ replicate 361 Asked.Neither }
+pub fn no_bans() -> [Asked; MAX_POINTS]
+    ensures { result ≡ replicate largest_points Asked.Neither }
 {
-    [Asked::Neither; 361]
+    [Asked::Neither; MAX_POINTS]
 }
 
 impl Known {
@@ -138,7 +139,7 @@ impl Facts {
 
     /// Whether the ban of the colour is as it was seen, if it was.
     fn ban_stands(&self, position: &Position, c: Colour, q: Point) -> bool
-        requires { q < 361 }
+        requires { q < largest_points }
         ensures { result ≡ (not (is_asked (slice_index_or self.now.bans q Asked.Neither) c) || same_bool (is_banned position.now.ban c q) (is_banned self.now.ban c q)) }
     {
         if !self.bans[q as usize].has(c) {
@@ -188,7 +189,7 @@ impl Facts {
     }
 
     fn is_fact_at(&self, q: Point) -> bool
-        requires { q < 361 }
+        requires { q < largest_points }
         ensures { result ≡ is_fact_at self.now q }
     {
         self.cells[q as usize].is_seen() || self.bans[q as usize].is_some()

@@ -7,6 +7,7 @@
 #![tactic(auto)]
 
 pub mod boundary;
+pub mod bytes;
 pub mod capture;
 pub mod facts;
 pub mod flood;
@@ -16,11 +17,14 @@ pub mod position;
 pub mod sides;
 pub mod size;
 pub mod trail;
+pub mod transform;
 pub mod view;
 
+pub use bytes::{Bytes, NoMemory};
 pub use facts::Facts;
 pub use go_rules::{Cell, Colour, Illegal};
 pub use look::{Look, Watch};
 pub use points::PointSet;
 pub use position::Position;
 pub use size::{Point, Size};
+pub use transform::Transform;

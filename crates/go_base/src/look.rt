@@ -1,6 +1,7 @@
 //! The view of a position that keeps what it was asked.
 
 ghost use Rattle.std.specs.Prelude.{◌≡◌, ℕ, ◌*◌, ◌<◌, Bool, IsTrue, false, length};
+ghost use Rattle.go_rules.specs.Board.{largest_points};
 ghost use Rattle.go_rules.specs.Strings.{cell_at};
 ghost use Rattle.go_rules.specs.Position.{BoardState, is_banned};
 ghost use Rattle.go_base.specs.Views.{alone};
@@ -54,7 +55,7 @@ pub struct Watch<'a> {
     facts: Facts,
     ghost holds: { Agrees (told facts) position.now } by { Agrees-prop _ _ },
     ghost ban: { facts.ban ≡ position.now.ban } by { ban_set _ _ },
-    ghost whole: { (length facts.cells ≡ 361) × (length facts.bans ≡ 361) } by { whole_prop _ _ },
+    ghost whole: { (length facts.cells ≡ largest_points) × (length facts.bans ≡ largest_points) } by { whole_prop _ _ },
 }
 
 impl<'a> Watch<'a> {

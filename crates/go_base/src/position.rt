@@ -1,6 +1,7 @@
 //! Positions and plays: the public calls over the shared flood and play.
 
 ghost use Rattle.std.specs.Prelude.{◌≡◌, ℕ, ◌*◌, ◌<◌, replicate, None, IfOk};
+ghost use Rattle.go_rules.specs.Board.{largest_points};
 ghost use Rattle.go_rules.specs.Position.{BoardState, IsPosition, is_banned};
 ghost use Rattle.go_rules.specs.Play.{pass as passed, play as played, play_free as played_free};
 ghost use Rattle.go_rules.specs.Strings.{cell_at, string_at, liberties as liberties_at};
@@ -9,7 +10,7 @@ ghost use Rattle.go_base.specs.Positions.{Holds};
 use crate::capture::play_on;
 use crate::flood::{liberties_of, string_of};
 use crate::points::PointSet;
-use crate::size::{Point, Size};
+use crate::size::{MAX_POINTS, Point, Size};
 use crate::view::Flat;
 use go_rules::{Cell, Colour, Illegal};
 use std::marker::Model;
@@ -19,7 +20,7 @@ use std::marker::Model;
 pub struct Position {
     size: Size,
     ban: Option<(Point, Colour)>,
-    cells: [Cell; 361],
+    cells: [Cell; MAX_POINTS],
 }
 
 impl Model for Position {
@@ -39,10 +40,10 @@ impl Model for Position {
 }
 
 /// A board with no stone.
-fn empty_cells() -> [Cell; 361]
-    ensures { result ≡ replicate 361 Cell.Empty }
+fn empty_cells() -> [Cell; MAX_POINTS]
+    ensures { result ≡ replicate largest_points Cell.Empty }
 {
-    [Cell::Empty; 361]
+    [Cell::Empty; MAX_POINTS]
 }
 
 impl Position {

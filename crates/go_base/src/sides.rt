@@ -1,7 +1,7 @@
 //! The four sides of a point.
 
 ghost use Rattle.std.specs.Prelude.{◌≡◌, ℕ, ◌*◌, ◌<◌, IfSome, IsTrue};
-ghost use Rattle.go_rules.specs.Board.{are_neighbours};
+ghost use Rattle.go_rules.specs.Board.{largest_points, are_neighbours};
 ghost use Rattle.go_base.specs.Sides.{neighbour_at};
 
 use crate::size::{Point, Size};
@@ -11,7 +11,7 @@ pub fn neighbour(size: Size, p: Point, side: u8) -> Option<Point>
     requires on_board { p < size * size }
     requires side { side < 4 }
     ensures value { result ≡ neighbour_at size p side }
-    ensures near { IfSome result (λ q. (q < size * size) × (q < 361) × IsTrue (are_neighbours size p q)) }
+    ensures near { IfSome result (λ q. (q < size * size) × (q < largest_points) × IsTrue (are_neighbours size p q)) }
 {
     let s = size.get() as u16;
     match side {

@@ -6,7 +6,7 @@ ghost use Rattle.go_rules.specs.Strings.{cell_at};
 ghost use Rattle.go_rules.specs.Position.{BoardState};
 ghost use Rattle.go_base.specs.Views.{Looks, anywhere, nowhere, alone};
 
-use crate::size::{Point, Size};
+use crate::size::{MAX_POINTS, Point, Size};
 use go_rules::Cell;
 
 /// A board whose cells are told one by one. What it tells is so over each position that agrees with what was told.
@@ -55,15 +55,16 @@ pub trait View {
 #[derive(Clone, Copy)]
 pub struct Flat {
     pub size: Size,
-    pub cells: [Cell; 361],
+    pub cells: [Cell; MAX_POINTS],
 }
 
 impl View for Flat {
+    ghost use Rattle.go_rules.specs.Board.{largest_size, largest_points};
     ghost use Rattle.go_base.specs.Flats.{KeepsRest, KeepsRest-refl, KeepsRest-trans, KeepsRest-back, flat_whole};
 
     ghost rows = { λ v. v.size };
 
-    ghost agrees = { λ v _. (length v.cells ≡ 361) × (v.size ≤ 19) };
+    ghost agrees = { λ v _. (length v.cells ≡ largest_points) × (v.size ≤ largest_size) };
 
     ghost cells = { λ v _. take (v.size * v.size) v.cells };
 

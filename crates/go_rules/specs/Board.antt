@@ -12,7 +12,7 @@ largest_size = 19
 
 -- how many points the largest board has
 abbrev pub largest_points : ℕ
-largest_points = 361
+largest_points = largest_size * largest_size
 
 -- s is the size of a board
 pub record IsSize (s : ℕ) : Type 0 where

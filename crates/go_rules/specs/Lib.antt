@@ -1,5 +1,6 @@
 pub mod Below
 pub mod Board
+pub mod Transform
 pub mod Strings
 pub mod Boundary
 pub mod Neighbourhood

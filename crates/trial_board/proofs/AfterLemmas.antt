@@ -8,7 +8,7 @@ use Rattle.go_rules.specs.Position.{BoardState, is_banned}
 use Rattle.go_rules.specs.Play.{play, play_free}
 use Rattle.std.proofs.lemmas.Bool.{cases_Bool, both_ways}
 use Rattle.go_rules.proofs.Results.{after_on, result_of, play_occupied, play_ko, play_else, free_occupied}
-use Rattle.go_rules.proofs.Laws.{free_occupied_only, free_never_ko}
+use Rattle.go_rules.proofs.PlayLaws.{free_occupied_only, free_never_ko}
 use Rattle.trial_board.specs.declared.moves.Tried.TheVariants.{Occupied as occupied, Banned as banned}
 use Rattle.trial_board.specs.declared.moves.TrialMove.{TrialMove}
 use Rattle.trial_board.specs.declared.moves.TrialMove.TheVariants.{Pass, Play}

@@ -8,7 +8,7 @@ use Rattle.go_rules.specs.declared.Colour.{Colour}
 use Rattle.go_rules.specs.declared.Illegal.{Illegal}
 use Rattle.go_rules.specs.Position.{BoardState, IsPosition, board_of, is_banned}
 use Rattle.go_rules.specs.Play.{played_on, play_free, pass}
-use Rattle.go_rules.proofs.Laws.{free_keeps}
+use Rattle.go_rules.proofs.PlayLaws.{free_keeps}
 use Rattle.go_base.specs.Facts.{Fact, Agrees, Grows, agrees_before}
 use Rattle.trial_board.specs.declared.moves.TrialMove.{TrialMove}
 use Rattle.trial_board.specs.declared.moves.TrialMove.TheVariants.{Pass, Play}

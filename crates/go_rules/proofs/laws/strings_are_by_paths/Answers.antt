@@ -1,5 +1,5 @@
 use Rattle.go_rules.proofs.Paths.{IsInString-from_test, is_is_in_string-from_fact, IsLiberty-from_test, is_liberty-from_fact}
-use Rattle.go_rules.proofs.strings_are_by_paths.Goals as goal
+use Rattle.go_rules.proofs.laws.strings_are_by_paths.Goals as goal
 
 pub returns-clause-string : goal.returns-clause-string
 returns-clause-string c = λ s cells p q h. (IsInString-from_test s cells p q, is_is_in_string-from_fact s cells p q h)

@@ -1,5 +1,5 @@
-use Rattle.go_rules.proofs.Laws.{free_follows, free_occupied_only, free_never_ko, free_suicide_only, free_keeps}
-use Rattle.go_rules.proofs.plays_are_by_rules.Goals as goal
+use Rattle.go_rules.proofs.PlayLaws.{free_follows, free_occupied_only, free_never_ko, free_suicide_only, free_keeps}
+use Rattle.go_rules.proofs.laws.plays_are_by_rules.Goals as goal
 
 pub returns-clause-follows : goal.returns-clause-follows
 returns-clause-follows c = free_follows

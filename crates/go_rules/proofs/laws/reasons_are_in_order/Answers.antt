@@ -1,5 +1,5 @@
-use Rattle.go_rules.proofs.Laws.{occupied_exactly, ko_exactly, free_otherwise}
-use Rattle.go_rules.proofs.reasons_are_in_order.Goals as goal
+use Rattle.go_rules.proofs.PlayLaws.{occupied_exactly, ko_exactly, free_otherwise}
+use Rattle.go_rules.proofs.laws.reasons_are_in_order.Goals as goal
 
 pub returns-clause-occupied : goal.returns-clause-occupied
 returns-clause-occupied c = occupied_exactly
