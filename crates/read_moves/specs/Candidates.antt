@@ -1,12 +1,11 @@
 -- The moves that a reading tries.
-use Rattle.std.specs.Prelude.{ℕ, ◌*◌, ◌==◌, ◌&&◌, ◌||◌, Bool, nat_lt, not, List}
-use Rattle.std.specs.Ordering.{nat_cmp}
-use Rattle.std.specs.FinSet as set
+use Rattle.std.specs.Prelude.{◌≡◌, ℕ, ◌*◌, ◌<◌, ◌≤◌, ◌==◌, ◌&&◌, ◌||◌, Bool, true, nat_lt, List}
+use Rattle.std.specs.List.{range_with_len, filter}
 use Rattle.go_rules.specs.declared.Cell.{Cell}
 use Rattle.go_rules.specs.declared.Cell.TheVariants.{Empty}
 use Rattle.go_rules.specs.Board.{are_neighbours}
 use Rattle.go_rules.specs.Below.{any_below}
-use Rattle.go_rules.specs.Strings.{cell_at, same_cell, is_liberty, liberties}
+use Rattle.go_rules.specs.Strings.{cell_at, same_cell, is_liberty, liberties, IsInString, IsLiberty}
 use Rattle.go_rules.specs.Boundary.{is_enemy, is_beside_string}
 use Rattle.go_rules.specs.Position.{BoardState}
 
@@ -29,3 +28,29 @@ is_candidate pos target k p =
     is_liberty pos.size pos.cells target p
     || ((nat_lt 0 k && nat_lt (liberties pos.size pos.cells target) 3) && is_empty_beside pos.size pos.cells (is_liberty pos.size pos.cells target) p)
     || takes_attacker pos.size pos.cells target p
+
+-- the candidates in reading order
+abbrev pub candidates_of : BoardState → ℕ → ℕ → List ℕ
+candidates_of pos target k = filter (is_candidate pos target k) (range_with_len 0 (pos.size * pos.size))
+
+-- The same in terms of strings and liberties; the law `candidates_are_by_strings` ties the two.
+
+-- p is an empty neighbour of the point l
+pub record IsEmptyNeighbour (s : ℕ) (cells : List Cell) (l p : ℕ) : Type 0 where
+  pub on_board : p < s * s
+  pub is_empty : cell_at cells p ≡ Empty
+  pub beside : are_neighbours s l p ≡ true
+
+-- the string of q is an enemy string next to the string of the target, it has one liberty, and this is p
+pub record IsTakenAt (s : ℕ) (cells : List Cell) (target q p : ℕ) : Type 0 where
+  pub on_board : q < s * s
+  pub enemy : is_enemy (cell_at cells target) (cell_at cells q) ≡ true
+  pub beside : (x : ℕ) × IsInString s cells target x × (are_neighbours s x q ≡ true)
+  pub in_atari : liberties s cells q ≡ 1
+  pub last : IsLiberty s cells q p
+
+-- p is a candidate for the target with k wide plies left
+pub data IsCandidate (pos : BoardState) (target k p : ℕ) : Type 0 where
+  fills : IsLiberty pos.size pos.cells target p → IsCandidate pos target k p
+  looks_wide : 0 < k → liberties pos.size pos.cells target ≤ 2 → (l : ℕ) → IsLiberty pos.size pos.cells target l → IsEmptyNeighbour pos.size pos.cells l p → IsCandidate pos target k p
+  takes : (q : ℕ) → IsTakenAt pos.size pos.cells target q p → IsCandidate pos target k p

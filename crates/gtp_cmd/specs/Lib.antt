@@ -1,0 +1,7 @@
+pub mod Words
+pub mod Vertices
+pub mod Colours
+pub mod Komi
+pub mod KomiKept
+pub mod Replies
+pub mod Commands

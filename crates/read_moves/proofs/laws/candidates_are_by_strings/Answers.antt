@@ -1,0 +1,8 @@
+use Rattle.read_moves.proofs.LawLemmas.{candidate_gives, candidate_from, candidate_on}
+use Rattle.read_moves.proofs.laws.candidates_are_by_strings.Goals as goal
+
+pub returns-clause-candidate : goal.returns-clause-candidate
+returns-clause-candidate c = λ pos target k p on. (candidate_gives pos target k p, candidate_from pos target k p on)
+
+pub returns-clause-on_board : goal.returns-clause-on_board
+returns-clause-on_board c = candidate_on

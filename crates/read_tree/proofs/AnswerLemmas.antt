@@ -1,0 +1,122 @@
+-- What a reading under one code finds, and which answer the codes come to.
+use Rattle.std.proofs.Common.{◌≡◌, ◌≢◌, ◌∙◌, ℕ, ◌-◌, ◌*◌, ◌<◌, ◌≤◌, ◌&&◌, Bool, true, false, not, cond, Option, Some, None, is_some, ap, sym, refl, arith, inl, inr, eq-eqb, subst, IsTrue}
+use Rattle.std.proofs.lemmas.Bool.{cases_Bool, and_parts, and_from}
+use Rattle.go_rules.specs.declared.Cell.{Cell}
+use Rattle.go_rules.specs.declared.Cell.TheVariants.{Empty, Black, White}
+use Rattle.go_rules.specs.declared.Colour.{Colour}
+use Rattle.go_rules.specs.declared.Colour.TheVariants.{Black as black, White as white}
+use Rattle.go_rules.specs.Strings.{cell_at, same_cell}
+use Rattle.go_rules.specs.Position.{BoardState, stone_of}
+use Rattle.go_rules.proofs.Paths.{same_cell-true, same_cell-from}
+use Rattle.read_tree.specs.declared.question.Kind.{Kind}
+use Rattle.read_tree.specs.declared.question.Spot.{Spot}
+use Rattle.read_tree.specs.declared.question.Answer.{Answer}
+use Rattle.read_tree.specs.declared.question.Question.{Question}
+use Rattle.read_tree.specs.GameTree.{is_captured, attacker_wins, first_move}
+use Rattle.read_tree.specs.Answer.{is_attack, first_node, attains_code, is_about, code_of, first_move_of, move_of, answer_of, colour_of, asked_on}
+use Rattle.read_tree.specs.Steps.{is_barred, good_move, Reads}
+use Rattle.read_tree.proofs.WinLemmas.{wins-attacker_move, wins-defender_move}
+
+not_not : (b : Bool) → not (not b) ≡ b
+not_not true = refl
+not_not false = refl
+
+-- a move that is there was not barred
+kept : (barred : Bool) (first found : Option Spot) → found ≡ cond barred None first → is_some found ≡ true → found ≡ first
+kept true first found e s = absurd (let w : false ≡ true = sym (ap is_some e) ∙ s in cc)
+kept false first found e s = e
+
+-- the good move at the first node is what a reading under the code looks for
+pub reads : (q : Question) (pos : BoardState) (code : ℕ) (found : Option Spot) → q.plies ≢ 0 → is_captured pos q.target ≡ false
+    → found ≡ good_move (q.plies - 1) (first_node q code) pos → Reads q pos code found
+reads q pos code found ne h e =
+    let node = first_node q code in
+    let wins = attacker_wins q.plies node pos in
+    record {
+      attained = ap is_some e ∙ elim (cases_Bool (is_attack q.kind)) [
+        | inl t ↦ sym (wins-attacker_move q.plies node pos h ne t) ∙ sym (ap (λ b. cond b wins (not wins)) t)
+        | inr f ↦ sym (not_not (is_some (good_move (q.plies - 1) node pos))) ∙ ap not (sym (wins-defender_move q.plies node pos h ne f)) ∙ sym (ap (λ b. cond b wins (not wins)) f)
+      ];
+      move = kept (is_barred node pos) (first_move (q.plies - 1) node pos) found e;
+    }
+
+stone_stands : (cell : Cell) (c : Colour) → cell ≡ stone_of c → same_cell cell Empty ≡ false
+stone_stands cell black e = ap (λ k. same_cell k Empty) e
+stone_stands cell white e = ap (λ k. same_cell k Empty) e
+
+-- on a position that the question is about the target stands
+pub about_stands : (q : Question) (pos : BoardState) → is_about q pos ≡ true → is_captured pos q.target ≡ false
+about_stands q pos h = stone_stands (cell_at pos.cells q.target) q.colour (same_cell-true _ _ (and_parts _ _ h).1)
+
+-- the code by what is attained
+chosen : (about three two one : Bool) → ℕ
+chosen about three two one = cond (not about) 0 (cond three 3 (cond two 2 (cond one 1 0)))
+
+code_of-chosen : (q : Question) (pos : BoardState) → code_of q pos ≡ chosen (is_about q pos) (attains_code q pos 3) (attains_code q pos 2) (attains_code q pos 1)
+unfolding code_of chosen
+code_of-chosen q pos = refl
+
+chosen-3 : (about three two one : Bool) → about ≡ true → three ≡ true → chosen about three two one ≡ 3
+unfolding chosen
+chosen-3 about three two one a t = rw (a, t) refl
+
+chosen-2 : (about three two one : Bool) → about ≡ true → three ≡ false → two ≡ true → chosen about three two one ≡ 2
+unfolding chosen
+chosen-2 about three two one a t s = rw (a, t, s) refl
+
+chosen-1 : (about three two one : Bool) → about ≡ true → three ≡ false → two ≡ false → one ≡ true → chosen about three two one ≡ 1
+unfolding chosen
+chosen-1 about three two one a t s o = rw (a, t, s, o) refl
+
+chosen-0 : (about three two one : Bool) → about ≡ true → three ≡ false → two ≡ false → one ≡ false → chosen about three two one ≡ 0
+unfolding chosen
+chosen-0 about three two one a t s o = rw (a, t, s, o) refl
+
+-- the answer of a code
+answer_with : (q : Question) (pos : BoardState) (code : ℕ) (at : Option Spot) → code_of q pos ≡ code → at ≡ move_of q pos code → record { code = code; at = at } ≡ answer_of q pos
+unfolding answer_of
+answer_with q pos code at e f =
+    ap (λ (m : Option Spot). record { code = code; at = m }) f ∙ ap (λ (k : ℕ). record { code = k; at = move_of q pos k }) (sym e)
+
+missed : {q : Question} {pos : BoardState} {code : ℕ} {found : Option Spot} → Reads q pos code found → found ≡ None → attains_code q pos code ≡ false
+missed r e = sym r.attained ∙ ap is_some e
+
+hit : {q : Question} {pos : BoardState} {code : ℕ} {found : Option Spot} {spot : Spot} → Reads q pos code found → found ≡ Some spot → attains_code q pos code ≡ true
+hit r e = sym r.attained ∙ ap is_some e
+
+move : {q : Question} {pos : BoardState} {code : ℕ} {found : Option Spot} {spot : Spot} → Reads q pos code found → found ≡ Some spot → Some spot ≡ first_move_of q pos code
+move r e = sym e ∙ r.move (ap is_some e)
+
+pub answer_3 : (q : Question) (pos : BoardState) (three : Option Spot) (spot : Spot) → is_about q pos ≡ true → Reads q pos 3 three → three ≡ Some spot
+    → record { code = 3; at = Some spot } ≡ answer_of q pos
+answer_3 q pos three spot a r e = answer_with q pos 3 (Some spot) (code_of-chosen q pos ∙ chosen-3 _ _ _ _ a (hit r e)) (move r e)
+
+pub answer_2 : (q : Question) (pos : BoardState) (three two : Option Spot) (spot : Spot) → is_about q pos ≡ true → Reads q pos 3 three → three ≡ None → Reads q pos 2 two → two ≡ Some spot
+    → record { code = 2; at = Some spot } ≡ answer_of q pos
+answer_2 q pos three two spot a r3 e3 r e = answer_with q pos 2 (Some spot) (code_of-chosen q pos ∙ chosen-2 _ _ _ _ a (missed r3 e3) (hit r e)) (move r e)
+
+pub answer_1 : (q : Question) (pos : BoardState) (three two one : Option Spot) (spot : Spot) → is_about q pos ≡ true → Reads q pos 3 three → three ≡ None → Reads q pos 2 two → two ≡ None
+    → Reads q pos 1 one → one ≡ Some spot → record { code = 1; at = Some spot } ≡ answer_of q pos
+answer_1 q pos three two one spot a r3 e3 r2 e2 r e = answer_with q pos 1 (Some spot) (code_of-chosen q pos ∙ chosen-1 _ _ _ _ a (missed r3 e3) (missed r2 e2) (hit r e)) (move r e)
+
+pub answer_0 : (q : Question) (pos : BoardState) (three two one : Option Spot) → is_about q pos ≡ true → Reads q pos 3 three → three ≡ None → Reads q pos 2 two → two ≡ None
+    → Reads q pos 1 one → one ≡ None → record { code = 0; at = None } ≡ answer_of q pos
+answer_0 q pos three two one a r3 e3 r2 e2 r e = answer_with q pos 0 None (code_of-chosen q pos ∙ chosen-0 _ _ _ _ a (missed r3 e3) (missed r2 e2) (missed r e)) refl
+
+stone-colour : (cell : Cell) → cell ≢ Empty → cell ≡ stone_of (colour_of cell)
+stone-colour Empty h = absurd (h refl)
+stone-colour Black h = refl
+stone-colour White h = refl
+
+-- a position of the same size with the same target is one that the question is about
+pub about_asked : (shown pos : BoardState) (kind : Kind) (t plies wide : ℕ) → cell_at shown.cells t ≢ Empty → pos.size ≡ shown.size → cell_at pos.cells t ≡ cell_at shown.cells t
+    → is_about (asked_on shown kind t plies wide) pos ≡ true
+about_asked shown pos kind t plies wide h s e =
+    and_from _ _ (eq-eqb shown.size pos.size (sym s)) (same_cell-from _ _ (e ∙ stone-colour (cell_at shown.cells t) h))
+
+-- the question that is asked, by its parts
+pub question_is : (shown : BoardState) (size t plies wide : ℕ) (kind : Kind) (cell : Cell) (colour : Colour) → size ≡ shown.size → colour ≡ colour_of cell → cell ≡ cell_at shown.cells t
+    → record { size = size; kind = kind; target = t; colour = colour; plies = plies; wide = wide } ≡ asked_on shown kind t plies wide
+question_is shown size t plies wide kind cell colour s o e =
+    ap (λ (n : ℕ). record { size = n; kind = kind; target = t; colour = colour; plies = plies; wide = wide }) s
+    ∙ ap (λ (c : Colour). record { size = shown.size; kind = kind; target = t; colour = c; plies = plies; wide = wide }) (o ∙ ap colour_of e)

@@ -1,0 +1,5 @@
+pub mod ChildLemmas
+pub mod WinLemmas
+pub mod AnswerLemmas
+pub mod WalkLemmas
+pub mod RuleLemmas

@@ -1,0 +1,5 @@
+pub mod GameTree
+pub mod Answer
+pub mod ActiveArea
+pub mod Steps
+pub mod Rules
