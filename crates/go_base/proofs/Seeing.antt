@@ -143,5 +143,9 @@ none_agrees s ban cells bans pos good e ce be = record { sound = good; each = ea
     each (CellIs q x) h = absurd (both_ways false refl (sym (ap (λ y. is_known y x) (ap (λ t. get_or t q Unseen) ce ∙ at_unseen largest_points q)) ∙ (and_parts _ _ h).1))
     each (BanIs q x b) h = absurd (both_ways false refl (sym (ap (λ y. is_asked y x) (ap (λ t. get_or t q Neither) be ∙ at_neither largest_points q)) ∙ (and_parts _ _ (and_parts _ _ h).1).0))
 
-pub none_at : (s : ℕ) (ban : Option (ℕ × Colour)) (cells : List Known) (bans : List Asked) (q : ℕ) → cells ≡ replicate largest_points Unseen → bans ≡ replicate largest_points Neither → is_fact_at (nothing_of s ban cells bans) q ≡ false
-none_at s ban cells bans q ce be = rw (ap (λ t. get_or t q Unseen) ce ∙ at_unseen largest_points q, ap (λ t. get_or t q Neither) be ∙ at_neither largest_points q) refl
+-- no fact but the size was seen
+pub none_told : (s : ℕ) (ban : Option (ℕ × Colour)) (cells : List Known) (bans : List Asked) (n : ℕ) → s ≡ n → cells ≡ replicate largest_points Unseen → bans ≡ replicate largest_points Neither
+    → (fact : Fact) → told (nothing_of s ban cells bans) fact ≡ true → fact ≡ SizeIs n
+none_told s ban cells bans n e ce be (SizeIs m) h = ap SizeIs (sym (eqb-true s m h) ∙ e)
+none_told s ban cells bans n e ce be (CellIs q x) h = absurd (both_ways false refl (sym (ap (λ y. is_known y x) (ap (λ t. get_or t q Unseen) ce ∙ at_unseen largest_points q)) ∙ (and_parts _ _ h).1))
+none_told s ban cells bans n e ce be (BanIs q x b) h = absurd (both_ways false refl (sym (ap (λ y. is_asked y x) (ap (λ t. get_or t q Neither) be ∙ at_neither largest_points q)) ∙ (and_parts _ _ (and_parts _ _ h).1).0))

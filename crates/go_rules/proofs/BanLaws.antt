@@ -40,12 +40,14 @@ only_one (suc n) test e = elim (cases_Bool (test n)) [
       let none : count_below n test ≡ 0 = (let g : 1 + count_below n test ≡ 1 = rw t at e in omega arith) in
       (n, record { below = omega arith; passes = t; others = λ j l h. elim (cases_eq j n) [ inl same ↦ same | inr ne ↦ absurd (both_ways (test j) (none_pass n test none j (omega arith)) h) ] })
   | inr f ↦
-      let rest = only_one n test (let g : 0 + count_below n test ≡ 1 = rw f at e in omega arith) in
-      (rest.0, record {
-        below = omega (arith, rest.1.below);
-        passes = rest.1.passes;
-        others = λ j l h. elim (cases_eq j n) [ inl same ↦ absurd (both_ways (test j) (ap test same ∙ f) h) | inr ne ↦ rest.1.others j (omega arith) h ];
-      })
+      let rest = only_one n test (let g : 0 + count_below n test ≡ 1 = rw f at e in omega arith) in (
+        rest.0,
+        record {
+          below = omega (arith, rest.1.below);
+          passes = rest.1.passes;
+          others = λ j l h. elim (cases_eq j n) [ inl same ↦ absurd (both_ways (test j) (ap test same ∙ f) h) | inr ne ↦ rest.1.others j (omega arith) h ];
+        },
+      )
 ]
 
 -- the count of a test that no number passes
@@ -130,10 +132,13 @@ module _ (pos : BoardState) (c : Colour) (p : ℕ) (new : BoardState) (on : p < 
         taken = captured_from pos.size (put_on pos c p) c q found.0 found.1;
         one_taken = λ r l h. one.1.others r l (taken_by_words pos.size (put_on pos c p) c r h) ∙ sym (one.1.others q found.0 found.1);
         stone_alone = λ r h. alone.1.others r (path_on_board pos.size new.cells p on h.path) (is_is_in_string-from_fact pos.size new.cells p r on h) ∙ sym p_is;
-        one_liberty = (free.0, record {
-          its = IsLiberty-from_test pos.size new.cells p free.0 free.1.passes;
-          only = λ k h. free.1.others k h.on_board (is_liberty-from_fact pos.size new.cells p k on h);
-        });
+        one_liberty = (
+          free.0,
+          record {
+            its = IsLiberty-from_test pos.size new.cells p free.0 free.1.passes;
+            only = λ k h. free.1.others k h.on_board (is_liberty-from_fact pos.size new.cells p k on h);
+          },
+        );
       }
 
   -- what the rule says leaves the ban
