@@ -1,7 +1,7 @@
 -- What one more look adds to the facts.
-use Rattle.std.proofs.Common.{◌≡◌, ◌↔◌, ◌⊎◌, ℕ, zero, suc, ◌*◌, ◌<◌, ◌&&◌, Bool, true, false, ltb, List, Option, length, replicate, refl, sym, ap, subst, arith, inl, inr, ◌∙◌, get_or, get_or-set_same, get_or-set_other}
+use Rattle.std.proofs.Common.{◌≡◌, ◌↔◌, ◌⊎◌, ℕ, zero, suc, ◌*◌, ◌<◌, Bool, true, false, ltb, List, Option, length, replicate, refl, sym, ap, subst, inl, inr, ◌∙◌, get_or, get_or-set_same, get_or-set_other}
 use Rattle.std.proofs.Math.ListN.{set}
-use Rattle.std.proofs.lemmas.Bool.{cases_Bool, cases_eq, both_ways, and_parts, and_from, lt-ltb, ltb-true, eqb-true, eq-eqb}
+use Rattle.std.proofs.lemmas.Bool.{cases_eq, both_ways, and_parts, and_from, lt-ltb, eqb-true, eq-eqb}
 use Rattle.go_rules.specs.Board.{largest_points}
 use Rattle.go_rules.specs.declared.Cell.{Cell}
 use Rattle.go_rules.specs.declared.Colour.{Colour}
@@ -14,7 +14,7 @@ use Rattle.go_base.specs.declared.facts.Known.TheVariants.{Unseen}
 use Rattle.go_base.specs.declared.facts.Asked.{Asked}
 use Rattle.go_base.specs.declared.facts.Asked.TheVariants.{Neither}
 use Rattle.go_base.specs.Facts.{Fact, SizeIs, CellIs, BanIs, Holds, Agrees, Grows, AddsIn, IsAbout}
-use Rattle.go_base.specs.Told.{told, is_known, is_asked, same_bool, is_fact_at, is_seen, is_asked_for}
+use Rattle.go_base.specs.Told.{told, is_known, is_asked, same_bool}
 
 pub same_bool-true : (a b : Bool) → same_bool a b ≡ true → a ≡ b
 same_bool-true true b h = sym h

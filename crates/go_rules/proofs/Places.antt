@@ -1,5 +1,5 @@
 -- Points and places, and which of them are neighbours.
-use Rattle.std.proofs.Common.{◌≡◌, ◌⊎◌, ◌↔◌, ℕ, ◌+◌, ◌*◌, ◌/◌, ◌%◌, ◌<◌, ◌≤◌, true, eqb, refl, sym, ap, arith, inl, inr, ◌∙◌}
+use Rattle.std.proofs.Common.{◌≡◌, ◌↔◌, ℕ, ◌+◌, ◌*◌, ◌%◌, ◌<◌, true, sym, ap, arith, inl, inr, ◌∙◌}
 use Rattle.std.proofs.lemmas.Bool.{cases_eq, or_cases, or_left, or_right, and_parts, and_from, eqb-true, eq-eqb}
 use Rattle.std.proofs.lemmas.Nat.{div-mul-add, mod-mul-add, div_below, mod_below, div-add-mod', mul-add-lt}
 use Rattle.go_rules.specs.Board.{Place, IsOnBoard, point_at, place_of, are_one_apart, are_neighbours, AreConsecutive, AreNeighbours}
@@ -39,6 +39,7 @@ AreNeighbours-sym s a b near = record {
 one_apart-true : (a b : ℕ) → are_one_apart a b ≡ true → AreConsecutive a b
 one_apart-true a b h = elim (or_cases _ _ h) [ inl e ↦ inl (eqb-true _ _ e) | inr e ↦ inr (eqb-true _ _ e) ]
 
+-- consecutive numbers pass the test
 one_apart-from : (a b : ℕ) → AreConsecutive a b → are_one_apart a b ≡ true
 one_apart-from a b (inl e) = or_left _ _ (eq-eqb _ _ e)
 one_apart-from a b (inr e) = or_right _ _ (eq-eqb _ _ e)

@@ -1,5 +1,5 @@
 -- The computing definitions say what the rules say of paths.
-use Rattle.std.proofs.Common.{◌≡◌, ◌≢◌, ◌↔◌, ◌⊎◌, ℕ, zero, suc, ◌*◌, ◌<◌, true, false, cond, eqb, Option, Some, None, IfSome, List, [], ◌∷◌, replicate, Result, Ok, Err, refl, sym, ap, subst, arith, inl, inr, ◌∙◌}
+use Rattle.std.proofs.Common.{◌≡◌, ◌≢◌, ◌↔◌, ◌⊎◌, ℕ, zero, suc, ◌*◌, ◌<◌, true, false, cond, eqb, Option, Some, None, IfSome, List, [], ◌∷◌, replicate, Ok, Err, refl, sym, ap, subst, arith, inl, inr, ◌∙◌}
 use Rattle.std.proofs.lemmas.List.{length-replicate}
 use Rattle.std.proofs.lemmas.Bool.{cases_Bool, eqb-true, eqb-false, eq-eqb, both_ways, and_parts, and_from, true_from_ne_false}
 use Rattle.go_rules.specs.declared.Cell.{Cell}
@@ -19,9 +19,11 @@ use Rattle.go_rules.proofs.Paths.{path_on_board}
 use Rattle.go_rules.proofs.Plays.{taken_parts, taken_from, at_after, empty_from, at_put_same, at_put_other, own_not_taken}
 use Rattle.go_rules.proofs.Results.{after_on, put_on, result_of, free_occupied, free_suicide, free_done, result_good, play_occupied, play_ko, play_else}
 
+-- where no liberty is counted there is none
 none_from_zero : (s : ℕ) (cells : List Cell) (p : ℕ) → p < s * s → liberties s cells p ≡ 0 → (l : ℕ) → IsLiberty s cells p l → ⊥
 none_from_zero s cells p h z l lib = let some = liberties_from s cells p l h lib in omega arith
 
+-- where there is no liberty none is counted
 zero_from_none : (s : ℕ) (cells : List Cell) (p : ℕ) → ((l : ℕ) → IsLiberty s cells p l → ⊥) → liberties s cells p ≡ 0
 zero_from_none s cells p none =
     elim (cases_Bool (eqb (liberties s cells p) 0)) [
@@ -29,9 +31,11 @@ zero_from_none s cells p none =
       | inr f ↦ let ne = eqb-false _ _ f in let some = liberties_some s cells p (omega arith) in absurd (none some.0 some.1)
     ]
 
+-- what is taken by the test is captured in words
 pub captured_from : (s : ℕ) (put : List Cell) (c : Colour) (q : ℕ) → q < s * s → is_taken s put c q ≡ true → IsCaptured s put c q
 captured_from s put c q h t = let parts = taken_parts s put c q t in record { enemy = parts.0; dead = none_from_zero s put q h parts.1 }
 
+-- the cells after a play have what is captured removed, and all else kept
 pub removes : (s : ℕ) (put : List Cell) (c : Colour) → Removes s put c (cells_after s put c)
 removes s put c = record {
   removed = λ q h dead. at_after s put c q h ∙ ap (λ b. cond b Empty (cell_at put q)) (taken_from s put c q dead.enemy (zero_from_none s put q dead.dead));
@@ -47,6 +51,7 @@ data FreeCases (pos : BoardState) (c : Colour) (p : ℕ) : Type 0 where
   suicide : is_stone (cell_at pos.cells p) ≡ false → liberties pos.size (after_on pos c p) p ≡ 0 → Err Suicide ≡ play_free pos c p → FreeCases pos c p
   done : is_stone (cell_at pos.cells p) ≡ false → liberties pos.size (after_on pos c p) p ≢ 0 → Ok (result_of pos c p) ≡ play_free pos c p → FreeCases pos c p
 
+-- a play is refused for a stone, or for suicide, or is done
 free_cases : (pos : BoardState) (c : Colour) (p : ℕ) → FreeCases pos c p
 free_cases pos c p = elim (cases_Bool (is_stone (cell_at pos.cells p))) [
   | inl t ↦ occupied t (free_occupied pos c p t)
@@ -56,6 +61,7 @@ free_cases pos c p = elim (cases_Bool (is_stone (cell_at pos.cells p))) [
   ]
 ]
 
+-- a play that is done follows by the rules
 pub free_follows : (pos : BoardState) (c : Colour) (p : ℕ) (new : BoardState) → p < pos.size * pos.size → play_free pos c p ≡ Ok new → Follows pos c p new
 free_follows pos c p new h e = elim (free_cases pos c p) [
   | occupied t is ↦ absurd (let w : Err Occupied ≡ Ok new = is ∙ e in cc)
@@ -70,6 +76,7 @@ free_follows pos c p new h e = elim (free_cases pos c p) [
       })
 ]
 
+-- Occupied is told only where a stone stands
 pub free_occupied_only : (pos : BoardState) (c : Colour) (p : ℕ) → play_free pos c p ≡ Err Occupied → is_stone (cell_at pos.cells p) ≡ true
 free_occupied_only pos c p e = elim (free_cases pos c p) [
   | occupied t is ↦ t
@@ -77,6 +84,7 @@ free_occupied_only pos c p e = elim (free_cases pos c p) [
   | done f nz is ↦ absurd (let w = is ∙ e in cc)
 ]
 
+-- a play with the ban dropped is never Ko
 pub free_never_ko : (pos : BoardState) (c : Colour) (p : ℕ) → play_free pos c p ≡ Err Ko → ⊥
 free_never_ko pos c p e = elim (free_cases pos c p) [
   | occupied t is ↦ (let w = is ∙ e in cc)
@@ -108,6 +116,7 @@ liberty_same s a b p l h same lib = record {
   );
 }
 
+-- Suicide is told only where it is one
 pub free_suicide_only : (pos : BoardState) (c : Colour) (p : ℕ) → p < pos.size * pos.size → play_free pos c p ≡ Err Suicide → IsSuicide pos c p
 free_suicide_only pos c p h e = elim (free_cases pos c p) [
   | occupied t is ↦ absurd (let w = is ∙ e in cc)
@@ -119,6 +128,7 @@ free_suicide_only pos c p h e = elim (free_cases pos c p) [
   }
 ]
 
+-- a play with the ban dropped gives a position
 pub free_keeps : (pos : BoardState) (c : Colour) (p : ℕ) (new : BoardState) → IsPosition pos → p < pos.size * pos.size → play_free pos c p ≡ Ok new → IsPosition new
 free_keeps pos c p new good h e = elim (free_cases pos c p) [
   | occupied t is ↦ absurd (let w : Err Occupied ≡ Ok new = is ∙ e in cc)
@@ -128,25 +138,30 @@ free_keeps pos c p new good h e = elim (free_cases pos c p) [
       subst IsPosition same (result_good pos c p good h f nz)
 ]
 
+-- colours that are the same are equal
 same_colour-true : (a b : Colour) → same_colour a b ≡ true → a ≡ b
 same_colour-true black black h = refl
 same_colour-true white white h = refl
 same_colour-true black white h = absurd (both_ways false refl h)
 same_colour-true white black h = absurd (both_ways false refl h)
 
+-- where a play is banned, the ban is on it
 banned_is : (b : Option (ℕ × Colour)) (c : Colour) (p : ℕ) → is_banned b c p ≡ true → b ≡ Some (p, c)
 banned_is None c p h = absurd (both_ways false refl h)
 banned_is (Some b) c p h =
     let parts = and_parts _ _ h in
     ap (λ (x : ℕ). Some (x, b.1)) (eqb-true b.0 p parts.0) ∙ ap (λ (k : Colour). Some (p, k)) (same_colour-true b.1 c parts.1)
 
+-- a colour is the same as itself
 same_colour-itself : (c : Colour) → same_colour c c ≡ true
 same_colour-itself black = refl
 same_colour-itself white = refl
 
+-- where the ban is on a play, it is banned
 is_banned-from : (b : Option (ℕ × Colour)) (c : Colour) (p : ℕ) → b ≡ Some (p, c) → is_banned b c p ≡ true
 is_banned-from b c p e = ap (λ x. is_banned x c p) e ∙ and_from _ _ (eq-eqb p p refl) (same_colour-itself c)
 
+-- Ko is told exactly where the point is empty and the ban is on the play
 pub ko_exactly : (pos : BoardState) (c : Colour) (p : ℕ) → (play pos c p ≡ Err Ko) ↔ ((cell_at pos.cells p ≡ Empty) × (pos.ban ≡ Some (p, c)))
 ko_exactly pos c p = (
   λ e. elim (cases_Bool (is_stone (cell_at pos.cells p))) [
@@ -159,6 +174,7 @@ ko_exactly pos c p = (
   λ h. sym (play_ko pos c p (ap is_stone h.0) (is_banned-from pos.ban c p h.1)),
 )
 
+-- Occupied is told exactly where a stone stands
 pub occupied_exactly : (pos : BoardState) (c : Colour) (p : ℕ) → (play pos c p ≡ Err Occupied) ↔ (cell_at pos.cells p ≢ Empty)
 occupied_exactly pos c p = (
   λ e z. elim (cases_Bool (is_banned pos.ban c p)) [
@@ -168,6 +184,7 @@ occupied_exactly pos c p = (
   λ ne. sym (play_occupied pos c p (true_from_ne_false _ (λ f. ne (empty_from (cell_at pos.cells p) f)))),
 )
 
+-- where neither a stone nor the ban is in the way, the play is that with the ban dropped
 pub free_otherwise : (pos : BoardState) (c : Colour) (p : ℕ) → cell_at pos.cells p ≡ Empty → pos.ban ≢ Some (p, c) → play pos c p ≡ play_free pos c p
 free_otherwise pos c p z ne = elim (cases_Bool (is_banned pos.ban c p)) [
   | inl b ↦ absurd (ne (banned_is pos.ban c p b))
@@ -233,6 +250,7 @@ pub suicide_from : (pos : BoardState) (c : Colour) (p : ℕ) → IsSuicide pos c
 suicide_from pos c p h = sym (free_suicide pos c p (ap is_stone h.was_empty)
     (zero_from_none pos.size (after_on pos c p) p (λ l lib. h.dead (after_on pos c p) (removes pos.size (put_on pos c p) c) l lib)))
 
+-- with the ban dropped Suicide is told exactly where it is one
 pub free_suicide_exactly : (pos : BoardState) (c : Colour) (p : ℕ) → p < pos.size * pos.size → (play_free pos c p ≡ Err Suicide) ↔ IsSuicide pos c p
 free_suicide_exactly pos c p on = (free_suicide_only pos c p on, suicide_from pos c p)
 
@@ -243,6 +261,7 @@ free_occupied_exactly pos c p = (
   λ ne. sym (free_occupied pos c p (true_from_ne_false _ (λ f. ne (empty_from (cell_at pos.cells p) f)))),
 )
 
+-- Suicide is told exactly where it is one and the ban is not on the play
 pub suicide_exactly : (pos : BoardState) (c : Colour) (p : ℕ) → p < pos.size * pos.size → (play pos c p ≡ Err Suicide) ↔ ((pos.ban ≢ Some (p, c)) × IsSuicide pos c p)
 suicide_exactly pos c p on = (
   λ e. elim (cases_Bool (is_stone (cell_at pos.cells p))) [
@@ -269,6 +288,7 @@ play_keeps pos c p new good on e = elim (cases_Bool (is_stone (cell_at pos.cells
 pub pass_keeps : (pos : BoardState) → IsPosition pos → IsPosition (pass pos)
 pass_keeps pos good = record { size_at_least = good.size_at_least; size_at_most = good.size_at_most; cells = good.cells; alive = good.alive; ban = tt }
 
+-- no stone stands on the empty board
 empty_cells : (n q : ℕ) → cell_at (replicate n Empty) q ≡ Empty
 empty_cells zero q = refl
 empty_cells (suc n) zero = refl
