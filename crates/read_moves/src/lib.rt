@@ -11,3 +11,6 @@ pub mod moves;
 
 pub use depths::Depths;
 pub use moves::candidates;
+
+#[cfg(test)]
+mod tests;

@@ -82,12 +82,16 @@ fn add_only_liberties<L: Look>(board: &mut Trial<L>, points: &PointSet, found: &
     }
 }
 
-/// The points that a reading tries.
+/// The points that a reading tries for the string of the target, with `wide` wide plies left: its liberties; where a wide ply is
+/// left and it has at most two liberties, their empty neighbours too; and the last liberty of each enemy string next to it.
+///
+/// The trial moves stay as they were. After GNU Go Manual, "Tactical reading"; the choice of these points is this project's own.
 pub fn candidates<L: Look>(board: &mut Trial<L>, target: Point, wide: u8) -> PointSet
     requires { target < (L.shows board.old.look).size * (L.shows board.old.look).size }
     ensures stays { Stays L.shows L.seen board.old board.new }
     ensures over { (pos : BoardState) → Agrees (L.seen board.new.look) pos → (p : ℕ)
         → set.contains result p ≡ is_candidate (after pos board.old.moves) target wide p }
+    ensures answer { (p : ℕ) → set.contains result p ≡ is_candidate (after (L.shows board.old.look) board.old.moves) target wide p }
     ensures near { (pos : BoardState) → Agrees (L.seen board.new.look) pos
         → AddsIn (L.seen board.old.look) (L.seen board.new.look) (close_twice pos.size (after pos board.old.moves).cells target) }
 {

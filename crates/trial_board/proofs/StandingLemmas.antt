@@ -3,7 +3,7 @@ use Rattle.std.proofs.Common.{◌≡◌, ◌≢◌, ℕ, zero, suc, ◌+◌, ◌
 use Rattle.std.proofs.Math.ListN.{set, length-set}
 use Rattle.std.proofs.lemmas.Bool.{cases_eq}
 use Rattle.std.proofs.lemmas.List.{length-replicate}
-use Rattle.go_rules.specs.declared.Cell.{Cell}
+use Rattle.go_rules.specs.Board.{largest_points}
 use Rattle.go_rules.specs.declared.Colour.{Colour}
 use Rattle.go_rules.specs.declared.Illegal.{Illegal}
 use Rattle.go_rules.specs.Position.{BoardState, IsPosition, board_of, is_banned}
@@ -13,11 +13,13 @@ use Rattle.go_base.specs.Facts.{Fact, Agrees, Grows, agrees_before}
 use Rattle.trial_board.specs.declared.moves.TrialMove.{TrialMove}
 use Rattle.trial_board.specs.declared.moves.TrialMove.TheVariants.{Pass, Play}
 use Rattle.trial_board.specs.declared.moves.Tried.TheVariants.{Done, Suicide as suicide}
+use Rattle.trial_board.specs.declared.overlay.Change.{Change}
+use Rattle.trial_board.specs.declared.overlay.Change.TheVariants.{Untouched}
 use Rattle.trial_board.specs.declared.trial.Kept.{Kept}
 use Rattle.trial_board.specs.Overlays.{overlaid}
-use Rattle.trial_board.specs.Trials.{given, moved, after, tried_free, tail, is_some_move}
+use Rattle.trial_board.specs.Trials.{most_moves, given, moved, after, tried_free, tail, is_some_move}
 use Rattle.trial_board.specs.Standing.{nothing_kept, kept_at, newest_first, IsAt, IsStanding}
-use Rattle.trial_board.proofs.OverlayLemmas.{none_overlaid, nones}
+use Rattle.trial_board.proofs.OverlayLemmas.{none_overlaid, untouched}
 use Rattle.trial_board.proofs.AfterLemmas.{size-after, moved_free}
 
 pub length-newest_first : (kept : List Kept) (n : ℕ) → length (newest_first kept n) ≡ n
@@ -42,7 +44,7 @@ newest_first-pop kept zero = refl
 newest_first-pop kept (suc n) = let e : suc n - 1 ≡ n = omega arith in ap (newest_first kept) e
 
 -- looks keep what is kept
-pub IsStanding-looks : {seen more : Fact → Bool} {changed new : List (Option Cell)} {ban : Option (ℕ × Colour)} {kept : List Kept} {n : ℕ} → IsStanding seen changed ban kept n
+pub IsStanding-looks : {seen more : Fact → Bool} {changed new : List Change} {ban : Option (ℕ × Colour)} {kept : List Kept} {n : ℕ} → IsStanding seen changed ban kept n
     → Grows seen more → length new ≡ length changed → ((pos : BoardState) → overlaid pos.size new pos.cells ≡ overlaid pos.size changed pos.cells) → IsStanding more new ban kept n
 IsStanding-looks s grows l same = record {
   full = s.full;
@@ -54,7 +56,7 @@ IsStanding-looks s grows l same = record {
 }
 
 -- no moves
-pub IsStanding-none : {seen : Fact → Bool} {changed : List (Option Cell)} {kept : List Kept} → changed ≡ replicate 361 None → length changed ≡ 361 → length kept ≡ 200 → IsStanding seen changed None kept 0
+pub IsStanding-none : {seen : Fact → Bool} {changed : List Change} {kept : List Kept} → changed ≡ replicate largest_points Untouched → length changed ≡ largest_points → length kept ≡ most_moves → IsStanding seen changed None kept 0
 IsStanding-none {seen} {changed} {kept} e l full = record {
   full = full;
   few = omega arith;
@@ -65,8 +67,8 @@ IsStanding-none {seen} {changed} {kept} e l full = record {
 }
 
 -- one more move, with what stood before it
-pub IsStanding-push : {seen more : Fact → Bool} {changed new : List (Option Cell)} {ban : Option (ℕ × Colour)} {kept : List Kept} {n : ℕ} (k : Kept) (after_ban : Option (ℕ × Colour)) → IsStanding seen changed ban kept n
-    → n < 200 → Grows seen more → k.changed ≡ changed → k.ban ≡ ban → length new ≡ 361 → ((pos : BoardState) → Agrees more pos → IsAt pos (k.made ∷ newest_first kept n) new after_ban)
+pub IsStanding-push : {seen more : Fact → Bool} {changed new : List Change} {ban : Option (ℕ × Colour)} {kept : List Kept} {n : ℕ} (k : Kept) (after_ban : Option (ℕ × Colour)) → IsStanding seen changed ban kept n
+    → n < most_moves → Grows seen more → k.changed ≡ changed → k.ban ≡ ban → length new ≡ largest_points → ((pos : BoardState) → Agrees more pos → IsAt pos (k.made ∷ newest_first kept n) new after_ban)
     → IsStanding more new after_ban (set kept n k) (n + 1)
 IsStanding-push {seen} {more} {changed} {new} {ban} {kept} {n} k after_ban s room grows ce be l at = record {
   full = length-set kept n k ∙ s.full;
@@ -74,8 +76,8 @@ IsStanding-push {seen} {more} {changed} {new} {ban} {kept} {n} k after_ban s roo
   whole = l;
   now = λ pos a. subst (λ ms. IsAt pos ms new after_ban) (sym (newest_first-push kept n k (omega (arith, s.full)))) (at pos a);
   whole_before = λ j h. elim (cases_eq j n) [
-    | inl e ↦ subst (λ (x : Kept). length x.changed ≡ 361) (sym (here j e)) (ap length ce ∙ s.whole)
-    | inr ne ↦ subst (λ (x : Kept). length x.changed ≡ 361) (sym (there j ne)) (s.whole_before j (omega arith))
+    | inl e ↦ subst (λ (x : Kept). length x.changed ≡ largest_points) (sym (here j e)) (ap length ce ∙ s.whole)
+    | inr ne ↦ subst (λ (x : Kept). length x.changed ≡ largest_points) (sym (there j ne)) (s.whole_before j (omega arith))
   ];
   before = λ pos a j h. subst (λ ms. IsAt pos ms (kept_at (set kept n k) j).changed (kept_at (set kept n k) j).ban) (sym (newest_first-below kept n j k (omega arith)))
       (elim (cases_eq j n) [
@@ -93,7 +95,7 @@ IsStanding-push {seen} {more} {changed} {new} {ban} {kept} {n} k after_ban s roo
     there j ne = get_or-set_other kept n j k nothing_kept ne
 
 -- the last move taken back
-pub IsStanding-pop : {seen : Fact → Bool} {changed : List (Option Cell)} {ban : Option (ℕ × Colour)} {kept : List Kept} {n : ℕ} → IsStanding seen changed ban kept n → n ≢ 0
+pub IsStanding-pop : {seen : Fact → Bool} {changed : List Change} {ban : Option (ℕ × Colour)} {kept : List Kept} {n : ℕ} → IsStanding seen changed ban kept n → n ≢ 0
     → IsStanding seen (kept_at kept (n - 1)).changed (kept_at kept (n - 1)).ban kept (n - 1)
 IsStanding-pop {n} s ne = record {
   full = s.full;
@@ -105,7 +107,7 @@ IsStanding-pop {n} s ne = record {
 }
 
 -- a pass
-pub IsAt-pass : {pos : BoardState} {ms : List TrialMove} {changed : List (Option Cell)} {ban : Option (ℕ × Colour)} → IsAt pos ms changed ban → IsAt pos (Pass ∷ ms) changed None
+pub IsAt-pass : {pos : BoardState} {ms : List TrialMove} {changed : List Change} {ban : Option (ℕ × Colour)} → IsAt pos ms changed ban → IsAt pos (Pass ∷ ms) changed None
 IsAt-pass at = record {
   sound = record { size_at_least = at.sound.size_at_least; size_at_most = at.sound.size_at_most; cells = at.sound.cells; alive = at.sound.alive; ban = tt };
   cells = at.cells;
@@ -117,14 +119,14 @@ unfolding play_free
 free_board pos c p = refl
 
 -- the board before a play
-pub board_good : {pos : BoardState} {ms : List TrialMove} {changed : List (Option Cell)} {ban : Option (ℕ × Colour)} (s : ℕ) → IsAt pos ms changed ban → pos.size ≡ s → IsPosition (board_of s (overlaid pos.size changed pos.cells))
+pub board_good : {pos : BoardState} {ms : List TrialMove} {changed : List Change} {ban : Option (ℕ × Colour)} (s : ℕ) → IsAt pos ms changed ban → pos.size ≡ s → IsPosition (board_of s (overlaid pos.size changed pos.cells))
 board_good {pos} {ms} {changed} s at e =
     subst (λ n. IsPosition (board_of n (overlaid pos.size changed pos.cells))) (size-after pos ms ∙ e)
     (subst (λ t. IsPosition (board_of (after pos ms).size t)) at.cells (record { size_at_least = at.sound.size_at_least; size_at_most = at.sound.size_at_most; cells = at.sound.cells; alive = at.sound.alive; ban = tt }))
 
 -- A play of c at p on the board after the moves, which left these changes and this answer.
-module _ (pos : BoardState) (ms : List TrialMove) (changed : List (Option Cell)) (ban : Option (ℕ × Colour)) (at : IsAt pos ms changed ban) (c : Colour) (p : ℕ) (dropped : Bool)
-    (d : dropped ≡ is_banned (after pos ms).ban c p) (s : ℕ) (e : pos.size ≡ s) (on : p < s * s) (new : List (Option Cell)) where
+module _ (pos : BoardState) (ms : List TrialMove) (changed : List Change) (ban : Option (ℕ × Colour)) (at : IsAt pos ms changed ban) (c : Colour) (p : ℕ) (dropped : Bool)
+    (d : dropped ≡ is_banned (after pos ms).ban c p) (s : ℕ) (e : pos.size ≡ s) (on : p < s * s) (new : List Change) where
   here_free : (result : Result (Option (ℕ × Colour)) Illegal) → play_free (board_of s (overlaid pos.size changed pos.cells)) c p ≡ played_on s (overlaid pos.size new pos.cells) result
       → play_free (after pos ms) c p ≡ played_on s (overlaid pos.size new pos.cells) result
   here_free result played = free_board (after pos ms) c p ∙ ap (λ t. play_free (board_of (after pos ms).size t) c p) at.cells
@@ -151,5 +153,5 @@ module _ (pos : BoardState) (ms : List TrialMove) (changed : List (Option Cell))
       → tried_free (after pos ms) (play_free (after pos ms) c p) ≡ (suicide, after pos ms)
   put_refused why played = ap (tried_free (after pos ms)) (here_free (Err why) played)
 
-pub none_whole : length (nones 361) ≡ 361
-none_whole = length-replicate {A = Option Cell} 361 None
+pub untouched_whole : length (untouched largest_points) ≡ largest_points
+untouched_whole = length-replicate {A = Change} largest_points Untouched

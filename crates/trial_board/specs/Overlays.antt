@@ -1,22 +1,33 @@
 -- A board over a position: where a cell was changed it is what it was changed to, and elsewhere what the position has.
-use Rattle.std.specs.Prelude.{◌≡◌, ℕ, ◌*◌, Bool, IsTrue, List, map, length, slice_index_or, Option, Some, None, refl}
+use Rattle.std.specs.Prelude.{◌≡◌, ℕ, ◌*◌, Bool, IsTrue, List, map, length, slice_index_or, refl}
 use Rattle.std.proofs.Common.{◌∙◌, sym}
 use Rattle.std.specs.List.{range_with_len}
 use Rattle.go_rules.specs.declared.Cell.{Cell}
+use Rattle.go_rules.specs.declared.Cell.TheVariants.{Empty, Black, White}
 use Rattle.go_rules.specs.Strings.{cell_at}
 use Rattle.go_rules.specs.Neighbourhood.{neighbourhood_of}
+use Rattle.trial_board.specs.declared.overlay.Change.{Change}
+use Rattle.trial_board.specs.declared.overlay.Change.TheVariants.{Untouched, Emptied, BlackStone, WhiteStone}
 use Rattle.go_base.specs.Views.{alone}
 use Rattle.go_rules.specs.Position.{BoardState}
 use Rattle.go_base.specs.Facts.{Fact, Grows, Grows-refl, Grows-trans, AddsIn, AddsIn-refl, AddsIn-trans, AddsIn-mono}
 
--- the change, or else the cell
-abbrev pub over : Option Cell → Cell → Cell
-over None cell = cell
-over (Some changed) cell = changed
+-- what stands at a point after the change, where the position has the cell there
+abbrev pub over : Change → Cell → Cell
+over Untouched cell = cell
+over Emptied cell = Empty
+over BlackStone cell = Black
+over WhiteStone cell = White
+
+-- the change after which the cell stands there
+abbrev pub change_to : Cell → Change
+change_to Empty = Emptied
+change_to Black = BlackStone
+change_to White = WhiteStone
 
 -- the cells of a board of s rows with the changes
-unfoldable pub overlaid : ℕ → List (Option Cell) → List Cell → List Cell
-overlaid s changed cells = map (λ q. over (slice_index_or changed q None) (cell_at cells q)) (range_with_len 0 (s * s))
+unfoldable pub overlaid : ℕ → List Change → List Cell → List Cell
+overlaid s changed cells = map (λ q. over (slice_index_or changed q Untouched) (cell_at cells q)) (range_with_len 0 (s * s))
 
 -- the look shows the same position, its facts only grew, and by facts of points of S alone
 pub record AsksLook {L : Type 0} (shows : L → BoardState) (seen : L → Fact → Bool) (old new : L) (S : ℕ → Bool) : Type 0 where

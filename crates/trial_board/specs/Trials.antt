@@ -11,6 +11,10 @@ use Rattle.trial_board.specs.declared.moves.TrialMove.TheVariants.{Pass, Play}
 use Rattle.trial_board.specs.declared.moves.Tried.{Tried}
 use Rattle.trial_board.specs.declared.moves.Tried.TheVariants.{Done, Occupied as occupied, Banned as banned, Suicide as suicide}
 
+-- how many trial moves may stand
+abbrev pub most_moves : ℕ
+most_moves = 200
+
 -- the look, the trial moves that stand, the newest first, and how many plays were tried
 pub record Trying (L : Type 0) : Type 0 where
   pub look : L

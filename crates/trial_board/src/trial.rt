@@ -1,6 +1,7 @@
-//! A board of trial moves over a look.
+//! A position with trial moves that can be taken back.
 
-ghost use Rattle.std.specs.Prelude.{◌≡◌, ℕ, ◌+◌, ◌*◌, ◌-◌, ◌^◌, ◌<◌, ◌≤◌, min, Bool, IsTrue, true, false, not, ◌&&◌, [], ◌∷◌, length, replicate, Some, None};
+ghost use Rattle.std.specs.Prelude.{◌≡◌, ℕ, ◌+◌, ◌*◌, ◌-◌, ◌^◌, ◌<◌, ◌≤◌, min, Bool, IsTrue, true, false, not, ◌&&◌, [], ◌∷◌, length, replicate};
+ghost use Rattle.go_rules.specs.Board.{largest_points};
 ghost use Rattle.go_rules.specs.Strings.{cell_at, liberty_points};
 ghost use Rattle.go_rules.specs.Boundary.{boundary_points};
 ghost use Rattle.go_rules.specs.Neighbourhood.{neighbourhood_of};
@@ -11,35 +12,38 @@ ghost use Rattle.go_rules.specs.Play.{play_free};
 ghost use Rattle.go_base.specs.Facts.{Agrees, Grows, AddsIn};
 ghost use Rattle.trial_board.specs.declared.moves.TrialMove.{TrialMove};
 ghost use Rattle.trial_board.specs.declared.moves.TrialPlay.{TrialPlay};
-ghost use Rattle.trial_board.specs.Trials.{Trying, Stays, Moved, Put, after, tried, tried_free, made_or_suicide, tail, is_some_move};
+ghost use Rattle.trial_board.specs.Trials.{Trying, Stays, Moved, Put, most_moves, after, tried, tried_free, made_or_suicide, tail, is_some_move};
 
-use crate::moves::{TrialMove, TrialPlay, Tried};
-use crate::overlay::Overlay;
+use crate::moves::{MAX_TRIAL_MOVES, TrialMove, TrialPlay, Tried};
+use crate::overlay::{Change, Overlay};
 use go_base::boundary::boundary_of;
 use go_base::capture::play_on;
 use go_base::flood::liberties_of;
 use go_base::points::PointSet;
-use go_base::size::{Point, Size};
+use go_base::size::{MAX_POINTS, Point, Size};
 use go_base::view::View;
-use go_base::{Cell, Colour};
-use go_base::Look;
+use go_base::{Cell, Colour, Look};
 use std::marker::Model;
 
-/// What stood before a move, and the move.
+/// A trial move, and what it takes to take it back: the changes and the ban that stood before it.
 #[derive(Clone, Copy)]
 pub struct Kept {
-    pub changed: [Option<Cell>; 361],
+    pub changed: [Change; MAX_POINTS],
     pub ban: Option<(Point, Colour)>,
     pub made: TrialMove,
 }
 
-/// A position with trial moves that can be taken back. It holds its look.
+/// A position with trial moves that can be taken back, GNU Go's `trymove` and `popgo`. It holds its view of the position, and
+/// asks it for a point only when a string or a play needs it; everything is kept in place and nothing takes memory.
 pub struct Trial<L: Look> {
+    /// The view, and what the standing moves changed over it.
     board: Overlay<L>,
-    /// The ban after the newest move; before the first the look is asked.
+    /// The ban after the newest move; before the first move the view is asked.
     ban: Option<(Point, Colour)>,
-    kept: [Kept; 200],
+    /// The first `standing` of these are the moves that stand, the oldest first.
+    kept: [Kept; MAX_TRIAL_MOVES],
     standing: u8,
+    /// How many plays were tried.
     trials: u64,
 }
 
@@ -55,20 +59,22 @@ impl<L: Look> Model for Trial<L> {
     ghost invariant = { λ t. IsStanding (L.seen t.board.look) t.board.changed t.ban t.kept t.standing };
 }
 
-fn no_changes() -> [Option<Cell>; 361]
-    ensures { result ≡ replicate 361 None }
+/// No point is touched.
+fn no_changes() -> [Change; MAX_POINTS]
+    ensures { result ≡ replicate largest_points Change.Untouched }
 {
-    [None; 361]
+    [Change::Untouched; MAX_POINTS]
 }
 
-fn nothing_kept() -> [Kept; 200]
-    ensures { length result ≡ 200 }
+/// Room for the trial moves.
+fn nothing_kept() -> [Kept; MAX_TRIAL_MOVES]
+    ensures { length result ≡ most_moves }
 {
     [Kept {
         changed: no_changes(),
         ban: None,
         made: TrialMove::Pass,
-    }; 200]
+    }; MAX_TRIAL_MOVES]
 }
 
 /// Whether a play is refused that a ban forbids, or not.
@@ -89,7 +95,7 @@ fn is_on(ban: Option<(Point, Colour)>, c: Colour, p: Point) -> bool
 }
 
 impl<L: Look> Trial<L> {
-    /// A board with no trial moves.
+    /// The position that the view shows, with no trial moves.
     pub fn new(look: L) -> Self
         ensures { result ≡ record { look = look; moves = []; count = 0 } }
     {
@@ -105,7 +111,7 @@ impl<L: Look> Trial<L> {
         }
     }
 
-    /// Hands the look back.
+    /// Hands the view back as it is now.
     pub fn finish(self) -> L
         ensures { result ≡ self.look }
     {
@@ -127,45 +133,48 @@ impl<L: Look> Trial<L> {
         self.board.size()
     }
 
-    /// How many plays were tried.
+    /// How many plays were tried, refused ones among them; it stops at the greatest number.
     pub fn trials(&self) -> u64
         ensures { result ≡ self.now.count }
     {
         self.trials
     }
 
-    /// What stands at p.
+    /// What stands at p after the trial moves.
     pub fn cell(&mut self, p: Point) -> Cell
         requires { p < (L.shows self.old.look).size * (L.shows self.old.look).size }
         ensures stays { Stays L.shows L.seen self.old self.new }
         ensures count { self.new.count ≡ self.old.count }
         ensures over { (pos : BoardState) → Agrees (L.seen self.new.look) pos
             → result ≡ cell_at (after pos self.old.moves).cells p }
+        ensures answer { result ≡ cell_at (after (L.shows self.old.look) self.old.moves).cells p }
         ensures near { AddsIn (L.seen self.old.look) (L.seen self.new.look) (alone p) }
     {
         self.board.at(p)
     }
 
-    /// The liberties of the string of p.
+    /// The liberties of the string of p, none where p is empty.
     pub fn liberties(&mut self, p: Point) -> PointSet
         requires { p < (L.shows self.old.look).size * (L.shows self.old.look).size }
         ensures stays { Stays L.shows L.seen self.old self.new }
         ensures count { self.new.count ≡ self.old.count }
         ensures over { (pos : BoardState) → Agrees (L.seen self.new.look) pos
             → result ≡ liberty_points pos.size (after pos self.old.moves).cells p }
+        ensures answer { result ≡ liberty_points (L.shows self.old.look).size (after (L.shows self.old.look) self.old.moves).cells p }
         ensures near { (pos : BoardState) → Agrees (L.seen self.new.look) pos
             → AddsIn (L.seen self.old.look) (L.seen self.new.look) (neighbourhood_of pos.size (after pos self.old.moves).cells (alone p)) }
     {
         liberties_of(&mut self.board, p)
     }
 
-    /// The least point of each enemy string next to the string of p.
+    /// The least point of each enemy string next to the string of p, none where p is empty.
     pub fn boundary(&mut self, p: Point) -> PointSet
         requires { p < (L.shows self.old.look).size * (L.shows self.old.look).size }
         ensures stays { Stays L.shows L.seen self.old self.new }
         ensures count { self.new.count ≡ self.old.count }
         ensures over { (pos : BoardState) → Agrees (L.seen self.new.look) pos
             → result ≡ boundary_points pos.size (after pos self.old.moves).cells p }
+        ensures answer { result ≡ boundary_points (L.shows self.old.look).size (after (L.shows self.old.look) self.old.moves).cells p }
         ensures near { (pos : BoardState) → Agrees (L.seen self.new.look) pos
             → AddsIn (L.seen self.old.look) (L.seen self.new.look) (close_twice pos.size (after pos self.old.moves).cells p) }
     {
@@ -187,9 +196,9 @@ impl<L: Look> Trial<L> {
         is_on(self.ban, c, p)
     }
 
-    /// Adds a pass.
+    /// Adds a pass, which lifts the ban.
     pub fn pass(&mut self)
-        requires { length self.old.moves < 200 }
+        requires { length self.old.moves < most_moves }
         ensures { self.new ≡ record self.old { moves = TrialMove.Pass ∷ self.old.moves } }
     {
         self.kept[self.standing as usize] = Kept {
@@ -201,7 +210,7 @@ impl<L: Look> Trial<L> {
         self.ban = None;
     }
 
-    /// Takes the last trial move back.
+    /// Takes the last trial move back, with its captures and its ban; false exactly where no trial move is left.
     pub fn back(&mut self) -> bool
         ensures some { result ≡ is_some_move self.old.moves }
         ensures moves { self.new ≡ record self.old { moves = tail self.old.moves } }
@@ -217,6 +226,7 @@ impl<L: Look> Trial<L> {
         true
     }
 
+    /// Counts one more play.
     fn count_one(&mut self)
         ensures { self.new ≡ record self.old { count = min (self.old.count + 1) (2 ^ 64 - 1) } }
     {
@@ -225,7 +235,7 @@ impl<L: Look> Trial<L> {
 
     /// Puts a stone with no regard to the ban, where that is no suicide.
     fn put(&mut self, c: Colour, p: Point, dropped: bool) -> bool
-        requires room { length self.old.moves < 200 }
+        requires room { length self.old.moves < most_moves }
         requires on_board { p < (L.shows self.old.look).size * (L.shows self.old.look).size }
         requires dropped { (pos : BoardState) → Agrees (L.seen self.old.look) pos → dropped ≡ is_banned (after pos self.old.moves).ban c p }
         ensures shown { L.shows self.new.look ≡ L.shows self.old.look }
@@ -260,9 +270,10 @@ impl<L: Look> Trial<L> {
         }
     }
 
-    /// Plays c at p, and with `allow` also where the ban alone forbids it.
+    /// Plays c at p, and with `allow` also where the ban alone forbids it. Refused are, in this order, a play on a stone, one that
+    /// the ban forbids without `allow`, and suicide; a refused play leaves the trial moves, and counts as tried.
     pub fn play(&mut self, c: Colour, p: Point, allow: bool) -> Tried
-        requires room { length self.old.moves < 200 }
+        requires room { length self.old.moves < most_moves }
         requires on_board { p < (L.shows self.old.look).size * (L.shows self.old.look).size }
         ensures shown { L.shows self.new.look ≡ L.shows self.old.look }
         ensures grows { Grows (L.seen self.old.look) (L.seen self.new.look) }
@@ -270,6 +281,7 @@ impl<L: Look> Trial<L> {
         ensures moves { Moved result c p self.old.moves self.new.moves }
         ensures over { (pos : BoardState) → Agrees (L.seen self.new.look) pos
             → tried (after pos self.old.moves) c p allow ≡ (result, after pos self.new.moves) }
+        ensures answer { tried (after (L.shows self.old.look) self.old.moves) c p allow ≡ (result, after (L.shows self.old.look) self.new.moves) }
         ensures near { (pos : BoardState) → Agrees (L.seen self.new.look) pos
             → AddsIn (L.seen self.old.look) (L.seen self.new.look) (close_twice pos.size (after pos self.old.moves).cells p) }
     {

@@ -7,7 +7,8 @@ use Rattle.go_rules.specs.Below.{any_below}
 use Rattle.go_rules.specs.Strings.{liberties}
 use Rattle.go_rules.specs.Neighbourhood.{neighbourhood_of}
 use Rattle.go_base.proofs.Liberties.{len-liberty_points}
-use Rattle.go_base.specs.Facts.{Fact, agrees_before, same_size, AddsIn, AddsIn-trans, AddsIn-mono}
+use Rattle.go_rules.specs.Position.{BoardState}
+use Rattle.go_base.specs.Facts.{Fact, Agrees, agrees_before, same_size, AddsIn, AddsIn-trans, AddsIn-mono}
 use Rattle.go_rules.specs.declared.Cell.{Cell}
 use Rattle.go_base.specs.Views.{alone}
 use Rattle.go_base.proofs.Closing.{close_self}
@@ -127,3 +128,15 @@ returns-clause-near g c = λ pos a.
           (AddsIn-trans (rw m1 at (c.boundary-boundary.ensures.near pos a1))
           (AddsIn-mono (rw (w.board-is, m2) at (c.add_only_liberties.ensures.near pos a)) (λ r h. near_boundary pos.size here.cells c.args.target r c.boundary-boundary.result on bound h)))
     ]
+
+-- the position shown is one of those that agree
+pub returns-clause-answer : goal.returns-clause-answer
+returns-clause-answer g c = λ p.
+    let to_boundary = c.boundary-boundary.ensures.stays.shown ∙ c.liberties-liberties.ensures.stays.shown in
+    let to_join : g.L.Look.shows c.if-wide-gt0.board.look ≡ g.L.Look.shows c.args.board.now.look = elim c.if-wide-gt0.branch [
+      | then-wide-gt0+then-count-lt3 w ↦ ap (λ t. g.L.Look.shows t.look) w.board-is ∙ w.add_beside.ensures.stays.shown ∙ to_boundary
+      | then-wide-gt0+else-count-lt3 w ↦ ap (λ t. g.L.Look.shows t.look) w.board-is ∙ to_boundary
+      | else-wide-gt0 w ↦ ap (λ t. g.L.Look.shows t.look) w.board-is ∙ to_boundary
+    ] in
+    returns-clause-over g c (g.L.Look.shows c.args.board.now.look)
+    (subst (λ (pos : BoardState). Agrees (g.L.Look.seen c.add_only_liberties.new.board.look) pos) (c.add_only_liberties.ensures.stays.shown ∙ to_join) (g.met.L.Look.holds c.add_only_liberties.new.board.look)) p

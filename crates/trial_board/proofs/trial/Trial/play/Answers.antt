@@ -103,3 +103,28 @@ returns-else-put-clause-near g c = λ pos a.
     let at = goal.at.returns-else-put-clause-near g c in
     let m = c.bans-dropped.ensures.stays.moves ∙ c.cell.ensures.stays.moves ∙ ap (λ t. t.moves) c.count_one.ensures in
     AddsIn-trans (AddsIn-mono (both g at.After-is_refused (first g at.After-ne)) (near_self pos.size (after pos c.args.self.now.moves).cells c.args.p)) (rw m at (c.put.ensures.near pos a))
+
+-- The position shown is one of those that agree.
+pub returns-then-ne-clause-answer : goal.returns-then-ne-clause-answer
+returns-then-ne-clause-answer g c =
+    let shown = c.cell.ensures.stays.shown ∙ ap (λ t. g.L.Look.shows t.look) c.count_one.ensures in
+    returns-then-ne-clause-over g c (g.L.Look.shows c.args.self.now.look)
+    (subst (λ (pos : BoardState). Agrees (g.L.Look.seen c.cell.new.self.look) pos) shown (g.met.L.Look.holds c.cell.new.self.look))
+
+pub returns-then-is_refused-clause-answer : goal.returns-then-is_refused-clause-answer
+returns-then-is_refused-clause-answer g c =
+    let shown = c.bans-dropped.ensures.stays.shown ∙ c.cell.ensures.stays.shown ∙ ap (λ t. g.L.Look.shows t.look) c.count_one.ensures in
+    returns-then-is_refused-clause-over g c (g.L.Look.shows c.args.self.now.look)
+    (subst (λ (pos : BoardState). Agrees (g.L.Look.seen c.bans-dropped.new.self.look) pos) shown (g.met.L.Look.holds c.bans-dropped.new.self.look))
+
+pub returns-then-put-clause-answer : goal.returns-then-put-clause-answer
+returns-then-put-clause-answer g c =
+    let shown = c.put.ensures.shown ∙ c.bans-dropped.ensures.stays.shown ∙ c.cell.ensures.stays.shown ∙ ap (λ t. g.L.Look.shows t.look) c.count_one.ensures in
+    returns-then-put-clause-over g c (g.L.Look.shows c.args.self.now.look)
+    (subst (λ (pos : BoardState). Agrees (g.L.Look.seen c.put.new.self.look) pos) shown (g.met.L.Look.holds c.put.new.self.look))
+
+pub returns-else-put-clause-answer : goal.returns-else-put-clause-answer
+returns-else-put-clause-answer g c =
+    let shown = c.put.ensures.shown ∙ c.bans-dropped.ensures.stays.shown ∙ c.cell.ensures.stays.shown ∙ ap (λ t. g.L.Look.shows t.look) c.count_one.ensures in
+    returns-else-put-clause-over g c (g.L.Look.shows c.args.self.now.look)
+    (subst (λ (pos : BoardState). Agrees (g.L.Look.seen c.put.new.self.look) pos) shown (g.met.L.Look.holds c.put.new.self.look))

@@ -3,7 +3,7 @@ use Rattle.go_rules.specs.Position.{BoardState, is_banned}
 use Rattle.go_base.specs.Facts.{Agrees, agrees_before, same_size}
 use Rattle.trial_board.specs.declared.moves.TrialMove.TheVariants.{Play}
 use Rattle.trial_board.specs.declared.trial.Kept.{Kept}
-use Rattle.trial_board.specs.Trials.{after, tried_free}
+use Rattle.trial_board.specs.Trials.{most_moves, after, tried_free}
 use Rattle.trial_board.specs.Standing.{newest_first}
 use Rattle.trial_board.proofs.StandingLemmas.{IsStanding-push, IsStanding-looks, newest_first-push, length-newest_first, put_at, put_tried, put_refused, board_good}
 use Rattle.trial_board.proofs.trial.Trial.put.Given.{Over}
@@ -11,7 +11,7 @@ use Rattle.trial_board.proofs.trial.Trial.put.Goals as goal
 use Rattle.trial_board.proofs.trial.Trial.put.Goals.{After-play_on}
 
 -- there is room for one more move
-room : (g : Over) (c : After-play_on g) → length c.args.self.now.moves < 200 → c.self.inside.standing < 200
+room : (g : Over) (c : After-play_on g) → length c.args.self.now.moves < most_moves → c.self.inside.standing < most_moves
 room g c r = omega (arith, length-newest_first c.self.inside.kept c.self.inside.standing, ap (λ t. length t.moves) c.self.view_is, r)
 
 -- the size over a position that agrees

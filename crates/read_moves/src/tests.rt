@@ -1,0 +1,82 @@
+//! The candidates of small positions, counted by hand.
+
+ghost use Rattle.std.specs.Prelude.{◌*◌, ◌<◌, IfSome};
+
+use super::{Depths, candidates};
+use go_base::size::MAX_POINTS;
+use go_base::{Colour, Point, PointSet, Position, Size, Watch};
+use std::test::Fail;
+use trial_board::Trial;
+
+/// The point of a vertex in columns A to H.
+fn vertex(size: Size, name: &str) -> Option<Point>
+    ensures { IfSome result (λ p. p < size * size) }
+{
+    let [column @ b'A'..=b'H', row @ b'1'..=b'9'] = name.as_bytes() else {
+        return None;
+    };
+    let p = size.point(size.get().checked_sub(*row - b'0')?, *column - b'A')?;
+    if p < size.points() { Some(p) } else { None }
+}
+
+/// The position after black's stones and then white's.
+fn position(size: Size, black: &str, white: &str) -> Option<Position> {
+    let mut position = Position::new(size);
+    for name in black.split_whitespace() {
+        position = position.play(Colour::Black, vertex(position.size(), name)?).ok()?;
+    }
+    for name in white.split_whitespace() {
+        position = position.play(Colour::White, vertex(position.size(), name)?).ok()?;
+    }
+    Some(position)
+}
+
+/// The candidates of a target on the position.
+fn found(position: &Position, target: &str, wide: u8) -> Option<PointSet> {
+    let target = vertex(position.size(), target)?;
+    let mut board = Trial::new(Watch::new(position));
+    let found = candidates(&mut board, target, wide);
+    let _look = board.finish();
+    Some(found)
+}
+
+/// The points of these vertices.
+fn wanted(size: Size, names: &str) -> Option<PointSet> {
+    let _ = size.get();
+    let mut points = PointSet::new();
+    for name in names.split_whitespace() {
+        let p = vertex(size, name)?;
+        if p < size.points() {
+            points.add(p);
+        }
+    }
+    Some(points)
+}
+
+#[test]
+fn liberties_their_neighbours_and_captures_are_tried(rt: HostRuntime) -> Result<(), Fail> {
+    let rows = [
+        ("the last liberty of a stone in atari", 9, "D4", "C4 E4 D5", "D4", 0, "D3"),
+        ("its neighbours too where a wide ply is left", 9, "D4", "C4 E4 D5", "D4", 1, "D3 C3 E3 D2"),
+        ("no neighbours where there are four liberties", 9, "D4", "", "D4", 12, "D5 C4 E4 D3"),
+        ("the capture of an enemy stone in atari", 5, "A1 A2 B3", "B2 A3 C1", "A1", 0, "B1 A4"),
+        ("nothing where the target is empty", 5, "A1", "", "C3", 2, ""),
+    ];
+    for (what, rows, black, white, target, wide, names) in rows {
+        let size = Size::new(rows).ok_or("the size is one of a board")?;
+        let position = position(size, black, white).ok_or("the stones can be put")?;
+        let found = found(&position, target, wide).ok_or("the target is on the board")?;
+        let wanted = wanted(size, names).ok_or("the vertices are on the board")?;
+        for p in 0..MAX_POINTS as u16 {
+            assert_eq!(rt; found.has(p), wanted.has(p), "{what}, at {p}");
+        }
+    }
+    Ok(())
+}
+
+#[test]
+fn depths_have_their_ranges(rt: HostRuntime) {
+    for (plies, wide, valid) in [(0, 0, false), (1, 0, true), (200, 12, true), (201, 0, false), (10, 13, false)] {
+        assert_eq!(rt; Depths::new(plies, wide).is_some(), valid, "{plies} and {wide}");
+    }
+}
