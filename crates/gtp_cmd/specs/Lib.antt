@@ -1,4 +1,5 @@
 pub mod Words
+pub mod RawWords
 pub mod Vertices
 pub mod Colours
 pub mod Komi

@@ -1,13 +1,13 @@
-//! The protocol's language: what the words of a line say, and the bytes of each reply. After the GTP version 2 draft.
-//!
-//! `parse` answers the id and the command of a line, or the first refusal; `success`, `short` and `refusal` give the reply.
-//! Columns are lettered from the left without I, and row 1 is the bottom row; points are numbered as everywhere in gopat.
+//! x
 #![tactic(auto)]
 
-pub mod commands;
-pub mod komi;
-pub mod refusals;
+mod bytes;
+mod commands;
+mod komi;
+mod refusals;
+mod words;
 
-pub use commands::{Command, CommandName};
+pub use commands::{Command, CommandName, Parsed};
 pub use komi::KomiText;
 pub use refusals::RefuseText;
+pub use words::{before_comment, next_word};
