@@ -126,7 +126,7 @@ first_word (b ∷ bs) some begins =
 pub next_from : (text : List ℕ) (i n : ℕ) → words_of (plain (drop i text)) ≡ words_of (plain text) → (i < length text → is_skipped (get_or text i 0) ≡ false)
     → 0 < length (take (length text - i) (drop i text)) → n ≡ position_or_len is_parting (take (length text - i) (drop i text))
     → words_of (plain text) ≡ kept (take n (take (length text - i) (drop i text)))
-      ∷ words_of (plain (take (length (take (length text - i) (drop i text)) - n) (drop n (take (length text - i) (drop i text)))))
+    ∷ words_of (plain (take (length (take (length text - i) (drop i text)) - n) (drop n (take (length text - i) (drop i text)))))
 next_from text i n words begins some first =
     let rest = take (length text - i) (drop i text) in
     let same : rest ≡ drop i text = take_rest text i in

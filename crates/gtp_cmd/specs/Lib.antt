@@ -5,4 +5,5 @@ pub mod Colours
 pub mod Komi
 pub mod KomiKept
 pub mod Replies
+pub mod Rooms
 pub mod Commands

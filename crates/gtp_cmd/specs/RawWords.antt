@@ -1,5 +1,5 @@
 -- Words as they stand in a line, with the bytes that are dropped still in them.
-use Rattle.std.specs.Prelude.{ℕ, ◌==◌, ◌||◌, Bool, true, false, not}
+use Rattle.std.specs.Prelude.{ℕ, ◌==◌, ◌||◌, Bool, true, false, not, min, Option, None, Some}
 use Rattle.std.specs.Char.{to_ascii_lowercase}
 use Rattle.gtp_cmd.specs.Words.{is_kept, blank, tab}
 
@@ -15,3 +15,12 @@ is_skipped b = not (is_kept b) || is_parting b
 abbrev pub cased : Bool → ℕ → ℕ
 cased true b = to_ascii_lowercase b
 cased false b = b
+
+-- what stands for every number above the greatest id
+abbrev pub large : ℕ
+large = 2147483648
+
+-- the number, or what stands for it where it is above the greatest id
+abbrev pub capped : Option ℕ → Option ℕ
+capped None = None
+capped (Some n) = Some (min n large)

@@ -3,7 +3,7 @@
 
 ghost use Rattle.std.specs.Prelude.{◌≡◌, ℕ, List, ◌<◌, ◌≤◌, ◌==◌, ◌∷◌, [], false, MatchOption, length, drop, map, slice_index};
 ghost use Rattle.std.specs.List.{before_first, position_or_len};
-ghost use Rattle.std.specs.Str.{bytes_eq};
+ghost use Rattle.std.specs.Str.{bytes_eq, str_to_ascii_lowercase};
 ghost use Rattle.gtp_cmd.specs.Words.{kept, plain, words_of, hash};
 ghost use Rattle.gtp_cmd.specs.RawWords.{is_skipped, is_parting, cased};
 
@@ -88,11 +88,48 @@ fn spells_in(word: &[u8], name: &[u8], either_case: bool) -> bool
         if !is_kept(*b) {
             continue;
         }
-        let b = if either_case { b.to_ascii_lowercase() } else { *b };
+        let b = if either_case {
+            b.to_ascii_lowercase()
+        } else {
+            *b
+        };
         match behind(left, b) {
             Some(rest) => left = rest,
             None => return false,
         }
     }
     left.is_empty()
+}
+
+/// Whether a word is the name.
+pub fn spells(word: &[u8], name: &[u8]) -> bool
+    ensures { result ≡ bytes_eq (kept word.now) name.now }
+{
+    spells_in(word, name, false)
+}
+
+/// Whether a word is the name in either case; the name is in lower case.
+pub fn spells_in_either_case(word: &[u8], name: &[u8]) -> bool
+    ensures { result ≡ bytes_eq (str_to_ascii_lowercase (kept word.now)) name.now }
+{
+    spells_in(word, name, true)
+}
+
+/// The first byte of a word, and what follows it.
+pub fn first_byte(word: &[u8]) -> Option<(u8, &[u8])>
+    ensures { MatchOption result (kept word.now ≡ []) (λ found. kept word.now ≡ found.0 ∷ kept found.1.now) }
+{
+    for (i, b) in word.iter().enumerate() {
+        if is_kept(*b) {
+            return Some((*b, &word[i + 1..]));
+        }
+    }
+    None
+}
+
+/// How many bytes a word has.
+pub fn byte_count(word: &[u8]) -> usize
+    ensures { result ≡ length (kept word.now) }
+{
+    word.iter().filter(|b| is_kept(**b)).count()
 }
