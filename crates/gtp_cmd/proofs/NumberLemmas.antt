@@ -87,10 +87,10 @@ not_number word i within here other =
     let front = kept (take i word) in
     let rest = kept (drop (i + 1) word) in
     let none : list_all is_ascii_digit (kept word) ≡ false =
-        ap (list_all is_ascii_digit) (kept-cut word i within here) ∙ list_all-append is_ascii_digit front (get_or word i 0 ∷ rest)
-        ∙ ap (λ t. list_all is_ascii_digit front && (t && list_all is_ascii_digit rest)) other ∙ and_false (list_all is_ascii_digit front) in
+    ap (list_all is_ascii_digit) (kept-cut word i within here) ∙ list_all-append is_ascii_digit front (get_or word i 0 ∷ rest)
+    ∙ ap (λ t. list_all is_ascii_digit front && (t && list_all is_ascii_digit rest)) other ∙ and_false (list_all is_ascii_digit front) in
     sym (ap (λ t. capped (cond (has_bytes (kept word) && t) (Some (digits_value 10 (kept word))) None)) none
-      ∙ ap (λ t. capped (cond t (Some (digits_value 10 (kept word))) None)) (and_false (has_bytes (kept word))))
+    ∙ ap (λ t. capped (cond t (Some (digits_value 10 (kept word))) None)) (and_false (has_bytes (kept word))))
 
 -- where the number is above the greatest id there is no id
 pub id-above : (o : Option ℕ) (n : ℕ) → Some n ≡ capped o → most_id < n → None ≡ up_to most_id o

@@ -84,3 +84,40 @@ pub fn refusal(id: Option<u32>, text: RefuseText) -> Short
     out.extend(b"\n\n");
     out
 }
+
+#[cfg(test)]
+mod tests {
+    use super::*;
+    use std::test::Fail;
+
+    #[test]
+    fn replies_repeat_the_id(rt: HostRuntime) -> Result<(), Fail> {
+        for (row, id, text, want) in [
+            ("nothing follows the id", Some(1), "", "=1\n\n"),
+            ("no blank before nothing", None, "", "=\n\n"),
+            (
+                "a result",
+                Some(2147483647),
+                "gopat",
+                "=2147483647 gopat\n\n",
+            ),
+        ] {
+            let reply = success(id, text.as_bytes(), Bytes::new(rt.alloc()))?;
+            assert_eq!(rt; reply.as_slice(), want.as_bytes(), "{row}");
+            assert!(rt; text.len() <= 32);
+            assert_eq!(rt;
+                short(id, text.as_bytes()).as_slice(),
+                want.as_bytes(),
+                "{row}"
+            );
+        }
+        let unknown = refusal(Some(5), RefuseText::UnknownCommand);
+        assert_eq!(rt; unknown.as_slice(), b"?5 unknown command\n\n".as_slice());
+        let longest = refusal(Some(u32::MAX), RefuseText::VertexEmpty);
+        assert_eq!(rt;
+            longest.as_slice(),
+            b"?4294967295 vertex must not be empty\n\n".as_slice()
+        );
+        Ok(())
+    }
+}
