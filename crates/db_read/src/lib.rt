@@ -13,6 +13,8 @@ mod names;
 mod reader;
 mod reading;
 mod stages;
+#[cfg(test)]
+mod tests;
 
 pub use error::DbError;
 pub use reading::read;

@@ -1,4 +1,5 @@
 -- The hits of the automaton of a list of patterns.
+use Rattle.spiral.specs.Spiral.{offset_count}
 use Rattle.std.proofs.Common.{◌≡◌, ℕ, zero, suc, ◌+◌, ◌-◌, ◌≤◌, true, false, not, cond, eqb, List, [], ◌∷◌, length, Contains, Some, slice_get, refl, sym, ap, ◌∙◌, subst, arith, ◌⊎◌, inl, inr}
 use Rattle.std.proofs.lemmas.Bool.{cases_Bool, and_parts, eqb-true}
 use Rattle.std.proofs.lemmas.List.Elements.{Contains-append_cases, Contains-append_left, Contains-append_right}
@@ -65,9 +66,9 @@ length_below-most p (suc n) =
       | inr blank ↦ omega (arith, length_below-blank p n blank, length_below-most p n)
     ]
 
-pattern_length-most : (p : Pattern) → pattern_length p ≤ 1369
+pattern_length-most : (p : Pattern) → pattern_length p ≤ offset_count
 unfolding pattern_length
-pattern_length-most p = length_below-most p 1369
+pattern_length-most p = length_below-most p offset_count
 
 module _ (patterns : List Pattern) (machine : List Row) (at : BoardState) (friend : Colour) (hit : Hit) (accepts : (w : Word) → accepted machine w ≡ matched_from 0 patterns w) where
   pub fit_from_hit : IsHit machine at friend hit → IsFit patterns at friend hit

@@ -4,7 +4,7 @@ use Rattle.std.proofs.lemmas.Int.{ints}
 use Rattle.std.proofs.lemmas.Bool.{cases_Bool, cases_eq, or_parts, or_from, and_parts, and_from, not-false, not-true, not_from_true, not_from_false, eq-eqb, both_ways, false≢true}
 use Rattle.go_rules.specs.declared.Colour.{Colour}
 use Rattle.go_rules.specs.Position.{BoardState}
-use Rattle.spiral.specs.Spiral.{offset_at, place_at}
+use Rattle.spiral.specs.Spiral.{offset_at, place_at, offset_count}
 use Rattle.spiral.proofs.Indexes.{offset_exists}
 use Rattle.pat_types.specs.declared.cell.Drawn.{Drawn}
 use Rattle.pat_types.specs.declared.cell.Drawn.TheVariants.{Nothing, OffBoard, Shows}
@@ -68,9 +68,9 @@ seen_is : (at : BoardState) (friend : Colour) (t m i : ℕ) → seen_at at frien
 unfolding seen_at
 seen_is at friend t m i = refl
 
-below_length : (p : Pattern) (i : ℕ) → i < 1369 → is_drawn (drawn_along p i) ≡ true → i < pattern_length p
+below_length : (p : Pattern) (i : ℕ) → i < offset_count → is_drawn (drawn_along p i) ≡ true → i < pattern_length p
 unfolding pattern_length
-below_length p i low drawn = drawn_below p 1369 i low drawn
+below_length p i low drawn = drawn_below p offset_count i low drawn
 
 module _ (p : Pattern) (at : BoardState) (friend : Colour) (t m : ℕ) where
   -- what is seen at the place of a cell
@@ -85,7 +85,7 @@ module _ (p : Pattern) (at : BoardState) (friend : Colour) (t m : ℕ) where
           all_admitted p (seen_at at friend t m) 0 (pattern_length p)
           (not-true _ (and_parts (eqb (length (word_at at friend t m (pattern_length p))) (pattern_length p)) _ matched).1) k (omega arith) (omega arith)
 
-      drawn_cell : (r c : ℤ) (i : ℕ) → i < 1369 → offset_at i ≡ (r -ℤ pos (anchor_of p).0, c -ℤ pos (anchor_of p).1) → is_drawn (drawn_at p r c) ≡ true
+      drawn_cell : (r c : ℤ) (i : ℕ) → i < offset_count → offset_at i ≡ (r -ℤ pos (anchor_of p).0, c -ℤ pos (anchor_of p).1) → is_drawn (drawn_at p r c) ≡ true
           → drawn_admits (drawn_at p r c) (see r c) ≡ true
       drawn_cell r c i low o drawn =
           let row : pos (anchor_of p).0 +ℤ (offset_at i).0 ≡ r = ap (λ d. pos (anchor_of p).0 +ℤ d.0) o ∙ (omega (arith, ints)) in
@@ -95,7 +95,7 @@ module _ (p : Pattern) (at : BoardState) (friend : Colour) (t m : ℕ) where
           let below : i < pattern_length p = in_length i low (ap is_drawn cell ∙ drawn) in
           sym (ap (λ d. drawn_admits d (seen_at at friend t m i)) cell ∙ ap (drawn_admits (drawn_at p r c)) sight) ∙ admitted i below
         where
-          in_length : (i : ℕ) → i < 1369 → is_drawn (drawn_along p i) ≡ true → i < pattern_length p
+          in_length : (i : ℕ) → i < offset_count → is_drawn (drawn_along p i) ≡ true → i < pattern_length p
           in_length i low drawn = below_length p i low drawn
 
       by : (r c : ℤ) → (is_drawn (drawn_at p r c) ≡ true) ⊎ (is_drawn (drawn_at p r c) ≡ false) → drawn_admits (drawn_at p r c) (see r c) ≡ true

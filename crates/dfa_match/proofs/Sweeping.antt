@@ -1,4 +1,5 @@
 -- How the hits of one anchor join those of the anchors before.
+use Rattle.spiral.specs.Spiral.{offset_count}
 use Rattle.std.proofs.Common.{◌≡◌, ℕ, zero, suc, ◌+◌, ◌-◌, ◌*◌, ◌<◌, ◌≤◌, true, ◌&&◌, ltb, eqb, List, [], ◌∷◌, ◌++◌, length, get_or, Contains, refl, sym, ap, ◌∙◌, subst, arith, ◌⊎◌, inl, inr}
 use Rattle.std.proofs.lemmas.Bool.{cases_lt, or_cases, or_left, or_right, and_parts, and_from, ltb-true, lt-ltb, eqb-true, eq-eqb}
 use Rattle.std.proofs.lemmas.List.{append-nil, append_assoc, length-map, get_or-map}
@@ -147,7 +148,7 @@ before_not t m u a e f h =
 module _ (machine : List Row) (pos : BoardState) (friend : Colour) (good : IsAutomaton machine) where
   -- the hits of one anchor join those of the anchors before
   pub sweep_more : (t m : ℕ) (old new : List Hit) → t < 8 → m < pos.size * pos.size → AreHitsWhere machine pos friend (comes_before t m) old
-      → new ≡ old ++ hits_at t m (numbers_along machine 0 (word_at pos friend t m 1369)) → AreHitsWhere machine pos friend (comes_before t (m + 1)) new
+      → new ≡ old ++ hits_at t m (numbers_along machine 0 (word_at pos friend t m offset_count)) → AreHitsWhere machine pos friend (comes_before t (m + 1)) new
   sweep_more t m old new low on before add = subst (AreHitsWhere machine pos friend (comes_before t (m + 1))) (sym add) (record {
     sound = λ hit there. elim (Contains-append_cases old here hit there) [
       | inl in_old ↦ let was = before.sound hit in_old in (was.0, before_less t m hit.transform hit.anchor was.1)
@@ -157,14 +158,14 @@ module _ (machine : List Row) (pos : BoardState) (friend : Colour) (good : IsAut
       | inl earlier ↦ Contains-append_left old here hit (before.complete hit is_hit earlier)
       | inr now ↦ Contains-append_right old here hit (new_complete hit is_hit now.0 now.1)
     ];
-    once = AreDistinct-append old here before.once (hits_at-distinct t m numbers (along_distinct machine good [] (word_at pos friend t m 1369)))
+    once = AreDistinct-append old here before.once (hits_at-distinct t m numbers (along_distinct machine good [] (word_at pos friend t m offset_count)))
         (λ hit in_old in_new.
         let is = (hits_at-contains t m numbers hit in_new).0 in
         before_not t m hit.transform hit.anchor (ap (λ h. h.transform) is) (ap (λ h. h.anchor) is) (before.sound hit in_old).1);
   })
     where
       numbers : List ℕ
-      numbers = numbers_along machine 0 (word_at pos friend t m 1369)
+      numbers = numbers_along machine 0 (word_at pos friend t m offset_count)
 
       here : List Hit
       here = hits_at t m numbers
@@ -172,8 +173,8 @@ module _ (machine : List Row) (pos : BoardState) (friend : Colour) (good : IsAut
       new_sound : (hit : Hit) → Contains here hit → IsHit machine pos friend hit × (comes_before t (m + 1) hit.transform hit.anchor ≡ true)
       new_sound hit in_new =
           let parts = hits_at-contains t m numbers hit in_new in
-          let found = along_sound machine [] (word_at pos friend t m 1369) hit.pattern parts.1 in
-          let front = front_word (seen_at pos friend t m) 0 1369 found.front found.rest found.parts in
+          let found = along_sound machine [] (word_at pos friend t m offset_count) hit.pattern parts.1 in
+          let front = front_word (seen_at pos friend t m) 0 offset_count found.front found.rest found.parts in
           let is_hit : IsHit machine pos friend (hit_of t m hit.pattern) = record {
             transform = low;
             anchor = on;
@@ -188,10 +189,10 @@ module _ (machine : List Row) (pos : BoardState) (friend : Colour) (good : IsAut
           let same : hit ≡ hit_of t m hit.pattern = λ i. record { pattern = hit.pattern; transform = e i; anchor = f i } in
           let is : IsHit machine pos friend (hit_of t m hit.pattern) = subst (IsHit machine pos friend) same is_hit in
           let seen : ℕ → Seen = seen_at pos friend t m in
-          let whole : is.letters + (1369 - is.letters) ≡ 1369 = omega (arith, is.spiral) in
-          let accepted_along : Contains (numbers_along machine 0 (word_from seen 0 is.letters ++ word_from seen (0 + is.letters) (1369 - is.letters))) hit.pattern =
-          along_complete machine [] (word_from seen 0 is.letters) (word_from seen (0 + is.letters) (1369 - is.letters)) hit.pattern is.accepts in
-          let joined = word_split seen 0 is.letters (1369 - is.letters) in
+          let whole : is.letters + (offset_count - is.letters) ≡ offset_count = omega (arith, is.spiral) in
+          let accepted_along : Contains (numbers_along machine 0 (word_from seen 0 is.letters ++ word_from seen (0 + is.letters) (offset_count - is.letters))) hit.pattern =
+          along_complete machine [] (word_from seen 0 is.letters) (word_from seen (0 + is.letters) (offset_count - is.letters)) hit.pattern is.accepts in
+          let joined = word_split seen 0 is.letters (offset_count - is.letters) in
           let at : Contains numbers hit.pattern =
           subst (λ w. Contains (numbers_along machine 0 w) hit.pattern) (sym joined ∙ ap (word_from seen 0) whole) accepted_along in
           subst (Contains here) (sym same) (hits_at-from t m numbers hit.pattern at)

@@ -1,4 +1,5 @@
 -- Where an automaton accepts the words of a position.
+use Rattle.spiral.specs.Spiral.{offset_count}
 use Rattle.std.specs.Prelude.{◌≡◌, Bool, true, ◌||◌, ◌&&◌, ◌==◌, nat_lt, ℕ, ◌*◌, ◌<◌, ◌≤◌, List, map, Contains}
 use Rattle.go_rules.specs.declared.Colour.{Colour}
 use Rattle.go_rules.specs.Position.{BoardState}
@@ -15,7 +16,7 @@ pub record IsHit (machine : List Row) (pos : BoardState) (friend : Colour) (hit 
   pub transform : hit.transform < 8
   pub anchor : hit.anchor < pos.size * pos.size
   pub letters : ℕ
-  pub spiral : letters ≤ 1369
+  pub spiral : letters ≤ offset_count
   pub accepts : Contains (accepted machine (word_at pos friend hit.transform hit.anchor letters)) hit.pattern
 
 -- the list has exactly the hits, each once

@@ -7,6 +7,7 @@ ghost use Rattle.dfa_core.specs.Automata.{Row, accepted, numbers_along};
 ghost use Rattle.dfa_match.specs.Sights.{seen_of, seen_at, word_at};
 ghost use Rattle.go_rules.specs.declared.Colour.{Colour as ColourSeen};
 ghost use Rattle.pat_types.specs.declared.pattern.Pattern.{Pattern};
+ghost use Rattle.spiral.specs.Spiral.{offset_count};
 ghost use Rattle.dfa_core.specs.Fits.{pattern_length};
 ghost use Rattle.dfa_core.specs.States.{is_matched, matched_from};
 ghost use Rattle.dfa_match.specs.Fitting.{FitsAt, IsFit};
@@ -15,11 +16,8 @@ ghost use Rattle.dfa_core.specs.Words.{Word};
 ghost use Rattle.dfa_match.specs.Hits.{hits_at, IsHit, AreHits, AreHitsWhere, comes_before};
 
 use dfa_core::{Automaton, Seen};
-use go_base::size::Point;
-use go_base::transform::Transform;
-use go_base::{Cell, Colour};
-use go_base::Look;
-use spiral::place;
+use go_base::{Cell, Colour, Look, Point, Transform};
+use spiral::{OFFSETS, place};
 use std::alloc::AllocError;
 
 /// A pattern that an automaton accepts from an anchor under a transformation.
@@ -30,7 +28,7 @@ pub struct Hit {
     pub anchor: Point,
 }
 
-// What a cell is for a friend of this colour.
+/// What a cell is for a friend of this colour.
 fn seen(friend: Colour, cell: Cell) -> Seen
     ensures { result ≡ seen_of friend cell }
 {
@@ -48,10 +46,10 @@ fn seen(friend: Colour, cell: Cell) -> Seen
     }
 }
 
-// What is seen at an index of the spiral.
+/// What is seen at an index of the spiral.
 #[tactic(auto, unfolding(crate::specs::Sights::seen_at))]
 fn letter<L: Look>(look: &mut L, friend: Colour, t: Transform, anchor: Point, index: u16) -> Seen
-    requires index { index < 1369 }
+    requires index { index < offset_count }
     requires anchor { anchor < (L.shows look.old).size * (L.shows look.old).size }
     ensures value { result ≡ seen_at (L.shows look.old) friend t anchor index }
     ensures same { L.shows look.new ≡ L.shows look.old }
@@ -62,7 +60,7 @@ fn letter<L: Look>(look: &mut L, friend: Colour, t: Transform, anchor: Point, in
     }
 }
 
-// Adds the hits of these patterns.
+/// Adds the hits of these patterns.
 fn add(out: &mut Vec<Hit>, numbers: &[u16], t: Transform, anchor: Point) -> Result<(), AllocError>
     ensures { OnOk result (out.new.items ≡ out.old.items ++ hits_at t anchor numbers.now) }
 {
@@ -76,7 +74,7 @@ fn add(out: &mut Vec<Hit>, numbers: &[u16], t: Transform, anchor: Point) -> Resu
     Ok(())
 }
 
-// Runs the automaton from one anchor under one transformation.
+/// Runs the automaton from one anchor under one transformation.
 fn walk<L: Look>(
     machine: &Automaton,
     look: &mut L,
@@ -86,12 +84,12 @@ fn walk<L: Look>(
     out: &mut Vec<Hit>,
 ) -> Result<(), AllocError>
     requires { anchor < (L.shows look.old).size * (L.shows look.old).size }
-    ensures ok { OnOk result (out.new.items ≡ out.old.items ++ hits_at t anchor (numbers_along machine.now 0 (word_at (L.shows look.old) friend t anchor 1369))) }
+    ensures ok { OnOk result (out.new.items ≡ out.old.items ++ hits_at t anchor (numbers_along machine.now 0 (word_at (L.shows look.old) friend t anchor offset_count))) }
     ensures same { L.shows look.new ≡ L.shows look.old }
 {
     let _ = machine.rows();
     let mut row = 0;
-    'letters: for index in 0..1369 {
+    'letters: for index in 0..OFFSETS {
         add(out, machine.accepts(row), t, anchor)?;
         if machine.is_dead(row) {
             return Ok(());
@@ -101,7 +99,7 @@ fn walk<L: Look>(
     add(out, machine.accepts(row), t, anchor)
 }
 
-// Runs the automaton from each anchor under one transformation.
+/// Runs the automaton from each anchor under one transformation.
 fn sweep<L: Look>(
     machine: &Automaton,
     look: &mut L,
@@ -146,13 +144,13 @@ pub fn scan<L: Look>(
     Ok(out)
 }
 
-// A word that is read from an anchor matches a pattern exactly where the pattern fits with its anchor's cell there.
+/// A word that is read from an anchor matches a pattern exactly where the pattern fits with its anchor's cell there.
 pub fn matched_words_are_fits()
     ensures { (p : Pattern) (pos : BoardState) (friend : ColourSeen) (t m : ℕ) →
         (is_matched (word_at pos friend t m (pattern_length p)) p ≡ true) ↔ FitsAt p pos friend t m }
 {}
 
-// The hits of the automaton of a list of patterns are where these patterns fit.
+/// The hits of the automaton of a list of patterns are where these patterns fit.
 pub fn hits_of_patterns_are_fits()
     ensures { (patterns : List Pattern) (machine : List Row) (pos : BoardState) (friend : ColourSeen) (hit : HitSeen) →
         ((w : Word) → accepted machine w ≡ matched_from 0 patterns w) → IsHit machine pos friend hit ↔ IsFit patterns pos friend hit }

@@ -1,6 +1,14 @@
 -- The spiral: rings of offsets around (0, 0), in the order in which a diagram and a board are read.
 use Rattle.std.specs.Prelude.{ℕ, zero, suc, ◌+◌, ◌-◌, ◌*◌, ◌/◌, ◌%◌, ◌==◌, ℤ, pos, negsuc, ◌+ℤ◌, ◌-ℤ◌, neg_ℤ, Option, Some, None, nat_lt, nat_le, if◌then◌else◌}
-use Rattle.go_rules.specs.Transform.{Offset, transformed}
+use Rattle.go_rules.specs.Transform.{Offset, transformed, largest_offset}
+
+-- how many rows and columns the square of all offsets has
+abbrev pub square_side : ℕ
+square_side = 2 * largest_offset + 1
+
+-- how many offsets there are
+abbrev pub offset_count : ℕ
+offset_count = square_side * square_side
 
 -- the index of the first offset of ring k, which is (2k - 1) squared
 abbrev pub ring_start : ℕ → ℕ
@@ -22,7 +30,7 @@ ring_up_to (suc k) i = if nat_le (ring_start (suc k)) i then suc k else ring_up_
 
 -- the offset with the index i
 unfoldable pub offset_at : ℕ → Offset
-offset_at i = ring_place (ring_up_to 18 i) (i - ring_start (ring_up_to 18 i))
+offset_at i = ring_place (ring_up_to largest_offset i) (i - ring_start (ring_up_to largest_offset i))
 
 -- the row or column a of a board of size s, where it is one
 abbrev pub line_of : ℕ → ℤ → Option ℕ

@@ -5,17 +5,21 @@
 #![tactic(auto)]
 
 ghost use Rattle.std.specs.Prelude.{◌≡◌, ℕ, ◌+◌, ◌*◌, ◌<◌, ◌≤◌, pos, ◌+ℤ◌, ◌-ℤ◌, ◌-◌, IfSome};
-ghost use Rattle.go_rules.specs.Transform.{Offset, IsNear};
-ghost use Rattle.spiral.specs.Spiral.{ring_start as start_of, ring_place as offset_in, ring_up_to, offset_at, line_of, place_at, place_in};
+ghost use Rattle.go_rules.specs.Board.{largest_size};
+ghost use Rattle.go_rules.specs.Transform.{Offset, IsNear, largest_offset};
+ghost use Rattle.spiral.specs.Spiral.{offset_count, square_side, ring_start as start_of, ring_place as offset_in, ring_up_to, offset_at, line_of, place_at, place_in};
 
-use go_base::size::{Point, Size};
-use go_base::transform::Transform;
+use go_base::size::MAX_OFFSET;
+use go_base::{Point, Size, Transform};
 
-/// The number of offsets with both parts from -18 to 18.
-pub const OFFSETS: u16 = 1369;
+/// The number of the outermost ring.
+const LAST_RING: u16 = MAX_OFFSET as u16;
+
+/// How many offsets there are: those with both parts from -18 to 18.
+pub const OFFSETS: u16 = (2 * LAST_RING + 1) * (2 * LAST_RING + 1);
 
 fn ring_start(k: u16) -> u16
-    requires { k < 19 }
+    requires { k < largest_size }
     ensures { result ≡ start_of k }
 {
     if k == 0 {
@@ -24,24 +28,24 @@ fn ring_start(k: u16) -> u16
     (2 * (k - 1) + 1) * (2 * (k - 1) + 1)
 }
 
-// The ring that has an index.
+/// The ring that has an index.
 fn ring_with(index: u16) -> u16
-    requires { index < OFFSETS }
-    ensures value { result ≡ ring_up_to 18 index }
-    ensures bound { result < 19 }
+    requires { index < offset_count }
+    ensures value { result ≡ ring_up_to largest_offset index }
+    ensures bound { result < largest_size }
     ensures begun { start_of result ≤ index }
     ensures open { index < start_of result + 8 * result + 1 }
 {
-    let mut k = 18;
+    let mut k = LAST_RING;
     while ring_start(k) > index {
         k -= 1;
     }
     k
 }
 
-// The offset at a place of a ring.
+/// The offset at a place of a ring.
 fn in_ring(k: u16, j: u16) -> (i8, i8)
-    requires ring { k < 19 }
+    requires ring { k < largest_size }
     requires place { j < 8 * k + 1 }
     ensures value { result ≡ offset_in k j }
     ensures near { IsNear result }
@@ -61,7 +65,7 @@ fn in_ring(k: u16, j: u16) -> (i8, i8)
 
 /// The offset with an index.
 pub fn offset(index: u16) -> (i8, i8)
-    requires { index < OFFSETS }
+    requires { index < offset_count }
     ensures value { result ≡ offset_at index }
     ensures near { IsNear result }
 {
@@ -69,9 +73,9 @@ pub fn offset(index: u16) -> (i8, i8)
     in_ring(k, index - ring_start(k))
 }
 
-// The place in ring k of the offset a rows below and b columns right of the ring's first.
+/// The place in ring k of the offset a rows below and b columns right of the ring's first.
 fn place_in_ring(k: u16, a: u16, b: u16) -> u16
-    requires ring { k < 19 }
+    requires ring { k < largest_size }
     requires row { a ≤ 2 * k }
     requires column { b ≤ 2 * k }
     ensures value { result ≡ place_in k a b }
@@ -88,35 +92,35 @@ fn place_in_ring(k: u16, a: u16, b: u16) -> u16
     }
 }
 
-// How far a row or a column is from the middle one.
+/// How far a row or a column is from the middle one.
 fn from_middle(line: u16) -> u16
-    requires { line < 37 }
-    ensures { result ≡ (line - 18) + (18 - line) }
+    requires { line < square_side }
+    ensures { result ≡ (line - largest_offset) + (largest_offset - line) }
 {
-    if line < 18 { 18 - line } else { line - 18 }
+    if line < LAST_RING { LAST_RING - line } else { line - LAST_RING }
 }
 
-// The index of the offset in a row and a column of the square of all offsets.
+/// The index of the offset in a row and a column of the square of all offsets.
 fn index_in_square(row: u16, column: u16) -> u16
-    requires row { row < 37 }
-    requires column { column < 37 }
-    ensures value { offset_at result ≡ (pos row -ℤ pos 18, pos column -ℤ pos 18) }
-    ensures bound { result < OFFSETS }
+    requires row { row < square_side }
+    requires column { column < square_side }
+    ensures value { offset_at result ≡ (pos row -ℤ pos largest_offset, pos column -ℤ pos largest_offset) }
+    ensures bound { result < offset_count }
 {
     let k = from_middle(row).max(from_middle(column));
-    ring_start(k) + place_in_ring(k, row + k - 18, column + k - 18)
+    ring_start(k) + place_in_ring(k, row + k - LAST_RING, column + k - LAST_RING)
 }
 
 /// The index of an offset.
 pub fn index(dr: i8, dc: i8) -> u16
     requires { IsNear (dr, dc) }
     ensures value { offset_at result ≡ (dr, dc) }
-    ensures bound { result < OFFSETS }
+    ensures bound { result < offset_count }
 {
-    index_in_square((dr as i16 + 18) as u16, (dc as i16 + 18) as u16)
+    index_in_square((dr as i16 + LAST_RING as i16) as u16, (dc as i16 + LAST_RING as i16) as u16)
 }
 
-// Moves a row or a column, and answers it where it lies on the board.
+/// Moves a row or a column, and answers it where it lies on the board.
 fn moved(from: u8, by: i8, size: Size) -> Option<u8>
     requires { from < size }
     ensures value { result ≡ line_of size (pos from +ℤ by) }
@@ -132,7 +136,7 @@ fn moved(from: u8, by: i8, size: Size) -> Option<u8>
 
 /// The point that the offset with an index, moved by a transformation, leads to from the anchor.
 pub fn place(index: u16, t: Transform, anchor: Point, size: Size) -> Option<Point>
-    requires index { index < OFFSETS }
+    requires index { index < offset_count }
     requires on_board { anchor < size * size }
     ensures value { result ≡ place_at size t anchor (offset_at index) }
     ensures on_board { IfSome result (λ p. p < size * size) }
@@ -145,8 +149,8 @@ pub fn place(index: u16, t: Transform, anchor: Point, size: Size) -> Option<Poin
     Some(row as u16 * side + column as u16)
 }
 
-// No two indices have one offset, and each index below 1,369 has one with both parts from -18 to 18.
+/// No two indices have one offset, and each index below 1,369 has one with both parts from -18 to 18.
 pub fn offsets_differ()
-    ensures differ { (i j : ℕ) → i < 1369 → j < 1369 → offset_at i ≡ offset_at j → i ≡ j }
-    ensures near { (i : ℕ) → i < 1369 → IsNear (offset_at i) }
+    ensures differ { (i j : ℕ) → i < offset_count → j < offset_count → offset_at i ≡ offset_at j → i ≡ j }
+    ensures near { (i : ℕ) → i < offset_count → IsNear (offset_at i) }
 {}
