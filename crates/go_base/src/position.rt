@@ -1,10 +1,10 @@
-//! Positions of the game, and the plays and passes that lead from one to the next.
+//! Positions and plays: the public calls over the shared flood and play.
 
 ghost use Rattle.std.specs.Prelude.{◌≡◌, ℕ, ◌*◌, ◌<◌, replicate, None, IfOk};
 ghost use Rattle.go_rules.specs.Board.{largest_points};
 ghost use Rattle.go_rules.specs.Position.{BoardState, IsPosition, is_banned};
 ghost use Rattle.go_rules.specs.Play.{pass as passed, play as played, play_free as played_free};
-ghost use Rattle.go_rules.specs.Strings.{cell_at, string_at, liberties as liberties_at};
+ghost use Rattle.go_rules.specs.Strings.{cell_at, string_at, liberty_points, liberties as liberties_at};
 ghost use Rattle.go_base.specs.Positions.{Holds};
 
 use crate::capture::play_on;
@@ -15,9 +15,8 @@ use crate::view::Flat;
 use go_rules::{Cell, Colour, Illegal};
 use std::marker::Model;
 
-/// A position of the game: what stands on each point, and the ko ban. Every string has a liberty, and the ban's point is on the
-/// board and empty. It is small and may be copied; no call takes memory.
-#[derive(Clone, Copy, Debug, PartialEq, Eq)]
+/// A position of the game: each string has a liberty, and the ban's point is empty.
+#[derive(Clone, Copy)]
 pub struct Position {
     size: Size,
     ban: Option<(Point, Colour)>,
@@ -48,7 +47,7 @@ fn empty_cells() -> [Cell; MAX_POINTS]
 }
 
 impl Position {
-    /// The empty board, without a ban.
+    /// The empty board.
     pub fn new(size: Size) -> Position
         ensures { result ≡ record { size = size; cells = replicate (size * size) Cell.Empty; ban = None } }
     {
@@ -60,7 +59,6 @@ impl Position {
         }
     }
 
-    /// The size of the board.
     pub fn size(&self) -> Size
         ensures value { result ≡ self.now.size }
         ensures position { IsPosition self.now }
@@ -68,7 +66,6 @@ impl Position {
         self.size
     }
 
-    /// What stands at p.
     pub fn cell(&self, p: Point) -> Cell
         requires { p < self.now.size * self.now.size }
         ensures { result ≡ cell_at self.now.cells p }
@@ -76,20 +73,20 @@ impl Position {
         self.cells[p as usize]
     }
 
-    /// The play that the ko ban forbids: a point, and the colour that may not play there.
     pub fn ban(&self) -> Option<(Point, Colour)>
         ensures { result ≡ self.now.ban }
     {
         self.ban
     }
 
-    /// The position after a pass of either colour: the same, without the ban.
     pub fn pass(&self) -> Position
         ensures { result ≡ passed self.now }
     {
-        let mut next = *self;
-        next.ban = None;
-        next
+        Position {
+            size: self.size,
+            ban: None,
+            cells: self.cells,
+        }
     }
 
     /// A copy of the board.
@@ -103,7 +100,7 @@ impl Position {
         }
     }
 
-    /// The stones of the string of p, none where p is empty.
+    /// The string of p, with no point where p is empty.
     pub fn string(&self, p: Point) -> PointSet
         requires { p < self.now.size * self.now.size }
         ensures { result ≡ string_at self.now.size self.now.cells p }
@@ -112,16 +109,24 @@ impl Position {
         string_of(&mut board, p)
     }
 
+    /// The liberties of the string of p, with no point where p is empty.
+    pub fn liberty_points(&self, p: Point) -> PointSet
+        requires { p < self.now.size * self.now.size }
+        ensures { result ≡ liberty_points self.now.size self.now.cells p }
+    {
+        let mut board = self.board();
+        liberties_of(&mut board, p)
+    }
+
     /// How many liberties the string of p has, 0 where p is empty.
     pub fn liberties(&self, p: Point) -> u16
         requires { p < self.now.size * self.now.size }
         ensures { result ≡ liberties_at self.now.size self.now.cells p }
     {
-        let mut board = self.board();
-        liberties_of(&mut board, p).count()
+        self.liberty_points(p).count()
     }
 
-    /// Whether the ko ban forbids c to play at p.
+    /// Whether the ban is on this play.
     pub fn bans(&self, c: Colour, p: Point) -> bool
         ensures { result ≡ is_banned self.now.ban c p }
     {
@@ -131,7 +136,7 @@ impl Position {
         }
     }
 
-    /// The position after c plays at p, with the ban dropped first: Occupied or Suicide, as for `play`, and never Ko.
+    /// The play with no regard to the ban.
     pub fn play_free(&self, c: Colour, p: Point) -> Result<Position, Illegal>
         requires { p < self.now.size * self.now.size }
         ensures value { result ≡ played_free self.now c p }
@@ -148,8 +153,7 @@ impl Position {
         }
     }
 
-    /// The position after c plays at p, or the first reason against it: Occupied where a stone stands at p, Ko where the ban forbids
-    /// the play, Suicide where the stone's string would have no liberty after the captures.
+    /// The play, or the first reason that forbids it.
     pub fn play(&self, c: Colour, p: Point) -> Result<Position, Illegal>
         requires { p < self.now.size * self.now.size }
         ensures value { result ≡ played self.now c p }
