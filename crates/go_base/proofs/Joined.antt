@@ -1,5 +1,5 @@
 -- One set added to another point by point.
-use Rattle.std.proofs.Common.{◌≡◌, ℕ, ◌+◌, ◌≤◌, ◌||◌, ◌&&◌, Bool, true, false, ltb, refl, sym, arith, inl, inr, ◌⊎◌, ◌∙◌}
+use Rattle.std.proofs.Common.{◌≡◌, ℕ, ◌+◌, ◌<◌, ◌≤◌, ◌||◌, ◌&&◌, Bool, true, false, ltb, refl, sym, arith, inl, inr, ◌⊎◌, ◌∙◌}
 use Rattle.std.proofs.lemmas.Bool.{cases_eq, cases_lt, eq-eqb, ne_eqb, lt-ltb, le-ltb}
 use Rattle.std.specs.Ordering.{nat_cmp}
 use Rattle.std.specs.Cmp.{nat_cmp_total}
@@ -26,17 +26,11 @@ joined_step old more n r = elim (cases_eq r n) [
   ]
 ]
 
-pub joined_skip : (old more new : sets.FinSet nat_cmp) (n : ℕ) → JoinedBelow old more n new → sets.contains more n ≡ false → JoinedBelow old more (n + 1) new
-joined_skip old more new n h miss r = h r ∙ elim (joined_step old more n r) [
-  | inl e ↦ rw (e, le-ltb n n (omega arith), lt-ltb n (n + 1) (omega arith), miss) refl
-  | inr same ↦ rw same refl
-]
-
 or-true : (a : Bool) → (a || true) ≡ true
 or-true true = refl
 or-true false = refl
 
-pub joined_add : (old more new : sets.FinSet nat_cmp) (n : ℕ) → JoinedBelow old more n new → sets.contains more n ≡ true → JoinedBelow old more (n + 1) (sets.insert new n)
+joined_add : (old more new : sets.FinSet nat_cmp) (n : ℕ) → JoinedBelow old more n new → sets.contains more n ≡ true → JoinedBelow old more (n + 1) (sets.insert new n)
 joined_add old more new n h hit r = contains-insert_nat new n r ∙ elim (joined_step old more n r) [
   | inl e ↦ rw (e, eq-eqb n n refl, lt-ltb n (n + 1) (omega arith), hit) (sym (or-true _))
   | inr same ↦ elim (cases_eq r n) [
@@ -44,6 +38,21 @@ joined_add old more new n h hit r = contains-insert_nat new n r ∙ elim (joined
     | inr ne ↦ rw (ne_eqb r n ne, same) (h r)
   ]
 ]
+
+-- no member stands between the next point and this one
+joined_jump : (old more new : sets.FinSet nat_cmp) (n m : ℕ) → n ≤ m → JoinedBelow old more n new → ((k : ℕ) → n ≤ k → k < m → sets.contains more k ≡ false) → JoinedBelow old more m new
+joined_jump old more new n m l h none r = h r ∙ elim (cases_lt r n) [
+  | inl below ↦ rw (lt-ltb r n below, lt-ltb r m (omega arith)) refl
+  | inr above ↦ elim (cases_lt r m) [
+    | inl between ↦ rw (le-ltb r n above, lt-ltb r m between, none r above between) refl
+    | inr past ↦ rw (le-ltb r n above, le-ltb r m past) refl
+  ]
+]
+
+-- the next member came
+pub joined_next : (old more new : sets.FinSet nat_cmp) (n m : ℕ) → n ≤ m → JoinedBelow old more n new → ((k : ℕ) → n ≤ k → k < m → sets.contains more k ≡ false) → sets.contains more m ≡ true
+    → JoinedBelow old more (m + 1) (sets.insert new m)
+joined_next old more new n m l h none hit = joined_add old more new m (joined_jump old more new n m l h none) hit
 
 pub joined_all : (old more new : sets.FinSet nat_cmp) (n : ℕ) → JoinedBelow old more n new → ((r : ℕ) → n ≤ r → sets.contains more r ≡ false) → new ≡ sets.union old more
 joined_all old more new n h above = same_nat_set _ _ (λ r. h r ∙ elim (cases_lt r n) [

@@ -1,7 +1,9 @@
 pub mod Marks
+pub mod Lowest
 pub mod Beside
 pub mod Trailed
 pub mod Flooded
+pub mod Visiting
 pub mod Liberties
 pub mod Joined
 pub mod Looking

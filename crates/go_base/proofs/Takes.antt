@@ -1,6 +1,6 @@
 -- The strings that a play takes, gathered side by side.
-use Rattle.std.proofs.Common.{◌≡◌, ℕ, ◌+◌, ◌*◌, ◌<◌, ◌≤◌, ◌&&◌, Bool, true, false, eqb, Some, List, refl, sym, ap, subst, arith, inl, inr, ◌∙◌}
-use Rattle.std.proofs.lemmas.Bool.{cases_eq, or_cases, or_left, or_right, both_ways, and_parts, and_from, lt-ltb, ltb-true}
+use Rattle.std.proofs.Common.{◌≡◌, ℕ, ◌+◌, ◌*◌, ◌<◌, ◌≤◌, ◌&&◌, Bool, true, false, cond, eqb, Some, List, refl, sym, ap, subst, arith, inl, inr, ◌∙◌}
+use Rattle.std.proofs.lemmas.Bool.{cases_Bool, cases_eq, or_cases, or_left, or_right, both_ways, and_parts, and_from, lt-ltb, ltb-true}
 use Rattle.std.specs.Ordering.{nat_cmp}
 use Rattle.std.specs.Cmp.{nat_cmp_total}
 use Rattle.std.specs.FinSet as sets
@@ -30,7 +30,7 @@ Takes-none s put c p taken e = record {
   all = λ k l. absurd (omega arith);
 }
 
-pub Takes-skip : (s : ℕ) (put : List Cell) (c : Colour) (p n : ℕ) (taken : sets.FinSet nat_cmp) → Takes s put c p n taken
+Takes-skip : (s : ℕ) (put : List Cell) (c : Colour) (p n : ℕ) (taken : sets.FinSet nat_cmp) → Takes s put c p n taken
     → ((r : ℕ) → neighbour_at s p n ≡ Some r → is_taken s put c r ≡ true → ⊥) → Takes s put c p (n + 1) taken
 Takes-skip s put c p n taken h none = record {
   only = h.only;
@@ -49,7 +49,7 @@ string_path : (s : ℕ) (cells : List Cell) (r q : ℕ) → sets.contains (strin
 unfolding string_at
 string_path s cells r q h = (IsInString-from_test s cells r q (and_parts _ _ (sym (contains-set_below (s * s) (is_in_string s cells r) q) ∙ h)).1).path
 
-pub Takes-add : (s : ℕ) (put : List Cell) (c : Colour) (p n r : ℕ) (taken new : sets.FinSet nat_cmp) → Takes s put c p n taken → r < s * s
+Takes-add : (s : ℕ) (put : List Cell) (c : Colour) (p n r : ℕ) (taken new : sets.FinSet nat_cmp) → Takes s put c p n taken → r < s * s
     → neighbour_at s p n ≡ Some r → is_taken s put c r ≡ true → new ≡ sets.union taken (string_at s put r) → Takes s put c p (n + 1) new
 Takes-add s put c p n r taken new h on e t is =
     let has = λ (q : ℕ). ap (λ x. sets.contains x q) is ∙ sets.contains-union nat_cmp_total taken (string_at s put r) q in
@@ -65,6 +65,20 @@ Takes-add s put c p n r taken new h on e t is =
         | inr ne ↦ or_left _ _ (h.all k (omega arith) r' e' t' q path)
       ];
     }
+
+-- the next side gave a point, whose string came where it is taken
+pub Takes-next : (s : ℕ) (put : List Cell) (c : Colour) (p n r : ℕ) (taken new : sets.FinSet nat_cmp) → Takes s put c p n taken → r < s * s → neighbour_at s p n ≡ Some r
+    → new ≡ cond (is_taken s put c r) (sets.union taken (string_at s put r)) taken → Takes s put c p (n + 1) new
+Takes-next s put c p n r taken new h on e is = elim (cases_Bool (is_taken s put c r)) [
+  | inl t ↦ Takes-add s put c p n r taken new h on e t (is ∙ ap (λ b. cond b (sets.union taken (string_at s put r)) taken) t)
+  | inr f ↦ subst (Takes s put c p (n + 1)) (sym (is ∙ ap (λ b. cond b (sets.union taken (string_at s put r)) taken) f)) (Takes-skip s put c p n taken h (λ x e' t.
+      let same : r ≡ x = (let k : Some r ≡ Some x = sym e ∙ e' in cc) in
+      both_ways (is_taken s put c x) (ap (is_taken s put c) (sym same) ∙ f) t))
+]
+
+-- the next side gave nothing
+pub Takes-nothing : (s : ℕ) (put : List Cell) (c : Colour) (p n : ℕ) (taken : sets.FinSet nat_cmp) → Takes s put c p n taken → ((r : ℕ) → neighbour_at s p n ≡ Some r → ⊥) → Takes s put c p (n + 1) taken
+Takes-nothing s put c p n taken h none = Takes-skip s put c p n taken h (λ r e t. none r e)
 
 same_tests : (a b : Bool) → (a ≡ true → b ≡ true) → (b ≡ true → a ≡ true) → a ≡ b
 same_tests true true f g = refl

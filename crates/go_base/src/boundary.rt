@@ -1,61 +1,41 @@
 //! The enemy strings next to a string, on a board whose cells are told one by one.
 
-ghost use Rattle.std.specs.Prelude.{◌≡◌, ℕ, ◌*◌, ◌<◌, ◌&&◌};
-ghost use Rattle.std.specs.FinSet as set;
-ghost use Rattle.go_rules.specs.Below.{any_below};
-ghost use Rattle.go_rules.specs.Board.{are_neighbours};
-ghost use Rattle.go_rules.specs.Strings.{cell_at};
-ghost use Rattle.go_rules.specs.Boundary.{is_enemy, boundary_points};
+ghost use Rattle.std.specs.Prelude.{◌≡◌, ℕ, ◌*◌, ◌<◌};
+ghost use Rattle.go_rules.specs.Board.{largest_points};
+ghost use Rattle.go_rules.specs.Boundary.{boundary_points};
 ghost use Rattle.go_rules.specs.Neighbourhood.{neighbourhood_of};
 ghost use Rattle.go_rules.specs.Position.{BoardState};
-ghost use Rattle.go_rules.proofs.Boundary.{AddsLeast};
+ghost use Rattle.go_rules.proofs.Boundary.{AddsLeast, KnowsLeast};
 ghost use Rattle.go_base.specs.Views.{Looks, anywhere, alone};
 
-use crate::flood::{string_of, touches};
+use crate::flood::{flood, string_of};
 use crate::points::PointSet;
 use crate::size::Point;
 use crate::view::View;
-use go_rules::Cell;
 
-fn are_enemies(a: Cell, b: Cell) -> bool
-    ensures { result ≡ is_enemy a b }
-{
-    match (a, b) {
-        (Cell::Black, Cell::White) => true,
-        (Cell::White, Cell::Black) => true,
-        _ => false,
-    }
-}
-
-/// Whether q is a neighbour of a point of the set and holds an enemy of the stone.
-fn is_enemy_beside<V: View>(board: &mut V, found: &PointSet, own: Cell, q: Point) -> bool
-    requires { q < V.rows board.old * V.rows board.old }
-    ensures looks { Looks V.cells V.asks board.old board.new
-        (λ r. alone q r && any_below (V.rows board.old * V.rows board.old) (λ x. set.contains found.now x && are_neighbours (V.rows board.old) x q)) }
-    ensures over { (pos : BoardState) → V.agrees board.new pos
-        → result ≡ (any_below (V.rows board.old * V.rows board.old) (λ x. set.contains found.now x && are_neighbours (V.rows board.old) x q) && is_enemy own (cell_at (V.cells board.old pos) q)) }
-{
-    if !touches(board.size(), found, q) {
-        return false;
-    }
-    are_enemies(own, board.at(q))
-}
-
-/// Adds the least point of the string of q.
-fn add_least<V: View>(board: &mut V, q: Point, least: &mut PointSet)
-    requires { q < V.rows board.old * V.rows board.old }
+/// Adds the least point of the string of q, unless the string was seen.
+fn add_least<V: View>(board: &mut V, q: Point, seen: &mut PointSet, least: &mut PointSet)
+    requires on_board { q < V.rows board.old * V.rows board.old }
+    requires small { q < largest_points }
     ensures looks { Looks V.cells V.asks board.old board.new anywhere }
-    ensures near { (pos : BoardState) → V.agrees board.new pos → V.asks board.old board.new (neighbourhood_of (V.rows board.old) (V.cells board.old pos) (alone q)) }
-    ensures over { (pos : BoardState) → V.agrees board.new pos
+    ensures near { (pos : BoardState) → V.agrees board.new pos
+        → V.asks board.old board.new (neighbourhood_of (V.rows board.old) (V.cells board.old pos) (alone q)) }
+    ensures adds { (pos : BoardState) → V.agrees board.new pos → KnowsLeast (V.rows board.old) (V.cells board.old pos) seen.old least.old
         → AddsLeast (V.rows board.old) (V.cells board.old pos) q least.old least.new }
+    ensures knows { (pos : BoardState) → V.agrees board.new pos → KnowsLeast (V.rows board.old) (V.cells board.old pos) seen.old least.old
+        → KnowsLeast (V.rows board.old) (V.cells board.old pos) seen.new least.new }
 {
+    if seen.has(q) {
+        return;
+    }
     let string = string_of(board, q);
+    seen.join(&string);
     if let Some(r) = string.first_from(0) {
         least.add(r);
     }
 }
 
-/// The least point of each enemy string next to the string of p.
+/// The least point of each enemy string next to the string of p, none where p is empty.
 pub fn boundary_of<V: View>(board: &mut V, p: Point) -> PointSet
     requires { p < V.rows board.old * V.rows board.old }
     ensures looks { Looks V.cells V.asks board.old board.new anywhere }
@@ -64,14 +44,13 @@ pub fn boundary_of<V: View>(board: &mut V, p: Point) -> PointSet
     ensures over { (pos : BoardState) → V.agrees board.new pos
         → result ≡ boundary_points (V.rows board.old) (V.cells board.old pos) p }
 {
-    let own = board.at(p);
-    let found = string_of(board, p);
-    let size = board.size();
+    let found = flood(board, p);
+    let mut seen = PointSet::new();
     let mut least = PointSet::new();
-    for q in 0..size.points() {
-        if is_enemy_beside(board, &found, own, q) {
-            add_least(board, q, &mut least);
-        }
+    let mut next = 0;
+    while let Some(q) = found.enemies.first_from(next) {
+        add_least(board, q, &mut seen, &mut least);
+        next = q + 1;
     }
     least
 }

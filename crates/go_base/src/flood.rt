@@ -1,13 +1,15 @@
-//! Strings and their liberties on a board whose cells are told one by one.
+//! Strings, their liberties and the enemy stones next to them, found by one flood over a board whose cells are told one by one.
 
-ghost use Rattle.std.specs.Prelude.{◌≡◌, ℕ, ◌*◌, ◌<◌, ◌&&◌, length, Bool, IsTrue, true, false};
+ghost use Rattle.std.specs.Prelude.{◌≡◌, ◌≢◌, ◌⊎◌, ℕ, ◌*◌, ◌<◌, ◌&&◌, length, Bool, IsTrue, true, false};
 ghost use Rattle.std.specs.FinSet as set;
+ghost use Rattle.go_rules.specs.declared.Cell.{Cell};
 ghost use Rattle.go_rules.specs.Below.{any_below};
-ghost use Rattle.go_rules.specs.Board.{are_neighbours};
-ghost use Rattle.go_rules.specs.Strings.{cell_at, same_cell, string_at, liberty_points};
+ghost use Rattle.go_rules.specs.Board.{largest_points, are_neighbours};
+ghost use Rattle.go_rules.specs.Strings.{cell_at, string_at, liberty_points};
 ghost use Rattle.go_rules.specs.Neighbourhood.{neighbourhood_of};
 ghost use Rattle.go_rules.specs.Position.{BoardState};
-ghost use Rattle.go_base.specs.Floods.{Spreads, AddsOnBoard};
+ghost use Rattle.go_base.specs.Trails.{has_point};
+ghost use Rattle.go_base.specs.Floods.{Visits, SpreadsOut, AddsOnBoard, enemy_points};
 ghost use Rattle.go_base.specs.Views.{Looks, anywhere, around, alone};
 
 use crate::points::PointSet;
@@ -17,45 +19,146 @@ use crate::trail::Trail;
 use crate::view::View;
 use go_rules::Cell;
 
-/// Adds the neighbours of q that hold what q holds.
-fn spread<V: View>(board: &mut V, q: Point, trail: &mut Trail)
-    requires on_board { q < V.rows board.old * V.rows board.old }
-    ensures looks { Looks V.cells V.asks board.old board.new (around (V.rows board.old) q) }
+/// What one flood finds of a string.
+#[derive(Drop)]
+pub struct Found {
+    /// Its stones.
+    pub stones: PointSet,
+    /// The empty neighbours of its stones.
+    pub liberties: PointSet,
+    /// The neighbours of its stones that hold the other colour.
+    pub enemies: PointSet,
+}
+
+/// Looks at r, a neighbour of a stone like `own`, and puts it where it belongs.
+#[inline(always)]
+fn visit<V: View>(
+    board: &mut V,
+    own: Cell,
+    r: Point,
+    trail: &mut Trail,
+    liberties: &mut PointSet,
+    enemies: &mut PointSet,
+)
+    requires on_board { r < V.rows board.old * V.rows board.old }
+    requires small { r < largest_points }
+    requires stone { own ≢ Cell.Empty }
+    ensures looks { Looks V.cells V.asks board.old board.new (alone r) }
     ensures over { (pos : BoardState) → V.agrees board.new pos
-        → Spreads (V.rows board.old) (V.cells board.old pos) q 4 trail.old trail.new }
-    ensures on_board { AddsOnBoard (V.rows board.old) trail.old trail.new }
+        → Visits own (cell_at (V.cells board.old pos) r) r trail.old trail.new liberties.old liberties.new enemies.old enemies.new }
+    ensures trail_alone { (q : ℕ) → has_point trail.new q ≡ true → (has_point trail.old q ≡ true) ⊎ (r ≡ q) }
+    ensures enemies_alone { (q : ℕ) → set.contains enemies.new q ≡ true → (set.contains enemies.old q ≡ true) ⊎ (q ≡ r) }
+{
+    let cell = board.at(r);
+    if cell == own {
+        trail.add(r);
+    } else if cell == Cell::Empty {
+        liberties.add(r);
+    } else {
+        enemies.add(r);
+    }
+}
+
+/// Visits the neighbours of q, a stone like `own`.
+#[inline(always)]
+fn spread<V: View>(
+    board: &mut V,
+    own: Cell,
+    q: Point,
+    trail: &mut Trail,
+    liberties: &mut PointSet,
+    enemies: &mut PointSet,
+)
+    requires on_board { q < V.rows board.old * V.rows board.old }
+    requires stone { own ≢ Cell.Empty }
+    ensures looks { Looks V.cells V.asks board.old board.new (around (V.rows board.old) q) }
+    ensures over { (pos : BoardState) → V.agrees board.new pos → cell_at (V.cells board.old pos) q ≡ own
+        → SpreadsOut (V.rows board.old) (V.cells board.old pos) own q 4 trail.old trail.new liberties.old liberties.new enemies.old enemies.new }
+    ensures trail_on_board { AddsOnBoard (V.rows board.old) trail.old trail.new }
+    ensures enemies_on_board { (r : ℕ) → set.contains enemies.new r ≡ true → (set.contains enemies.old r ≡ true) ⊎ (r < V.rows board.old * V.rows board.old) }
 {
     let size = board.size();
-    let own = board.at(q);
     for side in 0..4 {
         if let Some(r) = neighbour(size, q, side) {
-            if board.at(r) == own {
-                trail.add(r);
-            }
+            visit(board, own, r, trail, liberties, enemies);
         }
     }
 }
 
-/// The string of p.
+/// The string of p, its liberties and the enemy stones next to it. It visits each stone once, and nothing but the stones and
+/// their neighbours; all three sets are empty where p is.
+pub fn flood<V: View>(board: &mut V, p: Point) -> Found
+    requires { p < V.rows board.old * V.rows board.old }
+    ensures looks { Looks V.cells V.asks board.old board.new anywhere }
+    ensures stones { (pos : BoardState) → V.agrees board.new pos
+        → result.stones ≡ string_at (V.rows board.old) (V.cells board.old pos) p }
+    ensures liberties { (pos : BoardState) → V.agrees board.new pos
+        → result.liberties ≡ liberty_points (V.rows board.old) (V.cells board.old pos) p }
+    ensures enemies { (pos : BoardState) → V.agrees board.new pos
+        → result.enemies ≡ enemy_points (V.rows board.old) (V.cells board.old pos) p }
+    ensures stones_on_board { (q : ℕ) → IsTrue (set.contains result.stones q) → q < V.rows board.old * V.rows board.old }
+    ensures enemies_on_board { (q : ℕ) → IsTrue (set.contains result.enemies q) → q < V.rows board.old * V.rows board.old }
+    ensures near { (pos : BoardState) → V.agrees board.new pos
+        → V.asks board.old board.new (neighbourhood_of (V.rows board.old) (V.cells board.old pos) (alone p)) }
+{
+    let mut trail = Trail::new();
+    let mut liberties = PointSet::new();
+    let mut enemies = PointSet::new();
+    let _ = board.size().points();
+    let own = board.at(p);
+    if own == Cell::Empty {
+        return Found {
+            stones: trail.into_set(),
+            liberties,
+            enemies,
+        };
+    }
+    trail.add(p);
+    let mut next = 0;
+    while next < trail.len() {
+        let q = trail.at(next);
+        spread(board, own, q, &mut trail, &mut liberties, &mut enemies);
+        next += 1;
+    }
+    Found {
+        stones: trail.into_set(),
+        liberties,
+        enemies,
+    }
+}
+
+/// The stones of the string of p, none where p is empty.
 pub fn string_of<V: View>(board: &mut V, p: Point) -> PointSet
     requires { p < V.rows board.old * V.rows board.old }
     ensures looks { Looks V.cells V.asks board.old board.new anywhere }
     ensures over { (pos : BoardState) → V.agrees board.new pos
         → result ≡ string_at (V.rows board.old) (V.cells board.old pos) p }
-    ensures near { (pos : BoardState) → V.agrees board.new pos → V.asks board.old board.new (neighbourhood_of (V.rows board.old) (V.cells board.old pos) (alone p)) }
+    ensures near { (pos : BoardState) → V.agrees board.new pos
+        → V.asks board.old board.new (neighbourhood_of (V.rows board.old) (V.cells board.old pos) (alone p)) }
 {
-    let mut trail = Trail::new();
-    let _ = board.size().points();
-    if board.at(p) == Cell::Empty {
-        return trail.into_set();
-    }
-    trail.add(p);
-    let mut next = 0;
-    while next < trail.len() {
-        spread(board, trail.at(next), &mut trail);
-        next += 1;
-    }
-    trail.into_set()
+    let Found {
+        stones,
+        liberties: _,
+        enemies: _,
+    } = flood(board, p);
+    stones
+}
+
+/// The liberties of the string of p, none where p is empty.
+pub fn liberties_of<V: View>(board: &mut V, p: Point) -> PointSet
+    requires { p < V.rows board.old * V.rows board.old }
+    ensures looks { Looks V.cells V.asks board.old board.new anywhere }
+    ensures over { (pos : BoardState) → V.agrees board.new pos
+        → result ≡ liberty_points (V.rows board.old) (V.cells board.old pos) p }
+    ensures near { (pos : BoardState) → V.agrees board.new pos
+        → V.asks board.old board.new (neighbourhood_of (V.rows board.old) (V.cells board.old pos) (alone p)) }
+{
+    let Found {
+        stones: _,
+        liberties,
+        enemies: _,
+    } = flood(board, p);
+    liberties
 }
 
 /// Whether p is a neighbour of a point of the set.
@@ -71,37 +174,4 @@ pub fn touches(size: Size, found: &PointSet, p: Point) -> bool
         }
     }
     false
-}
-
-/// Whether p is empty and a neighbour of a point of the set.
-fn is_beside<V: View>(board: &mut V, found: &PointSet, p: Point) -> bool
-    requires { p < V.rows board.old * V.rows board.old }
-    ensures looks { Looks V.cells V.asks board.old board.new
-        (λ r. alone p r && any_below (V.rows board.old * V.rows board.old) (λ q. set.contains found.now q && are_neighbours (V.rows board.old) q p)) }
-    ensures over { (pos : BoardState) → V.agrees board.new pos
-        → result ≡ (same_cell (cell_at (V.cells board.old pos) p) Cell.Empty && any_below (V.rows board.old * V.rows board.old) (λ q. set.contains found.now q && are_neighbours (V.rows board.old) q p)) }
-{
-    if !touches(board.size(), found, p) {
-        return false;
-    }
-    board.at(p) == Cell::Empty
-}
-
-/// The liberties of the string of p.
-pub fn liberties_of<V: View>(board: &mut V, p: Point) -> PointSet
-    requires { p < V.rows board.old * V.rows board.old }
-    ensures looks { Looks V.cells V.asks board.old board.new anywhere }
-    ensures over { (pos : BoardState) → V.agrees board.new pos
-        → result ≡ liberty_points (V.rows board.old) (V.cells board.old pos) p }
-    ensures near { (pos : BoardState) → V.agrees board.new pos → V.asks board.old board.new (neighbourhood_of (V.rows board.old) (V.cells board.old pos) (alone p)) }
-{
-    let found = string_of(board, p);
-    let size = board.size();
-    let mut liberties = PointSet::new();
-    for q in 0..size.points() {
-        if is_beside(board, &found, q) {
-            liberties.add(q);
-        }
-    }
-    liberties
 }

@@ -1,19 +1,19 @@
 -- Strings that are the same, and the least point of each.
-use Rattle.std.proofs.Common.{◌≡◌, ◌⊎◌, ℕ, ◌+◌, ◌*◌, ◌<◌, ◌≤◌, ◌&&◌, ltb, Bool, true, false, not, List, refl, sym, ap, subst, arith, inl, inr, ◌∙◌}
+use Rattle.std.proofs.Common.{◌≡◌, ◌⊎◌, ℕ, ◌+◌, ◌*◌, ◌<◌, ◌≤◌, ◌&&◌, Bool, true, false, List, refl, sym, ap, subst, arith, inl, inr, ◌∙◌}
 use Rattle.std.proofs.lemmas.Bool.{cases_Bool, cases_eq, cases_lt, or_cases, or_left, or_right, eqb-true, eq-eqb, both_ways, and_parts, and_from, lt-ltb, ltb-true, not-true, not_from_false}
 use Rattle.std.specs.Ordering.{nat_cmp}
+use Rattle.std.specs.Cmp.{nat_cmp_total}
 use Rattle.std.specs.FinSet as sets
 use Rattle.go_rules.specs.declared.Cell.{Cell}
 use Rattle.go_rules.specs.declared.Cell.TheVariants.{Empty, Black, White}
-use Rattle.go_rules.specs.Board.{are_neighbours}
-use Rattle.go_rules.specs.Below.{any_below}
-use Rattle.go_rules.specs.Strings.{cell_at, is_stone, is_in_string, string_at, Path, start, IsInString}
+use Rattle.go_rules.specs.Strings.{cell_at, is_stone, is_in_string, string_at, start}
 use Rattle.go_rules.specs.Boundary.{is_enemy, is_beside_string, is_boundary, boundary_points}
-use Rattle.go_rules.proofs.Counts.{any_below_gives, any_below_from, any_below_none, any_below_false, any_below_same}
+use Rattle.go_rules.proofs.Counts.{any_below_gives, any_below_from, any_below_none, any_below_false}
 use Rattle.go_rules.proofs.Sets.{contains-set_below, contains-insert_nat, same_nat_set}
 use Rattle.go_rules.proofs.Paths.{path_on_board, IsInString-from_test, is_is_in_string-from_fact}
 use Rattle.go_rules.proofs.Links.{path_same, path_on, path_back}
 
+-- the stones of a string are on the board
 pub is_in_string_on : (s : ℕ) (cells : List Cell) (p q : ℕ) → p < s * s → is_in_string s cells p q ≡ true → q < s * s
 is_in_string_on s cells p q on h = path_on_board s cells p on (IsInString-from_test s cells p q h).path
 
@@ -23,17 +23,21 @@ string_on s cells p q k on h i =
     let a = IsInString-from_test s cells p q h in
     is_is_in_string-from_fact s cells p k on (record { stone = a.stone; path = path_on s cells p q a.path (IsInString-from_test s cells q k i).path })
 
+-- where q is of the string of p, p is of the string of q
 pub string_back : (s : ℕ) (cells : List Cell) (p q : ℕ) → p < s * s → is_in_string s cells p q ≡ true → is_in_string s cells q p ≡ true
 string_back s cells p q on h =
     let a = IsInString-from_test s cells p q h in
     is_is_in_string-from_fact s cells q p (path_on_board s cells p on a.path) (record { stone = ap is_stone (path_same s cells p a.path) ∙ a.stone; path = path_back s cells p on a.path })
 
+-- the stones of a string are of one colour
 pub string_cell : (s : ℕ) (cells : List Cell) (p q : ℕ) → is_in_string s cells p q ≡ true → cell_at cells q ≡ cell_at cells p
 string_cell s cells p q h = path_same s cells p (IsInString-from_test s cells p q h).path
 
+-- a stone is of its own string
 pub string_self : (s : ℕ) (cells : List Cell) (p : ℕ) → p < s * s → is_stone (cell_at cells p) ≡ true → is_in_string s cells p p ≡ true
 string_self s cells p on h = is_is_in_string-from_fact s cells p p on (record { stone = h; path = start })
 
+-- an enemy is a stone
 pub enemy_stone : (a b : Cell) → is_enemy a b ≡ true → is_stone b ≡ true
 enemy_stone Black White h = refl
 enemy_stone White Black h = refl
@@ -59,20 +63,21 @@ pub record AddsLeast (s : ℕ) (cells : List Cell) (q : ℕ) (old new : sets.Fin
   pub only : (r : ℕ) → sets.contains new r ≡ true → (sets.contains old r ≡ true) ⊎ LeastOf s cells q r
   pub all : (r : ℕ) → LeastOf s cells q r → sets.contains new r ≡ true
 
+-- no point is below 0
 pub Bounds-none : (s : ℕ) (cells : List Cell) (p : ℕ) (least : sets.FinSet nat_cmp) → least ≡ sets.empty → Bounds s cells p 0 least
 Bounds-none s cells p least e = record {
   only = λ r h. absurd (both_ways (sets.contains least r) (ap (λ t. sets.contains t r) e ∙ sets.contains-empty nat_cmp r) h);
   all = λ q l. absurd (omega arith);
 }
 
--- the next point is not next to the string, or no enemy
-pub Bounds-skip : (s : ℕ) (cells : List Cell) (p n : ℕ) (least : sets.FinSet nat_cmp) → Bounds s cells p n least
-    → (is_beside_string s cells p n ≡ true → is_enemy (cell_at cells p) (cell_at cells n) ≡ true → ⊥) → Bounds s cells p (n + 1) least
-Bounds-skip s cells p n least b none = record {
+-- no enemy next to the string stands between the next point and this one
+pub Bounds-jump : (s : ℕ) (cells : List Cell) (p n m : ℕ) (least : sets.FinSet nat_cmp) → Bounds s cells p n least
+    → ((q : ℕ) → n ≤ q → q < m → is_beside_string s cells p q ≡ true → is_enemy (cell_at cells p) (cell_at cells q) ≡ true → ⊥) → Bounds s cells p m least
+Bounds-jump s cells p n m least b none = record {
   only = b.only;
-  all = λ q l beside enemy r h. elim (cases_eq q n) [
-    | inl e ↦ absurd (none (subst (λ x. is_beside_string s cells p x ≡ true) e beside) (subst (λ x. is_enemy (cell_at cells p) (cell_at cells x) ≡ true) e enemy))
-    | inr ne ↦ b.all q (omega arith) beside enemy r h
+  all = λ q l beside enemy r h. elim (cases_lt q n) [
+    | inl below ↦ b.all q below beside enemy r h
+    | inr above ↦ absurd (none q above l beside enemy)
   ];
 }
 
@@ -92,6 +97,7 @@ boundary_of s cells p q r on beside enemy h =
           (any_below_from (s * s) _ q on (and_from _ _ back beside)),
     )
 
+-- the next point is an enemy next to the string, and its least point came
 pub Bounds-add : (s : ℕ) (cells : List Cell) (p n : ℕ) (least new : sets.FinSet nat_cmp) → Bounds s cells p n least → n < s * s
     → is_beside_string s cells p n ≡ true → is_enemy (cell_at cells p) (cell_at cells n) ≡ true → AddsLeast s cells n least new → Bounds s cells p (n + 1) new
 Bounds-add s cells p n least new b on beside enemy add = record {
@@ -118,6 +124,7 @@ least_found s cells p n r least b whole on h =
       ];
     })
 
+-- where every point was passed, the set is the boundary
 pub Bounds-all : (s : ℕ) (cells : List Cell) (p n : ℕ) (least : sets.FinSet nat_cmp) → Bounds s cells p n least → s * s ≤ n → least ≡ boundary_points s cells p
 unfolding boundary_points
 Bounds-all s cells p n least b whole =
@@ -177,9 +184,36 @@ AddsLeast-none s cells q found old on e none = record {
   all = λ k l. absurd (both_ways (sets.contains found k) (none k (omega arith)) (least_is s cells q k found on e l).0);
 }
 
--- a point that touches the string's set is beside the string
-pub beside_by : (s : ℕ) (cells : List Cell) (p q : ℕ) (found : sets.FinSet nat_cmp) → found ≡ string_at s cells p
-    → any_below (s * s) (λ x. sets.contains found x && are_neighbours s x q) ≡ is_beside_string s cells p q
-unfolding is_beside_string string_at
-beside_by s cells p q found e = any_below_same (s * s) _ _
-    (λ k h. ap (λ b. b && are_neighbours s k q) (ap (λ t. sets.contains t k) e ∙ contains-set_below (s * s) (is_in_string s cells p) k ∙ ap (λ b. b && is_in_string s cells p k) (lt-ltb k (s * s) h)))
+-- the least point of the string of each point seen is known
+abbrev pub KnowsLeast : ℕ → List Cell → sets.FinSet nat_cmp → sets.FinSet nat_cmp → Type 0
+KnowsLeast s cells seen least = (q : ℕ) → sets.contains seen q ≡ true → (r : ℕ) → LeastOf s cells q r → sets.contains least r ≡ true
+
+-- the points of one string have the same least point
+LeastOf-moves : (s : ℕ) (cells : List Cell) (q x r : ℕ) → q < s * s → is_in_string s cells q x ≡ true → LeastOf s cells x r → LeastOf s cells q r
+LeastOf-moves s cells q x r on link h = record {
+  inside = string_on s cells q x r on link h.inside;
+  least = λ k l. elim (cases_Bool (is_in_string s cells q k)) [
+    | inl t ↦ absurd (both_ways (is_in_string s cells x k) (h.least k l) (string_on s cells x q k (is_in_string_on s cells q x on link) (string_back s cells q x on link) t))
+    | inr f ↦ f
+  ];
+}
+
+-- a string that was seen adds nothing
+pub AddsLeast-seen : (s : ℕ) (cells : List Cell) (q : ℕ) (seen least : sets.FinSet nat_cmp) → KnowsLeast s cells seen least → sets.contains seen q ≡ true → AddsLeast s cells q least least
+AddsLeast-seen s cells q seen least knows h = record { kept = λ r i. i; only = λ r i. inl i; all = λ r l. knows q h r l }
+
+-- after a string's least point was added, the string is among those seen
+pub KnowsLeast-join : (s : ℕ) (cells : List Cell) (q : ℕ) (seen joined found least new : sets.FinSet nat_cmp) → q < s * s → found ≡ string_at s cells q
+    → joined ≡ sets.union seen found → KnowsLeast s cells seen least → AddsLeast s cells q least new → KnowsLeast s cells joined new
+unfolding string_at
+KnowsLeast-join s cells q seen joined found least new on e is knows adds x h r l =
+    elim (or_cases _ _ (sym (ap (λ t. sets.contains t x) is ∙ sets.contains-union nat_cmp_total seen found x) ∙ h)) [
+      | inl before ↦ adds.kept r (knows x before r l)
+      | inr now ↦
+          let link = (and_parts _ _ (sym (ap (λ t. sets.contains t x) e ∙ contains-set_below (s * s) (is_in_string s cells q) x) ∙ now)).1 in
+          adds.all r (LeastOf-moves s cells q x r on link l)
+    ]
+
+-- nothing is known at first
+pub KnowsLeast-none : (s : ℕ) (cells : List Cell) (seen least : sets.FinSet nat_cmp) → seen ≡ sets.empty → KnowsLeast s cells seen least
+KnowsLeast-none s cells seen least e q h = absurd (both_ways (sets.contains seen q) (ap (λ t. sets.contains t q) e ∙ sets.contains-empty nat_cmp q) h)

@@ -1,13 +1,43 @@
-use Rattle.std.proofs.Common.{arith}
-use Rattle.go_rules.proofs.Boundary.{AddsLeast-some, AddsLeast-none}
+use Rattle.std.proofs.Common.{arith, ◌∙◌, sym}
+use Rattle.go_rules.proofs.Boundary.{AddsLeast-some, AddsLeast-none, AddsLeast-seen, KnowsLeast-join}
+use Rattle.go_base.proofs.Looking.{Looks-none}
 use Rattle.go_base.proofs.boundary.add_least.Goals as goal
 
-pub returns-in-Some-clause-over : goal.returns-in-Some-clause-over
-returns-in-Some-clause-over g c = λ pos a.
+-- a string that was seen is known
+pub returns-then-has-clause-looks : goal.returns-then-has-clause-looks
+returns-then-has-clause-looks g c = Looks-none g.met.V.View.asks_none _ _
+
+pub returns-then-has-clause-near : goal.returns-then-has-clause-near
+returns-then-has-clause-near g c = λ pos a. g.met.V.View.asks_none _ _
+
+pub returns-then-has-clause-adds : goal.returns-then-has-clause-adds
+returns-then-has-clause-adds g c = λ pos a knows. AddsLeast-seen _ _ c.args.q c.args.seen.now c.args.least.now knows (sym c.has.ensures ∙ c.if-has.true)
+
+-- the least point of a string that was not seen comes
+pub returns-in-Some-clause-adds : goal.returns-in-Some-clause-adds
+returns-in-Some-clause-adds g c = λ pos a knows.
     let first = c.in-Some.ensures.some in
     AddsLeast-some (g.V.View.rows c.args.board.now) (g.V.View.cells c.args.board.now pos) c.args.q c.in-Some.r c.string_of-string.result c.args.least.now c.add.new.self
-    c.requires (c.string_of-string.ensures.over pos a) first.2 (λ k l. first.3 k (omega arith) l) c.add.ensures
+    c.requires.on_board (c.string_of-string.ensures.over pos a) first.2 (λ k l. first.3 k (omega arith) l) c.add.ensures
 
-pub returns-in_default-clause-over : goal.returns-in_default-clause-over
-returns-in_default-clause-over g c = λ pos a.
-    AddsLeast-none (g.V.View.rows c.args.board.now) (g.V.View.cells c.args.board.now pos) c.args.q c.string_of-string.result c.args.least.now c.requires (c.string_of-string.ensures.over pos a) c.in_default.ensures.none
+pub returns-in-Some-clause-knows : goal.returns-in-Some-clause-knows
+returns-in-Some-clause-knows g c = λ pos a knows.
+    let first = c.in-Some.ensures.some in
+    let s = g.V.View.rows c.args.board.now in
+    let cells = g.V.View.cells c.args.board.now pos in
+    let string = c.string_of-string.ensures.over pos a in
+    KnowsLeast-join s cells c.args.q c.args.seen.now _ c.string_of-string.result c.args.least.now _ c.requires.on_board string c.join.ensures knows
+    (AddsLeast-some s cells c.args.q c.in-Some.r c.string_of-string.result c.args.least.now c.add.new.self c.requires.on_board string first.2 (λ k l. first.3 k (omega arith) l) c.add.ensures)
+
+-- an empty string has no least point
+pub returns-in_default-clause-adds : goal.returns-in_default-clause-adds
+returns-in_default-clause-adds g c = λ pos a knows.
+    AddsLeast-none (g.V.View.rows c.args.board.now) (g.V.View.cells c.args.board.now pos) c.args.q c.string_of-string.result c.args.least.now c.requires.on_board (c.string_of-string.ensures.over pos a) c.in_default.ensures.none
+
+pub returns-in_default-clause-knows : goal.returns-in_default-clause-knows
+returns-in_default-clause-knows g c = λ pos a knows.
+    let s = g.V.View.rows c.args.board.now in
+    let cells = g.V.View.cells c.args.board.now pos in
+    let string = c.string_of-string.ensures.over pos a in
+    KnowsLeast-join s cells c.args.q c.args.seen.now _ c.string_of-string.result c.args.least.now c.args.least.now c.requires.on_board string c.join.ensures knows
+    (AddsLeast-none s cells c.args.q c.string_of-string.result c.args.least.now c.requires.on_board string c.in_default.ensures.none)

@@ -1,12 +1,10 @@
-use Rattle.std.proofs.Common.{◌≡◌, ◌≢◌, true, false, ap, sym, refl, ◌∙◌, Err}
+use Rattle.std.proofs.Common.{◌≡◌, ◌*◌, ◌<◌, false, ap, sym, subst, refl, ◌∙◌}
 use Rattle.std.proofs.Math.ListN.{set}
 use Rattle.std.specs.FinSet as sets
 use Rattle.std.proofs.lemmas.Bool.{both_ways}
-use denote.Enum.Bare.{sameb}
-use Rattle.go_rules.specs.contracts.Cell.{the_type}
 use Rattle.go_rules.specs.Strings.{cell_at, is_stone, liberties}
 use Rattle.go_rules.specs.Neighbourhood.{neighbourhood_of}
-use Rattle.go_rules.specs.Position.{BoardState, IsPosition, board_of, stone_of}
+use Rattle.go_rules.specs.Position.{BoardState, IsPosition, board_of}
 use Rattle.go_rules.proofs.Results.{free_occupied}
 use Rattle.go_rules.proofs.Cells.{stone_test}
 use Rattle.go_base.specs.Views.{anywhere, alone}
@@ -15,7 +13,7 @@ use Rattle.go_base.proofs.PlayNear.{Leaves, twice_self, twice_taken, twice_own}
 use Rattle.go_base.proofs.PlayedOn.{PlaysOn, plays_suicide, plays_done}
 use Rattle.go_base.proofs.capture.play_on.Given.{Over}
 use Rattle.go_base.proofs.capture.play_on.Goals as goal
-use Rattle.go_base.proofs.capture.play_on.Goals.{After-ne, After-remove_all, After-liberties_of, After-count}
+use Rattle.go_base.proofs.capture.play_on.Goals.{After-ne, After-remove_all, After-count}
 
 pub returns-then-ne-clause-asks : goal.returns-then-ne-clause-asks
 returns-then-ne-clause-asks g c = g.met.V.View.asks_within _ _ _ _ c.at.ensures.looks.asked (λ q h. refl)
@@ -37,11 +35,11 @@ asked g c =
 
 pub returns-then-count-eq0-clause-asks : goal.returns-then-count-eq0-clause-asks
 returns-then-count-eq0-clause-asks g c =
-    g.met.V.View.asks_more _ _ _ _ (asked g (goal.at.returns-then-count-eq0-clause-asks g c).After-remove_all) c.liberties_of.ensures.looks.asked
+    g.met.V.View.asks_more _ _ _ _ (asked g (goal.at.returns-then-count-eq0-clause-asks g c).After-remove_all) c.flood-own.ensures.looks.asked
 
 pub returns-clause-asks : goal.returns-clause-asks
 returns-clause-asks g c =
-    g.met.V.View.asks_more _ _ _ _ (asked g (goal.at.returns-clause-asks g c).After-remove_all) (g.met.V.View.asks_more _ _ _ _ c.liberties_of.ensures.looks.asked c.ban_of.ensures.looks.asked)
+    g.met.V.View.asks_more _ _ _ _ (asked g (goal.at.returns-clause-asks g c).After-remove_all) c.flood-own.ensures.looks.asked
 
 -- the board after the removal, over a position that agrees
 plays : (g : Over) (c : After-remove_all g) (pos : BoardState) → g.V.View.agrees c.remove_all.new.board pos → IsPosition (board_of (g.V.View.rows c.args.board.now) (g.V.View.cells c.args.board.now pos))
@@ -63,32 +61,34 @@ plays g c pos a good empty =
     }
 
 -- how many liberties the stone has
-count_is : (g : Over) (c : After-count g) (pos : BoardState) → g.V.View.agrees c.liberties_of.new.board pos → g.V.View.rows c.remove_all.new.board ≡ g.V.View.rows c.args.board.now
+count_is : (g : Over) (c : After-count g) (pos : BoardState) → g.V.View.agrees c.flood-own.new.board pos → g.V.View.rows c.remove_all.new.board ≡ g.V.View.rows c.args.board.now
     → c.count.result ≡ liberties (g.V.View.rows c.args.board.now) (g.V.View.cells c.remove_all.new.board pos) c.args.p
 count_is g c pos a rows =
-    c.count.ensures.value ∙ ap sets.len (rw rows at (c.liberties_of.ensures.over pos a)) ∙ len-liberty_points (g.V.View.rows c.args.board.now) (g.V.View.cells c.remove_all.new.board pos) c.args.p
+    c.count.ensures.value ∙ ap sets.len (rw rows at (c.flood-own.ensures.liberties pos a)) ∙ len-liberty_points (g.V.View.rows c.args.board.now) (g.V.View.cells c.remove_all.new.board pos) c.args.p
 
 pub returns-then-count-eq0-clause-over : goal.returns-then-count-eq0-clause-over
 returns-then-count-eq0-clause-over g c = λ pos a good.
     let at = goal.at.returns-then-count-eq0-clause-over g c in
-    let a4 = g.met.V.View.asks_agrees _ _ _ c.liberties_of.ensures.looks.asked pos a in
+    let a4 = g.met.V.View.asks_agrees _ _ _ c.flood-own.ensures.looks.asked pos a in
     let a1 = g.met.V.View.asks_agrees _ _ _ c.put.ensures.asks pos (g.met.V.View.asks_agrees _ _ _ c.captured-taken.ensures.looks.asked pos (g.met.V.View.asks_agrees _ _ _ c.remove_all.ensures.asks pos a4)) in
     let rows = g.met.V.View.asks_rows _ _ _ (asked g at.After-remove_all) in
     plays_suicide (plays g at.After-remove_all pos a4 good (sym (stone_is g at.After-ne pos a1) ∙ c.if-ne.false)) (sym (count_is g at.After-count pos a rows) ∙ c.if-count-eq0.true)
 
+-- the play is done, and the ban told
 pub returns-clause-over : goal.returns-clause-over
 returns-clause-over g c = λ pos a good.
     let at = goal.at.returns-clause-over g c in
-    let a5 = g.met.V.View.asks_agrees _ _ _ c.ban_of.ensures.looks.asked pos a in
-    let a4 = g.met.V.View.asks_agrees _ _ _ c.liberties_of.ensures.looks.asked pos a5 in
+    let a4 = g.met.V.View.asks_agrees _ _ _ c.flood-own.ensures.looks.asked pos a in
     let a1 = g.met.V.View.asks_agrees _ _ _ c.put.ensures.asks pos (g.met.V.View.asks_agrees _ _ _ c.captured-taken.ensures.looks.asked pos (g.met.V.View.asks_agrees _ _ _ c.remove_all.ensures.asks pos a4)) in
     let rows = g.met.V.View.asks_rows _ _ _ (asked g at.After-remove_all) in
-    let rows5 = g.met.V.View.asks_rows _ _ _ c.liberties_of.ensures.looks.asked ∙ rows in
-    let same5 = c.liberties_of.ensures.looks.same pos in
-    let ban = rw (rows5, same5) at (c.ban_of.ensures.over pos a) in
-    rw (c.ban_of.ensures.looks.same pos, same5)
+    let s = g.V.View.rows c.args.board.now in
+    let cells = g.V.View.cells c.remove_all.new.board pos in
+    let stones = rw rows at (c.flood-own.ensures.stones pos a) in
+    let free = rw rows at (c.flood-own.ensures.liberties pos a) in
+    rw (c.flood-own.ensures.looks.same pos)
     (plays_done (plays g at.After-remove_all pos a4 good (sym (stone_is g at.After-ne pos a1) ∙ c.if-ne.false)) c.ban_of.result
-    (λ z. c.if-count-eq0.false (count_is g at.After-count pos a5 rows ∙ z)) ban)
+    (λ z. c.if-count-eq0.false (count_is g at.After-count pos a rows ∙ z))
+    (λ put taken. c.ban_of.ensures s c.args.p put cells taken stones free))
 
 pub returns-then-ne-clause-near : goal.returns-then-ne-clause-near
 returns-then-ne-clause-near g c = λ pos a. g.met.V.View.asks_within _ _ _ _ c.at.ensures.looks.asked (λ r h. twice_self (g.V.View.rows c.args.board.now) (g.V.View.cells c.args.board.now pos) c.args.p r h)
@@ -127,23 +127,23 @@ near_play g c pos a empty =
 pub returns-then-count-eq0-clause-near : goal.returns-then-count-eq0-clause-near
 returns-then-count-eq0-clause-near g c = λ pos a.
     let at = goal.at.returns-then-count-eq0-clause-near g c in
-    let a4 = g.met.V.View.asks_agrees _ _ _ c.liberties_of.ensures.looks.asked pos a in
+    let a4 = g.met.V.View.asks_agrees _ _ _ c.flood-own.ensures.looks.asked pos a in
     let a1 = g.met.V.View.asks_agrees _ _ _ c.put.ensures.asks pos (g.met.V.View.asks_agrees _ _ _ c.captured-taken.ensures.looks.asked pos (g.met.V.View.asks_agrees _ _ _ c.remove_all.ensures.asks pos a4)) in
     let empty = sym (stone_is g at.After-ne pos a1) ∙ c.if-ne.false in
     let rows = g.met.V.View.asks_rows _ _ _ (asked g at.After-remove_all) in
     g.met.V.View.asks_more _ _ _ _ (near_play g at.After-remove_all pos a4 empty)
-    (g.met.V.View.asks_within _ _ _ _ (rw rows at (c.liberties_of.ensures.near pos a)) (λ r h. twice_own (leaves g at.After-remove_all pos a4 empty) r h))
+    (g.met.V.View.asks_within _ _ _ _ (rw rows at (c.flood-own.ensures.near pos a)) (λ r h. twice_own (leaves g at.After-remove_all pos a4 empty) r h))
 
 pub returns-clause-near : goal.returns-clause-near
 returns-clause-near g c = λ pos a.
     let at = goal.at.returns-clause-near g c in
-    let a5 = g.met.V.View.asks_agrees _ _ _ c.ban_of.ensures.looks.asked pos a in
-    let a4 = g.met.V.View.asks_agrees _ _ _ c.liberties_of.ensures.looks.asked pos a5 in
+    let a4 = g.met.V.View.asks_agrees _ _ _ c.flood-own.ensures.looks.asked pos a in
     let a1 = g.met.V.View.asks_agrees _ _ _ c.put.ensures.asks pos (g.met.V.View.asks_agrees _ _ _ c.captured-taken.ensures.looks.asked pos (g.met.V.View.asks_agrees _ _ _ c.remove_all.ensures.asks pos a4)) in
     let empty = sym (stone_is g at.After-ne pos a1) ∙ c.if-ne.false in
     let rows = g.met.V.View.asks_rows _ _ _ (asked g at.After-remove_all) in
-    let rows5 = g.met.V.View.asks_rows _ _ _ c.liberties_of.ensures.looks.asked ∙ rows in
-    let own = leaves g at.After-remove_all pos a4 empty in
     g.met.V.View.asks_more _ _ _ _ (near_play g at.After-remove_all pos a4 empty)
-    (g.met.V.View.asks_more _ _ _ _ (g.met.V.View.asks_within _ _ _ _ (rw rows at (c.liberties_of.ensures.near pos a5)) (λ r h. twice_own own r h))
-    (g.met.V.View.asks_within _ _ _ _ (rw (rows5, c.liberties_of.ensures.looks.same pos) at (c.ban_of.ensures.near pos a)) (λ r h. twice_own own r h)))
+    (g.met.V.View.asks_within _ _ _ _ (rw rows at (c.flood-own.ensures.near pos a)) (λ r h. twice_own (leaves g at.After-remove_all pos a4 empty) r h))
+
+-- what was taken is on the board
+pub remove_all-requires : goal.remove_all-requires
+remove_all-requires g c = λ r h. subst (λ n. r < n * n) (sym (g.met.V.View.asks_rows _ _ _ c.captured-taken.ensures.looks.asked)) (c.captured-taken.ensures.on_board r h)

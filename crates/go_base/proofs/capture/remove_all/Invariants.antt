@@ -1,10 +1,17 @@
+use Rattle.std.proofs.Common.{◌-◌}
+use Rattle.go_rules.specs.Board.{largest_points}
 use Rattle.go_rules.specs.Position.{BoardState}
 use Rattle.go_base.specs.Views.{nowhere}
 use Rattle.go_base.proofs.Removing.{Removed}
 use Rattle.go_base.proofs.capture.remove_all.Given as goal
 
+-- the members below the next point were emptied
 abbrev pub invariant-loop-q : goal.invariant-loop-q
 invariant-loop-q g l = record {
   asks : g.V.View.asks l.initial.board l.board nowhere;
-  over : (pos : BoardState) → g.V.View.agrees l.board pos → Removed l.taken (g.V.View.cells l.initial.board pos) (g.V.View.cells l.board pos) l.q;
+  over : (pos : BoardState) → g.V.View.agrees l.board pos → Removed l.taken (g.V.View.cells l.initial.board pos) (g.V.View.cells l.board pos) l.next;
 }
+
+-- how many points are left
+abbrev pub decreases-loop-q : goal.decreases-loop-q
+decreases-loop-q g l = largest_points - l.next

@@ -1,0 +1,89 @@
+-- The least member of a set of points, by the words that keep it.
+use Rattle.std.proofs.Common.{◌≡◌, ℕ, ◌+◌, ◌-◌, ◌*◌, ◌/◌, ◌%◌, ◌^◌, ◌<◌, ◌≤◌, ◌&&◌, Bool, true, false, cond, eqb, ltb, List, Option, Some, None, IfSome, IfNone, get_or, refl, sym, ap, arith, inl, inr, ◌∙◌}
+use Rattle.std.proofs.Math.Nat.{div-div-eq-div-mul, div-le_self}
+use Rattle.std.proofs.lemmas.Nat.{pow-add, div-mul-add, mod-mul-add}
+use Rattle.std.proofs.lemmas.Nat.Bits.{bit_at-zero, bit_at_above, bit_at-trailing_zeros}
+use Rattle.std.proofs.lemmas.Bool.{cases_lt, lt-ltb, le-ltb}
+use Rattle.std.specs.Int.{bit_at, w64, trailing_zeros}
+use Rattle.std.specs.FinSet as sets
+use Rattle.go_rules.specs.Board.{largest_points}
+use Rattle.go_base.specs.Bits.{is_marked, marked}
+use Rattle.go_base.proofs.Marks.{contains-marked, contains-above}
+
+-- a bit of what is left after a shift
+bit_at-shift : (word from j : ℕ) → bit_at (word / 2 ^ from) j ≡ bit_at word (from + j)
+bit_at-shift word from j = ap (λ n. n % 2) (div-div-eq-div-mul word (2 ^ from) (2 ^ j) ∙ ap (λ n. word / n) (sym (pow-add 2 from j)))
+
+-- no bit from the place on is set where nothing is left
+pub nothing_left : (word from : ℕ) → word / 2 ^ from ≡ 0 → (k : ℕ) → from ≤ k → bit_at word k ≡ 0
+nothing_left word from z k h =
+    let e : from + (k - from) ≡ k = omega arith in
+    ap (bit_at word) (sym e) ∙ sym (bit_at-shift word from (k - from)) ∙ ap (λ n. bit_at n (k - from)) z ∙ bit_at-zero (k - from)
+
+-- the lowest bit that is set from a place on
+pub record LowestFrom (word from at : ℕ) : Type 0 where
+  pub bound : at < 64
+  pub hit : bit_at word at ≡ 1
+  pub misses : (k : ℕ) → from ≤ k → k < at → bit_at word k ≡ 0
+
+pub lowest_from : (word from : ℕ) → word < 2 ^ 64 → 0 < word / 2 ^ from → LowestFrom word from (from + trailing_zeros w64 (word / 2 ^ from))
+lowest_from word from fits some =
+    let rest : ℕ = word / 2 ^ from in
+    let small : rest < 2 ^ 64 = omega (arith, div-le_self word (2 ^ from), fits) in
+    let low = bit_at-trailing_zeros w64 rest some small in
+    let t : ℕ = trailing_zeros w64 rest in
+    let is_hit : bit_at word (from + t) ≡ 1 = sym (bit_at-shift word from t) ∙ low.1 in
+    record {
+      bound = elim (cases_lt (from + t) 64) [
+        | inl l ↦ l
+        | inr g ↦ let z = bit_at_above word 64 (from + t) fits g in absurd (let two : 0 ≡ 1 = sym z ∙ is_hit in omega (arith, two))
+      ];
+      hit = is_hit;
+      misses = λ k l m.
+          let e : from + (k - from) ≡ k = omega arith in
+          ap (bit_at word) (sym e) ∙ sym (bit_at-shift word from (k - from)) ∙ low.2 (k - from) (omega arith);
+    }
+
+module _ (words : List ℕ) (p from bit : ℕ) (low : p ≤ from) (before : (r : ℕ) → p ≤ r → r < from → is_marked words r ≡ false)
+    (misses : (k : ℕ) → from % 64 ≤ k → k < bit → bit_at (get_or words (from / 64) 0) k ≡ 0) (bound : bit ≤ 64) where
+  -- no point from p on is marked before the bit
+  pub none_before : (r : ℕ) → p ≤ r → r < from / 64 * 64 + bit → is_marked words r ≡ false
+  none_before r l m = elim (cases_lt r from) [
+    | inl below ↦ before r l below
+    | inr above ↦
+        let word : r / 64 ≡ from / 64 = omega arith in
+        let place : from % 64 ≤ r % 64 = omega (arith, word) in
+        let under : r % 64 < bit = omega (arith, word) in
+        ap (λ j. eqb (bit_at (get_or words j 0) (r % 64)) 1) word ∙ ap (λ n. eqb n 1) (misses (r % 64) place under)
+  ]
+
+  -- the bit's point is marked
+  pub is_marked-found : bit < 64 → bit_at (get_or words (from / 64) 0) bit ≡ 1 → is_marked words (from / 64 * 64 + bit) ≡ true
+  is_marked-found small hit = rw (div-mul-add (from / 64) 64 bit small, mod-mul-add (from / 64) 64 bit small, hit) refl
+
+module _ (words : List ℕ) (p q : ℕ) (low : p ≤ q) (before : (r : ℕ) → p ≤ r → r < q → is_marked words r ≡ false) where
+  not_before : (r : ℕ) → p ≤ r → r < q → sets.contains (marked words) r ≡ false
+  not_before r l m = contains-marked words r ∙ ap (λ b. ltb r largest_points && b) (before r l m) ∙ and-false (ltb r largest_points)
+    where
+      and-false : (b : Bool) → (b && false) ≡ false
+      and-false true = refl
+      and-false false = refl
+
+  -- the first of the set from p on is q, where q is a point
+  pub first_some : is_marked words q ≡ true → (o : Option ℕ) → o ≡ cond (ltb q largest_points) (Some q) None
+      → IfSome o (λ x. (p ≤ x) × (x < largest_points) × (sets.contains (marked words) x ≡ true) × ((r : ℕ) → p ≤ r → r < x → sets.contains (marked words) r ≡ false))
+  first_some hit o e = elim (cases_lt q largest_points) [
+    | inl l ↦ rw (e, lt-ltb q largest_points l) (low, l, contains-marked words q ∙ rw (lt-ltb q largest_points l, hit) refl, not_before)
+    | inr g ↦ rw (e, le-ltb q largest_points g) tt
+  ]
+
+  -- and where it is none, the set has no member from p on
+  pub first_none : (o : Option ℕ) → o ≡ cond (ltb q largest_points) (Some q) None → IfNone o ((r : ℕ) → p ≤ r → sets.contains (marked words) r ≡ false)
+  first_none o e = elim (cases_lt q largest_points) [
+    | inl l ↦ rw (e, lt-ltb q largest_points l) tt
+    | inr g ↦ rw (e, le-ltb q largest_points g) (λ r l. elim (cases_lt r q) [ inl m ↦ not_before r l m | inr m ↦ contains-above words r (omega arith) ])
+  ]
+
+  -- where every point up to the largest board's last was passed, the set has no member from p on
+  pub none_left : largest_points ≤ q → (r : ℕ) → p ≤ r → sets.contains (marked words) r ≡ false
+  none_left g r l = elim (cases_lt r q) [ inl m ↦ not_before r l m | inr m ↦ contains-above words r (omega arith) ]
