@@ -1,13 +1,13 @@
 -- What a word of digits writes when it is read from its front.
-use Rattle.std.proofs.Common.{◌≡◌, ℕ, suc, ◌+◌, ◌-◌, ◌*◌, ◌<◌, ◌≤◌, Bool, true, false, cond, ◌&&◌, List, [], ◌∷◌, ◌++◌, length, take, drop, get_or, min, unwrap_or, leb, Option, Some, None, IfSome, refl, sym, ap, subst, ◌∙◌, arith, take-append-drop, length-append}
-use Rattle.std.specs.List.{list_all, filter}
+use Rattle.std.proofs.Common.{◌≡◌, ℕ, ◌+◌, ◌-◌, ◌*◌, ◌<◌, ◌≤◌, Bool, true, false, cond, ◌&&◌, List, [], ◌∷◌, ◌++◌, length, take, drop, get_or, min, unwrap_or, leb, Option, Some, None, IfSome, refl, sym, ap, subst, ◌∙◌, arith, take-append-drop}
+use Rattle.std.specs.List.{list_all}
 use Rattle.std.specs.Char.{is_ascii_digit, digit_value}
 use Rattle.std.specs.Str.Parse.{digits_value, digits_value_after}
 use Rattle.std.proofs.lemmas.Bool.Decides.{nat_tests}
 use Rattle.std.proofs.lemmas.List.{drop_more}
 use Rattle.std.proofs.lemmas.List.Elements.{filter-append, filter_more}
 use Rattle.std.proofs.lemmas.List.Folds.{list_all-append}
-use Rattle.gtp_cmd.specs.Words.{is_kept, kept, has_bytes, is_number, number_of, id_of, up_to, most_id}
+use Rattle.gtp_cmd.specs.Words.{is_kept, kept, has_bytes, is_number, number_of, up_to, most_id}
 use Rattle.gtp_cmd.specs.RawWords.{large, capped}
 
 -- the number grows by its last digit

@@ -1,11 +1,10 @@
 -- The vertex that is printed for a point is read as that point.
-use Rattle.std.proofs.Common.{◌≡◌, ℕ, ◌+◌, ◌-◌, ◌*◌, ◌/◌, ◌%◌, ◌<◌, ◌≤◌, Bool, true, false, cond, eqb, ltb, leb, not, ◌&&◌, List, [], ◌∷◌, ◌++◌, inl, inr, Option, Some, None, refl, sym, ap, ◌∙◌, arith, decimal, slice_index}
+use Rattle.std.proofs.Common.{◌≡◌, ℕ, ◌+◌, ◌-◌, ◌*◌, ◌/◌, ◌%◌, ◌<◌, Bool, true, false, cond, eqb, ltb, leb, not, ◌&&◌, [], ◌∷◌, ◌++◌, inl, inr, Option, Some, None, refl, sym, ap, ◌∙◌, arith, decimal, slice_index}
 use Rattle.std.proofs.Math.Nat.{div-lt_iff_lt-mul}
 use Rattle.std.proofs.lemmas.Nat.{div-add-mod'}
 use Rattle.std.proofs.lemmas.Bool.{both_ways, eqb-true, cases_lt}
 use Rattle.std.proofs.lemmas.Fmt.{decimal_digit, decimal_step}
 use Rattle.std.proofs.lemmas.Bool.Decides.{nat_tests}
-use Rattle.go_rules.specs.Below.{any_below}
 use Rattle.go_rules.specs.Board.{IsSize}
 use Rattle.go_rules.proofs.Counts.{any_below_none}
 use Rattle.gtp_cmd.specs.Vertices.{column_letters, column_named, row_number_of, point_of, vertex_of, vertex_text}
@@ -61,7 +60,7 @@ vertex_read s p size on =
     let n_low : leb 1 number ≡ true = grind (arith, nat_tests) in
     let n_high : leb number s ≡ true = grind (arith, nat_tests) in
     let tests : (ltb (p % s) s && (leb 1 number && leb number s)) ≡ true =
-        ap (λ t. t && (leb 1 number && leb number s)) c_on ∙ ap (λ t. t && leb number s) n_low ∙ n_high in
+    ap (λ t. t && (leb 1 number && leb number s)) c_on ∙ ap (λ t. t && leb number s) n_low ∙ n_high in
     let same : (s - number) * s + p % s ≡ p = ap (λ r. r * s + p % s) (omega arith) ∙ div-add-mod' p s in
     ap (λ c. point_of s c (row_number_of (decimal number))) (column_read (p % s) (omega arith))
     ∙ ap (point_of s (Some (p % s))) (row_read number (omega arith))

@@ -1,11 +1,11 @@
 -- How the words of a text are found from its front.
-use Rattle.std.proofs.Common.{◌≡◌, ℕ, zero, suc, ◌+◌, ◌-◌, ◌<◌, ◌≤◌, Bool, true, false, cond, eqb, not, List, [], ◌∷◌, ◌++◌, length, take, drop, get_or, refl, sym, ap, subst, ◌∙◌, arith, inl, inr, ◌⊎◌, length-drop}
+use Rattle.std.proofs.Common.{◌≡◌, ℕ, suc, ◌-◌, ◌<◌, ◌≤◌, Bool, true, false, cond, eqb, not, List, [], ◌∷◌, length, take, drop, get_or, refl, sym, ap, ◌∙◌, arith, inl, inr, length-drop}
 use Rattle.std.specs.List.{slice_split, onto_first, filter, position_or_len}
-use Rattle.std.proofs.lemmas.List.{take_rest, drop_more, get_or-drop}
+use Rattle.std.proofs.lemmas.List.{take_rest, get_or-drop}
 use Rattle.std.proofs.lemmas.Bool.{cases_Bool, both_ways, or_right, or_parts}
 use Rattle.std.proofs.lemmas.List.Sums.{position_or_len_is}
 use Rattle.std.proofs.lemmas.Bool.Decides.{nat_tests}
-use Rattle.gtp_cmd.specs.Words.{is_kept, kept, plain, has_bytes, words_of, blank, tab, blank_for_tab}
+use Rattle.gtp_cmd.specs.Words.{is_kept, kept, plain, has_bytes, words_of, blank, blank_for_tab}
 use Rattle.gtp_cmd.specs.RawWords.{is_parting, is_skipped}
 
 -- the test for a blank at which a text is cut
