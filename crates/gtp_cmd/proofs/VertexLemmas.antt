@@ -14,6 +14,7 @@ is_number : Option ℕ → ℕ → Bool
 is_number None n = false
 is_number (Some m) n = eqb m n
 
+-- a number that is there and is this one is this one
 number_from : (o : Option ℕ) (n : ℕ) → not (is_number o n) ≡ false → o ≡ Some n
 unfolding is_number
 number_from None n h = absurd (both_ways true h refl)
