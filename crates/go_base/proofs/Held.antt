@@ -1,11 +1,10 @@
 -- A board that holds a position, and what a play on it gives.
-use Rattle.std.proofs.Common.{◌≡◌, ℕ, ◌-◌, ◌*◌, arith, length-append, ◌≤◌, ◌<◌, Bool, not, Option, List, Result, Ok, Err, take, drop, length, refl, sym, ap, subst, ◌∙◌, get_or-take}
+use Rattle.std.proofs.Common.{◌≡◌, ℕ, ◌-◌, ◌*◌, arith, length-append, ◌≤◌, ◌<◌, Bool, not, Option, Result, Ok, take, drop, length, refl, sym, ap, subst, ◌∙◌, get_or-take}
 use Rattle.std.proofs.lemmas.List.{take-append-drop, length-replicate}
 use Rattle.go_rules.specs.Board.{largest_size, largest_points}
 use Rattle.go_base.proofs.Beside.{square_small}
 use denote.Enum.Bare.{sameb}
 use Rattle.go_rules.specs.contracts.Cell.{the_type}
-use Rattle.go_rules.specs.declared.Cell.{Cell}
 use Rattle.go_rules.specs.declared.Cell.TheVariants.{Empty}
 use Rattle.go_rules.specs.declared.Colour.{Colour}
 use Rattle.go_rules.specs.declared.Illegal.{Illegal}

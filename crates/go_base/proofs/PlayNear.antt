@@ -3,25 +3,24 @@ use Rattle.std.proofs.Common.{◌≡◌, ◌≢◌, ◌⊎◌, ℕ, ◌*◌, ◌
 use Rattle.std.proofs.Math.ListN.{set}
 use Rattle.std.specs.List.{range_with_len}
 use Rattle.std.proofs.lemmas.List.FromFn.{get_or-map-range_with_len}
-use Rattle.std.proofs.lemmas.Bool.{cases_Bool, cases_eq, both_ways, and_parts, and_from, or_cases, or_left, or_right, eqb-true}
+use Rattle.std.proofs.lemmas.Bool.{cases_Bool, cases_eq, both_ways, and_parts, and_from, or_cases, eqb-true}
 use Rattle.std.specs.Ordering.{nat_cmp}
 use Rattle.std.specs.FinSet as sets
 use Rattle.go_rules.specs.declared.Cell.{Cell}
 use Rattle.go_rules.specs.declared.Cell.TheVariants.{Empty}
 use Rattle.go_rules.specs.declared.Colour.{Colour}
 use Rattle.go_rules.specs.Board.{are_neighbours}
-use Rattle.go_rules.specs.Below.{any_below}
 use Rattle.go_rules.specs.Strings.{cell_at, is_stone, same_cell, is_in_string, Path, start, step}
 use Rattle.go_rules.specs.Neighbourhood.{whole_strings_of, neighbourhood_of}
 use Rattle.go_rules.specs.Position.{other, stone_of}
 use Rattle.go_rules.proofs.Counts.{any_below_gives, any_below_from}
-use Rattle.go_rules.proofs.Paths.{path_on_board, same_cell-true, IsInString-from_test, is_is_in_string-from_fact}
-use Rattle.go_rules.proofs.Links.{path_same, path_on, path_keeps}
-use Rattle.go_rules.proofs.Plays.{stone_is, empty_from, enemy_differs, at_put_same, at_put_other}
+use Rattle.go_rules.proofs.Paths.{same_cell-true, IsInString-from_test, is_is_in_string-from_fact}
+use Rattle.go_rules.proofs.Links.{path_same, path_keeps}
+use Rattle.go_rules.proofs.Plays.{stone_is, enemy_differs, at_put_same, at_put_other}
 use Rattle.go_rules.proofs.Boundary.{string_self}
 use Rattle.go_base.specs.Views.{alone}
 use Rattle.go_base.specs.Takes.{near_taken}
-use Rattle.go_base.proofs.Closing.{whole_self, whole_string, whole_cases, close_whole, close_next, close_self, close_point, alone_self, Closeness, within, beside, closeness}
+use Rattle.go_base.proofs.Closing.{whole_self, whole_string, whole_cases, close_whole, close_next, close_self, close_point, alone_self, within, beside, closeness}
 
 abbrev twice : ℕ → List Cell → ℕ → ℕ → Bool
 twice s cells p = neighbourhood_of s cells (neighbourhood_of s cells (alone p))

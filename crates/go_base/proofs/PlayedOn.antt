@@ -1,5 +1,5 @@
 -- What a play on a board gives, by the cells that it left.
-use Rattle.std.proofs.Common.{◌≡◌, ◌≢◌, ℕ, ◌*◌, ◌<◌, true, false, cond, Option, List, Ok, Err, length, map, refl, sym, ap, subst, ◌∙◌}
+use Rattle.std.proofs.Common.{◌≡◌, ◌≢◌, ℕ, ◌*◌, ◌<◌, false, cond, Option, List, Ok, Err, length, map, sym, ap, subst, ◌∙◌}
 use Rattle.std.proofs.Math.ListN.{set, length-set}
 use Rattle.std.specs.List.{range_with_len}
 use Rattle.std.specs.Ordering.{nat_cmp}
@@ -12,7 +12,7 @@ use Rattle.go_rules.specs.Strings.{cell_at, is_stone, liberties}
 use Rattle.go_rules.specs.Position.{IsPosition, stone_of, board_of}
 use Rattle.go_rules.specs.Play.{taken_at, cells_after, ban_after, play_free}
 use Rattle.go_rules.proofs.Plays.{taken_beside, empty_from, after_from}
-use Rattle.go_rules.proofs.Results.{put_on, after_on, result_of, free_suicide, free_done}
+use Rattle.go_rules.proofs.Results.{put_on, after_on, free_suicide, free_done}
 use Rattle.go_base.specs.Takes.{TakenBeside}
 
 -- a stone of c was put at p, and what it takes was removed

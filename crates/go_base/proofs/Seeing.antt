@@ -1,7 +1,7 @@
 -- What one more look adds to the facts.
-use Rattle.std.proofs.Common.{◌≡◌, ◌↔◌, ◌⊎◌, ℕ, zero, suc, ◌*◌, ◌<◌, ◌&&◌, Bool, true, false, ltb, List, Option, length, replicate, refl, sym, ap, subst, arith, inl, inr, ◌∙◌, get_or, get_or-set_same, get_or-set_other}
+use Rattle.std.proofs.Common.{◌≡◌, ◌↔◌, ◌⊎◌, ℕ, zero, suc, ◌*◌, ◌<◌, Bool, true, false, ltb, List, Option, length, replicate, refl, sym, ap, subst, inl, inr, ◌∙◌, get_or, get_or-set_same, get_or-set_other}
 use Rattle.std.proofs.Math.ListN.{set}
-use Rattle.std.proofs.lemmas.Bool.{cases_Bool, cases_eq, both_ways, and_parts, and_from, lt-ltb, ltb-true, eqb-true, eq-eqb}
+use Rattle.std.proofs.lemmas.Bool.{cases_eq, both_ways, and_parts, and_from, lt-ltb, eqb-true, eq-eqb}
 use Rattle.go_rules.specs.Board.{largest_points}
 use Rattle.go_rules.specs.declared.Cell.{Cell}
 use Rattle.go_rules.specs.declared.Colour.{Colour}
@@ -14,7 +14,7 @@ use Rattle.go_base.specs.declared.facts.Known.TheVariants.{Unseen}
 use Rattle.go_base.specs.declared.facts.Asked.{Asked}
 use Rattle.go_base.specs.declared.facts.Asked.TheVariants.{Neither}
 use Rattle.go_base.specs.Facts.{Fact, SizeIs, CellIs, BanIs, Holds, Agrees, Grows, AddsIn, IsAbout}
-use Rattle.go_base.specs.Told.{told, is_known, is_asked, same_bool, is_fact_at, is_seen, is_asked_for}
+use Rattle.go_base.specs.Told.{told, is_known, is_asked, same_bool}
 
 pub same_bool-true : (a b : Bool) → same_bool a b ≡ true → a ≡ b
 same_bool-true true b h = sym h
@@ -143,5 +143,9 @@ none_agrees s ban cells bans pos good e ce be = record { sound = good; each = ea
     each (CellIs q x) h = absurd (both_ways false refl (sym (ap (λ y. is_known y x) (ap (λ t. get_or t q Unseen) ce ∙ at_unseen largest_points q)) ∙ (and_parts _ _ h).1))
     each (BanIs q x b) h = absurd (both_ways false refl (sym (ap (λ y. is_asked y x) (ap (λ t. get_or t q Neither) be ∙ at_neither largest_points q)) ∙ (and_parts _ _ (and_parts _ _ h).1).0))
 
-pub none_at : (s : ℕ) (ban : Option (ℕ × Colour)) (cells : List Known) (bans : List Asked) (q : ℕ) → cells ≡ replicate largest_points Unseen → bans ≡ replicate largest_points Neither → is_fact_at (nothing_of s ban cells bans) q ≡ false
-none_at s ban cells bans q ce be = rw (ap (λ t. get_or t q Unseen) ce ∙ at_unseen largest_points q, ap (λ t. get_or t q Neither) be ∙ at_neither largest_points q) refl
+-- no fact but the size was seen
+pub none_told : (s : ℕ) (ban : Option (ℕ × Colour)) (cells : List Known) (bans : List Asked) (n : ℕ) → s ≡ n → cells ≡ replicate largest_points Unseen → bans ≡ replicate largest_points Neither
+    → (fact : Fact) → told (nothing_of s ban cells bans) fact ≡ true → fact ≡ SizeIs n
+none_told s ban cells bans n e ce be (SizeIs m) h = ap SizeIs (sym (eqb-true s m h) ∙ e)
+none_told s ban cells bans n e ce be (CellIs q x) h = absurd (both_ways false refl (sym (ap (λ y. is_known y x) (ap (λ t. get_or t q Unseen) ce ∙ at_unseen largest_points q)) ∙ (and_parts _ _ h).1))
+none_told s ban cells bans n e ce be (BanIs q x b) h = absurd (both_ways false refl (sym (ap (λ y. is_asked y x) (ap (λ t. get_or t q Neither) be ∙ at_neither largest_points q)) ∙ (and_parts _ _ (and_parts _ _ h).1).0))

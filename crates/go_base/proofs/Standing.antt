@@ -1,6 +1,6 @@
 -- Where every point's facts hold, all facts hold.
-use Rattle.std.proofs.Common.{◌≡◌, ◌↔◌, ℕ, ◌*◌, ◌<◌, ◌≤◌, ◌&&◌, ◌||◌, Bool, true, false, ltb, not, get_or, refl, sym, ap, subst, arith, inl, inr, ◌∙◌}
-use Rattle.std.proofs.lemmas.Bool.{cases_Bool, both_ways, and_parts, and_from, or_cases, or_left, or_right, lt-ltb, ltb-true, eqb-true, eq-eqb, not-true, not_from_false}
+use Rattle.std.proofs.Common.{◌≡◌, ◌↔◌, ℕ, ◌*◌, ◌<◌, ◌&&◌, ◌||◌, Bool, true, false, ltb, not, get_or, refl, sym, ap, subst, ◌∙◌}
+use Rattle.std.proofs.lemmas.Bool.{both_ways, and_parts, and_from, lt-ltb, ltb-true, eqb-true, eq-eqb}
 use Rattle.go_rules.specs.declared.Cell.{Cell}
 use Rattle.go_rules.specs.declared.Cell.TheVariants.{Empty, Black, White}
 use Rattle.go_rules.specs.declared.Colour.{Colour}
@@ -10,7 +10,6 @@ use Rattle.go_rules.specs.Position.{BoardState, IsPosition, is_banned}
 use Rattle.go_base.specs.declared.facts.Facts.{Facts}
 use Rattle.go_base.specs.declared.facts.Known.{Known}
 use Rattle.go_base.specs.declared.facts.Known.TheVariants.{Unseen, Nothing, BlackStone, WhiteStone}
-use Rattle.go_base.specs.declared.facts.Asked.{Asked}
 use Rattle.go_base.specs.declared.facts.Asked.TheVariants.{Neither}
 use Rattle.go_base.specs.Facts.{Fact, SizeIs, CellIs, BanIs, Holds, Agrees}
 use Rattle.go_base.specs.Told.{told, is_known, is_seen, is_asked, same_bool, HoldsAt}

@@ -1,13 +1,13 @@
 -- What a flood gathers as it visits the neighbours of its stones.
-use Rattle.std.proofs.Common.{◌≡◌, ◌≢◌, ℕ, zero, suc, ◌+◌, ◌*◌, ◌<◌, ◌≤◌, ◌&&◌, Bool, true, false, cond, eqb, ltb, Some, List, [], ◌∷◌, ◌++◌, length, get_or, refl, sym, ap, subst, arith, inl, inr, ◌⊎◌, ◌∙◌}
+use Rattle.std.proofs.Common.{◌≡◌, ◌≢◌, ℕ, zero, suc, ◌+◌, ◌*◌, ◌<◌, ◌≤◌, ◌&&◌, Bool, true, false, cond, ltb, Some, List, [], ◌∷◌, ◌++◌, length, get_or, refl, sym, ap, subst, arith, inl, inr, ◌∙◌}
 use Rattle.std.proofs.lemmas.Bool.{cases_Bool, cases_eq, cases_lt, eq-eqb, eqb-true, or_cases, or_left, or_right, both_ways, and_parts, and_from, lt-ltb, ltb-true}
 use Rattle.std.specs.Ordering.{nat_cmp}
 use Rattle.std.specs.FinSet as sets
 use Rattle.go_rules.specs.declared.Cell.{Cell}
 use Rattle.go_rules.specs.declared.Cell.TheVariants.{Empty, Black, White}
 use Rattle.go_rules.specs.Board.{are_neighbours}
-use Rattle.go_rules.specs.Below.{any_below, set_below}
-use Rattle.go_rules.specs.Strings.{cell_at, same_cell, is_stone, is_in_string, is_liberty, liberty_points, string_at, Path, IsInString}
+use Rattle.go_rules.specs.Below.{set_below}
+use Rattle.go_rules.specs.Strings.{cell_at, same_cell, is_stone, is_in_string, is_liberty, liberty_points}
 use Rattle.go_rules.specs.Boundary.{is_enemy, is_beside_string}
 use Rattle.go_rules.proofs.Counts.{any_below_gives, any_below_from}
 use Rattle.go_rules.proofs.Sets.{contains-set_below, contains-insert_nat, same_nat_set}
@@ -17,7 +17,7 @@ use Rattle.go_rules.specs.Neighbourhood.{neighbourhood_of}
 use Rattle.go_base.specs.Views.{alone}
 use Rattle.go_base.proofs.Closing.{close_next, whole_string, alone_self}
 use Rattle.go_base.specs.Sides.{neighbour_at}
-use Rattle.go_base.specs.Trails.{has_point, add_once}
+use Rattle.go_base.specs.Trails.{add_once}
 use Rattle.go_base.specs.Floods.{Spreads, Gathers, Visits, SpreadsOut, enemy_points}
 use Rattle.go_base.proofs.Beside.{neighbour_at-all, neighbour_at-near}
 use Rattle.go_base.proofs.Flooded.{Flooded, Flooded-start, Flooded-next, Flooded-all, Spreads-none, Spreads-skip, Spreads-add, has_at, has_index}

@@ -1,5 +1,5 @@
 -- What a reading has looked at, and the positions on which it holds.
-use Rattle.std.specs.Prelude.{◌≡◌, ◌≢◌, ℕ, ◌*◌, ◌<◌, Bool, true, IsTrue, ◌⊎◌, Option, Some, None, IfSome}
+use Rattle.std.specs.Prelude.{◌≡◌, ℕ, ◌*◌, ◌<◌, Bool, IsTrue, ◌⊎◌, Option, Some, None, IfSome}
 use Rattle.std.proofs.Common.{inl, inr}
 use Rattle.std.specs.Coded.{le_prop}
 use native.Mathlib.Nat.{ℕ_set}
@@ -46,9 +46,11 @@ pub record AddsIn (before now : Fact → Bool) (S : ℕ → Bool) : Type 0 where
 pub agrees_before : {before now : Fact → Bool} {pos : BoardState} → Grows before now → Agrees now pos → Agrees before pos
 agrees_before g a = record { sound = a.sound; each = λ fact h. a.each fact (g.kept fact h) }
 
+-- what was seen is seen
 pub Grows-refl : (seen : Fact → Bool) → Grows seen seen
 Grows-refl seen = record { kept = λ _ h. h }
 
+-- facts that grow twice grow
 pub Grows-trans : {a b c : Fact → Bool} → Grows a b → Grows b c → Grows a c
 Grows-trans g h = record { kept = λ fact i. h.kept fact (g.kept fact i) }
 
@@ -56,35 +58,44 @@ Grows-trans g h = record { kept = λ fact i. h.kept fact (g.kept fact i) }
 pub same_size : {seen : Fact → Bool} {pos : BoardState} {n : ℕ} → IsTrue (seen (SizeIs n)) → Agrees seen pos → pos.size ≡ n
 same_size {n} told a = a.each (SizeIs n) told
 
+-- nothing came
 pub AddsIn-refl : (seen : Fact → Bool) (S : ℕ → Bool) → AddsIn seen seen S
 AddsIn-refl seen S = record { added = λ _ h. inl h }
 
+-- a fact about a point of a set is about a point of a larger one
 IsAbout-mono : (S T : ℕ → Bool) (fact : Fact) → ((p : ℕ) → IsTrue (S p) → IsTrue (T p)) → IsAbout S fact → IsAbout T fact
 IsAbout-mono S T (SizeIs n) h i = tt
 IsAbout-mono S T (CellIs p cell) h i = h p i
 IsAbout-mono S T (BanIs p c forbidden) h i = h p i
 
+-- what came twice about a set came about it
 pub AddsIn-trans : {a b c : Fact → Bool} {S : ℕ → Bool} → AddsIn a b S → AddsIn b c S → AddsIn a c S
 AddsIn-trans g h = record { added = λ fact i. elim (h.added fact i) [ inl j ↦ g.added fact j | inr j ↦ inr j ] }
 
+-- what came about a set came about a larger one
 pub AddsIn-mono : {a b : Fact → Bool} {S T : ℕ → Bool} → AddsIn a b S → ((p : ℕ) → IsTrue (S p) → IsTrue (T p)) → AddsIn a b T
 AddsIn-mono {S} {T} g m = record { added = λ fact i. elim (g.added fact i) [ inl j ↦ inl j | inr j ↦ inr (IsAbout-mono S T fact m j) ] }
 
+-- a fact about what an option holds has one proof at most where the fact has
 IfSome-prop : {A : Type 0} (o : Option A) (P : A → Type 0) → ((a : A) → IsProp (P a)) → IsProp (IfSome o P)
 IfSome-prop None P h = hlevel
 IfSome-prop (Some a) P h = h a
 
+-- that a ban's point is empty has one proof at most
 ban-prop : (pos : BoardState) → IsProp (IfSome pos.ban (λ b. (b.0 < pos.size * pos.size) × (cell_at pos.cells b.0 ≡ Empty)))
 ban-prop pos = IfSome-prop pos.ban _ (λ b. hlevel (le_prop, ⊎_set))
 
+-- that a board is a position has one proof at most
 IsPosition-prop : (pos : BoardState) → IsProp (IsPosition pos)
 IsPosition-prop pos = hlevel (le_prop, ℕ_set, ban-prop)
 
+-- that a fact is so has one proof at most
 Holds-prop : (pos : BoardState) (fact : Fact) → IsProp (Holds pos fact)
 Holds-prop pos (SizeIs n) = hlevel (ℕ_set pos.size n)
 Holds-prop pos (CellIs p cell) = hlevel ⊎_set
 Holds-prop pos (BanIs p c forbidden) = hlevel ⊎_set
 
+-- that a position agrees has one proof at most
 pub Agrees-prop : (seen : Fact → Bool) (pos : BoardState) → IsProp (Agrees seen pos)
 Agrees-prop seen pos = hlevel (IsPosition-prop, Holds-prop)
 
@@ -92,5 +103,6 @@ Agrees-prop seen pos = hlevel (IsPosition-prop, Holds-prop)
 pub ban_set : (a b : Option (ℕ × Colour)) → IsProp (a ≡ b)
 ban_set a b = hlevel (⊎_set, ℕ_set)
 
+-- that two arrays are whole has one proof at most
 pub whole_prop : (a b : ℕ) → IsProp ((a ≡ largest_points) × (b ≡ largest_points))
 whole_prop a b = hlevel (ℕ_set)

@@ -1,6 +1,6 @@
 -- A board that is held whole.
 use Rattle.std.specs.Prelude.{◌≡◌, ℕ, ◌*◌, ◌≤◌, List, length, take, drop, refl}
-use Rattle.std.proofs.Common.{ap, sym, subst, ◌∙◌, arith, length-take}
+use Rattle.std.proofs.Common.{sym, subst, ◌∙◌, arith, length-take}
 use Rattle.std.proofs.lemmas.Nat.{mul-le}
 use Rattle.go_rules.specs.Board.{largest_size, largest_points}
 use Rattle.go_rules.specs.declared.Cell.{Cell}
@@ -12,9 +12,11 @@ pub record KeepsRest (old new : Flat) : Type 0 where
   pub length : length new.cells ≡ length old.cells
   pub rest : drop (old.size * old.size) new.cells ≡ drop (old.size * old.size) old.cells
 
+-- a board keeps what it has
 pub KeepsRest-refl : (v : Flat) → KeepsRest v v
 KeepsRest-refl v = record { size = refl; length = refl; rest = refl }
 
+-- what is kept twice is kept
 pub KeepsRest-trans : (u v w : Flat) → KeepsRest u v → KeepsRest v w → KeepsRest u w
 KeepsRest-trans u v w a b = record {
   size = b.size ∙ a.size;
@@ -22,6 +24,7 @@ KeepsRest-trans u v w a b = record {
   rest = subst (λ n. drop (n * n) w.cells ≡ drop (n * n) v.cells) a.size b.rest ∙ a.rest;
 }
 
+-- a board that kept its cells had as many before
 pub KeepsRest-back : (u v : Flat) → KeepsRest u v → (length v.cells ≡ largest_points) × (v.size ≤ largest_size) → (length u.cells ≡ largest_points) × (u.size ≤ largest_size)
 KeepsRest-back u v a b = (sym a.length ∙ b.0, subst (λ n. n ≤ largest_size) a.size b.1)
 

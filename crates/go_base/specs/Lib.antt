@@ -9,3 +9,4 @@ pub mod Positions
 pub mod Facts
 pub mod Told
 pub mod Sizes
+pub mod Watches

@@ -9,16 +9,20 @@ use Rattle.go_rules.specs.Position.{BoardState, IsPosition}
 use Rattle.go_base.specs.declared.position.Position.TheInside.{Inside}
 use Rattle.go_base.specs.declared.view.Flat.{Flat}
 
+-- the cells past a board of size s
 abbrev pub padding : ℕ → List Cell
 padding s = replicate (largest_points - s * s) Empty
 
+-- the position that the fields keep
 abbrev pub position_of : Inside → BoardState
 position_of a = record { size = a.size; cells = take (a.size * a.size) a.cells; ban = a.ban }
 
+-- the fields keep a position, and the cells past the board are empty
 pub record IsKept (a : Inside) : Type 0 where
   pub position : IsPosition (position_of a)
   pub padded : drop (a.size * a.size) a.cells ≡ padding a.size
 
+-- the fields that keep a position
 abbrev pub kept_of : BoardState → Inside
 kept_of pos = record { size = pos.size; cells = pos.cells ++ padding pos.size; ban = pos.ban }
 

@@ -10,6 +10,7 @@ use Rattle.go_rules.specs.Play.{is_taken}
 use Rattle.go_rules.specs.Position.{other, stone_of}
 use Rattle.go_base.specs.Views.{alone}
 
+-- what is taken after c put a stone at p hangs on a neighbour of p, which is taken too
 abbrev pub TakenBeside : ℕ → List Cell → Colour → ℕ → Type 0
 TakenBeside s put c p = (q : ℕ) → q < s * s → is_taken s put c q ≡ true → (x : ℕ) × (x < s * s) × (are_neighbours s p x ≡ true) × (is_taken s put c x ≡ true) × Path s put x q
 

@@ -1,5 +1,5 @@
 -- Which facts a record of facts has.
-use Rattle.std.specs.Prelude.{◌≡◌, ℕ, ◌*◌, ◌<◌, ◌==◌, ◌&&◌, ◌||◌, Bool, true, false, nat_lt, IsTrue, slice_index_or}
+use Rattle.std.specs.Prelude.{◌≡◌, ℕ, ◌*◌, ◌==◌, ◌&&◌, ◌||◌, Bool, true, false, nat_lt, IsTrue, slice_index_or}
 use Rattle.go_rules.specs.declared.Cell.{Cell}
 use Rattle.go_rules.specs.declared.Cell.TheVariants.{Empty, Black, White}
 use Rattle.go_rules.specs.declared.Colour.{Colour}
@@ -32,6 +32,7 @@ is_asked OfWhite black = false
 is_asked OfWhite white = true
 is_asked Both c = true
 
+-- both are true, or both are false
 abbrev pub same_bool : Bool → Bool → Bool
 same_bool true b = b
 same_bool false true = false
@@ -48,18 +49,20 @@ pub record HoldsAt (f : Facts) (pos : BoardState) (q : ℕ) : Type 0 where
   pub cell : (cell : Cell) → IsTrue (is_known (slice_index_or f.cells q Unseen) cell) → cell_at pos.cells q ≡ cell
   pub ban : (c : Colour) → IsTrue (is_asked (slice_index_or f.bans q Neither) c) → is_banned pos.ban c q ≡ is_banned f.ban c q
 
--- some fact is about the point
+-- the cell was seen
 abbrev pub is_seen : Known → Bool
 is_seen Unseen = false
 is_seen Nothing = true
 is_seen BlackStone = true
 is_seen WhiteStone = true
 
+-- the ban was asked for
 abbrev pub is_asked_for : Asked → Bool
 is_asked_for Neither = false
 is_asked_for OfBlack = true
 is_asked_for OfWhite = true
 is_asked_for Both = true
 
+-- some fact is about q
 abbrev pub is_fact_at : Facts → ℕ → Bool
 is_fact_at f q = is_seen (slice_index_or f.cells q Unseen) || is_asked_for (slice_index_or f.bans q Neither)

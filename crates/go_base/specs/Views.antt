@@ -13,6 +13,7 @@ pub record Looks {V : Type 0} (cells : V → BoardState → List Cell) (asks : V
 abbrev pub anywhere : ℕ → Bool
 anywhere q = true
 
+-- no point
 abbrev pub nowhere : ℕ → Bool
 nowhere q = false
 

@@ -1,4 +1,4 @@
-//! What was seen of a position: cells, and whether the ban forbade a play.
+//! The recorded facts of a reading: its size, cells of points, and for a point and a colour whether the ko ban forbids the play.
 
 ghost use Rattle.std.specs.Prelude.{◌≡◌, ℕ, ◌*◌, ◌<◌, ◌↔◌, Bool, IsTrue, false, not, ◌||◌, ◌&&◌, slice_index_or, replicate};
 ghost use Rattle.std.specs.FinSet as set;
@@ -34,21 +34,27 @@ pub enum Asked {
     Both,
 }
 
-/// The facts that were seen of a position, in some 740 bytes.
-#[derive(Clone, Copy)]
+/// The facts that were seen of a position, in some 740 bytes. Of the ban it keeps the whole; what counts is what was asked for.
+#[derive(Clone, Copy, Debug)]
 pub struct Facts {
+    /// The size, which is always a fact.
     pub size: Size,
+    /// The ban of the position that was seen.
     pub ban: Option<(Point, Colour)>,
+    /// What is known of the cell of each point.
     pub cells: [Known; MAX_POINTS],
+    /// For which colours the ban was asked for at each point.
     pub bans: [Asked; MAX_POINTS],
 }
 
+/// No cell is known.
 pub fn no_cells() -> [Known; MAX_POINTS]
     ensures { result ≡ replicate largest_points Known.Unseen }
 {
     [Known::Unseen; MAX_POINTS]
 }
 
+/// The ban was asked for nowhere.
 pub fn no_bans() -> [Asked; MAX_POINTS]
     ensures { result ≡ replicate largest_points Asked.Neither }
 {
@@ -56,6 +62,7 @@ pub fn no_bans() -> [Asked; MAX_POINTS]
 }
 
 impl Known {
+    /// What is known of a cell that was seen.
     pub fn of(cell: Cell) -> Known
         ensures { (k : Cell) → IsTrue (is_known result k) ↔ (k ≡ cell) }
     {
@@ -90,7 +97,7 @@ impl Known {
 }
 
 impl Asked {
-    /// The same, and c too.
+    /// Asked for the same colours, and for c too.
     pub fn with(self, c: Colour) -> Asked
         ensures here { IsTrue (is_asked result c) }
         ensures kept { (k : Colour) → IsTrue (is_asked self k) → IsTrue (is_asked result k) }
@@ -160,7 +167,7 @@ impl Facts {
         all(cell, black, white)
     }
 
-    /// Whether every fact is so on the position.
+    /// Whether the position has the same size and every fact holds there.
     pub fn stands(&self, position: &Position) -> bool
         ensures { IsTrue result ↔ Agrees (told self.now) position.now }
     {
@@ -175,7 +182,7 @@ impl Facts {
         true
     }
 
-    /// The points of the facts.
+    /// The points that some fact is about.
     pub fn points(&self) -> PointSet
         ensures { result ≡ set_below (self.now.size * self.now.size) (is_fact_at self.now) }
     {

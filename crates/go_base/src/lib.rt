@@ -14,9 +14,9 @@ pub mod flood;
 pub mod look;
 pub mod points;
 pub mod position;
-pub mod sides;
+mod sides;
 pub mod size;
-pub mod trail;
+mod trail;
 pub mod transform;
 pub mod view;
 
@@ -28,3 +28,6 @@ pub use points::PointSet;
 pub use position::Position;
 pub use size::{Point, Size};
 pub use transform::Transform;
+
+#[cfg(test)]
+mod tests;

@@ -1,4 +1,4 @@
-//! The view of a position that keeps what it was asked.
+//! Views of a position that record what was asked: a reading of the board rests on these facts alone.
 
 ghost use Rattle.std.specs.Prelude.{◌≡◌, ℕ, ◌*◌, ◌<◌, Bool, IsTrue, false, length};
 ghost use Rattle.go_rules.specs.Board.{largest_points};
@@ -6,14 +6,15 @@ ghost use Rattle.go_rules.specs.Strings.{cell_at};
 ghost use Rattle.go_rules.specs.Position.{BoardState, is_banned};
 ghost use Rattle.go_base.specs.Views.{alone};
 ghost use Rattle.go_base.specs.Facts.{Agrees, Grows, AddsIn, Agrees-prop, ban_set, whole_prop};
-ghost use Rattle.go_base.specs.Told.{told, is_fact_at};
+ghost use Rattle.go_base.specs.Told.{told};
 
 use crate::facts::{Facts, Known, no_bans, no_cells};
 use crate::position::Position;
 use crate::size::{Point, Size};
 use go_rules::{Cell, Colour};
 
-/// A view of one position, which keeps what it was told.
+/// A view of one position that records what was asked of it. Each answer is that of the position shown, and is among the facts
+/// seen afterwards; the facts only grow, and each call adds facts about its own point alone.
 pub trait Look {
     ghost use Rattle.go_rules.specs.Position.{BoardState};
     ghost use Rattle.go_base.specs.Facts.{Fact, SizeIs, CellIs, BanIs};
@@ -24,9 +25,11 @@ pub trait Look {
     /// The facts seen so far.
     ghost seen: { Self → Fact → Bool };
 
+    /// The size of the position shown, which is always among the facts.
     fn size(&self) -> Size
         ensures { result ≡ (shows self.now).size };
 
+    /// What stands at p.
     fn cell(&mut self, p: Point) -> Cell
         requires { p < (shows self.old).size * (shows self.old).size }
         ensures same { shows self.new ≡ shows self.old }
@@ -34,6 +37,7 @@ pub trait Look {
         ensures told { IsTrue (seen self.new (CellIs p result)) }
         ensures near { AddsIn (seen self.old) (seen self.new) (alone p) };
 
+    /// Whether the ko ban forbids c to play at p.
     fn ko(&mut self, p: Point, c: Colour) -> bool
         requires { p < (shows self.old).size * (shows self.old).size }
         ensures same { shows self.new ≡ shows self.old }
@@ -48,7 +52,7 @@ pub trait Look {
     ghost sized: { (look : Self) → IsTrue (seen look (SizeIs (shows look).size)) };
 }
 
-/// A view of a position that records what it was asked.
+/// The recording view over a position. Its facts hold on the position as long as it lives; it is ended by letting it go.
 #[derive(Drop)]
 pub struct Watch<'a> {
     position: &'a Position,
@@ -59,10 +63,13 @@ pub struct Watch<'a> {
 }
 
 impl<'a> Watch<'a> {
-    /// A view with no facts but the size.
+    ghost use Rattle.go_base.specs.Facts.{Fact, SizeIs};
+    ghost use Rattle.go_base.specs.Watches.{shown_by, facts_of};
+
+    /// A view with no fact but the size.
     pub fn new(position: &'a Position) -> Watch<'a>
-        ensures shows { result.position.now ≡ position.now }
-        ensures none { (p : ℕ) → is_fact_at result.facts p ≡ false }
+        ensures shows { shown_by result ≡ position.now }
+        ensures none { (fact : Fact) → IsTrue (told (facts_of result) fact) → fact ≡ SizeIs position.now.size }
     {
         let facts = Facts {
             size: position.size(),
@@ -73,9 +80,9 @@ impl<'a> Watch<'a> {
         Watch { position, facts }
     }
 
-    /// What was seen until now.
+    /// The facts recorded until now.
     pub fn facts(&self) -> Facts
-        ensures { result ≡ self.now.facts }
+        ensures { result ≡ facts_of self.now }
     {
         self.facts
     }

@@ -1,4 +1,4 @@
-//! Positions and plays: the public calls over the shared flood and play.
+//! Positions of the game, and the plays and passes that lead from one to the next.
 
 ghost use Rattle.std.specs.Prelude.{◌≡◌, ℕ, ◌*◌, ◌<◌, replicate, None, IfOk};
 ghost use Rattle.go_rules.specs.Board.{largest_points};
@@ -15,8 +15,9 @@ use crate::view::Flat;
 use go_rules::{Cell, Colour, Illegal};
 use std::marker::Model;
 
-/// A position of the game: each string has a liberty, and the ban's point is empty.
-#[derive(Clone, Copy)]
+/// A position of the game: what stands on each point, and the ko ban. Every string has a liberty, and the ban's point is on the
+/// board and empty. It is small and may be copied; no call takes memory.
+#[derive(Clone, Copy, Debug, PartialEq, Eq)]
 pub struct Position {
     size: Size,
     ban: Option<(Point, Colour)>,
@@ -47,7 +48,7 @@ fn empty_cells() -> [Cell; MAX_POINTS]
 }
 
 impl Position {
-    /// The empty board.
+    /// The empty board, without a ban.
     pub fn new(size: Size) -> Position
         ensures { result ≡ record { size = size; cells = replicate (size * size) Cell.Empty; ban = None } }
     {
@@ -59,6 +60,7 @@ impl Position {
         }
     }
 
+    /// The size of the board.
     pub fn size(&self) -> Size
         ensures value { result ≡ self.now.size }
         ensures position { IsPosition self.now }
@@ -66,6 +68,7 @@ impl Position {
         self.size
     }
 
+    /// What stands at p.
     pub fn cell(&self, p: Point) -> Cell
         requires { p < self.now.size * self.now.size }
         ensures { result ≡ cell_at self.now.cells p }
@@ -73,20 +76,20 @@ impl Position {
         self.cells[p as usize]
     }
 
+    /// The play that the ko ban forbids: a point, and the colour that may not play there.
     pub fn ban(&self) -> Option<(Point, Colour)>
         ensures { result ≡ self.now.ban }
     {
         self.ban
     }
 
+    /// The position after a pass of either colour: the same, without the ban.
     pub fn pass(&self) -> Position
         ensures { result ≡ passed self.now }
     {
-        Position {
-            size: self.size,
-            ban: None,
-            cells: self.cells,
-        }
+        let mut next = *self;
+        next.ban = None;
+        next
     }
 
     /// A copy of the board.
@@ -100,7 +103,7 @@ impl Position {
         }
     }
 
-    /// The string of p, with no point where p is empty.
+    /// The stones of the string of p, none where p is empty.
     pub fn string(&self, p: Point) -> PointSet
         requires { p < self.now.size * self.now.size }
         ensures { result ≡ string_at self.now.size self.now.cells p }
@@ -118,7 +121,7 @@ impl Position {
         liberties_of(&mut board, p).count()
     }
 
-    /// Whether the ban is on this play.
+    /// Whether the ko ban forbids c to play at p.
     pub fn bans(&self, c: Colour, p: Point) -> bool
         ensures { result ≡ is_banned self.now.ban c p }
     {
@@ -128,7 +131,7 @@ impl Position {
         }
     }
 
-    /// The play with no regard to the ban.
+    /// The position after c plays at p, with the ban dropped first: Occupied or Suicide, as for `play`, and never Ko.
     pub fn play_free(&self, c: Colour, p: Point) -> Result<Position, Illegal>
         requires { p < self.now.size * self.now.size }
         ensures value { result ≡ played_free self.now c p }
@@ -145,7 +148,8 @@ impl Position {
         }
     }
 
-    /// The play, or the first reason that forbids it.
+    /// The position after c plays at p, or the first reason against it: Occupied where a stone stands at p, Ko where the ban forbids
+    /// the play, Suicide where the stone's string would have no liberty after the captures.
     pub fn play(&self, c: Colour, p: Point) -> Result<Position, Illegal>
         requires { p < self.now.size * self.now.size }
         ensures value { result ≡ played self.now c p }

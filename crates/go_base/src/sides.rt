@@ -6,7 +6,8 @@ ghost use Rattle.go_base.specs.Sides.{neighbour_at};
 
 use crate::size::{Point, Size};
 
-/// The neighbour of p above, below, to the left or to the right, if the board has it.
+/// The neighbour of p above (side 0), below (1), to the left (2) or to the right (3), None where p is on that edge.
+#[inline(always)]
 pub fn neighbour(size: Size, p: Point, side: u8) -> Option<Point>
     requires on_board { p < size * size }
     requires side { side < 4 }

@@ -20,7 +20,7 @@ pub const MAX_OFFSET: i8 = MAX_SIZE as i8 - 1;
 /// A point of a board, as row * size + column.
 pub use go_rules::Point;
 
-/// The number of rows and of columns of a board.
+/// The size of a board: how many rows and how many columns it has. Seen as this number.
 #[derive(Clone, Copy, Debug, PartialEq, Eq)]
 pub struct Size {
     rows: u8,
@@ -37,6 +37,7 @@ impl Model for Size {
 }
 
 impl Size {
+    /// The size of a board with n rows, None exactly where no board may have that many.
     pub fn new(n: u8) -> Option<Size>
         ensures valid { IsSome result ↔ IsSize n }
         ensures value { IfSome result (λ s. s ≡ n) }
@@ -48,6 +49,7 @@ impl Size {
         }
     }
 
+    /// How many rows the board has, which is also how many columns.
     pub fn get(self) -> u8
         ensures value { result ≡ self }
         ensures at_least { smallest_size ≤ self }
@@ -64,6 +66,7 @@ impl Size {
         self.rows as u16 * self.rows as u16
     }
 
+    /// The point in a row from the top and a column from the left, both counted from 0; None exactly off the board.
     pub fn point(self, row: u8, column: u8) -> Option<Point>
         ensures valid { IsSome result ↔ IsOnBoard self (row, column) }
         ensures value { IfSome result (λ p. p ≡ point_at self (row, column)) }

@@ -9,7 +9,8 @@ ghost use Rattle.go_base.specs.Views.{Looks, anywhere, nowhere, alone};
 use crate::size::{MAX_POINTS, Point, Size};
 use go_rules::Cell;
 
-/// A board whose cells are told one by one. What it tells is so over each position that agrees with what was told.
+/// A board whose cells are told one by one and may be written over, so that one flood serves a position and a board of trial moves.
+/// What it tells is so over each position that agrees with what was told.
 pub trait View {
     /// How many rows the board has.
     ghost rows: { Self → ℕ };
@@ -23,6 +24,7 @@ pub trait View {
     /// From the first to the second only points of the set were asked for.
     ghost asks: { Self → Self → (ℕ → Bool) → Type 0 };
 
+    /// The size of the board.
     fn size(&self) -> Size
         ensures { result ≡ rows self.now };
 
@@ -51,7 +53,7 @@ pub trait View {
     ghost whole: { (v : Self) (pos : BoardState) → agrees v pos → length (cells v pos) ≡ rows v * rows v };
 }
 
-/// A board that is held whole.
+/// A board that is held whole, as a position is played on.
 #[derive(Clone, Copy)]
 pub struct Flat {
     pub size: Size,

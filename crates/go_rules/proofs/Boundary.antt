@@ -1,20 +1,19 @@
 -- Strings that are the same, and the least point of each.
-use Rattle.std.proofs.Common.{◌≡◌, ◌⊎◌, ℕ, ◌+◌, ◌*◌, ◌<◌, ◌≤◌, ◌&&◌, ltb, Bool, true, false, not, List, refl, sym, ap, subst, arith, inl, inr, ◌∙◌}
+use Rattle.std.proofs.Common.{◌≡◌, ◌⊎◌, ℕ, ◌+◌, ◌*◌, ◌<◌, ◌≤◌, ◌&&◌, Bool, true, false, List, refl, sym, ap, subst, arith, inl, inr, ◌∙◌}
 use Rattle.std.proofs.lemmas.Bool.{cases_Bool, cases_eq, cases_lt, or_cases, or_left, or_right, eqb-true, eq-eqb, both_ways, and_parts, and_from, lt-ltb, ltb-true, not-true, not_from_false}
 use Rattle.std.specs.Ordering.{nat_cmp}
 use Rattle.std.specs.Cmp.{nat_cmp_total}
 use Rattle.std.specs.FinSet as sets
 use Rattle.go_rules.specs.declared.Cell.{Cell}
 use Rattle.go_rules.specs.declared.Cell.TheVariants.{Empty, Black, White}
-use Rattle.go_rules.specs.Board.{are_neighbours}
-use Rattle.go_rules.specs.Below.{any_below}
-use Rattle.go_rules.specs.Strings.{cell_at, is_stone, is_in_string, string_at, Path, start, IsInString}
+use Rattle.go_rules.specs.Strings.{cell_at, is_stone, is_in_string, string_at, start}
 use Rattle.go_rules.specs.Boundary.{is_enemy, is_beside_string, is_boundary, boundary_points}
-use Rattle.go_rules.proofs.Counts.{any_below_gives, any_below_from, any_below_none, any_below_false, any_below_same}
+use Rattle.go_rules.proofs.Counts.{any_below_gives, any_below_from, any_below_none, any_below_false}
 use Rattle.go_rules.proofs.Sets.{contains-set_below, contains-insert_nat, same_nat_set}
 use Rattle.go_rules.proofs.Paths.{path_on_board, IsInString-from_test, is_is_in_string-from_fact}
 use Rattle.go_rules.proofs.Links.{path_same, path_on, path_back}
 
+-- the stones of a string are on the board
 pub is_in_string_on : (s : ℕ) (cells : List Cell) (p q : ℕ) → p < s * s → is_in_string s cells p q ≡ true → q < s * s
 is_in_string_on s cells p q on h = path_on_board s cells p on (IsInString-from_test s cells p q h).path
 
@@ -24,17 +23,21 @@ string_on s cells p q k on h i =
     let a = IsInString-from_test s cells p q h in
     is_is_in_string-from_fact s cells p k on (record { stone = a.stone; path = path_on s cells p q a.path (IsInString-from_test s cells q k i).path })
 
+-- where q is of the string of p, p is of the string of q
 pub string_back : (s : ℕ) (cells : List Cell) (p q : ℕ) → p < s * s → is_in_string s cells p q ≡ true → is_in_string s cells q p ≡ true
 string_back s cells p q on h =
     let a = IsInString-from_test s cells p q h in
     is_is_in_string-from_fact s cells q p (path_on_board s cells p on a.path) (record { stone = ap is_stone (path_same s cells p a.path) ∙ a.stone; path = path_back s cells p on a.path })
 
+-- the stones of a string are of one colour
 pub string_cell : (s : ℕ) (cells : List Cell) (p q : ℕ) → is_in_string s cells p q ≡ true → cell_at cells q ≡ cell_at cells p
 string_cell s cells p q h = path_same s cells p (IsInString-from_test s cells p q h).path
 
+-- a stone is of its own string
 pub string_self : (s : ℕ) (cells : List Cell) (p : ℕ) → p < s * s → is_stone (cell_at cells p) ≡ true → is_in_string s cells p p ≡ true
 string_self s cells p on h = is_is_in_string-from_fact s cells p p on (record { stone = h; path = start })
 
+-- an enemy is a stone
 pub enemy_stone : (a b : Cell) → is_enemy a b ≡ true → is_stone b ≡ true
 enemy_stone Black White h = refl
 enemy_stone White Black h = refl
@@ -60,6 +63,7 @@ pub record AddsLeast (s : ℕ) (cells : List Cell) (q : ℕ) (old new : sets.Fin
   pub only : (r : ℕ) → sets.contains new r ≡ true → (sets.contains old r ≡ true) ⊎ LeastOf s cells q r
   pub all : (r : ℕ) → LeastOf s cells q r → sets.contains new r ≡ true
 
+-- no point is below 0
 pub Bounds-none : (s : ℕ) (cells : List Cell) (p : ℕ) (least : sets.FinSet nat_cmp) → least ≡ sets.empty → Bounds s cells p 0 least
 Bounds-none s cells p least e = record {
   only = λ r h. absurd (both_ways (sets.contains least r) (ap (λ t. sets.contains t r) e ∙ sets.contains-empty nat_cmp r) h);
@@ -93,6 +97,7 @@ boundary_of s cells p q r on beside enemy h =
           (any_below_from (s * s) _ q on (and_from _ _ back beside)),
     )
 
+-- the next point is an enemy next to the string, and its least point came
 pub Bounds-add : (s : ℕ) (cells : List Cell) (p n : ℕ) (least new : sets.FinSet nat_cmp) → Bounds s cells p n least → n < s * s
     → is_beside_string s cells p n ≡ true → is_enemy (cell_at cells p) (cell_at cells n) ≡ true → AddsLeast s cells n least new → Bounds s cells p (n + 1) new
 Bounds-add s cells p n least new b on beside enemy add = record {
@@ -119,6 +124,7 @@ least_found s cells p n r least b whole on h =
       ];
     })
 
+-- where every point was passed, the set is the boundary
 pub Bounds-all : (s : ℕ) (cells : List Cell) (p n : ℕ) (least : sets.FinSet nat_cmp) → Bounds s cells p n least → s * s ≤ n → least ≡ boundary_points s cells p
 unfolding boundary_points
 Bounds-all s cells p n least b whole =

@@ -12,6 +12,7 @@ use Rattle.go_rules.specs.Strings.{same_cell, is_stone}
 use Rattle.go_rules.specs.Position.{same_colour}
 use Rattle.go_rules.proofs.Paths.{same_cell-true, same_cell-from}
 
+-- the derived == of cells is the test of the definitions
 pub eq_is_same_cell : (a b : Cell) → sameb the_type a b ≡ same_cell a b
 eq_is_same_cell Empty Empty = refl
 eq_is_same_cell Empty Black = refl
@@ -23,18 +24,22 @@ eq_is_same_cell White Empty = refl
 eq_is_same_cell White Black = refl
 eq_is_same_cell White White = refl
 
+-- the derived == of colours is the test of the definitions
 pub eq_is_same_colour : (a b : Colour) → sameb colour_type a b ≡ same_colour a b
 eq_is_same_colour black black = refl
 eq_is_same_colour black white = refl
 eq_is_same_colour white black = refl
 eq_is_same_colour white white = refl
 
+-- cells that compare as equal are equal
 pub cells_same : (a b : Cell) (r : Bool) → r ≡ sameb the_type a b → r ≡ true → a ≡ b
 cells_same a b r e t = same_cell-true a b (sym (e ∙ eq_is_same_cell a b) ∙ t)
 
+-- cells that compare as different differ
 pub cells_differ : (a b : Cell) (r : Bool) → r ≡ sameb the_type a b → r ≡ false → a ≡ b → ⊥
 cells_differ a b r e f h = both_ways r f (e ∙ eq_is_same_cell a b ∙ same_cell-from a b h)
 
+-- cells that do not compare as different hold the same
 pub ne_false_same : (a b : Cell) (r : Bool) → r ≡ not (sameb the_type a b) → r ≡ false → same_cell a b ≡ true
 ne_false_same a b r e f = sym (eq_is_same_cell a b) ∙ not-false (sameb the_type a b) (sym e ∙ f)
 

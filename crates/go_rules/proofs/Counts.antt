@@ -12,6 +12,7 @@ any_below_gives (suc n) test h =
       | inr below ↦ let found = any_below_gives n test below in (found.0, omega (arith, found.1), found.2)
     ]
 
+-- where a number passes, some number passes
 pub any_below_from : (n : ℕ) (test : ℕ → Bool) (k : ℕ) → k < n → test k ≡ true → any_below n test ≡ true
 any_below_from zero test k h t = absurd (omega arith)
 any_below_from (suc n) test k h t =
@@ -20,6 +21,7 @@ any_below_from (suc n) test k h t =
       | inr ne ↦ or_right (test n) (any_below n test) (any_below_from n test k (omega arith) t)
     ]
 
+-- where none passes, this one does not
 pub any_below_none : (n : ℕ) (test : ℕ → Bool) (k : ℕ) → any_below n test ≡ false → k < n → test k ≡ false
 any_below_none zero test k h l = absurd (omega arith)
 any_below_none (suc n) test k h l =
@@ -29,6 +31,7 @@ any_below_none (suc n) test k h l =
       | inr ne ↦ any_below_none n test k parts.1 (omega arith)
     ]
 
+-- no more pass than there are
 pub count_below_at_most : (n : ℕ) (test : ℕ → Bool) → count_below n test ≤ n
 count_below_at_most zero test = omega arith
 count_below_at_most (suc n) test =
@@ -63,14 +66,17 @@ count_below_less (suc n) a b h q l miss hit =
           ]
     ]
 
+-- tests that agree below n agree on whether some number passes
 pub any_below_same : (n : ℕ) (a b : ℕ → Bool) → ((k : ℕ) → k < n → a k ≡ b k) → any_below n a ≡ any_below n b
 any_below_same zero a b h = refl
 any_below_same (suc n) a b h = rw (h n (omega arith), any_below_same n a b (λ k l. h k (omega arith))) refl
 
+-- tests that agree below n agree on how many pass
 pub count_below_same : (n : ℕ) (a b : ℕ → Bool) → ((k : ℕ) → k < n → a k ≡ b k) → count_below n a ≡ count_below n b
 count_below_same zero a b h = refl
 count_below_same (suc n) a b h = rw (h n (omega arith), count_below_same n a b (λ k l. h k (omega arith))) refl
 
+-- the least number that passes is below n and passes
 pub first_below_gives : (n : ℕ) (test : ℕ → Bool) (q : ℕ) → first_below n test ≡ Some q → (q < n) × (test q ≡ true)
 first_below_gives zero test q h = absurd (cc)
 first_below_gives (suc n) test q h =
@@ -82,10 +88,12 @@ first_below_gives (suc n) test q h =
       ]
     ]
 
+-- where each fails, none passes
 pub any_below_false : (n : ℕ) (test : ℕ → Bool) → ((k : ℕ) → k < n → test k ≡ false) → any_below n test ≡ false
 any_below_false zero test h = refl
 any_below_false (suc n) test h = rw (h n (omega arith), any_below_false n test (λ k l. h k (omega arith))) refl
 
+-- a number that passes, and none before it, is the least
 pub first_below_is : (n : ℕ) (test : ℕ → Bool) (q : ℕ) → q < n → test q ≡ true → ((r : ℕ) → r < q → test r ≡ false) → first_below n test ≡ Some q
 first_below_is zero test q l t none = absurd (omega arith)
 first_below_is (suc n) test q l t none =
@@ -94,6 +102,7 @@ first_below_is (suc n) test q l t none =
       | inr ne ↦ rw (any_below_from n test q (omega arith) t) (first_below_is n test q (omega arith) t none)
     ]
 
+-- where each fails, there is no least
 pub first_below_none : (n : ℕ) (test : ℕ → Bool) → ((k : ℕ) → k < n → test k ≡ false) → first_below n test ≡ None
 first_below_none zero test h = refl
 first_below_none (suc n) test h = rw (any_below_false n test (λ k l. h k (omega arith)), h n (omega arith)) refl

@@ -8,33 +8,40 @@ use Rattle.go_rules.specs.Strings.{cell_at, Path, start, step, IsInString, IsLib
 use Rattle.go_rules.proofs.Counts.{count_below_less, any_below_gives}
 use Rattle.go_rules.proofs.Paths.{path_on_board, IsLiberty-from_test, is_liberty-from_fact}
 
+-- which number is compared with which does not matter
 eqb_comm : (a b : ℕ) → eqb a b ≡ eqb b a
 eqb_comm a b = elim (cases_eq a b) [
   | inl e ↦ eq-eqb a b e ∙ sym (eq-eqb b a (sym e))
   | inr ne ↦ ne_eqb a b ne ∙ sym (ne_eqb b a (λ e. ne (sym e)))
 ]
 
+-- which of two tests comes first does not matter
 or_comm : (a b : Bool) → (a || b) ≡ (b || a)
 or_comm true true = refl
 or_comm true false = refl
 or_comm false true = refl
 or_comm false false = refl
 
+-- which of two numbers follows the other does not matter
 one_apart_comm : (a b : ℕ) → are_one_apart a b ≡ are_one_apart b a
 one_apart_comm a b = or_comm (eqb a (b + 1)) (eqb b (a + 1))
 
+-- neighbours are neighbours in both directions
 pub are_neighbours_comm : (s p q : ℕ) → are_neighbours s p q ≡ are_neighbours s q p
 unfolding are_neighbours
 are_neighbours_comm s p q = rw (eqb_comm (p / s) (q / s), one_apart_comm (p % s) (q % s), eqb_comm (p % s) (q % s), one_apart_comm (p / s) (q / s)) refl
 
+-- a path leads over points that hold the same
 pub path_same : (s : ℕ) (cells : List Cell) (p : ℕ) {q : ℕ} → Path s cells p q → cell_at cells q ≡ cell_at cells p
 path_same s cells p start = refl
 path_same s cells p (step path on near same) = same
 
+-- paths lead on
 pub path_on : (s : ℕ) (cells : List Cell) (p q : ℕ) → Path s cells p q → {r : ℕ} → Path s cells q r → Path s cells p r
 path_on s cells p q first start = first
 path_on s cells p q first (step path on near same) = step (path_on s cells p q first path) on near (same ∙ path_same s cells p first)
 
+-- paths lead back
 pub path_back : (s : ℕ) (cells : List Cell) (p : ℕ) → p < s * s → {q : ℕ} → Path s cells p q → Path s cells q p
 path_back s cells p h start = start
 path_back s cells p h (step {q} {r} path on near same) =
@@ -56,6 +63,7 @@ liberty_moves s cells p q l h link lib = record {
   beside = (lib.beside.0, record { stone = link.stone; path = path_on s cells p q link.path lib.beside.1.path }, lib.beside.2);
 }
 
+-- where some are counted, some number passes
 count_below_some : (n : ℕ) (test : ℕ → Bool) → 0 < count_below n test → any_below n test ≡ true
 count_below_some zero test h = absurd (omega arith)
 count_below_some (suc n) test h =
@@ -64,12 +72,14 @@ count_below_some (suc n) test h =
       | inr f ↦ rw f (count_below_some n test (let g = rw f at h in omega arith))
     ]
 
+-- where liberties are counted, there is one
 pub liberties_some : (s : ℕ) (cells : List Cell) (p : ℕ) → 0 < liberties s cells p → (l : ℕ) × IsLiberty s cells p l
 unfolding liberties
 liberties_some s cells p h =
     let found = any_below_gives (s * s) (is_liberty s cells p) (count_below_some (s * s) (is_liberty s cells p) h) in
     (found.0, IsLiberty-from_test s cells p found.0 found.2)
 
+-- where there is a liberty, some are counted
 pub liberties_from : (s : ℕ) (cells : List Cell) (p l : ℕ) → p < s * s → IsLiberty s cells p l → 0 < liberties s cells p
 unfolding liberties
 liberties_from s cells p l h lib =

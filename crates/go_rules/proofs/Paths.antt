@@ -8,6 +8,7 @@ use Rattle.go_rules.specs.Board.{are_neighbours}
 use Rattle.go_rules.specs.Strings.{same_cell, cell_at, Path, start, step, reached, is_in_string, IsInString, is_liberty, IsLiberty}
 use Rattle.go_rules.proofs.Counts.{any_below_gives, any_below_from, any_below_none, count_below_at_most, count_below_less}
 
+-- cells that hold the same are equal
 pub same_cell-true : (a b : Cell) → same_cell a b ≡ true → a ≡ b
 same_cell-true Empty Empty h = refl
 same_cell-true Black Black h = refl
@@ -19,11 +20,13 @@ same_cell-true Black White h = absurd (both_ways false refl h)
 same_cell-true White Empty h = absurd (both_ways false refl h)
 same_cell-true White Black h = absurd (both_ways false refl h)
 
+-- a cell holds what it holds
 same_cell-itself : (a : Cell) → same_cell a a ≡ true
 same_cell-itself Empty = refl
 same_cell-itself Black = refl
 same_cell-itself White = refl
 
+-- equal cells hold the same
 pub same_cell-from : (a b : Cell) → a ≡ b → same_cell a b ≡ true
 same_cell-from a b e = subst (λ x. same_cell a x ≡ true) e (same_cell-itself a)
 
@@ -32,14 +35,17 @@ abbrev grows : ℕ → List Cell → ℕ → (ℕ → Bool) → ℕ → Bool
 grows s cells p before q =
     before q || (ltb q (s * s) && same_cell (cell_at cells q) (cell_at cells p) && any_below (s * s) (λ r. before r && are_neighbours s r q))
 
+-- one more step reaches what is next to what was reached
 reached-suc : (s : ℕ) (cells : List Cell) (p n q : ℕ) → reached s cells p (suc n) q ≡ grows s cells p (reached s cells p n) q
 unfolding reached
 reached-suc s cells p n q = refl
 
+-- no step reaches the point itself alone
 reached-zero : (s : ℕ) (cells : List Cell) (p q : ℕ) → reached s cells p zero q ≡ eqb q p
 unfolding reached
 reached-zero s cells p q = refl
 
+-- a path leads to what is reached
 pub path_from_reached : (s : ℕ) (cells : List Cell) (p n q : ℕ) → reached s cells p n q ≡ true → Path s cells p q
 path_from_reached s cells p zero q h =
     let e : q ≡ p = eqb-true q p (sym (reached-zero s cells p q) ∙ h) in
@@ -60,13 +66,16 @@ pub path_on_board : (s : ℕ) (cells : List Cell) (p : ℕ) → p < s * s → {q
 path_on_board s cells p h start = h
 path_on_board s cells p h (step path on near same) = on
 
+-- what is reached by n steps is reached by one more
 reached_more : (s : ℕ) (cells : List Cell) (p n q : ℕ) → reached s cells p n q ≡ true → reached s cells p (suc n) q ≡ true
 reached_more s cells p n q h = reached-suc s cells p n q ∙ or_left _ _ h
 
+-- the point itself is reached
 reached_start : (s : ℕ) (cells : List Cell) (p n : ℕ) → reached s cells p n p ≡ true
 reached_start s cells p zero = reached-zero s cells p p ∙ eq-eqb p p refl
 reached_start s cells p (suc n) = reached_more s cells p n p (reached_start s cells p n)
 
+-- what is reached by k steps is reached by more
 reached_later : (s : ℕ) (cells : List Cell) (p q k n : ℕ) → k ≤ n → reached s cells p k q ≡ true → reached s cells p n q ≡ true
 reached_later s cells p q k zero le h = let e : k ≡ 0 = omega arith in subst (λ x. reached s cells p x q ≡ true) e h
 reached_later s cells p q k (suc n) le h =
@@ -79,6 +88,7 @@ reached_later s cells p q k (suc n) le h =
 abbrev IsStable : ℕ → List Cell → ℕ → ℕ → Type 0
 IsStable s cells p k = (q : ℕ) → q < s * s → reached s cells p (suc k) q ≡ true → reached s cells p k q ≡ true
 
+-- where one more step reaches nothing new, what a path leads to is reached
 reached_from_path : (s : ℕ) (cells : List Cell) (p k : ℕ) → p < s * s → IsStable s cells p k → {q : ℕ} → Path s cells p q → reached s cells p k q ≡ true
 reached_from_path s cells p k h stable start = reached_start s cells p k
 reached_from_path s cells p k h stable (step {q} {r} path on near same) =
@@ -126,10 +136,12 @@ IsInString-from_test s cells p q h =
     let parts = and_parts _ _ h in
     record { stone = parts.0; path = path_from_reached s cells p (s * s) q parts.1 }
 
+-- the fact of a string gives the test
 pub is_is_in_string-from_fact : (s : ℕ) (cells : List Cell) (p q : ℕ) → p < s * s → IsInString s cells p q → is_in_string s cells p q ≡ true
 unfolding is_in_string
 is_is_in_string-from_fact s cells p q h fact = and_from _ _ fact.stone (reached_all s cells p h fact.path)
 
+-- the test of a liberty gives the fact
 pub IsLiberty-from_test : (s : ℕ) (cells : List Cell) (p l : ℕ) → is_liberty s cells p l ≡ true → IsLiberty s cells p l
 unfolding is_liberty
 IsLiberty-from_test s cells p l h =
@@ -139,6 +151,7 @@ IsLiberty-from_test s cells p l h =
     let both = and_parts _ _ found.2 in
     record { on_board = ltb-true _ _ first.0; is_empty = same_cell-true _ _ first.1; beside = (found.0, IsInString-from_test s cells p found.0 both.0, both.1) }
 
+-- the fact of a liberty gives the test
 pub is_liberty-from_fact : (s : ℕ) (cells : List Cell) (p l : ℕ) → p < s * s → IsLiberty s cells p l → is_liberty s cells p l ≡ true
 unfolding is_liberty
 is_liberty-from_fact s cells p l h fact =

@@ -18,14 +18,17 @@ use Rattle.go_rules.specs.Play.{is_taken, taken_at, cells_after}
 use Rattle.go_rules.proofs.Paths.{path_on_board, same_cell-true, same_cell-from}
 use Rattle.go_rules.proofs.Links.{path_same, path_back, path_keeps, liberty_moves, liberties_some, liberties_from, are_neighbours_comm}
 
+-- the cell of a colour holds a stone
 pub stone_is : (c : Colour) → is_stone (stone_of c) ≡ true
 stone_is black = refl
 stone_is white = refl
 
+-- the colours have different stones
 pub enemy_differs : (c : Colour) → stone_of (other c) ≡ stone_of c → ⊥
 enemy_differs black h = both_ways (same_cell White Black) refl (same_cell-from White Black h)
 enemy_differs white h = both_ways (same_cell Black White) refl (same_cell-from Black White h)
 
+-- a stone is of one of the two colours
 stone_cases : (c : Colour) (k : Cell) → is_stone k ≡ true → (k ≡ stone_of c) ⊎ (k ≡ stone_of (other c))
 stone_cases c Empty h = absurd (both_ways false refl h)
 stone_cases black Black h = inl refl
@@ -33,21 +36,26 @@ stone_cases black White h = inr refl
 stone_cases white Black h = inr refl
 stone_cases white White h = inl refl
 
+-- what is no stone is empty
 pub empty_from : (k : Cell) → is_stone k ≡ false → k ≡ Empty
 empty_from Empty h = refl
 empty_from Black h = absurd (both_ways true h refl)
 empty_from White h = absurd (both_ways true h refl)
 
+-- the point of a put holds what was put
 pub at_put_same : (cells : List Cell) (p : ℕ) (k : Cell) → p < length cells → cell_at (set cells p k) p ≡ k
 at_put_same cells p k h = get_or-set_same cells p k Empty h
 
+-- a put changes no other point
 pub at_put_other : (cells : List Cell) (p q : ℕ) (k : Cell) → q ≢ p → cell_at (set cells p k) q ≡ cell_at cells q
 at_put_other cells p q k ne = get_or-set_other cells p q k Empty ne
 
+-- the cells after a play are as many as the points
 pub length_after : (s : ℕ) (put : List Cell) (c : Colour) → length (cells_after s put c) ≡ s * s
 unfolding cells_after
 length_after s put c = length-map-range_with_len _ 0 (s * s)
 
+-- what a point holds after a play
 pub at_after : (s : ℕ) (put : List Cell) (c : Colour) (q : ℕ) → q < s * s → cell_at (cells_after s put c) q ≡ cond (is_taken s put c q) Empty (cell_at put q)
 unfolding cells_after
 at_after s put c q h = get_or-map-range_with_len _ 0 (s * s) q q Empty h (omega arith)
@@ -57,19 +65,23 @@ pub taken_parts : (s : ℕ) (put : List Cell) (c : Colour) (q : ℕ) → is_take
 unfolding is_taken
 taken_parts s put c q h = let parts = and_parts _ _ h in (same_cell-true _ _ parts.0, eqb-true _ _ parts.1)
 
+-- an enemy whose string has no liberty is taken
 pub taken_from : (s : ℕ) (put : List Cell) (c : Colour) (q : ℕ) → cell_at put q ≡ stone_of (other c) → liberties s put q ≡ 0 → is_taken s put c q ≡ true
 unfolding is_taken
 taken_from s put c q e z = and_from _ _ (same_cell-from _ _ e) (eq-eqb _ _ z)
 
+-- a stone of the player is not taken
 pub own_not_taken : (s : ℕ) (put : List Cell) (c : Colour) (q : ℕ) → cell_at put q ≡ stone_of c → is_taken s put c q ≡ false
 own_not_taken s put c q e = elim (cases_Bool (is_taken s put c q)) [ inl t ↦ absurd (enemy_differs c (sym (taken_parts s put c q t).0 ∙ e)) | inr f ↦ f ]
 
+-- an empty point is not taken
 pub empty_not_taken : (s : ℕ) (put : List Cell) (c : Colour) (q : ℕ) → cell_at put q ≡ Empty → is_taken s put c q ≡ false
 empty_not_taken s put c q e = elim (cases_Bool (is_taken s put c q)) [
   | inl t ↦ absurd (both_ways (is_stone Empty) refl (ap is_stone (sym e ∙ (taken_parts s put c q t).0) ∙ stone_is (other c)))
   | inr f ↦ f
 ]
 
+-- a stone whose string has a liberty is not taken
 pub alive_not_taken : (s : ℕ) (put : List Cell) (c : Colour) (q : ℕ) → 0 < liberties s put q → is_taken s put c q ≡ false
 alive_not_taken s put c q h = elim (cases_Bool (is_taken s put c q)) [ inl t ↦ (let z = (taken_parts s put c q t).1 in absurd (omega arith)) | inr f ↦ f ]
 

@@ -6,9 +6,11 @@ use Rattle.std.specs.Cmp.{nat_cmp_total, unsigned_tied}
 use Rattle.std.specs.FinSet as set
 use Rattle.go_rules.specs.Below.{set_below, count_below}
 
+-- numbers that compare as equal are equal
 pub eq_by_nat_cmp : (q k : ℕ) → eq_by_cmp nat_cmp q k ≡ eqb q k
 eq_by_nat_cmp q k = unsigned_tied q k
 
+-- a set with one more member
 pub contains-insert_nat : (s : set.FinSet nat_cmp) (k q : ℕ) → set.contains (set.insert s k) q ≡ (eqb q k || set.contains s q)
 contains-insert_nat s k q = set.contains-insert nat_cmp_total s k q ∙ ap (λ b. b || set.contains s q) (eq_by_nat_cmp q k)
 
@@ -16,6 +18,7 @@ contains-insert_nat s k q = set.contains-insert nat_cmp_total s k q ∙ ap (λ b
 pub same_nat_set : (s t : set.FinSet nat_cmp) → ((q : ℕ) → set.contains s q ≡ set.contains t q) → s ≡ t
 same_nat_set s t h = set.same_set nat_cmp_total set.nat_cmp-IsAntisymmetric s t h
 
+-- the members of the set are the numbers below n that pass
 pub contains-set_below : (n : ℕ) (test : ℕ → Bool) (q : ℕ) → set.contains (set_below n test) q ≡ (ltb q n && test q)
 unfolding set_below
 contains-set_below zero test q = rw (le-ltb q 0 (omega arith)) (set.contains-empty nat_cmp q)
@@ -33,6 +36,7 @@ contains-set_below (suc n) test q =
           ])
     ]
 
+-- the set has as many members as numbers pass
 pub len-set_below : (n : ℕ) (test : ℕ → Bool) → set.len (set_below n test) ≡ count_below n test
 unfolding set_below
 len-set_below zero test = set.len-empty nat_cmp
@@ -43,14 +47,17 @@ len-set_below (suc n) test =
       | inr f ↦ rw (f, len-set_below n test) (omega arith)
     ]
 
+-- no number is below 0
 pub set_below-none : (test : ℕ → Bool) → set.empty ≡ set_below 0 test
 unfolding set_below
 set_below-none test = refl
 
+-- a number that passes comes
 pub set_below-hit : (n : ℕ) (test : ℕ → Bool) → test n ≡ true → set.insert (set_below n test) n ≡ set_below (n + 1) test
 unfolding set_below
 set_below-hit n test t = let k : set_below (suc n) test ≡ set.insert (set_below n test) n = rw t refl in sym (ap (λ m. set_below m test) (add-one n) ∙ k)
 
+-- a number that fails does not come
 pub set_below-miss : (n : ℕ) (test : ℕ → Bool) → test n ≡ false → set_below n test ≡ set_below (n + 1) test
 unfolding set_below
 set_below-miss n test f = let k : set_below (suc n) test ≡ set_below n test = rw f refl in sym (ap (λ m. set_below m test) (add-one n) ∙ k)

@@ -39,11 +39,15 @@ row_of s p = p / s
 abbrev pub column_of : ℕ → ℕ → ℕ
 column_of s p = p % s
 
+-- the place of a point
+abbrev pub place_of : ℕ → ℕ → Place
+place_of s p = (row_of s p, column_of s p)
+
 -- one number is the other and one more
 abbrev pub are_one_apart : ℕ → ℕ → Bool
 are_one_apart a b = (a == b + 1) || (b == a + 1)
 
--- p and q are neighbours: they differ by one in exactly one of row and column (both are on the board where they are its points)
+-- p and q, which are points of the board, are neighbours: they differ by one in exactly one of row and column
 unfoldable pub are_neighbours : ℕ → ℕ → ℕ → Bool
 are_neighbours s p q =
     ((row_of s p == row_of s q) && are_one_apart (column_of s p) (column_of s q))

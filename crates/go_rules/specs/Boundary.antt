@@ -1,12 +1,12 @@
 -- The enemy strings next to a string, each named by the least of its points.
-use Rattle.std.specs.Prelude.{ℕ, ◌*◌, ◌&&◌, Bool, true, false, not, List}
+use Rattle.std.specs.Prelude.{◌≡◌, ℕ, ◌*◌, ◌<◌, ◌&&◌, Bool, true, false, not, List}
 use Rattle.std.specs.Ordering.{nat_cmp}
 use Rattle.std.specs.FinSet as set
 use Rattle.go_rules.specs.declared.Cell.{Cell}
 use Rattle.go_rules.specs.declared.Cell.TheVariants.{Black, White}
 use Rattle.go_rules.specs.Below.{any_below, set_below}
 use Rattle.go_rules.specs.Board.{are_neighbours}
-use Rattle.go_rules.specs.Strings.{cell_at, is_in_string}
+use Rattle.go_rules.specs.Strings.{cell_at, is_in_string, IsInString}
 
 -- the two cells hold stones of different colours
 abbrev pub is_enemy : Cell → Cell → Bool
@@ -24,6 +24,12 @@ is_boundary s cells p r =
     is_enemy (cell_at cells p) (cell_at cells r)
     && not (any_below r (is_in_string s cells r))
     && any_below (s * s) (λ q. is_in_string s cells r q && is_beside_string s cells p q)
+
+-- the same in words: r holds an enemy, is the least point of its string, and a stone of that string is a neighbour of one of p's
+pub record IsBoundary (s : ℕ) (cells : List Cell) (p r : ℕ) : Type 0 where
+  pub enemy : is_enemy (cell_at cells p) (cell_at cells r) ≡ true
+  pub least : (k : ℕ) → k < r → IsInString s cells r k → ⊥
+  pub beside : (q : ℕ) × IsInString s cells r q × ((x : ℕ) × IsInString s cells p x × (are_neighbours s x q ≡ true))
 
 -- the least points of the enemy strings that are next to the string of p
 unfoldable pub boundary_points : ℕ → List Cell → ℕ → set.FinSet nat_cmp

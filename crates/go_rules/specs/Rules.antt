@@ -3,7 +3,7 @@ use Rattle.std.specs.Prelude.{◌≡◌, ℕ, ◌*◌, ◌<◌, List, slice_set}
 use Rattle.go_rules.specs.declared.Cell.{Cell}
 use Rattle.go_rules.specs.declared.Cell.TheVariants.{Empty}
 use Rattle.go_rules.specs.declared.Colour.{Colour}
-use Rattle.go_rules.specs.Strings.{cell_at, IsLiberty}
+use Rattle.go_rules.specs.Strings.{cell_at, IsInString, IsLiberty}
 use Rattle.go_rules.specs.Position.{BoardState, other, stone_of}
 
 -- q holds an enemy of c, and no point is a liberty of its string
@@ -27,3 +27,17 @@ pub record Follows (pos : BoardState) (c : Colour) (p : ℕ) (new : BoardState) 
 pub record IsSuicide (pos : BoardState) (c : Colour) (p : ℕ) : Type 0 where
   pub was_empty : cell_at pos.cells p ≡ Empty
   pub dead : (after : List Cell) → Removes pos.size (slice_set pos.cells p (stone_of c)) c after → (l : ℕ) → IsLiberty pos.size after p l → ⊥
+
+-- l is a liberty of the string of p, and the only one
+pub record IsOnlyLiberty (s : ℕ) (cells : List Cell) (p l : ℕ) : Type 0 where
+  pub its : IsLiberty s cells p l
+  pub only : (k : ℕ) → IsLiberty s cells p k → k ≡ l
+
+-- after c played at p, which left these cells, the other colour may not play at q: one stone was captured, it stood at q, and the
+-- played stone is a string of one stone with one liberty
+pub record LeavesBan (pos : BoardState) (c : Colour) (p : ℕ) (after : List Cell) (q : ℕ) : Type 0 where
+  pub on_board : q < pos.size * pos.size
+  pub taken : IsCaptured pos.size (slice_set pos.cells p (stone_of c)) c q
+  pub one_taken : (r : ℕ) → r < pos.size * pos.size → IsCaptured pos.size (slice_set pos.cells p (stone_of c)) c r → r ≡ q
+  pub stone_alone : (r : ℕ) → IsInString pos.size after p r → r ≡ p
+  pub one_liberty : (l : ℕ) × IsOnlyLiberty pos.size after p l

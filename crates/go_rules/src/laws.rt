@@ -1,14 +1,36 @@
-//! What the definitions of specs/ mean, in Go's own words: each function is a law, which is its contract, and does nothing.
+//! What the definitions of specs/ mean, in Go's own words. Each function here is a law: its contract is what is proved, and it does
+//! nothing. The definitions that compute (`play`, `is_in_string`, `liberties`) stand in the contracts of the crates above; the laws
+//! tie them to paths, places and the rules as a Go book has them.
 
-ghost use Rattle.std.specs.Prelude.{◌≡◌, ◌≢◌, ℕ, Ok, Err, Some, ◌*◌, ◌<◌, ◌↔◌, IsTrue, List};
+ghost use Rattle.std.specs.Prelude.{◌≡◌, ◌≢◌, ◌⊎◌, ℕ, Ok, Err, Some, ◌*◌, ◌<◌, ◌↔◌, Bool, IsTrue, true, List, slice_set};
 ghost use Rattle.go_rules.specs.declared.Cell.{Cell};
 ghost use Rattle.go_rules.specs.declared.Colour.{Colour};
 ghost use Rattle.go_rules.specs.declared.Illegal.{Illegal};
+ghost use Rattle.go_rules.specs.declared.Move.{Move};
+ghost use Rattle.go_rules.specs.Board.{IsSize, Place, IsOnBoard, point_at, place_of, are_neighbours, AreNeighbours};
 ghost use Rattle.go_rules.specs.Transform.{Offset, transformations, transformed, IsNear, AreOneStepApart};
 ghost use Rattle.go_rules.specs.Strings.{cell_at, is_stone, is_in_string, IsInString, is_liberty, IsLiberty};
-ghost use Rattle.go_rules.specs.Position.{BoardState, IsPosition};
-ghost use Rattle.go_rules.specs.Play.{play, play_free};
-ghost use Rattle.go_rules.specs.Rules.{Follows, IsSuicide};
+ghost use Rattle.go_rules.specs.Boundary.{is_boundary, IsBoundary};
+ghost use Rattle.go_rules.specs.Neighbourhood.{neighbourhood_of, InNeighbourhood};
+ghost use Rattle.go_rules.specs.Position.{BoardState, IsPosition, other, stone_of};
+ghost use Rattle.go_rules.specs.Play.{play, play_free, pass};
+ghost use Rattle.go_rules.specs.Rules.{IsCaptured, Follows, IsSuicide, LeavesBan};
+ghost use Rattle.go_rules.specs.Replay.{empty_board, replay_from, IsLegalGame};
+
+/// The points of a board are its places, numbered in reading order.
+pub fn points_are_places()
+    ensures of_point { (s p : ℕ) → p < s * s → IsOnBoard s (place_of s p) × (point_at s (place_of s p) ≡ p) }
+    ensures of_place { (s : ℕ) (a : Place) → IsOnBoard s a → (point_at s a < s * s) × (place_of s (point_at s a) ≡ a) }
+{}
+
+/// Neighbours are neighbours in both directions, and never off the board.
+pub fn neighbours_are_symmetric()
+    ensures places { (s p q : ℕ) → p < s * s → q < s * s
+        → IsTrue (are_neighbours s p q) ↔ AreNeighbours s (place_of s p) (place_of s q) }
+    ensures points { (s p q : ℕ) → are_neighbours s p q ≡ are_neighbours s q p }
+    ensures both_ways { (s : ℕ) (a b : Place) → AreNeighbours s a b → AreNeighbours s b a }
+    ensures on_board { (s : ℕ) (a b : Place) → AreNeighbours s a b → IsOnBoard s a × IsOnBoard s b }
+{}
 
 /// The eight transformations are the symmetries of the board: each is undone by one of them, and each keeps neighbours
 /// neighbours and the offsets within the largest board within it.
@@ -22,31 +44,82 @@ pub fn transformations_are_symmetries()
 
 /// The tests by which the rules compute say what the rules say of paths.
 pub fn strings_are_by_paths()
-    ensures string { (s : ℕ) (cells : List Cell) (p q : ℕ) → p < s * s →
-        IsTrue (is_in_string s cells p q) ↔ IsInString s cells p q }
-    ensures liberty { (s : ℕ) (cells : List Cell) (p l : ℕ) → p < s * s →
-        IsTrue (is_liberty s cells p l) ↔ IsLiberty s cells p l }
+    ensures string { (s : ℕ) (cells : List Cell) (p q : ℕ) → p < s * s
+        → IsTrue (is_in_string s cells p q) ↔ IsInString s cells p q }
+    ensures liberty { (s : ℕ) (cells : List Cell) (p l : ℕ) → p < s * s
+        → IsTrue (is_liberty s cells p l) ↔ IsLiberty s cells p l }
 {}
 
-/// What the computing definition of a play answers is what the rules say.
+/// To be of one string is an equivalence on the stones of a board, of stones of one colour with the same liberties.
+pub fn strings_are_classes()
+    ensures itself { (s : ℕ) (cells : List Cell) (p : ℕ) → is_stone (cell_at cells p) ≡ true → IsInString s cells p p }
+    ensures back { (s : ℕ) (cells : List Cell) (p q : ℕ) → p < s * s → IsInString s cells p q → IsInString s cells q p }
+    ensures onward { (s : ℕ) (cells : List Cell) (p q r : ℕ) → IsInString s cells p q → IsInString s cells q r → IsInString s cells p r }
+    ensures one_colour { (s : ℕ) (cells : List Cell) (p q : ℕ) → IsInString s cells p q → cell_at cells q ≡ cell_at cells p }
+    ensures same_liberties { (s : ℕ) (cells : List Cell) (p q l : ℕ) → p < s * s → IsInString s cells p q
+        → IsLiberty s cells q l → IsLiberty s cells p l }
+{}
+
+/// The tests of the boundary of a string and of the neighbourhood of a set of points say what the words say.
+pub fn boundaries_are_in_words()
+    ensures boundary { (s : ℕ) (cells : List Cell) (p r : ℕ) → p < s * s → r < s * s
+        → IsTrue (is_boundary s cells p r) ↔ IsBoundary s cells p r }
+    ensures neighbourhood { (s : ℕ) (cells : List Cell) (S : ℕ → Bool) (q : ℕ)
+        → IsTrue (neighbourhood_of s cells S q) ↔ InNeighbourhood s cells S q }
+{}
+
+/// What the computing definition of a play answers is what the rules say: the position that follows, or why there is none.
 pub fn plays_are_by_rules()
-    ensures follows { (pos : BoardState) (c : Colour) (p : ℕ) (new : BoardState) → p < pos.size * pos.size →
-        play_free pos c p ≡ Ok new → Follows pos c p new }
-    ensures occupied { (pos : BoardState) (c : Colour) (p : ℕ) →
-        play_free pos c p ≡ Err Illegal.Occupied → IsTrue (is_stone (cell_at pos.cells p)) }
-    ensures suicide { (pos : BoardState) (c : Colour) (p : ℕ) → p < pos.size * pos.size →
-        play_free pos c p ≡ Err Illegal.Suicide → IsSuicide pos c p }
-    ensures keeps { (pos : BoardState) (c : Colour) (p : ℕ) (new : BoardState) → IsPosition pos → p < pos.size * pos.size →
-        play_free pos c p ≡ Ok new → IsPosition new }
+    ensures follows { (pos : BoardState) (c : Colour) (p : ℕ) (new : BoardState) → p < pos.size * pos.size
+        → play_free pos c p ≡ Ok new → Follows pos c p new }
+    ensures answered { (pos : BoardState) (c : Colour) (p : ℕ) (next : BoardState) → p < pos.size * pos.size
+        → Follows pos c p next → (new : BoardState) × (play_free pos c p ≡ Ok new) }
+    ensures determined { (pos : BoardState) (c : Colour) (p : ℕ) (a b : BoardState) → Follows pos c p a → Follows pos c p b
+        → (q : ℕ) → q < pos.size * pos.size → cell_at a.cells q ≡ cell_at b.cells q }
+    ensures occupied { (pos : BoardState) (c : Colour) (p : ℕ)
+        → (play_free pos c p ≡ Err Illegal.Occupied) ↔ (cell_at pos.cells p ≢ Cell.Empty) }
+    ensures suicide { (pos : BoardState) (c : Colour) (p : ℕ) → p < pos.size * pos.size
+        → (play_free pos c p ≡ Err Illegal.Suicide) ↔ IsSuicide pos c p }
     ensures never_ko { (pos : BoardState) (c : Colour) (p : ℕ) → play_free pos c p ≢ Err Illegal.Ko }
 {}
 
-/// The reasons come in their order, each exactly where it should.
+/// A play changes no cell but its own point, where the stone stands afterwards, and the captured enemy stones.
+pub fn plays_change_little()
+    ensures stone { (pos : BoardState) (c : Colour) (p : ℕ) (new : BoardState) → IsPosition pos → p < pos.size * pos.size
+        → play_free pos c p ≡ Ok new → cell_at new.cells p ≡ stone_of c }
+    ensures others { (pos : BoardState) (c : Colour) (p : ℕ) (new : BoardState) (q : ℕ) → play_free pos c p ≡ Ok new
+        → q < pos.size * pos.size → q ≢ p → (cell_at new.cells q ≡ cell_at pos.cells q)
+        ⊎ ((cell_at pos.cells q ≡ stone_of (other c)) × (cell_at new.cells q ≡ Cell.Empty) × IsCaptured pos.size (slice_set pos.cells p (stone_of c)) c q) }
+{}
+
+/// The ban that a play leaves is the one of the words, and it is always on the other colour.
+pub fn bans_are_by_rules()
+    ensures left { (pos : BoardState) (c : Colour) (p : ℕ) (new : BoardState) (q : ℕ) → p < pos.size * pos.size
+        → play_free pos c p ≡ Ok new → (new.ban ≡ Some (q, other c)) ↔ LeavesBan pos c p new.cells q }
+    ensures colour { (pos : BoardState) (c : Colour) (p : ℕ) (new : BoardState) (q : ℕ) (k : Colour) → p < pos.size * pos.size
+        → play_free pos c p ≡ Ok new → new.ban ≡ Some (q, k) → k ≡ other c }
+{}
+
+/// The reasons against a play come in their order, each exactly where it should, and a pass is never refused.
 pub fn reasons_are_in_order()
-    ensures occupied { (pos : BoardState) (c : Colour) (p : ℕ) →
-        (play pos c p ≡ Err Illegal.Occupied) ↔ (cell_at pos.cells p ≢ Cell.Empty) }
-    ensures ko { (pos : BoardState) (c : Colour) (p : ℕ) →
-        (play pos c p ≡ Err Illegal.Ko) ↔ ((cell_at pos.cells p ≡ Cell.Empty) × (pos.ban ≡ Some (p, c))) }
-    ensures otherwise { (pos : BoardState) (c : Colour) (p : ℕ) →
-        cell_at pos.cells p ≡ Cell.Empty → pos.ban ≢ Some (p, c) → play pos c p ≡ play_free pos c p }
+    ensures occupied { (pos : BoardState) (c : Colour) (p : ℕ)
+        → (play pos c p ≡ Err Illegal.Occupied) ↔ (cell_at pos.cells p ≢ Cell.Empty) }
+    ensures ko { (pos : BoardState) (c : Colour) (p : ℕ)
+        → (play pos c p ≡ Err Illegal.Ko) ↔ ((cell_at pos.cells p ≡ Cell.Empty) × (pos.ban ≡ Some (p, c))) }
+    ensures suicide { (pos : BoardState) (c : Colour) (p : ℕ) → p < pos.size * pos.size
+        → (play pos c p ≡ Err Illegal.Suicide) ↔ ((pos.ban ≢ Some (p, c)) × IsSuicide pos c p) }
+    ensures otherwise { (pos : BoardState) (c : Colour) (p : ℕ)
+        → cell_at pos.cells p ≡ Cell.Empty → pos.ban ≢ Some (p, c) → play pos c p ≡ play_free pos c p }
+{}
+
+/// The empty board is a position, and every play that is answered, every pass and every legal game leads to a position: each string
+/// has a liberty, and the ban's point is empty and on the board.
+pub fn games_keep_positions()
+    ensures empty { (s : ℕ) → IsSize s → IsPosition (empty_board s) }
+    ensures play { (pos : BoardState) (c : Colour) (p : ℕ) (new : BoardState) → IsPosition pos → p < pos.size * pos.size
+        → play pos c p ≡ Ok new → IsPosition new }
+    ensures play_free { (pos : BoardState) (c : Colour) (p : ℕ) (new : BoardState) → IsPosition pos → p < pos.size * pos.size
+        → play_free pos c p ≡ Ok new → IsPosition new }
+    ensures pass { (pos : BoardState) → IsPosition pos → IsPosition (pass pos) }
+    ensures game { (pos : BoardState) (moves : List Move) → IsPosition pos → IsLegalGame pos moves → IsPosition (replay_from pos moves) }
 {}

@@ -1,12 +1,10 @@
-use Rattle.std.proofs.Common.{◌≡◌, ℕ, ◌+◌, ◌*◌, ◌<◌, ◌&&◌, true, false, ap, sym, subst, refl, ◌∙◌, arith}
-use Rattle.std.proofs.lemmas.Bool.{and_parts, and_from, both_ways, lt-ltb}
-use Rattle.std.specs.FinSet as set
+use Rattle.std.proofs.Common.{◌*◌, arith}
 use Rattle.go_rules.specs.Neighbourhood.{neighbourhood_of}
-use Rattle.go_rules.proofs.Boundary.{Bounds, Bounds-none, Bounds-jump, Bounds-add, Bounds-all, KnowsLeast, KnowsLeast-none}
+use Rattle.go_rules.proofs.Boundary.{Bounds-none, Bounds-jump, Bounds-add, Bounds-all, KnowsLeast-none}
 use Rattle.go_base.specs.Views.{alone}
 use Rattle.go_base.proofs.Closing.{close_self, close_point}
 use Rattle.go_base.proofs.Visiting.{enemy_beside, enemy_close, no_enemy}
-use Rattle.go_base.proofs.Looking.{Looks-none, Looks-more, Looks-within}
+use Rattle.go_base.proofs.Looking.{Looks-none, Looks-more}
 use Rattle.go_base.proofs.boundary.boundary_of.Goals as goal
 
 -- no string has come

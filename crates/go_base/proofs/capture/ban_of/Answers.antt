@@ -1,4 +1,4 @@
-use Rattle.std.proofs.Common.{◌≡◌, ℕ, ◌&&◌, List, Bool, eqb, ap, ◌∙◌, Some}
+use Rattle.std.proofs.Common.{◌≡◌, ℕ, ◌&&◌, List, eqb, ap, ◌∙◌, Some}
 use Rattle.std.specs.FinSet as set
 use Rattle.go_rules.specs.declared.Cell.{Cell}
 use Rattle.go_rules.specs.declared.Colour.{Colour}

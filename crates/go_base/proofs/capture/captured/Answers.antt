@@ -1,9 +1,9 @@
-use Rattle.std.proofs.Common.{◌≡◌, ap, sym, subst, refl, ◌∙◌, arith, inl, inr, ◌+◌, ◌*◌, ◌<◌, Some}
+use Rattle.std.proofs.Common.{ap, sym, subst, ◌∙◌, arith, inl, inr, ◌*◌, ◌<◌}
 use Rattle.std.proofs.lemmas.Bool.{both_ways}
 use Rattle.std.specs.Ordering.{nat_cmp}
 use Rattle.std.specs.FinSet as set
 use Rattle.go_base.specs.Sides.{neighbour_at}
-use Rattle.go_base.proofs.Takes.{Takes, Takes-none, Takes-next, Takes-nothing, Takes-all}
+use Rattle.go_base.proofs.Takes.{Takes-none, Takes-next, Takes-nothing, Takes-all}
 use Rattle.go_base.proofs.PlayNear.{near_taken_from}
 use Rattle.go_base.proofs.Beside.{neighbour_at-near}
 use Rattle.go_base.proofs.Looking.{Looks-none, Looks-more}

@@ -1,12 +1,10 @@
-use Rattle.std.proofs.Common.{◌≡◌, ◌≢◌, ◌*◌, ◌<◌, true, false, ap, sym, subst, refl, ◌∙◌, Err}
+use Rattle.std.proofs.Common.{◌≡◌, ◌*◌, ◌<◌, false, ap, sym, subst, refl, ◌∙◌}
 use Rattle.std.proofs.Math.ListN.{set}
 use Rattle.std.specs.FinSet as sets
 use Rattle.std.proofs.lemmas.Bool.{both_ways}
-use denote.Enum.Bare.{sameb}
-use Rattle.go_rules.specs.contracts.Cell.{the_type}
 use Rattle.go_rules.specs.Strings.{cell_at, is_stone, liberties}
 use Rattle.go_rules.specs.Neighbourhood.{neighbourhood_of}
-use Rattle.go_rules.specs.Position.{BoardState, IsPosition, board_of, stone_of}
+use Rattle.go_rules.specs.Position.{BoardState, IsPosition, board_of}
 use Rattle.go_rules.proofs.Results.{free_occupied}
 use Rattle.go_rules.proofs.Cells.{stone_test}
 use Rattle.go_base.specs.Views.{anywhere, alone}

@@ -1,4 +1,4 @@
-use Rattle.std.proofs.Common.{◌≡◌, ◌+◌, ◌*◌, ◌<◌, inl, inr, ap, sym, subst, ◌∙◌, Some}
+use Rattle.std.proofs.Common.{◌≡◌, ◌*◌, ◌<◌, inl, inr, ap, sym, subst, ◌∙◌, Some}
 use Rattle.go_base.specs.Sides.{neighbour_at}
 use Rattle.go_base.proofs.Beside.{neighbour_at-near}
 use Rattle.go_base.proofs.Flooded.{at_side}

@@ -1,6 +1,5 @@
-use Rattle.std.proofs.Common.{arith, ◌<◌, ◌/◌, ◌^◌}
-use Rattle.go_base.proofs.Lowest.{nothing_left, LowestFrom, lowest_from}
-use Rattle.std.specs.Int.{w64, trailing_zeros}
+use Rattle.std.proofs.Common.{arith}
+use Rattle.go_base.proofs.Lowest.{nothing_left, lowest_from}
 use Rattle.go_base.proofs.points.lowest_bit.Goals as goal
 
 -- nothing is left of the word

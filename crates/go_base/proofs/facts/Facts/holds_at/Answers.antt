@@ -1,4 +1,4 @@
-use Rattle.std.proofs.Common.{◌≡◌, ap, ◌∙◌, not, ◌||◌}
+use Rattle.std.proofs.Common.{ap, ◌∙◌, not, ◌||◌}
 use Rattle.go_base.specs.declared.facts.Known.TheVariants.{Unseen}
 use Rattle.std.proofs.Common.{get_or}
 use Rattle.go_base.specs.Told.{is_seen, is_known}

@@ -1,4 +1,4 @@
-use Rattle.std.proofs.Common.{◌≡◌, below_more, true, false, ap, sym, ◌∙◌, ◌*◌, arith, refl}
+use Rattle.std.proofs.Common.{below_more, false, ap, sym, ◌∙◌, ◌*◌, arith, refl}
 use Rattle.std.proofs.lemmas.Bool.{both_ways, eqb-true, eqb-false, not-true, not-false}
 use Rattle.go_base.specs.Told.{HoldsAt}
 use Rattle.go_base.proofs.Standing.{stands_all, stands_each}

@@ -1,0 +1,85 @@
+-- What the tests of strings, boundaries and neighbourhoods say in words.
+use Rattle.std.proofs.Common.{◌≡◌, ◌↔◌, ℕ, ◌*◌, ◌<◌, Bool, true, List, ap, inl, inr, ◌∙◌}
+use Rattle.std.proofs.lemmas.Bool.{cases_Bool, or_cases, or_left, or_right, and_parts, and_from, both_ways, not-true, not_from_false}
+use Rattle.go_rules.specs.declared.Cell.{Cell}
+use Rattle.go_rules.specs.Strings.{cell_at, is_stone, is_in_string, IsInString, start}
+use Rattle.go_rules.specs.Boundary.{is_beside_string, is_boundary, IsBoundary}
+use Rattle.go_rules.specs.Neighbourhood.{whole_strings_of, neighbourhood_of, InWholeStrings, member, of_string, InNeighbourhood, inside, next_to}
+use Rattle.go_rules.proofs.Counts.{any_below_gives, any_below_from, any_below_none, any_below_false}
+use Rattle.go_rules.proofs.Paths.{path_on_board, IsInString-from_test, is_is_in_string-from_fact}
+use Rattle.go_rules.proofs.Links.{path_same, path_on, path_back}
+
+-- a stone is of its own string
+pub string_itself : (s : ℕ) (cells : List Cell) (p : ℕ) → is_stone (cell_at cells p) ≡ true → IsInString s cells p p
+string_itself s cells p stone = record { stone = stone; path = start }
+
+-- where q is of the string of p, p is of the string of q
+pub string_back_in_words : (s : ℕ) (cells : List Cell) (p q : ℕ) → p < s * s → IsInString s cells p q → IsInString s cells q p
+string_back_in_words s cells p q on h = record { stone = ap is_stone (path_same s cells p h.path) ∙ h.stone; path = path_back s cells p on h.path }
+
+-- what is of the string of a stone of the string of p is of the string of p
+pub string_onward : (s : ℕ) (cells : List Cell) (p q r : ℕ) → IsInString s cells p q → IsInString s cells q r → IsInString s cells p r
+string_onward s cells p q r h k = record { stone = h.stone; path = path_on s cells p q h.path k.path }
+
+-- the stones of a string are of one colour
+pub string_of_one_colour : (s : ℕ) (cells : List Cell) (p q : ℕ) → IsInString s cells p q → cell_at cells q ≡ cell_at cells p
+string_of_one_colour s cells p q h = path_same s cells p h.path
+
+-- the test of the boundary is the fact
+pub is_boundary-is : (s : ℕ) (cells : List Cell) (p r : ℕ) → p < s * s → r < s * s → (is_boundary s cells p r ≡ true) ↔ IsBoundary s cells p r
+unfolding is_boundary is_beside_string
+is_boundary-is s cells p r on r_on = (
+  λ t.
+      let parts = and_parts _ _ t in
+      let first = and_parts _ _ parts.0 in
+      let found = any_below_gives (s * s) _ parts.1 in
+      let both = and_parts _ _ found.2 in
+      let it = any_below_gives (s * s) _ both.1 in
+      let link = and_parts _ _ it.2 in
+      record {
+        enemy = first.0;
+        least = λ k l h. both_ways (is_in_string s cells r k) (any_below_none r (is_in_string s cells r) k (not-true _ first.1) l) (is_is_in_string-from_fact s cells r k r_on h);
+        beside = (found.0, IsInString-from_test s cells r found.0 both.0, (it.0, IsInString-from_test s cells p it.0 link.0, link.1));
+      },
+  λ h.
+      let q = h.beside.0 in
+      let x = h.beside.2.0 in
+      and_from _ _ (and_from _ _ h.enemy (not_from_false _ (any_below_false r (is_in_string s cells r) (λ k l. elim (cases_Bool (is_in_string s cells r k)) [
+        | inl t ↦ absurd (h.least k l (IsInString-from_test s cells r k t))
+        | inr f ↦ f
+      ]))))
+      (any_below_from (s * s) _ q (path_on_board s cells r r_on h.beside.1.path) (and_from _ _ (is_is_in_string-from_fact s cells r q r_on h.beside.1)
+      (any_below_from (s * s) _ x (path_on_board s cells p on h.beside.2.1.path) (and_from _ _ (is_is_in_string-from_fact s cells p x on h.beside.2.1) h.beside.2.2)))),
+)
+
+-- the test of whole strings gives the fact
+whole_to : (s : ℕ) (cells : List Cell) (S : ℕ → Bool) (q : ℕ) → whole_strings_of s cells S q ≡ true → InWholeStrings s cells S q
+unfolding whole_strings_of
+whole_to s cells S q h = elim (or_cases _ _ h) [
+  | inl i ↦ member i
+  | inr i ↦ let found = any_below_gives (s * s) _ i in let both = and_parts _ _ found.2 in of_string found.0 found.1 both.0 (IsInString-from_test s cells found.0 q both.1)
+]
+
+-- the fact of whole strings gives the test
+whole_from : (s : ℕ) (cells : List Cell) (S : ℕ → Bool) (q : ℕ) → InWholeStrings s cells S q → whole_strings_of s cells S q ≡ true
+unfolding whole_strings_of
+whole_from s cells S q (member i) = or_left _ _ i
+whole_from s cells S q (of_string x on i h) = or_right _ _ (any_below_from (s * s) _ x on (and_from _ _ i (is_is_in_string-from_fact s cells x q on h)))
+
+-- the test of the neighbourhood gives the fact
+neighbourhood_to : (s : ℕ) (cells : List Cell) (S : ℕ → Bool) (q : ℕ) → neighbourhood_of s cells S q ≡ true → InNeighbourhood s cells S q
+unfolding neighbourhood_of
+neighbourhood_to s cells S q h = elim (or_cases _ _ h) [
+  | inl w ↦ inside (whole_to s cells S q w)
+  | inr n ↦ let found = any_below_gives (s * s) _ n in let both = and_parts _ _ found.2 in next_to found.0 found.1 (whole_to s cells S found.0 both.0) both.1
+]
+
+-- the fact of the neighbourhood gives the test
+neighbourhood_from : (s : ℕ) (cells : List Cell) (S : ℕ → Bool) (q : ℕ) → InNeighbourhood s cells S q → neighbourhood_of s cells S q ≡ true
+unfolding neighbourhood_of
+neighbourhood_from s cells S q (inside w) = or_left _ _ (whole_from s cells S q w)
+neighbourhood_from s cells S q (next_to y on w n) = or_right _ _ (any_below_from (s * s) _ y on (and_from _ _ (whole_from s cells S y w) n))
+
+-- the test of the neighbourhood is the fact
+pub neighbourhood_of-is : (s : ℕ) (cells : List Cell) (S : ℕ → Bool) (q : ℕ) → (neighbourhood_of s cells S q ≡ true) ↔ InNeighbourhood s cells S q
+neighbourhood_of-is s cells S q = (neighbourhood_to s cells S q, neighbourhood_from s cells S q)
