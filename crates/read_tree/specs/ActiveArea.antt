@@ -1,12 +1,13 @@
 -- The active area of a reading: the points that its answer may depend on. It is computed from the game tree and is exact,
 -- where GNU Go's manual has a heuristic area of this name.
-use Rattle.std.specs.Prelude.{◌≡◌, ℕ, suc, ◌≤◌, Bool, true, false, IsTrue, List, Option, Some}
+use Rattle.std.specs.Prelude.{◌≡◌, ℕ, suc, ◌≤◌, Bool, true, false, IsTrue, ◌⊎◌, List, Option, Some}
 use Rattle.go_rules.specs.declared.Cell.{Cell}
 use Rattle.go_rules.specs.declared.Colour.{Colour}
 use Rattle.go_rules.specs.Strings.{cell_at, is_in_string}
 use Rattle.go_rules.specs.Neighbourhood.{neighbourhood_of}
 use Rattle.go_rules.specs.Position.{BoardState, is_banned}
 use Rattle.go_rules.specs.Play.{pass}
+use Rattle.go_base.specs.Facts.{Fact, SizeIs, CellIs, BanIs}
 use Rattle.read_moves.specs.Candidates.{is_candidate}
 use Rattle.read_tree.specs.declared.node.Node.{Node}
 use Rattle.read_tree.specs.declared.question.Question.{Question}
@@ -50,3 +51,13 @@ pub record AgreeOn (S : ℕ → Type 0) (a b : BoardState) : Type 0 where
   pub sizes : a.size ≡ b.size
   pub cells : (p : ℕ) → S p → cell_at a.cells p ≡ cell_at b.cells p
   pub bans : (p : ℕ) (c : Colour) → S p → is_banned a.ban c p ≡ is_banned b.ban c p
+
+-- the fact's point, if it has one, is in S
+abbrev pub IsAboutOne : (ℕ → Type 0) → Fact → Type 0
+IsAboutOne S (SizeIs n) = Unit {0}
+IsAboutOne S (CellIs p cell) = S p
+IsAboutOne S (BanIs p c forbidden) = S p
+
+-- each fact that came is about a point of S
+pub record AddsNear (before now : Fact → Bool) (S : ℕ → Type 0) : Type 0 where
+  pub added : (fact : Fact) → IsTrue (now fact) → IsTrue (before fact) ⊎ IsAboutOne S fact

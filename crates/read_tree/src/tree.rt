@@ -1,10 +1,16 @@
 //! The walk over the game tree: the plays of a node one after another, each read to its end before the next.
 
-ghost use Rattle.std.specs.Prelude.{◌≡◌, ◌+◌, ◌*◌, ◌<◌, ◌≤◌, ℕ, ◌==◌, ◌||◌, ◌&&◌, nat_lt, length, IfSome};
+ghost use Rattle.std.specs.Prelude.{◌≡◌, ◌⊎◌, ◌+◌, ◌*◌, ◌<◌, ◌≤◌, ℕ, suc, ◌==◌, ◌||◌, ◌&&◌, nat_lt, true, false, IsTrue, length, IfSome};
+ghost use Rattle.go_rules.specs.Neighbourhood.{neighbourhood_of};
 ghost use Rattle.go_rules.specs.Position.{BoardState};
-ghost use Rattle.go_base.specs.Facts.{Agrees, Grows};
+ghost use Rattle.go_base.specs.Facts.{Agrees, Grows, AddsIn};
+ghost use Rattle.go_base.specs.Views.{alone};
+ghost use Rattle.trial_board.specs.Overlays.{close_twice};
+ghost use Rattle.read_moves.specs.Candidates.{is_candidate};
 ghost use Rattle.trial_board.specs.Trials.{Stays, after};
-ghost use Rattle.read_tree.specs.GameTree.{has_many_liberties, child_of, attacker_wins, succeeds, first_success, at_point};
+ghost use Rattle.read_tree.specs.declared.question.Question.{Question};
+ghost use Rattle.read_tree.specs.ActiveArea.{IsNodeOf, IsUndecided, InActiveArea, AddsNear};
+ghost use Rattle.read_tree.specs.GameTree.{is_captured, has_many_liberties, child_of, attacker_wins, succeeds, first_success, at_point};
 ghost use Rattle.read_tree.specs.Steps.{tail_if, with_position, good_move, IsOnBoard};
 
 use crate::node::Node;
@@ -26,6 +32,8 @@ fn has_many_liberties<L: Look>(board: &mut Trial<L>, target: Point, wide: u8) ->
     ensures stays { Stays L.shows L.seen board.old board.new }
     ensures over { (pos : BoardState) → Agrees (L.seen board.new.look) pos
         → result ≡ has_many_liberties (after pos board.old.moves) target wide }
+    ensures near { (pos : BoardState) → Agrees (L.seen board.new.look) pos → AddsIn (L.seen board.old.look) (L.seen board.new.look)
+        (neighbourhood_of pos.size (after pos board.old.moves).cells (alone target)) }
 {
     are_many(board.liberties(target).count(), wide)
 }
@@ -41,6 +49,8 @@ fn child<L: Look>(board: &mut Trial<L>, node: Node, p: Point) -> Option<Node>
     ensures target { IfSome result (λ next. next.target ≡ node.target) }
     ensures over { (pos : BoardState) → Agrees (L.seen board.new.look) pos
         → child_of node (after pos board.old.moves) p ≡ with_position result (after pos board.new.moves) }
+    ensures near { (pos : BoardState) → Agrees (L.seen board.new.look) pos → AddsIn (L.seen board.old.look) (L.seen board.new.look)
+        (close_twice pos.size (after pos board.old.moves).cells p) }
 {
     let allowance = node.allowance();
     match board.play(node.mover(), p, false) {
@@ -67,6 +77,10 @@ fn succeeds<L: Look>(board: &mut Trial<L>, node: Node, p: Point, plies: u8) -> b
     ensures stays { Stays L.shows L.seen board.old board.new }
     ensures over { (pos : BoardState) → Agrees (L.seen board.new.look) pos
         → result ≡ succeeds plies node (after pos board.old.moves) p }
+    ensures near { (pos : BoardState) → Agrees (L.seen board.new.look) pos → (q : Question) (root : BoardState)
+        → IsNodeOf q root (suc plies) node (after pos board.old.moves) → IsUndecided node (after pos board.old.moves)
+        → IsTrue (is_candidate (after pos board.old.moves) node.target node.wide p)
+        → AddsNear (L.seen board.old.look) (L.seen board.new.look) (InActiveArea q root) }
 {
     match child(board, node, p) {
         None => false,
@@ -87,6 +101,9 @@ fn first_success<L: Look>(board: &mut Trial<L>, node: Node, plies: u8) -> Option
     ensures on_board { IfSome result (λ p. p < (L.shows board.old.look).size * (L.shows board.old.look).size) }
     ensures over { (pos : BoardState) → Agrees (L.seen board.new.look) pos
         → result ≡ first_success plies node (after pos board.old.moves) }
+    ensures near { (pos : BoardState) → Agrees (L.seen board.new.look) pos → (q : Question) (root : BoardState)
+        → IsNodeOf q root (suc plies) node (after pos board.old.moves) → IsUndecided node (after pos board.old.moves)
+        → AddsNear (L.seen board.old.look) (L.seen board.new.look) (InActiveArea q root) }
 {
     let candidates = candidates(board, node.target, node.wide);
     let size = board.size();
@@ -118,6 +135,9 @@ pub fn good_move<L: Look>(board: &mut Trial<L>, node: Node, plies: u8) -> Option
     ensures on_board { IfSome result (IsOnBoard (L.shows board.old.look).size) }
     ensures over { (pos : BoardState) → Agrees (L.seen board.new.look) pos
         → result ≡ good_move plies node (after pos board.old.moves) }
+    ensures near { (pos : BoardState) → Agrees (L.seen board.new.look) pos → (q : Question) (root : BoardState)
+        → IsNodeOf q root (suc plies) node (after pos board.old.moves) → is_captured (after pos board.old.moves) node.target ≡ false
+        → AddsNear (L.seen board.old.look) (L.seen board.new.look) (InActiveArea q root) }
 {
     if node.attacker_to_play {
         if has_many_liberties(board, node.target, node.wide) {
@@ -142,6 +162,9 @@ fn attacker_wins<L: Look>(board: &mut Trial<L>, node: Node, plies: u8) -> bool
     ensures stays { Stays L.shows L.seen board.old board.new }
     ensures over { (pos : BoardState) → Agrees (L.seen board.new.look) pos
         → result ≡ attacker_wins plies node (after pos board.old.moves) }
+    ensures near { (pos : BoardState) → Agrees (L.seen board.new.look) pos → (q : Question) (root : BoardState)
+        → IsNodeOf q root plies node (after pos board.old.moves)
+        → AddsNear (L.seen board.old.look) (L.seen board.new.look) (λ p. (p ≡ node.target) ⊎ InActiveArea q root p) }
 {
     if board.cell(node.target) == Cell::Empty {
         return true;
