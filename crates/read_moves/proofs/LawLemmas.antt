@@ -39,14 +39,16 @@ takes_gives s cells target p h =
     let first = and_parts _ _ parts.0 in
     let only = and_parts _ _ parts.1 in
     let x = any_below_gives (s * s) _ first.1 in
-    let touch = and_parts _ _ x.2 in
-    (q.0, record {
-      on_board = q.1;
-      enemy = first.0;
-      beside = (x.0, IsInString-from_test s cells target x.0 touch.0, touch.1);
-      in_atari = eqb-true (liberties s cells q.0) 1 only.0;
-      last = IsLiberty-from_test s cells q.0 p only.1;
-    })
+    let touch = and_parts _ _ x.2 in (
+      q.0,
+      record {
+        on_board = q.1;
+        enemy = first.0;
+        beside = (x.0, IsInString-from_test s cells target x.0 touch.0, touch.1);
+        in_atari = eqb-true (liberties s cells q.0) 1 only.0;
+        last = IsLiberty-from_test s cells q.0 p only.1;
+      },
+    )
 
 takes_from : (s : ℕ) (cells : List Cell) (target q p : ℕ) → target < s * s → IsTakenAt s cells target q p → takes_attacker s cells target p ≡ true
 unfolding takes_attacker is_beside_string is_only_liberty

@@ -13,11 +13,10 @@ ghost use Rattle.trial_board.specs.Trials.{Stays, after};
 ghost use Rattle.trial_board.specs.Overlays.{close_twice};
 ghost use Rattle.read_moves.specs.Candidates.{is_empty_beside, is_only_liberty, is_candidate};
 
-use go_base::Cell;
 use go_base::flood::touches;
 use go_base::points::PointSet;
 use go_base::size::Point;
-use go_base::Look;
+use go_base::{Cell, Look};
 use trial_board::Trial;
 
 /// Whether q is empty and next to a point of the set. It is asked for only where it is next to one.

@@ -24,12 +24,12 @@ returns-clause-near g c = λ pos a.
     let cell_shown = subst (λ (p : BoardState). cell_at p.cells c.args.target ≡ c.cell.result) c.cell.ensures.same ((g.met.L.Look.holds c.cell.new.self).each (CellIs c.args.target c.cell.result) c.cell.ensures.told) in
     let size = same_size (g.met.L.Look.sized c.cell.new.self) a1 ∙ ap (λ (p : BoardState). p.size) c.cell.ensures.same in
     let is_asked : question ≡ asked = question_is shown c.size.result c.args.target c.args.depths.plies c.args.depths.wide c.args.kind c.cell.result c.colour_of-colour.result
-        (c.size.ensures ∙ ap (λ (p : BoardState). p.size) c.cell.ensures.same) c.colour_of-colour.ensures (sym cell_shown) in
+    (c.size.ensures ∙ ap (λ (p : BoardState). p.size) c.cell.ensures.same) c.colour_of-colour.ensures (sym cell_shown) in
     let about = about_asked shown pos c.args.kind c.args.target c.args.depths.plies c.args.depths.wide c.requires.stone size (cell_here ∙ sym cell_shown) in
     let at_board = subst (λ t. is_about question (after pos t.moves) ≡ true → AddsNear (g.L.Look.seen t.look) (g.L.Look.seen c.read-answer.new.board.look) (InActiveArea question (after pos t.moves)))
-        c.new-board.ensures (c.read-answer.ensures.near pos a3) in
+    c.new-board.ensures (c.read-answer.ensures.near pos a3) in
     let readings = subst (λ (q : Question). is_about q pos ≡ true → AddsNear (g.L.Look.seen c.cell.new.self) (g.L.Look.seen c.read-answer.new.board.look) (InActiveArea q pos)) is_asked at_board in
     let inside = target_on pos.size shown.size c.args.target size c.requires.on_board in
     let target = AddsNear-in (InActiveArea asked pos) c.cell.ensures.near (λ p h. area_target asked pos pos c.args.depths.plies (first_node asked 1) (first 1 (omega arith) (omega arith)) pos.size refl inside
-        (about_stands asked pos about) p (eqb-true p c.args.target h)) in
+    (about_stands asked pos about) p (eqb-true p c.args.target h)) in
     subst (λ look. AddsNear (g.L.Look.seen c.args.look) (g.L.Look.seen look) (InActiveArea asked pos)) (sym c.finish.ensures) (AddsNear-trans target (readings about))
