@@ -1,0 +1,2 @@
+pub mod DiagramLemmas
+pub mod LabelLemmas

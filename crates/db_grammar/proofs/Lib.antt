@@ -1,0 +1,9 @@
+pub mod OneMoreLine
+pub mod TableLemmas
+pub mod Walk
+pub mod Cut
+pub mod Drawn
+pub mod Starred
+pub mod Labelled
+pub mod EntryLemmas
+mod Samples

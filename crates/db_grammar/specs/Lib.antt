@@ -1,0 +1,9 @@
+pub mod Kinds
+pub mod Diagram
+pub mod Colon
+pub mod Labels
+pub mod Blocks
+pub mod Entries
+pub mod Faults
+pub mod Accepted
+pub mod Database

@@ -1,0 +1,7 @@
+use Rattle.std.proofs.Common.{refl, arith}
+use Rattle.db_grammar.specs.Labels.{labels_under}
+use Rattle.db_read.proofs.drafting.empty_marks.Goals as goal
+
+pub returns : goal.returns
+unfolding labels_under
+returns c = record { lines = refl; within = omega arith; rows = refl; labels = c.new.ensures }

@@ -1,0 +1,27 @@
+//! The entry that is being read.
+
+ghost use Rattle.std.specs.Prelude.{◌≡◌, ◌≤◌, ◌<◌, ℕ, [], length, get_or, map, vec_len};
+
+use db_diagram::Diagram;
+use db_diagram::Marks;
+use pat_types::{Bytes, Items, Mark};
+
+/// An entry so far.
+#[derive(Drop)]
+pub struct Draft<'a> {
+    pub name: Bytes,
+    /// The words of the main diagram lines.
+    pub words: Vec<&'a [u8]>,
+    pub diagram: Diagram,
+    pub mark: Mark,
+    pub classes: Bytes,
+    pub items: Items,
+    pub marks: Marks,
+    /// Whether there is an expression line.
+    pub has_expression: bool,
+    /// The number of the first of these lines, or 0.
+    pub first_expression: u64,
+    ghost short: { (k : ℕ) → length (get_or (map (λ w. w.now) words.items) k []) ≤ 19 },
+    ghost counted: { vec_len words ≤ diagram.lines },
+    ghost few: { diagram.lines ≤ 19 },
+}

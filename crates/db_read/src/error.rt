@@ -1,0 +1,21 @@
+//! Why a database text is not read.
+
+use std::fmt::{self, Display, Formatter, Write};
+
+/// Why a database text is not read: no memory was found, or the first fault of the text.
+#[derive(Clone, Copy, Debug, PartialEq, Eq)]
+pub enum DbError {
+    /// No memory was found.
+    NoMemory,
+    /// The first fault: the number of its line, counted from 1, and its kind from 1 to 18.
+    Fault { line: u64, kind: u8 },
+}
+
+impl Display for DbError {
+    fn fmt<W: Write>(&self, f: &mut Formatter<W>) -> fmt::Result {
+        match self {
+            DbError::NoMemory => write!(f, "out of memory"),
+            DbError::Fault { line, kind } => write!(f, "bad database: line {line} kind {kind}"),
+        }
+    }
+}

@@ -1,0 +1,175 @@
+//! The table of stages, and what leaving a stage closes.
+
+ghost use Rattle.std.specs.Prelude.{◌≡◌, ◌<◌, ◌^◌, ◌+◌, ◌==◌, ◌&&◌, nat_lt, ℕ, Some, None, unwrap_or, false};
+ghost use Rattle.std.specs.List.{position_or_len};
+ghost use Rattle.pat_types.specs.Diagrams.{is_star};
+ghost use Rattle.db_grammar.specs.Blocks.{Block, table as next_by_table, end_refused};
+ghost use Rattle.db_grammar.specs.Faults.{closes as leaves};
+ghost use Rattle.db_read.specs.Reading.{error_at, gathered as fault_gathered};
+ghost use Rattle.db_grammar.specs.Entries.{entry_of, entry_of_block};
+ghost use Rattle.db_read.specs.Drafts.{Drafts, IsComplete};
+
+use db_diagram::{Diagram, Marks, is_ascii_letter};
+use crate::draft::Draft;
+use db_grammar::{
+    CONSTRAINT_SHAPE, EXPR_FAULT, Fault, LineError, NO_COLON_LINE, STRAY_LINE,
+};
+use db_grammar::{Shape, Stage, TableCell};
+use crate::error::DbError;
+use db_lex::LineKind;
+use pat_types::{Letter, Pattern};
+
+/// The table's cell for a line of this kind and first byte.
+pub fn table(stage: Stage, kind: LineKind, first: u8) -> TableCell
+    ensures { result ≡ next_by_table stage kind first }
+{
+    match (stage, kind) {
+        (Stage::Start, LineKind::Pattern) => TableCell::Next(Stage::Diagram),
+        (Stage::Start, LineKind::Other) => {
+            if is_ascii_letter(first) {
+                TableCell::Next(Stage::Start)
+            } else {
+                TableCell::Refused(STRAY_LINE)
+            }
+        }
+        (Stage::Start, _) => TableCell::Refused(STRAY_LINE),
+        (Stage::Diagram, LineKind::Colon) => TableCell::Next(Stage::Labels),
+        (Stage::Diagram, LineKind::Other) => TableCell::Next(Stage::Diagram),
+        (Stage::Diagram, _) => TableCell::Refused(NO_COLON_LINE),
+        (_, LineKind::Pattern) => TableCell::Next(Stage::Diagram),
+        (_, LineKind::Colon) => TableCell::Refused(STRAY_LINE),
+        (Stage::Actions, LineKind::Semicolon) => TableCell::Refused(STRAY_LINE),
+        (_, LineKind::Semicolon) => TableCell::Next(Stage::Expression),
+        (_, LineKind::Action) => TableCell::Next(Stage::Actions),
+        (Stage::Labels, LineKind::Other) => TableCell::Next(Stage::Labels),
+        (_, LineKind::Other) => TableCell::Refused(STRAY_LINE),
+    }
+}
+
+/// Whether a line of this kind, or the end, leaves a stage that gathers lines.
+pub fn closes(stage: Stage, kind: Option<LineKind>) -> bool
+    ensures { result ≡ leaves stage kind }
+{
+    match stage {
+        Stage::Labels => !matches!(kind, Some(LineKind::Other)),
+        Stage::Expression => !matches!(kind, Some(LineKind::Semicolon)),
+        _ => false,
+    }
+}
+
+/// The fault of what a stage has gathered.
+pub fn gathered(number: u64, stage: Stage, mains: usize, lines: usize, first: u64) -> Option<Fault>
+    ensures { result ≡ fault_gathered number stage mains lines first }
+{
+    match stage {
+        Stage::Labels => {
+            if 0 < lines && lines < mains {
+                Some(Fault {
+                    line: number,
+                    kind: CONSTRAINT_SHAPE,
+                })
+            } else {
+                None
+            }
+        }
+        Stage::Expression => Some(Fault {
+            line: first,
+            kind: EXPR_FAULT,
+        }),
+        _ => None,
+    }
+}
+
+/// The fault at the end of the text, by the table.
+pub fn end_kind(stage: Stage) -> Option<u8>
+    ensures { result ≡ end_refused stage }
+{
+    match stage {
+        Stage::Diagram => Some(NO_COLON_LINE),
+        _ => None,
+    }
+}
+
+/// The error of a line of this number.
+pub fn at(number: u64, e: LineError) -> DbError
+    ensures { result ≡ error_at number e }
+{
+    match e {
+        LineError::NoMemory => DbError::NoMemory,
+        LineError::Kind(kind) => DbError::Fault { line: number, kind },
+    }
+}
+
+/// The index of the first star, or the length.
+fn star_index(letters: &[Letter]) -> usize
+    ensures { result ≡ position_or_len is_star letters.now }
+{
+    for (i, l) in letters.iter().enumerate() {
+        if matches!(l, Letter::Star) {
+            return i;
+        }
+    }
+    letters.len()
+}
+
+fn shape_or_none(shape: Option<Shape>) -> Shape
+    ensures { result ≡ unwrap_or shape (record { left = false; right = false; width = 0 }) }
+{
+    match shape {
+        None => Shape {
+            left: false,
+            right: false,
+            width: 0,
+        },
+        Some(s) => s,
+    }
+}
+
+/// The pattern that was read, where the colon line had no fault.
+pub fn finish(draft: Draft<'_>) -> Pattern
+    requires { IsComplete draft }
+    ensures { (b : Block) → Drafts draft.entry b → entry_of result ≡ entry_of_block b }
+{
+    let Draft {
+        name,
+        words: _,
+        diagram,
+        mark,
+        classes,
+        items,
+        marks,
+        has_expression: _,
+        first_expression: _,
+    } = draft;
+    let Diagram {
+        lines: _,
+        rows,
+        top,
+        bottom,
+        shape,
+        letters,
+    } = diagram;
+    let Marks {
+        lines: _,
+        rows: _,
+        labels,
+    } = marks;
+    let star = star_index(letters.as_slice());
+    let Shape { left, right, width } = shape_or_none(shape);
+    Pattern {
+        name,
+        rows: rows as u8,
+        cols: width as u8,
+        letters,
+        top,
+        bottom,
+        left,
+        right,
+        star: ((star / width) as u8, (star % width) as u8),
+        mark,
+        classes,
+        items,
+        labels,
+        constraint: None,
+    }
+}

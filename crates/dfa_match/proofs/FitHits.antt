@@ -1,0 +1,102 @@
+-- The hits of the automaton of a list of patterns.
+use Rattle.spiral.specs.Spiral.{offset_count}
+use Rattle.std.proofs.Common.{◌≡◌, ℕ, zero, suc, ◌+◌, ◌-◌, ◌≤◌, true, false, not, cond, eqb, List, [], ◌∷◌, length, Contains, Some, slice_get, refl, sym, ap, ◌∙◌, subst, arith, ◌⊎◌, inl, inr}
+use Rattle.std.proofs.lemmas.Bool.{cases_Bool, and_parts, eqb-true}
+use Rattle.std.proofs.lemmas.List.Elements.{Contains-append_cases, Contains-append_left, Contains-append_right}
+use Rattle.go_rules.specs.declared.Colour.{Colour}
+use Rattle.go_rules.specs.Position.{BoardState}
+use Rattle.pat_types.specs.declared.pattern.Pattern.{Pattern}
+use Rattle.dfa_core.specs.Words.{Word}
+use Rattle.dfa_core.specs.Automata.{Row, accepted}
+use Rattle.dfa_core.specs.Fits.{drawn_along, is_drawn, length_below, pattern_length, is_refuted}
+use Rattle.dfa_core.specs.States.{is_matched, matched_from}
+use Rattle.dfa_core.proofs.Lengths.{length_below-drawn, length_below-blank, length_below-zero}
+use Rattle.dfa_match.specs.declared.Hit.{Hit}
+use Rattle.dfa_match.specs.Sights.{seen_at, word_at}
+use Rattle.dfa_match.specs.Hits.{IsHit}
+use Rattle.dfa_match.specs.Fitting.{IsFit}
+use Rattle.dfa_match.proofs.Fitting.{word_length, fits_from_match, match_from_fits}
+
+-- a number among those from k on is that of a pattern that matches
+pub record IsNumbered (k : ℕ) (ps : List Pattern) (w : Word) (n : ℕ) : Type 0 where
+  pub pattern : Pattern
+  pub from : k ≤ n
+  pub number : slice_get ps (n - k) ≡ Some pattern
+  pub matched : is_matched w pattern ≡ true
+
+numbered : (k : ℕ) (ps : List Pattern) (w : Word) (n : ℕ) → Contains (matched_from k ps w) n → IsNumbered k ps w n
+numbered k [] w n here = absurd (omega (arith, here.1))
+numbered k (p ∷ ps) w n here =
+    elim (Contains-append_cases (cond (is_matched w p) (k ∷ []) []) (matched_from (suc k) ps w) n here) [
+      | inl first ↦ now (cases_Bool (is_matched w p)) first
+      | inr later ↦
+          let there = numbered (suc k) ps w n later in
+          let next : n - k ≡ suc (n - suc k) = omega (arith, there.from) in
+          record { pattern = there.pattern; from = omega (arith, there.from); number = ap (slice_get (p ∷ ps)) next ∙ there.number; matched = there.matched }
+    ]
+  where
+    one : Contains (k ∷ []) n → n ≡ k
+    one (zero, l, e) = sym e
+    one (suc i, l, e) = absurd (omega (arith, l))
+
+    now : (is_matched w p ≡ true) ⊎ (is_matched w p ≡ false) → Contains (cond (is_matched w p) (k ∷ []) []) n → IsNumbered k (p ∷ ps) w n
+    now (inl hit) at =
+        let same = one (subst (λ b. Contains (cond b (k ∷ []) []) n) hit at) in
+        let none : n - k ≡ 0 = omega (arith, same) in
+        record { pattern = p; from = omega (arith, same); number = ap (slice_get (p ∷ ps)) none; matched = hit }
+    now (inr miss) at = let none : Contains [] n = subst (λ b. Contains (cond b (k ∷ []) []) n) miss at in absurd (omega (arith, none.1))
+
+number_of : (k : ℕ) (ps : List Pattern) (w : Word) (i : ℕ) (p : Pattern) → slice_get ps i ≡ Some p → is_matched w p ≡ true → Contains (matched_from k ps w) (k + i)
+number_of k [] w i p at matched = absurd (let h : ⊥ = cc in h)
+number_of k (q ∷ ps) w zero p at matched =
+    let same : q ≡ p = cc in
+    let none : k ≡ k + 0 = omega arith in
+    Contains-append_left (cond (is_matched w q) (k ∷ []) []) (matched_from (suc k) ps w) (k + 0)
+    (subst (λ b. Contains (cond b (k ∷ []) []) (k + 0)) (sym (ap (is_matched w) same ∙ matched)) (0, omega arith, none))
+number_of k (q ∷ ps) w (suc i) p at matched =
+    let sums : suc k + i ≡ k + suc i = omega arith in
+    Contains-append_right (cond (is_matched w q) (k ∷ []) []) (matched_from (suc k) ps w) (k + suc i)
+    (subst (Contains (matched_from (suc k) ps w)) sums (number_of (suc k) ps w i p at matched))
+
+length_below-most : (p : Pattern) (n : ℕ) → length_below p n ≤ n
+length_below-most p zero = omega (arith, length_below-zero p 0 refl)
+length_below-most p (suc n) =
+    elim (cases_Bool (is_drawn (drawn_along p n))) [
+      | inl last ↦ omega (arith, length_below-drawn p n last)
+      | inr blank ↦ omega (arith, length_below-blank p n blank, length_below-most p n)
+    ]
+
+pattern_length-most : (p : Pattern) → pattern_length p ≤ offset_count
+unfolding pattern_length
+pattern_length-most p = length_below-most p offset_count
+
+module _ (patterns : List Pattern) (machine : List Row) (at : BoardState) (friend : Colour) (hit : Hit) (accepts : (w : Word) → accepted machine w ≡ matched_from 0 patterns w) where
+  pub fit_from_hit : IsHit machine at friend hit → IsFit patterns at friend hit
+  fit_from_hit is =
+      let w : Word = word_at at friend hit.transform hit.anchor is.letters in
+      let found = numbered 0 patterns w hit.pattern (subst (λ ns. Contains ns hit.pattern) (accepts w) is.accepts) in
+      let none : hit.pattern ≡ hit.pattern - 0 = omega arith in
+      let long : is.letters ≡ pattern_length found.pattern =
+      sym (word_length found.pattern (seen_at at friend hit.transform hit.anchor) 0 is.letters)
+      ∙ eqb-true _ _ (and_parts (eqb (length w) (pattern_length found.pattern)) (not (is_refuted found.pattern w)) found.matched).0 in
+      record {
+        transform = is.transform;
+        anchor = is.anchor;
+        pattern = found.pattern;
+        number = ap (slice_get patterns) none ∙ found.number;
+        fits = fits_from_match found.pattern at friend hit.transform hit.anchor
+            (subst (λ n. is_matched (word_at at friend hit.transform hit.anchor n) found.pattern ≡ true) long found.matched);
+      }
+
+  pub hit_from_fit : IsFit patterns at friend hit → IsHit machine at friend hit
+  hit_from_fit is =
+      let w : Word = word_at at friend hit.transform hit.anchor (pattern_length is.pattern) in
+      let none : 0 + hit.pattern ≡ hit.pattern = omega arith in
+      let matched = match_from_fits is.pattern at friend hit.transform hit.anchor is.fits in
+      record {
+        transform = is.transform;
+        anchor = is.anchor;
+        letters = pattern_length is.pattern;
+        spiral = pattern_length-most is.pattern;
+        accepts = subst (λ ns. Contains ns hit.pattern) (sym (accepts w)) (subst (Contains (matched_from 0 patterns w)) none (number_of 0 patterns w hit.pattern is.pattern is.number matched));
+      }

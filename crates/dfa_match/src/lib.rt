@@ -1,0 +1,157 @@
+//! The scan of a board: an automaton is run from each point under each transformation.
+#![tactic(auto)]
+
+ghost use Rattle.std.specs.Prelude.{◌≡◌, ◌↔◌, true, List, ℕ, ◌+◌, ◌*◌, ◌<◌, ◌++◌, [], IfOk, OnOk};
+ghost use Rattle.go_rules.specs.Position.{BoardState};
+ghost use Rattle.dfa_core.specs.Automata.{Row, accepted, numbers_along};
+ghost use Rattle.dfa_match.specs.Sights.{seen_of, seen_at, word_at};
+ghost use Rattle.go_rules.specs.declared.Colour.{Colour as ColourSeen};
+ghost use Rattle.pat_types.specs.declared.pattern.Pattern.{Pattern};
+ghost use Rattle.spiral.specs.Spiral.{offset_count};
+ghost use Rattle.dfa_core.specs.Fits.{pattern_length};
+ghost use Rattle.dfa_core.specs.States.{is_matched, matched_from};
+ghost use Rattle.dfa_match.specs.Fitting.{FitsAt, IsFit};
+ghost use Rattle.dfa_match.specs.declared.Hit.{Hit as HitSeen};
+ghost use Rattle.dfa_core.specs.Words.{Word};
+ghost use Rattle.dfa_match.specs.Hits.{hits_at, IsHit, AreHits, AreHitsWhere, comes_before};
+
+use dfa_core::{Automaton, Seen};
+use go_base::{Cell, Colour, Look, Point, Transform};
+use spiral::{OFFSETS, place};
+use std::alloc::AllocError;
+
+/// A pattern that an automaton accepts from an anchor under a transformation.
+#[derive(Clone, Copy, Debug, PartialEq, Eq)]
+pub struct Hit {
+    pub pattern: u16,
+    pub transform: Transform,
+    pub anchor: Point,
+}
+
+/// What a cell is for a friend of this colour.
+fn seen(friend: Colour, cell: Cell) -> Seen
+    ensures { result ≡ seen_of friend cell }
+{
+    match friend {
+        Colour::Black => match cell {
+            Cell::Black => Seen::Friend,
+            Cell::White => Seen::Enemy,
+            Cell::Empty => Seen::Empty,
+        },
+        Colour::White => match cell {
+            Cell::Black => Seen::Enemy,
+            Cell::White => Seen::Friend,
+            Cell::Empty => Seen::Empty,
+        },
+    }
+}
+
+/// What is seen at an index of the spiral.
+#[tactic(auto, unfolding(crate::specs::Sights::seen_at))]
+fn letter<L: Look>(look: &mut L, friend: Colour, t: Transform, anchor: Point, index: u16) -> Seen
+    requires index { index < offset_count }
+    requires anchor { anchor < (L.shows look.old).size * (L.shows look.old).size }
+    ensures value { result ≡ seen_at (L.shows look.old) friend t anchor index }
+    ensures same { L.shows look.new ≡ L.shows look.old }
+{
+    match place(index, t, anchor, look.size()) {
+        Some(p) => seen(friend, look.cell(p)),
+        None => Seen::Off,
+    }
+}
+
+/// Adds the hits of these patterns.
+fn add(out: &mut Vec<Hit>, numbers: &[u16], t: Transform, anchor: Point) -> Result<(), AllocError>
+    ensures { OnOk result (out.new.items ≡ out.old.items ++ hits_at t anchor numbers.now) }
+{
+    for n in numbers {
+        out.push(Hit {
+            pattern: *n,
+            transform: t,
+            anchor,
+        })?;
+    }
+    Ok(())
+}
+
+/// Runs the automaton from one anchor under one transformation.
+fn walk<L: Look>(
+    machine: &Automaton,
+    look: &mut L,
+    friend: Colour,
+    t: Transform,
+    anchor: Point,
+    out: &mut Vec<Hit>,
+) -> Result<(), AllocError>
+    requires { anchor < (L.shows look.old).size * (L.shows look.old).size }
+    ensures ok { OnOk result (out.new.items ≡ out.old.items ++ hits_at t anchor (numbers_along machine.now 0 (word_at (L.shows look.old) friend t anchor offset_count))) }
+    ensures same { L.shows look.new ≡ L.shows look.old }
+{
+    let _ = machine.rows();
+    let mut row = 0;
+    'letters: for index in 0..OFFSETS {
+        add(out, machine.accepts(row), t, anchor)?;
+        if machine.is_dead(row) {
+            return Ok(());
+        }
+        row = machine.step(row, letter(look, friend, t, anchor, index));
+    }
+    add(out, machine.accepts(row), t, anchor)
+}
+
+/// Runs the automaton from each anchor under one transformation.
+fn sweep<L: Look>(
+    machine: &Automaton,
+    look: &mut L,
+    friend: Colour,
+    t: Transform,
+    points: u16,
+    out: &mut Vec<Hit>,
+) -> Result<(), AllocError>
+    requires points { points ≡ (L.shows look.old).size * (L.shows look.old).size }
+    requires before { AreHitsWhere machine.now (L.shows look.old) friend (comes_before t 0) out.old.items }
+    requires transform { t < 8 }
+    ensures ok { OnOk result (AreHitsWhere machine.now (L.shows look.old) friend (comes_before (t + 1) 0) out.new.items) }
+    ensures same { L.shows look.new ≡ L.shows look.old }
+{
+    let _ = machine.rows();
+    'anchors: for anchor in 0..points {
+        walk(machine, look, friend, t, anchor, out)?;
+    }
+    Ok(())
+}
+
+/// The hits of an automaton on the position of a look: each pattern that it accepts along the spiral from some anchor under
+/// some transformation, once.
+pub fn scan<L: Look>(
+    machine: &Automaton,
+    look: &mut L,
+    friend: Colour,
+    out: Vec<Hit>,
+) -> Result<Vec<Hit>, AllocError>
+    requires { out.items ≡ [] }
+    ensures hits { IfOk result (λ hits. AreHits machine.now (L.shows look.old) friend hits.items) }
+    ensures same { L.shows look.new ≡ L.shows look.old }
+{
+    let _ = machine.rows();
+    let mut out = out;
+    let points = look.size().points();
+    'transforms: for n in 0..8 {
+        if let Some(t) = Transform::new(n) {
+            sweep(machine, look, friend, t, points, &mut out)?;
+        }
+    }
+    Ok(out)
+}
+
+/// A word that is read from an anchor matches a pattern exactly where the pattern fits with its anchor's cell there.
+pub fn matched_words_are_fits()
+    ensures { (p : Pattern) (pos : BoardState) (friend : ColourSeen) (t m : ℕ) →
+        (is_matched (word_at pos friend t m (pattern_length p)) p ≡ true) ↔ FitsAt p pos friend t m }
+{}
+
+/// The hits of the automaton of a list of patterns are where these patterns fit.
+pub fn hits_of_patterns_are_fits()
+    ensures { (patterns : List Pattern) (machine : List Row) (pos : BoardState) (friend : ColourSeen) (hit : HitSeen) →
+        ((w : Word) → accepted machine w ≡ matched_from 0 patterns w) → IsHit machine pos friend hit ↔ IsFit patterns pos friend hit }
+{}

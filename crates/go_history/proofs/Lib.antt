@@ -1,0 +1,4 @@
+pub mod GameLemmas
+pub mod Keeping
+pub mod Presents
+pub mod Stones

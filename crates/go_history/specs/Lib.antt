@@ -1,0 +1,4 @@
+pub mod Games
+pub mod Taken
+pub mod Presents
+pub mod Kept

@@ -1,0 +1,122 @@
+-- The commands, the words that each takes, and what a line says.
+use Rattle.std.specs.Prelude.{ℕ, ◌&&◌, nat_le, Bool, List, [], ◌∷◌, map, Option, None, Some, is_some, if◌then◌else◌, codes}
+use Rattle.std.specs.List.{find, join_with_byte}
+use Rattle.std.specs.Option.{option_map, option_and_then}
+use Rattle.std.specs.Str.{bytes_eq}
+use Rattle.go_rules.specs.declared.Colour.{Colour}
+use Rattle.go_rules.specs.Board.{smallest_size, largest_size}
+use Rattle.gtp_cmd.specs.Words.{cleaned, words_of, number_of, id_of, line_feed}
+use Rattle.gtp_cmd.specs.Vertices.{vertex_of, target_of}
+use Rattle.gtp_cmd.specs.Colours.{colour_of}
+use Rattle.gtp_cmd.specs.Komi.{komi_of}
+use Rattle.gtp_cmd.specs.declared.commands.CommandName.{CommandName}
+use Rattle.gtp_cmd.specs.declared.commands.CommandName.TheVariants as name
+use Rattle.gtp_cmd.specs.declared.commands.Command.{Command}
+use Rattle.gtp_cmd.specs.declared.commands.Command.TheVariants as command
+use Rattle.gtp_cmd.specs.declared.commands.Parsed.{Parsed}
+use Rattle.gtp_cmd.specs.declared.commands.Parsed.TheVariants as parsed
+use Rattle.gtp_cmd.specs.declared.refusals.RefuseText.TheVariants.{UnknownCommand, SyntaxError}
+
+-- a command and the word that names it
+pub record Row : Type 0 where
+  pub command : CommandName
+  pub word : List ℕ
+
+-- the commands in the order in which they are listed
+abbrev pub table : List Row
+table =
+    record { command = name.ProtocolVersion; word = codes "protocol_version" }
+    ∷ record { command = name.Name; word = codes "name" }
+    ∷ record { command = name.Version; word = codes "version" }
+    ∷ record { command = name.KnownCommand; word = codes "known_command" }
+    ∷ record { command = name.ListCommands; word = codes "list_commands" }
+    ∷ record { command = name.Quit; word = codes "quit" }
+    ∷ record { command = name.BoardSize; word = codes "boardsize" }
+    ∷ record { command = name.ClearBoard; word = codes "clear_board" }
+    ∷ record { command = name.Komi; word = codes "komi" }
+    ∷ record { command = name.GetKomi; word = codes "get_komi" }
+    ∷ record { command = name.Play; word = codes "play" }
+    ∷ record { command = name.Undo; word = codes "undo" }
+    ∷ record { command = name.ShowBoard; word = codes "showboard" }
+    ∷ record { command = name.IsLegal; word = codes "is_legal" }
+    ∷ record { command = name.AllLegal; word = codes "all_legal" }
+    ∷ record { command = name.CountLib; word = codes "countlib" }
+    ∷ record { command = name.FindLib; word = codes "findlib" }
+    ∷ record { command = name.Captures; word = codes "captures" }
+    ∷ []
+
+-- the command that a word names
+abbrev pub named : List ℕ → Option CommandName
+named word = option_map (λ r. r.command) (find (λ r. bytes_eq word r.word) table)
+
+-- the names of the commands, one a line
+abbrev pub names_text : List ℕ
+names_text = join_with_byte line_feed (map (λ r. r.word) table)
+
+-- what a first argument says, where there is one and it is well formed
+abbrev pub first_argument : {X : Type 0} → (List ℕ → Option X) → List (List ℕ) → Option X
+first_argument says [] = None
+first_argument says (word ∷ more) = says word
+
+-- whether the first argument names a command
+abbrev pub known_of : List (List ℕ) → Option Bool
+known_of words = first_argument (λ word. Some (is_some (named word))) words
+
+-- the size of a board that a number is
+abbrev pub size_of : ℕ → Option ℕ
+size_of n = if nat_le smallest_size n && nat_le n largest_size then Some n else None
+
+-- a colour and where it moves on a board of size s, where the first two words say both
+abbrev pub move_of : ℕ → List (List ℕ) → Option (Colour × Option ℕ)
+move_of s (colour ∷ target ∷ more) = option_and_then (λ c. option_map (λ at. (c, at)) (target_of s target)) (colour_of colour)
+move_of s _ = None
+
+-- what a command is with these words after its name, on a board of size s; none where an argument is missing or malformed
+abbrev pub command_of : CommandName → ℕ → List (List ℕ) → Option Command
+command_of name.ProtocolVersion s words = Some command.ProtocolVersion
+command_of name.Name s words = Some command.Name
+command_of name.Version s words = Some command.Version
+command_of name.KnownCommand s words = option_map command.KnownCommand (known_of words)
+command_of name.ListCommands s words = Some command.ListCommands
+command_of name.Quit s words = Some command.Quit
+command_of name.BoardSize s words = option_map (λ n. command.BoardSize (size_of n)) (first_argument number_of words)
+command_of name.ClearBoard s words = Some command.ClearBoard
+command_of name.Komi s words = option_map command.Komi (first_argument komi_of words)
+command_of name.GetKomi s words = Some command.GetKomi
+command_of name.Play s words = option_map (λ m. command.Play m.0 m.1) (move_of s words)
+command_of name.Undo s words = Some command.Undo
+command_of name.ShowBoard s words = Some command.ShowBoard
+command_of name.IsLegal s words = option_map (λ m. command.IsLegal m.0 m.1) (move_of s words)
+command_of name.AllLegal s words = option_map command.AllLegal (first_argument colour_of words)
+command_of name.CountLib s words = option_map command.CountLib (first_argument (vertex_of s) words)
+command_of name.FindLib s words = option_map command.FindLib (first_argument (vertex_of s) words)
+command_of name.Captures s words = option_map command.Captures (first_argument colour_of words)
+
+-- a command, or a refusal where its arguments are missing or malformed
+abbrev pub asked : Option ℕ → Option Command → Parsed
+asked id None = parsed.Refused id SyntaxError
+asked id (Some c) = parsed.Command id c
+
+-- what the words after a name say, or a refusal where the name is no command's
+abbrev pub called : Option ℕ → ℕ → Option CommandName → List (List ℕ) → Parsed
+called id s None words = parsed.Refused id UnknownCommand
+called id s (Some n) words = asked id (command_of n s words)
+
+-- what the words behind the id say; where there is none, no command is named
+abbrev pub said : Option ℕ → ℕ → List (List ℕ) → Parsed
+said id s [] = parsed.Refused id UnknownCommand
+said id s (word ∷ words) = called id s (named word) words
+
+-- what the words say, where the first may be an id
+abbrev pub said_with : Option ℕ → ℕ → List ℕ → List (List ℕ) → Parsed
+said_with None s first more = said None s (first ∷ more)
+said_with (Some id) s first more = said (Some id) s more
+
+-- what the words of a line say
+abbrev pub parsed_words : ℕ → List (List ℕ) → Parsed
+parsed_words s [] = parsed.Nothing
+parsed_words s (first ∷ more) = said_with (id_of first) s first more
+
+-- what a line says to a machine whose board has size s
+unfoldable pub parsed_of : List ℕ → ℕ → Parsed
+parsed_of line s = parsed_words s (words_of (cleaned line))

@@ -1,0 +1,38 @@
+-- The bytes of a reply, after the GTP version 2 draft. An empty result has no blank before it.
+use Rattle.std.specs.Prelude.{ℕ, List, [], ◌∷◌, ◌++◌, Option, None, Some, codes, decimal}
+use Rattle.gtp_cmd.specs.declared.refusals.RefuseText.{RefuseText}
+use Rattle.gtp_cmd.specs.declared.refusals.RefuseText.TheVariants.{UnknownCommand, SyntaxError, LineTooLong, UnacceptableSize, IllegalMove, HistoryFull, CannotUndo, VertexEmpty, OutOfMemory}
+
+-- the id, where there is one, as it is printed
+abbrev pub id_text : Option ℕ → List ℕ
+id_text None = []
+id_text (Some id) = decimal id
+
+-- the result behind a blank, and nothing where it is empty
+abbrev pub after_blank : List ℕ → List ℕ
+after_blank [] = []
+after_blank (b ∷ bs) = codes " " ++ b ∷ bs
+
+-- the two line feeds that end each reply
+abbrev pub reply_end : List ℕ
+reply_end = codes "\n\n"
+
+-- a success: `=`, the id if any, a blank and the result where it is not empty, two line feeds
+abbrev pub success_text : Option ℕ → List ℕ → List ℕ
+success_text id text = codes "=" ++ id_text id ++ after_blank text ++ reply_end
+
+-- what a refusal says
+abbrev pub text_of : RefuseText → List ℕ
+text_of UnknownCommand = codes "unknown command"
+text_of SyntaxError = codes "syntax error"
+text_of LineTooLong = codes "line too long"
+text_of UnacceptableSize = codes "unacceptable size"
+text_of IllegalMove = codes "illegal move"
+text_of HistoryFull = codes "history full"
+text_of CannotUndo = codes "cannot undo"
+text_of VertexEmpty = codes "vertex must not be empty"
+text_of OutOfMemory = codes "out of memory"
+
+-- a refusal: `?`, the id if any, a blank, what it says, two line feeds
+abbrev pub refusal_text : Option ℕ → RefuseText → List ℕ
+refusal_text id refusal = codes "?" ++ id_text id ++ codes " " ++ text_of refusal ++ reply_end

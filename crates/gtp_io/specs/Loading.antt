@@ -1,0 +1,21 @@
+-- What a loader promises of one call.
+use Rattle.std.specs.Prelude.{◌≡◌, ℕ, true, List, [], ◌∷◌, ◌++◌, Option, Some, None, Result, Ok, Err, if◌then◌else◌}
+use Rattle.std.specs.Str.{bytes_eq}
+use Rattle.gtp_io.specs.declared.errors.LoadError.{LoadError}
+use Rattle.gtp_io.specs.declared.errors.LoadError.TheVariants.{Failed, NoMemory}
+
+-- the bytes are those that were handed in, followed by the contents where these are told, and by some bytes where they are not
+abbrev pub IsLoaded : Option (List ℕ) → List ℕ → List ℕ → Type 0
+IsLoaded None into bytes = (more : List ℕ) × (bytes ≡ into ++ more)
+IsLoaded (Some contents) into bytes = bytes ≡ into ++ contents
+
+-- the names that were missed after a call for a name: a call that failed appends it, and no other call does
+abbrev pub missed_after : {T : Type 0} → List (List ℕ) → List ℕ → Result T LoadError → List (List ℕ)
+missed_after missed name (Ok x) = missed
+missed_after missed name (Err Failed) = missed ++ name ∷ []
+missed_after missed name (Err NoMemory) = missed
+
+-- the contents of the first of the names that is this one
+abbrev pub named : List (List ℕ) → List (List ℕ) → List ℕ → Option (List ℕ)
+named (known ∷ names) (text ∷ contents) name = if bytes_eq known name then Some text else named names contents name
+named _ _ name = None

@@ -1,0 +1,57 @@
+//! What the calls of this crate answer where they fail.
+ghost use Rattle.std.specs.Prelude.{◌≡◌};
+ghost use Rattle.gtp_io.specs.declared.errors.LoadError.TheVariants as load;
+
+use std::alloc::AllocError;
+use std::error::Error;
+use std::fmt;
+
+/// The object failed, and its count of faults rose.
+#[derive(Clone, Copy, Debug, PartialEq, Eq)]
+pub struct Failed;
+
+/// Memory was not found.
+#[derive(Clone, Copy, Debug, PartialEq, Eq)]
+pub struct NoMemory;
+
+/// Why a load has no contents: the loader failed, or memory was not found.
+#[derive(Clone, Copy, Debug, PartialEq, Eq)]
+pub enum LoadError {
+    Failed,
+    NoMemory,
+}
+
+impl fmt::Display for Failed {
+    fn fmt<W: fmt::Write>(&self, f: &mut fmt::Formatter<W>) -> fmt::Result {
+        write!(f, "failed")
+    }
+}
+
+impl Error for Failed {}
+
+impl fmt::Display for NoMemory {
+    fn fmt<W: fmt::Write>(&self, f: &mut fmt::Formatter<W>) -> fmt::Result {
+        write!(f, "out of memory")
+    }
+}
+
+impl Error for NoMemory {}
+
+impl fmt::Display for LoadError {
+    fn fmt<W: fmt::Write>(&self, f: &mut fmt::Formatter<W>) -> fmt::Result {
+        match self {
+            LoadError::Failed => write!(f, "failed"),
+            LoadError::NoMemory => write!(f, "out of memory"),
+        }
+    }
+}
+
+impl Error for LoadError {}
+
+impl From<AllocError> for LoadError {
+    ghost from_gives = { λ _ e. e ≡ load.NoMemory };
+
+    fn from(_error: AllocError) -> LoadError {
+        LoadError::NoMemory
+    }
+}

@@ -1,0 +1,23 @@
+//! Where bytes go.
+ghost use Rattle.std.specs.Prelude.{List, Option, ℕ};
+ghost use Rattle.std.specs.Io.KnownBytes.{WriteAppends};
+ghost use Rattle.gtp_io.specs.Outside.{IsCounted, TakesSome};
+
+use crate::Failed;
+
+/// A sink for bytes.
+pub trait Sink {
+    /// The bytes written, where the sink tells them.
+    ghost written: { Self → Option (List ℕ) };
+
+    /// How often the sink has failed.
+    ghost faults: { Self → ℕ };
+
+    /// Takes a front of the bytes and says how many: at least one where the piece is not empty.
+    ///
+    /// A call that answers Failed leaves what was written before.
+    fn put(&mut self, bytes: &[u8]) -> Result<usize, Failed>
+        ensures some { TakesSome result bytes.now }
+        ensures bytes { WriteAppends (written self.old) (written self.new) result bytes.now }
+        ensures cause { IsCounted (faults self.old) (faults self.new) result };
+}

@@ -1,0 +1,28 @@
+//! Where bytes come from.
+ghost use Rattle.std.specs.Prelude.{List, Option, ℕ};
+ghost use Rattle.std.specs.Io.{ReadsAtMost};
+ghost use Rattle.std.specs.Io.KnownBytes.{ReadConsumes};
+ghost use Rattle.gtp_io.specs.Outside.{IsCounted, Gave};
+
+use crate::Failed;
+
+/// A source of bytes.
+pub trait Source {
+    /// The bytes that are left, where the source tells them.
+    ghost left: { Self → Option (List ℕ) };
+
+    /// How many bytes the last call gave.
+    ghost piece: { Self → ℕ };
+
+    /// How often the source has failed.
+    ghost faults: { Self → ℕ };
+
+    /// Gives the next bytes of what is left, at most as many as the buffer holds, and says how many.
+    ///
+    /// 0 for a buffer that is not empty is the end. A call that answers Failed takes no byte.
+    fn next(&mut self, buf: &mut [u8]) -> Result<usize, Failed>
+        ensures bound { ReadsAtMost result buf.new }
+        ensures bytes { ReadConsumes (left self.old) (left self.new) result buf.new }
+        ensures piece { Gave (piece self.new) result }
+        ensures cause { IsCounted (faults self.old) (faults self.new) result };
+}

@@ -1,0 +1,8 @@
+//! A line as it is handed on.
+
+/// A line of the stream: its bytes without the line feed, or that it has more than 65,536.
+#[derive(Clone, Copy, Debug)]
+pub enum Raw<'a> {
+    Line(&'a [u8]),
+    TooLong,
+}

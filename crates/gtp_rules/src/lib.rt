@@ -1,0 +1,17 @@
+//! The protocol as definitions: what the lines of a stream are, what a machine gives for a line, and what may be written for a
+//! list of lines. There is no code here; the crates of the protocol cite what stands in specs/.
+//!
+//! A stream is a list of bytes, and a line is what stands before a line feed, after the GTP version 2 draft. A line of more
+//! bytes than the longest line may have is told as too long, whatever it holds.
+#![tactic(auto)]
+
+ghost use Rattle.std.specs.Prelude.{◌≡◌, ℕ, List, [], ◌∷◌, ◌++◌};
+ghost use Rattle.std.specs.List.{join_with_byte};
+ghost use Rattle.gtp_rules.specs.Lines.{line_feed, texts_of, ended_texts, rest_of, lines_of, lines_with_rest};
+
+// The cut at line feeds loses nothing: joined by line feeds, the texts give the bytes back.
+pub fn lines_lose_nothing()
+    ensures joined { (bytes : List ℕ) → join_with_byte line_feed (texts_of bytes) ≡ bytes }
+    ensures rest_is_last { (bytes : List ℕ) → texts_of bytes ≡ ended_texts bytes ++ rest_of bytes ∷ [] }
+    ensures none_of_no_bytes { (lines_of [] ≡ []) × (lines_with_rest [] ≡ []) }
+{}

@@ -1,0 +1,5 @@
+pub mod Letters
+pub mod Marks
+pub mod Diagrams
+pub mod Kept
+pub mod Cells

@@ -1,0 +1,35 @@
+//! The letters of a diagram.
+
+ghost use Rattle.std.specs.Prelude.{◌≡◌};
+ghost use Rattle.pat_types.specs.Letters.{admits};
+
+use go_base::{Cell, Colour};
+
+/// What a cell of a diagram asks of the cell of the board under it.
+#[derive(Clone, Copy, Debug, PartialEq, Eq)]
+pub enum Letter {
+    Friend,
+    Enemy,
+    Empty,
+    FriendOrEmpty,
+    EnemyOrEmpty,
+    Any,
+    Star,
+}
+
+/// Whether a letter admits a cell, where `friend` is the colour for which the pattern is asked.
+pub fn letter_fits(letter: Letter, cell: Cell, friend: Colour) -> bool
+    ensures { result ≡ admits letter cell friend }
+{
+    let mine = cell == friend.cell();
+    let yours = cell == friend.other().cell();
+    let empty = cell == Cell::Empty;
+    match letter {
+        Letter::Friend => mine,
+        Letter::Enemy => yours,
+        Letter::Empty | Letter::Star => empty,
+        Letter::FriendOrEmpty => mine || empty,
+        Letter::EnemyOrEmpty => yours || empty,
+        Letter::Any => true,
+    }
+}

@@ -1,0 +1,20 @@
+use Rattle.std.proofs.Common.{◌≡◌, List, ◌++◌, length, false}
+use Rattle.gtp_rules.specs.Lines.{RawLine}
+use Rattle.gtp_lex.specs.Held.{lines_from, held_from}
+use Rattle.session.specs.Machine.{step}
+use Rattle.session.specs.Serving.{RunsTo}
+use Rattle.session.proofs.serve.answer_piece.Given as goal
+
+-- some of the piece's lines were answered, and those of the rest are left
+abbrev pub invariant-loop-rest : goal.invariant-loop-rest
+invariant-loop-rest g l = record {
+  answered : (lines : List RawLine) × (lines_from l.fn.lines.held l.fn.piece ≡ lines ++ lines_from l.lines.held l.rest)
+      × RunsTo step l.fn.session lines l.session false (g.K.Sink.written l.fn.output) (g.K.Sink.written l.output);
+  held : held_from l.fn.lines.held l.fn.piece ≡ held_from l.lines.held l.rest;
+  open_ended : l.lines.waits ≡ false;
+  faults : g.K.Sink.faults l.output ≡ g.K.Sink.faults l.fn.output;
+}
+
+-- each turn takes a byte
+abbrev pub decreases-loop-rest : goal.decreases-loop-rest
+decreases-loop-rest g l = length l.rest

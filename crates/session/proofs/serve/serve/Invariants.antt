@@ -1,0 +1,19 @@
+use Rattle.std.proofs.Common.{◌≡◌, length, false}
+use Rattle.session.specs.Machine.{step}
+use Rattle.session.proofs.Served.{Served}
+use Rattle.session.proofs.serve.serve.Given as goal
+
+-- the lines of the bytes taken so far were answered up to the one that is held, and nothing failed
+abbrev pub invariant-loop-room : goal.invariant-loop-room
+invariant-loop-room g l = record {
+  served : Served step l.fn.session l.session (g.S.Source.left l.fn.input) (g.S.Source.left l.input)
+      (g.K.Sink.written l.fn.output) (g.K.Sink.written l.output) l.lines.held l.room;
+  open_ended : l.lines.waits ≡ false;
+  buffer : length l.buf ≡ 4096;
+  input_faults : g.S.Source.faults l.input ≡ g.S.Source.faults l.fn.input;
+  output_faults : g.K.Sink.faults l.output ≡ g.K.Sink.faults l.fn.output;
+}
+
+-- each piece has a byte
+abbrev pub decreases-loop-room : goal.decreases-loop-room
+decreases-loop-room g l = l.room

@@ -1,0 +1,6 @@
+pub mod Machine
+pub mod Outcomes
+pub mod Notes
+pub mod Headline
+pub mod Serving
+pub mod Reply

@@ -1,0 +1,212 @@
+//! The loops of a run: a reply that is put, the lines of a piece, and the pieces of a source.
+ghost use Rattle.std.specs.Prelude.{◌≡◌, ◌≢◌, ◌≤◌, ◌<◌, true, false, length, take, IfOk, OnOk, OnErr};
+ghost use Rattle.std.specs.Io.{ReadsAtMost};
+ghost use Rattle.std.specs.Io.KnownBytes.{Appends, ReadConsumes};
+ghost use Rattle.gtp_io.specs.Outside.{IsCounted, Gave};
+ghost use Rattle.gtp_rules.specs.Lines.{RawLine};
+ghost use Rattle.gtp_lex.specs.Held.{lines_from, held_from, held_line};
+ghost use Rattle.gtp_lex.specs.Lines.{no_line};
+ghost use Rattle.gtp_lex.specs.LinesTaken.{taken_of, given_state};
+ghost use Rattle.gtp_lex.specs.Raw.{raw_line};
+ghost use Rattle.session.specs.Machine.{step};
+ghost use Rattle.session.specs.Headline.{Serves, IsCauseOf};
+ghost use Rattle.session.specs.Serving.{PutsPart, Replies, RepliesPart, RunsTo, RunsPart};
+
+use crate::outcome::Outcome;
+use crate::replies::refusal_short;
+use crate::reply::{RefuseText, Reply};
+use crate::session::Session;
+use gtp_io::{Failed, Sink, Source};
+use gtp_lex::{Lines, Raw, Taken};
+
+/// The most bytes that are asked of a source at once.
+const PIECE: usize = 4096;
+
+/// How many bytes are too many to take.
+const MOST_TAKEN: usize = 1 << 32;
+
+/// Puts all the bytes, or fails where the sink does.
+pub(crate) fn put_all<K: Sink>(output: &mut K, bytes: &[u8]) -> Result<(), Failed>
+    ensures ok { OnOk result (Appends (K.written output.old) (K.written output.new) bytes.now) }
+    ensures part { OnErr result (PutsPart (K.written output.old) (K.written output.new) bytes.now) }
+    ensures cause { IsCounted (K.faults output.old) (K.faults output.new) result }
+{
+    let mut rest = bytes;
+    while !rest.is_empty() {
+        let count = output.put(rest)?;
+        rest = &rest[count..];
+    }
+    Ok(())
+}
+
+// Answers one line, and says whether it ends the session.
+fn answer<K: Sink>(session: &mut Session, raw: Raw<'_>, output: &mut K) -> Result<bool, Failed>
+    ensures ok { IfOk result (λ ends.
+        Replies step session.old (raw_line raw.entry) session.new ends (K.written output.old) (K.written output.new)) }
+    ensures part { OnErr result
+        (RepliesPart step session.old (raw_line raw.entry) (K.written output.old) (K.written output.new)) }
+    ensures cause { IsCounted (K.faults output.old) (K.faults output.new) result }
+{
+    match session.line(raw) {
+        Reply::Nothing => Ok(false),
+        Reply::Short { text, quit } => {
+            put_all(output, text.as_slice())?;
+            Ok(quit)
+        }
+        Reply::Text { bytes } => {
+            put_all(output, bytes.as_slice())?;
+            Ok(false)
+        }
+        Reply::NoMemory { id } => {
+            put_all(
+                output,
+                refusal_short(id, RefuseText::OutOfMemory).as_slice(),
+            )?;
+            Ok(false)
+        }
+    }
+}
+
+// Answers the line that was taken.
+fn answer_taken<K: Sink>(
+    session: &mut Session,
+    lines: &Lines,
+    taken: Taken,
+    output: &mut K,
+) -> Result<bool, Failed>
+    requires { (held : RawLine) × (lines.now ≡ given_state held) × (taken ≡ taken_of held) }
+    ensures ok { (held : RawLine) → lines.now ≡ given_state held → taken ≡ taken_of held → IfOk result (λ ends.
+        Replies step session.old held session.new ends (K.written output.old) (K.written output.new)) }
+    ensures part { (held : RawLine) → lines.now ≡ given_state held → taken ≡ taken_of held → OnErr result
+        (RepliesPart step session.old held (K.written output.old) (K.written output.new)) }
+    ensures cause { IsCounted (K.faults output.old) (K.faults output.new) result }
+{
+    match taken {
+        Taken::Line => answer(session, Raw::Line(lines.bytes()), output),
+        Taken::TooLong => answer(session, Raw::TooLong, output),
+    }
+}
+
+// Takes bytes up to and with the first line feed, and answers the line that it ends, if it came.
+// Says how many bytes were taken, and whether the line ends the session.
+fn answer_next<K: Sink>(
+    session: &mut Session,
+    lines: &mut Lines,
+    rest: &[u8],
+    output: &mut K,
+) -> Result<(usize, bool), Failed>
+    requires { lines.old.waits ≡ false }
+    ensures bound { IfOk result (λ turn. (turn.0 ≤ length rest.now) × (0 < length rest.now → 0 < turn.0)) }
+    ensures ok { IfOk result (λ turn. RunsTo step session.old (lines_from lines.old.held (take turn.0 rest.now)) session.new turn.1
+        (K.written output.old) (K.written output.new)) }
+    ensures held { IfOk result (λ turn. (lines.new.held ≡ held_from lines.old.held (take turn.0 rest.now)) × (lines.new.waits ≡ false)) }
+    ensures part { OnErr result (RunsPart step session.old (lines_from lines.old.held rest.now)
+        (K.written output.old) (K.written output.new)) }
+    ensures cause { IsCounted (K.faults output.old) (K.faults output.new) result }
+{
+    let count = lines.feed(rest);
+    match lines.take() {
+        Some(taken) => {
+            let ended = answer_taken(session, lines, taken, output)?;
+            Ok((count, ended))
+        }
+        None => Ok((count, false)),
+    }
+}
+
+// Answers the lines that end in a piece, and says whether one of them ends the session.
+fn answer_piece<K: Sink>(
+    session: &mut Session,
+    lines: &mut Lines,
+    piece: &[u8],
+    output: &mut K,
+) -> Result<bool, Failed>
+    requires { lines.old.waits ≡ false }
+    ensures ok { IfOk result (λ ended. RunsTo step session.old (lines_from lines.old.held piece.now) session.new ended
+        (K.written output.old) (K.written output.new)) }
+    ensures held { IfOk result (λ ended. ended ≡ false →
+        (lines.new.held ≡ held_from lines.old.held piece.now) × (lines.new.waits ≡ false)) }
+    ensures part { OnErr result (RunsPart step session.old (lines_from lines.old.held piece.now)
+        (K.written output.old) (K.written output.new)) }
+    ensures cause { IsCounted (K.faults output.old) (K.faults output.new) result }
+{
+    let mut rest = piece;
+    while !rest.is_empty() {
+        let (count, ended) = answer_next(session, lines, rest, output)?;
+        if ended {
+            return Ok(true);
+        }
+        rest = &rest[count..];
+    }
+    Ok(false)
+}
+
+// Answers the rest as a last line, if there is one.
+fn answer_rest<K: Sink>(
+    session: &mut Session,
+    lines: &mut Lines,
+    output: &mut K,
+) -> Result<bool, Failed>
+    requires { lines.old.waits ≡ false }
+    ensures ok { IfOk result (λ ended. RunsTo step session.old (held_line lines.old.held) session.new ended
+        (K.written output.old) (K.written output.new)) }
+    ensures part { OnErr result (RunsPart step session.old (held_line lines.old.held) (K.written output.old) (K.written output.new)) }
+    ensures cause { IsCounted (K.faults output.old) (K.faults output.new) result }
+{
+    match lines.finish() {
+        Some(taken) => answer_taken(session, lines, taken, output),
+        None => Ok(false),
+    }
+}
+
+// The next bytes, at most as many as may still be taken.
+fn next_piece<S: Source>(input: &mut S, buf: &mut [u8], room: usize) -> Result<usize, Failed>
+    requires room { 0 < room }
+    requires some { 0 < length buf.old }
+    ensures room { IfOk result (λ n. n ≤ room) }
+    ensures bound { ReadsAtMost result buf.new }
+    ensures bytes { ReadConsumes (S.left input.old) (S.left input.new) result buf.new }
+    ensures piece { Gave (S.piece input.new) result }
+    ensures cause { IsCounted (S.faults input.old) (S.faults input.new) result }
+{
+    let most = room.min(buf.len());
+    input.next(&mut buf[..most])
+}
+
+/// Answers the lines of the source until its end, a fault, or the line that ends the session.
+pub(crate) fn serve<S: Source, K: Sink>(
+    session: &mut Session,
+    lines: &mut Lines,
+    input: &mut S,
+    output: &mut K,
+) -> Outcome
+    requires { lines.old ≡ no_line }
+    ensures ran { (result ≢ Outcome.Usage) × (result ≢ Outcome.NoMemory) }
+    ensures serves { Serves step session.old (S.left input.old) (S.left input.new) (K.written output.old) (K.written output.new)
+        (S.piece input.new) result }
+    ensures input { IsCauseOf (result ≡ Outcome.InputFault) (S.faults input.old) (S.faults input.new) }
+    ensures output { IsCauseOf (result ≡ Outcome.OutputFault) (K.faults output.old) (K.faults output.new) }
+{
+    let mut buf = [0u8; PIECE];
+    let mut room = MOST_TAKEN;
+    while room > 0 {
+        match next_piece(input, &mut buf, room) {
+            Err(_) => return Outcome::InputFault,
+            Ok(0) => {
+                return match answer_rest(session, lines, output) {
+                    Ok(_) => Outcome::Done,
+                    Err(_) => Outcome::OutputFault,
+                };
+            }
+            Ok(count) => {
+                room -= count;
+                match answer_piece(session, lines, &buf[..count], output) {
+                    Ok(false) => {}
+                    Ok(true) => return Outcome::Done,
+                    Err(_) => return Outcome::OutputFault,
+                }
+            }
+        }
+    }
+    Outcome::InputTooLong
+}
