@@ -1,24 +1,23 @@
 -- What the candidates are, by the sets that are gathered.
-use Rattle.std.proofs.Common.{◌≡◌, ℕ, zero, suc, ◌+◌, ◌*◌, ◌<◌, ◌≤◌, ◌&&◌, ◌||◌, Bool, true, false, cond, not, eqb, ltb, List, refl, sym, ap, subst, arith, inl, inr, ◌⊎◌, ◌∙◌, add-one}
-use Rattle.std.proofs.lemmas.Bool.{cases_Bool, cases_eq, cases_lt, both_ways, and_parts, and_from, or_cases, or_left, or_right, lt-ltb, le-ltb, ltb-true, eqb-true, eq-eqb, ne_eqb, not-true, not_from_false}
+use Rattle.std.proofs.Common.{◌≡◌, ℕ, zero, suc, ◌+◌, ◌*◌, ◌<◌, ◌≤◌, ◌&&◌, ◌||◌, Bool, true, false, eqb, ltb, List, refl, sym, ap, subst, arith, inl, inr, ◌⊎◌, ◌∙◌, add-one}
+use Rattle.std.proofs.lemmas.Bool.{cases_Bool, cases_eq, cases_lt, both_ways, and_parts, and_from, lt-ltb, le-ltb, eqb-true, eq-eqb, ne_eqb, not_from_false}
 use Rattle.std.specs.Ordering.{nat_cmp}
-use Rattle.std.specs.Cmp.{nat_cmp_total}
 use Rattle.std.specs.FinSet as sets
 use Rattle.go_rules.specs.declared.Cell.{Cell}
 use Rattle.go_rules.specs.declared.Cell.TheVariants.{Empty}
 use Rattle.go_rules.specs.Board.{are_neighbours}
 use Rattle.go_rules.specs.Below.{any_below, count_below}
-use Rattle.go_rules.specs.Strings.{cell_at, is_stone, same_cell, is_in_string, is_liberty, liberties, liberty_points, IsInString}
+use Rattle.go_rules.specs.Strings.{cell_at, same_cell, is_in_string, is_liberty, liberties, liberty_points}
 use Rattle.go_rules.specs.Boundary.{is_enemy, is_beside_string, is_boundary, boundary_points}
 use Rattle.go_rules.specs.Neighbourhood.{whole_strings_of, neighbourhood_of}
 use Rattle.go_rules.specs.Position.{BoardState}
-use Rattle.go_rules.proofs.Counts.{any_below_gives, any_below_from, any_below_same, any_below_none, any_below_false, count_below_same, first_below_is}
+use Rattle.go_rules.proofs.Counts.{any_below_gives, any_below_from, any_below_same, any_below_none, any_below_false, count_below_same}
 use Rattle.go_rules.proofs.Sets.{contains-set_below, contains-insert_nat}
 use Rattle.go_rules.proofs.Paths.{IsLiberty-from_test, is_liberty-from_fact, IsInString-from_test, is_is_in_string-from_fact}
 use Rattle.go_rules.proofs.Links.{liberty_moves}
 use Rattle.go_rules.proofs.Boundary.{is_in_string_on, string_on, string_back, string_cell, string_self, enemy_stone}
 use Rattle.go_base.specs.Views.{alone}
-use Rattle.go_base.proofs.Closing.{whole_self, whole_string, whole_cases, close_whole, close_next, alone_self, Closeness, within, beside, closeness}
+use Rattle.go_base.proofs.Closing.{whole_self, whole_string, whole_cases, close_whole, close_next, alone_self, within, beside, closeness}
 use Rattle.trial_board.specs.Overlays.{close_twice}
 use Rattle.read_moves.specs.Candidates.{is_empty_beside, is_only_liberty, takes_attacker, is_candidate}
 

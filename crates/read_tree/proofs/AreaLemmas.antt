@@ -1,5 +1,5 @@
 -- Where the reading of a node looks: in the active area of each question that has the node in its trees.
-use Rattle.std.proofs.Common.{◌≡◌, ◌≢◌, ℕ, zero, suc, ◌*◌, ◌-◌, ◌<◌, Bool, true, false, cond, List, ◌⊎◌, IsTrue, refl, sym, ap, subst, ◌∙◌, inl, inr, arith}
+use Rattle.std.proofs.Common.{◌≡◌, ◌≢◌, ℕ, suc, ◌*◌, ◌-◌, ◌<◌, Bool, true, false, cond, List, refl, sym, ap, subst, ◌∙◌, inl, inr, arith}
 use Rattle.std.proofs.lemmas.Bool.{eqb-true, eq-eqb, both_ways}
 use Rattle.go_rules.specs.declared.Cell.{Cell}
 use Rattle.go_rules.specs.declared.Cell.TheVariants.{Empty, Black, White}
@@ -13,13 +13,13 @@ use Rattle.go_base.specs.Facts.{Fact, SizeIs, CellIs, BanIs, AddsIn, IsAbout}
 use Rattle.go_base.specs.Views.{alone}
 use Rattle.go_base.proofs.Closing.{close_self, close_mono, close_next, whole_self, whole_string}
 use Rattle.trial_board.specs.Overlays.{close_twice}
-use Rattle.read_moves.specs.Candidates.{is_candidate, IsCandidate, fills, looks_wide, takes}
+use Rattle.read_moves.specs.Candidates.{is_candidate, fills, looks_wide, takes}
 use Rattle.read_moves.proofs.LawLemmas.{candidate_gives}
 use Rattle.read_tree.specs.declared.node.Node.{Node}
 use Rattle.read_tree.specs.declared.question.Question.{Question}
 use Rattle.go_rules.specs.Play.{pass}
 use Rattle.read_tree.specs.GameTree.{is_captured, next_node}
-use Rattle.read_tree.specs.ActiveArea.{reach_of, IsNearTarget, IsNodeOf, by_pass, IsUndecided, InActiveArea, IsAboutOne, AddsNear}
+use Rattle.read_tree.specs.ActiveArea.{reach_of, IsNodeOf, by_pass, IsUndecided, InActiveArea, IsAboutOne, AddsNear}
 
 about_one : (S : ℕ → Bool) (T : ℕ → Type 0) (fact : Fact) → ((q : ℕ) → S q ≡ true → T q) → IsAbout S fact → IsAboutOne T fact
 about_one S T (SizeIs n) h i = tt

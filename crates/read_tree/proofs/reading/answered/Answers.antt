@@ -1,5 +1,5 @@
 -- The first look is at the target, and the readings under the codes stay in the area.
-use Rattle.std.proofs.Common.{◌≡◌, ◌∙◌, ◌≤◌, true, refl, ap, sym, subst, arith}
+use Rattle.std.proofs.Common.{◌≡◌, ◌∙◌, true, refl, ap, sym, subst, arith}
 use Rattle.std.proofs.lemmas.Bool.{eqb-true}
 use Rattle.go_rules.specs.Strings.{cell_at}
 use Rattle.go_rules.specs.Position.{BoardState}

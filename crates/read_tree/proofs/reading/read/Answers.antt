@@ -1,5 +1,5 @@
 -- The greatest code that is attained, and its move.
-use Rattle.std.proofs.Common.{◌≡◌, ◌≤◌, ◌∙◌, arith}
+use Rattle.std.proofs.Common.{◌∙◌, arith}
 use Rattle.go_base.specs.Facts.{agrees_before}
 use Rattle.trial_board.specs.Trials.{after}
 use Rattle.read_tree.proofs.AnswerLemmas.{about_stands, answer_3, answer_2, answer_1, answer_0}

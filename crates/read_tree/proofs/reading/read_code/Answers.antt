@@ -1,5 +1,5 @@
 -- The good move at the first node is the first move that attains the code.
-use Rattle.std.proofs.Common.{◌≡◌, ◌≢◌, arith}
+use Rattle.std.proofs.Common.{◌≢◌, arith}
 use Rattle.trial_board.specs.Trials.{after}
 use Rattle.read_tree.specs.ActiveArea.{first}
 use Rattle.read_tree.proofs.AnswerLemmas.{reads}

@@ -1,15 +1,12 @@
 -- The walk over the game tree answers what the tree says, over every position that agrees with what was seen.
-use Rattle.std.proofs.Common.{◌≡◌, ◌⊎◌, ◌∙◌, ◌*◌, suc, inl, inr, Bool, true, false, ◌&&◌, not, ap, sym, refl, arith, below_more, is_some, is_none}
+use Rattle.std.proofs.Common.{◌≡◌, ◌⊎◌, ◌∙◌, ◌*◌, suc, inl, inr, Bool, true, false, ◌&&◌, ap, sym, refl, arith, below_more, is_some}
 use Rattle.std.specs.FinSet as set
 use Rattle.go_base.specs.Facts.{agrees_before, Grows-refl, Grows-trans, same_size}
-use Rattle.go_rules.specs.Strings.{same_cell}
-use Rattle.go_rules.specs.declared.Cell.{Cell}
 use Rattle.go_rules.specs.declared.Cell.TheVariants.{Empty}
 use Rattle.go_rules.proofs.Cells.{eq_is_same_cell}
 use Rattle.std.proofs.lemmas.Bool.{eqb-true}
 use Rattle.trial_board.specs.Trials.{after, tail}
 use Rattle.trial_board.proofs.AfterLemmas.{size-after}
-use Rattle.read_tree.specs.GameTree.{is_captured, attacker_wins, succeeds}
 use Rattle.read_tree.specs.ActiveArea.{by_play, IsUndecided, InActiveArea}
 use Rattle.read_tree.proofs.AreaLemmas.{AddsNear-in, AddsNear-trans, AddsNear-mono, area_target, area_once, area_twice, area_play, pred_tree, undecided_defender, pass_tree, target_on}
 use Rattle.read_tree.proofs.WinLemmas.{wins-captured, wins-no_plies, wins-by_move, first_success-found, first_success-none}

@@ -1,8 +1,8 @@
 -- The child is the one to which the try led, and there is none where the try was refused.
-use Rattle.std.proofs.Common.{◌≡◌, ◌≢◌, ◌<◌, sym, inl, inr, ◌∙◌}
+use Rattle.std.proofs.Common.{sym, inl, inr, ◌∙◌}
 use Rattle.go_base.specs.Facts.{agrees_before, Grows-trans, AddsIn-trans}
 use Rattle.trial_board.specs.Trials.{after}
-use Rattle.trial_board.specs.declared.moves.Tried.TheVariants.{Done, Banned}
+use Rattle.trial_board.specs.declared.moves.Tried.TheVariants.{Banned}
 use Rattle.read_tree.proofs.ChildLemmas.{child_of-done, child_of-dropped, child_of-suicide, child_of-refused, moves-refused, moves-banned, above_zero, at_most_one_more}
 use Rattle.read_tree.proofs.tree.child.Goals as goal
 

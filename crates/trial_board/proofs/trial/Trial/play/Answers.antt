@@ -1,6 +1,6 @@
 use Rattle.std.proofs.Common.{◌≡◌, ℕ, List, subst, Bool, true, false, not, ◌&&◌, ap, sym, refl, ◌∙◌}
-use Rattle.std.proofs.lemmas.Bool.{both_ways, not-true}
-use Rattle.go_rules.specs.Position.{BoardState, is_banned}
+use Rattle.std.proofs.lemmas.Bool.{both_ways}
+use Rattle.go_rules.specs.Position.{BoardState}
 use Rattle.go_rules.specs.Play.{play_free}
 use Rattle.go_rules.specs.Strings.{cell_at, is_stone}
 use Rattle.go_rules.specs.declared.Cell.{Cell}
