@@ -18,7 +18,7 @@ use Rattle.go_rules.proofs.Links.{liberty_moves}
 use Rattle.go_rules.proofs.Boundary.{is_in_string_on, string_on, string_back, string_cell, string_self, enemy_stone}
 use Rattle.go_base.specs.Views.{alone}
 use Rattle.go_base.proofs.Closing.{whole_self, whole_string, whole_cases, close_whole, close_next, alone_self, within, beside, closeness}
-use Rattle.trial_board.specs.Overlays.{close_twice}
+use Rattle.trial_board.specs.Overlays.{neighbourhood_twice}
 use Rattle.read_moves.specs.Candidates.{is_empty_beside, is_only_liberty, takes_attacker, is_candidate}
 
 same_tests : (a b : Bool) → (a ≡ true → b ≡ true) → (b ≡ true → a ≡ true) → a ≡ b
@@ -201,7 +201,7 @@ near_one s S q r h = let parts = and_parts _ _ h in ap (λ x. any_below (s * s) 
 
 -- the neighbours of the liberties are close to what is close to the target
 pub near_liberties : (s : ℕ) (cells : List Cell) (t r : ℕ) (libs : sets.FinSet nat_cmp) → t < s * s → libs ≡ liberty_points s cells t
-    → any_below (s * s) (λ l. sets.contains libs l && are_neighbours s l r) ≡ true → close_twice s cells t r ≡ true
+    → any_below (s * s) (λ l. sets.contains libs l && are_neighbours s l r) ≡ true → neighbourhood_twice s cells t r ≡ true
 near_liberties s cells t r libs on e h =
     let it = any_below_gives (s * s) _ h in
     let both = and_parts _ _ it.2 in
@@ -213,7 +213,7 @@ near_liberties s cells t r libs on e h =
 
 -- what is close to an enemy string next to the target
 pub near_boundary : (s : ℕ) (cells : List Cell) (t y : ℕ) (found : sets.FinSet nat_cmp) → t < s * s → found ≡ boundary_points s cells t
-    → any_below (s * s) (λ r. sets.contains found r && neighbourhood_of s cells (alone r) y) ≡ true → close_twice s cells t y ≡ true
+    → any_below (s * s) (λ r. sets.contains found r && neighbourhood_of s cells (alone r) y) ≡ true → neighbourhood_twice s cells t y ≡ true
 unfolding is_boundary is_beside_string
 near_boundary s cells t y found on e h =
     let it = any_below_gives (s * s) _ h in

@@ -5,7 +5,7 @@ ghost use Rattle.go_rules.specs.Neighbourhood.{neighbourhood_of};
 ghost use Rattle.go_rules.specs.Position.{BoardState};
 ghost use Rattle.go_base.specs.Facts.{Agrees, Grows, AddsIn};
 ghost use Rattle.go_base.specs.Views.{alone};
-ghost use Rattle.trial_board.specs.Overlays.{close_twice};
+ghost use Rattle.trial_board.specs.Overlays.{neighbourhood_twice};
 ghost use Rattle.read_moves.specs.Candidates.{is_candidate};
 ghost use Rattle.trial_board.specs.Trials.{Stays, after};
 ghost use Rattle.read_tree.specs.declared.question.Question.{Question};
@@ -19,11 +19,16 @@ use go_base::{Cell, Look, Point};
 use read_moves::candidates;
 use trial_board::{Trial, Tried};
 
+/// With more liberties than these a target is not attacked, and with more than the second number not without a wide ply.
+const MAX_LIBERTIES_WIDE: u16 = 4;
+
+const MAX_LIBERTIES: u16 = 2;
+
 /// Whether so many liberties are too many for the attacker.
 fn are_many(liberties: u16, wide: u8) -> bool
     ensures { result ≡ (nat_lt 4 liberties || ((wide == 0) && nat_lt 2 liberties)) }
 {
-    liberties > 4 || (wide == 0 && liberties > 2)
+    liberties > MAX_LIBERTIES_WIDE || (wide == 0 && liberties > MAX_LIBERTIES)
 }
 
 /// Whether the target has too many liberties for the attacker.
@@ -50,7 +55,7 @@ fn child<L: Look>(board: &mut Trial<L>, node: Node, p: Point) -> Option<Node>
     ensures over { (pos : BoardState) → Agrees (L.seen board.new.look) pos
         → child_of node (after pos board.old.moves) p ≡ with_position result (after pos board.new.moves) }
     ensures near { (pos : BoardState) → Agrees (L.seen board.new.look) pos → AddsIn (L.seen board.old.look) (L.seen board.new.look)
-        (close_twice pos.size (after pos board.old.moves).cells p) }
+        (neighbourhood_twice pos.size (after pos board.old.moves).cells p) }
 {
     let allowance = node.allowance();
     match board.play(node.mover(), p, false) {
