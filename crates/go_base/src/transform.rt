@@ -9,7 +9,7 @@ use std::marker::Model;
 pub const TRANSFORMATIONS: u8 = 8;
 
 /// One of the eight transformations: 0 to 3 turn a diagram by quarters, 4 to 7 mirror it. Seen as its number.
-#[derive(Clone, Copy, Debug, PartialEq, Eq)]
+#[derive(Clone, Copy, Debug, PartialEq, Eq, PartialOrd, Ord)]
 pub struct Transform {
     number: u8,
 }
