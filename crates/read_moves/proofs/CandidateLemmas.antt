@@ -1,25 +1,24 @@
 -- What the candidates are, by the sets that are gathered.
-use Rattle.std.proofs.Common.{◌≡◌, ℕ, zero, suc, ◌+◌, ◌*◌, ◌<◌, ◌≤◌, ◌&&◌, ◌||◌, Bool, true, false, cond, not, eqb, ltb, List, refl, sym, ap, subst, arith, inl, inr, ◌⊎◌, ◌∙◌, add-one}
-use Rattle.std.proofs.lemmas.Bool.{cases_Bool, cases_eq, cases_lt, both_ways, and_parts, and_from, or_cases, or_left, or_right, lt-ltb, le-ltb, ltb-true, eqb-true, eq-eqb, ne_eqb, not-true, not_from_false}
+use Rattle.std.proofs.Common.{◌≡◌, ℕ, zero, suc, ◌+◌, ◌*◌, ◌<◌, ◌≤◌, ◌&&◌, ◌||◌, Bool, true, false, eqb, ltb, List, refl, sym, ap, subst, arith, inl, inr, ◌⊎◌, ◌∙◌, add-one}
+use Rattle.std.proofs.lemmas.Bool.{cases_Bool, cases_eq, cases_lt, both_ways, and_parts, and_from, lt-ltb, le-ltb, eqb-true, eq-eqb, ne_eqb, not_from_false}
 use Rattle.std.specs.Ordering.{nat_cmp}
-use Rattle.std.specs.Cmp.{nat_cmp_total}
 use Rattle.std.specs.FinSet as sets
 use Rattle.go_rules.specs.declared.Cell.{Cell}
 use Rattle.go_rules.specs.declared.Cell.TheVariants.{Empty}
 use Rattle.go_rules.specs.Board.{are_neighbours}
 use Rattle.go_rules.specs.Below.{any_below, count_below}
-use Rattle.go_rules.specs.Strings.{cell_at, is_stone, same_cell, is_in_string, is_liberty, liberties, liberty_points, IsInString}
+use Rattle.go_rules.specs.Strings.{cell_at, same_cell, is_in_string, is_liberty, liberties, liberty_points}
 use Rattle.go_rules.specs.Boundary.{is_enemy, is_beside_string, is_boundary, boundary_points}
 use Rattle.go_rules.specs.Neighbourhood.{whole_strings_of, neighbourhood_of}
 use Rattle.go_rules.specs.Position.{BoardState}
-use Rattle.go_rules.proofs.Counts.{any_below_gives, any_below_from, any_below_same, any_below_none, any_below_false, count_below_same, first_below_is}
+use Rattle.go_rules.proofs.Counts.{any_below_gives, any_below_from, any_below_same, any_below_none, any_below_false, count_below_same}
 use Rattle.go_rules.proofs.Sets.{contains-set_below, contains-insert_nat}
 use Rattle.go_rules.proofs.Paths.{IsLiberty-from_test, is_liberty-from_fact, IsInString-from_test, is_is_in_string-from_fact}
 use Rattle.go_rules.proofs.Links.{liberty_moves}
 use Rattle.go_rules.proofs.Boundary.{is_in_string_on, string_on, string_back, string_cell, string_self, enemy_stone}
 use Rattle.go_base.specs.Views.{alone}
-use Rattle.go_base.proofs.Closing.{whole_self, whole_string, whole_cases, close_whole, close_next, alone_self, Closeness, within, beside, closeness}
-use Rattle.trial_board.specs.Overlays.{close_twice}
+use Rattle.go_base.proofs.Closing.{whole_self, whole_string, whole_cases, close_whole, close_next, alone_self, within, beside, closeness}
+use Rattle.trial_board.specs.Overlays.{neighbourhood_twice}
 use Rattle.read_moves.specs.Candidates.{is_empty_beside, is_only_liberty, takes_attacker, is_candidate}
 
 same_tests : (a b : Bool) → (a ≡ true → b ≡ true) → (b ≡ true → a ≡ true) → a ≡ b
@@ -202,7 +201,7 @@ near_one s S q r h = let parts = and_parts _ _ h in ap (λ x. any_below (s * s) 
 
 -- the neighbours of the liberties are close to what is close to the target
 pub near_liberties : (s : ℕ) (cells : List Cell) (t r : ℕ) (libs : sets.FinSet nat_cmp) → t < s * s → libs ≡ liberty_points s cells t
-    → any_below (s * s) (λ l. sets.contains libs l && are_neighbours s l r) ≡ true → close_twice s cells t r ≡ true
+    → any_below (s * s) (λ l. sets.contains libs l && are_neighbours s l r) ≡ true → neighbourhood_twice s cells t r ≡ true
 near_liberties s cells t r libs on e h =
     let it = any_below_gives (s * s) _ h in
     let both = and_parts _ _ it.2 in
@@ -214,7 +213,7 @@ near_liberties s cells t r libs on e h =
 
 -- what is close to an enemy string next to the target
 pub near_boundary : (s : ℕ) (cells : List Cell) (t y : ℕ) (found : sets.FinSet nat_cmp) → t < s * s → found ≡ boundary_points s cells t
-    → any_below (s * s) (λ r. sets.contains found r && neighbourhood_of s cells (alone r) y) ≡ true → close_twice s cells t y ≡ true
+    → any_below (s * s) (λ r. sets.contains found r && neighbourhood_of s cells (alone r) y) ≡ true → neighbourhood_twice s cells t y ≡ true
 unfolding is_boundary is_beside_string
 near_boundary s cells t y found on e h =
     let it = any_below_gives (s * s) _ h in

@@ -1,12 +1,9 @@
 -- The test for a candidate says what the rules say in terms of strings and liberties.
-use Rattle.std.proofs.Common.{◌≡◌, ℕ, ◌*◌, ◌<◌, ◌≤◌, ◌&&◌, ◌||◌, Bool, true, false, List, refl, sym, arith, inl, inr, ltb, eqb}
+use Rattle.std.proofs.Common.{◌≡◌, ℕ, ◌*◌, ◌<◌, ◌&&◌, ◌||◌, true, List, arith, inl, inr, ltb}
 use Rattle.std.proofs.lemmas.Bool.{and_parts, and_from, or_cases, or_left, or_right, lt-ltb, ltb-true, eqb-true, eq-eqb}
 use Rattle.go_rules.specs.declared.Cell.{Cell}
-use Rattle.go_rules.specs.declared.Cell.TheVariants.{Empty}
-use Rattle.go_rules.specs.Board.{are_neighbours}
-use Rattle.go_rules.specs.Below.{any_below}
-use Rattle.go_rules.specs.Strings.{cell_at, same_cell, is_liberty, liberties, is_in_string}
-use Rattle.go_rules.specs.Boundary.{is_enemy, is_beside_string}
+use Rattle.go_rules.specs.Strings.{is_liberty, liberties}
+use Rattle.go_rules.specs.Boundary.{is_beside_string}
 use Rattle.go_rules.specs.Position.{BoardState}
 use Rattle.go_rules.proofs.Counts.{any_below_gives, any_below_from}
 use Rattle.go_rules.proofs.Paths.{same_cell-true, same_cell-from, IsInString-from_test, is_is_in_string-from_fact, IsLiberty-from_test, is_liberty-from_fact}
@@ -39,14 +36,16 @@ takes_gives s cells target p h =
     let first = and_parts _ _ parts.0 in
     let only = and_parts _ _ parts.1 in
     let x = any_below_gives (s * s) _ first.1 in
-    let touch = and_parts _ _ x.2 in
-    (q.0, record {
-      on_board = q.1;
-      enemy = first.0;
-      beside = (x.0, IsInString-from_test s cells target x.0 touch.0, touch.1);
-      in_atari = eqb-true (liberties s cells q.0) 1 only.0;
-      last = IsLiberty-from_test s cells q.0 p only.1;
-    })
+    let touch = and_parts _ _ x.2 in (
+      q.0,
+      record {
+        on_board = q.1;
+        enemy = first.0;
+        beside = (x.0, IsInString-from_test s cells target x.0 touch.0, touch.1);
+        in_atari = eqb-true (liberties s cells q.0) 1 only.0;
+        last = IsLiberty-from_test s cells q.0 p only.1;
+      },
+    )
 
 takes_from : (s : ℕ) (cells : List Cell) (target q p : ℕ) → target < s * s → IsTakenAt s cells target q p → takes_attacker s cells target p ≡ true
 unfolding takes_attacker is_beside_string is_only_liberty

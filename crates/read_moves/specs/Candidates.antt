@@ -8,6 +8,7 @@ use Rattle.go_rules.specs.Below.{any_below}
 use Rattle.go_rules.specs.Strings.{cell_at, same_cell, is_liberty, liberties, IsInString, IsLiberty}
 use Rattle.go_rules.specs.Boundary.{is_enemy, is_beside_string}
 use Rattle.go_rules.specs.Position.{BoardState}
+use Rattle.trial_board.specs.Overlays.{neighbourhood_twice}
 
 -- p is empty and next to a point of S
 unfoldable pub is_empty_beside : ℕ → List Cell → (ℕ → Bool) → ℕ → Bool
@@ -32,6 +33,10 @@ is_candidate pos target k p =
 -- the candidates in reading order
 abbrev pub candidates_of : BoardState → ℕ → ℕ → List ℕ
 candidates_of pos target k = filter (is_candidate pos target k) (range_with_len 0 (pos.size * pos.size))
+
+-- the points that a search for the candidates of a target may ask for
+abbrev pub near_candidates : ℕ → List Cell → ℕ → ℕ → Bool
+near_candidates s cells target = neighbourhood_twice s cells target
 
 -- The same in terms of strings and liberties; the law `candidates_are_by_strings` ties the two.
 

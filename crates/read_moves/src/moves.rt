@@ -10,14 +10,12 @@ ghost use Rattle.go_base.specs.Views.{alone};
 ghost use Rattle.go_rules.specs.Position.{BoardState};
 ghost use Rattle.go_base.specs.Facts.{Agrees, Grows, AddsIn};
 ghost use Rattle.trial_board.specs.Trials.{Stays, after};
-ghost use Rattle.trial_board.specs.Overlays.{close_twice};
-ghost use Rattle.read_moves.specs.Candidates.{is_empty_beside, is_only_liberty, is_candidate};
+ghost use Rattle.read_moves.specs.Candidates.{is_empty_beside, is_only_liberty, is_candidate, near_candidates};
 
-use go_base::Cell;
 use go_base::flood::touches;
 use go_base::points::PointSet;
 use go_base::size::Point;
-use go_base::Look;
+use go_base::{Cell, Look};
 use trial_board::Trial;
 
 /// Whether q is empty and next to a point of the set. It is asked for only where it is next to one.
@@ -93,7 +91,7 @@ pub fn candidates<L: Look>(board: &mut Trial<L>, target: Point, wide: u8) -> Poi
         → set.contains result p ≡ is_candidate (after pos board.old.moves) target wide p }
     ensures answer { (p : ℕ) → set.contains result p ≡ is_candidate (after (L.shows board.old.look) board.old.moves) target wide p }
     ensures near { (pos : BoardState) → Agrees (L.seen board.new.look) pos
-        → AddsIn (L.seen board.old.look) (L.seen board.new.look) (close_twice pos.size (after pos board.old.moves).cells target) }
+        → AddsIn (L.seen board.old.look) (L.seen board.new.look) (near_candidates pos.size (after pos board.old.moves).cells target) }
 {
     let liberties = board.liberties(target);
     let boundary = board.boundary(target);

@@ -23,10 +23,14 @@ fn vertex(size: Size, name: &str) -> Option<Point>
 fn position(size: Size, black: &str, white: &str) -> Option<Position> {
     let mut position = Position::new(size);
     for name in black.split_whitespace() {
-        position = position.play(Colour::Black, vertex(position.size(), name)?).ok()?;
+        position = position
+            .play(Colour::Black, vertex(position.size(), name)?)
+            .ok()?;
     }
     for name in white.split_whitespace() {
-        position = position.play(Colour::White, vertex(position.size(), name)?).ok()?;
+        position = position
+            .play(Colour::White, vertex(position.size(), name)?)
+            .ok()?;
     }
     Some(position)
 }
@@ -56,11 +60,51 @@ fn wanted(size: Size, names: &str) -> Option<PointSet> {
 #[test]
 fn liberties_their_neighbours_and_captures_are_tried(rt: HostRuntime) -> Result<(), Fail> {
     let rows = [
-        ("the last liberty of a stone in atari", 9, "D4", "C4 E4 D5", "D4", 0, "D3"),
-        ("its neighbours too where a wide ply is left", 9, "D4", "C4 E4 D5", "D4", 1, "D3 C3 E3 D2"),
-        ("no neighbours where there are four liberties", 9, "D4", "", "D4", 12, "D5 C4 E4 D3"),
-        ("the capture of an enemy stone in atari", 5, "A1 A2 B3", "B2 A3 C1", "A1", 0, "B1 A4"),
-        ("nothing where the target is empty", 5, "A1", "", "C3", 2, ""),
+        (
+            "the last liberty of a stone in atari",
+            9,
+            "D4",
+            "C4 E4 D5",
+            "D4",
+            0,
+            "D3",
+        ),
+        (
+            "its neighbours too where a wide ply is left",
+            9,
+            "D4",
+            "C4 E4 D5",
+            "D4",
+            1,
+            "D3 C3 E3 D2",
+        ),
+        (
+            "no neighbours where there are four liberties",
+            9,
+            "D4",
+            "",
+            "D4",
+            12,
+            "D5 C4 E4 D3",
+        ),
+        (
+            "the capture of an enemy stone in atari",
+            5,
+            "A1 A2 B3",
+            "B2 A3 C1",
+            "A1",
+            0,
+            "B1 A4",
+        ),
+        (
+            "nothing where the target is empty",
+            5,
+            "A1",
+            "",
+            "C3",
+            2,
+            "",
+        ),
     ];
     for (what, rows, black, white, target, wide, names) in rows {
         let size = Size::new(rows).ok_or("the size is one of a board")?;
@@ -76,7 +120,17 @@ fn liberties_their_neighbours_and_captures_are_tried(rt: HostRuntime) -> Result<
 
 #[test]
 fn depths_have_their_ranges(rt: HostRuntime) {
-    for (plies, wide, valid) in [(0, 0, false), (1, 0, true), (200, 12, true), (201, 0, false), (10, 13, false)] {
-        assert_eq!(rt; Depths::new(plies, wide).is_some(), valid, "{plies} and {wide}");
+    for (plies, wide, valid) in [
+        (0, 0, false),
+        (1, 0, true),
+        (200, 12, true),
+        (201, 0, false),
+        (10, 13, false),
+    ] {
+        assert_eq!(rt;
+            Depths::new(plies, wide).is_some(),
+            valid,
+            "{plies} and {wide}"
+        );
     }
 }

@@ -1,5 +1,5 @@
 -- What a reading under one code finds, and which answer the codes come to.
-use Rattle.std.proofs.Common.{◌≡◌, ◌≢◌, ◌∙◌, ℕ, ◌-◌, ◌*◌, ◌<◌, ◌≤◌, ◌&&◌, Bool, true, false, not, cond, Option, Some, None, is_some, ap, sym, refl, arith, inl, inr, eq-eqb, subst, IsTrue}
+use Rattle.std.proofs.Common.{◌≡◌, ◌≢◌, ◌∙◌, ℕ, ◌-◌, Bool, true, false, not, cond, Option, Some, None, is_some, ap, sym, refl, inl, inr, eq-eqb}
 use Rattle.std.proofs.lemmas.Bool.{cases_Bool, and_parts, and_from}
 use Rattle.go_rules.specs.declared.Cell.{Cell}
 use Rattle.go_rules.specs.declared.Cell.TheVariants.{Empty, Black, White}
@@ -10,7 +10,6 @@ use Rattle.go_rules.specs.Position.{BoardState, stone_of}
 use Rattle.go_rules.proofs.Paths.{same_cell-true, same_cell-from}
 use Rattle.read_tree.specs.declared.question.Kind.{Kind}
 use Rattle.read_tree.specs.declared.question.Spot.{Spot}
-use Rattle.read_tree.specs.declared.question.Answer.{Answer}
 use Rattle.read_tree.specs.declared.question.Question.{Question}
 use Rattle.read_tree.specs.GameTree.{is_captured, attacker_wins, first_move}
 use Rattle.read_tree.specs.Answer.{is_attack, first_node, attains_code, is_about, code_of, first_move_of, move_of, answer_of, colour_of, asked_on}

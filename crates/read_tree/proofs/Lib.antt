@@ -3,3 +3,4 @@ pub mod WinLemmas
 pub mod AnswerLemmas
 pub mod WalkLemmas
 pub mod RuleLemmas
+pub mod AreaLemmas

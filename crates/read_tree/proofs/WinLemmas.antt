@@ -8,9 +8,9 @@ use Rattle.go_rules.specs.Play.{pass}
 use Rattle.read_moves.specs.Candidates.{is_candidate, candidates_of}
 use Rattle.read_tree.specs.declared.node.Node.{Node}
 use Rattle.read_tree.specs.declared.question.Spot.{Spot}
-use Rattle.read_tree.specs.declared.question.Spot.TheVariants.{At, Pass}
-use Rattle.read_tree.specs.GameTree.{attacker_wins, child_of, next_node, allowance_of, suits, succeeds, first_success, at_point, pass_saves, first_move, is_captured, has_many_liberties, some_child, each_child}
-use Rattle.read_tree.specs.Steps.{is_barred, good_move}
+use Rattle.read_tree.specs.declared.question.Spot.TheVariants.{Pass}
+use Rattle.read_tree.specs.GameTree.{attacker_wins, child_of, next_node, allowance_of, suits, succeeds, first_success, at_point, is_captured, has_many_liberties, some_child, each_child}
+use Rattle.read_tree.specs.Steps.{good_move}
 
 -- the first that passes both tests, among the numbers from a on
 pub first-found : (g t : ℕ → Bool) (n a p : ℕ) → a ≤ p → p < a + n → ((q : ℕ) → a ≤ q → q < p → (g q && t q) ≡ false) → (g p && t p) ≡ true → find t (filter g (range_with_len a n)) ≡ Some p

@@ -54,8 +54,16 @@ impl Node {
             defender: self.defender,
             attacker_to_play: !self.attacker_to_play,
             wide: self.wide.saturating_sub(1),
-            attacker_ko: if self.attacker_to_play { left } else { self.attacker_ko },
-            defender_ko: if self.attacker_to_play { self.defender_ko } else { left },
+            attacker_ko: if self.attacker_to_play {
+                left
+            } else {
+                self.attacker_ko
+            },
+            defender_ko: if self.attacker_to_play {
+                self.defender_ko
+            } else {
+                left
+            },
         }
     }
 }

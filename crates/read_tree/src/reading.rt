@@ -6,6 +6,7 @@ ghost use Rattle.go_rules.specs.Strings.{cell_at};
 ghost use Rattle.go_base.specs.Facts.{Agrees, Grows, CellIs};
 ghost use Rattle.trial_board.specs.Trials.{Stays, after};
 ghost use Rattle.read_tree.specs.GameTree.{is_captured};
+ghost use Rattle.read_tree.specs.ActiveArea.{InActiveArea, AddsNear};
 ghost use Rattle.read_tree.specs.Answer.{own_allowance, other_allowance, first_node, is_about, answer_of, asked_on, colour_of};
 ghost use Rattle.read_tree.specs.Steps.{Reads, IsOnBoard};
 
@@ -66,6 +67,9 @@ fn read_code<L: Look>(board: &mut Trial<L>, question: &Question, code: u8) -> Op
     ensures over { (pos : BoardState) → Agrees (L.seen board.new.look) pos
         → is_captured (after pos board.old.moves) question.now.target ≡ false
         → Reads question.now (after pos board.old.moves) code result }
+    ensures near { (pos : BoardState) → Agrees (L.seen board.new.look) pos → 1 ≤ code → code ≤ 3
+        → is_captured (after pos board.old.moves) question.now.target ≡ false
+        → AddsNear (L.seen board.old.look) (L.seen board.new.look) (InActiveArea question.now (after pos board.old.moves)) }
 {
     let node = first_node(question, code);
     let plies = question.plies - 1;
@@ -83,6 +87,8 @@ fn read<L: Look>(board: &mut Trial<L>, question: &Question) -> Answer
     ensures on_board { IfSome result.at (IsOnBoard (L.shows board.old.look).size) }
     ensures over { (pos : BoardState) → Agrees (L.seen board.new.look) pos → is_about question.now (after pos board.old.moves) ≡ true
         → result ≡ answer_of question.now (after pos board.old.moves) }
+    ensures near { (pos : BoardState) → Agrees (L.seen board.new.look) pos → is_about question.now (after pos board.old.moves) ≡ true
+        → AddsNear (L.seen board.old.look) (L.seen board.new.look) (InActiveArea question.now (after pos board.old.moves)) }
 {
     if let Some(spot) = read_code(board, question, 3) {
         return Answer {
@@ -129,6 +135,8 @@ fn answered<L: Look>(look: L, kind: Kind, target: Point, depths: Depths) -> Told
     ensures on_board { IfSome result.answer.at (IsOnBoard (L.shows look).size) }
     ensures over { (pos : BoardState) → Agrees (L.seen result.look) pos
         → result.answer ≡ answer_of (asked_on (L.shows look) kind target depths.plies depths.wide) pos }
+    ensures near { (pos : BoardState) → Agrees (L.seen result.look) pos
+        → AddsNear (L.seen look) (L.seen result.look) (InActiveArea (asked_on (L.shows look) kind target depths.plies depths.wide) pos) }
 {
     let mut view = look;
     let colour = colour_of(view.cell(target));
@@ -170,6 +178,10 @@ pub fn attack<L: Look>(look: L, target: Point, depths: Depths) -> Told<L>
     ensures over { (pos : BoardState) → Agrees (L.seen result.look) pos
         → result.answer ≡ answer_of (asked_on (L.shows look) Kind.Attack target depths.plies depths.wide) pos }
     ensures answer { result.answer ≡ answer_of (asked_on (L.shows look) Kind.Attack target depths.plies depths.wide) (L.shows look) }
+
+    // On each of these positions the points looked at lie in the active area of the reading.
+    ensures near { (pos : BoardState) → Agrees (L.seen result.look) pos
+        → AddsNear (L.seen look) (L.seen result.look) (InActiveArea (asked_on (L.shows look) Kind.Attack target depths.plies depths.wide) pos) }
 {
     answered(look, Kind::Attack, target, depths)
 }
@@ -195,6 +207,10 @@ pub fn defend<L: Look>(look: L, target: Point, depths: Depths) -> Told<L>
     ensures over { (pos : BoardState) → Agrees (L.seen result.look) pos
         → result.answer ≡ answer_of (asked_on (L.shows look) Kind.Defend target depths.plies depths.wide) pos }
     ensures answer { result.answer ≡ answer_of (asked_on (L.shows look) Kind.Defend target depths.plies depths.wide) (L.shows look) }
+
+    // On each of these positions the points looked at lie in the active area of the reading.
+    ensures near { (pos : BoardState) → Agrees (L.seen result.look) pos
+        → AddsNear (L.seen look) (L.seen result.look) (InActiveArea (asked_on (L.shows look) Kind.Defend target depths.plies depths.wide) pos) }
 {
     answered(look, Kind::Defend, target, depths)
 }

@@ -1,10 +1,16 @@
 //! The walk over the game tree: the plays of a node one after another, each read to its end before the next.
 
-ghost use Rattle.std.specs.Prelude.{◌≡◌, ◌+◌, ◌*◌, ◌<◌, ◌≤◌, ℕ, ◌==◌, ◌||◌, ◌&&◌, nat_lt, length, IfSome};
+ghost use Rattle.std.specs.Prelude.{◌≡◌, ◌⊎◌, ◌+◌, ◌*◌, ◌<◌, ◌≤◌, ℕ, suc, ◌==◌, ◌||◌, ◌&&◌, nat_lt, true, false, IsTrue, length, IfSome};
+ghost use Rattle.go_rules.specs.Neighbourhood.{neighbourhood_of};
 ghost use Rattle.go_rules.specs.Position.{BoardState};
-ghost use Rattle.go_base.specs.Facts.{Agrees, Grows};
+ghost use Rattle.go_base.specs.Facts.{Agrees, Grows, AddsIn};
+ghost use Rattle.go_base.specs.Views.{alone};
+ghost use Rattle.trial_board.specs.Overlays.{neighbourhood_twice};
+ghost use Rattle.read_moves.specs.Candidates.{is_candidate};
 ghost use Rattle.trial_board.specs.Trials.{Stays, after};
-ghost use Rattle.read_tree.specs.GameTree.{has_many_liberties, child_of, attacker_wins, succeeds, first_success, at_point};
+ghost use Rattle.read_tree.specs.declared.question.Question.{Question};
+ghost use Rattle.read_tree.specs.ActiveArea.{IsNodeOf, IsUndecided, InActiveArea, AddsNear};
+ghost use Rattle.read_tree.specs.GameTree.{is_captured, has_many_liberties, child_of, attacker_wins, succeeds, first_success, at_point};
 ghost use Rattle.read_tree.specs.Steps.{tail_if, with_position, good_move, IsOnBoard};
 
 use crate::node::Node;
@@ -13,11 +19,16 @@ use go_base::{Cell, Look, Point};
 use read_moves::candidates;
 use trial_board::{Trial, Tried};
 
+/// With more liberties than these a target is not attacked, and with more than the second number not without a wide ply.
+const MAX_LIBERTIES_WIDE: u16 = 4;
+
+const MAX_LIBERTIES: u16 = 2;
+
 /// Whether so many liberties are too many for the attacker.
 fn are_many(liberties: u16, wide: u8) -> bool
     ensures { result ≡ (nat_lt 4 liberties || ((wide == 0) && nat_lt 2 liberties)) }
 {
-    liberties > 4 || (wide == 0 && liberties > 2)
+    liberties > MAX_LIBERTIES_WIDE || (wide == 0 && liberties > MAX_LIBERTIES)
 }
 
 /// Whether the target has too many liberties for the attacker.
@@ -26,6 +37,8 @@ fn has_many_liberties<L: Look>(board: &mut Trial<L>, target: Point, wide: u8) ->
     ensures stays { Stays L.shows L.seen board.old board.new }
     ensures over { (pos : BoardState) → Agrees (L.seen board.new.look) pos
         → result ≡ has_many_liberties (after pos board.old.moves) target wide }
+    ensures near { (pos : BoardState) → Agrees (L.seen board.new.look) pos → AddsIn (L.seen board.old.look) (L.seen board.new.look)
+        (neighbourhood_of pos.size (after pos board.old.moves).cells (alone target)) }
 {
     are_many(board.liberties(target).count(), wide)
 }
@@ -41,6 +54,8 @@ fn child<L: Look>(board: &mut Trial<L>, node: Node, p: Point) -> Option<Node>
     ensures target { IfSome result (λ next. next.target ≡ node.target) }
     ensures over { (pos : BoardState) → Agrees (L.seen board.new.look) pos
         → child_of node (after pos board.old.moves) p ≡ with_position result (after pos board.new.moves) }
+    ensures near { (pos : BoardState) → Agrees (L.seen board.new.look) pos → AddsIn (L.seen board.old.look) (L.seen board.new.look)
+        (neighbourhood_twice pos.size (after pos board.old.moves).cells p) }
 {
     let allowance = node.allowance();
     match board.play(node.mover(), p, false) {
@@ -67,6 +82,10 @@ fn succeeds<L: Look>(board: &mut Trial<L>, node: Node, p: Point, plies: u8) -> b
     ensures stays { Stays L.shows L.seen board.old board.new }
     ensures over { (pos : BoardState) → Agrees (L.seen board.new.look) pos
         → result ≡ succeeds plies node (after pos board.old.moves) p }
+    ensures near { (pos : BoardState) → Agrees (L.seen board.new.look) pos → (q : Question) (root : BoardState)
+        → IsNodeOf q root (suc plies) node (after pos board.old.moves) → IsUndecided node (after pos board.old.moves)
+        → IsTrue (is_candidate (after pos board.old.moves) node.target node.wide p)
+        → AddsNear (L.seen board.old.look) (L.seen board.new.look) (InActiveArea q root) }
 {
     match child(board, node, p) {
         None => false,
@@ -87,6 +106,9 @@ fn first_success<L: Look>(board: &mut Trial<L>, node: Node, plies: u8) -> Option
     ensures on_board { IfSome result (λ p. p < (L.shows board.old.look).size * (L.shows board.old.look).size) }
     ensures over { (pos : BoardState) → Agrees (L.seen board.new.look) pos
         → result ≡ first_success plies node (after pos board.old.moves) }
+    ensures near { (pos : BoardState) → Agrees (L.seen board.new.look) pos → (q : Question) (root : BoardState)
+        → IsNodeOf q root (suc plies) node (after pos board.old.moves) → IsUndecided node (after pos board.old.moves)
+        → AddsNear (L.seen board.old.look) (L.seen board.new.look) (InActiveArea q root) }
 {
     let candidates = candidates(board, node.target, node.wide);
     let size = board.size();
@@ -118,6 +140,9 @@ pub fn good_move<L: Look>(board: &mut Trial<L>, node: Node, plies: u8) -> Option
     ensures on_board { IfSome result (IsOnBoard (L.shows board.old.look).size) }
     ensures over { (pos : BoardState) → Agrees (L.seen board.new.look) pos
         → result ≡ good_move plies node (after pos board.old.moves) }
+    ensures near { (pos : BoardState) → Agrees (L.seen board.new.look) pos → (q : Question) (root : BoardState)
+        → IsNodeOf q root (suc plies) node (after pos board.old.moves) → is_captured (after pos board.old.moves) node.target ≡ false
+        → AddsNear (L.seen board.old.look) (L.seen board.new.look) (InActiveArea q root) }
 {
     if node.attacker_to_play {
         if has_many_liberties(board, node.target, node.wide) {
@@ -142,6 +167,9 @@ fn attacker_wins<L: Look>(board: &mut Trial<L>, node: Node, plies: u8) -> bool
     ensures stays { Stays L.shows L.seen board.old board.new }
     ensures over { (pos : BoardState) → Agrees (L.seen board.new.look) pos
         → result ≡ attacker_wins plies node (after pos board.old.moves) }
+    ensures near { (pos : BoardState) → Agrees (L.seen board.new.look) pos → (q : Question) (root : BoardState)
+        → IsNodeOf q root plies node (after pos board.old.moves)
+        → AddsNear (L.seen board.old.look) (L.seen board.new.look) (λ p. (p ≡ node.target) ⊎ InActiveArea q root p) }
 {
     if board.cell(node.target) == Cell::Empty {
         return true;

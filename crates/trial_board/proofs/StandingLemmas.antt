@@ -1,5 +1,5 @@
 -- How looks, moves and taking back change what is kept.
-use Rattle.std.proofs.Common.{◌≡◌, ◌≢◌, ℕ, zero, suc, ◌+◌, ◌-◌, ◌*◌, ◌<◌, ◌≤◌, Bool, List, [], ◌∷◌, length, replicate, Option, None, Some, Result, Ok, Err, refl, sym, ap, subst, arith, inl, inr, ◌∙◌, add-one, get_or-set_same, get_or-set_other}
+use Rattle.std.proofs.Common.{◌≡◌, ◌≢◌, ℕ, zero, suc, ◌+◌, ◌-◌, ◌*◌, ◌<◌, ◌≤◌, Bool, List, ◌∷◌, length, replicate, Option, None, Result, Ok, Err, refl, sym, ap, subst, arith, inl, inr, ◌∙◌, add-one, get_or-set_same, get_or-set_other}
 use Rattle.std.proofs.Math.ListN.{set, length-set}
 use Rattle.std.proofs.lemmas.Bool.{cases_eq}
 use Rattle.std.proofs.lemmas.List.{length-replicate}
@@ -7,7 +7,7 @@ use Rattle.go_rules.specs.Board.{largest_points}
 use Rattle.go_rules.specs.declared.Colour.{Colour}
 use Rattle.go_rules.specs.declared.Illegal.{Illegal}
 use Rattle.go_rules.specs.Position.{BoardState, IsPosition, board_of, is_banned}
-use Rattle.go_rules.specs.Play.{played_on, play_free, pass}
+use Rattle.go_rules.specs.Play.{played_on, play_free}
 use Rattle.go_rules.proofs.PlayLaws.{free_keeps}
 use Rattle.go_base.specs.Facts.{Fact, Agrees, Grows, agrees_before}
 use Rattle.trial_board.specs.declared.moves.TrialMove.{TrialMove}
@@ -17,7 +17,7 @@ use Rattle.trial_board.specs.declared.overlay.Change.{Change}
 use Rattle.trial_board.specs.declared.overlay.Change.TheVariants.{Untouched}
 use Rattle.trial_board.specs.declared.trial.Kept.{Kept}
 use Rattle.trial_board.specs.Overlays.{overlaid}
-use Rattle.trial_board.specs.Trials.{most_moves, given, moved, after, tried_free, tail, is_some_move}
+use Rattle.trial_board.specs.Trials.{most_moves, given, moved, after, tried_free, tail}
 use Rattle.trial_board.specs.Standing.{nothing_kept, kept_at, newest_first, IsAt, IsStanding}
 use Rattle.trial_board.proofs.OverlayLemmas.{none_overlaid, untouched}
 use Rattle.trial_board.proofs.AfterLemmas.{size-after, moved_free}

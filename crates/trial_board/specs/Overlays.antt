@@ -1,6 +1,6 @@
 -- A board over a position: where a cell was changed it is what it was changed to, and elsewhere what the position has.
-use Rattle.std.specs.Prelude.{◌≡◌, ℕ, ◌*◌, Bool, IsTrue, List, map, length, slice_index_or, refl}
-use Rattle.std.proofs.Common.{◌∙◌, sym}
+use Rattle.std.specs.Prelude.{◌≡◌, ℕ, ◌*◌, Bool, IsTrue, List, map, slice_index_or, refl}
+use Rattle.std.proofs.Common.{◌∙◌}
 use Rattle.std.specs.List.{range_with_len}
 use Rattle.go_rules.specs.declared.Cell.{Cell}
 use Rattle.go_rules.specs.declared.Cell.TheVariants.{Empty, Black, White}
@@ -44,6 +44,6 @@ AsksLook-more a b = record { shown = b.shown ∙ a.shown; grows = Grows-trans a.
 pub AsksLook-within : {L : Type 0} {shows : L → BoardState} {seen : L → Fact → Bool} {u v : L} {S T : ℕ → Bool} → AsksLook shows seen u v S → ((q : ℕ) → IsTrue (S q) → IsTrue (T q)) → AsksLook shows seen u v T
 AsksLook-within a h = record { shown = a.shown; grows = a.grows; adds = AddsIn-mono a.adds h }
 
--- what is close to what is close to p
-abbrev pub close_twice : ℕ → List Cell → ℕ → ℕ → Bool
-close_twice s cells p = neighbourhood_of s cells (neighbourhood_of s cells (alone p))
+-- the neighbourhood of the neighbourhood of p: what a play at p, or a look at the strings around p, may ask for
+abbrev pub neighbourhood_twice : ℕ → List Cell → ℕ → ℕ → Bool
+neighbourhood_twice s cells p = neighbourhood_of s cells (neighbourhood_of s cells (alone p))

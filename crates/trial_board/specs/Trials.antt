@@ -1,5 +1,5 @@
 -- Trial moves: what a trial board is seen as, the position after its moves, and what a try answers.
-use Rattle.std.specs.Prelude.{◌≡◌, ℕ, Bool, true, false, List, [], ◌∷◌, Option, Some, None, Result, Ok, Err, if◌then◌else◌}
+use Rattle.std.specs.Prelude.{◌≡◌, ℕ, Bool, true, false, List, [], ◌∷◌, Result, Ok, Err, if◌then◌else◌}
 use Rattle.go_rules.specs.declared.Colour.{Colour}
 use Rattle.go_rules.specs.declared.Illegal.{Illegal}
 use Rattle.go_rules.specs.declared.Illegal.TheVariants.{Occupied, Ko, Suicide}

@@ -6,7 +6,7 @@ ghost use Rattle.go_rules.specs.Strings.{cell_at, liberty_points};
 ghost use Rattle.go_rules.specs.Boundary.{boundary_points};
 ghost use Rattle.go_rules.specs.Neighbourhood.{neighbourhood_of};
 ghost use Rattle.go_base.specs.Views.{alone};
-ghost use Rattle.trial_board.specs.Overlays.{close_twice};
+ghost use Rattle.trial_board.specs.Overlays.{neighbourhood_twice};
 ghost use Rattle.go_rules.specs.Position.{BoardState, is_banned};
 ghost use Rattle.go_rules.specs.Play.{play_free};
 ghost use Rattle.go_base.specs.Facts.{Agrees, Grows, AddsIn};
@@ -176,7 +176,7 @@ impl<L: Look> Trial<L> {
             → result ≡ boundary_points pos.size (after pos self.old.moves).cells p }
         ensures answer { result ≡ boundary_points (L.shows self.old.look).size (after (L.shows self.old.look) self.old.moves).cells p }
         ensures near { (pos : BoardState) → Agrees (L.seen self.new.look) pos
-            → AddsIn (L.seen self.old.look) (L.seen self.new.look) (close_twice pos.size (after pos self.old.moves).cells p) }
+            → AddsIn (L.seen self.old.look) (L.seen self.new.look) (neighbourhood_twice pos.size (after pos self.old.moves).cells p) }
     {
         boundary_of(&mut self.board, p)
     }
@@ -245,7 +245,7 @@ impl<L: Look> Trial<L> {
         ensures over { (pos : BoardState) → Agrees (L.seen self.new.look) pos
             → tried_free (after pos self.old.moves) (play_free (after pos self.old.moves) c p) ≡ (made_or_suicide result, after pos self.new.moves) }
         ensures near { (pos : BoardState) → Agrees (L.seen self.new.look) pos
-            → AddsIn (L.seen self.old.look) (L.seen self.new.look) (close_twice pos.size (after pos self.old.moves).cells p) }
+            → AddsIn (L.seen self.old.look) (L.seen self.new.look) (neighbourhood_twice pos.size (after pos self.old.moves).cells p) }
     {
         let before = self.board.changed;
         match play_on(&mut self.board, c, p) {
@@ -283,7 +283,7 @@ impl<L: Look> Trial<L> {
             → tried (after pos self.old.moves) c p allow ≡ (result, after pos self.new.moves) }
         ensures answer { tried (after (L.shows self.old.look) self.old.moves) c p allow ≡ (result, after (L.shows self.old.look) self.new.moves) }
         ensures near { (pos : BoardState) → Agrees (L.seen self.new.look) pos
-            → AddsIn (L.seen self.old.look) (L.seen self.new.look) (close_twice pos.size (after pos self.old.moves).cells p) }
+            → AddsIn (L.seen self.old.look) (L.seen self.new.look) (neighbourhood_twice pos.size (after pos self.old.moves).cells p) }
     {
         self.count_one();
         if self.cell(p) != Cell::Empty {

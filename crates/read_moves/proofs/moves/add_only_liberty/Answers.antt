@@ -1,4 +1,4 @@
-use Rattle.std.proofs.Common.{◌||◌, ap, sym, ◌∙◌, eqb}
+use Rattle.std.proofs.Common.{◌||◌, ap, sym, ◌∙◌}
 use Rattle.std.proofs.lemmas.Bool.{ne_eqb}
 use Rattle.std.specs.Cmp.{nat_cmp_total}
 use Rattle.std.specs.FinSet as set

@@ -1,9 +1,8 @@
-use Rattle.std.proofs.Common.{◌≡◌, ◌<◌, ◌≤◌, ◌*◌, ◌&&◌, ◌||◌, ℕ, List, Bool, true, false, ltb, ap, sym, subst, refl, ◌∙◌, arith}
+use Rattle.std.proofs.Common.{◌≡◌, ◌<◌, ◌≤◌, ◌*◌, ◌&&◌, ◌||◌, ℕ, List, Bool, true, false, ltb, ap, sym, subst, refl, ◌∙◌}
 use Rattle.std.proofs.lemmas.Bool.{lt-ltb, le-ltb}
 use Rattle.std.specs.Cmp.{nat_cmp_total}
 use Rattle.std.specs.Ordering.{nat_cmp}
 use Rattle.std.specs.FinSet as set
-use Rattle.go_rules.specs.Below.{any_below}
 use Rattle.go_rules.specs.Strings.{liberties}
 use Rattle.go_rules.specs.Neighbourhood.{neighbourhood_of}
 use Rattle.go_base.proofs.Liberties.{len-liberty_points}
@@ -12,7 +11,7 @@ use Rattle.go_base.specs.Facts.{Fact, Agrees, agrees_before, same_size, AddsIn, 
 use Rattle.go_rules.specs.declared.Cell.{Cell}
 use Rattle.go_base.specs.Views.{alone}
 use Rattle.go_base.proofs.Closing.{close_self}
-use Rattle.trial_board.specs.Overlays.{close_twice}
+use Rattle.trial_board.specs.Overlays.{neighbourhood_twice}
 use Rattle.trial_board.specs.Trials.{after}
 use Rattle.trial_board.proofs.AfterLemmas.{size-after}
 use Rattle.read_moves.specs.Candidates.{is_empty_beside}
@@ -33,7 +32,7 @@ and_no true b e = sym e
 and_no false b e = refl
 
 -- what is close is close to what is close
-once_twice : {a b : Fact → Bool} (s : ℕ) (cells : List Cell) (t : ℕ) → AddsIn a b (neighbourhood_of s cells (alone t)) → AddsIn a b (close_twice s cells t)
+once_twice : {a b : Fact → Bool} (s : ℕ) (cells : List Cell) (t : ℕ) → AddsIn a b (neighbourhood_of s cells (alone t)) → AddsIn a b (neighbourhood_twice s cells t)
 once_twice s cells t h = AddsIn-mono h (λ q i. close_self s cells (neighbourhood_of s cells (alone t)) q i)
 
 pub returns-clause-over : goal.returns-clause-over

@@ -1,5 +1,5 @@
-use Rattle.std.proofs.Common.{◌≡◌, ◌*◌, ◌<◌, ◌&&◌, ◌==◌, true, ap, sym, subst, ◌∙◌}
-use Rattle.std.proofs.lemmas.Bool.{not-true, not-false, and_from}
+use Rattle.std.proofs.Common.{◌*◌, ◌<◌, ◌&&◌, ap, sym, subst, ◌∙◌}
+use Rattle.std.proofs.lemmas.Bool.{and_from}
 use Rattle.std.specs.FinSet as set
 use Rattle.go_rules.specs.Below.{any_below}
 use Rattle.go_rules.specs.Board.{are_neighbours}

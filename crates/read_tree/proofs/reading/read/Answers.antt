@@ -1,8 +1,9 @@
 -- The greatest code that is attained, and its move.
-use Rattle.std.proofs.Common.{◌≡◌, ◌∙◌, None}
+use Rattle.std.proofs.Common.{◌∙◌, arith}
 use Rattle.go_base.specs.Facts.{agrees_before}
 use Rattle.trial_board.specs.Trials.{after}
 use Rattle.read_tree.proofs.AnswerLemmas.{about_stands, answer_3, answer_2, answer_1, answer_0}
+use Rattle.read_tree.proofs.AreaLemmas.{AddsNear-trans}
 use Rattle.read_tree.proofs.reading.read.Goals as goal
 
 pub returns-in-Some-clause-over : goal.returns-in-Some-clause-over
@@ -44,3 +45,34 @@ returns-clause-over g c = λ pos a h.
     let m2 = c.read_code-2.ensures.stays.moves ∙ m3 in
     answer_0 q here c.read_code.result c.read_code-2.result c.read_code-3.result h (c.read_code.ensures.over pos a3 s) c.in_default.is
     ((rw m3 at (c.read_code-2.ensures.over pos a2)) s) c.in_default-read_code.is ((rw m2 at (c.read_code-3.ensures.over pos a)) s) c.in_default-read_code-2.is
+
+-- each reading stays in the area
+pub returns-in-Some-clause-near : goal.returns-in-Some-clause-near
+returns-in-Some-clause-near g c = λ pos a h. c.read_code.ensures.near pos a (omega arith) (omega arith) (about_stands c.args.question.now (after pos c.args.board.now.moves) h)
+
+pub returns-in-Some-read_code-clause-near : goal.returns-in-Some-read_code-clause-near
+returns-in-Some-read_code-clause-near g c = λ pos a h.
+    let s = about_stands c.args.question.now (after pos c.args.board.now.moves) h in
+    let a3 = agrees_before c.read_code-2.ensures.stays.grows a in
+    let m3 = c.read_code.ensures.stays.moves in
+    AddsNear-trans (c.read_code.ensures.near pos a3 (omega arith) (omega arith) s) ((rw m3 at (c.read_code-2.ensures.near pos a)) (omega arith) (omega arith) s)
+
+pub returns-in-Some-read_code-2-clause-near : goal.returns-in-Some-read_code-2-clause-near
+returns-in-Some-read_code-2-clause-near g c = λ pos a h.
+    let s = about_stands c.args.question.now (after pos c.args.board.now.moves) h in
+    let a2 = agrees_before c.read_code-3.ensures.stays.grows a in
+    let a3 = agrees_before c.read_code-2.ensures.stays.grows a2 in
+    let m3 = c.read_code.ensures.stays.moves in
+    let m2 = c.read_code-2.ensures.stays.moves ∙ m3 in
+    AddsNear-trans (c.read_code.ensures.near pos a3 (omega arith) (omega arith) s)
+    (AddsNear-trans ((rw m3 at (c.read_code-2.ensures.near pos a2)) (omega arith) (omega arith) s) ((rw m2 at (c.read_code-3.ensures.near pos a)) (omega arith) (omega arith) s))
+
+pub returns-clause-near : goal.returns-clause-near
+returns-clause-near g c = λ pos a h.
+    let s = about_stands c.args.question.now (after pos c.args.board.now.moves) h in
+    let a2 = agrees_before c.read_code-3.ensures.stays.grows a in
+    let a3 = agrees_before c.read_code-2.ensures.stays.grows a2 in
+    let m3 = c.read_code.ensures.stays.moves in
+    let m2 = c.read_code-2.ensures.stays.moves ∙ m3 in
+    AddsNear-trans (c.read_code.ensures.near pos a3 (omega arith) (omega arith) s)
+    (AddsNear-trans ((rw m3 at (c.read_code-2.ensures.near pos a2)) (omega arith) (omega arith) s) ((rw m2 at (c.read_code-3.ensures.near pos a)) (omega arith) (omega arith) s))

@@ -1,8 +1,8 @@
 -- The child is the one to which the try led, and there is none where the try was refused.
-use Rattle.std.proofs.Common.{◌≡◌, ◌≢◌, ◌<◌, sym, inl, inr, ◌∙◌}
-use Rattle.go_base.specs.Facts.{agrees_before, Grows-trans}
+use Rattle.std.proofs.Common.{sym, inl, inr, ◌∙◌}
+use Rattle.go_base.specs.Facts.{agrees_before, Grows-trans, AddsIn-trans}
 use Rattle.trial_board.specs.Trials.{after}
-use Rattle.trial_board.specs.declared.moves.Tried.TheVariants.{Done, Banned}
+use Rattle.trial_board.specs.declared.moves.Tried.TheVariants.{Banned}
 use Rattle.read_tree.proofs.ChildLemmas.{child_of-done, child_of-dropped, child_of-suicide, child_of-refused, moves-refused, moves-banned, above_zero, at_most_one_more}
 use Rattle.read_tree.proofs.tree.child.Goals as goal
 
@@ -41,6 +41,9 @@ returns-in_default g c =
       moves = m2 ∙ m;
       few = at_most_one_more (m2 ∙ m);
       target = tt;
+      near = λ pos a.
+          let a1 = agrees_before c.play-in-Banned.ensures.grows a in
+          AddsIn-trans (c.play.ensures.near pos a1) (rw m at (c.play-in-Banned.ensures.near pos a));
       over = λ pos a.
           let a1 = agrees_before c.play-in-Banned.ensures.grows a in
           let o = rw (c.in-Banned.is, c.mover.ensures) at (c.play.ensures.over pos a1) in
@@ -55,3 +58,10 @@ returns-in-Occupied-clause-over g c = λ pos a.
     child_of-refused c.args.node (after pos c.args.board.now.moves) (after pos c.play.new.self.moves) c.args.p c.play.result o
     (λ e. elim c.in-Occupied.is [ inl h ↦ cc | inr h ↦ cc ])
     (λ e. elim c.in-Occupied.is [ inl h ↦ absurd cc | inr h ↦ absurd cc ])
+
+-- two tries at p look no further than one
+pub returns-in-Done-play-clause-near : goal.returns-in-Done-play-clause-near
+returns-in-Done-play-clause-near g c = λ pos a.
+    let a1 = agrees_before c.play-in-Banned.ensures.grows a in
+    let m = moves-banned c.mover.result c.args.p c.play.result c.args.board.now.moves c.play.new.self.moves c.play.ensures.moves c.in-Banned.is in
+    AddsIn-trans (c.play.ensures.near pos a1) (rw m at (c.play-in-Banned.ensures.near pos a))

@@ -1,9 +1,8 @@
-use Rattle.std.proofs.Common.{◌≡◌, ◌<◌, ◌*◌, length, List, ◌∷◌, ap, sym, subst, refl, ◌∙◌, arith, None, Ok, Err}
-use Rattle.go_rules.specs.Position.{BoardState, is_banned}
+use Rattle.std.proofs.Common.{◌≡◌, ◌<◌, length, ap, refl, ◌∙◌, arith}
+use Rattle.go_rules.specs.Position.{BoardState}
 use Rattle.go_base.specs.Facts.{Agrees, agrees_before, same_size}
 use Rattle.trial_board.specs.declared.moves.TrialMove.TheVariants.{Play}
-use Rattle.trial_board.specs.declared.trial.Kept.{Kept}
-use Rattle.trial_board.specs.Trials.{most_moves, after, tried_free}
+use Rattle.trial_board.specs.Trials.{most_moves}
 use Rattle.trial_board.specs.Standing.{newest_first}
 use Rattle.trial_board.proofs.StandingLemmas.{IsStanding-push, IsStanding-looks, newest_first-push, length-newest_first, put_at, put_tried, put_refused, board_good}
 use Rattle.trial_board.proofs.trial.Trial.put.Given.{Over}
