@@ -5,8 +5,8 @@
 //! by the rules of Go as `go_rules` defines them. Only `new` and `play` take memory.
 #![tactic(auto)]
 
-pub mod history;
-pub mod present;
+mod history;
+mod present;
 
 pub use go_rules::Move;
 pub use history::{History, HistoryError, MAX_MOVES, Nothing};

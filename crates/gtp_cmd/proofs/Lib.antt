@@ -1,0 +1,3 @@
+pub mod KomiLemmas
+pub mod NumberLemmas
+pub mod WordLemmas

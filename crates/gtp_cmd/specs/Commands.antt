@@ -1,5 +1,5 @@
 -- The commands, the words that each takes, and what a line says.
-use Rattle.std.specs.Prelude.{ℕ, ◌&&◌, nat_le, List, [], ◌∷◌, map, Option, None, Some, is_some, if◌then◌else◌, codes}
+use Rattle.std.specs.Prelude.{ℕ, ◌&&◌, nat_le, Bool, List, [], ◌∷◌, map, Option, None, Some, is_some, if◌then◌else◌, codes}
 use Rattle.std.specs.List.{find, join_with_byte}
 use Rattle.std.specs.Option.{option_map, option_and_then}
 use Rattle.std.specs.Str.{bytes_eq}
@@ -58,6 +58,10 @@ abbrev pub first_argument : {X : Type 0} → (List ℕ → Option X) → List (L
 first_argument says [] = None
 first_argument says (word ∷ more) = says word
 
+-- whether the first argument names a command
+abbrev pub known_of : List (List ℕ) → Option Bool
+known_of words = first_argument (λ word. Some (is_some (named word))) words
+
 -- the size of a board that a number is
 abbrev pub size_of : ℕ → Option ℕ
 size_of n = if nat_le smallest_size n && nat_le n largest_size then Some n else None
@@ -72,7 +76,7 @@ abbrev pub command_of : CommandName → ℕ → List (List ℕ) → Option Comma
 command_of name.ProtocolVersion s words = Some command.ProtocolVersion
 command_of name.Name s words = Some command.Name
 command_of name.Version s words = Some command.Version
-command_of name.KnownCommand s words = first_argument (λ word. Some (command.KnownCommand (is_some (named word)))) words
+command_of name.KnownCommand s words = option_map command.KnownCommand (known_of words)
 command_of name.ListCommands s words = Some command.ListCommands
 command_of name.Quit s words = Some command.Quit
 command_of name.BoardSize s words = option_map (λ n. command.BoardSize (size_of n)) (first_argument number_of words)

@@ -20,7 +20,7 @@ abbrev pub kept_of : List ℕ → Inside
 kept_of text = record { bytes = text ++ replicate (komi_room - length text) 0; len = length text }
 
 -- the length of the text is the length that is kept
-length-text_kept : (a : Inside) → IsKept a → length (text_kept a) ≡ a.len
+pub length-text_kept : (a : Inside) → IsKept a → length (text_kept a) ≡ a.len
 length-text_kept a h = simp length-take (omega (arith, h.within, h.whole))
 
 -- the fields come back from the text

@@ -2,12 +2,23 @@
 //!
 //! `parse` answers the id and the command of a line, or the first refusal; `success`, `short` and `refusal` give the reply.
 //! Columns are lettered from the left without I, and row 1 is the bottom row; points are numbered as everywhere in gopat.
+//! Only `success` takes memory.
 #![tactic(auto)]
 
-pub mod commands;
-pub mod komi;
-pub mod refusals;
+mod arguments;
+mod bytes;
+mod commands;
+mod komi;
+mod numbers;
+mod parser;
+mod refusals;
+mod replies;
+mod room;
+mod words;
 
-pub use commands::{Command, CommandName};
+pub use commands::{Command, CommandName, Parsed, names};
 pub use komi::KomiText;
+pub use parser::parse;
 pub use refusals::RefuseText;
+pub use replies::{refusal, short, success};
+pub use room::Short;

@@ -1,0 +1,226 @@
+//! What a line says.
+
+ghost use Rattle.std.specs.Prelude.{◌≡◌, ◌∷◌};
+ghost use Rattle.gtp_cmd.specs.Words.{kept, plain, words_of};
+ghost use Rattle.gtp_cmd.specs.Commands.{said, parsed_of};
+
+use crate::commands::{Command, Parsed, arguments, named};
+use crate::numbers::id;
+use crate::refusals::RefuseText;
+use crate::words::{before_comment, next_word};
+use go_base::Size;
+
+/// What a command's word and the text behind it say.
+fn called(id: Option<u32>, word: &[u8], text: &[u8], size: Size) -> Parsed
+    ensures { result ≡ said id size (kept word.now ∷ words_of (plain text.now)) }
+{
+    let Some(name) = named(word) else {
+        return Parsed::Refused {
+            id,
+            text: RefuseText::UnknownCommand,
+        };
+    };
+    match arguments(name, text, size) {
+        Some(command) => Parsed::Command { id, command },
+        None => Parsed::Refused {
+            id,
+            text: RefuseText::SyntaxError,
+        },
+    }
+}
+
+/// What the text behind an id says.
+fn after_id(id: u32, text: &[u8], size: Size) -> Parsed
+    ensures { result ≡ said (Some id) size (words_of (plain text.now)) }
+{
+    match next_word(text) {
+        Some((word, more)) => called(Some(id), word, more, size),
+        None => Parsed::Refused {
+            id: Some(id),
+            text: RefuseText::UnknownCommand,
+        },
+    }
+}
+
+/// What a line without its line feed says on a board of this size: nothing, an id and a command, or the first refusal.
+///
+/// Control bytes other than tab and line feed are passed over, a tab counts as a blank, and `#` begins a comment. A first word of
+/// digits alone is the id, if it is at most 2147483647. A command that is not known is refused before its arguments are read,
+/// and words after the last argument are passed over. Colours, vertices and `pass` may be in either case, and a number may have
+/// any length. Takes no memory.
+///
+/// After the GTP version 2 draft, on preprocessing and on the structure of a command.
+#[tactic(auto, unfolding(crate::specs::Commands::parsed_of))]
+pub fn parse(line: &[u8], size: Size) -> Parsed
+    ensures { result ≡ parsed_of line.now size }
+{
+    let text = before_comment(line);
+    let Some((first, more)) = next_word(text) else {
+        return Parsed::Nothing;
+    };
+    match id(first) {
+        Some(id) => after_id(id, more, size),
+        None => called(None, first, more, size),
+    }
+}
+
+#[cfg(test)]
+mod tests {
+    use super::*;
+    use crate::komi::KomiText;
+    use go_base::Colour;
+    use std::test::Fail;
+
+    /// The refusal of a line.
+    fn refused(id: Option<u32>, text: RefuseText) -> Parsed {
+        Parsed::Refused { id, text }
+    }
+
+    /// The refusal of arguments that are missing or malformed.
+    fn malformed() -> Parsed {
+        refused(None, RefuseText::SyntaxError)
+    }
+
+    /// A command that a line asks for.
+    fn asked(id: Option<u32>, command: Command) -> Parsed {
+        Parsed::Command { id, command }
+    }
+
+    #[test]
+    fn ids_blanks_and_comments(rt: HostRuntime) -> Result<(), Fail> {
+        let size = Size::new(19).ok_or("the size is one of a board")?;
+        let unknown = RefuseText::UnknownCommand;
+        for (row, line, want) in [
+            ("no words", " \t \r", Parsed::Nothing),
+            ("a comment alone", "# x", Parsed::Nothing),
+            (
+                "the greatest id",
+                "2147483647\tname \r# hi",
+                asked(Some(2147483647), Command::Name),
+            ),
+            ("a larger number", "2147483648 name", refused(None, unknown)),
+            (
+                "an id with leading zeros",
+                "0000000000007 quit",
+                asked(Some(7), Command::Quit),
+            ),
+            ("an id alone", "5", refused(Some(5), unknown)),
+            ("no id", "-5 name", refused(None, unknown)),
+            ("a command in capitals", "Name", refused(None, unknown)),
+            (
+                "control bytes in a word",
+                "na\u{1}m\u{7f}e",
+                asked(None, Command::Name),
+            ),
+            ("a comment in a word", "name#x", asked(None, Command::Name)),
+        ] {
+            assert_eq!(rt; parse(line.as_bytes(), size), want, "{row}");
+        }
+        Ok(())
+    }
+
+    #[test]
+    fn colours_and_vertices(rt: HostRuntime) -> Result<(), Fail> {
+        let size = Size::new(9).ok_or("the size is one of a board")?;
+        for (row, line, want) in [
+            (
+                "the corner at the top left",
+                "play b A9",
+                asked(None, Command::Play(Colour::Black, Some(0))),
+            ),
+            (
+                "no column is called I",
+                "play w J1",
+                asked(None, Command::Play(Colour::White, Some(80))),
+            ),
+            (
+                "either case, leading zero",
+                "play WhitE d04",
+                asked(None, Command::Play(Colour::White, Some(48))),
+            ),
+            (
+                "a pass",
+                "is_legal BLACK PaSS",
+                asked(None, Command::IsLegal(Colour::Black, None)),
+            ),
+            (
+                "words after the arguments",
+                "countlib D4 E5",
+                asked(None, Command::CountLib(48)),
+            ),
+            ("the column I", "play b I5", malformed()),
+            ("a column past the board", "play b K1", malformed()),
+            ("row 0", "play b A0", malformed()),
+            ("a row past the board", "play b A10", malformed()),
+            ("three digits", "play b A001", malformed()),
+            ("no row", "play b A", malformed()),
+            ("no vertex", "play b", malformed()),
+            ("no colour", "all_legal grey", malformed()),
+            ("a pass where none may be", "findlib pass", malformed()),
+        ] {
+            assert_eq!(rt; parse(line.as_bytes(), size), want, "{row}");
+        }
+        Ok(())
+    }
+
+    #[test]
+    fn sizes_komi_and_known_commands(rt: HostRuntime) -> Result<(), Fail> {
+        let size = Size::new(19).ok_or("the size is one of a board")?;
+        for (row, line, want) in [
+            (
+                "leading zeros",
+                "boardsize 007",
+                asked(None, Command::BoardSize(Size::new(7))),
+            ),
+            (
+                "the smallest size",
+                "boardsize 2",
+                asked(None, Command::BoardSize(Size::new(2))),
+            ),
+            (
+                "too small",
+                "boardsize 1",
+                asked(None, Command::BoardSize(None)),
+            ),
+            (
+                "too large",
+                "boardsize 20",
+                asked(None, Command::BoardSize(None)),
+            ),
+            (
+                "thirty digits",
+                "boardsize 100000000000000000000000000019",
+                asked(None, Command::BoardSize(None)),
+            ),
+            ("no digits", "boardsize x", malformed()),
+            ("no size", "boardsize", malformed()),
+            (
+                "a known command",
+                "known_command undo",
+                asked(None, Command::KnownCommand(true)),
+            ),
+            (
+                "an unknown one",
+                "known_command x",
+                asked(None, Command::KnownCommand(false)),
+            ),
+            ("a word", "komi six", malformed()),
+            ("no digits after the point", "komi 6.", malformed()),
+            (
+                "33 bytes",
+                "komi 000000000000000000000000000000000",
+                malformed(),
+            ),
+        ] {
+            assert_eq!(rt; parse(line.as_bytes(), size), want, "{row}");
+        }
+        for text in ["6.5", "-0.75", "+12", "00000000000000000000000000000000"] {
+            match KomiText::named(text.as_bytes()) {
+                Some(komi) => assert_eq!(rt; komi.as_slice(), text.as_bytes()),
+                None => assert!(rt; false, "{text} is a komi"),
+            }
+        }
+        assert_eq!(rt; KomiText::zero().as_slice(), b"0.0".as_slice());
+        Ok(())
+    }
+}

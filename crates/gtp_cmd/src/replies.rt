@@ -1,0 +1,123 @@
+//! The bytes of replies.
+
+ghost use Rattle.std.specs.Prelude.{◌≡◌, ◌+◌, ◌≤◌, [], ◌++◌, codes, length, IfOk};
+ghost use Rattle.gtp_cmd.specs.Replies.{id_text, after_blank, success_text, refusal_text, text_of};
+ghost use Rattle.gtp_cmd.specs.Rooms.{result_room};
+
+use crate::refusals::RefuseText;
+use crate::room::Short;
+use go_base::{Bytes, NoMemory};
+use itoa::Buffer;
+
+/// The first byte of a reply, and the id.
+fn head(first: &[u8], id: Option<u32>) -> Short
+    requires { length first.now ≡ 1 }
+    ensures text { result ≡ first.now ++ id_text id }
+    ensures len { length result ≤ 11 }
+{
+    let mut out = Short::new();
+    out.extend(first);
+    if let Some(id) = id {
+        let mut buffer = Buffer::new();
+        out.extend(buffer.format(id).as_bytes());
+    }
+    out
+}
+
+/// A success with a result of any length, put at the end of an empty list. Takes memory.
+///
+/// The reply is `=`, the id if there is one, a blank and the result where the result is not empty, and two line feeds. After the
+/// GTP version 2 draft, on the form of a reply, but for the blank that an empty result has there.
+pub fn success(id: Option<u32>, text: &[u8], mut out: Bytes) -> Result<Bytes, NoMemory>
+    requires { out ≡ [] }
+    ensures { IfOk result (λ reply. reply ≡ success_text id text.now) }
+{
+    let mut front = head(b"=", id);
+    if !text.is_empty() {
+        front.extend(b" ");
+    }
+    out.extend(front.as_slice())?;
+    out.extend(text)?;
+    out.extend(b"\n\n")?;
+    Ok(out)
+}
+
+/// The same success for a result of at most 32 bytes. Takes no memory.
+pub fn short(id: Option<u32>, text: &[u8]) -> Short
+    requires { length text.now ≤ result_room }
+    ensures { result ≡ success_text id text.now }
+{
+    let mut out = head(b"=", id);
+    if !text.is_empty() {
+        out.extend(b" ");
+        out.extend(text);
+    }
+    out.extend(b"\n\n");
+    out
+}
+
+/// What a refusal says.
+fn reason(text: RefuseText) -> &'static [u8]
+    ensures text { result.now ≡ text_of text }
+    ensures len { length result.now ≤ 24 }
+{
+    match text {
+        RefuseText::UnknownCommand => b"unknown command",
+        RefuseText::SyntaxError => b"syntax error",
+        RefuseText::LineTooLong => b"line too long",
+        RefuseText::UnacceptableSize => b"unacceptable size",
+        RefuseText::IllegalMove => b"illegal move",
+        RefuseText::HistoryFull => b"history full",
+        RefuseText::CannotUndo => b"cannot undo",
+        RefuseText::VertexEmpty => b"vertex must not be empty",
+        RefuseText::OutOfMemory => b"out of memory",
+    }
+}
+
+/// A refusal: `?`, the id if there is one, a blank, what it says, and two line feeds. Takes no memory.
+pub fn refusal(id: Option<u32>, text: RefuseText) -> Short
+    ensures { result ≡ refusal_text id text }
+{
+    let mut out = head(b"?", id);
+    out.extend(b" ");
+    out.extend(reason(text));
+    out.extend(b"\n\n");
+    out
+}
+
+#[cfg(test)]
+mod tests {
+    use super::*;
+    use std::test::Fail;
+
+    #[test]
+    fn replies_repeat_the_id(rt: HostRuntime) -> Result<(), Fail> {
+        for (row, id, text, want) in [
+            ("nothing follows the id", Some(1), "", "=1\n\n"),
+            ("no blank before nothing", None, "", "=\n\n"),
+            (
+                "a result",
+                Some(2147483647),
+                "gopat",
+                "=2147483647 gopat\n\n",
+            ),
+        ] {
+            let reply = success(id, text.as_bytes(), Bytes::new(rt.alloc()))?;
+            assert_eq!(rt; reply.as_slice(), want.as_bytes(), "{row}");
+            assert!(rt; text.len() <= 32);
+            assert_eq!(rt;
+                short(id, text.as_bytes()).as_slice(),
+                want.as_bytes(),
+                "{row}"
+            );
+        }
+        let unknown = refusal(Some(5), RefuseText::UnknownCommand);
+        assert_eq!(rt; unknown.as_slice(), b"?5 unknown command\n\n".as_slice());
+        let longest = refusal(Some(u32::MAX), RefuseText::VertexEmpty);
+        assert_eq!(rt;
+            longest.as_slice(),
+            b"?4294967295 vertex must not be empty\n\n".as_slice()
+        );
+        Ok(())
+    }
+}
