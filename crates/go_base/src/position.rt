@@ -4,7 +4,7 @@ ghost use Rattle.std.specs.Prelude.{◌≡◌, ℕ, ◌*◌, ◌<◌, replicate,
 ghost use Rattle.go_rules.specs.Board.{largest_points};
 ghost use Rattle.go_rules.specs.Position.{BoardState, IsPosition, is_banned};
 ghost use Rattle.go_rules.specs.Play.{pass as passed, play as played, play_free as played_free};
-ghost use Rattle.go_rules.specs.Strings.{cell_at, string_at, liberties as liberties_at};
+ghost use Rattle.go_rules.specs.Strings.{cell_at, string_at, liberty_points, liberties as liberties_at};
 ghost use Rattle.go_base.specs.Positions.{Holds};
 
 use crate::capture::play_on;
@@ -109,13 +109,21 @@ impl Position {
         string_of(&mut board, p)
     }
 
+    /// The liberties of the string of p, with no point where p is empty.
+    pub fn liberty_points(&self, p: Point) -> PointSet
+        requires { p < self.now.size * self.now.size }
+        ensures { result ≡ liberty_points self.now.size self.now.cells p }
+    {
+        let mut board = self.board();
+        liberties_of(&mut board, p)
+    }
+
     /// How many liberties the string of p has, 0 where p is empty.
     pub fn liberties(&self, p: Point) -> u16
         requires { p < self.now.size * self.now.size }
         ensures { result ≡ liberties_at self.now.size self.now.cells p }
     {
-        let mut board = self.board();
-        liberties_of(&mut board, p).count()
+        self.liberty_points(p).count()
     }
 
     /// Whether the ban is on this play.

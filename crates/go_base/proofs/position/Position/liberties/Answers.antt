@@ -1,13 +1,8 @@
 use Rattle.std.proofs.Common.{ap, ◌∙◌}
 use Rattle.std.specs.FinSet as sets
-use Rattle.go_rules.specs.Strings.{liberty_points}
-use Rattle.go_base.proofs.Held.{whole_after}
 use Rattle.go_base.proofs.Liberties.{len-liberty_points}
 use Rattle.go_base.proofs.position.Position.liberties.Goals as goal
 
 pub returns : goal.returns
 returns c =
-    let b = c.board-board.ensures in
-    let found = c.liberties_of.ensures.over c.args.self.now (whole_after _ _ c.liberties_of.ensures.looks.asked b.whole)
-    ∙ ap (λ t. liberty_points c.board-board.result.size t c.args.p) b.cells ∙ ap (λ n. liberty_points n c.args.self.now.cells c.args.p) b.size in
-    c.count.ensures.value ∙ ap sets.len found ∙ len-liberty_points c.args.self.now.size c.args.self.now.cells c.args.p
+    c.count.ensures.value ∙ ap sets.len c.liberty_points.ensures ∙ len-liberty_points c.args.self.now.size c.args.self.now.cells c.args.p
