@@ -11,7 +11,7 @@ pub mod laws;
 pub mod node;
 pub mod question;
 pub mod reading;
-pub mod tree;
+mod tree;
 
 pub use node::Node;
 pub use question::{Answer, Kind, Question, Spot, Told};

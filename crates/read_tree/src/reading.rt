@@ -4,7 +4,7 @@ ghost use Rattle.std.specs.Prelude.{◌≡◌, ◌≢◌, ◌+◌, ◌*◌, ◌<
 ghost use Rattle.go_rules.specs.Position.{BoardState};
 ghost use Rattle.go_rules.specs.Strings.{cell_at};
 ghost use Rattle.go_base.specs.Facts.{Agrees, Grows, CellIs};
-ghost use Rattle.trial_board.specs.Trials.{Stays, after};
+ghost use Rattle.trial_board.specs.Trials.{Stays, most_moves, after};
 ghost use Rattle.read_tree.specs.GameTree.{is_captured};
 ghost use Rattle.read_tree.specs.ActiveArea.{InActiveArea, AddsNear};
 ghost use Rattle.read_tree.specs.Answer.{own_allowance, other_allowance, first_node, is_about, answer_of, asked_on, colour_of};
@@ -60,7 +60,7 @@ fn first_node(question: &Question, code: u8) -> Node
 /// The first move by which the question attains the code, where it does.
 fn read_code<L: Look>(board: &mut Trial<L>, question: &Question, code: u8) -> Option<Spot>
     requires plies { 0 < question.now.plies }
-    requires room { length board.old.moves + question.now.plies ≤ 200 }
+    requires room { length board.old.moves + question.now.plies ≤ most_moves }
     requires target { question.now.target < (L.shows board.old.look).size * (L.shows board.old.look).size }
     ensures stays { Stays L.shows L.seen board.old board.new }
     ensures on_board { IfSome result (IsOnBoard (L.shows board.old.look).size) }
@@ -79,7 +79,7 @@ fn read_code<L: Look>(board: &mut Trial<L>, question: &Question, code: u8) -> Op
 /// The answer to a question that is about the position.
 fn read<L: Look>(board: &mut Trial<L>, question: &Question) -> Answer
     requires plies { 0 < question.now.plies }
-    requires room { length board.old.moves + question.now.plies ≤ 200 }
+    requires room { length board.old.moves + question.now.plies ≤ most_moves }
     requires target { question.now.target < (L.shows board.old.look).size * (L.shows board.old.look).size }
     ensures stays { Stays L.shows L.seen board.old board.new }
     ensures code { result.code ≤ 3 }

@@ -7,7 +7,7 @@ ghost use Rattle.go_base.specs.Facts.{Agrees, Grows, AddsIn};
 ghost use Rattle.go_base.specs.Views.{alone};
 ghost use Rattle.trial_board.specs.Overlays.{neighbourhood_twice};
 ghost use Rattle.read_moves.specs.Candidates.{is_candidate};
-ghost use Rattle.trial_board.specs.Trials.{Stays, after};
+ghost use Rattle.trial_board.specs.Trials.{Stays, most_moves, after};
 ghost use Rattle.read_tree.specs.declared.question.Question.{Question};
 ghost use Rattle.read_tree.specs.ActiveArea.{IsNodeOf, IsUndecided, InActiveArea, AddsNear};
 ghost use Rattle.read_tree.specs.GameTree.{is_captured, has_many_liberties, child_of, attacker_wins, succeeds, first_success, at_point};
@@ -19,9 +19,10 @@ use go_base::{Cell, Look, Point};
 use read_moves::candidates;
 use trial_board::{Trial, Tried};
 
-/// With more liberties than these a target is not attacked, and with more than the second number not without a wide ply.
+/// A target with more liberties is not attacked.
 const MAX_LIBERTIES_WIDE: u16 = 4;
 
+/// A target with more liberties is not attacked where no wide ply is left.
 const MAX_LIBERTIES: u16 = 2;
 
 /// Whether so many liberties are too many for the attacker.
@@ -45,7 +46,7 @@ fn has_many_liberties<L: Look>(board: &mut Trial<L>, target: Point, wide: u8) ->
 
 /// Plays for the side to play at p, where the rules or its allowance let it. A play that is made stands afterwards.
 fn child<L: Look>(board: &mut Trial<L>, node: Node, p: Point) -> Option<Node>
-    requires room { length board.old.moves < 200 }
+    requires room { length board.old.moves < most_moves }
     requires on_board { p < (L.shows board.old.look).size * (L.shows board.old.look).size }
     ensures shown { L.shows board.new.look ≡ L.shows board.old.look }
     ensures grows { Grows (L.seen board.old.look) (L.seen board.new.look) }
@@ -76,7 +77,7 @@ fn child<L: Look>(board: &mut Trial<L>, node: Node, p: Point) -> Option<Node>
 /// Whether the play at p gives the side to play its way, with `plies` plies left after it.
 #[cycle(read)]
 fn succeeds<L: Look>(board: &mut Trial<L>, node: Node, p: Point, plies: u8) -> bool
-    requires room { length board.old.moves + plies < 200 }
+    requires room { length board.old.moves + plies < most_moves }
     requires target { node.target < (L.shows board.old.look).size * (L.shows board.old.look).size }
     requires on_board { p < (L.shows board.old.look).size * (L.shows board.old.look).size }
     ensures stays { Stays L.shows L.seen board.old board.new }
@@ -100,7 +101,7 @@ fn succeeds<L: Look>(board: &mut Trial<L>, node: Node, p: Point, plies: u8) -> b
 /// The first point in reading order that gives the side to play its way, with `plies` plies left after it.
 #[cycle(read)]
 fn first_success<L: Look>(board: &mut Trial<L>, node: Node, plies: u8) -> Option<Point>
-    requires room { length board.old.moves + plies < 200 }
+    requires room { length board.old.moves + plies < most_moves }
     requires target { node.target < (L.shows board.old.look).size * (L.shows board.old.look).size }
     ensures stays { Stays L.shows L.seen board.old board.new }
     ensures on_board { IfSome result (λ p. p < (L.shows board.old.look).size * (L.shows board.old.look).size) }
@@ -134,7 +135,7 @@ fn at_point(point: Option<Point>) -> Option<Spot>
 /// all points, so a defence that needs no move says so.
 #[cycle(read)]
 pub fn good_move<L: Look>(board: &mut Trial<L>, node: Node, plies: u8) -> Option<Spot>
-    requires room { length board.old.moves + plies < 200 }
+    requires room { length board.old.moves + plies < most_moves }
     requires target { node.target < (L.shows board.old.look).size * (L.shows board.old.look).size }
     ensures stays { Stays L.shows L.seen board.old board.new }
     ensures on_board { IfSome result (IsOnBoard (L.shows board.old.look).size) }
@@ -162,7 +163,7 @@ pub fn good_move<L: Look>(board: &mut Trial<L>, node: Node, plies: u8) -> Option
 /// Whether the target is captured, with `plies` plies left.
 #[cycle(read)]
 fn attacker_wins<L: Look>(board: &mut Trial<L>, node: Node, plies: u8) -> bool
-    requires room { length board.old.moves + plies ≤ 200 }
+    requires room { length board.old.moves + plies ≤ most_moves }
     requires target { node.target < (L.shows board.old.look).size * (L.shows board.old.look).size }
     ensures stays { Stays L.shows L.seen board.old board.new }
     ensures over { (pos : BoardState) → Agrees (L.seen board.new.look) pos
