@@ -1,6 +1,6 @@
 pub mod Texts
 pub mod Points
-pub mod OnBoardLemmas
+pub mod WithinLemmas
 pub mod Said
 pub mod Playing
 pub mod Replied

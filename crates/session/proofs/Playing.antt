@@ -19,9 +19,9 @@ use Rattle.session.specs.declared.reply.Reply.{Reply}
 use Rattle.session.specs.declared.reply.Reply.TheVariants.{Short, NoMemory}
 use Rattle.session.specs.declared.reply.Reply.TheVariants as reply
 
--- the machine of a game and of a komi
-abbrev pub machine_of : Game → List ℕ → Machine
-machine_of game komi = record { size = game.size; moves = game.moves; komi = komi }
+-- the machine of a game, with the settings of another machine
+abbrev pub machine_of : Game → Machine → Machine
+machine_of game kept = record kept { size = game.size; moves = game.moves }
 
 -- a result that is none of the errors
 ok_unless : {T E : Type 0} (r : Result T E) → ((e : E) → r ≡ Err e → ⊥) → IsOk r
@@ -37,14 +37,14 @@ equal : (a b : ℕ) → a ≡ b → eqb a b ≡ true
 equal a b same = grind (arith, nat_tests)
 
 -- What the machine gives for a move, where the game stands so.
-module _ (game : Game) (komi : List ℕ) (id : Option ℕ) (m : Move) where
+module _ (game : Game) (kept : Machine) (id : Option ℕ) (m : Move) where
   -- the machine before the move
   abbrev old : Machine
-  old = machine_of game komi
+  old = machine_of game kept
 
   -- the machine with the move
   abbrev with_move : Machine
-  with_move = machine_of (record { size = game.size; moves = game.moves ++ m ∷ [] }) komi
+  with_move = machine_of (record { size = game.size; moves = game.moves ++ m ∷ [] }) kept
 
   -- the move is legal, and the list is not full
   played-legal : IsOk (moved (position_of old) m) → (length game.moves ≡ most_moves → ⊥) → played old id m ≡ done_growing with_move id []
@@ -67,33 +67,33 @@ module _ (game : Game) (komi : List ℕ) (id : Option ℕ) (m : Move) where
   module _ (new : Game) (reply : Reply) where
     -- the move was added
     pub move_added : new ≡ record { size = game.size; moves = game.moves ++ m ∷ [] } → IsOk (moved (position_of old) m) → length game.moves < most_moves
-        → reply ≡ Short (success_text id []) false → IsReply old (played old id m) reply (machine_of new komi)
+        → reply ≡ Short (success_text id []) false → IsReply old (played old id m) reply (machine_of new kept)
     move_added added legal room says =
-        subst (λ given. IsReply old given reply (machine_of new komi)) (sym (played-legal legal (λ full. omega arith)))
-        (subst (λ r. IsReply old (done_growing with_move id []) r (machine_of new komi)) (sym says) (refl, refl, ap (λ g. machine_of g komi) added))
+        subst (λ given. IsReply old given reply (machine_of new kept)) (sym (played-legal legal (λ full. omega arith)))
+        (subst (λ r. IsReply old (done_growing with_move id []) r (machine_of new kept)) (sym says) (refl, refl, ap (λ g. machine_of g kept) added))
 
     -- the move was refused as illegal
     pub move_illegal : (e : Illegal) → new ≡ game → moved (position_of old) m ≡ Err e → reply ≡ Short (refusal_text id IllegalMove) false
-        → IsReply old (played old id m) reply (machine_of new komi)
+        → IsReply old (played old id m) reply (machine_of new kept)
     move_illegal e same forbidden says =
-        subst (λ given. IsReply old given reply (machine_of new komi)) (sym (played-illegal e forbidden))
-        (subst (λ r. IsReply old (refused old id IllegalMove) r (machine_of new komi)) (sym says) (refl, refl, ap (λ g. machine_of g komi) same))
+        subst (λ given. IsReply old given reply (machine_of new kept)) (sym (played-illegal e forbidden))
+        (subst (λ r. IsReply old (refused old id IllegalMove) r (machine_of new kept)) (sym says) (refl, refl, ap (λ g. machine_of g kept) same))
 
     -- the move was refused since the list is full
     pub move_past_full : new ≡ game → IsOk (moved (position_of old) m) → length game.moves ≡ most_moves → reply ≡ Short (refusal_text id HistoryFull) false
-        → IsReply old (played old id m) reply (machine_of new komi)
+        → IsReply old (played old id m) reply (machine_of new kept)
     move_past_full same legal full says =
-        subst (λ given. IsReply old given reply (machine_of new komi)) (sym (played-full legal full))
-        (subst (λ r. IsReply old (refused old id HistoryFull) r (machine_of new komi)) (sym says) (refl, refl, ap (λ g. machine_of g komi) same))
+        subst (λ given. IsReply old given reply (machine_of new kept)) (sym (played-full legal full))
+        (subst (λ r. IsReply old (refused old id HistoryFull) r (machine_of new kept)) (sym says) (refl, refl, ap (λ g. machine_of g kept) same))
 
     -- there was no memory for the move
     pub move_without_memory : new ≡ game → ((e : Illegal) → moved (position_of old) m ≡ Err e → ⊥)
         → ((IsOk (moved (position_of old) m) × (length game.moves ≡ most_moves)) → ⊥) → reply ≡ NoMemory id
-        → IsReply old (played old id m) reply (machine_of new komi)
+        → IsReply old (played old id m) reply (machine_of new kept)
     move_without_memory same legal room says =
         let ok = ok_unless (moved (position_of old) m) legal in
-        subst (λ given. IsReply old given reply (machine_of new komi)) (sym (played-legal ok (λ full. room (ok, full))))
-        (subst (λ r. IsReply old (done_growing with_move id []) r (machine_of new komi)) (sym says) (refl, refl, ap (λ g. machine_of g komi) same))
+        subst (λ given. IsReply old given reply (machine_of new kept)) (sym (played-legal ok (λ full. room (ok, full))))
+        (subst (λ r. IsReply old (done_growing with_move id []) r (machine_of new kept)) (sym says) (refl, refl, ap (λ g. machine_of g kept) same))
 
 -- What is told of the string of a point.
 module _ (old : Machine) (id : Option ℕ) (p : ℕ) (given : Step Machine) where

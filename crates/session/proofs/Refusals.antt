@@ -17,9 +17,12 @@ use Rattle.gtp_cmd.specs.declared.commands.Parsed.{Parsed}
 use Rattle.gtp_cmd.specs.declared.commands.Parsed.TheVariants as parsed
 use Rattle.gtp_cmd.specs.declared.refusals.RefuseText.{RefuseText}
 use Rattle.gtp_cmd.specs.declared.refusals.RefuseText.TheVariants.{LineTooLong, UnacceptableSize, IllegalMove, HistoryFull, CannotUndo, VertexEmpty}
+use Rattle.read_tree.specs.declared.question.Kind.{Kind}
+use Rattle.read_tree.specs.declared.question.Kind.TheVariants.{Attack, Defend}
 use Rattle.session.specs.Machine.{Machine, position_of}
+use Rattle.session.specs.Readings.{answer_text, reading_of}
 use Rattle.session.specs.BoardText.{board_text}
-use Rattle.session.specs.Answering.{passed_over, refused, done, done_growing, ended, resized, played, taken_back, told_of_stone, command_step, parsed_step, step}
+use Rattle.session.specs.Answering.{passed_over, refused, done, done_growing, ended, resized, played, taken_back, told_of_stone, read_of_stone, command_step, parsed_step, step}
 use Rattle.session.specs.Replies.{IsSuccess, IsRefusal, IsSound}
 
 -- a success is no refusal
@@ -93,6 +96,10 @@ told_of_stone-sound : (old : Machine) (id : Option ℕ) (p : ℕ) (given : Step 
 told_of_stone-sound old id p given sound =
     either-sound old (is_stone (cell_at (position_of old).cells p)) given _ sound (refused-sound old id VertexEmpty)
 
+-- the answer to a question
+read_of_stone-sound : (old : Machine) (id : Option ℕ) (kind : Kind) (p : ℕ) → IsSound old (read_of_stone old id kind p)
+read_of_stone-sound old id kind p = told_of_stone-sound old id p _ (done-sound old old id (answer_text old.size (reading_of old kind p)))
+
 -- each command
 command_step-sound : (old : Machine) (id : Option ℕ) (c : Command) → IsSound old (command_step old id c)
 command_step-sound old id command.ProtocolVersion = done-sound old old id (codes "2")
@@ -113,6 +120,11 @@ command_step-sound old id (command.AllLegal c) = done_growing-sound old old id _
 command_step-sound old id (command.CountLib p) = told_of_stone-sound old id p _ (done-sound old old id _)
 command_step-sound old id (command.FindLib p) = told_of_stone-sound old id p _ (done_growing-sound old old id _)
 command_step-sound old id (command.Captures c) = done-sound old old id _
+command_step-sound old id (command.Attack p) = read_of_stone-sound old id Attack p
+command_step-sound old id (command.Defend p) = read_of_stone-sound old id Defend p
+command_step-sound old id (command.Depths plies wide) = done-sound old _ id []
+command_step-sound old id (command.MatchPatterns c) = done_growing-sound old old id []
+command_step-sound old id command.ListPatterns = done_growing-sound old old id []
 
 -- what a line says
 parsed_step-sound : (old : Machine) (p : Parsed) → IsSound old (parsed_step old p)

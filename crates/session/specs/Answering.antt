@@ -16,8 +16,11 @@ use Rattle.gtp_cmd.specs.declared.commands.Parsed.{Parsed}
 use Rattle.gtp_cmd.specs.declared.commands.Parsed.TheVariants as parsed
 use Rattle.gtp_cmd.specs.declared.refusals.RefuseText.{RefuseText}
 use Rattle.gtp_cmd.specs.declared.refusals.RefuseText.TheVariants.{LineTooLong, UnacceptableSize, IllegalMove, HistoryFull, CannotUndo, VertexEmpty, OutOfMemory}
+use Rattle.read_tree.specs.declared.question.Kind.{Kind}
+use Rattle.read_tree.specs.declared.question.Kind.TheVariants.{Attack, Defend}
 use Rattle.session.specs.Machine.{Machine, position_of}
 use Rattle.session.specs.BoardText.{board_text}
+use Rattle.session.specs.Readings.{answer_text, reading_of}
 use Rattle.session.specs.PointLists.{legal_points, liberty_list, vertices_text}
 
 -- no reply
@@ -70,6 +73,10 @@ taken_back old id (move ∷ moves) = done (record old { moves = take (length old
 abbrev pub told_of_stone : Machine → Option ℕ → ℕ → Step Machine → Step Machine
 told_of_stone old id p told = if is_stone (cell_at (position_of old).cells p) then told else refused old id VertexEmpty
 
+-- the answer to a question about the string of a point
+abbrev pub read_of_stone : Machine → Option ℕ → Kind → ℕ → Step Machine
+read_of_stone old id kind p = told_of_stone old id p (done old id (answer_text old.size (reading_of old kind p)))
+
 -- the answer to a command
 abbrev pub command_step : Machine → Option ℕ → Command → Step Machine
 command_step old id command.ProtocolVersion = done old id (codes "2")
@@ -92,6 +99,11 @@ command_step old id (command.CountLib p) =
 command_step old id (command.FindLib p) =
     told_of_stone old id p (done_growing old id (vertices_text old.size (liberty_list (position_of old) p)))
 command_step old id (command.Captures c) = done old id (decimal (captures old.size c old.moves))
+command_step old id (command.Attack p) = read_of_stone old id Attack p
+command_step old id (command.Defend p) = read_of_stone old id Defend p
+command_step old id (command.Depths plies wide) = done (record old { plies = plies; wide = wide }) id []
+command_step old id (command.MatchPatterns c) = done_growing old id []
+command_step old id command.ListPatterns = done_growing old id []
 
 -- the answer to what a line says
 abbrev pub parsed_step : Machine → Parsed → Step Machine

@@ -1,9 +1,10 @@
 pub mod Machine
 pub mod BoardText
 pub mod PointLists
+pub mod Readings
 pub mod Answering
 pub mod Replies
-pub mod OnBoard
+pub mod Within
 pub mod Outcomes
 pub mod Notes
 pub mod Headline

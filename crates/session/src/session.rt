@@ -3,14 +3,16 @@ ghost use Rattle.std.specs.Prelude.{◌≡◌, ◌≤◌, ◌*◌, ◌<◌, ◌�
 ghost use Rattle.go_rules.specs.Strings.{cell_at, is_stone};
 ghost use Rattle.go_rules.specs.Replay.{moved};
 ghost use Rattle.go_rules.specs.declared.Move.{Move};
-ghost use Rattle.session.specs.OnBoard.{IsOnBoard, SaysOnBoard};
+ghost use Rattle.session.specs.Within.{IsWithin, SaysWithin};
 ghost use Rattle.gtp_cmd.specs.Replies.{success_text, refusal_text};
 ghost use Rattle.gtp_lex.specs.Raw.{raw_line};
 ghost use Rattle.session.specs.Machine.{Machine, first_machine, position_of};
-ghost use Rattle.session.specs.Answering.{step, parsed_step, command_step, resized, played, taken_back, told_of_stone, word_of, digit_of};
+ghost use Rattle.session.specs.Answering.{step, parsed_step, command_step, resized, played, taken_back, told_of_stone, read_of_stone, word_of, digit_of};
+ghost use Rattle.read_tree.specs.declared.question.Kind.{Kind};
 ghost use Rattle.session.specs.Replies.{IsReply, IsReplyTo, IsGrowing, IsWithoutWords, IsRefusal, reply_bytes};
 
 use crate::board_text::board_text;
+use crate::readings::{answer_text, reading};
 use crate::reply::Reply;
 use crate::vertices::{legal_text, liberties_text};
 use go_base::size::MAX_SIZE;
@@ -19,8 +21,16 @@ use go_history::{History, HistoryError, Move};
 use gtp_cmd::{Command, KomiText, Parsed, RefuseText, names, parse, refusal, short, success};
 use gtp_lex::Raw;
 use itoa::Buffer;
+use read_moves::Depths;
+use read_tree::Kind;
 use std::alloc::Global;
 use std::marker::Model;
+
+/// How many plies a reading may have before the first line that says so.
+const FIRST_PLIES: u8 = 10;
+
+/// How many of them are wide before that line.
+const FIRST_WIDE: u8 = 2;
 
 /// A session of the protocol, seen as the plain machine.
 #[derive(Drop)]
@@ -28,12 +38,13 @@ pub struct Session {
     alloc: Global,
     history: History,
     komi: KomiText,
+    depths: Depths,
 }
 
 impl Model for Session {
     ghost Value = { Machine };
 
-    ghost view = { λ s. record { size = s.history.size; moves = s.history.moves; komi = s.komi } };
+    ghost view = { λ s. record { size = s.history.size; moves = s.history.moves; komi = s.komi; plies = s.depths.plies; wide = s.depths.wide } };
 }
 
 /// A success of a short result.
@@ -105,7 +116,8 @@ fn has_stone(position: &Position, p: Point) -> bool
 }
 
 impl Session {
-    /// A session before its first line: the largest board, no moves, the komi 0.0. Takes memory.
+    /// A session before its first line: the largest board, no moves, the komi 0.0, readings of 10 plies, of which 2 are wide.
+    /// Takes memory.
     pub fn new(alloc: Global) -> Result<Session, NoMemory>
         ensures { IfOk result (λ session. session ≡ first_machine) }
     {
@@ -114,6 +126,7 @@ impl Session {
             alloc,
             history: History::new(alloc, size)?,
             komi: KomiText::zero(),
+            depths: Depths::new(FIRST_PLIES, FIRST_WIDE).unwrap(),
         })
     }
 
@@ -137,7 +150,7 @@ impl Session {
 
     /// Answers what a line says.
     fn answer(&mut self, parsed: Parsed) -> Reply
-        requires { SaysOnBoard self.old.size parsed }
+        requires { SaysWithin self.old.size parsed }
         ensures reply { IsReplyTo self.old (parsed_step self.old parsed) result self.new }
         ensures nothing { result ≡ Reply.Nothing ↔ (parsed ≡ Parsed.Nothing) }
     {
@@ -150,7 +163,7 @@ impl Session {
 
     /// Does what a command says.
     fn obey(&mut self, id: Option<u32>, command: Command) -> Reply
-        requires { IsOnBoard self.old.size command }
+        requires { IsWithin self.old.size command }
         ensures { IsReply self.old (command_step self.old id command) result self.new }
     {
         match command {
@@ -181,6 +194,13 @@ impl Session {
             Command::CountLib(p) => self.count_liberties(id, p),
             Command::FindLib(p) => self.find_liberties(id, p),
             Command::Captures(colour) => self.count_captures(id, colour),
+            Command::Attack(p) => self.read(id, Kind::Attack, p),
+            Command::Defend(p) => self.read(id, Kind::Defend, p),
+            Command::Depths { plies, wide } => {
+                self.depths = Depths::new(plies, wide).unwrap();
+                told(id, b"")
+            }
+            Command::MatchPatterns(_) | Command::ListPatterns => grown(self.alloc, id, b""),
         }
     }
 
@@ -275,5 +295,17 @@ impl Session {
     {
         let mut buffer = Buffer::new();
         told(id, buffer.format(self.history.captures(colour)).as_bytes())
+    }
+
+    fn read(&self, id: Option<u32>, kind: Kind, p: Point) -> Reply
+        requires { p < self.now.size * self.now.size }
+        ensures { IsReply self.now (read_of_stone self.now id kind p) result self.now }
+    {
+        let position = self.position();
+        if !has_stone(&position, p) {
+            return refused(id, RefuseText::VertexEmpty);
+        }
+        let answer = reading(&position, kind, p, self.depths);
+        told(id, answer_text(position.size(), answer).as_slice())
     }
 }

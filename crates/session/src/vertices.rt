@@ -10,12 +10,20 @@ use std::alloc::Global;
 /// The letters of the columns from the left.
 const COLUMN_LETTERS: [u8; 25] = *b"ABCDEFGHJKLMNOPQRSTUVWXYZ";
 
+/// The letter of a column.
+pub(crate) fn column_letter(column: u8) -> u8
+    requires { column < 25 }
+    ensures { result ≡ slice_index column_letters column }
+{
+    COLUMN_LETTERS[column as usize]
+}
+
 /// Puts the letter of a column.
 pub(crate) fn push_letter(out: &mut Bytes, column: u8) -> Result<(), NoMemory>
     requires { column < 25 }
     ensures { OnOk result (out.new ≡ out.old ++ slice_index column_letters column ∷ []) }
 {
-    out.push(COLUMN_LETTERS[column as usize])
+    out.push(column_letter(column))
 }
 
 /// Puts a number in decimal.

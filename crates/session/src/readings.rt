@@ -1,0 +1,74 @@
+//! Readings over a position, and their answers as short texts.
+ghost use Rattle.std.specs.Prelude.{◌≡◌, ◌≢◌, ◌*◌, ◌<◌, ◌≤◌, length, IfSome};
+ghost use Rattle.go_rules.specs.Strings.{cell_at};
+ghost use Rattle.gtp_cmd.specs.Vertices.{vertex_text};
+ghost use Rattle.read_tree.specs.Answer.{answer_of, asked_on};
+ghost use Rattle.read_tree.specs.Steps.{IsOnBoard};
+ghost use Rattle.session.specs.Readings.{spot_text, answer_text};
+
+use crate::vertices::column_letter;
+use go_base::{Cell, Point, Position, Size, Watch};
+use gtp_cmd::Short;
+use itoa::Buffer;
+use read_moves::Depths;
+use read_tree::{Answer, Kind, Spot, attack, defend};
+
+/// The answer to a question about a stone of the position, read afresh.
+pub(crate) fn reading(position: &Position, kind: Kind, target: Point, depths: Depths) -> Answer
+    requires on_board { target < position.now.size * position.now.size }
+    requires stone { cell_at position.now.cells target ≢ Cell.Empty }
+    ensures answer { result ≡ answer_of (asked_on position.now kind target depths.plies depths.wide) position.now }
+    ensures on_board { IfSome result.at (IsOnBoard position.now.size) }
+{
+    let watch = Watch::new(position);
+    match kind {
+        Kind::Attack => attack(watch, target, depths).answer,
+        Kind::Defend => defend(watch, target, depths).answer,
+    }
+}
+
+/// The vertex of a point.
+fn vertex(size: Size, p: Point) -> Short
+    requires { p < size * size }
+    ensures text { result ≡ vertex_text size p }
+    ensures short { length result ≤ 4 }
+{
+    let rows = u16::from(size.get());
+    let mut buffer = Buffer::new();
+    let mut text = Short::new();
+    text.extend(&[column_letter((p % rows) as u8)]);
+    text.extend(buffer.format((rows - p / rows) as u8).as_bytes());
+    text
+}
+
+/// A move as it is printed.
+fn spot_text(size: Size, spot: Spot) -> Short
+    requires { IsOnBoard size spot }
+    ensures text { result ≡ spot_text size spot }
+    ensures short { length result ≤ 4 }
+{
+    match spot {
+        Spot::At(p) => vertex(size, p),
+        Spot::Pass => {
+            let mut text = Short::new();
+            text.extend(b"PASS");
+            text
+        }
+    }
+}
+
+/// An answer as it is printed: the code, and the move where there is one.
+pub(crate) fn answer_text(size: Size, answer: Answer) -> Short
+    requires { IfSome answer.at (IsOnBoard size) }
+    ensures text { result ≡ answer_text size answer }
+    ensures short { length result ≤ 32 }
+{
+    let mut buffer = Buffer::new();
+    let mut text = Short::new();
+    text.extend(buffer.format(answer.code).as_bytes());
+    if let Some(spot) = answer.at {
+        text.extend(b" ");
+        text.extend(spot_text(size, spot).as_slice());
+    }
+    text
+}
