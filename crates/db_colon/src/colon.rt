@@ -10,9 +10,9 @@ ghost use Rattle.db_grammar.specs.Kinds.{first_of, no_diagram, move_count, bad_m
 ghost use Rattle.db_grammar.specs.Colon.{fields_of as all_fields, mark_of as mark_in, class_field as second_field, further as others, is_item as item, item_of as item_from, names_nothing as nothing_named, asks_for_readings as readings_asked_for, class_letters as letters_in, null, are_classes as classes, fields_fault as first_fields_fault};
 ghost use Rattle.db_diagram.specs.Reads.{Draws};
 
+use crate::fields::{are_classes, field_len, is_item, is_name, mark_by, name_before, text_after};
 use db_diagram::Diagram;
 use db_grammar::{BAD_CLASS, BAD_ITEM, BAD_MARK, MOVE_COUNT, NO_DIAGRAM, UNKNOWN_HELPER};
-use crate::fields::{are_classes, field_len, is_item, is_name, mark_by, name_before, text_after};
 use db_lex::trim;
 use go_base::{Bytes, NoMemory};
 use pat_types::{Item, Items, Letter, Mark};

@@ -1,18 +1,12 @@
 -- What is kept of a main diagram decides what a further line does to it.
-use Rattle.std.proofs.Common.{◌≡◌, ℕ, suc, ◌+◌, ◌*◌, Bool, true, false, not, cond, List, [], ◌∷◌, ◌++◌, length, Option, Some, None, refl, sym, ap, ◌∙◌, arith}
-use Rattle.std.specs.Prelude.{◌&&◌, ◌||◌, ◌==◌, nat_lt, nat_le}
-use Rattle.std.specs.Prelude.{is_some}
-use Rattle.std.specs.List.{list_all, flat_map, filter_map, cons_option}
-use Rattle.std.proofs.lemmas.Bool.{lt-ltb, and_parts, not-false, eqb-true}
-use Rattle.std.proofs.lemmas.List.{length-append, append-nil}
-use Rattle.std.proofs.lemmas.List.Elements.{filter-append}
-use Rattle.std.proofs.lemmas.List.Concat.{flat_map-append}
-use Rattle.pat_types.specs.declared.letter.Letter.{Letter}
+use Rattle.std.proofs.Common.{◌≡◌, ℕ, ◌+◌, Bool, not, cond, List, [], ◌∷◌, ◌++◌, length, Option, Some, None, refl, sym, ap, ◌∙◌, arith}
+use Rattle.std.specs.Prelude.{◌&&◌, ◌||◌, nat_lt, nat_le}
+use Rattle.std.proofs.lemmas.List.{length-append}
 use Rattle.pat_types.specs.Diagrams.{drawn_line}
 use Rattle.db_diagram.specs.declared.diagram.Diagram.{Diagram}
 use Rattle.db_grammar.specs.declared.shape.Shape.{Shape}
 use Rattle.db_grammar.specs.Kinds.{first_of, bad_letter, edge_place, ragged, too_large}
-use Rattle.db_grammar.specs.Diagram.{is_edge_line, is_row, rows_of, has_top, has_bottom, wanted, line_shape, other_sides, other_width, is_misplaced, diagram_fault, letters_of, letters_of_row, letter_of, is_letter, ends_in_edge, wanted_of, shape_of, inner, bar}
+use Rattle.db_grammar.specs.Diagram.{is_edge_line, is_row, rows_of, has_top, has_bottom, wanted, line_shape, other_sides, other_width, is_misplaced, diagram_fault, letters_of_row}
 use Rattle.db_grammar.proofs.OneMoreLine.{none_of_four, length-rows_of-push, has_top-push, ends_in_edge-push, wanted-push, letters_of-push, whole-push}
 use Rattle.db_diagram.specs.Reads.{Draws, kept_fault}
 

@@ -1,9 +1,8 @@
 -- What the parts of a reader have read of the lines of a block.
-use Rattle.std.specs.Prelude.{◌≡◌, ◌≤◌, take, ◌*◌, ◌&&◌, ◌||◌, not, nat_lt, nat_le, ℕ, List, [], ◌∷◌, length, Option, Some, None}
+use Rattle.std.specs.Prelude.{◌≡◌, ◌≤◌, take, ◌*◌, ◌&&◌, ◌||◌, not, nat_lt, nat_le, ℕ, List, [], ◌∷◌, length, Option}
 use Rattle.db_diagram.specs.declared.diagram.Diagram.{Diagram}
 use Rattle.db_diagram.specs.declared.marks.Marks.{Marks}
 use Rattle.db_grammar.specs.Labels.{labels_of}
-use Rattle.db_grammar.specs.declared.shape.Shape.{Shape}
 use Rattle.db_grammar.specs.Kinds.{first_of, bad_letter, edge_place, ragged, too_large}
 use Rattle.db_grammar.specs.Diagram.{is_edge_line, is_row, line_shape, other_sides, other_width, rows_of, has_top, has_bottom, wanted, letters_of, width_of}
 

@@ -9,10 +9,9 @@ ghost use Rattle.db_grammar.specs.Labels.{is_label as label, repeats as word_rep
 ghost use Rattle.db_grammar.specs.Faults.{Blames};
 ghost use Rattle.db_diagram.specs.Reads.{IsMarked};
 
-use db_grammar::{CONSTRAINT_SHAPE, LineError};
-use crate::words::is_ascii_letter;
 use crate::marks::Marks;
-use crate::words::{is_row, letter};
+use crate::words::{is_ascii_letter, is_row, letter};
+use db_grammar::{CONSTRAINT_SHAPE, LineError};
 use pat_types::{LabelAt, Labels, NoMemory};
 
 fn is_label(b: u8) -> bool

@@ -9,9 +9,8 @@ ghost use Rattle.db_grammar.specs.Faults.{Blames};
 ghost use Rattle.db_diagram.specs.Reads.{Draws, kept_fault};
 
 use crate::diagram::Diagram;
-use db_grammar::Shape;
-use db_grammar::{BAD_LETTER, EDGE_PLACE, LineError, RAGGED, TOO_LARGE};
 use crate::words::{is_edge_line, is_row, letter, parts};
+use db_grammar::{BAD_LETTER, EDGE_PLACE, LineError, RAGGED, Shape, TOO_LARGE};
 use pat_types::{Letters, NoMemory};
 
 fn differs(a: Option<Shape>, s: Shape) -> bool

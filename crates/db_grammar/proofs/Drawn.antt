@@ -11,9 +11,9 @@ use Rattle.go_rules.specs.Board.{largest_size}
 use Rattle.pat_types.specs.Diagrams.{drawn_line}
 use Rattle.db_grammar.specs.declared.shape.Shape.{Shape}
 use Rattle.db_grammar.specs.Kinds.{bad_letter, edge_place, ragged, too_large}
-use Rattle.db_grammar.specs.Diagram.{is_letter, is_dash, plus, bar, begins, without_left, ends, inner, is_edge_line, is_row, shape_of, rows_of, has_row, has_top, has_bottom, ends_in_edge, wanted, wanted_of, line_shape, other_sides, other_width, is_misplaced, diagram_fault, letters_of, width_of}
+use Rattle.db_grammar.specs.Diagram.{is_letter, is_dash, plus, bar, begins, without_left, ends, inner, is_edge_line, is_row, shape_of, rows_of, has_row, has_top, has_bottom, wanted, wanted_of, line_shape, other_sides, other_width, is_misplaced, diagram_fault, letters_of, width_of}
 use Rattle.db_grammar.specs.Accepted.{IsDrawn, no_line, one_line_more}
-use Rattle.db_grammar.proofs.OneMoreLine.{none_of_four, length-rows_of-push, has_top-push, ends_in_edge-push, wanted-push, whole-push, shape_of-width}
+use Rattle.db_grammar.proofs.OneMoreLine.{none_of_four, length-rows_of-push, has_top-push, ends_in_edge-push, wanted-push, whole-push}
 
 -- the first byte of a front that has a byte, all of which pass, passes
 front_passes : (P : ℕ → Bool) (k b : ℕ) (bs : List ℕ) → nat_lt 0 (length (take k (b ∷ bs))) ≡ true → list_all P (take k (b ∷ bs)) ≡ true → P b ≡ true
@@ -26,8 +26,8 @@ first_passes P m b bs both apart =
     let parts = and_parts (nat_lt 0 (length (inner m (b ∷ bs)))) (list_all P (inner m (b ∷ bs))) both in
     let left : without_left m (b ∷ bs) ≡ b ∷ bs = rw apart refl in
     front_passes P (length (without_left m (b ∷ bs)) - drawn_line (ends m (b ∷ bs))) b bs
-        (subst (λ w. nat_lt 0 (length (take (length (without_left m (b ∷ bs)) - drawn_line (ends m (b ∷ bs))) w)) ≡ true) left parts.0)
-        (subst (λ w. list_all P (take (length (without_left m (b ∷ bs)) - drawn_line (ends m (b ∷ bs))) w) ≡ true) left parts.1)
+    (subst (λ w. nat_lt 0 (length (take (length (without_left m (b ∷ bs)) - drawn_line (ends m (b ∷ bs))) w)) ≡ true) left parts.0)
+    (subst (λ w. list_all P (take (length (without_left m (b ∷ bs)) - drawn_line (ends m (b ∷ bs))) w) ≡ true) left parts.1)
 
 -- a byte that a row may begin with is none that an edge line may begin with
 begins_one : (b : ℕ) (barred crossed : Bool) → (b == bar) ≡ barred → (b == plus) ≡ crossed → (barred ≡ false → is_letter b ≡ true) → (crossed ≡ false → is_dash b ≡ true) → ⊥
@@ -159,7 +159,7 @@ drawn_lines _ (one_line_more words word drawn none) =
     let before : length (rows_of words) + drawn_line (has_top words) ≤ length words = omega (arith, drawn_lines words drawn) in
     let rows = length-rows_of-push words word in
     let all = one_more (length (rows_of words)) (length words) (is_row word) (is_edge_line word) (has_top words) (nat_lt 0 (length words)) (nat_lt 0 (length (rows_of words) + drawn_line (is_row word)))
-        fine.line (row_is_no_edge_line word) (λ e. omega (arith, ltb-false _ _ e)) (ltb-true 0 _) before in
+    fine.line (row_is_no_edge_line word) (λ e. omega (arith, ltb-false _ _ e)) (ltb-true 0 _) before in
     rw (rows, has_top-push words word, ends_in_edge-push words word, length-append words (word ∷ [])) all
 
 -- its letters are as many as its rows times its width
@@ -227,16 +227,16 @@ pub drawn_even : (words : List (List ℕ)) → IsDrawn words → (k : ℕ) → k
 drawn_even _ no_line k lt row = absurd (omega arith)
 drawn_even _ (one_line_more words word drawn none) k lt row = elim (cases_lt k (length words)) [
   | inl before ↦
-    let there = get_or-append words (word ∷ []) [] k before in
-    let was = drawn_even words drawn k before (subst (λ w. is_row w ≡ true) there row) in
-    ap (λ w. (shape_of bar w).width) there ∙ was ∙ sym (width_stays words word (omega arith) (fine_line words word none))
+      let there = get_or-append words (word ∷ []) [] k before in
+      let was = drawn_even words drawn k before (subst (λ w. is_row w ≡ true) there row) in
+      ap (λ w. (shape_of bar w).width) there ∙ was ∙ sym (width_stays words word (omega arith) (fine_line words word none))
   | inr last ↦
-    let is_last : k ≡ length words = omega (arith, length-append words (word ∷ [])) in
-    let there : get_or (words ++ word ∷ []) k [] ≡ word = ap (λ n. get_or (words ++ word ∷ []) n []) is_last ∙ get_or-append_seam words word [] [] in
-    ap (λ w. (shape_of bar w).width) there
-    ∙ ap (λ (s : Shape). s.width) (line_shape-row word (subst (λ w. is_row w ≡ true) there row))
-    ∙ width_now (is_kept words word) (line_shape word) (wanted words) (kept_there words word) (fine_line words word none).even
-    ∙ ap width_of (sym (wanted-push words word))
+      let is_last : k ≡ length words = omega (arith, length-append words (word ∷ [])) in
+      let there : get_or (words ++ word ∷ []) k [] ≡ word = ap (λ n. get_or (words ++ word ∷ []) n []) is_last ∙ get_or-append_seam words word [] [] in
+      ap (λ w. (shape_of bar w).width) there
+      ∙ ap (λ (s : Shape). s.width) (line_shape-row word (subst (λ w. is_row w ≡ true) there row))
+      ∙ width_now (is_kept words word) (line_shape word) (wanted words) (kept_there words word) (fine_line words word none).even
+      ∙ ap width_of (sym (wanted-push words word))
 ]
 
 -- each line of the diagram is an edge line or a row
@@ -245,8 +245,8 @@ drawn_line_kinds _ no_line k lt = absurd (omega arith)
 drawn_line_kinds _ (one_line_more words word drawn none) k lt = elim (cases_lt k (length words)) [
   | inl before ↦ ap (λ w. is_edge_line w || is_row w) (get_or-append words (word ∷ []) [] k before) ∙ drawn_line_kinds words drawn k before
   | inr last ↦
-    let is_last : k ≡ length words = omega (arith, length-append words (word ∷ [])) in
-    ap (λ n. is_edge_line (get_or (words ++ word ∷ []) n []) || is_row (get_or (words ++ word ∷ []) n [])) is_last
-    ∙ ap (λ w. is_edge_line w || is_row w) (get_or-append_seam words word [] [])
-    ∙ (fine_line words word none).line
+      let is_last : k ≡ length words = omega (arith, length-append words (word ∷ [])) in
+      ap (λ n. is_edge_line (get_or (words ++ word ∷ []) n []) || is_row (get_or (words ++ word ∷ []) n [])) is_last
+      ∙ ap (λ w. is_edge_line w || is_row w) (get_or-append_seam words word [] [])
+      ∙ (fine_line words word none).line
 ]

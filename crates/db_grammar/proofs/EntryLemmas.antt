@@ -1,9 +1,9 @@
 -- The diagram of an entry without a fault is one that a pattern may have.
-use Rattle.std.proofs.Common.{◌≡◌, ℕ, zero, suc, false, ◌+◌, ◌*◌, ◌/◌, ◌%◌, ◌<◌, ◌≤◌, List, length, Option, Some, None, refl, sym, ap, subst, ◌∙◌, arith}
+use Rattle.std.proofs.Common.{◌≡◌, ℕ, zero, suc, false, ◌+◌, ◌*◌, ◌/◌, ◌%◌, ◌<◌, List, length, Option, Some, None, refl, sym, ap, subst, ◌∙◌, arith}
 use Rattle.std.specs.Prelude.{◌==◌, IfSome, unwrap_or}
 use Rattle.std.specs.List.{position_or_len}
 use Rattle.std.proofs.Math.Nat.{div-lt_iff_lt-mul, mod-lt, mod-add-div'}
-use Rattle.pat_types.specs.Diagrams.{IsDiagram, drawn_line, is_star}
+use Rattle.pat_types.specs.Diagrams.{IsDiagram, is_star}
 use Rattle.db_grammar.specs.declared.shape.Shape.{Shape}
 use Rattle.db_grammar.specs.Diagram.{rows_of, has_top, has_bottom, wanted, letters_of, star_count, width_of}
 use Rattle.db_grammar.specs.Entries.{shape_in, star_place}

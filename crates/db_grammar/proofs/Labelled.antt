@@ -1,5 +1,5 @@
 -- The labels of a constraint diagram without a fault lie in the diagram and have different letters.
-use Rattle.std.proofs.Common.{◌≡◌, ℕ, zero, suc, ◌+◌, ◌-◌, ◌<◌, ◌≤◌, ◌⊎◌, inl, inr, Bool, true, false, not, cond, List, [], ◌∷◌, ◌++◌, length, take, drop, get_or, Option, Some, None, refl, sym, ap, subst, ◌∙◌, arith}
+use Rattle.std.proofs.Common.{◌≡◌, ℕ, zero, suc, ◌+◌, ◌-◌, ◌<◌, ◌≤◌, ◌⊎◌, inl, inr, Bool, true, false, cond, List, [], ◌∷◌, ◌++◌, length, take, drop, get_or, None, refl, sym, ap, subst, ◌∙◌, arith}
 use Rattle.std.specs.Prelude.{◌&&◌, ◌||◌, ◌==◌, nat_lt, slice_get, slice_index}
 use Rattle.std.specs.List.{list_all}
 use Rattle.std.proofs.Math.ListN.{get_or-append}
@@ -8,11 +8,10 @@ use Rattle.std.proofs.lemmas.Bool.{and_parts, lt-ltb, eqb-true, cases_lt}
 use Rattle.std.proofs.lemmas.List.{length-append, length-take, get_or-take}
 use Rattle.std.proofs.lemmas.List.Folds.{list_all-append}
 use Rattle.std.proofs.lemmas.Option.{slice_get-get_or, slice_get_past}
-use Rattle.pat_types.specs.declared.pattern.LabelAt.{LabelAt}
 use Rattle.pat_types.specs.Diagrams.{drawn_line}
 use Rattle.pat_types.specs.Kept.{is_in, are_apart, are_labels}
 use Rattle.db_grammar.specs.Kinds.{constraint_shape, first_of}
-use Rattle.db_grammar.specs.Diagram.{is_letter, is_dash, plus, bar, begins, ends, without_left, inner, is_edge_line, is_row, shape_of, rows_of, wanted, width_of}
+use Rattle.db_grammar.specs.Diagram.{is_letter, is_dash, plus, bar, ends, without_left, inner, is_edge_line, is_row, shape_of, rows_of, wanted, width_of}
 use Rattle.db_grammar.specs.Labels.{is_label, repeats, labels_from, labels_of_line, labels_under, labels_of, repeats_main, constraint_fault}
 use Rattle.db_grammar.specs.Accepted.{IsDrawn, IsLabelled, no_line, one_line_more}
 use Rattle.db_grammar.proofs.OneMoreLine.{shape_of-width}
@@ -32,11 +31,11 @@ byte_of_rest P m rest false k end all lt =
     inl (within, ap P (sym (get_or-take (length rest - 0) rest k 0 (omega (arith, lt)))) ∙ each_passes P (take (length rest - 0) rest) k within all)
 byte_of_rest P m rest true k end all lt = elim (cases_lt k (length rest - 1)) [
   | inl before ↦
-    let within : k < length (take (length rest - 1) rest) = rw (length-take (length rest - 1) rest) (omega (arith, lt, before)) in
-    inl (within, ap P (sym (get_or-take (length rest - 1) rest k 0 before)) ∙ each_passes P (take (length rest - 1) rest) k within all)
+      let within : k < length (take (length rest - 1) rest) = rw (length-take (length rest - 1) rest) (omega (arith, lt, before)) in
+      inl (within, ap P (sym (get_or-take (length rest - 1) rest k 0 before)) ∙ each_passes P (take (length rest - 1) rest) k within all)
   | inr last ↦
-    let is_last : k ≡ length rest - 1 = omega (arith, lt, last) in
-    inr (ap (λ n. get_or rest n 0) is_last ∙ eqb-true _ m end)
+      let is_last : k ≡ length rest - 1 = omega (arith, lt, last) in
+      inr (ap (λ n. get_or rest n 0) is_last ∙ eqb-true _ m end)
 ]
 
 -- a byte of a word without its left edge is one of its inner part, or it is the edge's byte at the end
@@ -144,6 +143,7 @@ labels_of_line_in row total cols (m ∷ ms) (w ∷ ws) same fine above = by_edge
         let lt_there : k < length (without_left bar (m ∷ ms)) = subst (λ (r : List ℕ). k < length r) (sym is) lt in
         let letter_there : is_letter (get_or (without_left bar (m ∷ ms)) k 0) ≡ true = subst (λ (r : List ℕ). is_letter (get_or r k 0) ≡ true) (sym is) letter in
         (above (fine.of_row k lt_there letter_there), let column : k < cols = fine.in_columns k lt_there letter_there in omega (arith, column))
+
     by_edge : (c : Bool) → (m == bar) ≡ c → list_all (is_in total cols) (cond c (labels_from row 0 ms ws) (labels_from row 0 (m ∷ ms) (w ∷ ws))) ≡ true
     by_edge true is = labels_from_in row 0 total cols ms ws (and_parts (w == m || is_label w && is_letter m) (repeats ms ws) same).1 (within ms (ap (λ x. drop (drawn_line x) (m ∷ ms)) is))
     by_edge false is = labels_from_in row 0 total cols (m ∷ ms) (w ∷ ws) same (within (m ∷ ms) (ap (λ x. drop (drawn_line x) (m ∷ ms)) is))
@@ -169,9 +169,9 @@ labels_under_in row total cols (main ∷ mains) [] same fine few = refl
 labels_under_in row total cols (main ∷ mains) (word ∷ words) same fine few =
     let first = labels_of_line_in row total cols main word (same 0 (omega arith)).1 (fine 0 (omega arith)) (λ is. let one : drawn_line (is_row main) ≡ 1 = ap drawn_line is in omega (arith, one, few, length-rows_of-cons main mains)) in
     let rest = labels_under_in (row + drawn_line (is_row main)) total cols mains words
-        (λ k lt. let there = same (suc k) (omega (arith, lt)) in (omega (arith, there.0), there.1))
-        (λ k lt. fine (suc k) (omega (arith, lt)))
-        (omega (arith, few, length-rows_of-cons main mains)) in
+    (λ k lt. let there = same (suc k) (omega (arith, lt)) in (omega (arith, there.0), there.1))
+    (λ k lt. fine (suc k) (omega (arith, lt)))
+    (omega (arith, few, length-rows_of-cons main mains)) in
     list_all-append (is_in total cols) (labels_of_line row main word) (labels_under (row + drawn_line (is_row main)) mains words) ∙ rw (first, rest) refl
 
 -- the only fault of a list does not fit
@@ -202,12 +202,12 @@ labelled_repeat diagram _ (one_line_more words word labelled none) k lt =
     let fine = fine_label_line diagram words word none in
     elim (cases_lt k (length words)) [
       | inl before ↦
-        let was = labelled_repeat diagram words labelled k before in
-        (was.0, ap (repeats (get_or diagram k [])) (get_or-append words (word ∷ []) [] k before) ∙ was.1)
+          let was = labelled_repeat diagram words labelled k before in
+          (was.0, ap (repeats (get_or diagram k [])) (get_or-append words (word ∷ []) [] k before) ∙ was.1)
       | inr last ↦
-        let is_last : k ≡ length words = omega (arith, lt, last, length-append words (word ∷ [])) in
-        let there : get_or (words ++ word ∷ []) k [] ≡ word = ap (λ n. get_or (words ++ word ∷ []) n []) is_last ∙ get_or-append_seam words word [] [] in
-        (omega (arith, is_last, fine.within), ap (repeats (get_or diagram k [])) there ∙ ap (λ n. repeats (get_or diagram n []) word) is_last ∙ fine.same)
+          let is_last : k ≡ length words = omega (arith, lt, last, length-append words (word ∷ [])) in
+          let there : get_or (words ++ word ∷ []) k [] ≡ word = ap (λ n. get_or (words ++ word ∷ []) n []) is_last ∙ get_or-append_seam words word [] [] in
+          (omega (arith, is_last, fine.within), ap (repeats (get_or diagram k [])) there ∙ ap (λ n. repeats (get_or diagram n []) word) is_last ∙ fine.same)
     ]
 
 -- the labels of a constraint diagram without a fault have different letters

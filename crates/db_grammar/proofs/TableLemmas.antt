@@ -1,5 +1,5 @@
 -- What the table of stages says, read backwards, and what is found at a line.
-use Rattle.std.proofs.Common.{◌≡◌, ℕ, Bool, true, false, cond, List, Option, Some, None, refl, sym, ap, subst, ◌∙◌}
+use Rattle.std.proofs.Common.{◌≡◌, ℕ, Bool, true, false, cond, List, Some, None, refl, sym, ap, ◌∙◌}
 use Rattle.db_lex.specs.declared.line.LineKind.{LineKind}
 use Rattle.db_lex.specs.declared.line.LineKind.TheVariants.{Pattern, Other}
 use Rattle.db_lex.specs.Lines.{KeptLine, kind_of}
@@ -9,8 +9,8 @@ use Rattle.db_grammar.specs.declared.stage.Stage.{Stage}
 use Rattle.db_grammar.specs.declared.stage.Stage.TheVariants.{Start, Diagram, Labels, Expression, Actions}
 use Rattle.db_grammar.specs.Kinds.{stray_line}
 use Rattle.db_grammar.specs.Colon.{is_ascii_letter}
-use Rattle.db_grammar.specs.Blocks.{SoFar, table, cell_for, after_line, with_cell, placed}
-use Rattle.db_grammar.specs.Faults.{at_line, own_fault, table_fault, closing_fault, found}
+use Rattle.db_grammar.specs.Blocks.{SoFar, table, cell_for}
+use Rattle.db_grammar.specs.Faults.{at_line, table_fault, closing_fault, found}
 
 -- a Pattern line that is taken leads to the main diagram
 pub pattern_next : (stage next : Stage) (b : ℕ) → table stage Pattern b ≡ Next next → next ≡ Diagram
@@ -55,4 +55,3 @@ unfolding found
 found_table helpers s k kind fine kind_is closing =
     let here : closing_fault k.number (Some (kind_of k.bytes)) s ≡ None = ap (λ t. closing_fault k.number (Some t) s) (sym kind_is) ∙ closing in
     rw (fine, here) refl
-

@@ -1,5 +1,5 @@
 -- The pattern that a complete draft makes is one.
-use Rattle.std.proofs.Common.{◌≡◌, ℕ, ◌/◌, ◌%◌, false, Option, Some, None, refl, sym, ap, subst, ◌∙◌}
+use Rattle.std.proofs.Common.{◌≡◌, ℕ, ◌/◌, ◌%◌, false, Option, Some, None, refl, sym, ◌∙◌}
 use Rattle.std.specs.Prelude.{unwrap_or, true}
 use Rattle.std.specs.List.{position_or_len}
 use Rattle.pat_types.specs.Diagrams.{IsDiagram, is_star}
@@ -52,6 +52,7 @@ complete_at_pattern_line r first taking on = by_now taking.so_far.now taking.sho
   where
     begun : taking.so_far.stage ≡ Start → ⊥
     begun at_start = on (taking.shows.stage ∙ at_start)
+
     by_now : (now : Option Block) → ReadsNow r.draft taking.so_far.stage now → IsComplete r.draft
     by_now None reads = absurd (begun reads)
     by_now (Some b) reads = record { block = b; drafts = reads.0; one_star = one_star_at taking.so_far.stage first b taking.next begun reads.1 }

@@ -10,7 +10,7 @@ use Rattle.db_read.specs.declared.reader.Reader.{Reader}
 use Rattle.db_grammar.specs.declared.stage.Stage.{Stage}
 use Rattle.db_grammar.specs.declared.stage.Stage.TheVariants.{Start, Diagram, Labels, Expression, Actions}
 use Rattle.db_grammar.specs.Diagram.{diagram_fault, letters_of, star_count}
-use Rattle.std.specs.Prelude.{Bool, true, false, not, ◌==◌}
+use Rattle.std.specs.Prelude.{Bool, true, false, ◌==◌}
 use Rattle.std.proofs.lemmas.Bool.{eqb-true, not-false}
 use Rattle.db_grammar.specs.Kinds.{first_of, no_diagram, move_count, bad_mark, bad_class, bad_item, unknown_helper}
 use Rattle.db_grammar.specs.Colon.{colon_fault, fields_fault}

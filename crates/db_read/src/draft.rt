@@ -2,8 +2,7 @@
 
 ghost use Rattle.std.specs.Prelude.{◌≡◌, ◌≤◌, ◌<◌, ℕ, [], length, get_or, map, vec_len};
 
-use db_diagram::Diagram;
-use db_diagram::Marks;
+use db_diagram::{Diagram, Marks};
 use pat_types::{Bytes, Items, Mark};
 
 /// An entry so far.

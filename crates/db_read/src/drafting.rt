@@ -10,14 +10,13 @@ ghost use Rattle.db_read.specs.Drafts.{Drafts};
 ghost use Rattle.db_grammar.specs.Faults.{Blames};
 ghost use Rattle.db_diagram.specs.Reads.{Draws, IsMarked};
 
+use crate::draft::Draft;
+use crate::names::name_of;
 use db_colon::{
     bytes_of, class_field, class_letters, fields_fault, fields_of, further, items_of, mark_of,
 };
-use db_diagram::Diagram;
-use crate::draft::Draft;
+use db_diagram::{Diagram, Marks};
 use db_grammar::LineError;
-use db_diagram::Marks;
-use crate::names::name_of;
 use pat_types::{Bytes, Items, Labels, Letters, Mark, NoMemory};
 use std::alloc::Global;
 

@@ -9,13 +9,13 @@ ghost use Rattle.db_read.specs.Reading.{error_at, gathered as fault_gathered};
 ghost use Rattle.db_grammar.specs.Entries.{entry_of, entry_of_block};
 ghost use Rattle.db_read.specs.Drafts.{Drafts, IsComplete};
 
-use db_diagram::{Diagram, Marks, is_ascii_letter};
 use crate::draft::Draft;
-use db_grammar::{
-    CONSTRAINT_SHAPE, EXPR_FAULT, Fault, LineError, NO_COLON_LINE, STRAY_LINE,
-};
-use db_grammar::{Shape, Stage, TableCell};
 use crate::error::DbError;
+use db_diagram::{Diagram, Marks, is_ascii_letter};
+use db_grammar::{
+    CONSTRAINT_SHAPE, EXPR_FAULT, Fault, LineError, NO_COLON_LINE, STRAY_LINE, Shape, Stage,
+    TableCell,
+};
 use db_lex::LineKind;
 use pat_types::{Letter, Pattern};
 

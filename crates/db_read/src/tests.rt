@@ -40,9 +40,21 @@ fn first_fault_of_each_kind(rt: HostRuntime) -> Result<(), Fail> {
     let rows: [(&str, &[u8], (u64, u8)); 24] = [
         ("no text at all is a database", b"", (0, 0)),
         ("a comment alone is a database", b"# nothing", (0, 0)),
-        ("an option before the first pattern is passed over", b"goal_elements x\n", (0, 0)),
-        ("the smallest pattern, without a last line feed", b"Pattern P\nO*\n:8,s", (0, 0)),
-        ("carriage returns are blanks", b"Pattern P\r\nO*\r\n:8,s\r\n", (0, 0)),
+        (
+            "an option before the first pattern is passed over",
+            b"goal_elements x\n",
+            (0, 0),
+        ),
+        (
+            "the smallest pattern, without a last line feed",
+            b"Pattern P\nO*\n:8,s",
+            (0, 0),
+        ),
+        (
+            "carriage returns are blanks",
+            b"Pattern P\r\nO*\r\n:8,s\r\n",
+            (0, 0),
+        ),
         ("a bad byte in a comment", b"#\x07", (1, 1)),
         ("a colon line before a pattern", b":8", (1, 2)),
         ("a byte above 127 before a pattern", b"\xff", (1, 2)),
@@ -52,16 +64,44 @@ fn first_fault_of_each_kind(rt: HostRuntime) -> Result<(), Fail> {
         ("a letter that is none", b"Pattern A\nO!*", (2, 6)),
         ("no star", b"Pattern A\nOX\n:8,s", (3, 7)),
         ("two stars", b"Pattern A\n**\n:8,s", (3, 7)),
-        ("an edge that a later row lacks", b"Pattern A\n|O*\nO*", (3, 8)),
-        ("a row of twenty letters", b"Pattern A\n....................", (2, 9)),
+        (
+            "an edge that a later row lacks",
+            b"Pattern A\n|O*\nO*",
+            (3, 8),
+        ),
+        (
+            "a row of twenty letters",
+            b"Pattern A\n....................",
+            (2, 9),
+        ),
         ("no colon line at the end", b"Pattern A\nO*", (3, 10)),
         ("a mark that is none", b"Pattern A\nO*\n:7", (3, 11)),
-        ("a class letter that is a digit", b"Pattern A\nO*\n:8,s1", (3, 12)),
-        ("a text that is not closed", b"Pattern A\nO*\n:8,s,value(", (3, 13)),
+        (
+            "a class letter that is a digit",
+            b"Pattern A\nO*\n:8,s1",
+            (3, 12),
+        ),
+        (
+            "a text that is not closed",
+            b"Pattern A\nO*\n:8,s,value(",
+            (3, 13),
+        ),
         ("a label that repeats", b"Pattern A\nO*\n:8,s\nAA", (4, 14)),
-        ("a constraint diagram that ends too early", b"Pattern A\nO*\n..\n:8,s\nA*", (6, 14)),
-        ("an unknown helper", b"Pattern P\nO*\n:8,s,far_away", (3, 17)),
-        ("an expression, which is told at its first line", REALISTIC, (17, 15)),
+        (
+            "a constraint diagram that ends too early",
+            b"Pattern A\nO*\n..\n:8,s\nA*",
+            (6, 14),
+        ),
+        (
+            "an unknown helper",
+            b"Pattern P\nO*\n:8,s,far_away",
+            (3, 17),
+        ),
+        (
+            "an expression, which is told at its first line",
+            REALISTIC,
+            (17, 15),
+        ),
     ];
     for (what, text, want) in rows {
         assert_eq!(rt; fault_of(&rt, text), want, "{what}");
@@ -83,12 +123,18 @@ fn entries_beyond_4096_are_refused(rt: HostRuntime) -> Result<(), Fail> {
 
 /// What a pattern of one line has: its size, its star, how many labels and further fields.
 fn shape_of(p: &Pattern) -> ((u8, u8), (u8, u8), usize, usize) {
-    ((p.rows, p.cols), p.star, p.labels.as_slice().len(), p.items.as_slice().len())
+    (
+        (p.rows, p.cols),
+        p.star,
+        p.labels.as_slice().len(),
+        p.items.as_slice().len(),
+    )
 }
 
 #[test]
 fn a_pattern_is_read_as_it_is_written(rt: HostRuntime) -> Result<(), Fail> {
-    let text = b"Pattern Edge1 a comment\n+--\n|O*  side\n|..\n:-,Ds-,NULL,value(3, 4)\n+--\n|OA\n|B.\n> action";
+    let text =
+        b"Pattern Edge1 a comment\n+--\n|O*  side\n|..\n:-,Ds-,NULL,value(3, 4)\n+--\n|OA\n|B.\n> action";
     let read = read(rt.alloc(), text, &[], Vec::new(rt.alloc()));
     let patterns = match read {
         Ok(patterns) => patterns,
@@ -96,9 +142,25 @@ fn a_pattern_is_read_as_it_is_written(rt: HostRuntime) -> Result<(), Fail> {
     };
     assert_eq!(rt; patterns.len(), 1, "one pattern");
     let p = &patterns[0];
-    assert_eq!(rt; p.name.as_slice(), b"Edge1".as_slice(), "the first word of the rest is the name");
-    assert_eq!(rt; shape_of(p), ((2, 2), (0, 1), 2, 2), "size, star, labels and fields");
-    assert_eq!(rt; p.classes.as_slice(), b"Ds".as_slice(), "a dash is no class letter");
-    assert_eq!(rt; (p.top, p.bottom, p.left, p.right), (true, false, true, false), "edges");
+    assert_eq!(rt;
+        p.name.as_slice(),
+        b"Edge1".as_slice(),
+        "the first word of the rest is the name"
+    );
+    assert_eq!(rt;
+        shape_of(p),
+        ((2, 2), (0, 1), 2, 2),
+        "size, star, labels and fields"
+    );
+    assert_eq!(rt;
+        p.classes.as_slice(),
+        b"Ds".as_slice(),
+        "a dash is no class letter"
+    );
+    assert_eq!(rt;
+        (p.top, p.bottom, p.left, p.right),
+        (true, false, true, false),
+        "edges"
+    );
     Ok(())
 }

@@ -65,6 +65,7 @@ size-moved_to pos m None next is e = sym (ap (λ (r : Result BoardState Illegal)
     pass_is pos m is = rw is refl
 size-moved_to pos m (Some p) next is e = ap (λ (b : BoardState). b.size) (sym (played_from pos m.colour p next (rw is at e)).result)
 
+-- a move keeps the size of the board
 pub size-moved : (pos : BoardState) (m : Move) (next : BoardState) → moved pos m ≡ Ok next → next.size ≡ pos.size
 size-moved pos m next e = size-moved_to pos m m.at next refl e
 
@@ -87,6 +88,7 @@ taken_by-bound pos c (Some p) small =
     let few = count_below_at_most (pos.size * pos.size) (is_taken pos.size (set pos.cells p (stone_of c)) c) in
     omega (arith, board, few)
 
+-- and so for the stones that it takes for a colour
 pub stones_taken-bound : (pos : BoardState) (c : Colour) (m : Move) → pos.size ≤ largest_size → stones_taken pos c m ≤ largest_points
 stones_taken-bound pos c m small =
     elim (cases_Bool (same_colour m.colour c)) [

@@ -21,10 +21,13 @@ const USUAL_MOVES: usize = 512;
 /// Why a move is not added.
 #[derive(Clone, Copy, Debug, PartialEq, Eq, Error)]
 pub enum HistoryError {
+    /// The rules forbid the move, for this reason.
     #[error("illegal move")]
     Illegal(Illegal),
+    /// The move is legal, and the list has as many moves as it may have.
     #[error("history full")]
     Full,
+    /// There was no memory for the move.
     #[error("out of memory")]
     NoMemory,
 }

@@ -1,10 +1,8 @@
 -- How the text of a komi grows in its room.
-use Rattle.std.proofs.Common.{◌≡◌, ℕ, ◌+◌, ◌-◌, ◌<◌, ◌≤◌, Bool, true, false, cond, List, [], ◌∷◌, ◌++◌, length, take, drop, get_or, refl, sym, ap, ◌∙◌, arith, length-append, take-append-drop, length-set, not, eqb}
+use Rattle.std.proofs.Common.{◌≡◌, ℕ, ◌+◌, ◌-◌, ◌<◌, true, List, ◌∷◌, length, take, drop, get_or, sym, ap, ◌∙◌, arith, length-append, length-set}
 use Rattle.std.proofs.Math.ListN.{set, replicate}
-use Rattle.std.specs.List.{filter}
 use Rattle.std.proofs.lemmas.List.{drop_more, drop-set-lt, drop-replicate}
-use Rattle.std.proofs.lemmas.List.Elements.{filter-append}
-use Rattle.gtp_cmd.specs.Words.{is_kept, kept, has_bytes}
+use Rattle.gtp_cmd.specs.Words.{is_kept, kept}
 use Rattle.gtp_cmd.specs.Komi.{komi_room}
 use Rattle.gtp_cmd.specs.KomiKept.{IsKept}
 use Rattle.gtp_cmd.specs.declared.komi.KomiText.TheInside.{Inside}

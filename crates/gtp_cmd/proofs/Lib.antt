@@ -1,3 +1,4 @@
 pub mod KomiLemmas
 pub mod NumberLemmas
+pub mod VertexLemmas
 pub mod WordLemmas

@@ -1,13 +1,13 @@
 -- What a word of digits writes when it is read from its front.
-use Rattle.std.proofs.Common.{◌≡◌, ℕ, suc, ◌+◌, ◌-◌, ◌*◌, ◌<◌, ◌≤◌, Bool, true, false, cond, ◌&&◌, List, [], ◌∷◌, ◌++◌, length, take, drop, get_or, min, unwrap_or, leb, Option, Some, None, IfSome, refl, sym, ap, subst, ◌∙◌, arith, take-append-drop, length-append}
-use Rattle.std.specs.List.{list_all, filter}
+use Rattle.std.proofs.Common.{◌≡◌, ℕ, ◌+◌, ◌-◌, ◌*◌, ◌<◌, ◌≤◌, Bool, true, false, cond, ◌&&◌, List, [], ◌∷◌, ◌++◌, length, take, drop, get_or, min, unwrap_or, leb, Option, Some, None, IfSome, refl, sym, ap, subst, ◌∙◌, arith, take-append-drop}
+use Rattle.std.specs.List.{list_all}
 use Rattle.std.specs.Char.{is_ascii_digit, digit_value}
 use Rattle.std.specs.Str.Parse.{digits_value, digits_value_after}
 use Rattle.std.proofs.lemmas.Bool.Decides.{nat_tests}
 use Rattle.std.proofs.lemmas.List.{drop_more}
 use Rattle.std.proofs.lemmas.List.Elements.{filter-append, filter_more}
 use Rattle.std.proofs.lemmas.List.Folds.{list_all-append}
-use Rattle.gtp_cmd.specs.Words.{is_kept, kept, has_bytes, is_number, number_of, id_of, up_to, most_id}
+use Rattle.gtp_cmd.specs.Words.{is_kept, kept, has_bytes, is_number, number_of, up_to, most_id}
 use Rattle.gtp_cmd.specs.RawWords.{large, capped}
 
 -- the number grows by its last digit
@@ -15,13 +15,16 @@ digits_value_after-push : (radix n : ℕ) (xs : List ℕ) (c : ℕ) → digits_v
 digits_value_after-push radix n [] c = refl
 digits_value_after-push radix n (x ∷ xs) c = digits_value_after-push radix (n * radix + digit_value x) xs c
 
+-- a digit stands for its distance from `0`
 digit_value-digit : (c : ℕ) → is_ascii_digit c ≡ true → digit_value c ≡ c - 48
 digit_value-digit c h = grind (arith, nat_tests)
 
+-- a text with a byte at its end has a byte
 has_bytes-push : (xs : List ℕ) (c : ℕ) → has_bytes (xs ++ c ∷ []) ≡ true
 has_bytes-push [] c = refl
 has_bytes-push (x ∷ xs) c = refl
 
+-- digits followed by a digit are digits
 digits-push : (xs : List ℕ) (c : ℕ) → list_all is_ascii_digit xs ≡ true → is_ascii_digit c ≡ true → list_all is_ascii_digit (xs ++ c ∷ []) ≡ true
 digits-push xs c all here = list_all-append is_ascii_digit xs (c ∷ []) ∙ ap (λ t. t && (is_ascii_digit c && true)) all ∙ ap (λ t. t && true) here
 
@@ -37,6 +40,7 @@ value_so_far : (xs : List ℕ) → list_all is_ascii_digit xs ≡ true → unwra
 value_so_far [] all = refl
 value_so_far (x ∷ xs) all = ap (λ t. unwrap_or (capped (cond t (Some (digits_value 10 (x ∷ xs))) None)) 0) all
 
+-- it does not matter whether a number is cut off before it grows
 cut_twice : (v d : ℕ) → min (10 * min v large + d) large ≡ min (v * 10 + d) large
 cut_twice v d = omega arith
 
@@ -52,11 +56,13 @@ kept-more : (word : List ℕ) (i : ℕ) → i < length word → is_kept (get_or 
 kept-more word i within here =
     filter_more is_kept word i 0 within ∙ ap (λ t. kept (take i word) ++ cond t (get_or word i 0 ∷ []) []) here
 
+-- a word whose bytes so far are digits goes on with one
 pub digits_more : (word : List ℕ) (i : ℕ) → i < length word → is_kept (get_or word i 0) ≡ true → is_ascii_digit (get_or word i 0) ≡ true
     → list_all is_ascii_digit (kept (take i word)) ≡ true → list_all is_ascii_digit (kept (take (i + 1) word)) ≡ true
 digits_more word i within here digit all =
     ap (list_all is_ascii_digit) (kept-more word i within here) ∙ digits-push (kept (take i word)) (get_or word i 0) all digit
 
+-- and what it writes goes on with that digit
 pub number_more : (word : List ℕ) (i : ℕ) (value : Option ℕ) → i < length word → is_kept (get_or word i 0) ≡ true → is_ascii_digit (get_or word i 0) ≡ true
     → list_all is_ascii_digit (kept (take i word)) ≡ true → value ≡ capped (number_of (kept (take i word)))
     → Some (min (10 * unwrap_or value 0 + (get_or word i 0 - 48)) large) ≡ capped (number_of (kept (take (i + 1) word)))
@@ -77,6 +83,7 @@ kept-cut word i within here =
     ∙ ap (λ l. kept (take i word) ++ kept l) (drop_more word i 0 within)
     ∙ ap (λ t. kept (take i word) ++ cond t (get_or word i 0 ∷ kept (drop (i + 1) word)) (kept (drop (i + 1) word))) here
 
+-- nothing and something false is false
 and_false : (a : Bool) → (a && false) ≡ false
 and_false true = refl
 and_false false = refl

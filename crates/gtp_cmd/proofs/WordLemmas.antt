@@ -1,11 +1,11 @@
 -- How the words of a text are found from its front.
-use Rattle.std.proofs.Common.{◌≡◌, ℕ, zero, suc, ◌+◌, ◌-◌, ◌<◌, ◌≤◌, Bool, true, false, cond, eqb, not, List, [], ◌∷◌, ◌++◌, length, take, drop, get_or, refl, sym, ap, subst, ◌∙◌, arith, inl, inr, ◌⊎◌, length-drop}
+use Rattle.std.proofs.Common.{◌≡◌, ℕ, suc, ◌-◌, ◌<◌, ◌≤◌, Bool, true, false, cond, eqb, not, List, [], ◌∷◌, length, take, drop, get_or, refl, sym, ap, ◌∙◌, arith, inl, inr, length-drop}
 use Rattle.std.specs.List.{slice_split, onto_first, filter, position_or_len}
-use Rattle.std.proofs.lemmas.List.{take_rest, drop_more, get_or-drop}
+use Rattle.std.proofs.lemmas.List.{take_rest, get_or-drop}
 use Rattle.std.proofs.lemmas.Bool.{cases_Bool, both_ways, or_right, or_parts}
 use Rattle.std.proofs.lemmas.List.Sums.{position_or_len_is}
 use Rattle.std.proofs.lemmas.Bool.Decides.{nat_tests}
-use Rattle.gtp_cmd.specs.Words.{is_kept, kept, plain, has_bytes, words_of, blank, tab, blank_for_tab}
+use Rattle.gtp_cmd.specs.Words.{is_kept, kept, plain, has_bytes, words_of, blank, blank_for_tab}
 use Rattle.gtp_cmd.specs.RawWords.{is_parting, is_skipped}
 
 -- the test for a blank at which a text is cut
@@ -51,9 +51,11 @@ words_of-skipped b bs h =
 abbrev front_len : List ℕ → ℕ
 front_len rest = position_or_len is_parting rest
 
+-- no byte stands before a first byte that parts words
 front_len-parting : (b : ℕ) (bs : List ℕ) → is_parting b ≡ true → front_len (b ∷ bs) ≡ 0
 front_len-parting b bs p = rw p refl
 
+-- another first byte is one of those before it
 front_len-other : (b : ℕ) (bs : List ℕ) → is_parting b ≡ false → front_len (b ∷ bs) ≡ suc (front_len bs)
 front_len-other b bs n = rw n (omega arith)
 
@@ -63,6 +65,7 @@ record Front (rest : List ℕ) : Type 0 where
   parts : parts_of rest ≡ kept (take (front_len rest) rest) ∷ tail
   words : filter has_bytes tail ≡ words_of (plain (drop (front_len rest) rest))
 
+-- the first part is empty where the first byte parts words
 front_parting : (b : ℕ) (bs : List ℕ) → is_parting b ≡ true → Front (b ∷ bs)
 front_parting b bs p = record {
   tail = parts_of bs;
@@ -76,11 +79,13 @@ kept_front b bs k n =
     ap (λ m. kept (take m (b ∷ bs))) (front_len-other b bs n)
     ∙ ap (λ t. cond t (b ∷ kept (take (front_len bs) bs)) (kept (take (front_len bs) bs))) k
 
+-- the front of a text whose first byte is dropped is that of what follows it
 dropped_front : (b : ℕ) (bs : List ℕ) → is_kept b ≡ false → is_parting b ≡ false → kept (take (front_len (b ∷ bs)) (b ∷ bs)) ≡ kept (take (front_len bs) bs)
 dropped_front b bs d n =
     ap (λ m. kept (take m (b ∷ bs))) (front_len-other b bs n)
     ∙ ap (λ t. cond t (b ∷ kept (take (front_len bs) bs)) (kept (take (front_len bs) bs))) d
 
+-- a first byte that is kept stands in the first part
 front_kept : (b : ℕ) (bs : List ℕ) → is_kept b ≡ true → is_parting b ≡ false → Front bs → Front (b ∷ bs)
 front_kept b bs k n f = record {
   tail = f.tail;
@@ -88,6 +93,7 @@ front_kept b bs k n f = record {
   words = f.words ∙ ap (λ m. words_of (plain (drop m (b ∷ bs)))) (sym (front_len-other b bs n));
 }
 
+-- a first byte that is dropped stands in no part
 front_dropped : (b : ℕ) (bs : List ℕ) → is_kept b ≡ false → is_parting b ≡ false → Front bs → Front (b ∷ bs)
 front_dropped b bs d n f = record {
   tail = f.tail;
@@ -95,6 +101,7 @@ front_dropped b bs d n f = record {
   words = f.words ∙ ap (λ m. words_of (plain (drop m (b ∷ bs)))) (sym (front_len-other b bs n));
 }
 
+-- each text has its first part
 front_of : (rest : List ℕ) → Front rest
 front_of [] = record { tail = []; parts = refl; words = refl }
 front_of (b ∷ bs) =

@@ -43,6 +43,11 @@ table =
     ∷ record { command = name.CountLib; word = codes "countlib" }
     ∷ record { command = name.FindLib; word = codes "findlib" }
     ∷ record { command = name.Captures; word = codes "captures" }
+    ∷ record { command = name.Attack; word = codes "attack" }
+    ∷ record { command = name.Defend; word = codes "defend" }
+    ∷ record { command = name.Depths; word = codes "depths" }
+    ∷ record { command = name.MatchPatterns; word = codes "match_patterns" }
+    ∷ record { command = name.ListPatterns; word = codes "list_patterns" }
     ∷ []
 
 -- the command that a word names
@@ -71,6 +76,23 @@ abbrev pub move_of : ℕ → List (List ℕ) → Option (Colour × Option ℕ)
 move_of s (colour ∷ target ∷ more) = option_and_then (λ c. option_map (λ at. (c, at)) (target_of s target)) (colour_of colour)
 move_of s _ = None
 
+-- the number that a word writes, where it lies between these two
+abbrev pub number_between : ℕ → ℕ → List ℕ → Option ℕ
+number_between low high word = option_and_then (λ n. if nat_le low n && nat_le n high then Some n else None) (number_of word)
+
+-- the greatest number of plies that a reading may have
+abbrev pub most_plies : ℕ
+most_plies = 200
+
+-- the greatest number of wide plies that a reading may have
+abbrev pub most_wide : ℕ
+most_wide = 12
+
+-- the plies and the wide plies of readings, where the first two words write both
+abbrev pub depths_of : List (List ℕ) → Option (ℕ × ℕ)
+depths_of (plies ∷ wide ∷ more) = option_and_then (λ n. option_map (λ k. (n, k)) (number_between 0 most_wide wide)) (number_between 1 most_plies plies)
+depths_of _ = None
+
 -- what a command is with these words after its name, on a board of size s; none where an argument is missing or malformed
 abbrev pub command_of : CommandName → ℕ → List (List ℕ) → Option Command
 command_of name.ProtocolVersion s words = Some command.ProtocolVersion
@@ -91,6 +113,11 @@ command_of name.AllLegal s words = option_map command.AllLegal (first_argument c
 command_of name.CountLib s words = option_map command.CountLib (first_argument (vertex_of s) words)
 command_of name.FindLib s words = option_map command.FindLib (first_argument (vertex_of s) words)
 command_of name.Captures s words = option_map command.Captures (first_argument colour_of words)
+command_of name.Attack s words = option_map command.Attack (first_argument (vertex_of s) words)
+command_of name.Defend s words = option_map command.Defend (first_argument (vertex_of s) words)
+command_of name.Depths s words = option_map (λ d. command.Depths d.0 d.1) (depths_of words)
+command_of name.MatchPatterns s words = option_map command.MatchPatterns (first_argument colour_of words)
+command_of name.ListPatterns s words = Some command.ListPatterns
 
 -- a command, or a refusal where its arguments are missing or malformed
 abbrev pub asked : Option ℕ → Option Command → Parsed

@@ -3,13 +3,15 @@ use Rattle.std.specs.Prelude.{ℕ, ◌==◌, ◌&&◌, ◌||◌, nat_le, Bool, L
 use Rattle.std.specs.List.{before_first, after_first}
 use Rattle.gtp_cmd.specs.Words.{is_number}
 
--- the byte of a plus, of a minus and of a decimal point
+-- the byte of a plus
 abbrev pub plus : ℕ
 plus = 43
 
+-- the byte of a minus
 abbrev pub minus : ℕ
 minus = 45
 
+-- the byte of a decimal point
 abbrev pub point : ℕ
 point = 46
 

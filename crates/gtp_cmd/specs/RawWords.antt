@@ -16,7 +16,7 @@ abbrev pub cased : Bool → ℕ → ℕ
 cased true b = to_ascii_lowercase b
 cased false b = b
 
--- what stands for every number above the greatest id
+-- one more than the greatest id, which stands for every number above it
 abbrev pub large : ℕ
 large = 2147483648
 

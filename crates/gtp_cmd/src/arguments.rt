@@ -6,7 +6,7 @@ ghost use Rattle.gtp_cmd.specs.Words.{kept, plain, words_of, number_of};
 ghost use Rattle.gtp_cmd.specs.RawWords.{capped};
 ghost use Rattle.gtp_cmd.specs.Colours.{colour_of};
 ghost use Rattle.gtp_cmd.specs.Vertices.{column_letters, column_named, row_number_of, point_of, vertex_of, target_of};
-ghost use Rattle.gtp_cmd.specs.Commands.{first_argument, size_of, move_of};
+ghost use Rattle.gtp_cmd.specs.Commands.{first_argument, size_of, move_of, number_between, depths_of};
 
 use crate::numbers::number;
 use crate::words::{byte_count, first_byte, next_word, spells_in_either_case};
@@ -15,6 +15,12 @@ use go_base::{Colour, Point, Size};
 
 /// The letters of the columns from the left.
 const COLUMN_LETTERS: &[u8] = b"ABCDEFGHJKLMNOPQRSTUVWXYZ";
+
+/// The greatest number of plies that a reading may have.
+const MAX_PLIES: u8 = 200;
+
+/// The greatest number of wide plies that a reading may have.
+const MAX_WIDE: u8 = 12;
 
 /// The colour that a word names.
 fn colour_named(word: &[u8]) -> Option<Colour>
@@ -115,6 +121,29 @@ pub fn colour_and_target(text: &[u8], size: Size) -> Option<(Colour, Option<Poin
     let colour = colour_named(first)?;
     let target = target_named(second, size)?;
     Some((colour, target))
+}
+
+/// The number that a word writes, where it lies between these two.
+fn number_between(low: u8, high: u8, word: &[u8]) -> Option<u8>
+    ensures { result ≡ number_between low high (kept word.now) }
+{
+    let n = number(word)?;
+    if u32::from(low) <= n && n <= u32::from(high) {
+        Some(n as u8)
+    } else {
+        None
+    }
+}
+
+/// The plies and the wide plies of readings that the first two words write.
+pub fn depths(text: &[u8]) -> Option<(u8, u8)>
+    ensures { result ≡ depths_of (words_of (plain text.now)) }
+{
+    let (first, more) = next_word(text)?;
+    let (second, _) = next_word(more)?;
+    let plies = number_between(1, MAX_PLIES, first)?;
+    let wide = number_between(0, MAX_WIDE, second)?;
+    Some((plies, wide))
 }
 
 /// The number that the first word writes.

@@ -5,7 +5,7 @@ ghost use Rattle.gtp_cmd.specs.Words.{kept, plain, words_of};
 ghost use Rattle.gtp_cmd.specs.Komi.{komi_of};
 ghost use Rattle.gtp_cmd.specs.Commands.{named, names_text, command_of, known_of, first_argument};
 
-use crate::arguments::{colour, colour_and_target, first_number, size_numbered, vertex};
+use crate::arguments::{colour, colour_and_target, depths, first_number, size_numbered, vertex};
 use crate::komi::KomiText;
 use crate::refusals::RefuseText;
 use crate::words::{next_word, spells};
@@ -32,6 +32,11 @@ pub enum CommandName {
     CountLib,
     FindLib,
     Captures,
+    Attack,
+    Defend,
+    Depths,
+    MatchPatterns,
+    ListPatterns,
 }
 
 /// A command with its arguments. Where a point may be missing, a missing one is a pass.
@@ -57,6 +62,12 @@ pub enum Command {
     CountLib(Point),
     FindLib(Point),
     Captures(Colour),
+    Attack(Point),
+    Defend(Point),
+    /// How deep readings go: plies from 1 to 200, and wide plies from 0 to 12.
+    Depths { plies: u8, wide: u8 },
+    MatchPatterns(Colour),
+    ListPatterns,
 }
 
 /// What a line says.
@@ -74,7 +85,7 @@ pub enum Parsed {
 pub fn names() -> &'static [u8]
     ensures { result.now ≡ names_text }
 {
-    b"protocol_version\nname\nversion\nknown_command\nlist_commands\nquit\nboardsize\nclear_board\nkomi\nget_komi\nplay\nundo\nshowboard\nis_legal\nall_legal\ncountlib\nfindlib\ncaptures"
+    b"protocol_version\nname\nversion\nknown_command\nlist_commands\nquit\nboardsize\nclear_board\nkomi\nget_komi\nplay\nundo\nshowboard\nis_legal\nall_legal\ncountlib\nfindlib\ncaptures\nattack\ndefend\ndepths\nmatch_patterns\nlist_patterns"
 }
 
 /// The command that a word names. Command words are told apart by case.
@@ -117,6 +128,16 @@ pub fn named(word: &[u8]) -> Option<CommandName>
         Some(CommandName::FindLib)
     } else if spells(word, b"captures") {
         Some(CommandName::Captures)
+    } else if spells(word, b"attack") {
+        Some(CommandName::Attack)
+    } else if spells(word, b"defend") {
+        Some(CommandName::Defend)
+    } else if spells(word, b"depths") {
+        Some(CommandName::Depths)
+    } else if spells(word, b"match_patterns") {
+        Some(CommandName::MatchPatterns)
+    } else if spells(word, b"list_patterns") {
+        Some(CommandName::ListPatterns)
     } else {
         None
     }
@@ -167,5 +188,10 @@ pub fn arguments(name: CommandName, text: &[u8], size: Size) -> Option<Command>
         CommandName::CountLib => vertex(text, size).map(Command::CountLib),
         CommandName::FindLib => vertex(text, size).map(Command::FindLib),
         CommandName::Captures => colour(text).map(Command::Captures),
+        CommandName::Attack => vertex(text, size).map(Command::Attack),
+        CommandName::Defend => vertex(text, size).map(Command::Defend),
+        CommandName::Depths => depths(text).map(|(plies, wide)| Command::Depths { plies, wide }),
+        CommandName::MatchPatterns => colour(text).map(Command::MatchPatterns),
+        CommandName::ListPatterns => Some(Command::ListPatterns),
     }
 }

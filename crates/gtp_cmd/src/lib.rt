@@ -9,6 +9,7 @@ mod arguments;
 mod bytes;
 mod commands;
 mod komi;
+pub mod laws;
 mod numbers;
 mod parser;
 mod refusals;

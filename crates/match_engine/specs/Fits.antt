@@ -29,7 +29,7 @@ IsEdgeCell p r c = drawn_at p r c ≡ OffBoard
 
 -- the pattern fits at m under t: every cell of its diagram lies on the board and its letter admits what stands there, and every
 -- edge cell lies off the board
-pub record Fits (p : Pattern) (pos : BoardState) (friend : Colour) (t m : ℕ) : Type 0 where
+pub record Fits (p : Pattern) (board : BoardState) (friend : Colour) (t m : ℕ) : Type 0 where
   pub cells : (r c : ℕ) → r < p.rows → c < p.cols
-      → (q : ℕ) × (place_of_cell p pos.size t m (pos r) (pos c) ≡ Some q) × (admits (letter_at p r c) (cell_at pos.cells q) friend ≡ true)
-  pub edges : (r c : ℤ) → IsEdgeCell p r c → place_of_cell p pos.size t m r c ≡ None
+      → (q : ℕ) × (place_of_cell p board.size t m (pos r) (pos c) ≡ Some q) × (admits (letter_at p r c) (cell_at board.cells q) friend ≡ true)
+  pub edges : (r c : ℤ) → IsEdgeCell p r c → place_of_cell p board.size t m r c ≡ None

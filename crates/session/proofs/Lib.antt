@@ -1,3 +1,9 @@
+pub mod Texts
+pub mod Points
+pub mod OnBoardLemmas
+pub mod Said
+pub mod Playing
+pub mod Replied
+pub mod Refusals
 pub mod ServeLemmas
 pub mod Served
-pub mod Words

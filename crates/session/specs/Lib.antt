@@ -1,6 +1,10 @@
 pub mod Machine
+pub mod BoardText
+pub mod PointLists
+pub mod Answering
+pub mod Replies
+pub mod OnBoard
 pub mod Outcomes
 pub mod Notes
 pub mod Headline
 pub mod Serving
-pub mod Reply

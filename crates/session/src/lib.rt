@@ -1,16 +1,19 @@
-//! A session of the protocol over a plain machine, and the top call of the program.
+//! A session of the protocol, and the top call of the program.
+//!
+//! The machine of a session keeps a size, a list of moves and a komi, and its position is the replay of the moves. What it gives
+//! for a line is the definition `step`; `Session::line` gives exactly this, and `run` writes for a stream of lines a transcript
+//! of this machine, by an outcome that tells why it ended.
 #![tactic(auto)]
 
-mod buffer;
-mod moves;
+mod board_text;
 mod outcome;
-mod parse;
-mod replies;
 mod reply;
 mod serve;
 mod session;
-mod text;
 mod top_call;
+mod vertices;
 
+pub use self::session::Session;
 pub use outcome::Outcome;
+pub use reply::Reply;
 pub use top_call::run;

@@ -1,20 +1,17 @@
-// What a session is given and what it answers.
-use crate::buffer::Short;
+//! What a session answers to a line.
 
-#[derive(Clone, Copy, Debug, PartialEq, Eq)]
-pub enum RefuseText {
-    UnknownCommand,
-    SyntaxError,
-    IllegalMove,
-    HistoryFull,
-    LineTooLong,
-    OutOfMemory,
-}
+use go_base::Bytes;
+use gtp_cmd::Short;
 
+/// The answer to one line.
 #[derive(Drop)]
 pub enum Reply {
+    /// The line has no words, and nothing is put.
     Nothing,
+    /// A text that takes no memory; `quit` says whether it ends the session.
     Short { text: Short, quit: bool },
-    Text { bytes: Vec<u8> },
+    /// A text that took memory.
+    Text { bytes: Bytes },
+    /// There was no memory for a growing reply: the refusal `out of memory` is put in its place, and the line counts as not sent.
     NoMemory { id: Option<u32> },
 }

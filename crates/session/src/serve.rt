@@ -8,14 +8,14 @@ ghost use Rattle.gtp_lex.specs.Held.{lines_from, held_from, held_line};
 ghost use Rattle.gtp_lex.specs.Lines.{no_line};
 ghost use Rattle.gtp_lex.specs.LinesTaken.{taken_of, given_state};
 ghost use Rattle.gtp_lex.specs.Raw.{raw_line};
-ghost use Rattle.session.specs.Machine.{step};
+ghost use Rattle.session.specs.Answering.{step};
 ghost use Rattle.session.specs.Headline.{Serves, IsCauseOf};
 ghost use Rattle.session.specs.Serving.{PutsPart, Replies, RepliesPart, RunsTo, RunsPart};
 
 use crate::outcome::Outcome;
-use crate::replies::refusal_short;
-use crate::reply::{RefuseText, Reply};
+use crate::reply::Reply;
 use crate::session::Session;
+use gtp_cmd::{RefuseText, refusal};
 use gtp_io::{Failed, Sink, Source};
 use gtp_lex::{Lines, Raw, Taken};
 
@@ -58,10 +58,7 @@ fn answer<K: Sink>(session: &mut Session, raw: Raw<'_>, output: &mut K) -> Resul
             Ok(false)
         }
         Reply::NoMemory { id } => {
-            put_all(
-                output,
-                refusal_short(id, RefuseText::OutOfMemory).as_slice(),
-            )?;
+            put_all(output, refusal(id, RefuseText::OutOfMemory).as_slice())?;
             Ok(false)
         }
     }

@@ -1,73 +1,145 @@
-// A session: the plain machine, and its answer to a line.
-ghost use Rattle.std.specs.Prelude.{◌≡◌, true, false};
-ghost use Rattle.session.specs.Machine.{Machine, first_machine, is_free, refusal, step, parsed_step, command_step, play_step};
-ghost use Rattle.gtp_rules.specs.Transcript.{Answers, MayGive};
+//! A session: what the plain machine keeps, and its answer to each line.
+ghost use Rattle.std.specs.Prelude.{◌≡◌, ◌≤◌, ◌*◌, ◌<◌, ◌↔◌, List, ℕ, true, false, is_ok, length, codes, IfOk, IfSome};
+ghost use Rattle.go_rules.specs.Strings.{cell_at, is_stone};
+ghost use Rattle.go_rules.specs.Replay.{moved};
+ghost use Rattle.go_rules.specs.declared.Move.{Move};
+ghost use Rattle.session.specs.OnBoard.{IsOnBoard, SaysOnBoard};
+ghost use Rattle.gtp_cmd.specs.Replies.{success_text, refusal_text};
 ghost use Rattle.gtp_lex.specs.Raw.{raw_line};
-ghost use Rattle.session.specs.Reply.{reply_bytes, reply_ends};
+ghost use Rattle.session.specs.Machine.{Machine, first_machine, position_of};
+ghost use Rattle.session.specs.Answering.{step, parsed_step, command_step, resized, played, taken_back, told_of_stone, word_of, digit_of};
+ghost use Rattle.session.specs.Replies.{IsReply, IsReplyTo, IsGrowing, IsWithoutWords, IsRefusal, reply_bytes};
 
-use crate::moves::Move;
-use crate::parse::{Command, Parsed, parse};
-use crate::replies::{refusal_short, short};
-use crate::reply::{RefuseText, Reply};
-use crate::text::success;
+use crate::board_text::board_text;
+use crate::reply::Reply;
+use crate::vertices::{legal_text, liberties_text};
+use go_base::size::MAX_SIZE;
+use go_base::{Bytes, Cell, Colour, NoMemory, Point, Position, Size};
+use go_history::{History, HistoryError, Move};
+use gtp_cmd::{Command, KomiText, Parsed, RefuseText, names, parse, refusal, short, success};
 use gtp_lex::Raw;
+use itoa::Buffer;
 use std::alloc::Global;
 use std::marker::Model;
 
-const MOST_MOVES: usize = 10000;
-
+/// A session of the protocol, seen as the plain machine.
 #[derive(Drop)]
 pub struct Session {
     alloc: Global,
-    moves: Vec<Move>,
+    history: History,
+    komi: KomiText,
 }
 
 impl Model for Session {
     ghost Value = { Machine };
 
-    ghost view = { λ s. record { moves = s.moves.items } };
+    ghost view = { λ s. record { size = s.history.size; moves = s.history.moves; komi = s.komi } };
 }
 
-fn is_free(moves: &[Move], at: u16) -> bool
-    ensures { result ≡ is_free moves.now at }
-{
-    moves.iter().all(|m| m.at != at)
-}
-
-fn refused(id: Option<u32>, text: RefuseText) -> Reply
-    ensures bytes { reply_bytes result ≡ refusal id text }
-    ensures ends { reply_ends result ≡ false }
+/// A success of a short result.
+fn told(id: Option<u32>, text: &[u8]) -> Reply
+    requires { length text.now ≤ 32 }
+    ensures { result ≡ Reply.Short (success_text id text.now) false }
 {
     Reply::Short {
-        text: refusal_short(id, text),
+        text: short(id, text),
         quit: false,
     }
 }
 
+/// A refusal.
+fn refused(id: Option<u32>, text: RefuseText) -> Reply
+    ensures { result ≡ Reply.Short (refusal_text id text) false }
+{
+    Reply::Short {
+        text: refusal(id, text),
+        quit: false,
+    }
+}
+
+/// A success of a result of any length, where there is memory for it.
+fn grown(alloc: Global, id: Option<u32>, text: &[u8]) -> Reply
+    ensures { IsGrowing id text.now result }
+{
+    match success(id, text, Bytes::new(alloc)) {
+        Ok(bytes) => Reply::Text { bytes },
+        Err(_) => Reply::NoMemory { id },
+    }
+}
+
+/// The same for a result that took memory, where it was found.
+fn grown_text(alloc: Global, id: Option<u32>, text: Result<Bytes, NoMemory>) -> Reply
+    ensures { (told : List ℕ) → IfOk text (λ bytes. bytes ≡ told) → IsGrowing id told result }
+{
+    match text {
+        Ok(text) => grown(alloc, id, text.as_slice()),
+        Err(_) => Reply::NoMemory { id },
+    }
+}
+
+/// `true` or `false`.
+fn word(known: bool) -> &'static [u8]
+    ensures text { result.now ≡ word_of known }
+    ensures short { length result.now ≤ 5 }
+{
+    if known { b"true" } else { b"false" }
+}
+
+/// `1` or `0`.
+fn digit(holds: bool) -> &'static [u8]
+    ensures text { result.now ≡ digit_of holds }
+    ensures short { length result.now ≤ 1 }
+{
+    if holds { b"1" } else { b"0" }
+}
+
+/// Whether a stone stands at p.
+fn has_stone(position: &Position, p: Point) -> bool
+    requires { p < position.now.size * position.now.size }
+    ensures { result ≡ is_stone (cell_at position.now.cells p) }
+{
+    match position.cell(p) {
+        Cell::Empty => false,
+        Cell::Black | Cell::White => true,
+    }
+}
+
 impl Session {
-    /// A session without moves.
-    pub fn new(alloc: Global) -> Session
-        ensures { result ≡ first_machine }
+    /// A session before its first line: the largest board, no moves, the komi 0.0. Takes memory.
+    pub fn new(alloc: Global) -> Result<Session, NoMemory>
+        ensures { IfOk result (λ session. session ≡ first_machine) }
     {
-        Session {
+        let size = Size::new(MAX_SIZE).unwrap();
+        Ok(Session {
             alloc,
-            moves: Vec::new(alloc),
-        }
+            history: History::new(alloc, size)?,
+            komi: KomiText::zero(),
+        })
     }
 
-    /// Answers one line.
+    /// Answers one line, by the plain machine's step.
+    ///
+    /// Nothing comes exactly for a line without words. NoMemory comes only in place of a growing reply, and leaves the session as
+    /// it was. A refused line leaves it as it was, too.
     pub fn line(&mut self, raw: Raw<'_>) -> Reply
-        ensures { Answers step self.old (raw_line raw.entry) (reply_bytes result) self.new (reply_ends result) }
+        ensures reply { IsReplyTo self.old (step self.old (raw_line raw.entry)) result self.new }
+        ensures nothing { result ≡ Reply.Nothing ↔ IsWithoutWords (raw_line raw.entry) }
+        ensures refused { IsRefusal (reply_bytes result) → self.new ≡ self.old }
     {
         match raw {
             Raw::TooLong => refused(None, RefuseText::LineTooLong),
-            Raw::Line(line) => self.answer(parse(line)),
+            Raw::Line(text) => {
+                let size = self.history.size();
+                self.answer(parse(text, size))
+            }
         }
     }
 
-    // Answers what a line says.
+    /// Answers what a line says.
     fn answer(&mut self, parsed: Parsed) -> Reply
-        ensures { MayGive self.old (parsed_step self.old parsed) (reply_bytes result) self.new (reply_ends result) }
+        requires { SaysOnBoard self.old.size parsed }
+        ensures reply { IsReplyTo self.old (parsed_step self.old parsed) result self.new }
+        ensures nothing { result ≡ Reply.Nothing ↔ (parsed ≡ Parsed.Nothing) }
     {
         match parsed {
             Parsed::Nothing => Reply::Nothing,
@@ -76,48 +148,132 @@ impl Session {
         }
     }
 
-    // Does what a command says.
+    /// Does what a command says.
     fn obey(&mut self, id: Option<u32>, command: Command) -> Reply
-        ensures { MayGive self.old (command_step self.old id command) (reply_bytes result) self.new (reply_ends result) }
+        requires { IsOnBoard self.old.size command }
+        ensures { IsReply self.old (command_step self.old id command) result self.new }
     {
         match command {
-            Command::Name => Reply::Short {
-                text: short(id, b"gopat"),
-                quit: false,
-            },
-            Command::ListCommands => self.list_commands(id),
+            Command::ProtocolVersion => told(id, b"2"),
+            Command::Name => told(id, b"gopat"),
+            Command::Version => told(id, b"1"),
+            Command::KnownCommand(known) => told(id, word(known)),
+            Command::ListCommands => grown(self.alloc, id, names()),
             Command::Quit => Reply::Short {
                 text: short(id, b""),
                 quit: true,
             },
-            Command::Play { play } => self.play(id, play),
+            Command::BoardSize(size) => self.resize(id, size),
+            Command::ClearBoard => {
+                self.history.clear();
+                told(id, b"")
+            }
+            Command::Komi(komi) => {
+                self.komi = komi;
+                told(id, b"")
+            }
+            Command::GetKomi => told(id, self.komi.as_slice()),
+            Command::Play(colour, at) => self.play(id, Move { colour, at }),
+            Command::Undo => self.undo(id),
+            Command::ShowBoard => self.show_board(id),
+            Command::IsLegal(colour, at) => told(id, digit(self.is_legal(colour, at))),
+            Command::AllLegal(colour) => self.list_legal(id, colour),
+            Command::CountLib(p) => self.count_liberties(id, p),
+            Command::FindLib(p) => self.find_liberties(id, p),
+            Command::Captures(colour) => self.count_captures(id, colour),
         }
     }
 
-    fn list_commands(&self, id: Option<u32>) -> Reply
-        ensures { MayGive self.now (command_step self.now id Command.ListCommands) (reply_bytes result) self.now (reply_ends result) }
+    /// The position after the moves.
+    fn position(&self) -> Position
+        ensures value { result ≡ position_of self.now }
+        ensures size { (position_of self.now).size ≡ self.now.size }
     {
-        match success(Vec::new(self.alloc), id, b"name\nlist_commands\nquit\nplay") {
-            Ok(bytes) => Reply::Text { bytes },
-            Err(_) => Reply::NoMemory { id },
+        self.history.position()
+    }
+
+    fn resize(&mut self, id: Option<u32>, size: Option<Size>) -> Reply
+        ensures { IsReply self.old (resized self.old id size) result self.new }
+    {
+        let Some(size) = size else {
+            return refused(id, RefuseText::UnacceptableSize);
+        };
+        self.history.resize(size);
+        told(id, b"")
+    }
+
+    fn play(&mut self, id: Option<u32>, m: Move) -> Reply
+        requires { IfSome m.at (λ p. p < self.old.size * self.old.size) }
+        ensures { IsReply self.old (played self.old id m) result self.new }
+    {
+        match self.history.play(m) {
+            Ok(()) => told(id, b""),
+            Err(HistoryError::Illegal(_)) => refused(id, RefuseText::IllegalMove),
+            Err(HistoryError::Full) => refused(id, RefuseText::HistoryFull),
+            Err(HistoryError::NoMemory) => Reply::NoMemory { id },
         }
     }
 
-    fn play(&mut self, id: Option<u32>, play: Move) -> Reply
-        ensures { MayGive self.old (play_step self.old id play) (reply_bytes result) self.new (reply_ends result) }
+    fn undo(&mut self, id: Option<u32>) -> Reply
+        ensures { IsReply self.old (taken_back self.old id self.old.moves) result self.new }
     {
-        if !is_free(&self.moves, play.at) {
-            return refused(id, RefuseText::IllegalMove);
+        match self.history.undo() {
+            Ok(()) => told(id, b""),
+            Err(_) => refused(id, RefuseText::CannotUndo),
         }
-        if self.moves.len() >= MOST_MOVES {
-            return refused(id, RefuseText::HistoryFull);
+    }
+
+    /// Whether the rules allow the move.
+    fn is_legal(&self, colour: Colour, at: Option<Point>) -> bool
+        requires { IfSome at (λ p. p < self.now.size * self.now.size) }
+        ensures { result ≡ is_ok (moved (position_of self.now) (record { colour = colour; at = at })) }
+    {
+        match at {
+            Some(p) => self.position().play(colour, p).is_ok(),
+            None => true,
         }
-        match self.moves.push(play) {
-            Ok(()) => Reply::Short {
-                text: short(id, b""),
-                quit: false,
-            },
-            Err(_) => Reply::NoMemory { id },
+    }
+
+    fn show_board(&self, id: Option<u32>) -> Reply
+        ensures { IsReply self.now (command_step self.now id Command.ShowBoard) result self.now }
+    {
+        grown_text(self.alloc, id, board_text(self.alloc, &self.position()))
+    }
+
+    fn list_legal(&self, id: Option<u32>, colour: Colour) -> Reply
+        ensures { IsReply self.now (command_step self.now id (Command.AllLegal colour)) result self.now }
+    {
+        let position = self.position();
+        grown_text(self.alloc, id, legal_text(self.alloc, &position, colour))
+    }
+
+    fn count_liberties(&self, id: Option<u32>, p: Point) -> Reply
+        requires { p < self.now.size * self.now.size }
+        ensures { IsReply self.now (command_step self.now id (Command.CountLib p)) result self.now }
+    {
+        let position = self.position();
+        if !has_stone(&position, p) {
+            return refused(id, RefuseText::VertexEmpty);
         }
+        let mut buffer = Buffer::new();
+        told(id, buffer.format(position.liberties(p)).as_bytes())
+    }
+
+    fn find_liberties(&self, id: Option<u32>, p: Point) -> Reply
+        requires { p < self.now.size * self.now.size }
+        ensures { IsReply self.now (command_step self.now id (Command.FindLib p)) result self.now }
+    {
+        let position = self.position();
+        if !has_stone(&position, p) {
+            return refused(id, RefuseText::VertexEmpty);
+        }
+        grown_text(self.alloc, id, liberties_text(self.alloc, &position, p))
+    }
+
+    fn count_captures(&self, id: Option<u32>, colour: Colour) -> Reply
+        ensures { IsReply self.now (command_step self.now id (Command.Captures colour)) result self.now }
+    {
+        let mut buffer = Buffer::new();
+        told(id, buffer.format(self.history.captures(colour)).as_bytes())
     }
 }

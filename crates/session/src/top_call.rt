@@ -1,6 +1,7 @@
 //! The top call of the program.
 ghost use Rattle.std.specs.Prelude.{◌≡◌, ◌≢◌, ◌↔◌, []};
-ghost use Rattle.session.specs.Machine.{first_machine, step};
+ghost use Rattle.session.specs.Machine.{first_machine};
+ghost use Rattle.session.specs.Answering.{step};
 ghost use Rattle.session.specs.Headline.{Serves, ServesAndNotes, IsCauseOf};
 
 use crate::outcome::{Outcome, note};
@@ -29,7 +30,9 @@ fn serve_words<S: Source, K: Sink>(
     let Ok(mut lines) = Lines::new(alloc) else {
         return Outcome::NoMemory;
     };
-    let mut session = Session::new(alloc);
+    let Ok(mut session) = Session::new(alloc) else {
+        return Outcome::NoMemory;
+    };
     serve(&mut session, &mut lines, input, output)
 }
 

@@ -1,7 +1,7 @@
 use Rattle.std.proofs.Common.{◌≡◌, List, ◌++◌, length, false}
 use Rattle.gtp_rules.specs.Lines.{RawLine}
 use Rattle.gtp_lex.specs.Held.{lines_from, held_from}
-use Rattle.session.specs.Machine.{step}
+use Rattle.session.specs.Answering.{step}
 use Rattle.session.specs.Serving.{RunsTo}
 use Rattle.session.proofs.serve.answer_piece.Given as goal
 

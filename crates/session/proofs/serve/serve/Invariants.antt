@@ -1,5 +1,5 @@
 use Rattle.std.proofs.Common.{◌≡◌, length, false}
-use Rattle.session.specs.Machine.{step}
+use Rattle.session.specs.Answering.{step}
 use Rattle.session.proofs.Served.{Served}
 use Rattle.session.proofs.serve.serve.Given as goal
 

@@ -13,7 +13,7 @@ pub returns-clause-ok : goal.returns-clause-ok
 returns-clause-ok c = on_ok_weaker c.line.result (λ read b k word_is d.
     let mains : map (λ w. w.now) c.as_slice.result.now ≡ words_in b.diagram = ap (map (λ w. w.now)) c.as_slice.ensures.value ∙ d.words in
     let there = subst (λ ms. (constraint_fault ms (words_in b.constraint) c.args.word.now ≡ None) × IsMarked c.line.new.self ms (words_in b.constraint ++ c.args.word.now ∷ [])) mains
-        (read (words_in b.constraint) (subst (λ ms. IsMarked c.args.self.now.marks ms (words_in b.constraint)) (sym mains) d.marks)) in
+    (read (words_in b.constraint) (subst (λ ms. IsMarked c.args.self.now.marks ms (words_in b.constraint)) (sym mains) d.marks)) in
     let words : words_in (b.constraint ++ k ∷ []) ≡ words_in b.constraint ++ c.args.word.now ∷ [] = map_push (λ l. word_of l.bytes) b.constraint k ∙ ap (λ w. words_in b.constraint ++ w ∷ []) word_is in (
       there.0,
       record {

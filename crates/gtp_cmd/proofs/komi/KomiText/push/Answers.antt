@@ -1,5 +1,4 @@
-use Rattle.std.proofs.Common.{◌<◌, ap, arith}
-use Rattle.std.proofs.Common.{length}
+use Rattle.std.proofs.Common.{◌<◌, length, ap, arith}
 use Rattle.gtp_cmd.specs.Komi.{komi_room}
 use Rattle.gtp_cmd.specs.KomiKept.{length-text_kept}
 use Rattle.gtp_cmd.proofs.KomiLemmas.{IsKept-push}

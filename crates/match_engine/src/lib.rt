@@ -1,0 +1,14 @@
+//! Matches: which patterns fit a position, where, and under which transformation, with a legal move.
+//!
+//! A match names a pattern by its place in the list of patterns, counted from 0, a transformation, and the point of the
+//! pattern's move. `matches` finds them by an automaton, and answers for every automaton; with that of the patterns it is the
+//! plain definition, which compares each transformed diagram with the board point by point.
+//!
+//! After GNU Go Manual, "The Pattern Code" and "The DFA pattern matcher".
+#![tactic(auto)]
+
+mod finder;
+mod found;
+
+pub use finder::matches;
+pub use found::Match;

@@ -1,0 +1,218 @@
+//! The worked sessions, whole and cut into pieces, and what happens where an object fails.
+use crate::sessions::SESSIONS;
+use crate::{run_in_memory, run_surely};
+use gtp_io::{Feed, Page, SureFeed, SurePage};
+use session::{Outcome, run};
+use std::alloc::Global;
+use std::process::Abort;
+use std::test::Fail;
+
+/// Room for the replies of every session.
+const ROOM: usize = 4096;
+
+/// The longest session has fewer calls than this, also where each call moves one byte.
+const MANY_CALLS: u64 = 400;
+
+/// What came of one run.
+#[derive(Drop)]
+struct Ran {
+    outcome: Outcome,
+    output: Page,
+    notes: Page,
+    left: usize,
+}
+
+/// How a run is to go: how many bytes a call moves at most, and which call fails, if one is to.
+#[derive(Clone, Copy)]
+struct Way {
+    piece: usize,
+    source_fails: u64,
+    sink_fails: u64,
+    notes_fail: u64,
+}
+
+/// Nothing fails, and each call moves as much as it can.
+const WHOLE: Way = Way {
+    piece: 4096,
+    source_fails: 0,
+    sink_fails: 0,
+    notes_fail: 0,
+};
+
+fn once(alloc: Global, call: u64) -> Result<Vec<u64>, Fail> {
+    let mut list = Vec::new(alloc);
+    if call > 0 {
+        list.push(call)?;
+    }
+    Ok(list)
+}
+
+fn go(rt: &impl Abort, alloc: Global, input: &[u8], way: Way) -> Result<Ran, Fail> {
+    assert!(rt; way.piece > 0, "a call moves some bytes");
+    let bytes = Vec::from_slice(alloc, input)?;
+    let mut feed = Feed::new(bytes, way.piece, once(alloc, way.source_fails)?);
+    let mut output = Page::new(alloc, ROOM, way.piece, once(alloc, way.sink_fails)?)?;
+    let mut notes = Page::new(alloc, ROOM, way.piece, once(alloc, way.notes_fail)?)?;
+    let outcome = run(alloc, &[], &mut feed, &mut output, &mut notes);
+    let left = feed.left().len();
+    Ok(Ran {
+        outcome,
+        output,
+        notes,
+        left,
+    })
+}
+
+#[test]
+fn sessions_whole_and_in_pieces(rt: HostRuntime) -> Result<(), Fail> {
+    for session in &SESSIONS {
+        let name = session.name;
+        for piece in [4096, 1, 2, 3, 4, 5, 6, 7, 8] {
+            let ran = go(&rt, rt.alloc(), session.input, Way { piece, ..WHOLE })?;
+            assert_eq!(rt;
+                ran.output.bytes(),
+                session.output,
+                "{name}, pieces of {piece}"
+            );
+            assert_eq!(rt;
+                ran.notes.bytes(),
+                b"".as_slice(),
+                "{name}, pieces of {piece}"
+            );
+            assert_eq!(rt; ran.outcome, Outcome::Done, "{name}, pieces of {piece}");
+        }
+    }
+    Ok(())
+}
+
+#[test]
+fn longest_line_and_one_byte_more(rt: HostRuntime) -> Result<(), Fail> {
+    let cases = [
+        (
+            "the longest line",
+            65_536,
+            b"? unknown command\n\n= gopat\n\n".as_slice(),
+        ),
+        (
+            "one byte more",
+            65_537,
+            b"? line too long\n\n= gopat\n\n".as_slice(),
+        ),
+    ];
+    for (what, letters, output) in cases {
+        let mut input = vec![in rt.alloc(); b'x'; letters]?;
+        input.extend_from_slice(b"\nname\n")?;
+        let mut page = Page::new(rt.alloc(), ROOM, ROOM, Vec::new(rt.alloc()))?;
+        let outcome = run_in_memory(rt.alloc(), input, &mut page);
+        assert_eq!(rt; page.bytes(), output, "{what}");
+        assert_eq!(rt; outcome, Outcome::Done, "{what}");
+    }
+    Ok(())
+}
+
+#[test]
+fn failing_source_and_sink(rt: HostRuntime) -> Result<(), Fail> {
+    let source = Way {
+        piece: 5,
+        source_fails: 3,
+        ..WHOLE
+    };
+    let ran = go(&rt, rt.alloc(), b"name\nversion\nname\n", source)?;
+    assert_eq!(rt; ran.output.bytes(), b"= gopat\n\n".as_slice());
+    assert_eq!(rt; ran.notes.bytes(), b"input failed\n".as_slice());
+    assert_eq!(rt; ran.outcome.code(), 4);
+    let sink = Way {
+        piece: 5,
+        sink_fails: 2,
+        ..WHOLE
+    };
+    let ran = go(&rt, rt.alloc(), b"name\n", sink)?;
+    assert_eq!(rt; ran.output.bytes(), b"= gop".as_slice());
+    assert_eq!(rt; ran.notes.bytes(), b"output failed\n".as_slice());
+    assert_eq!(rt; ran.outcome.code(), 5);
+    Ok(())
+}
+
+// Of the second line nothing is taken before the first is answered.
+#[test]
+fn reads_no_further_than_it_answers(rt: HostRuntime) -> Result<(), Fail> {
+    let way = Way {
+        piece: 1,
+        sink_fails: 1,
+        ..WHOLE
+    };
+    let ran = go(&rt, rt.alloc(), b"name\nversion\n", way)?;
+    assert_eq!(rt; ran.output.bytes(), b"".as_slice());
+    assert_eq!(rt; ran.left, 8);
+    assert_eq!(rt; ran.outcome, Outcome::OutputFault);
+    Ok(())
+}
+
+// Where a call fails, what is out is a front of the replies, and the outcome tells the fault.
+#[test]
+fn each_call_fails_in_turn(rt: HostRuntime) -> Result<(), Fail> {
+    for session in &SESSIONS {
+        for (object, fault) in [
+            ("source", Outcome::InputFault),
+            ("sink", Outcome::OutputFault),
+        ] {
+            for call in 1..MANY_CALLS {
+                let way = Way {
+                    piece: 7,
+                    source_fails: if fault == Outcome::InputFault {
+                        call
+                    } else {
+                        0
+                    },
+                    sink_fails: if fault == Outcome::OutputFault {
+                        call
+                    } else {
+                        0
+                    },
+                    ..WHOLE
+                };
+                let ran = go(&rt, rt.alloc(), session.input, way)?;
+                let name = session.name;
+                assert!(rt;
+                    session.output.starts_with(ran.output.bytes()),
+                    "{name}, {object} call {call}"
+                );
+                if ran.outcome != fault {
+                    assert_eq!(rt;
+                        ran.output.bytes(),
+                        session.output,
+                        "{name}, {object} call {call}"
+                    );
+                    assert_eq!(rt; ran.outcome, Outcome::Done, "{name}, {object} call {call}");
+                    break;
+                }
+            }
+        }
+    }
+    Ok(())
+}
+
+#[test]
+fn notes_that_fail_change_no_outcome(rt: HostRuntime) -> Result<(), Fail> {
+    let way = Way {
+        source_fails: 1,
+        notes_fail: 1,
+        ..WHOLE
+    };
+    let ran = go(&rt, rt.alloc(), b"name\n", way)?;
+    assert_eq!(rt; ran.notes.bytes(), b"".as_slice());
+    assert_eq!(rt; ran.outcome, Outcome::InputFault);
+    Ok(())
+}
+
+#[test]
+fn words_of_the_command_line_are_refused(rt: HostRuntime) -> Result<(), Fail> {
+    let mut words = Vec::new(rt.alloc());
+    words.push(String::from_str(rt.alloc(), "file")?)?;
+    let mut feed = SureFeed::new(Vec::from_slice(rt.alloc(), b"name\n")?, 5);
+    let outcome = run_surely(rt.alloc(), &words, &mut feed, &mut SurePage::new());
+    assert_eq!(rt; outcome.code(), 2);
+    let outcome = run_surely(rt.alloc(), &[], &mut feed, &mut SurePage::new());
+    assert_eq!(rt; outcome, Outcome::Done);
+    Ok(())
+}

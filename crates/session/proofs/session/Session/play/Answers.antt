@@ -1,0 +1,35 @@
+-- The reply says what the history answered.
+use Rattle.std.proofs.Common.{◌≡◌, Err, ap, subst, ◌∙◌}
+use Rattle.session.specs.Answering.{played}
+use Rattle.session.specs.Machine.{Machine}
+use Rattle.session.specs.Replies.{IsReply}
+use Rattle.session.proofs.Playing.{machine_of, move_added, move_illegal, move_past_full, move_without_memory}
+use Rattle.session.proofs.session.Session.play.Goals as goal
+use Rattle.session.proofs.session.Session.play.Goals.{in-Ok, in-Err-Illegal, in-Err-Full, in-Err-NoMemory}
+
+pub returns : goal.returns
+returns c =
+    let game = c.self.inside.history in
+    let komi = c.self.inside.komi in
+    let new = c.play.new.self in
+    let family : Machine → Type 0 = λ old. IsReply old (played old c.args.id c.args.m) c.match-play.result (machine_of new komi) in
+    subst family c.self.view_is (elim c.match-play.branch as (λ _. family (machine_of game komi)) [
+      | in-Ok w ↦
+          move_added game komi c.args.id c.args.m new c.match-play.result w.in-Ok.ensures.ok w.in-Ok.ensures.allowed w.in-Ok.ensures.room
+          (w.result-is ∙ w.told.ensures)
+      | in-Err-Illegal w ↦
+          let answer = w.in-Err-Illegal in
+          move_illegal game komi c.args.id c.args.m new c.match-play.result answer.field-0-0 answer.ensures.err
+          ((answer.ensures.illegal answer.field-0-0).0 (ap Err answer.field-0-is)) (w.result-is ∙ w.refused.ensures)
+      | in-Err-Full w ↦
+          let answer = w.in-Err-Full in
+          let both = answer.ensures.full.0 (ap Err answer.field-0-is) in
+          move_past_full game komi c.args.id c.args.m new c.match-play.result answer.ensures.err both.0 both.1
+          (w.result-is ∙ w.refused-in-Err-Full.ensures)
+      | in-Err-NoMemory w ↦
+          let answer = w.in-Err-NoMemory in
+          move_without_memory game komi c.args.id c.args.m new c.match-play.result answer.ensures.err
+          (λ e forbidden. let illegal = (answer.ensures.illegal e).1 forbidden in let is = answer.field-0-is in cc)
+          (λ both. let full = answer.ensures.full.1 both in let is = answer.field-0-is in cc)
+          w.result-is
+    ])

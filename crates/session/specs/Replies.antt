@@ -1,0 +1,72 @@
+-- What a session's reply is.
+use Rattle.std.specs.Prelude.{◌≡◌, ℕ, Bool, true, false, List, [], ◌∷◌, Option}
+use Rattle.gtp_rules.specs.Lines.{RawLine, Line, TooLong}
+use Rattle.gtp_rules.specs.Steps.{Step}
+use Rattle.gtp_cmd.specs.Words.{words_of, cleaned}
+use Rattle.gtp_cmd.specs.Replies.{success_text, refusal_text}
+use Rattle.gtp_cmd.specs.declared.refusals.RefuseText.TheVariants.{OutOfMemory}
+use Rattle.session.specs.declared.reply.Reply.{Reply}
+use Rattle.session.specs.declared.reply.Reply.TheVariants as reply
+
+-- the bytes that are put on the output
+abbrev pub reply_bytes : Reply → List ℕ
+reply_bytes reply.Nothing = []
+reply_bytes (reply.Short text quit) = text
+reply_bytes (reply.Text bytes) = bytes
+reply_bytes (reply.NoMemory id) = refusal_text id OutOfMemory
+
+-- whether the reply ends the session
+abbrev pub reply_ends : Reply → Bool
+reply_ends reply.Nothing = false
+reply_ends (reply.Short text quit) = quit
+reply_ends (reply.Text bytes) = false
+reply_ends (reply.NoMemory id) = false
+
+-- The reply is what the step gave, and the machine is new after it; want of memory stands only in place of a growing reply, and
+-- then the machine is as before. The reply has bytes.
+abbrev pub IsReply : {M : Type 0} → M → Step M → Reply → M → Type 0
+IsReply old given reply.Nothing new = ⊥
+IsReply old given (reply.Short text quit) new = (text ≡ given.reply) × (quit ≡ given.ends) × (new ≡ given.next)
+IsReply old given (reply.Text bytes) new = (bytes ≡ given.reply) × (false ≡ given.ends) × (new ≡ given.next)
+IsReply old given (reply.NoMemory id) new = (given.grows ≡ true) × (refusal_text id OutOfMemory ≡ given.out_of_memory) × (new ≡ old)
+
+-- the reply to a line, which is none where the step gave no reply
+abbrev pub IsReplyTo : {M : Type 0} → M → Step M → Reply → M → Type 0
+IsReplyTo old given reply.Nothing new = ([] ≡ given.reply) × (false ≡ given.ends) × (new ≡ given.next)
+IsReplyTo old given (reply.Short text quit) new = IsReply old given (reply.Short text quit) new
+IsReplyTo old given (reply.Text bytes) new = IsReply old given (reply.Text bytes) new
+IsReplyTo old given (reply.NoMemory id) new = IsReply old given (reply.NoMemory id) new
+
+-- the reply is a success with this result, or want of memory in its place
+abbrev pub IsGrowing : Option ℕ → List ℕ → Reply → Type 0
+IsGrowing id text reply.Nothing = ⊥
+IsGrowing id text (reply.Short bytes quit) = ⊥
+IsGrowing id text (reply.Text bytes) = bytes ≡ success_text id text
+IsGrowing id text (reply.NoMemory none) = none ≡ id
+
+-- the line has no words, and is not too long
+abbrev pub IsWithoutWords : RawLine → Type 0
+IsWithoutWords TooLong = ⊥
+IsWithoutWords (Line text) = words_of (cleaned text) ≡ []
+
+-- the byte with which a success begins, and that with which a refusal begins
+abbrev pub equals_sign : ℕ
+equals_sign = 61
+
+abbrev pub question_mark : ℕ
+question_mark = 63
+
+-- the bytes are those of a success
+abbrev pub IsSuccess : List ℕ → Type 0
+IsSuccess bytes = (more : List ℕ) × (bytes ≡ equals_sign ∷ more)
+
+-- the bytes are those of a refusal
+abbrev pub IsRefusal : List ℕ → Type 0
+IsRefusal bytes = (more : List ℕ) × (bytes ≡ question_mark ∷ more)
+
+-- The step keeps its word: a refused line keeps the machine, a growing reply is a success with a refusal beside it, and a line
+-- that ends the session is a success that keeps the machine.
+pub record IsSound {M : Type 0} (old : M) (given : Step M) : Type 0 where
+  pub refused : IsRefusal given.reply → given.next ≡ old
+  pub growing : given.grows ≡ true → IsSuccess given.reply × IsRefusal given.out_of_memory
+  pub ended : given.ends ≡ true → IsSuccess given.reply × (given.next ≡ old)
