@@ -1,4 +1,5 @@
 -- What is kept of a main diagram decides what a further line does to it.
+use Rattle.go_rules.specs.Board.{largest_size}
 use Rattle.std.proofs.Common.{◌≡◌, ℕ, ◌+◌, Bool, not, cond, List, [], ◌∷◌, ◌++◌, length, Option, Some, None, refl, sym, ap, ◌∙◌, arith}
 use Rattle.std.specs.Prelude.{◌&&◌, ◌||◌, nat_lt, nat_le}
 use Rattle.std.proofs.lemmas.List.{length-append}
@@ -15,7 +16,7 @@ by_parts lines rows top bottom shape word = first_of (
     (not (is_edge_line word || is_row word), bad_letter)
     ∷ (is_edge_line word && not (nat_lt 0 rows) && top || bottom || other_sides (line_shape word) shape, edge_place)
     ∷ (other_width (line_shape word) shape, ragged)
-    ∷ (nat_lt 19 (length word) || nat_le 19 lines, too_large)
+    ∷ (nat_lt largest_size (length word) || nat_le largest_size lines, too_large)
     ∷ [])
 
 by_parts-is : (words : List (List ℕ)) (word : List ℕ) → by_parts (length words) (length (rows_of words)) (has_top words) (has_bottom words) (wanted words) word ≡ diagram_fault words word

@@ -1,4 +1,5 @@
 -- What the parts of a reader have read of the lines of a block.
+use Rattle.go_rules.specs.Board.{largest_size}
 use Rattle.std.specs.Prelude.{◌≡◌, ◌≤◌, take, ◌*◌, ◌&&◌, ◌||◌, not, nat_lt, nat_le, ℕ, List, [], ◌∷◌, length, Option}
 use Rattle.db_diagram.specs.declared.diagram.Diagram.{Diagram}
 use Rattle.db_diagram.specs.declared.marks.Marks.{Marks}
@@ -12,7 +13,7 @@ kept_fault d word = first_of (
     (not (is_edge_line word || is_row word), bad_letter)
     ∷ (is_edge_line word && not (nat_lt 0 d.rows) && d.top || d.bottom || other_sides (line_shape word) d.shape, edge_place)
     ∷ (other_width (line_shape word) d.shape, ragged)
-    ∷ (nat_lt 19 (length word) || nat_le 19 d.lines, too_large)
+    ∷ (nat_lt largest_size (length word) || nat_le largest_size d.lines, too_large)
     ∷ [])
 
 -- what is kept of a diagram is that of these words

@@ -1,5 +1,6 @@
 //! The constraint diagram of an entry, line by line.
 
+ghost use Rattle.go_rules.specs.Board.{largest_size};
 ghost use Rattle.std.specs.Prelude.{◌≡◌, ◌≤◌, ◌<◌, get_or, ◌==◌, ◌&&◌, ◌||◌, ◌+◌, not, ℕ, List, [], ◌∷◌, ◌++◌, length, map, drop, OnOk, IfErr, None};
 ghost use Rattle.std.specs.List.{list_any};
 ghost use Rattle.pat_types.specs.Kept.{names as some_has, are_apart as apart};
@@ -107,8 +108,8 @@ fn rows_after(rows: u8, row: bool) -> u8
 impl Marks {
     /// Reads a further line under main lines of these words. After an `Err` nothing is known of the labels.
     pub fn line(&mut self, mains: &[&[u8]], word: &[u8]) -> Result<(), LineError>
-        requires short { (k : ℕ) → length (get_or (map (λ f. f.now) mains.now) k []) ≤ 19 }
-        requires few { length mains.now ≤ 19 }
+        requires short { (k : ℕ) → length (get_or (map (λ f. f.now) mains.now) k []) ≤ largest_size }
+        requires few { length mains.now ≤ largest_size }
         ensures ok { OnOk result ((words : List (List ℕ)) → IsMarked self.old (map (λ f. f.now) mains.now) words →
             (constraint_fault (map (λ f. f.now) mains.now) words word.now ≡ None)
             × IsMarked self.new (map (λ f. f.now) mains.now) (words ++ word.now ∷ [])) }

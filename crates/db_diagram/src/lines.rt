@@ -1,5 +1,6 @@
 //! What a further line does to a main diagram.
 
+ghost use Rattle.go_rules.specs.Board.{largest_size};
 ghost use Rattle.std.specs.Prelude.{◌≡◌, ◌∷◌, [], ◌++◌, ◌&&◌, ◌||◌, not, nat_lt, nat_le, ℕ, List, OnOk, OnErr, IfErr, length, Some, None, ◌+◌, ◌<◌, ◌≤◌, ◌^◌, if◌then◌else◌};
 ghost use Rattle.std.specs.List.{filter_map};
 ghost use Rattle.pat_types.specs.Diagrams.{drawn_line};
@@ -11,7 +12,11 @@ ghost use Rattle.db_diagram.specs.Reads.{Draws, kept_fault};
 use crate::diagram::Diagram;
 use crate::words::{is_edge_line, is_row, letter, parts};
 use db_grammar::{BAD_LETTER, EDGE_PLACE, LineError, RAGGED, Shape, TOO_LARGE};
+use go_base::size::MAX_SIZE;
 use pat_types::{Letters, NoMemory};
+
+/// The greatest number of bytes of a diagram line, and of lines of a diagram: with its edges it lies within the largest board.
+const LONGEST: usize = MAX_SIZE as usize;
 
 fn differs(a: Option<Shape>, s: Shape) -> bool
     ensures { result ≡ other_sides s a }
@@ -51,9 +56,9 @@ fn is_out_of_place(edge: bool, has_row: bool, top: bool, bottom: bool, differs: 
 }
 
 fn is_too_large(bytes: usize, lines: usize) -> bool
-    ensures { result ≡ (nat_lt 19 bytes || nat_le 19 lines) }
+    ensures { result ≡ (nat_lt largest_size bytes || nat_le largest_size lines) }
 {
-    bytes > 19 || lines >= 19
+    bytes > LONGEST || lines >= LONGEST
 }
 
 /// The kind of the first fault that a diagram line has, by what was tested.
@@ -160,7 +165,7 @@ impl Diagram {
             (diagram_fault words word.now ≡ None) × Draws self.new (words ++ word.now ∷ [])) }
         ensures err { IfErr result (λ e. (words : List (List ℕ)) → Draws self.old words →
             Blames e (diagram_fault words word.now)) }
-        ensures few { OnOk result ((length word.now ≤ 19) × (self.new.lines ≤ 19) × (self.new.lines ≡ self.old.lines + 1)) }
+        ensures few { OnOk result ((length word.now ≤ largest_size) × (self.new.lines ≤ largest_size) × (self.new.lines ≡ self.old.lines + 1)) }
         ensures same { OnErr result (self.new.lines ≡ self.old.lines) }
     {
         if let Some(kind) = self.fault(word) {

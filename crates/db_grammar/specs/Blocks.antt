@@ -101,6 +101,7 @@ abbrev pub with_cell : SoFar → KeptLine → TableCell → SoFar
 with_cell s line (Next stage) = placed line stage s (kind_of line.bytes)
 with_cell s line (Refused kind) = s
 
+-- the same lines and one more, which goes where the table takes it
 unfoldable pub after_line : SoFar → KeptLine → SoFar
 after_line s line = with_cell s line (cell_for s.stage line)
 

@@ -10,24 +10,31 @@ use Rattle.db_lex.specs.Lines.{trimmed, with_front}
 use Rattle.db_grammar.specs.Kinds.{no_diagram, move_count, bad_mark, bad_class, bad_item, unknown_helper, first_of}
 use Rattle.db_grammar.specs.Diagram.{has_row, letters_of}
 
+-- the byte between two fields
 abbrev pub comma : ℕ
 comma = 44
 
+-- the byte that opens a text
 abbrev pub open_paren : ℕ
 open_paren = 40
 
+-- the byte that closes a text
 abbrev pub close_paren : ℕ
 close_paren = 41
 
+-- the byte that stands for no class
 abbrev pub dash : ℕ
 dash = 45
 
+-- the byte that a name may have beside letters and digits
 abbrev pub underscore : ℕ
 underscore = 95
 
+-- a letter from `A` to `Z` or from `a` to `z`
 abbrev pub is_ascii_letter : ℕ → Bool
 is_ascii_letter b = nat_le 65 b && nat_le b 90 || nat_le 97 b && nat_le b 122
 
+-- a digit
 abbrev pub is_digit : ℕ → Bool
 is_digit b = nat_le 48 b && nat_le b 57
 
@@ -59,6 +66,7 @@ mark_of ((b ∷ c ∷ bs) ∷ more) = None
 abbrev pub class_field : List (List ℕ) → List ℕ
 class_field fields = unwrap_or (slice_get fields 1) []
 
+-- a byte of the second field
 abbrev pub is_class_byte : ℕ → Bool
 is_class_byte b = is_ascii_letter b || b == dash
 
@@ -74,6 +82,7 @@ class_letters field = filter (λ b. not (b == dash)) field
 abbrev pub further : List (List ℕ) → List (List ℕ)
 further fields = drop 2 fields
 
+-- a byte of a name behind its first
 abbrev pub is_name_byte : ℕ → Bool
 is_name_byte b = is_ascii_letter b || is_digit b || b == underscore
 

@@ -13,6 +13,7 @@ use Rattle.db_grammar.specs.Kinds.{bad_letter, edge_place, ragged, too_large, fi
 abbrev pub letter_of : ℕ → Option Letter
 letter_of b = if b == 79 then Some Friend else if b == 88 then Some Enemy else if b == 46 then Some Empty else if b == 111 then Some FriendOrEmpty else if b == 120 then Some EnemyOrEmpty else if b == 63 then Some Any else if b == 42 then Some Star else None
 
+-- the byte is one of the seven letters
 abbrev pub is_letter : ℕ → Bool
 is_letter b = is_some (letter_of b)
 
@@ -56,6 +57,7 @@ is_row word = nat_lt 0 (length (inner bar word)) && list_all is_letter (inner ba
 unfoldable pub shape_of : ℕ → List ℕ → Shape
 shape_of b word = record { left = begins b word; right = ends b word; width = length (inner b word) }
 
+-- the rows of a diagram, in order
 abbrev pub rows_of : List (List ℕ) → List (List ℕ)
 rows_of diagram = filter is_row diagram
 
@@ -84,6 +86,7 @@ wanted_of (row ∷ more) diagram = Some (shape_of bar row)
 wanted_of [] [] = None
 wanted_of [] (top ∷ more) = Some (shape_of plus top)
 
+-- the shape with which a further line of a diagram is compared
 unfoldable pub wanted : List (List ℕ) → Option Shape
 wanted diagram = wanted_of (rows_of diagram) diagram
 

@@ -1,5 +1,6 @@
 //! The entry that is being read.
 
+ghost use Rattle.go_rules.specs.Board.{largest_size};
 ghost use Rattle.std.specs.Prelude.{◌≡◌, ◌≤◌, ◌<◌, ℕ, [], length, get_or, map, vec_len};
 
 use db_diagram::{Diagram, Marks};
@@ -20,7 +21,7 @@ pub struct Draft<'a> {
     pub has_expression: bool,
     /// The number of the first of these lines, or 0.
     pub first_expression: u64,
-    ghost short: { (k : ℕ) → length (get_or (map (λ w. w.now) words.items) k []) ≤ 19 },
+    ghost short: { (k : ℕ) → length (get_or (map (λ w. w.now) words.items) k []) ≤ largest_size },
     ghost counted: { vec_len words ≤ diagram.lines },
-    ghost few: { diagram.lines ≤ 19 },
+    ghost few: { diagram.lines ≤ largest_size },
 }

@@ -1,3 +1,4 @@
+use Rattle.go_rules.specs.Board.{largest_size}
 use Rattle.std.proofs.Common.{◌≡◌, ◌<◌, ◌≤◌, ◌∙◌, ◌+◌, ◌++◌, true, false, List, length, map, subst, sym, ap, refl, arith}
 use Rattle.std.proofs.lemmas.List.{length-map}
 use Rattle.std.specs.Prelude.{ℕ}
@@ -23,7 +24,7 @@ pub push_labels-requires-clause-same : goal.push_labels-requires-clause-same
 push_labels-requires-clause-same c = repeats-same c.word_at-main.result.now c.args.word.now (sym c.repeats.ensures ∙ c.if-not-repeats.false)
 
 pub push_labels-requires-clause-short : goal.push_labels-requires-clause-short
-push_labels-requires-clause-short c = let short : length c.word_at-main.result.now ≤ 19 = subst (λ (w : List ℕ). length w ≤ 19) (sym c.word_at-main.ensures) (c.requires.short c.args.self.now.lines) in omega arith
+push_labels-requires-clause-short c = let short : length c.word_at-main.result.now ≤ largest_size = subst (λ (w : List ℕ). length w ≤ largest_size) (sym c.word_at-main.ensures) (c.requires.short c.args.self.now.lines) in omega arith
 
 -- two labels of one letter are a fault
 pub returns-then-not-are_apart-clause-err : goal.returns-then-not-are_apart-clause-err
