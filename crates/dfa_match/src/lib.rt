@@ -1,8 +1,15 @@
 //! The scan of a board: an automaton is run from each point under each transformation.
+//!
+//! A hit is a number that the automaton accepts at the end of a word, which is what is seen along the moved spiral from an
+//! anchor. `scan` gives exactly the hits, each once; it is given no diagrams. Two laws say that a word that is read from an
+//! anchor matches a pattern exactly where the pattern fits there.
+//!
+//! After GNU Go Manual, "The DFA pattern matcher".
 #![tactic(auto)]
 
 ghost use Rattle.std.specs.Prelude.{◌≡◌, ◌↔◌, true, List, ℕ, ◌+◌, ◌*◌, ◌/◌, ◌%◌, ◌<◌, ◌++◌, [], IfOk, OnOk, IfSome};
 ghost use Rattle.go_rules.specs.Position.{BoardState};
+ghost use Rattle.go_rules.specs.Transform.{transformations};
 ghost use Rattle.dfa_core.specs.Automata.{Row, accepted, numbers_along};
 ghost use Rattle.dfa_match.specs.Sights.{seen_of, seen_at_place, seen_at, word_at};
 ghost use Rattle.go_rules.specs.declared.Colour.{Colour as ColourSeen};
@@ -16,6 +23,7 @@ ghost use Rattle.dfa_core.specs.Words.{Word};
 ghost use Rattle.dfa_match.specs.Hits.{hits_at, IsHit, AreHits, AreHitsWhere, comes_before};
 
 use dfa_core::{Automaton, Seen};
+use go_base::transform::TRANSFORMATIONS;
 use go_base::{Cell, Colour, Look, Point, Transform};
 use spiral::{OFFSETS, TurnedSpiral};
 use std::alloc::AllocError;
@@ -23,8 +31,11 @@ use std::alloc::AllocError;
 /// A pattern that an automaton accepts from an anchor under a transformation.
 #[derive(Clone, Copy, Debug, PartialEq, Eq)]
 pub struct Hit {
+    /// The number that the automaton accepts.
     pub pattern: u16,
+    /// The transformation that the spiral is moved by.
     pub transform: Transform,
+    /// The point from which the word is read.
     pub anchor: Point,
 }
 
@@ -131,7 +142,7 @@ fn sweep<L: Look>(
 ) -> Result<(), AllocError>
     requires points { points ≡ (L.shows look.old).size * (L.shows look.old).size }
     requires before { AreHitsWhere machine.now (L.shows look.old) friend (comes_before t 0) out.old.items }
-    requires transform { t < 8 }
+    requires transform { t < transformations }
     ensures ok { OnOk result (AreHitsWhere machine.now (L.shows look.old) friend (comes_before (t + 1) 0) out.new.items) }
     ensures same { L.shows look.new ≡ L.shows look.old }
 {
@@ -143,8 +154,8 @@ fn sweep<L: Look>(
     Ok(())
 }
 
-/// The hits of an automaton on the position of a look: each pattern that it accepts along the spiral from some anchor under
-/// some transformation, once.
+/// The hits of an automaton on the position of a look: each number that it accepts along the spiral from some anchor under some
+/// transformation, once. `out` must be empty, and gives the allocator. Takes memory.
 pub fn scan<L: Look>(
     machine: &Automaton,
     look: &mut L,
@@ -158,7 +169,7 @@ pub fn scan<L: Look>(
     let _ = machine.rows();
     let mut out = out;
     let points = look.size().points();
-    'transforms: for n in 0..8 {
+    'transforms: for n in 0..TRANSFORMATIONS {
         if let Some(t) = Transform::new(n) {
             sweep(machine, look, friend, t, points, &mut out)?;
         }
