@@ -50,6 +50,13 @@ impl TurnedSpiral {
         }
     }
 
+    /// The transformation that moved it.
+    pub fn transform(&self) -> Transform
+        ensures { result ≡ self.now }
+    {
+        self.transform
+    }
+
     /// The point that the offset with an index leads to from the anchor in a row and a column; None exactly off the board.
     pub fn place(&self, index: u16, row: u8, column: u8, size: Size) -> Option<Point>
         requires index { index < offset_count }
