@@ -184,17 +184,20 @@ module _ (machine : List Row) (board : BoardState) (friend : Colour) where
         let both = and_parts (lies_on_board p board.size z.transform z.at) (is_legal board friend z.at) parts.1 in
         let found = has_hit-true z.pattern z.transform (place_of_anchor p board.size z.transform z.at) parts.0 in
         let low : z.transform < transformations = omega (arith, by.transform, count_within p.mark) in
-        let on = placed_on board.size z.transform z.at (pos (anchor_of p).0 -ℤ pos p.star.0, pos (anchor_of p).1 -ℤ pos p.star.1) found.0 found.1 in
-        (record { pattern = z.pattern; transform = z.transform; anchor = found.0 }, hit_of_accept z.pattern z.transform found.0 low on found.2, record {
-          pattern = p;
-          number = by.number;
-          transform = by.transform;
-          star = star_of_anchor p board.size z.transform z.at found.0 low by.at found.1;
-          whole = both.0;
-          legal = both.1;
-          same_pattern = refl;
-          same_transform = refl;
-        })
+        let on = placed_on board.size z.transform z.at (pos (anchor_of p).0 -ℤ pos p.star.0, pos (anchor_of p).1 -ℤ pos p.star.1) found.0 found.1 in (
+          record { pattern = z.pattern; transform = z.transform; anchor = found.0 },
+          hit_of_accept z.pattern z.transform found.0 low on found.2,
+          record {
+            pattern = p;
+            number = by.number;
+            transform = by.transform;
+            star = star_of_anchor p board.size z.transform z.at found.0 low by.at found.1;
+            whole = both.0;
+            legal = both.1;
+            same_pattern = refl;
+            same_transform = refl;
+          },
+        )
 
     -- two hits that are one match are one hit
     one_hit : (g h : Hit) (z : Match) → IsMade patterns board friend g z → IsMade patterns board friend h z → IsHit machine board friend g → IsHit machine board friend h → g ≡ h
