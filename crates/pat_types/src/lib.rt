@@ -13,8 +13,8 @@ mod mark;
 mod pattern;
 
 pub use cell::{Drawn, Line, anchor, drawn_in};
-pub use go_base::{Bytes, NoMemory};
 pub use expr::{Arg, Expr, Function, Op};
+pub use go_base::{Bytes, NoMemory};
 pub use letter::{Letter, letter_fits};
 pub use lists::{Args, Items, Labels, Letters};
 pub use mark::{Mark, mark_count};
