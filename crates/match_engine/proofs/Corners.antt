@@ -1,9 +1,9 @@
 -- A diagram lies on the board where two opposite corners do.
-use Rattle.std.proofs.Common.{◌≡◌, ℕ, ◌+◌, ◌-◌, ◌<◌, ◌≤◌, Bool, true, false, Option, Some, None, is_some, refl, sym, ap, ◌∙◌, arith, ℤ, pos, ◌-ℤ◌}
+use Rattle.std.proofs.Common.{◌≡◌, ℕ, ◌-◌, ◌<◌, Bool, true, false, Option, Some, None, is_some, refl, sym, ap, ◌∙◌, arith, pos, ◌-ℤ◌}
 use Rattle.std.specs.List.{list_all, range_with_len}
 use Rattle.std.proofs.lemmas.Bool.{false≢true}
 use Rattle.std.proofs.lemmas.Int.{ints}
-use Rattle.go_rules.specs.Transform.{Offset, transformations}
+use Rattle.go_rules.specs.Transform.{transformations}
 use Rattle.pat_types.specs.declared.pattern.Pattern.{Pattern}
 use Rattle.match_engine.specs.Fits.{place_of_cell}
 use Rattle.match_engine.specs.Match.{lies_on_board}

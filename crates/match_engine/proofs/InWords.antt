@@ -1,6 +1,6 @@
 -- The test of a fit is the fact.
-use Rattle.std.proofs.Common.{◌≡◌, ◌≢◌, ℕ, zero, suc, ◌+◌, ◌*◌, ◌<◌, ◌⊎◌, inl, inr, Bool, true, false, not, ◌&&◌, ◌||◌, cond, ltb, eqb, Option, Some, None, is_some, Contains, refl, sym, ap, ◌∙◌, subst, arith, ℤ, pos, negsuc, ◌-ℤ◌, map}
-use Rattle.std.specs.List.{list_all, flat_map, range_with_len}
+use Rattle.std.proofs.Common.{◌≡◌, ℕ, suc, ◌+◌, ◌<◌, inl, inr, Bool, true, false, not, ◌&&◌, ◌||◌, cond, ltb, eqb, Option, Some, None, Contains, refl, sym, ap, ◌∙◌, subst, arith, ℤ, pos, negsuc, ◌-ℤ◌, map}
+use Rattle.std.specs.List.{range_with_len}
 use Rattle.std.proofs.lemmas.Bool.{cases_Bool, ltb-true, lt-ltb, eqb-true, and_parts, false≢true}
 use Rattle.std.proofs.lemmas.Int.{ints}
 use Rattle.go_rules.specs.declared.Cell.{Cell}
@@ -18,10 +18,9 @@ use Rattle.pat_types.specs.declared.cell.Line.TheVariants.{Crosses, Edge, Beyond
 use Rattle.pat_types.specs.declared.pattern.Pattern.{Pattern}
 use Rattle.pat_types.specs.Letters.{admits}
 use Rattle.pat_types.specs.Cells.{line_at, drawn_by, drawn_at}
-use Rattle.dfa_core.specs.declared.automaton.Seen.{Seen}
 use Rattle.dfa_core.specs.Fits.{letter_admits, drawn_admits, is_friend, is_enemy, is_empty, is_off}
 use Rattle.dfa_match.specs.Sights.{seen_of, seen_at_place}
-use Rattle.match_engine.specs.Fits.{place_of_cell, letter_at, IsEdgeCell, LetterFits, Fits, line_cells, cells_of, cell_fits, fits}
+use Rattle.match_engine.specs.Fits.{place_of_cell, letter_at, LetterFits, Fits, line_cells, cells_of, cell_fits, fits}
 use Rattle.match_engine.proofs.Lists.{passes_each, passes_all, Contains-map_from, Contains-flat_map_from, Contains-below_from}
 
 -- a friend's stone is seen where one stands

@@ -1,18 +1,18 @@
 -- The matches that the hits of a machine are, and the matches by the machine.
 use Rattle.std.proofs.Common.{◌≡◌, ℕ, ◌+◌, ◌*◌, ◌<◌, ◌≤◌, Bool, true, false, ◌&&◌, cond, ltb, eqb, List, [], ◌∷◌, ◌++◌, length, get_or, take, Contains, Option, Some, None, slice_get, refl, sym, ap, ◌∙◌, subst, arith, pos, ◌+ℤ◌, ◌-ℤ◌}
-use Rattle.std.specs.List.{filter_map, list_any, AllPairs}
+use Rattle.std.specs.List.{filter_map, list_any}
 use Rattle.std.specs.List.Sorted.{IsPermutation, IsSorted}
 use Rattle.std.specs.Option.{option_to_list}
 use Rattle.std.proofs.lemmas.Bool.{and_parts, and_from, ltb-true, lt-ltb, eqb-true, eq-eqb, false≢true}
 use Rattle.std.proofs.lemmas.Int.{ints}
-use Rattle.std.proofs.lemmas.List.{take_more, get_or_read}
+use Rattle.std.proofs.lemmas.List.{take_more}
 use Rattle.std.proofs.lemmas.List.Elements.{filter_map-append}
 use Rattle.std.proofs.lemmas.List.Folds.{Any-from_list_any, list_any-from_Any}
 use Rattle.std.proofs.lemmas.List.Sorted.{Contains-permutation, IsPermutation-sym}
-use Rattle.std.proofs.lemmas.Option.{none-some, same_Some, cond_some, slice_get_within}
+use Rattle.std.proofs.lemmas.Option.{none-some, same_Some, cond_some}
 use Rattle.go_rules.specs.declared.Colour.{Colour}
 use Rattle.go_rules.specs.Position.{BoardState}
-use Rattle.go_rules.specs.Transform.{Offset, transformations}
+use Rattle.go_rules.specs.Transform.{transformations}
 use Rattle.go_rules.proofs.Counts.{any_below_gives, any_below_from}
 use Rattle.spiral.specs.Spiral.{place_at, offset_count}
 use Rattle.pat_types.specs.declared.mark.Mark.{Mark}
@@ -26,7 +26,7 @@ use Rattle.dfa_match.specs.Sights.{word_at}
 use Rattle.dfa_match.specs.Hits.{IsHit, AreHits}
 use Rattle.match_engine.specs.declared.found.Match.{Match}
 use Rattle.match_engine.specs.Match.{is_legal, lies_on_board, accepts_from, has_hit, place_of_anchor, is_machine_match, machine_matches}
-use Rattle.match_engine.specs.Found.{place_of_star, match_at, match_of, match_from}
+use Rattle.match_engine.specs.Found.{place_of_star, match_at, match_from}
 use Rattle.match_engine.proofs.Lists.{Contains-filter_map, Contains-filter_map_from}
 use Rattle.match_engine.proofs.Orders.{IsBy, by-has, by-from, by-in_order, same_matches}
 use Rattle.match_engine.proofs.Places.{sum_of, placed_on, place_at-sum, place_at-none}
@@ -184,17 +184,20 @@ module _ (machine : List Row) (board : BoardState) (friend : Colour) where
         let both = and_parts (lies_on_board p board.size z.transform z.at) (is_legal board friend z.at) parts.1 in
         let found = has_hit-true z.pattern z.transform (place_of_anchor p board.size z.transform z.at) parts.0 in
         let low : z.transform < transformations = omega (arith, by.transform, count_within p.mark) in
-        let on = placed_on board.size z.transform z.at (pos (anchor_of p).0 -ℤ pos p.star.0, pos (anchor_of p).1 -ℤ pos p.star.1) found.0 found.1 in
-        (record { pattern = z.pattern; transform = z.transform; anchor = found.0 }, hit_of_accept z.pattern z.transform found.0 low on found.2, record {
-          pattern = p;
-          number = by.number;
-          transform = by.transform;
-          star = star_of_anchor p board.size z.transform z.at found.0 low by.at found.1;
-          whole = both.0;
-          legal = both.1;
-          same_pattern = refl;
-          same_transform = refl;
-        })
+        let on = placed_on board.size z.transform z.at (pos (anchor_of p).0 -ℤ pos p.star.0, pos (anchor_of p).1 -ℤ pos p.star.1) found.0 found.1 in (
+          record { pattern = z.pattern; transform = z.transform; anchor = found.0 },
+          hit_of_accept z.pattern z.transform found.0 low on found.2,
+          record {
+            pattern = p;
+            number = by.number;
+            transform = by.transform;
+            star = star_of_anchor p board.size z.transform z.at found.0 low by.at found.1;
+            whole = both.0;
+            legal = both.1;
+            same_pattern = refl;
+            same_transform = refl;
+          },
+        )
 
     -- two hits that are one match are one hit
     one_hit : (g h : Hit) (z : Match) → IsMade patterns board friend g z → IsMade patterns board friend h z → IsHit machine board friend g → IsHit machine board friend h → g ≡ h

@@ -1,6 +1,5 @@
 -- The matches by the machine of the patterns are the matches.
-use Rattle.std.proofs.Common.{◌≡◌, ℕ, ◌<◌, ◌*◌, true, ◌&&◌, List, Contains, Option, Some, slice_get, is_some, is_ok, Result, Ok, Err, refl, sym, ap, ◌∙◌, subst, arith, ℤ, pos, ◌+ℤ◌, ◌-ℤ◌}
-use Rattle.std.specs.List.{AllPairs}
+use Rattle.std.proofs.Common.{◌≡◌, ℕ, ◌<◌, true, ◌&&◌, List, Some, is_some, is_ok, Result, Ok, Err, refl, sym, ap, ◌∙◌, subst, arith, ℤ, pos, ◌+ℤ◌, ◌-ℤ◌}
 use Rattle.std.proofs.lemmas.Bool.{and_parts, and_from, false≢true}
 use Rattle.std.proofs.lemmas.Int.{ints}
 use Rattle.std.proofs.lemmas.Option.{same_Some}
@@ -8,7 +7,7 @@ use Rattle.go_rules.specs.declared.Colour.{Colour}
 use Rattle.go_rules.specs.declared.Illegal.{Illegal}
 use Rattle.go_rules.specs.Play.{play}
 use Rattle.go_rules.specs.Position.{BoardState}
-use Rattle.go_rules.specs.Transform.{Offset, transformations}
+use Rattle.go_rules.specs.Transform.{transformations}
 use Rattle.spiral.specs.Spiral.{place_at}
 use Rattle.pat_types.specs.declared.pattern.Pattern.{Pattern}
 use Rattle.pat_types.specs.Cells.{drawn_at, anchor_of}
@@ -18,13 +17,12 @@ use Rattle.dfa_core.specs.States.{matched_from}
 use Rattle.dfa_core.specs.Words.{Word}
 use Rattle.dfa_match.specs.declared.Hit.{Hit}
 use Rattle.dfa_match.specs.Fitting.{FitsAt, IsFit}
-use Rattle.dfa_match.specs.Hits.{IsHit}
 use Rattle.dfa_match.specs.Sights.{seen_at_place}
 use Rattle.dfa_match.proofs.Bounds.{anchor_within}
 use Rattle.dfa_match.proofs.FitHits.{fit_from_hit, hit_from_fit}
 use Rattle.match_engine.specs.declared.found.Match.{Match}
-use Rattle.match_engine.specs.Fits.{place_of_cell, Fits, cell_fits, fits}
-use Rattle.match_engine.specs.Match.{is_legal, is_match, matches_of, IsMatch, ComesBefore, AreMatches, has_hit, place_of_anchor, lies_on_board, is_machine_match, machine_matches}
+use Rattle.match_engine.specs.Fits.{place_of_cell, fits}
+use Rattle.match_engine.specs.Match.{is_legal, is_match, matches_of, IsMatch, AreMatches, has_hit, place_of_anchor, lies_on_board, is_machine_match, machine_matches}
 use Rattle.match_engine.proofs.Corners.{on_all}
 use Rattle.match_engine.proofs.InWords.{each_cell, all_cells, letter_from_cell, fits-true, fits-from}
 use Rattle.match_engine.proofs.Machine.{count_within, hit_of_accept, accept_of_hit, has_hit-true}

@@ -191,13 +191,15 @@ placed_between s t m a b d e f low first last within =
     let q = placed-Some s t m f b last in
     let moved = keeps_within t low d e f within in
     let row = line_between s (m / s) p.row q.row (transformed t d).0 (transformed t e).0 (transformed t f).0 p.row_is p.row_on q.row_is q.row_on moved.0 in
-    let column = line_between s (m % s) p.column q.column (transformed t d).1 (transformed t e).1 (transformed t f).1 p.column_is p.column_on q.column_is q.column_on moved.1 in
-    (row.0 * s + column.0, place_at-at s t m e (row.0 * s + column.0) (record {
-      row = row.0;
-      column = column.0;
-      row_is = row.1;
-      column_is = column.1;
-      row_on = row.2;
-      column_on = column.2;
-      point = refl;
-    }))
+    let column = line_between s (m % s) p.column q.column (transformed t d).1 (transformed t e).1 (transformed t f).1 p.column_is p.column_on q.column_is q.column_on moved.1 in (
+      row.0 * s + column.0,
+      place_at-at s t m e (row.0 * s + column.0) (record {
+        row = row.0;
+        column = column.0;
+        row_is = row.1;
+        column_is = column.1;
+        row_on = row.2;
+        column_on = column.2;
+        point = refl;
+      }),
+    )

@@ -1,5 +1,5 @@
 -- Sorted lists of matches that differ are in order, and lists in another order have the same matches, which differ too.
-use Rattle.std.proofs.Common.{◌≡◌, ◌≢◌, ℕ, zero, suc, ◌<◌, ◌≤◌, ◌⊎◌, inl, inr, Bool, true, false, cond, ltb, eqb, List, [], ◌∷◌, length, get_or, Contains, Option, Some, None, Ordering, refl, sym, ap, ◌∙◌, subst, arith}
+use Rattle.std.proofs.Common.{◌≡◌, ◌≢◌, ℕ, zero, suc, ◌<◌, ◌⊎◌, inl, inr, cond, eqb, List, [], ◌∷◌, length, get_or, Contains, Option, Some, None, Ordering, refl, sym, ap, ◌∙◌, subst, arith}
 use Rattle.std.specs.declared.cmp.Ordering.TheVariants.{Less, Equal, Greater}
 use Rattle.std.specs.Ordering.{nat_cmp, ordering_then, is_lt}
 use Rattle.std.specs.List.{swap, filter_map, cons_option, AllPairs}

@@ -1,6 +1,6 @@
 -- The matches of patterns on a position, in order: by the pattern's number, the transformation, and the point of the move.
 -- A pattern asks for nothing here but its diagram and a legal move: constraints, classes and helpers are not evaluated.
-use Rattle.std.specs.Prelude.{◌≡◌, ℕ, ◌+◌, ◌*◌, ◌<◌, ◌&&◌, ◌==◌, ◌⊎◌, Bool, true, false, pos, List, map, filter, Option, Some, None, is_some, is_ok, Ok, slice_get, Contains}
+use Rattle.std.specs.Prelude.{◌≡◌, ℕ, ◌+◌, ◌*◌, ◌<◌, ◌&&◌, ◌==◌, ◌⊎◌, Bool, false, pos, List, map, filter, Option, Some, None, is_some, is_ok, Ok, slice_get, Contains}
 use Rattle.std.specs.List.{list_all, list_any, flat_map, enumerate_from, range_with_len, AllPairs}
 use Rattle.go_rules.specs.declared.Colour.{Colour}
 use Rattle.go_rules.specs.Below.{any_below}

@@ -65,8 +65,18 @@ fn state_counts_of_small_lists(rt: HostRuntime) -> Result<(), Fail> {
     let rows: [(&str, &[u8], u32, Option<u32>); 6] = [
         ("the smallest pattern at its count", SMALLEST, 7, Some(7)),
         ("the smallest pattern above it", SMALLEST, 6, None),
-        ("two patterns at their count", b"Pattern P\nO*\n:8,s\nPattern Q\nX*\n:8,s", 12, Some(12)),
-        ("two patterns above it", b"Pattern P\nO*\n:8,s\nPattern Q\nX*\n:8,s", 11, None),
+        (
+            "two patterns at their count",
+            b"Pattern P\nO*\n:8,s\nPattern Q\nX*\n:8,s",
+            12,
+            Some(12),
+        ),
+        (
+            "two patterns above it",
+            b"Pattern P\nO*\n:8,s\nPattern Q\nX*\n:8,s",
+            11,
+            None,
+        ),
         ("the empty list has the sink alone", b"", 1, Some(1)),
         ("and the sink counts", b"", 0, None),
     ];
@@ -79,22 +89,116 @@ fn state_counts_of_small_lists(rt: HostRuntime) -> Result<(), Fail> {
 #[test]
 fn matches_of_one_pattern(rt: HostRuntime) -> Result<(), Fail> {
     let rows: [(&str, &[u8], &[u8], u8, &[Point], Colour, &[(u8, Point)]); 9] = [
-        ("eight placements of the smallest pattern", SMALLEST, SMALLEST, 3, &[4], Colour::Black, &[(0, 5), (1, 7), (2, 3), (3, 1), (4, 3), (5, 1), (6, 5), (7, 7)]),
-        ("a mark of four", b"Pattern P\nO*\n:-,s", b"Pattern P\nO*\n:-,s", 3, &[4], Colour::Black, &[(0, 5), (1, 7), (2, 3), (3, 1)]),
-        ("a mark of one", b"Pattern P\nO*\n:O,s", b"Pattern P\nO*\n:O,s", 3, &[4], Colour::Black, &[(0, 5)]),
-        ("a drawn edge beside the move", b"Pattern P\nO*|\n:8,s", b"Pattern P\nO*|\n:8,s", 9, &[43], Colour::Black, &[(0, 44), (6, 44)]),
-        ("and none in the middle", b"Pattern P\nO*|\n:8,s", b"Pattern P\nO*|\n:8,s", 9, &[40], Colour::Black, &[]),
-        ("a stone in the corner", SMALLEST, SMALLEST, 9, &[0], Colour::Black, &[(0, 1), (1, 9), (6, 1), (7, 9)]),
-        ("no stone of the friend", SMALLEST, SMALLEST, 3, &[4], Colour::White, &[]),
-        ("another automaton finds nothing for black", SMALLEST, AGAINST, 3, &[4], Colour::Black, &[]),
-        ("and all eight for white", SMALLEST, AGAINST, 3, &[4], Colour::White, &[(0, 5), (1, 7), (2, 3), (3, 1), (4, 3), (5, 1), (6, 5), (7, 7)]),
+        (
+            "eight placements of the smallest pattern",
+            SMALLEST,
+            SMALLEST,
+            3,
+            &[4],
+            Colour::Black,
+            &[
+                (0, 5),
+                (1, 7),
+                (2, 3),
+                (3, 1),
+                (4, 3),
+                (5, 1),
+                (6, 5),
+                (7, 7),
+            ],
+        ),
+        (
+            "a mark of four",
+            b"Pattern P\nO*\n:-,s",
+            b"Pattern P\nO*\n:-,s",
+            3,
+            &[4],
+            Colour::Black,
+            &[(0, 5), (1, 7), (2, 3), (3, 1)],
+        ),
+        (
+            "a mark of one",
+            b"Pattern P\nO*\n:O,s",
+            b"Pattern P\nO*\n:O,s",
+            3,
+            &[4],
+            Colour::Black,
+            &[(0, 5)],
+        ),
+        (
+            "a drawn edge beside the move",
+            b"Pattern P\nO*|\n:8,s",
+            b"Pattern P\nO*|\n:8,s",
+            9,
+            &[43],
+            Colour::Black,
+            &[(0, 44), (6, 44)],
+        ),
+        (
+            "and none in the middle",
+            b"Pattern P\nO*|\n:8,s",
+            b"Pattern P\nO*|\n:8,s",
+            9,
+            &[40],
+            Colour::Black,
+            &[],
+        ),
+        (
+            "a stone in the corner",
+            SMALLEST,
+            SMALLEST,
+            9,
+            &[0],
+            Colour::Black,
+            &[(0, 1), (1, 9), (6, 1), (7, 9)],
+        ),
+        (
+            "no stone of the friend",
+            SMALLEST,
+            SMALLEST,
+            3,
+            &[4],
+            Colour::White,
+            &[],
+        ),
+        (
+            "another automaton finds nothing for black",
+            SMALLEST,
+            AGAINST,
+            3,
+            &[4],
+            Colour::Black,
+            &[],
+        ),
+        (
+            "and all eight for white",
+            SMALLEST,
+            AGAINST,
+            3,
+            &[4],
+            Colour::White,
+            &[
+                (0, 5),
+                (1, 7),
+                (2, 3),
+                (3, 1),
+                (4, 3),
+                (5, 1),
+                (6, 5),
+                (7, 7),
+            ],
+        ),
     ];
     for (what, text, other, side, stones, friend, want) in rows {
         let position = with_stones(side, stones)?;
         let found = matches_by(&rt, text, other, &position, friend)?;
         assert_eq!(rt; found.len(), want.len(), "{what}");
         for (m, (t, at)) in found.iter().zip(want) {
-            assert_eq!(rt; (m.pattern, m.transform.get(), m.at), (0, *t, *at), "{what}");
+            assert_eq!(rt;
+                (m.pattern, m.transform.get(), m.at),
+                (0, *t, *at),
+                "{what}"
+            );
         }
     }
     Ok(())

@@ -1,5 +1,5 @@
 -- Facts on offsets and places.
-use Rattle.std.proofs.Common.{◌≡◌, ℕ, ◌/◌, ◌%◌, ℤ, pos, ◌+ℤ◌, Option, refl, ◌∙◌, ap}
+use Rattle.std.proofs.Common.{◌≡◌, ℕ, ◌/◌, ◌%◌, ℤ, pos, ◌+ℤ◌, refl, ◌∙◌, ap}
 use Rattle.go_rules.specs.Transform.{Offset, transformed}
 use Rattle.spiral.specs.Spiral.{line_of, point_of, place_at}
 

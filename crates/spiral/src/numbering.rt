@@ -24,7 +24,10 @@ pub fn index(dr: i8, dc: i8) -> u16
     ensures value { offset_at result ≡ (dr, dc) }
     ensures bound { result < offset_count }
 {
-    index_in_square((dr as i16 + LAST_RING as i16) as u16, (dc as i16 + LAST_RING as i16) as u16)
+    index_in_square(
+        (dr as i16 + LAST_RING as i16) as u16,
+        (dc as i16 + LAST_RING as i16) as u16,
+    )
 }
 
 /// No two indices have one offset, and each index below 1,369 has one with both parts from -18 to 18.

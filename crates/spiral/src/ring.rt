@@ -79,7 +79,11 @@ fn from_middle(line: u16) -> u16
     requires { line < square_side }
     ensures { result ≡ (line - largest_offset) + (largest_offset - line) }
 {
-    if line < LAST_RING { LAST_RING - line } else { line - LAST_RING }
+    if line < LAST_RING {
+        LAST_RING - line
+    } else {
+        line - LAST_RING
+    }
 }
 
 /// The index of the offset in a row and a column of the square of all offsets.

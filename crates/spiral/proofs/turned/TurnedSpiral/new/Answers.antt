@@ -1,6 +1,5 @@
-use Rattle.std.proofs.Common.{◌≡◌, ◌≢◌, ◌<◌, pos, length, refl, ◌∙◌, sym, subst, arith, below_more, length-set, get_or-set_same, get_or-set_other}
+use Rattle.std.proofs.Common.{◌≢◌, pos, ◌∙◌, arith, below_more, length-set, get_or-set_same, get_or-set_other}
 use Rattle.std.proofs.lemmas.Int.{ints}
-use Rattle.go_rules.specs.Transform.{transformed}
 use Rattle.spiral.specs.Spiral.{offset_at}
 use Rattle.spiral.proofs.Places.{moved_by}
 use Rattle.spiral.proofs.turned.TurnedSpiral.new.Goals as goal

@@ -1,4 +1,4 @@
-use Rattle.std.proofs.Common.{◌≡◌, ◌∙◌, refl, arith}
+use Rattle.std.proofs.Common.{◌≡◌, ◌∙◌, refl}
 use Rattle.go_rules.specs.Transform.{transformed}
 use Rattle.spiral.specs.Spiral.{offset_at}
 use Rattle.spiral.specs.Turned.{entry_at}
