@@ -7,3 +7,5 @@ pub mod Replied
 pub mod Refusals
 pub mod ServeLemmas
 pub mod Served
+pub mod PatternLemmas
+pub mod OpeningLemmas

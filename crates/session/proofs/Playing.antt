@@ -113,7 +113,7 @@ IsReply-growing old id text (reply.Text bytes) grows = (grows, refl, refl)
 IsReply-growing old id text (NoMemory none) grows = (refl, ap (λ i. refusal_text i OutOfMemory) grows, refl)
 
 -- what is told stands for the same text
-if_ok-told : {E : Type 0} (result : Result (List ℕ) E) (told text : List ℕ) → told ≡ text → IfOk result (λ bytes. bytes ≡ told) → IfOk result (λ bytes. bytes ≡ text)
+pub if_ok-told : {E : Type 0} (result : Result (List ℕ) E) (told text : List ℕ) → told ≡ text → IfOk result (λ bytes. bytes ≡ told) → IfOk result (λ bytes. bytes ≡ text)
 if_ok-told (Ok bytes) told text same is = is ∙ same
 if_ok-told (Err e) told text same is = tt
 

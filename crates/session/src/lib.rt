@@ -6,7 +6,9 @@
 #![tactic(auto)]
 
 mod board_text;
+mod opening;
 mod outcome;
+mod pattern_text;
 mod readings;
 mod reply;
 mod serve;

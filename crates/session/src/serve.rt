@@ -1,5 +1,5 @@
 //! The loops of a run: a reply that is put, the lines of a piece, and the pieces of a source.
-ghost use Rattle.std.specs.Prelude.{◌≡◌, ◌≢◌, ◌≤◌, ◌<◌, true, false, length, take, IfOk, OnOk, OnErr};
+ghost use Rattle.std.specs.Prelude.{◌≡◌, ◌≤◌, ◌<◌, true, false, ◌++◌, length, take, IfOk, OnOk, OnErr};
 ghost use Rattle.std.specs.Io.{ReadsAtMost};
 ghost use Rattle.std.specs.Io.KnownBytes.{Appends, ReadConsumes};
 ghost use Rattle.gtp_io.specs.Outside.{IsCounted, Gave};
@@ -10,6 +10,7 @@ ghost use Rattle.gtp_lex.specs.LinesTaken.{taken_of, given_state};
 ghost use Rattle.gtp_lex.specs.Raw.{raw_line};
 ghost use Rattle.session.specs.Answering.{step};
 ghost use Rattle.session.specs.Headline.{Serves, IsCauseOf};
+ghost use Rattle.session.specs.Opening.{WasEntered};
 ghost use Rattle.session.specs.Serving.{PutsPart, Replies, RepliesPart, RunsTo, RunsPart};
 
 use crate::outcome::Outcome;
@@ -37,6 +38,16 @@ pub(crate) fn put_all<K: Sink>(output: &mut K, bytes: &[u8]) -> Result<(), Faile
         rest = &rest[count..];
     }
     Ok(())
+}
+
+/// Puts two pieces, the second where the first went out whole.
+pub(crate) fn put_both<K: Sink>(output: &mut K, first: &[u8], second: &[u8]) -> Result<(), Failed>
+    ensures ok { OnOk result (Appends (K.written output.old) (K.written output.new) (first.now ++ second.now)) }
+    ensures part { OnErr result (PutsPart (K.written output.old) (K.written output.new) (first.now ++ second.now)) }
+    ensures cause { IsCounted (K.faults output.old) (K.faults output.new) result }
+{
+    put_all(output, first)?;
+    put_all(output, second)
 }
 
 // Answers one line, and says whether it ends the session.
@@ -178,7 +189,7 @@ pub(crate) fn serve<S: Source, K: Sink>(
     output: &mut K,
 ) -> Outcome
     requires { lines.old ≡ no_line }
-    ensures ran { (result ≢ Outcome.Usage) × (result ≢ Outcome.NoMemory) }
+    ensures ran { WasEntered result }
     ensures serves { Serves step session.old (S.left input.old) (S.left input.new) (K.written output.old) (K.written output.new)
         (S.piece input.new) result }
     ensures input { IsCauseOf (result ≡ Outcome.InputFault) (S.faults input.old) (S.faults input.new) }

@@ -12,6 +12,7 @@ ghost use Rattle.read_tree.specs.declared.question.Kind.{Kind};
 ghost use Rattle.session.specs.Replies.{IsReply, IsReplyTo, IsGrowing, IsWithoutWords, IsRefusal, reply_bytes};
 
 use crate::board_text::board_text;
+use crate::pattern_text::patterns_text;
 use crate::readings::{answer_text, reading};
 use crate::reply::Reply;
 use crate::vertices::{legal_text, liberties_text};
@@ -21,6 +22,7 @@ use go_history::{History, HistoryError, Move};
 use gtp_cmd::{Command, KomiText, Parsed, RefuseText, names, parse, refusal, short, success};
 use gtp_lex::Raw;
 use itoa::Buffer;
+use pat_types::Pattern;
 use read_moves::Depths;
 use read_tree::Kind;
 use std::alloc::Global;
@@ -39,12 +41,19 @@ pub struct Session {
     history: History,
     komi: KomiText,
     depths: Depths,
+    patterns: Vec<Pattern>,
 }
 
 impl Model for Session {
+    ghost use Rattle.session.specs.Machine.{Machine};
+    ghost use Rattle.pat_types.specs.contracts.expr.Expr as expr;
+    ghost use Rattle.std.specs.Coded.{codes};
+
     ghost Value = { Machine };
 
-    ghost view = { λ s. record { size = s.history.size; moves = s.history.moves; komi = s.komi; plies = s.depths.plies; wide = s.depths.wide } };
+    ghost coded = { Prim.hlevel (codes, expr.the_row.coded) };
+
+    ghost view = { λ s. record { size = s.history.size; moves = s.history.moves; komi = s.komi; plies = s.depths.plies; wide = s.depths.wide; patterns = s.patterns.items } };
 }
 
 /// A success of a short result.
@@ -116,10 +125,10 @@ fn has_stone(position: &Position, p: Point) -> bool
 }
 
 impl Session {
-    /// A session before its first line: the largest board, no moves, the komi 0.0, readings of 10 plies, of which 2 are wide.
+    /// A session with these patterns before its first line: the largest board, no moves, the komi 0.0, readings of 10 plies, of which 2 are wide.
     /// Takes memory.
-    pub fn new(alloc: Global) -> Result<Session, NoMemory>
-        ensures { IfOk result (λ session. session ≡ first_machine) }
+    pub fn new(alloc: Global, patterns: Vec<Pattern>) -> Result<Session, NoMemory>
+        ensures { IfOk result (λ session. session ≡ first_machine patterns.items) }
     {
         let size = Size::new(MAX_SIZE).unwrap();
         Ok(Session {
@@ -127,6 +136,7 @@ impl Session {
             history: History::new(alloc, size)?,
             komi: KomiText::zero(),
             depths: Depths::new(FIRST_PLIES, FIRST_WIDE).unwrap(),
+            patterns,
         })
     }
 
@@ -200,7 +210,8 @@ impl Session {
                 self.depths = Depths::new(plies, wide).unwrap();
                 told(id, b"")
             }
-            Command::MatchPatterns(_) | Command::ListPatterns => grown(self.alloc, id, b""),
+            Command::MatchPatterns(_) => grown(self.alloc, id, b""),
+            Command::ListPatterns => self.list_patterns(id),
         }
     }
 
@@ -307,5 +318,11 @@ impl Session {
         }
         let answer = reading(&position, kind, p, self.depths);
         told(id, answer_text(position.size(), answer).as_slice())
+    }
+
+    fn list_patterns(&self, id: Option<u32>) -> Reply
+        ensures { IsReply self.now (command_step self.now id Command.ListPatterns) result self.now }
+    {
+        grown_text(self.alloc, id, patterns_text(self.alloc, &self.patterns))
     }
 }

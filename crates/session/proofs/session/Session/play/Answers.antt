@@ -16,6 +16,7 @@ returns c =
       komi = c.self.inside.komi;
       plies = c.self.inside.depths.plies;
       wide = c.self.inside.depths.wide;
+      patterns = c.self.inside.patterns.items;
     } in
     let new = c.play.new.self in
     let family : Machine → Type 0 = λ old. IsReply old (played old c.args.id c.args.m) c.match-play.result (machine_of new kept) in
