@@ -57,7 +57,7 @@ drawn_lines p (Crosses r) Edge e = (refl, refl)
 drawn_lines p (Crosses r) (Crosses c) e = (refl, refl)
 
 -- the anchor is a cell of the letters
-anchor_within : (p : Pattern) → ((anchor_of p).0 < p.rows) × ((anchor_of p).1 < p.cols)
+pub anchor_within : (p : Pattern) → ((anchor_of p).0 < p.rows) × ((anchor_of p).1 < p.cols)
 unfolding anchor_of
 anchor_within p = by (position is_stone p.letters) refl
   where

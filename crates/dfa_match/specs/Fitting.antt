@@ -2,6 +2,7 @@
 use Rattle.std.specs.Prelude.{◌≡◌, ℕ, ◌*◌, ◌<◌, true, ℤ, pos, ◌-ℤ◌, List, Some, slice_get}
 use Rattle.go_rules.specs.declared.Colour.{Colour}
 use Rattle.go_rules.specs.Position.{BoardState}
+use Rattle.go_rules.specs.Transform.{transformations}
 use Rattle.spiral.specs.Spiral.{place_at}
 use Rattle.pat_types.specs.declared.pattern.Pattern.{Pattern}
 use Rattle.pat_types.specs.Cells.{drawn_at, anchor_of}
@@ -15,7 +16,7 @@ pub record FitsAt (p : Pattern) (at : BoardState) (friend : Colour) (t m : ℕ) 
 
 -- the pattern with the hit's number fits at the hit's anchor under its transformation
 pub record IsFit (patterns : List Pattern) (at : BoardState) (friend : Colour) (hit : Hit) : Type 0 where
-  pub transform : hit.transform < 8
+  pub transform : hit.transform < transformations
   pub anchor : hit.anchor < at.size * at.size
   pub pattern : Pattern
   pub number : slice_get patterns hit.pattern ≡ Some pattern

@@ -3,6 +3,7 @@ use Rattle.spiral.specs.Spiral.{offset_count}
 use Rattle.std.specs.Prelude.{◌≡◌, Bool, true, ◌||◌, ◌&&◌, ◌==◌, nat_lt, ℕ, ◌*◌, ◌<◌, ◌≤◌, List, map, Contains}
 use Rattle.go_rules.specs.declared.Colour.{Colour}
 use Rattle.go_rules.specs.Position.{BoardState}
+use Rattle.go_rules.specs.Transform.{transformations}
 use Rattle.dfa_core.specs.Automata.{Row, accepted, AreDistinct}
 use Rattle.dfa_match.specs.declared.Hit.{Hit}
 use Rattle.dfa_match.specs.Sights.{word_at}
@@ -13,7 +14,7 @@ hits_at t m numbers = map (λ n. record { pattern = n; transform = t; anchor = m
 
 -- the automaton accepts the pattern at the end of a word that is read from the anchor under the transformation
 pub record IsHit (machine : List Row) (pos : BoardState) (friend : Colour) (hit : Hit) : Type 0 where
-  pub transform : hit.transform < 8
+  pub transform : hit.transform < transformations
   pub anchor : hit.anchor < pos.size * pos.size
   pub letters : ℕ
   pub spiral : letters ≤ offset_count

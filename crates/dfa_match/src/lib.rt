@@ -1,10 +1,17 @@
 //! The scan of a board: an automaton is run from each point under each transformation.
+//!
+//! A hit is a number that the automaton accepts at the end of a word, which is what is seen along the moved spiral from an
+//! anchor. `scan` gives exactly the hits, each once; it is given no diagrams. Two laws say that a word that is read from an
+//! anchor matches a pattern exactly where the pattern fits there.
+//!
+//! After GNU Go Manual, "The DFA pattern matcher".
 #![tactic(auto)]
 
-ghost use Rattle.std.specs.Prelude.{◌≡◌, ◌↔◌, true, List, ℕ, ◌+◌, ◌*◌, ◌<◌, ◌++◌, [], IfOk, OnOk};
+ghost use Rattle.std.specs.Prelude.{◌≡◌, ◌↔◌, true, List, ℕ, ◌+◌, ◌*◌, ◌/◌, ◌%◌, ◌<◌, ◌++◌, [], IfOk, OnOk, IfSome};
 ghost use Rattle.go_rules.specs.Position.{BoardState};
+ghost use Rattle.go_rules.specs.Transform.{transformations};
 ghost use Rattle.dfa_core.specs.Automata.{Row, accepted, numbers_along};
-ghost use Rattle.dfa_match.specs.Sights.{seen_of, seen_at, word_at};
+ghost use Rattle.dfa_match.specs.Sights.{seen_of, seen_at_place, seen_at, word_at};
 ghost use Rattle.go_rules.specs.declared.Colour.{Colour as ColourSeen};
 ghost use Rattle.pat_types.specs.declared.pattern.Pattern.{Pattern};
 ghost use Rattle.spiral.specs.Spiral.{offset_count};
@@ -16,15 +23,19 @@ ghost use Rattle.dfa_core.specs.Words.{Word};
 ghost use Rattle.dfa_match.specs.Hits.{hits_at, IsHit, AreHits, AreHitsWhere, comes_before};
 
 use dfa_core::{Automaton, Seen};
+use go_base::transform::TRANSFORMATIONS;
 use go_base::{Cell, Colour, Look, Point, Transform};
-use spiral::{OFFSETS, place};
+use spiral::{OFFSETS, TurnedSpiral};
 use std::alloc::AllocError;
 
 /// A pattern that an automaton accepts from an anchor under a transformation.
 #[derive(Clone, Copy, Debug, PartialEq, Eq)]
 pub struct Hit {
+    /// The number that the automaton accepts.
     pub pattern: u16,
+    /// The transformation that the spiral is moved by.
     pub transform: Transform,
+    /// The point from which the word is read.
     pub anchor: Point,
 }
 
@@ -46,18 +57,35 @@ fn seen(friend: Colour, cell: Cell) -> Seen
     }
 }
 
-/// What is seen at an index of the spiral.
-#[tactic(auto, unfolding(crate::specs::Sights::seen_at))]
-fn letter<L: Look>(look: &mut L, friend: Colour, t: Transform, anchor: Point, index: u16) -> Seen
-    requires index { index < offset_count }
-    requires anchor { anchor < (L.shows look.old).size * (L.shows look.old).size }
-    ensures value { result ≡ seen_at (L.shows look.old) friend t anchor index }
+/// What is seen at a point, or off the board where there is none.
+fn sight<L: Look>(look: &mut L, friend: Colour, place: Option<Point>) -> Seen
+    requires { IfSome place (λ p. p < (L.shows look.old).size * (L.shows look.old).size) }
+    ensures value { result ≡ seen_at_place (L.shows look.old) friend place }
     ensures same { L.shows look.new ≡ L.shows look.old }
 {
-    match place(index, t, anchor, look.size()) {
+    match place {
         Some(p) => seen(friend, look.cell(p)),
         None => Seen::Off,
     }
+}
+
+/// What is seen at an index of the spiral around the anchor in a row and a column.
+fn letter<L: Look>(
+    look: &mut L,
+    friend: Colour,
+    spiral: &TurnedSpiral,
+    row: u8,
+    column: u8,
+    index: u16,
+) -> Seen
+    requires index { index < offset_count }
+    requires row { row < (L.shows look.old).size }
+    requires column { column < (L.shows look.old).size }
+    ensures value { (anchor : ℕ) → row ≡ anchor / (L.shows look.old).size → column ≡ anchor % (L.shows look.old).size → result ≡ seen_at (L.shows look.old) friend spiral.now anchor index }
+    ensures same { L.shows look.new ≡ L.shows look.old }
+{
+    let place = spiral.place(index, row, column, look.size());
+    sight(look, friend, place)
 }
 
 /// Adds the hits of these patterns.
@@ -74,27 +102,31 @@ fn add(out: &mut Vec<Hit>, numbers: &[u16], t: Transform, anchor: Point) -> Resu
     Ok(())
 }
 
-/// Runs the automaton from one anchor under one transformation.
+/// Runs the automaton from one anchor along the moved spiral, as far as it is alive.
 fn walk<L: Look>(
     machine: &Automaton,
     look: &mut L,
     friend: Colour,
-    t: Transform,
+    spiral: &TurnedSpiral,
     anchor: Point,
     out: &mut Vec<Hit>,
 ) -> Result<(), AllocError>
     requires { anchor < (L.shows look.old).size * (L.shows look.old).size }
-    ensures ok { OnOk result (out.new.items ≡ out.old.items ++ hits_at t anchor (numbers_along machine.now 0 (word_at (L.shows look.old) friend t anchor offset_count))) }
+    ensures ok { OnOk result (out.new.items ≡ out.old.items ++ hits_at spiral.now anchor (numbers_along machine.now 0 (word_at (L.shows look.old) friend spiral.now anchor offset_count))) }
     ensures same { L.shows look.new ≡ L.shows look.old }
 {
     let _ = machine.rows();
+    let t = spiral.transform();
+    let side = look.size().get() as u16;
+    let line = (anchor / side) as u8;
+    let column = (anchor % side) as u8;
     let mut row = 0;
     'letters: for index in 0..OFFSETS {
         add(out, machine.accepts(row), t, anchor)?;
         if machine.is_dead(row) {
             return Ok(());
         }
-        row = machine.step(row, letter(look, friend, t, anchor, index));
+        row = machine.step(row, letter(look, friend, spiral, line, column, index));
     }
     add(out, machine.accepts(row), t, anchor)
 }
@@ -110,19 +142,20 @@ fn sweep<L: Look>(
 ) -> Result<(), AllocError>
     requires points { points ≡ (L.shows look.old).size * (L.shows look.old).size }
     requires before { AreHitsWhere machine.now (L.shows look.old) friend (comes_before t 0) out.old.items }
-    requires transform { t < 8 }
+    requires transform { t < transformations }
     ensures ok { OnOk result (AreHitsWhere machine.now (L.shows look.old) friend (comes_before (t + 1) 0) out.new.items) }
     ensures same { L.shows look.new ≡ L.shows look.old }
 {
     let _ = machine.rows();
+    let spiral = TurnedSpiral::new(t);
     'anchors: for anchor in 0..points {
-        walk(machine, look, friend, t, anchor, out)?;
+        walk(machine, look, friend, &spiral, anchor, out)?;
     }
     Ok(())
 }
 
-/// The hits of an automaton on the position of a look: each pattern that it accepts along the spiral from some anchor under
-/// some transformation, once.
+/// The hits of an automaton on the position of a look: each number that it accepts along the spiral from some anchor under some
+/// transformation, once. `out` must be empty, and gives the allocator. Takes memory.
 pub fn scan<L: Look>(
     machine: &Automaton,
     look: &mut L,
@@ -136,7 +169,7 @@ pub fn scan<L: Look>(
     let _ = machine.rows();
     let mut out = out;
     let points = look.size().points();
-    'transforms: for n in 0..8 {
+    'transforms: for n in 0..TRANSFORMATIONS {
         if let Some(t) = Transform::new(n) {
             sweep(machine, look, friend, t, points, &mut out)?;
         }

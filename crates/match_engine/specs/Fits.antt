@@ -1,6 +1,6 @@
 -- Where a pattern fits on a position, after "The Pattern Code" of the GNU Go Manual: its diagram is moved by a transformation so
 -- that the star stands at a point, and every letter and every edge is compared with the board.
-use Rattle.std.specs.Prelude.{◌≡◌, ℕ, ◌+◌, ◌*◌, ◌<◌, Bool, true, ℤ, pos, ◌-ℤ◌, List, [], ◌∷◌, map, Option, Some, None, slice_index_or}
+use Rattle.std.specs.Prelude.{◌≡◌, ℕ, ◌+◌, ◌*◌, ◌<◌, Bool, true, ℤ, pos, ◌-ℤ◌, List, map, Option, Some, None, slice_index_or}
 use Rattle.std.specs.List.{list_all, flat_map, range_with_len}
 use Rattle.go_rules.specs.declared.Colour.{Colour}
 use Rattle.go_rules.specs.Position.{BoardState}
@@ -27,9 +27,30 @@ letter_at p r c = slice_index_or p.letters (r * p.cols + c) Friend
 abbrev pub IsEdgeCell : Pattern → ℤ → ℤ → Type 0
 IsEdgeCell p r c = drawn_at p r c ≡ OffBoard
 
--- the pattern fits at m under t: every cell of its diagram lies on the board and its letter admits what stands there, and every
--- edge cell lies off the board
+-- the letter in row r and column c lies on the board and admits what stands there, with the star at m under t
+pub record LetterFits (p : Pattern) (board : BoardState) (friend : Colour) (t m r c : ℕ) : Type 0 where
+  pub point : ℕ
+  pub place : place_of_cell p board.size t m (pos r) (pos c) ≡ Some point
+  pub admitted : admits (letter_at p r c) (cell_at board.cells point) friend ≡ true
+
+-- the pattern fits at m under t: every letter of its diagram lies on the board and admits what stands there, and every edge cell
+-- lies off the board
 pub record Fits (p : Pattern) (board : BoardState) (friend : Colour) (t m : ℕ) : Type 0 where
-  pub cells : (r c : ℕ) → r < p.rows → c < p.cols
-      → (q : ℕ) × (place_of_cell p board.size t m (pos r) (pos c) ≡ Some q) × (admits (letter_at p r c) (cell_at board.cells q) friend ≡ true)
+  pub letters : (r c : ℕ) → r < p.rows → c < p.cols → LetterFits p board friend t m r c
   pub edges : (r c : ℤ) → IsEdgeCell p r c → place_of_cell p board.size t m r c ≡ None
+
+-- the cells of one line of n letters, with the cell before them and the cell after them
+abbrev pub line_cells : ℕ → List ℤ
+line_cells n = map (λ k. pos k -ℤ pos 1) (range_with_len 0 (n + 2))
+
+-- the cells in which the diagram may draw something: its rows and columns, and the lines beside them
+abbrev pub cells_of : Pattern → List (ℤ × ℤ)
+cells_of p = flat_map (λ r. map (λ c. (r, c)) (line_cells p.cols)) (line_cells p.rows)
+
+-- what is drawn in a cell admits what is seen at its place, with the star at m under t
+abbrev pub cell_fits : Pattern → BoardState → Colour → ℕ → ℕ → ℤ × ℤ → Bool
+cell_fits p board friend t m cell = drawn_admits (drawn_at p cell.0 cell.1) (seen_at_place board friend (place_of_cell p board.size t m cell.0 cell.1))
+
+-- whether the pattern fits at m under t: each of its cells does
+unfoldable pub fits : Pattern → BoardState → Colour → ℕ → ℕ → Bool
+fits p board friend t m = list_all (cell_fits p board friend t m) (cells_of p)

@@ -9,6 +9,8 @@
 
 mod finder;
 mod found;
+pub mod laws;
+mod placing;
 
 pub use finder::matches;
 pub use found::Match;

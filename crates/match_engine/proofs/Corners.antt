@@ -1,0 +1,67 @@
+-- A diagram lies on the board where two opposite corners do.
+use Rattle.std.proofs.Common.{◌≡◌, ℕ, ◌+◌, ◌-◌, ◌<◌, ◌≤◌, Bool, true, false, Option, Some, None, is_some, refl, sym, ap, ◌∙◌, arith, ℤ, pos, ◌-ℤ◌}
+use Rattle.std.specs.List.{list_all, range_with_len}
+use Rattle.std.proofs.lemmas.Bool.{false≢true}
+use Rattle.std.proofs.lemmas.Int.{ints}
+use Rattle.go_rules.specs.Transform.{Offset, transformations}
+use Rattle.pat_types.specs.declared.pattern.Pattern.{Pattern}
+use Rattle.match_engine.specs.Fits.{place_of_cell}
+use Rattle.match_engine.specs.Match.{lies_on_board}
+use Rattle.match_engine.proofs.Lists.{passes_each, passes_all, Contains-below, Contains-below_from}
+use Rattle.match_engine.proofs.Places.{placed_between}
+
+-- an option that is there has a value
+pub some_value : {X : Type 0} (o : Option X) → is_some o ≡ true → (x : X) × (o ≡ Some x)
+some_value None e = absurd (false≢true e)
+some_value (Some x) e = (x, refl)
+
+-- two tests that follow from each other are one
+pub same_test : (a b : Bool) → (a ≡ true → b ≡ true) → (b ≡ true → a ≡ true) → a ≡ b
+same_test true b to back = sym (to refl)
+same_test false true to back = back refl
+same_test false false to back = refl
+
+module _ (p : Pattern) (s t m : ℕ) where
+  -- a letter's cell lies on the board
+  abbrev is_on : ℕ → ℕ → Bool
+  is_on r c = is_some (place_of_cell p s t m (pos r) (pos c))
+
+  -- each letter of a diagram that lies on the board does
+  pub on_each : lies_on_board p s t m ≡ true → (r c : ℕ) → r < p.rows → c < p.cols → is_on r c ≡ true
+  on_each all r c low low' =
+      passes_each (λ k. is_on r k) (range_with_len 0 p.cols)
+      (passes_each (λ k. list_all (is_on k) (range_with_len 0 p.cols)) (range_with_len 0 p.rows) all r (Contains-below_from p.rows r low))
+      c (Contains-below_from p.cols c low')
+
+  -- and the other way round
+  pub on_all : ((r c : ℕ) → r < p.rows → c < p.cols → is_on r c ≡ true) → lies_on_board p s t m ≡ true
+  on_all each =
+      passes_all (λ k. list_all (is_on k) (range_with_len 0 p.cols)) (range_with_len 0 p.rows)
+      (λ r there. passes_all (is_on r) (range_with_len 0 p.cols) (λ c here. each r c (Contains-below p.rows r there) (Contains-below p.cols c here)))
+
+  -- where the first and the last letter lie on the board, each does
+  between_corners : t < transformations → is_on 0 0 ≡ true → is_on (p.rows - 1) (p.cols - 1) ≡ true → (r c : ℕ) → r < p.rows → c < p.cols → is_on r c ≡ true
+  between_corners low first last r c row column =
+      let a = some_value (place_of_cell p s t m (pos 0) (pos 0)) first in
+      let b = some_value (place_of_cell p s t m (pos (p.rows - 1)) (pos (p.cols - 1))) last in
+      let found = placed_between s t m a.0 b.0 (pos 0 -ℤ pos p.star.0, pos 0 -ℤ pos p.star.1) (pos r -ℤ pos p.star.0, pos c -ℤ pos p.star.1) (pos (p.rows - 1) -ℤ pos p.star.0, pos (p.cols - 1) -ℤ pos p.star.1)
+      low a.1 b.1 (record {
+        above = omega (arith, ints);
+        below = omega (arith, ints, row);
+        left = omega (arith, ints);
+        right = omega (arith, ints, column);
+      }) in
+      ap is_some found.1
+
+  -- where the first letter lies on the board, the last decides
+  pub last_decides : t < transformations → is_on 0 0 ≡ true → is_on (p.rows - 1) (p.cols - 1) ≡ lies_on_board p s t m
+  last_decides low first =
+      same_test (is_on (p.rows - 1) (p.cols - 1)) (lies_on_board p s t m)
+      (λ last. on_all (between_corners low first last))
+      (λ all. on_each all (p.rows - 1) (p.cols - 1) (omega (arith, p.diagram.rows_from)) (omega (arith, p.diagram.columns_from)))
+
+  -- where the first letter does not, the diagram does not
+  pub first_decides : is_on 0 0 ≡ false → false ≡ lies_on_board p s t m
+  first_decides first =
+      same_test false (lies_on_board p s t m) (λ e. absurd (false≢true e))
+      (λ all. sym first ∙ on_each all 0 0 (omega (arith, p.diagram.rows_from)) (omega (arith, p.diagram.columns_from)))

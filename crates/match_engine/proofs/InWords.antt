@@ -1,0 +1,241 @@
+-- The test of a fit is the fact.
+use Rattle.std.proofs.Common.{◌≡◌, ◌≢◌, ℕ, zero, suc, ◌+◌, ◌*◌, ◌<◌, ◌⊎◌, inl, inr, Bool, true, false, not, ◌&&◌, ◌||◌, cond, ltb, eqb, Option, Some, None, is_some, Contains, refl, sym, ap, ◌∙◌, subst, arith, ℤ, pos, negsuc, ◌-ℤ◌, map}
+use Rattle.std.specs.List.{list_all, flat_map, range_with_len}
+use Rattle.std.proofs.lemmas.Bool.{cases_Bool, ltb-true, lt-ltb, eqb-true, and_parts, false≢true}
+use Rattle.std.proofs.lemmas.Int.{ints}
+use Rattle.go_rules.specs.declared.Cell.{Cell}
+use Rattle.go_rules.specs.declared.Cell.TheVariants.{Empty as empty_cell, Black as black_stone, White as white_stone}
+use Rattle.go_rules.specs.declared.Colour.{Colour}
+use Rattle.go_rules.specs.declared.Colour.TheVariants.{Black as black, White as white}
+use Rattle.go_rules.specs.Position.{BoardState, other, stone_of}
+use Rattle.go_rules.specs.Strings.{cell_at, same_cell}
+use Rattle.pat_types.specs.declared.letter.Letter.{Letter}
+use Rattle.pat_types.specs.declared.letter.Letter.TheVariants.{Friend, Enemy, Empty, FriendOrEmpty, EnemyOrEmpty, Any, Star}
+use Rattle.pat_types.specs.declared.cell.Drawn.{Drawn}
+use Rattle.pat_types.specs.declared.cell.Drawn.TheVariants.{Nothing, OffBoard, Shows}
+use Rattle.pat_types.specs.declared.cell.Line.{Line}
+use Rattle.pat_types.specs.declared.cell.Line.TheVariants.{Crosses, Edge, Beyond}
+use Rattle.pat_types.specs.declared.pattern.Pattern.{Pattern}
+use Rattle.pat_types.specs.Letters.{admits}
+use Rattle.pat_types.specs.Cells.{line_at, drawn_by, drawn_at}
+use Rattle.dfa_core.specs.declared.automaton.Seen.{Seen}
+use Rattle.dfa_core.specs.Fits.{letter_admits, drawn_admits, is_friend, is_enemy, is_empty, is_off}
+use Rattle.dfa_match.specs.Sights.{seen_of, seen_at_place}
+use Rattle.match_engine.specs.Fits.{place_of_cell, letter_at, IsEdgeCell, LetterFits, Fits, line_cells, cells_of, cell_fits, fits}
+use Rattle.match_engine.proofs.Lists.{passes_each, passes_all, Contains-map_from, Contains-flat_map_from, Contains-below_from}
+
+-- a friend's stone is seen where one stands
+friend_seen : (cell : Cell) (friend : Colour) → same_cell cell (stone_of friend) ≡ is_friend (seen_of friend cell)
+friend_seen empty_cell black = refl
+friend_seen empty_cell white = refl
+friend_seen black_stone black = refl
+friend_seen black_stone white = refl
+friend_seen white_stone black = refl
+friend_seen white_stone white = refl
+
+-- an enemy's stone is seen where one stands
+enemy_seen : (cell : Cell) (friend : Colour) → same_cell cell (stone_of (other friend)) ≡ is_enemy (seen_of friend cell)
+enemy_seen empty_cell black = refl
+enemy_seen empty_cell white = refl
+enemy_seen black_stone black = refl
+enemy_seen black_stone white = refl
+enemy_seen white_stone black = refl
+enemy_seen white_stone white = refl
+
+-- an empty point is seen where nothing stands
+empty_seen : (cell : Cell) (friend : Colour) → same_cell cell empty_cell ≡ is_empty (seen_of friend cell)
+empty_seen empty_cell black = refl
+empty_seen empty_cell white = refl
+empty_seen black_stone black = refl
+empty_seen black_stone white = refl
+empty_seen white_stone black = refl
+empty_seen white_stone white = refl
+
+-- what stands on the board is never off it
+never_off : (cell : Cell) (friend : Colour) → is_off (seen_of friend cell) ≡ false
+never_off empty_cell black = refl
+never_off empty_cell white = refl
+never_off black_stone black = refl
+never_off black_stone white = refl
+never_off white_stone black = refl
+never_off white_stone white = refl
+
+-- a letter admits a cell where it admits what is seen there
+admits_seen : (l : Letter) (cell : Cell) (friend : Colour) → admits l cell friend ≡ letter_admits l (seen_of friend cell)
+admits_seen Friend cell friend = friend_seen cell friend
+admits_seen Enemy cell friend = enemy_seen cell friend
+admits_seen Empty cell friend = empty_seen cell friend
+admits_seen FriendOrEmpty cell friend = ap (λ b. b || same_cell cell empty_cell) (friend_seen cell friend) ∙ ap (λ b. is_friend (seen_of friend cell) || b) (empty_seen cell friend)
+admits_seen EnemyOrEmpty cell friend = ap (λ b. b || same_cell cell empty_cell) (enemy_seen cell friend) ∙ ap (λ b. is_enemy (seen_of friend cell) || b) (empty_seen cell friend)
+admits_seen Any cell friend = sym (ap not (never_off cell friend))
+admits_seen Star cell friend = empty_seen cell friend
+
+-- no letter admits what is off the board
+on_board : (l : Letter) (board : BoardState) (friend : Colour) (o : Option ℕ) → letter_admits l (seen_at_place board friend o) ≡ true → (q : ℕ) × (o ≡ Some q) × (letter_admits l (seen_of friend (cell_at board.cells q)) ≡ true)
+on_board l board friend (Some q) e = (q, refl, e)
+on_board Friend board friend None e = absurd (false≢true e)
+on_board Enemy board friend None e = absurd (false≢true e)
+on_board Empty board friend None e = absurd (false≢true e)
+on_board FriendOrEmpty board friend None e = absurd (false≢true e)
+on_board EnemyOrEmpty board friend None e = absurd (false≢true e)
+on_board Any board friend None e = absurd (false≢true e)
+on_board Star board friend None e = absurd (false≢true e)
+
+-- what is off the board has no place on it
+off_board : (board : BoardState) (friend : Colour) (o : Option ℕ) → is_off (seen_at_place board friend o) ≡ true → o ≡ None
+off_board board friend None e = refl
+off_board board friend (Some q) e = absurd (false≢true (sym (never_off (cell_at board.cells q) friend) ∙ e))
+
+-- the line is drawn
+abbrev is_line : Line → Bool
+is_line (Crosses k) = true
+is_line Edge = true
+is_line Beyond = false
+
+-- a drawn line is one of the letters' lines or of those beside them
+line_within : (n : ℕ) (before after : Bool) (z : ℤ) → is_line (line_at n before after z) ≡ true → (k : ℕ) × (k < n + 2) × (pos k -ℤ pos 1 ≡ z)
+line_within n before after (pos j) e = elim (cases_Bool (ltb j n)) [
+  | inl low ↦ (suc j, omega (arith, ltb-true j n low), omega (arith, ints))
+  | inr high ↦ elim (cases_Bool (eqb j n && after)) [
+    | inl edge ↦ (suc j, omega (arith, eqb-true j n (and_parts (eqb j n) after edge).0), omega (arith, ints))
+    | inr none ↦ absurd (false≢true (sym (ap (λ t. is_line (cond t (Crosses j) (cond (eqb j n && after) Edge Beyond))) high ∙ ap (λ t. is_line (cond t Edge Beyond)) none) ∙ e))
+  ]
+]
+line_within n before after (negsuc j) e = elim (cases_Bool (eqb j 0 && before)) [
+  | inl edge ↦ (0, omega arith, let same : j ≡ 0 = eqb-true j 0 (and_parts (eqb j 0) before edge).0 in omega (arith, ints, same))
+  | inr none ↦ absurd (false≢true (sym (ap (λ t. is_line (cond t Edge Beyond)) none) ∙ e))
+]
+
+-- a line of the letters has its number
+line_crosses : (n k : ℕ) (before after : Bool) (z : ℤ) → line_at n before after z ≡ Crosses k → (z ≡ pos k) × (k < n)
+line_crosses n k before after (pos j) e = elim (cases_Bool (ltb j n)) [
+  | inl low ↦ let same : Crosses j ≡ Crosses k = sym (ap (λ t. cond t (Crosses j) (cond (eqb j n && after) Edge Beyond)) low) ∙ e in let number : j ≡ k = cc in (ap pos number, subst (λ i. i < n) number (ltb-true j n low))
+  | inr high ↦ absurd (never (eqb j n && after) (sym (ap (λ t. cond t (Crosses j) (cond (eqb j n && after) Edge Beyond)) high) ∙ e))
+]
+  where
+    never : (b : Bool) → cond b Edge Beyond ≡ Crosses k → ⊥
+    never true h = cc
+    never false h = cc
+line_crosses n k before after (negsuc j) e = absurd (never (eqb j 0 && before) e)
+  where
+    never : (b : Bool) → cond b Edge Beyond ≡ Crosses k → ⊥
+    never true h = cc
+    never false h = cc
+
+-- the row and the column of a cell are drawn lines
+record AreLines (row column : Line) : Type 0 where
+  pub row_drawn : is_line row ≡ true
+  pub column_drawn : is_line column ≡ true
+
+-- something is drawn only where drawn lines meet
+lines_meet : (p : Pattern) (row column : Line) → (drawn_by p row column ≡ Nothing → ⊥) → AreLines row column
+lines_meet p Beyond column some = absurd (some refl)
+lines_meet p Edge Beyond some = absurd (some refl)
+lines_meet p Edge Edge some = record { row_drawn = refl; column_drawn = refl }
+lines_meet p Edge (Crosses c) some = record { row_drawn = refl; column_drawn = refl }
+lines_meet p (Crosses r) Beyond some = absurd (some refl)
+lines_meet p (Crosses r) Edge some = record { row_drawn = refl; column_drawn = refl }
+lines_meet p (Crosses r) (Crosses c) some = record { row_drawn = refl; column_drawn = refl }
+
+-- a letter is drawn only where two lines of letters meet
+letters_meet : (p : Pattern) (row column : Line) (l : Letter) → drawn_by p row column ≡ Shows l → (r : ℕ) × (c : ℕ) × (row ≡ Crosses r) × (column ≡ Crosses c) × (letter_at p r c ≡ l)
+letters_meet p Beyond column l e = absurd (let h : ⊥ = cc in h)
+letters_meet p Edge Beyond l e = absurd (let h : ⊥ = cc in h)
+letters_meet p Edge Edge l e = absurd (let h : ⊥ = cc in h)
+letters_meet p Edge (Crosses c) l e = absurd (let h : ⊥ = cc in h)
+letters_meet p (Crosses r) Beyond l e = absurd (let h : ⊥ = cc in h)
+letters_meet p (Crosses r) Edge l e = absurd (let h : ⊥ = cc in h)
+letters_meet p (Crosses r) (Crosses c) l e = (r, c, refl, refl, let same : letter_at p r c ≡ l = cc in same)
+
+module _ (p : Pattern) where
+  -- a cell that shows a letter is that letter's
+  shown : (r c : ℤ) (l : Letter) → drawn_at p r c ≡ Shows l → (i : ℕ) × (j : ℕ) × (r ≡ pos i) × (c ≡ pos j) × (i < p.rows) × (j < p.cols) × (letter_at p i j ≡ l)
+  unfolding drawn_at
+  shown r c l e =
+      let meet = letters_meet p (line_at p.rows p.top p.bottom r) (line_at p.cols p.left p.right c) l e in
+      let row = line_crosses p.rows meet.0 p.top p.bottom r meet.2 in
+      let column = line_crosses p.cols meet.1 p.left p.right c meet.3 in
+      (meet.0, meet.1, row.0, column.0, row.1, column.1, meet.4)
+
+  -- a letter's cell shows it
+  pub shows : (i j : ℕ) → i < p.rows → j < p.cols → drawn_at p (pos i) (pos j) ≡ Shows (letter_at p i j)
+  unfolding drawn_at
+  shows i j low low' =
+      ap (λ t. drawn_by p (cond t (Crosses i) (cond (eqb i p.rows && p.bottom) Edge Beyond)) (line_at p.cols p.left p.right (pos j))) (lt-ltb i p.rows low)
+      ∙ ap (λ t. drawn_by p (Crosses i) (cond t (Crosses j) (cond (eqb j p.cols && p.right) Edge Beyond))) (lt-ltb j p.cols low')
+
+  -- a cell in which something is drawn is one of the cells
+  drawn_within : (r c : ℤ) → (drawn_at p r c ≡ Nothing → ⊥) → Contains (cells_of p) (r, c)
+  unfolding drawn_at
+  drawn_within r c some =
+      let lines = lines_meet p (line_at p.rows p.top p.bottom r) (line_at p.cols p.left p.right c) some in
+      Contains-flat_map_from (λ k. map (λ j. (k, j)) (line_cells p.cols)) (line_cells p.rows) r (r, c)
+      (of_line p.rows r (line_within p.rows p.top p.bottom r lines.row_drawn))
+      (Contains-map_from (λ j. (r, j)) (line_cells p.cols) c (of_line p.cols c (line_within p.cols p.left p.right c lines.column_drawn)))
+    where
+      of_line : (n : ℕ) (z : ℤ) → (k : ℕ) × (k < n + 2) × (pos k -ℤ pos 1 ≡ z) → Contains (line_cells n) z
+      of_line n z line =
+          subst (Contains (line_cells n)) line.2 (Contains-map_from (λ k. pos k -ℤ pos 1) (range_with_len 0 (n + 2)) line.0 (Contains-below_from (n + 2) line.0 line.1))
+
+module _ (p : Pattern) (board : BoardState) (friend : Colour) (t m : ℕ) where
+  -- a pattern that fits has each of its cells fit
+  pub each_cell : fits p board friend t m ≡ true → (r c : ℤ) → cell_fits p board friend t m (r, c) ≡ true
+  unfolding fits
+  each_cell all r c = by (drawn_at p r c) refl
+    where
+      -- a cell in which something is drawn fits
+      drawn : (drawn_at p r c ≡ Nothing → ⊥) → cell_fits p board friend t m (r, c) ≡ true
+      drawn some = passes_each (cell_fits p board friend t m) (cells_of p) all (r, c) (drawn_within p r c some)
+
+      by : (d : Drawn) → drawn_at p r c ≡ d → cell_fits p board friend t m (r, c) ≡ true
+      by Nothing e = ap (λ d. drawn_admits d (seen_at_place board friend (place_of_cell p board.size t m r c))) e
+      by OffBoard e = drawn (λ none. let h : OffBoard ≡ Nothing = sym e ∙ none in cc)
+      by (Shows l) e = drawn (λ none. let h : Shows l ≡ Nothing = sym e ∙ none in cc)
+
+  -- and the other way round
+  pub all_cells : ((r c : ℤ) → cell_fits p board friend t m (r, c) ≡ true) → fits p board friend t m ≡ true
+  unfolding fits
+  all_cells each = passes_all (cell_fits p board friend t m) (cells_of p) (λ cell there. each cell.0 cell.1)
+
+  -- a letter's cell that fits lies on the board, and the letter admits what stands there
+  pub letter_from_cell : (i j : ℕ) → i < p.rows → j < p.cols → cell_fits p board friend t m (pos i, pos j) ≡ true → LetterFits p board friend t m i j
+  letter_from_cell i j low low' e =
+      let seen : letter_admits (letter_at p i j) (seen_at_place board friend (place_of_cell p board.size t m (pos i) (pos j))) ≡ true =
+      sym (ap (λ d. drawn_admits d (seen_at_place board friend (place_of_cell p board.size t m (pos i) (pos j)))) (shows p i j low low')) ∙ e in
+      let on = on_board (letter_at p i j) board friend (place_of_cell p board.size t m (pos i) (pos j)) seen in
+      record { point = on.0; place = on.1; admitted = admits_seen (letter_at p i j) (cell_at board.cells on.0) friend ∙ on.2 }
+
+  -- a pattern whose cells fit fits
+  fits_from_cells : ((r c : ℤ) → cell_fits p board friend t m (r, c) ≡ true) → Fits p board friend t m
+  fits_from_cells each = record {
+    letters = λ i j low low'. letter_from_cell i j low low' (each (pos i) (pos j));
+    edges = λ r c edge. off_board board friend (place_of_cell p board.size t m r c)
+        (sym (ap (λ d. drawn_admits d (seen_at_place board friend (place_of_cell p board.size t m r c))) edge) ∙ each r c);
+  }
+
+  -- a pattern that fits has its cells fit
+  cells_from_fits : Fits p board friend t m → (r c : ℤ) → cell_fits p board friend t m (r, c) ≡ true
+  cells_from_fits is r c = by (drawn_at p r c) refl
+    where
+      -- a letter's cell fits
+      letter : (l : Letter) → (i : ℕ) × (j : ℕ) × (r ≡ pos i) × (c ≡ pos j) × (i < p.rows) × (j < p.cols) × (letter_at p i j ≡ l) → letter_admits l (seen_at_place board friend (place_of_cell p board.size t m r c)) ≡ true
+      letter l at =
+          let here = is.letters at.0 at.1 at.4 at.5 in
+          let place : place_of_cell p board.size t m r c ≡ Some here.point = ap (λ z. place_of_cell p board.size t m z c) at.2 ∙ ap (place_of_cell p board.size t m (pos at.0)) at.3 ∙ here.place in
+          ap (λ o. letter_admits l (seen_at_place board friend o)) place
+          ∙ ap (λ k. letter_admits k (seen_of friend (cell_at board.cells here.point))) (sym at.6)
+          ∙ sym (admits_seen (letter_at p at.0 at.1) (cell_at board.cells here.point) friend) ∙ here.admitted
+
+      by : (d : Drawn) → drawn_at p r c ≡ d → cell_fits p board friend t m (r, c) ≡ true
+      by Nothing e = ap (λ d. drawn_admits d (seen_at_place board friend (place_of_cell p board.size t m r c))) e
+      by OffBoard e =
+          ap (λ d. drawn_admits d (seen_at_place board friend (place_of_cell p board.size t m r c))) e ∙ ap (λ o. is_off (seen_at_place board friend o)) (is.edges r c e)
+      by (Shows l) e = ap (λ d. drawn_admits d (seen_at_place board friend (place_of_cell p board.size t m r c))) e ∙ letter l (shown p r c l e)
+
+  -- the test of a fit says the fact
+  pub fits-true : fits p board friend t m ≡ true → Fits p board friend t m
+  fits-true e = fits_from_cells (each_cell e)
+
+  -- and the other way round
+  pub fits-from : Fits p board friend t m → fits p board friend t m ≡ true
+  fits-from is = all_cells (cells_from_fits is)

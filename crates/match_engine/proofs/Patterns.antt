@@ -1,0 +1,158 @@
+-- The matches by the machine of the patterns are the matches.
+use Rattle.std.proofs.Common.{◌≡◌, ℕ, ◌<◌, ◌*◌, true, ◌&&◌, List, Contains, Option, Some, slice_get, is_some, is_ok, Result, Ok, Err, refl, sym, ap, ◌∙◌, subst, arith, ℤ, pos, ◌+ℤ◌, ◌-ℤ◌}
+use Rattle.std.specs.List.{AllPairs}
+use Rattle.std.proofs.lemmas.Bool.{and_parts, and_from, false≢true}
+use Rattle.std.proofs.lemmas.Int.{ints}
+use Rattle.std.proofs.lemmas.Option.{same_Some}
+use Rattle.go_rules.specs.declared.Colour.{Colour}
+use Rattle.go_rules.specs.declared.Illegal.{Illegal}
+use Rattle.go_rules.specs.Play.{play}
+use Rattle.go_rules.specs.Position.{BoardState}
+use Rattle.go_rules.specs.Transform.{Offset, transformations}
+use Rattle.spiral.specs.Spiral.{place_at}
+use Rattle.pat_types.specs.declared.pattern.Pattern.{Pattern}
+use Rattle.pat_types.specs.Cells.{drawn_at, anchor_of}
+use Rattle.dfa_core.specs.Automata.{Row, accepted}
+use Rattle.dfa_core.specs.Fits.{drawn_admits}
+use Rattle.dfa_core.specs.States.{matched_from}
+use Rattle.dfa_core.specs.Words.{Word}
+use Rattle.dfa_match.specs.declared.Hit.{Hit}
+use Rattle.dfa_match.specs.Fitting.{FitsAt, IsFit}
+use Rattle.dfa_match.specs.Hits.{IsHit}
+use Rattle.dfa_match.specs.Sights.{seen_at_place}
+use Rattle.dfa_match.proofs.Bounds.{anchor_within}
+use Rattle.dfa_match.proofs.FitHits.{fit_from_hit, hit_from_fit}
+use Rattle.match_engine.specs.declared.found.Match.{Match}
+use Rattle.match_engine.specs.Fits.{place_of_cell, Fits, cell_fits, fits}
+use Rattle.match_engine.specs.Match.{is_legal, is_match, matches_of, IsMatch, ComesBefore, AreMatches, has_hit, place_of_anchor, lies_on_board, is_machine_match, machine_matches}
+use Rattle.match_engine.proofs.Corners.{on_all}
+use Rattle.match_engine.proofs.InWords.{each_cell, all_cells, letter_from_cell, fits-true, fits-from}
+use Rattle.match_engine.proofs.Machine.{count_within, hit_of_accept, accept_of_hit, has_hit-true}
+use Rattle.match_engine.proofs.Orders.{IsBy, by-has, by-from, by-in_order, same_matches}
+use Rattle.match_engine.proofs.Places.{sum_of, placed_on, place_at-sum}
+
+module _ (p : Pattern) (board : BoardState) (friend : Colour) (t m a : ℕ) (low : t < transformations) (anchor : place_of_anchor p board.size t m ≡ Some a) where
+  -- a cell's place is the same from the anchor and from the star
+  same_place : (r c : ℤ) → place_at board.size t a (r -ℤ pos (anchor_of p).0, c -ℤ pos (anchor_of p).1) ≡ place_of_cell p board.size t m r c
+  same_place r c =
+      let row : (pos (anchor_of p).0 -ℤ pos p.star.0) +ℤ (r -ℤ pos (anchor_of p).0) ≡ r -ℤ pos p.star.0 = omega (arith, ints) in
+      let column : (pos (anchor_of p).1 -ℤ pos p.star.1) +ℤ (c -ℤ pos (anchor_of p).1) ≡ c -ℤ pos p.star.1 = omega (arith, ints) in
+      let sum : sum_of (pos (anchor_of p).0 -ℤ pos p.star.0, pos (anchor_of p).1 -ℤ pos p.star.1) (r -ℤ pos (anchor_of p).0, c -ℤ pos (anchor_of p).1) ≡ (r -ℤ pos p.star.0, c -ℤ pos p.star.1) = λ i. (row i, column i) in
+      place_at-sum board.size t m (pos (anchor_of p).0 -ℤ pos p.star.0, pos (anchor_of p).1 -ℤ pos p.star.1) (r -ℤ pos (anchor_of p).0, c -ℤ pos (anchor_of p).1) a low anchor
+      ∙ ap (place_at board.size t m) sum
+
+  -- a pattern that fits at its anchor fits at its star
+  fits_at_star : FitsAt p board friend t a → fits p board friend t m ≡ true
+  fits_at_star at =
+      all_cells p board friend t m
+      (λ r c. ap (λ o. drawn_admits (drawn_at p r c) (seen_at_place board friend o)) (sym (same_place r c)) ∙ at.cells r c)
+
+  -- and the other way round
+  fits_at_anchor : fits p board friend t m ≡ true → FitsAt p board friend t a
+  fits_at_anchor is = record {
+    cells = λ r c. ap (λ o. drawn_admits (drawn_at p r c) (seen_at_place board friend o)) (same_place r c) ∙ each_cell p board friend t m is r c;
+  }
+
+module _ (patterns : List Pattern) (machine : List Row) (board : BoardState) (friend : Colour) (accepts : (w : Word) → accepted machine w ≡ matched_from 0 patterns w) where
+  -- a match by the machine is one of the patterns
+  match_of_machine : (z : Match) → IsBy (is_machine_match machine board friend) patterns board.size z → IsBy (λ number p t m. is_match p board friend t m) patterns board.size z
+  match_of_machine z by =
+      let p : Pattern = by.pattern in
+      let parts = and_parts (has_hit machine board friend z.pattern z.transform (place_of_anchor p board.size z.transform z.at)) (lies_on_board p board.size z.transform z.at && is_legal board friend z.at) by.passes in
+      let legal = (and_parts (lies_on_board p board.size z.transform z.at) (is_legal board friend z.at) parts.1).1 in
+      let found = has_hit-true machine board friend z.pattern z.transform (place_of_anchor p board.size z.transform z.at) parts.0 in
+      let low : z.transform < transformations = omega (arith, by.transform, count_within p.mark) in
+      let on = placed_on board.size z.transform z.at (pos (anchor_of p).0 -ℤ pos p.star.0, pos (anchor_of p).1 -ℤ pos p.star.1) found.0 found.1 in
+      let hit : Hit = record { pattern = z.pattern; transform = z.transform; anchor = found.0 } in
+      let fit = fit_from_hit patterns machine board friend hit accepts (hit_of_accept machine board friend z.pattern z.transform found.0 low on found.2) in
+      let same : fit.pattern ≡ p = same_Some fit.pattern p (sym fit.number ∙ by.number) in
+      record {
+        pattern = p;
+        number = by.number;
+        transform = by.transform;
+        at = by.at;
+        passes = and_from (fits p board friend z.transform z.at) (is_legal board friend z.at)
+            (fits_at_star p board friend z.transform z.at found.0 low found.1 (subst (λ q. FitsAt q board friend z.transform found.0) same fit.fits)) legal;
+      }
+
+  -- and the other way round
+  machine_of_match : (z : Match) → IsBy (λ number p t m. is_match p board friend t m) patterns board.size z → IsBy (is_machine_match machine board friend) patterns board.size z
+  machine_of_match z by =
+      let p : Pattern = by.pattern in
+      let parts = and_parts (fits p board friend z.transform z.at) (is_legal board friend z.at) by.passes in
+      let low : z.transform < transformations = omega (arith, by.transform, count_within p.mark) in
+      let within = anchor_within p in
+      let letter = letter_from_cell p board friend z.transform z.at (anchor_of p).0 (anchor_of p).1 within.0 within.1 (each_cell p board friend z.transform z.at parts.0 (pos (anchor_of p).0) (pos (anchor_of p).1)) in
+      let on = placed_on board.size z.transform z.at (pos (anchor_of p).0 -ℤ pos p.star.0, pos (anchor_of p).1 -ℤ pos p.star.1) letter.point letter.place in
+      let hit : Hit = record { pattern = z.pattern; transform = z.transform; anchor = letter.point } in
+      let fit : IsFit patterns board friend hit = record {
+        transform = low;
+        anchor = on;
+        pattern = p;
+        number = by.number;
+        fits = fits_at_anchor p board friend z.transform z.at letter.point low letter.place parts.0;
+      } in
+      record {
+        pattern = p;
+        number = by.number;
+        transform = by.transform;
+        at = by.at;
+        passes = and_from (has_hit machine board friend z.pattern z.transform (place_of_anchor p board.size z.transform z.at)) (lies_on_board p board.size z.transform z.at && is_legal board friend z.at)
+            (ap (has_hit machine board friend z.pattern z.transform) letter.place ∙ accept_of_hit machine board friend hit (hit_from_fit patterns machine board friend hit accepts fit))
+            (and_from (lies_on_board p board.size z.transform z.at) (is_legal board friend z.at)
+            (on_all p board.size z.transform z.at (λ r c row column. ap is_some (letter_from_cell p board friend z.transform z.at r c row column (each_cell p board friend z.transform z.at parts.0 (pos r) (pos c))).place))
+            parts.1);
+      }
+
+  -- the machine of the patterns finds their matches
+  pub same_by_machine : machine_matches machine patterns board friend ≡ matches_of patterns board friend
+  unfolding machine_matches matches_of
+  same_by_machine =
+      same_matches (machine_matches machine patterns board friend) (matches_of patterns board friend)
+      (by-in_order (is_machine_match machine board friend) patterns board.size) (by-in_order (λ number p t m. is_match p board friend t m) patterns board.size)
+      (λ z there. by-from (λ number p t m. is_match p board friend t m) patterns board.size z (match_of_machine z (by-has (is_machine_match machine board friend) patterns board.size z there)))
+      (λ z there. by-from (is_machine_match machine board friend) patterns board.size z (machine_of_match z (by-has (λ number p t m. is_match p board friend t m) patterns board.size z there)))
+
+-- a play that is legal leads to a position
+next_of : (r : Result BoardState Illegal) → is_ok r ≡ true → (next : BoardState) × (r ≡ Ok next)
+next_of (Ok next) e = (next, refl)
+next_of (Err reason) e = absurd (false≢true e)
+
+module _ (patterns : List Pattern) (board : BoardState) (friend : Colour) where
+  -- what passes the test is a match
+  match_from_by : (z : Match) → IsBy (λ number p t m. is_match p board friend t m) patterns board.size z → IsMatch patterns board friend z
+  match_from_by z by =
+      let parts = and_parts (fits by.pattern board friend z.transform z.at) (is_legal board friend z.at) by.passes in
+      record {
+        pattern = by.pattern;
+        number = by.number;
+        transform = by.transform;
+        on_board = by.at;
+        fits = fits-true by.pattern board friend z.transform z.at parts.0;
+        legal = next_of (play board friend z.at) parts.1;
+      }
+
+  -- and the other way round
+  by_from_match : (z : Match) → IsMatch patterns board friend z → IsBy (λ number p t m. is_match p board friend t m) patterns board.size z
+  by_from_match z is = record {
+    pattern = is.pattern;
+    number = is.number;
+    transform = is.transform;
+    at = is.on_board;
+    passes = and_from (fits is.pattern board friend z.transform z.at) (is_legal board friend z.at) (fits-from is.pattern board friend z.transform z.at is.fits) (ap is_ok is.legal.1);
+  }
+
+  -- the list of matches has exactly the matches, in order
+  pub are_matches : AreMatches patterns board friend (matches_of patterns board friend)
+  unfolding matches_of
+  are_matches = record {
+    sound = λ z there. match_from_by z (by-has (λ number p t m. is_match p board friend t m) patterns board.size z there);
+    complete = λ z is. by-from (λ number p t m. is_match p board friend t m) patterns board.size z (by_from_match z is);
+    in_order = by-in_order (λ number p t m. is_match p board friend t m) patterns board.size;
+  }
+
+  -- and no other list does
+  pub only_matches : (zs : List Match) → AreMatches patterns board friend zs → zs ≡ matches_of patterns board friend
+  only_matches zs are =
+      same_matches zs (matches_of patterns board friend) are.in_order are_matches.in_order
+      (λ z there. are_matches.complete z (are.sound z there)) (λ z there. are.complete z (are_matches.sound z there))

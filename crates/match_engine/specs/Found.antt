@@ -1,0 +1,30 @@
+-- The match that a hit of a machine is.
+use Rattle.std.specs.Prelude.{ℕ, ◌&&◌, pos, ◌-ℤ◌, Option, Some, None, nat_lt, if◌then◌else◌}
+use Rattle.go_rules.specs.declared.Colour.{Colour}
+use Rattle.go_rules.specs.Position.{BoardState}
+use Rattle.spiral.specs.Spiral.{place_at}
+use Rattle.pat_types.specs.declared.pattern.Pattern.{Pattern}
+use Rattle.pat_types.specs.Cells.{anchor_of}
+use Rattle.pat_types.specs.Marks.{count_of}
+use Rattle.dfa_match.specs.declared.Hit.{Hit}
+use Rattle.match_engine.specs.declared.found.Match.{Match}
+use Rattle.match_engine.specs.Match.{is_legal, lies_on_board}
+
+-- the star's point, with the anchor's cell at a under t
+abbrev pub place_of_star : Pattern → ℕ → ℕ → ℕ → Option ℕ
+place_of_star p s t a = place_at s t a (pos p.star.0 -ℤ pos (anchor_of p).0, pos p.star.1 -ℤ pos (anchor_of p).1)
+
+-- the match of the pattern with this number, whose star stands at this point, where it is one
+abbrev pub match_at : Pattern → BoardState → Colour → ℕ → ℕ → Option ℕ → Option Match
+match_at p board friend number t None = None
+match_at p board friend number t (Some m) = if lies_on_board p board.size t m && is_legal board friend m then Some (record { pattern = number; transform = t; at = m }) else None
+
+-- the match that a hit of this pattern is, where it is one
+abbrev pub match_of : Pattern → BoardState → Colour → Hit → Option Match
+match_of p board friend hit =
+    if nat_lt hit.transform (count_of p.mark) then match_at p board friend hit.pattern hit.transform (place_of_star p board.size hit.transform hit.anchor) else None
+
+-- the match that a hit is, where its number is that of this pattern, if there is one
+abbrev pub match_from : Option Pattern → BoardState → Colour → Hit → Option Match
+match_from None board friend hit = None
+match_from (Some p) board friend hit = match_of p board friend hit

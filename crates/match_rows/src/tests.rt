@@ -1,0 +1,205 @@
+//! Rows worked by hand. A point is its number in reading order: of a board of 3, B3 is 1, A2 is 3, C2 is 5 and B1 is 7.
+use db_read::{DbError, read};
+use dfa_join::{JoinError, compile};
+use go_base::{Colour, Point, Position, Size};
+use match_engine::{Match, matches};
+use pat_types::Pattern;
+use std::test::Fail;
+
+/// The smallest pattern: a friend's stone, and the move beside it.
+const SMALLEST: &[u8] = b"Pattern P\nO*\n:8,s";
+
+/// The smallest pattern with the stone of the enemy.
+const AGAINST: &[u8] = b"Pattern Q\nX*\n:8,s";
+
+/// The patterns that a text spells.
+fn patterns_of(rt: &HostRuntime, text: &[u8]) -> Result<Vec<Pattern>, DbError> {
+    read(rt.alloc(), text, &[], Vec::new(rt.alloc()))
+}
+
+/// A board with black stones.
+fn with_stones(side: u8, stones: &[Point]) -> Result<Position, Fail> {
+    let size = Size::new(side).ok_or("the size is one of a board")?;
+    let mut position = Position::new(size);
+    for p in stones {
+        if *p >= position.size().points() {
+            return Err("the stone stands on the board")?;
+        }
+        position = position.play(Colour::Black, *p)?;
+    }
+    Ok(position)
+}
+
+/// How many rows the automaton of a text has within a limit, None where the list has too many states.
+fn rows_within(rt: &HostRuntime, text: &[u8], limit: u32) -> Result<Option<u32>, Fail> {
+    let patterns = patterns_of(rt, text)?;
+    if patterns.len() > 4096 {
+        return Err("the list is short")?;
+    }
+    match compile(rt.alloc(), &patterns, limit) {
+        Ok(machine) => Ok(Some(machine.rows())),
+        Err(JoinError::TooManyStates { limit: _ }) => Ok(None),
+        Err(JoinError::NoMemory) => Err("there is memory")?,
+    }
+}
+
+/// The matches of the patterns of a text for a friend, by the automaton of another text.
+fn matches_by(
+    rt: &HostRuntime,
+    text: &[u8],
+    other: &[u8],
+    position: &Position,
+    friend: Colour,
+) -> Result<Vec<Match>, Fail> {
+    let patterns = patterns_of(rt, text)?;
+    let others = patterns_of(rt, other)?;
+    if others.len() > patterns.len() || others.len() > 4096 {
+        return Err("the other list is no longer")?;
+    }
+    let machine = compile(rt.alloc(), &others, 1000)?;
+    Ok(matches(rt.alloc(), &patterns, &machine, position, friend)?)
+}
+
+#[test]
+fn state_counts_of_small_lists(rt: HostRuntime) -> Result<(), Fail> {
+    let rows: [(&str, &[u8], u32, Option<u32>); 6] = [
+        ("the smallest pattern at its count", SMALLEST, 7, Some(7)),
+        ("the smallest pattern above it", SMALLEST, 6, None),
+        (
+            "two patterns at their count",
+            b"Pattern P\nO*\n:8,s\nPattern Q\nX*\n:8,s",
+            12,
+            Some(12),
+        ),
+        (
+            "two patterns above it",
+            b"Pattern P\nO*\n:8,s\nPattern Q\nX*\n:8,s",
+            11,
+            None,
+        ),
+        ("the empty list has the sink alone", b"", 1, Some(1)),
+        ("and the sink counts", b"", 0, None),
+    ];
+    for (what, text, limit, want) in rows {
+        assert_eq!(rt; rows_within(&rt, text, limit)?, want, "{what}");
+    }
+    Ok(())
+}
+
+#[test]
+fn matches_of_one_pattern(rt: HostRuntime) -> Result<(), Fail> {
+    let rows: [(&str, &[u8], &[u8], u8, &[Point], Colour, &[(u8, Point)]); 9] = [
+        (
+            "eight placements of the smallest pattern",
+            SMALLEST,
+            SMALLEST,
+            3,
+            &[4],
+            Colour::Black,
+            &[
+                (0, 5),
+                (1, 7),
+                (2, 3),
+                (3, 1),
+                (4, 3),
+                (5, 1),
+                (6, 5),
+                (7, 7),
+            ],
+        ),
+        (
+            "a mark of four",
+            b"Pattern P\nO*\n:-,s",
+            b"Pattern P\nO*\n:-,s",
+            3,
+            &[4],
+            Colour::Black,
+            &[(0, 5), (1, 7), (2, 3), (3, 1)],
+        ),
+        (
+            "a mark of one",
+            b"Pattern P\nO*\n:O,s",
+            b"Pattern P\nO*\n:O,s",
+            3,
+            &[4],
+            Colour::Black,
+            &[(0, 5)],
+        ),
+        (
+            "a drawn edge beside the move",
+            b"Pattern P\nO*|\n:8,s",
+            b"Pattern P\nO*|\n:8,s",
+            9,
+            &[43],
+            Colour::Black,
+            &[(0, 44), (6, 44)],
+        ),
+        (
+            "and none in the middle",
+            b"Pattern P\nO*|\n:8,s",
+            b"Pattern P\nO*|\n:8,s",
+            9,
+            &[40],
+            Colour::Black,
+            &[],
+        ),
+        (
+            "a stone in the corner",
+            SMALLEST,
+            SMALLEST,
+            9,
+            &[0],
+            Colour::Black,
+            &[(0, 1), (1, 9), (6, 1), (7, 9)],
+        ),
+        (
+            "no stone of the friend",
+            SMALLEST,
+            SMALLEST,
+            3,
+            &[4],
+            Colour::White,
+            &[],
+        ),
+        (
+            "another automaton finds nothing for black",
+            SMALLEST,
+            AGAINST,
+            3,
+            &[4],
+            Colour::Black,
+            &[],
+        ),
+        (
+            "and all eight for white",
+            SMALLEST,
+            AGAINST,
+            3,
+            &[4],
+            Colour::White,
+            &[
+                (0, 5),
+                (1, 7),
+                (2, 3),
+                (3, 1),
+                (4, 3),
+                (5, 1),
+                (6, 5),
+                (7, 7),
+            ],
+        ),
+    ];
+    for (what, text, other, side, stones, friend, want) in rows {
+        let position = with_stones(side, stones)?;
+        let found = matches_by(&rt, text, other, &position, friend)?;
+        assert_eq!(rt; found.len(), want.len(), "{what}");
+        for (m, (t, at)) in found.iter().zip(want) {
+            assert_eq!(rt;
+                (m.pattern, m.transform.get(), m.at),
+                (0, *t, *at),
+                "{what}"
+            );
+        }
+    }
+    Ok(())
+}

@@ -1,0 +1,13 @@
+-- Tables of the offsets of the spiral, moved by one transformation.
+use Rattle.std.specs.Prelude.{◌≡◌, ℕ, ◌<◌, pos, List, length, slice_index_or}
+use Rattle.go_rules.specs.Transform.{Offset, transformed}
+use Rattle.spiral.specs.Spiral.{offset_count, offset_at}
+
+-- the table's entry with the number i, or (0, 0) past its end
+abbrev pub entry_at : List Offset → ℕ → Offset
+entry_at table i = slice_index_or table i (pos 0, pos 0)
+
+-- the table has for each index its offset, moved by t
+pub record IsTurned (t : ℕ) (table : List Offset) : Type 0 where
+  pub length : length table ≡ offset_count
+  pub each : (i : ℕ) → i < offset_count → entry_at table i ≡ transformed t (offset_at i)

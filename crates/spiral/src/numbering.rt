@@ -1,0 +1,37 @@
+//! The numbers of offsets along the spiral.
+ghost use Rattle.std.specs.Prelude.{◌≡◌, ℕ, ◌<◌};
+ghost use Rattle.go_rules.specs.Transform.{IsNear};
+ghost use Rattle.spiral.specs.Spiral.{offset_count, offset_at};
+
+use crate::ring::{LAST_RING, in_ring, index_in_square, ring_start, ring_with};
+
+/// How many offsets there are: those with both parts from -18 to 18.
+pub const OFFSETS: u16 = (2 * LAST_RING + 1) * (2 * LAST_RING + 1);
+
+/// The offset with an index: how many rows down and how many columns to the right it leads, each negative for the other way.
+pub fn offset(index: u16) -> (i8, i8)
+    requires { index < offset_count }
+    ensures value { result ≡ offset_at index }
+    ensures near { IsNear result }
+{
+    let k = ring_with(index);
+    in_ring(k, index - ring_start(k))
+}
+
+/// The index of the offset of `dr` rows down and `dc` columns to the right, the one whose offset this is.
+pub fn index(dr: i8, dc: i8) -> u16
+    requires { IsNear (dr, dc) }
+    ensures value { offset_at result ≡ (dr, dc) }
+    ensures bound { result < offset_count }
+{
+    index_in_square(
+        (dr as i16 + LAST_RING as i16) as u16,
+        (dc as i16 + LAST_RING as i16) as u16,
+    )
+}
+
+/// No two indices have one offset, and each index below 1,369 has one with both parts from -18 to 18.
+pub fn offsets_differ()
+    ensures differ { (i j : ℕ) → i < offset_count → j < offset_count → offset_at i ≡ offset_at j → i ≡ j }
+    ensures near { (i : ℕ) → i < offset_count → IsNear (offset_at i) }
+{}
