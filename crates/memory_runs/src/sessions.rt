@@ -15,7 +15,7 @@ pub struct Session {
 }
 
 /// The sessions of the protocol's frame, of the board, of readings and of patterns.
-pub const SESSIONS: [Session; 21] = [
+pub const SESSIONS: [Session; 25] = [
     Session {
         name: "reply_repeats_the_id",
         files: &[],
@@ -157,6 +157,42 @@ pub const SESSIONS: [Session; 21] = [
         ],
         input: b"list_patterns\n",
         output: b"= P 1x2 8 s\nQ 1x2 | s\n\n",
+    },
+    Session {
+        name: "eight_placements_of_the_smallest_pattern",
+        files: &[File {
+            name: "p",
+            text: b"Pattern P\nO*\n:8,s\n",
+        }],
+        input: b"boardsize 3\nplay b B2\nmatch_patterns b\n",
+        output: b"=\n\n=\n\n= P 0 C2\nP 1 B1\nP 2 A2\nP 3 B3\nP 4 A2\nP 5 B3\nP 6 C2\nP 7 B1\n\n",
+    },
+    Session {
+        name: "mark_limits_the_transformations_to_four",
+        files: &[File {
+            name: "p",
+            text: b"Pattern P\nO*\n:-,s\n",
+        }],
+        input: b"boardsize 3\nplay b B2\nmatch_patterns b\n",
+        output: b"=\n\n=\n\n= P 0 C2\nP 1 B1\nP 2 A2\nP 3 B3\n\n",
+    },
+    Session {
+        name: "mark_limits_the_transformations_to_one",
+        files: &[File {
+            name: "p",
+            text: b"Pattern P\nO*\n:O,s\n",
+        }],
+        input: b"boardsize 3\nplay b B2\nmatch_patterns b\n",
+        output: b"=\n\n=\n\n= P 0 C2\n\n",
+    },
+    Session {
+        name: "drawn_edges_need_the_edge",
+        files: &[File {
+            name: "p",
+            text: b"Pattern P\nO*|\n:8,s\n",
+        }],
+        input: b"boardsize 9\nplay b H5\nmatch_patterns b\nboardsize 9\nplay b E5\nmatch_patterns b\n",
+        output: b"=\n\n=\n\n= P 0 J5\nP 6 J5\n\n=\n\n=\n\n=\n\n",
     },
     Session {
         name: "comments_alone_are_no_patterns",

@@ -1,8 +1,12 @@
 //! The worked sessions, whole and cut into pieces, and what happens where an object fails.
 use crate::sessions::{File, SESSIONS};
 use crate::{run_in_memory, run_surely};
+use db_read::read;
+use dfa_join::compile;
 use gtp_io::{Feed, Page, Shelf, SureFeed, SurePage, SureShelf};
-use session::{Outcome, run};
+use gtp_lex::Raw;
+use pat_types::Pattern;
+use session::{Outcome, Reply, Session, run};
 use std::alloc::Global;
 use std::process::Abort;
 use std::test::Fail;
@@ -357,6 +361,48 @@ fn refused_files_are_told_before_the_first_line(rt: HostRuntime) -> Result<(), F
         assert_eq!(rt; ran.notes.bytes(), note, "{what}");
         assert_eq!(rt; ran.output.bytes(), b"".as_slice(), "{what}");
         assert_eq!(rt; ran.left, 5, "{what}");
+    }
+    Ok(())
+}
+
+/// The patterns of a text.
+fn patterns_of(alloc: Global, text: &[u8]) -> Result<Vec<Pattern>, Fail> {
+    match read(alloc, text, &[], Vec::new(alloc)) {
+        Ok(patterns) => Ok(patterns),
+        Err(_) => Err(Fail::from("the text has no fault")),
+    }
+}
+
+/// A session with one pattern and the automaton of another.
+fn session_by_another(rt: &impl Abort, alloc: Global) -> Result<Session, Fail> {
+    let patterns = patterns_of(alloc, b"Pattern P\nO*\n:8,s\n")?;
+    let others = patterns_of(alloc, b"Pattern Q\nX*\n:8,s\n")?;
+    assert_eq!(rt; others.len(), patterns.len());
+    assert!(rt; others.len() <= 4096, "a database has few patterns");
+    let Ok(machine) = compile(alloc, &others, 100) else {
+        return Err(Fail::from("the pattern has few states"));
+    };
+    Ok(Session::new(alloc, patterns, machine)?)
+}
+
+// The automaton asks for an enemy's stone where the pattern has a friend's.
+#[test]
+fn session_answers_by_the_automaton_given(rt: HostRuntime) -> Result<(), Fail> {
+    let mut session = session_by_another(&rt, rt.alloc())?;
+    for (line, want) in [
+        ("boardsize 3", "=\n\n"),
+        ("play b B2", "=\n\n"),
+        ("match_patterns b", "=\n\n"),
+        (
+            "match_patterns w",
+            "= P 0 C2\nP 1 B1\nP 2 A2\nP 3 B3\nP 4 A2\nP 5 B3\nP 6 C2\nP 7 B1\n\n",
+        ),
+    ] {
+        match session.line(Raw::Line(line.as_bytes())) {
+            Reply::Short { text, .. } => assert_eq!(rt; text.as_slice(), want.as_bytes(), "{line}"),
+            Reply::Text { bytes } => assert_eq!(rt; bytes.as_slice(), want.as_bytes(), "{line}"),
+            _ => return Err(Fail::from("a line with words has a reply")),
+        }
     }
     Ok(())
 }

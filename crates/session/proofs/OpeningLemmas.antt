@@ -8,9 +8,9 @@ use Rattle.gtp_rules.specs.Lines.{RawLine}
 use Rattle.gtp_rules.specs.Steps.{Step}
 use Rattle.pat_types.specs.declared.pattern.Pattern.{Pattern}
 use Rattle.session.specs.Headline.{IsRight}
-use Rattle.session.specs.Opening.{added_feed, ended, joined_text, IsContents, AreContents, IsJoined, Adds, FilesAre, IsRefused}
+use Rattle.session.specs.Opening.{added_feed, ended, joined_text, IsContents, AreContents, IsJoined, Adds, FilesAre, IsRefused, RefusesStates}
 use Rattle.session.specs.declared.outcome.Outcome.{Outcome}
-use Rattle.session.specs.declared.outcome.Outcome.TheVariants.{Done, BadDatabase, Usage, NoMemory, InputFault, OutputFault, FileFault, InputTooLong}
+use Rattle.session.specs.declared.outcome.Outcome.TheVariants.{Done, BadDatabase, Usage, NoMemory, InputFault, OutputFault, FileFault, TooManyStates, InputTooLong}
 
 -- what was loaded stands behind the bytes that were handed in
 loaded : (contents : Option (List ℕ)) (into bytes : List ℕ) → IsLoaded contents into bytes → (more : List ℕ) × IsContents contents more × (bytes ≡ into ++ more)
@@ -64,6 +64,7 @@ FilesAre-refused contents names patterns NoMemory is = tt
 FilesAre-refused contents names patterns InputFault is = absurd is
 FilesAre-refused contents names patterns OutputFault is = absurd is
 FilesAre-refused contents names patterns FileFault is = tt
+FilesAre-refused contents names patterns (TooManyStates limit) is = absurd is
 FilesAre-refused contents names patterns InputTooLong is = absurd is
 
 -- where the files were refused nothing was taken and nothing put
@@ -76,4 +77,18 @@ IsRight-refused step first left piece contents names NoMemory is = (refl, refl)
 IsRight-refused step first left piece contents names InputFault is = absurd is
 IsRight-refused step first left piece contents names OutputFault is = absurd is
 IsRight-refused step first left piece contents names FileFault is = (refl, refl)
+IsRight-refused step first left piece contents names (TooManyStates limit) is = absurd is
 IsRight-refused step first left piece contents names InputTooLong is = absurd is
+
+-- where the automaton was refused nothing was taken and nothing put
+pub IsRight-states : {M : Type 0} (step : M → RawLine → Step M) (first : M) (left : Option (List ℕ)) (piece : ℕ) (patterns : List Pattern) (o : Outcome)
+    → RefusesStates patterns o → IsRight step first left [] [] piece o
+IsRight-states step first left piece patterns Done none = absurd none
+IsRight-states step first left piece patterns (BadDatabase line kind) none = absurd none
+IsRight-states step first left piece patterns Usage none = absurd none
+IsRight-states step first left piece patterns NoMemory none = (refl, refl)
+IsRight-states step first left piece patterns InputFault none = absurd none
+IsRight-states step first left piece patterns OutputFault none = absurd none
+IsRight-states step first left piece patterns FileFault none = absurd none
+IsRight-states step first left piece patterns (TooManyStates limit) refused = (refl, refl)
+IsRight-states step first left piece patterns InputTooLong none = absurd none

@@ -1,8 +1,10 @@
 pub mod Machine
+pub mod Kept
 pub mod BoardText
 pub mod PointLists
 pub mod Readings
 pub mod PatternTexts
+pub mod MatchTexts
 pub mod Answering
 pub mod Replies
 pub mod Within

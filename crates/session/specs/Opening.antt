@@ -1,14 +1,23 @@
 -- How a run opens the pattern files, which its words name: it joins their contents in their order and reads the joined text.
-use Rattle.std.specs.Prelude.{◌≡◌, ℕ, ◌-◌, ◌==◌, ◌&&◌, not, Bool, false, List, [], ◌∷◌, ◌++◌, length, map, slice_index, Option, Some, None, Contains, if◌then◌else◌}
+use Rattle.std.specs.Prelude.{◌≡◌, ◌≤◌, ℕ, ◌-◌, ◌==◌, ◌&&◌, not, Bool, false, List, [], ◌∷◌, ◌++◌, length, map, slice_index, Option, Some, None, Contains, if◌then◌else◌}
 use Rattle.std.specs.List.{flat_map, list_any}
 use Rattle.gtp_io.specs.declared.errors.LoadError.{LoadError}
 use Rattle.gtp_io.specs.declared.errors.LoadError.TheVariants as load
 use Rattle.gtp_cmd.specs.Words.{line_feed}
 use Rattle.pat_types.specs.declared.pattern.Pattern.{Pattern}
+use Rattle.dfa_core.specs.States.{HasStates, HasMoreStates}
 use Rattle.db_grammar.specs.Entries.{entry_of}
 use Rattle.db_grammar.specs.Faults.{first_fault, entries}
 use Rattle.session.specs.declared.outcome.Outcome.{Outcome}
-use Rattle.session.specs.declared.outcome.Outcome.TheVariants.{Done, BadDatabase, Usage, NoMemory, InputFault, OutputFault, FileFault, InputTooLong}
+use Rattle.session.specs.declared.outcome.Outcome.TheVariants.{Done, BadDatabase, Usage, NoMemory, InputFault, OutputFault, FileFault, TooManyStates, InputTooLong}
+
+-- the most patterns of a database
+abbrev pub most_patterns : ℕ
+most_patterns = 4096
+
+-- the most states of an automaton
+abbrev pub most_states : ℕ
+most_states = 100000
 
 -- the byte with which an option begins
 abbrev pub hyphen : ℕ
@@ -87,16 +96,21 @@ pub record IsFaulty (contents : List ℕ → Option (List ℕ)) (names : List (L
   pub joined : IsJoined contents names text
   pub fault : first_fault [] text ≡ Some (record { line = line; kind = kind })
 
+-- the patterns have no more states than there may be
+abbrev pub HasFewStates : List Pattern → Type 0
+HasFewStates patterns = (n : ℕ) × HasStates patterns n × (n ≤ most_states)
+
 -- by the outcome of a run, what its files are and which patterns are theirs
 abbrev pub FilesAre : (List ℕ → Option (List ℕ)) → List (List ℕ) → List Pattern → Outcome → Type 0
-FilesAre contents names patterns Done = IsDatabase contents names patterns
+FilesAre contents names patterns Done = IsDatabase contents names patterns × HasFewStates patterns
 FilesAre contents names patterns (BadDatabase line kind) = IsFaulty contents names line kind
 FilesAre contents names patterns Usage = Unit {0}
 FilesAre contents names patterns NoMemory = Unit {0}
-FilesAre contents names patterns InputFault = IsDatabase contents names patterns
-FilesAre contents names patterns OutputFault = IsDatabase contents names patterns
+FilesAre contents names patterns InputFault = IsDatabase contents names patterns × HasFewStates patterns
+FilesAre contents names patterns OutputFault = IsDatabase contents names patterns × HasFewStates patterns
 FilesAre contents names patterns FileFault = Unit {0}
-FilesAre contents names patterns InputTooLong = IsDatabase contents names patterns
+FilesAre contents names patterns (TooManyStates limit) = (limit ≡ most_states) × IsDatabase contents names patterns × HasMoreStates patterns most_states
+FilesAre contents names patterns InputTooLong = IsDatabase contents names patterns × HasFewStates patterns
 
 -- by the outcome of a run, which names its loader missed: a fault of a file appended its name, and no other outcome appends one
 abbrev pub MissedAfter : List (List ℕ) → List (List ℕ) → List (List ℕ) → Outcome → Type 0
@@ -107,6 +121,7 @@ MissedAfter names before now NoMemory = now ≡ before
 MissedAfter names before now InputFault = now ≡ before
 MissedAfter names before now OutputFault = now ≡ before
 MissedAfter names before now FileFault = MissedOne names before now
+MissedAfter names before now (TooManyStates limit) = now ≡ before
 MissedAfter names before now InputTooLong = now ≡ before
 
 -- the loop of lines was entered
@@ -118,6 +133,7 @@ WasEntered NoMemory = ⊥
 WasEntered InputFault = Unit {0}
 WasEntered OutputFault = Unit {0}
 WasEntered FileFault = ⊥
+WasEntered (TooManyStates limit) = ⊥
 WasEntered InputTooLong = Unit {0}
 
 -- the files were not opened, and the outcome says why
@@ -129,6 +145,7 @@ IsRefused contents names NoMemory = Unit {0}
 IsRefused contents names InputFault = ⊥
 IsRefused contents names OutputFault = ⊥
 IsRefused contents names FileFault = Unit {0}
+IsRefused contents names (TooManyStates limit) = ⊥
 IsRefused contents names InputTooLong = ⊥
 
 -- the text is no database, and the outcome says why: it has this first fault, or there was no memory
@@ -140,4 +157,29 @@ RefusesText text NoMemory = Unit {0}
 RefusesText text InputFault = ⊥
 RefusesText text OutputFault = ⊥
 RefusesText text FileFault = ⊥
+RefusesText text (TooManyStates limit) = ⊥
 RefusesText text InputTooLong = ⊥
+
+-- the patterns have no automaton, and the outcome says why: it would have too many states, or there was no memory
+abbrev pub RefusesStates : List Pattern → Outcome → Type 0
+RefusesStates patterns Done = ⊥
+RefusesStates patterns (BadDatabase line kind) = ⊥
+RefusesStates patterns Usage = ⊥
+RefusesStates patterns NoMemory = Unit {0}
+RefusesStates patterns InputFault = ⊥
+RefusesStates patterns OutputFault = ⊥
+RefusesStates patterns FileFault = ⊥
+RefusesStates patterns (TooManyStates limit) = (limit ≡ most_states) × HasMoreStates patterns most_states
+RefusesStates patterns InputTooLong = ⊥
+
+-- by the outcome of a run that has these patterns, how many states they have
+abbrev pub StatesAre : List Pattern → Outcome → Type 0
+StatesAre patterns Done = HasFewStates patterns
+StatesAre patterns (BadDatabase line kind) = ⊥
+StatesAre patterns Usage = ⊥
+StatesAre patterns NoMemory = Unit {0}
+StatesAre patterns InputFault = HasFewStates patterns
+StatesAre patterns OutputFault = HasFewStates patterns
+StatesAre patterns FileFault = ⊥
+StatesAre patterns (TooManyStates limit) = (limit ≡ most_states) × HasMoreStates patterns most_states
+StatesAre patterns InputTooLong = HasFewStates patterns

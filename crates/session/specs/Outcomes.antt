@@ -1,7 +1,7 @@
 -- How a run ends, as the exit status of the program.
 use Rattle.std.specs.Prelude.{ℕ}
 use Rattle.session.specs.declared.outcome.Outcome.{Outcome}
-use Rattle.session.specs.declared.outcome.Outcome.TheVariants.{Done, BadDatabase, Usage, NoMemory, InputFault, OutputFault, FileFault, InputTooLong}
+use Rattle.session.specs.declared.outcome.Outcome.TheVariants.{Done, BadDatabase, Usage, NoMemory, InputFault, OutputFault, FileFault, TooManyStates, InputTooLong}
 
 -- the exit status
 abbrev pub code_of : Outcome → ℕ
@@ -12,4 +12,5 @@ code_of NoMemory = 3
 code_of InputFault = 4
 code_of OutputFault = 5
 code_of FileFault = 6
+code_of (TooManyStates limit) = 7
 code_of InputTooLong = 8

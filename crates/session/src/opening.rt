@@ -3,7 +3,7 @@ ghost use Rattle.std.specs.Prelude.{◌≡◌, ◌≤◌, ◌++◌, [], length, 
 ghost use Rattle.gtp_io.specs.Loading.{missed_after};
 ghost use Rattle.db_grammar.specs.Entries.{entry_of};
 ghost use Rattle.db_grammar.specs.Faults.{first_fault, entries};
-ghost use Rattle.session.specs.Opening.{is_option as begins_with_hyphen, has_option as has_one, needs_feed, added_feed, Adds, IsJoined, MissedBy, MissedAfter, IsDatabase, IsRefused, RefusesText};
+ghost use Rattle.session.specs.Opening.{is_option as begins_with_hyphen, has_option as has_one, most_patterns, needs_feed, added_feed, Adds, IsJoined, MissedBy, MissedAfter, IsDatabase, IsRefused, RefusesText};
 
 use crate::outcome::Outcome;
 use db_read::{DbError, read};
@@ -79,6 +79,7 @@ fn joined<L: Loader>(alloc: Global, names: &[String], files: &mut L) -> Result<V
 /// The patterns of a text, or the outcome that its first fault makes.
 fn patterns_in(alloc: Global, text: &[u8]) -> Result<Vec<Pattern>, Outcome>
     ensures ok { IfOk result (λ patterns. (first_fault [] text.now ≡ None) × (map entry_of patterns.items ≡ entries text.now)) }
+    ensures few { IfOk result (λ patterns. length patterns.items ≤ most_patterns) }
     ensures err { IfErr result (RefusesText text.now) }
 {
     match read(alloc, text, &[], Vec::new(alloc)) {
@@ -95,6 +96,7 @@ pub(crate) fn open_files<L: Loader>(
     files: &mut L,
 ) -> Result<Vec<Pattern>, Outcome>
     ensures ok { IfOk result (λ patterns. IsDatabase (L.contents files.old) (map string_bytes names.now) patterns.items) }
+    ensures few { IfOk result (λ patterns. length patterns.items ≤ most_patterns) }
     ensures err { IfErr result (IsRefused (L.contents files.old) (map string_bytes names.now)) }
     ensures kept { OnOk result (L.missed files.new ≡ L.missed files.old) }
     ensures missed { IfErr result (MissedAfter (map string_bytes names.now) (L.missed files.old) (L.missed files.new)) }

@@ -1,28 +1,40 @@
 //! The top call of the program.
-ghost use Rattle.std.specs.Prelude.{◌≡◌, ◌⊎◌, ◌↔◌, IsTrue, map, string_bytes};
+ghost use Rattle.std.specs.Prelude.{◌≡◌, ◌≤◌, ◌⊎◌, ◌↔◌, IsTrue, IfOk, OnOk, IfErr, length, map, string_bytes};
+ghost use Rattle.dfa_core.specs.Automata.{accepted};
+ghost use Rattle.dfa_core.specs.States.{matched_from};
+ghost use Rattle.dfa_core.specs.Words.{Word};
 ghost use Rattle.session.specs.Machine.{first_machine};
 ghost use Rattle.session.specs.Answering.{step};
 ghost use Rattle.session.specs.Headline.{Serves, IsCauseOf};
 ghost use Rattle.session.specs.Notes.{IsNoted, notes_text};
-ghost use Rattle.session.specs.Opening.{has_option as has_one, MissedAfter, WasEntered};
+ghost use Rattle.session.specs.Kept.{NumbersPatterns};
+ghost use Rattle.session.specs.Opening.{has_option as has_one, most_patterns, MissedAfter, WasEntered, HasFewStates, RefusesStates, StatesAre};
 ghost use Rattle.session.specs.Running.{Runs, RunsAndNotes};
 
 use crate::opening::{has_option, open_files};
 use crate::outcome::{Outcome, note};
 use crate::serve::{put_both, serve};
 use crate::session::Session;
+use dfa_core::Automaton;
+use dfa_join::{JoinError, compile};
 use gtp_io::{Loader, Sink, Source};
 use gtp_lex::Lines;
 use pat_types::Pattern;
 use std::alloc::Global;
 
-// Serves by a session with these patterns.
-fn serve_patterns<S: Source, K: Sink>(
+/// The most states of an automaton.
+const MAX_STATES: u32 = 100_000;
+
+// Serves by a session with these patterns and their automaton.
+fn serve_by<S: Source, K: Sink>(
     alloc: Global,
     patterns: Vec<Pattern>,
+    machine: Automaton,
     input: &mut S,
     output: &mut K,
 ) -> Outcome
+    requires numbers { NumbersPatterns machine patterns.items }
+    requires machine { (w : Word) → accepted machine w ≡ matched_from 0 patterns.items w }
     ensures ran { (result ≡ Outcome.NoMemory) ⊎ WasEntered result }
     ensures serves { Serves step (first_machine patterns.items) (S.left input.old) (S.left input.new)
         (K.written output.old) (K.written output.new) (S.piece input.new) result }
@@ -32,10 +44,45 @@ fn serve_patterns<S: Source, K: Sink>(
     let Ok(mut lines) = Lines::new(alloc) else {
         return Outcome::NoMemory;
     };
-    let Ok(mut session) = Session::new(alloc, patterns) else {
+    let Ok(mut session) = Session::new(alloc, patterns, machine) else {
         return Outcome::NoMemory;
     };
     serve(&mut session, &mut lines, input, output)
+}
+
+// The automaton of the patterns, or the outcome that refuses them.
+fn automaton_of(alloc: Global, patterns: &[Pattern]) -> Result<Automaton, Outcome>
+    requires { length patterns.now ≤ most_patterns }
+    ensures machine { IfOk result (λ machine. (w : Word) → accepted machine w ≡ matched_from 0 patterns.now w) }
+    ensures numbers { IfOk result (λ machine. NumbersPatterns machine patterns.now) }
+    ensures few { OnOk result (HasFewStates patterns.now) }
+    ensures err { IfErr result (RefusesStates patterns.now) }
+{
+    match compile(alloc, patterns, MAX_STATES) {
+        Ok(machine) => Ok(machine),
+        Err(JoinError::TooManyStates { limit }) => Err(Outcome::TooManyStates { limit }),
+        Err(JoinError::NoMemory) => Err(Outcome::NoMemory),
+    }
+}
+
+// Serves by a session with these patterns.
+fn serve_patterns<S: Source, K: Sink>(
+    alloc: Global,
+    patterns: Vec<Pattern>,
+    input: &mut S,
+    output: &mut K,
+) -> Outcome
+    requires { length patterns.items ≤ most_patterns }
+    ensures states { StatesAre patterns.items result }
+    ensures serves { Serves step (first_machine patterns.items) (S.left input.old) (S.left input.new)
+        (K.written output.old) (K.written output.new) (S.piece input.new) result }
+    ensures input { IsCauseOf (result ≡ Outcome.InputFault) (S.faults input.old) (S.faults input.new) }
+    ensures output { IsCauseOf (result ≡ Outcome.OutputFault) (K.faults output.old) (K.faults output.new) }
+{
+    match automaton_of(alloc, patterns.as_slice()) {
+        Ok(machine) => serve_by(alloc, patterns, machine, input, output),
+        Err(outcome) => outcome,
+    }
 }
 
 // The run but for its notes.
@@ -74,8 +121,9 @@ fn put_note<D: Sink>(notes: &mut D, outcome: Outcome)
 /// Answers the lines of the input on the output by the patterns of some files, and says on the notes how that ended.
 ///
 /// `words` are the words of the command line without the program's name: the names of the pattern files, whose contents are
-/// joined in their order; a word that begins with a hyphen is refused. The files are loaded, and memory is sought, before the
-/// first line is read; the first file that fails, or the first fault of the joined files, ends the run there. Replies go out as
+/// joined in their order; a word that begins with a hyphen is refused. The files are loaded, their patterns are made one
+/// automaton of at most 100,000 states, and memory is sought, before the first line is read; the first file that fails, the
+/// first fault of the joined files, or a further state ends the run there. Replies go out as
 /// they are made, and no read is made before every line that has ended is answered. Nothing more is read or answered after the
 /// first failure of the input or the output, after a line that ends the session, and after 2^32 bytes. A failure of the notes
 /// changes no outcome.

@@ -1,6 +1,6 @@
 -- One pattern more.
 use Rattle.std.proofs.Common.{arith}
-use Rattle.session.proofs.PatternLemmas.{patterns-next}
+use Rattle.session.proofs.LineTexts.{patterns-next}
 use Rattle.session.proofs.pattern_text.patterns_text.Goals as goal
 
 pub loop-p-preserved : goal.loop-p-preserved
