@@ -1,8 +1,12 @@
 //! The worked sessions, whole and cut into pieces, and what happens where an object fails.
-use crate::sessions::SESSIONS;
+use crate::sessions::{File, SESSIONS};
 use crate::{run_in_memory, run_surely};
-use gtp_io::{Feed, Page, SureFeed, SurePage};
-use session::{Outcome, run};
+use db_read::read;
+use dfa_join::compile;
+use gtp_io::{Feed, Page, Shelf, SureFeed, SurePage, SureShelf};
+use gtp_lex::Raw;
+use pat_types::Pattern;
+use session::{Outcome, Reply, Session, run};
 use std::alloc::Global;
 use std::process::Abort;
 use std::test::Fail;
@@ -26,6 +30,7 @@ struct Ran {
 #[derive(Clone, Copy)]
 struct Way {
     piece: usize,
+    loader_fails: u64,
     source_fails: u64,
     sink_fails: u64,
     notes_fail: u64,
@@ -34,6 +39,7 @@ struct Way {
 /// Nothing fails, and each call moves as much as it can.
 const WHOLE: Way = Way {
     piece: 4096,
+    loader_fails: 0,
     source_fails: 0,
     sink_fails: 0,
     notes_fail: 0,
@@ -47,13 +53,42 @@ fn once(alloc: Global, call: u64) -> Result<Vec<u64>, Fail> {
     Ok(list)
 }
 
-fn go(rt: &impl Abort, alloc: Global, input: &[u8], way: Way) -> Result<Ran, Fail> {
+/// The words of a command line that names these files.
+fn words(alloc: Global, files: &[File]) -> Result<Vec<String>, Fail> {
+    let mut words = Vec::new(alloc);
+    for file in files {
+        words.push(String::from_str(alloc, file.name)?)?;
+    }
+    Ok(words)
+}
+
+/// A shelf that holds these files, and fails at a call, if one is to fail.
+fn shelf(rt: &impl Abort, alloc: Global, files: &[File], fails: u64) -> Result<Shelf, Fail> {
+    let names = words(alloc, files)?;
+    let mut contents = Vec::new(alloc);
+    for file in files {
+        contents.push(Vec::from_slice(alloc, file.text)?)?;
+    }
+    assert_eq!(rt; names.len(), contents.len());
+    Ok(Shelf::new(names, contents, once(alloc, fails)?))
+}
+
+fn go(rt: &impl Abort, alloc: Global, files: &[File], input: &[u8], way: Way) -> Result<Ran, Fail> {
     assert!(rt; way.piece > 0, "a call moves some bytes");
     let bytes = Vec::from_slice(alloc, input)?;
     let mut feed = Feed::new(bytes, way.piece, once(alloc, way.source_fails)?);
     let mut output = Page::new(alloc, ROOM, way.piece, once(alloc, way.sink_fails)?)?;
     let mut notes = Page::new(alloc, ROOM, way.piece, once(alloc, way.notes_fail)?)?;
-    let outcome = run(alloc, &[], &mut feed, &mut output, &mut notes);
+    let words = words(alloc, files)?;
+    let mut shelf = shelf(rt, alloc, files, way.loader_fails)?;
+    let outcome = run(
+        alloc,
+        &words,
+        &mut shelf,
+        &mut feed,
+        &mut output,
+        &mut notes,
+    );
     let left = feed.left().len();
     Ok(Ran {
         outcome,
@@ -68,7 +103,13 @@ fn sessions_whole_and_in_pieces(rt: HostRuntime) -> Result<(), Fail> {
     for session in &SESSIONS {
         let name = session.name;
         for piece in [4096, 1, 2, 3, 4, 5, 6, 7, 8] {
-            let ran = go(&rt, rt.alloc(), session.input, Way { piece, ..WHOLE })?;
+            let ran = go(
+                &rt,
+                rt.alloc(),
+                session.files,
+                session.input,
+                Way { piece, ..WHOLE },
+            )?;
             assert_eq!(rt;
                 ran.output.bytes(),
                 session.output,
@@ -103,7 +144,8 @@ fn longest_line_and_one_byte_more(rt: HostRuntime) -> Result<(), Fail> {
         let mut input = vec![in rt.alloc(); b'x'; letters]?;
         input.extend_from_slice(b"\nname\n")?;
         let mut page = Page::new(rt.alloc(), ROOM, ROOM, Vec::new(rt.alloc()))?;
-        let outcome = run_in_memory(rt.alloc(), input, &mut page);
+        let mut none = shelf(&rt, rt.alloc(), &[], 0)?;
+        let outcome = run_in_memory(rt.alloc(), &[], &mut none, input, &mut page);
         assert_eq!(rt; page.bytes(), output, "{what}");
         assert_eq!(rt; outcome, Outcome::Done, "{what}");
     }
@@ -117,7 +159,7 @@ fn failing_source_and_sink(rt: HostRuntime) -> Result<(), Fail> {
         source_fails: 3,
         ..WHOLE
     };
-    let ran = go(&rt, rt.alloc(), b"name\nversion\nname\n", source)?;
+    let ran = go(&rt, rt.alloc(), &[], b"name\nversion\nname\n", source)?;
     assert_eq!(rt; ran.output.bytes(), b"= gopat\n\n".as_slice());
     assert_eq!(rt; ran.notes.bytes(), b"input failed\n".as_slice());
     assert_eq!(rt; ran.outcome.code(), 4);
@@ -126,7 +168,7 @@ fn failing_source_and_sink(rt: HostRuntime) -> Result<(), Fail> {
         sink_fails: 2,
         ..WHOLE
     };
-    let ran = go(&rt, rt.alloc(), b"name\n", sink)?;
+    let ran = go(&rt, rt.alloc(), &[], b"name\n", sink)?;
     assert_eq!(rt; ran.output.bytes(), b"= gop".as_slice());
     assert_eq!(rt; ran.notes.bytes(), b"output failed\n".as_slice());
     assert_eq!(rt; ran.outcome.code(), 5);
@@ -141,7 +183,7 @@ fn reads_no_further_than_it_answers(rt: HostRuntime) -> Result<(), Fail> {
         sink_fails: 1,
         ..WHOLE
     };
-    let ran = go(&rt, rt.alloc(), b"name\nversion\n", way)?;
+    let ran = go(&rt, rt.alloc(), &[], b"name\nversion\n", way)?;
     assert_eq!(rt; ran.output.bytes(), b"".as_slice());
     assert_eq!(rt; ran.left, 8);
     assert_eq!(rt; ran.outcome, Outcome::OutputFault);
@@ -171,7 +213,7 @@ fn each_call_fails_in_turn(rt: HostRuntime) -> Result<(), Fail> {
                     },
                     ..WHOLE
                 };
-                let ran = go(&rt, rt.alloc(), session.input, way)?;
+                let ran = go(&rt, rt.alloc(), session.files, session.input, way)?;
                 let name = session.name;
                 assert!(rt;
                     session.output.starts_with(ran.output.bytes()),
@@ -199,20 +241,168 @@ fn notes_that_fail_change_no_outcome(rt: HostRuntime) -> Result<(), Fail> {
         notes_fail: 1,
         ..WHOLE
     };
-    let ran = go(&rt, rt.alloc(), b"name\n", way)?;
+    let ran = go(&rt, rt.alloc(), &[], b"name\n", way)?;
     assert_eq!(rt; ran.notes.bytes(), b"".as_slice());
     assert_eq!(rt; ran.outcome, Outcome::InputFault);
     Ok(())
 }
 
 #[test]
-fn words_of_the_command_line_are_refused(rt: HostRuntime) -> Result<(), Fail> {
+fn words_that_begin_with_a_hyphen_are_refused(rt: HostRuntime) -> Result<(), Fail> {
     let mut words = Vec::new(rt.alloc());
     words.push(String::from_str(rt.alloc(), "file")?)?;
+    let mut shelf = SureShelf::new(Vec::new(rt.alloc()), Vec::new(rt.alloc()));
     let mut feed = SureFeed::new(Vec::from_slice(rt.alloc(), b"name\n")?, 5);
-    let outcome = run_surely(rt.alloc(), &words, &mut feed, &mut SurePage::new());
-    assert_eq!(rt; outcome.code(), 2);
-    let outcome = run_surely(rt.alloc(), &[], &mut feed, &mut SurePage::new());
-    assert_eq!(rt; outcome, Outcome::Done);
+    let outcome = run_surely(
+        rt.alloc(),
+        &words,
+        &mut shelf,
+        &mut feed,
+        &mut SurePage::new(),
+    );
+    assert_eq!(rt; outcome, Outcome::Done, "a word that names a file");
+    words.push(String::from_str(rt.alloc(), "-h")?)?;
+    let outcome = run_surely(
+        rt.alloc(),
+        &words,
+        &mut shelf,
+        &mut feed,
+        &mut SurePage::new(),
+    );
+    assert_eq!(rt; outcome.code(), 2, "a word that begins with a hyphen");
+    Ok(())
+}
+
+/// Files that are refused, the exit status, and the note.
+const REFUSED: [(&str, &[File], u64, u8, &[u8]); 6] = [
+    (
+        "no star",
+        &[File {
+            name: "p",
+            text: b"Pattern A\nOX\n:8,s\n",
+        }],
+        0,
+        1,
+        b"bad database: line 3 kind 7\n",
+    ),
+    (
+        "two stars",
+        &[File {
+            name: "p",
+            text: b"Pattern A\n**\n:8,s\n",
+        }],
+        0,
+        1,
+        b"bad database: line 3 kind 7\n",
+    ),
+    (
+        "a helper that is not there",
+        &[File {
+            name: "p",
+            text: b"Pattern P\nO*\n:8,s,far_away\n",
+        }],
+        0,
+        1,
+        b"bad database: line 3 kind 17\n",
+    ),
+    (
+        "an expression in the second file",
+        &[
+            File {
+                name: "p",
+                text: b"Pattern P\nO*\n:8,s",
+            },
+            File {
+                name: "q",
+                text: b"Pattern Q\nO*\n:8,s\n;lib(*)\n",
+            },
+        ],
+        0,
+        1,
+        b"bad database: line 7 kind 15\n",
+    ),
+    (
+        "the first load fails",
+        &[File {
+            name: "p",
+            text: b"",
+        }],
+        1,
+        6,
+        b"file failed\n",
+    ),
+    (
+        "the second load fails",
+        &[
+            File {
+                name: "p",
+                text: b"",
+            },
+            File {
+                name: "q",
+                text: b"",
+            },
+        ],
+        2,
+        6,
+        b"file failed\n",
+    ),
+];
+
+#[test]
+fn refused_files_are_told_before_the_first_line(rt: HostRuntime) -> Result<(), Fail> {
+    for (what, files, loader_fails, status, note) in REFUSED {
+        let way = Way {
+            loader_fails,
+            ..WHOLE
+        };
+        let ran = go(&rt, rt.alloc(), files, b"name\n", way)?;
+        assert_eq!(rt; ran.outcome.code(), status, "{what}");
+        assert_eq!(rt; ran.notes.bytes(), note, "{what}");
+        assert_eq!(rt; ran.output.bytes(), b"".as_slice(), "{what}");
+        assert_eq!(rt; ran.left, 5, "{what}");
+    }
+    Ok(())
+}
+
+/// The patterns of a text.
+fn patterns_of(alloc: Global, text: &[u8]) -> Result<Vec<Pattern>, Fail> {
+    match read(alloc, text, &[], Vec::new(alloc)) {
+        Ok(patterns) => Ok(patterns),
+        Err(_) => Err(Fail::from("the text has no fault")),
+    }
+}
+
+/// A session with one pattern and the automaton of another.
+fn session_by_another(rt: &impl Abort, alloc: Global) -> Result<Session, Fail> {
+    let patterns = patterns_of(alloc, b"Pattern P\nO*\n:8,s\n")?;
+    let others = patterns_of(alloc, b"Pattern Q\nX*\n:8,s\n")?;
+    assert_eq!(rt; others.len(), patterns.len());
+    assert!(rt; others.len() <= 4096, "a database has few patterns");
+    let Ok(machine) = compile(alloc, &others, 100) else {
+        return Err(Fail::from("the pattern has few states"));
+    };
+    Ok(Session::new(alloc, patterns, machine)?)
+}
+
+// The automaton asks for an enemy's stone where the pattern has a friend's.
+#[test]
+fn session_answers_by_the_automaton_given(rt: HostRuntime) -> Result<(), Fail> {
+    let mut session = session_by_another(&rt, rt.alloc())?;
+    for (line, want) in [
+        ("boardsize 3", "=\n\n"),
+        ("play b B2", "=\n\n"),
+        ("match_patterns b", "=\n\n"),
+        (
+            "match_patterns w",
+            "= P 0 C2\nP 1 B1\nP 2 A2\nP 3 B3\nP 4 A2\nP 5 B3\nP 6 C2\nP 7 B1\n\n",
+        ),
+    ] {
+        match session.line(Raw::Line(line.as_bytes())) {
+            Reply::Short { text, .. } => assert_eq!(rt; text.as_slice(), want.as_bytes(), "{line}"),
+            Reply::Text { bytes } => assert_eq!(rt; bytes.as_slice(), want.as_bytes(), "{line}"),
+            _ => return Err(Fail::from("a line with words has a reply")),
+        }
+    }
     Ok(())
 }

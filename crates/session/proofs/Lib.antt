@@ -7,3 +7,7 @@ pub mod Replied
 pub mod Refusals
 pub mod ServeLemmas
 pub mod Served
+pub mod LineTexts
+pub mod OpeningLemmas
+pub mod FewPatterns
+pub mod Finding

@@ -20,8 +20,8 @@ use Rattle.session.specs.declared.reply.Reply.TheVariants.{Short, NoMemory}
 use Rattle.session.specs.declared.reply.Reply.TheVariants as reply
 
 -- the machine of a game, with the settings of another machine
-abbrev pub machine_of : Game → Machine → Machine
-machine_of game kept = record kept { size = game.size; moves = game.moves }
+abbrev pub with_game : Game → Machine → Machine
+with_game game kept = record kept { size = game.size; moves = game.moves }
 
 -- a result that is none of the errors
 ok_unless : {T E : Type 0} (r : Result T E) → ((e : E) → r ≡ Err e → ⊥) → IsOk r
@@ -40,11 +40,11 @@ equal a b same = grind (arith, nat_tests)
 module _ (game : Game) (kept : Machine) (id : Option ℕ) (m : Move) where
   -- the machine before the move
   abbrev old : Machine
-  old = machine_of game kept
+  old = with_game game kept
 
   -- the machine with the move
   abbrev with_move : Machine
-  with_move = machine_of (record { size = game.size; moves = game.moves ++ m ∷ [] }) kept
+  with_move = with_game (record { size = game.size; moves = game.moves ++ m ∷ [] }) kept
 
   -- the move is legal, and the list is not full
   played-legal : IsOk (moved (position_of old) m) → (length game.moves ≡ most_moves → ⊥) → played old id m ≡ done_growing with_move id []
@@ -67,33 +67,33 @@ module _ (game : Game) (kept : Machine) (id : Option ℕ) (m : Move) where
   module _ (new : Game) (reply : Reply) where
     -- the move was added
     pub move_added : new ≡ record { size = game.size; moves = game.moves ++ m ∷ [] } → IsOk (moved (position_of old) m) → length game.moves < most_moves
-        → reply ≡ Short (success_text id []) false → IsReply old (played old id m) reply (machine_of new kept)
+        → reply ≡ Short (success_text id []) false → IsReply old (played old id m) reply (with_game new kept)
     move_added added legal room says =
-        subst (λ given. IsReply old given reply (machine_of new kept)) (sym (played-legal legal (λ full. omega arith)))
-        (subst (λ r. IsReply old (done_growing with_move id []) r (machine_of new kept)) (sym says) (refl, refl, ap (λ g. machine_of g kept) added))
+        subst (λ given. IsReply old given reply (with_game new kept)) (sym (played-legal legal (λ full. omega arith)))
+        (subst (λ r. IsReply old (done_growing with_move id []) r (with_game new kept)) (sym says) (refl, refl, ap (λ g. with_game g kept) added))
 
     -- the move was refused as illegal
     pub move_illegal : (e : Illegal) → new ≡ game → moved (position_of old) m ≡ Err e → reply ≡ Short (refusal_text id IllegalMove) false
-        → IsReply old (played old id m) reply (machine_of new kept)
+        → IsReply old (played old id m) reply (with_game new kept)
     move_illegal e same forbidden says =
-        subst (λ given. IsReply old given reply (machine_of new kept)) (sym (played-illegal e forbidden))
-        (subst (λ r. IsReply old (refused old id IllegalMove) r (machine_of new kept)) (sym says) (refl, refl, ap (λ g. machine_of g kept) same))
+        subst (λ given. IsReply old given reply (with_game new kept)) (sym (played-illegal e forbidden))
+        (subst (λ r. IsReply old (refused old id IllegalMove) r (with_game new kept)) (sym says) (refl, refl, ap (λ g. with_game g kept) same))
 
     -- the move was refused since the list is full
     pub move_past_full : new ≡ game → IsOk (moved (position_of old) m) → length game.moves ≡ most_moves → reply ≡ Short (refusal_text id HistoryFull) false
-        → IsReply old (played old id m) reply (machine_of new kept)
+        → IsReply old (played old id m) reply (with_game new kept)
     move_past_full same legal full says =
-        subst (λ given. IsReply old given reply (machine_of new kept)) (sym (played-full legal full))
-        (subst (λ r. IsReply old (refused old id HistoryFull) r (machine_of new kept)) (sym says) (refl, refl, ap (λ g. machine_of g kept) same))
+        subst (λ given. IsReply old given reply (with_game new kept)) (sym (played-full legal full))
+        (subst (λ r. IsReply old (refused old id HistoryFull) r (with_game new kept)) (sym says) (refl, refl, ap (λ g. with_game g kept) same))
 
     -- there was no memory for the move
     pub move_without_memory : new ≡ game → ((e : Illegal) → moved (position_of old) m ≡ Err e → ⊥)
         → ((IsOk (moved (position_of old) m) × (length game.moves ≡ most_moves)) → ⊥) → reply ≡ NoMemory id
-        → IsReply old (played old id m) reply (machine_of new kept)
+        → IsReply old (played old id m) reply (with_game new kept)
     move_without_memory same legal room says =
         let ok = ok_unless (moved (position_of old) m) legal in
-        subst (λ given. IsReply old given reply (machine_of new kept)) (sym (played-legal ok (λ full. room (ok, full))))
-        (subst (λ r. IsReply old (done_growing with_move id []) r (machine_of new kept)) (sym says) (refl, refl, ap (λ g. machine_of g kept) same))
+        subst (λ given. IsReply old given reply (with_game new kept)) (sym (played-legal ok (λ full. room (ok, full))))
+        (subst (λ r. IsReply old (done_growing with_move id []) r (with_game new kept)) (sym says) (refl, refl, ap (λ g. with_game g kept) same))
 
 -- What is told of the string of a point.
 module _ (old : Machine) (id : Option ℕ) (p : ℕ) (given : Step Machine) where
@@ -113,7 +113,7 @@ IsReply-growing old id text (reply.Text bytes) grows = (grows, refl, refl)
 IsReply-growing old id text (NoMemory none) grows = (refl, ap (λ i. refusal_text i OutOfMemory) grows, refl)
 
 -- what is told stands for the same text
-if_ok-told : {E : Type 0} (result : Result (List ℕ) E) (told text : List ℕ) → told ≡ text → IfOk result (λ bytes. bytes ≡ told) → IfOk result (λ bytes. bytes ≡ text)
+pub if_ok-told : {E : Type 0} (result : Result (List ℕ) E) (told text : List ℕ) → told ≡ text → IfOk result (λ bytes. bytes ≡ told) → IfOk result (λ bytes. bytes ≡ text)
 if_ok-told (Ok bytes) told text same is = is ∙ same
 if_ok-told (Err e) told text same is = tt
 

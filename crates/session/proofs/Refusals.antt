@@ -20,6 +20,8 @@ use Rattle.gtp_cmd.specs.declared.refusals.RefuseText.TheVariants.{LineTooLong, 
 use Rattle.read_tree.specs.declared.question.Kind.{Kind}
 use Rattle.read_tree.specs.declared.question.Kind.TheVariants.{Attack, Defend}
 use Rattle.session.specs.Machine.{Machine, position_of}
+use Rattle.session.specs.MatchTexts.{matches_text}
+use Rattle.session.specs.PatternTexts.{patterns_text}
 use Rattle.session.specs.Readings.{answer_text, reading_of}
 use Rattle.session.specs.BoardText.{board_text}
 use Rattle.session.specs.Answering.{passed_over, refused, done, done_growing, ended, resized, played, taken_back, told_of_stone, read_of_stone, command_step, parsed_step, step}
@@ -123,8 +125,9 @@ command_step-sound old id (command.Captures c) = done-sound old old id _
 command_step-sound old id (command.Attack p) = read_of_stone-sound old id Attack p
 command_step-sound old id (command.Defend p) = read_of_stone-sound old id Defend p
 command_step-sound old id (command.Depths plies wide) = done-sound old _ id []
-command_step-sound old id (command.MatchPatterns c) = done_growing-sound old old id []
-command_step-sound old id command.ListPatterns = done_growing-sound old old id []
+command_step-sound old id (command.MatchPatterns c) =
+    done_growing-sound old old id (matches_text old.patterns (position_of old).size (old.matches (position_of old) c))
+command_step-sound old id command.ListPatterns = done_growing-sound old old id (patterns_text old.patterns)
 
 -- what a line says
 parsed_step-sound : (old : Machine) (p : Parsed) → IsSound old (parsed_step old p)

@@ -1,5 +1,5 @@
 -- The steps of the loops of a run, over plain values.
-use Rattle.std.proofs.Common.{◌≡◌, ◌≢◌, ℕ, ◌+◌, ◌-◌, ◌<◌, ◌≤◌, Bool, true, false, List, [], ◌∷◌, ◌++◌, length, take, drop, Option, Some, None, Result, Ok, Err, OnErr, IfOk, refl, sym, ap, subst, ◌∙◌, append_assoc, append-nil, take-append-drop, arith}
+use Rattle.std.proofs.Common.{◌≡◌, ◌≢◌, ℕ, ◌+◌, ◌-◌, ◌<◌, ◌≤◌, Bool, true, false, List, [], ◌∷◌, ◌++◌, length, take, drop, Option, Some, None, Result, Ok, Err, OnErr, IfOk, refl, sym, ap, subst, ◌∙◌, append_assoc, append-nil, take-append-drop, length-append, arith}
 use Rattle.std.specs.Io.KnownBytes.{Appends, Consumes}
 use Rattle.std.proofs.KnownBytes.{Appends-nil, Appends-trans, Consumes-nil, Consumes-trans}
 use Rattle.std.proofs.lemmas.List.{take_rest, take_all, drop_all}
@@ -24,6 +24,26 @@ put_more a b c bytes done rest n whole before more =
       whole ∙ ap (λ l. done ++ l) split ∙ sym (append_assoc done (take n rest) (take (length rest - n) (drop n rest))),
       Appends-trans a b c done (take n rest) before more,
     )
+
+-- a front of the first of two pieces went out
+pub PutsPart-first : (a b : Option (List ℕ)) (first second : List ℕ) → PutsPart a b first → PutsPart a b (first ++ second)
+PutsPart-first a b first second put = record {
+  part = put.part;
+  missing = put.missing ++ second;
+  whole = ap (λ l. l ++ second) put.whole ∙ append_assoc put.part put.missing second;
+  proper = (let len = length-append put.missing second in let some = put.proper in omega arith);
+  writes = put.writes;
+}
+
+-- the first of two pieces went out, and a front of the second
+pub PutsPart-second : (a b c : Option (List ℕ)) (first second : List ℕ) → Appends a b first → PutsPart b c second → PutsPart a c (first ++ second)
+PutsPart-second a b c first second whole put = record {
+  part = first ++ put.part;
+  missing = put.missing;
+  whole = ap (λ l. first ++ l) put.whole ∙ sym (append_assoc first put.part put.missing);
+  proper = put.proper;
+  writes = Appends-trans a b c first put.part whole put.writes;
+}
 
 -- The line that `take` or `finish` gives.
 
@@ -104,6 +124,11 @@ held_from-take held held' rest n after =
 pub on_err_from : {T E P : Type 0} (result : Result T E) → P → OnErr result P
 on_err_from (Ok x) p = tt
 on_err_from (Err e) p = p
+
+-- what an error says, it says in other words
+pub on_err_map : {T E P Q : Type 0} (result : Result T E) → (P → Q) → OnErr result P → OnErr result Q
+on_err_map (Ok x) words p = tt
+on_err_map (Err e) words p = words p
 
 module _ (M : Type 0) (step : M → RawLine → Step M) where
   -- one line, answered whole

@@ -40,13 +40,13 @@ put_twice text mid new a b first second = second ∙ ap (λ t. t ++ b) first ∙
 -- Lists of vertices.
 
 -- a list is joined with one text more
-join_with_byte-next : (b : ℕ) (text : List ℕ) (texts : List (List ℕ)) (new : List ℕ) → join_with_byte b ((text ∷ texts) ++ new ∷ []) ≡ join_with_byte b (text ∷ texts) ++ b ∷ new
+pub join_with_byte-next : (b : ℕ) (text : List ℕ) (texts : List (List ℕ)) (new : List ℕ) → join_with_byte b ((text ∷ texts) ++ new ∷ []) ≡ join_with_byte b (text ∷ texts) ++ b ∷ new
 join_with_byte-next b text [] new = refl
 join_with_byte-next b text (next ∷ texts) new =
     ap (λ t. text ++ b ∷ t) (join_with_byte-next b next texts new) ∙ sym (append_assoc text (b ∷ join_with_byte b (next ∷ texts)) (b ∷ new))
 
 -- texts that are joined begin with the first of them
-starts_with_text : (b c : ℕ) (cs : List ℕ) (texts : List (List ℕ)) → (more : List ℕ) × (join_with_byte b ((c ∷ cs) ∷ texts) ≡ c ∷ more)
+pub starts_with_text : (b c : ℕ) (cs : List ℕ) (texts : List (List ℕ)) → (more : List ℕ) × (join_with_byte b ((c ∷ cs) ∷ texts) ≡ c ∷ more)
 starts_with_text b c cs [] = (cs, refl)
 starts_with_text b c cs (next ∷ texts) = (cs ++ b ∷ join_with_byte b (next ∷ texts), refl)
 

@@ -20,6 +20,8 @@ use Rattle.read_tree.specs.declared.question.Kind.{Kind}
 use Rattle.read_tree.specs.declared.question.Kind.TheVariants.{Attack, Defend}
 use Rattle.session.specs.Machine.{Machine, position_of}
 use Rattle.session.specs.BoardText.{board_text}
+use Rattle.session.specs.MatchTexts.{matches_text}
+use Rattle.session.specs.PatternTexts.{patterns_text}
 use Rattle.session.specs.Readings.{answer_text, reading_of}
 use Rattle.session.specs.PointLists.{legal_points, liberty_list, vertices_text}
 
@@ -102,8 +104,9 @@ command_step old id (command.Captures c) = done old id (decimal (captures old.si
 command_step old id (command.Attack p) = read_of_stone old id Attack p
 command_step old id (command.Defend p) = read_of_stone old id Defend p
 command_step old id (command.Depths plies wide) = done (record old { plies = plies; wide = wide }) id []
-command_step old id (command.MatchPatterns c) = done_growing old id []
-command_step old id command.ListPatterns = done_growing old id []
+command_step old id (command.MatchPatterns c) =
+    done_growing old id (matches_text old.patterns (position_of old).size (old.matches (position_of old) c))
+command_step old id command.ListPatterns = done_growing old id (patterns_text old.patterns)
 
 -- the answer to what a line says
 abbrev pub parsed_step : Machine → Parsed → Step Machine

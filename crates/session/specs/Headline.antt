@@ -7,7 +7,7 @@ use Rattle.gtp_rules.specs.Steps.{Step}
 use Rattle.gtp_rules.specs.Transcript.{IsRun, IsTranscript, GoesOn, Cut}
 use Rattle.session.specs.Notes.{IsNoted, notes_text}
 use Rattle.session.specs.declared.outcome.Outcome.{Outcome}
-use Rattle.session.specs.declared.outcome.Outcome.TheVariants.{Done, Usage, NoMemory, InputFault, OutputFault, InputTooLong}
+use Rattle.session.specs.declared.outcome.Outcome.TheVariants.{Done, BadDatabase, Usage, NoMemory, InputFault, OutputFault, FileFault, TooManyStates, InputTooLong}
 
 -- how many bytes are too many to take
 abbrev pub most_taken : ℕ
@@ -50,7 +50,10 @@ IsRight step first left taken put piece Done = IsReadToEnd step first left taken
 IsRight step first left taken put piece InputFault = GoesOn step first (lines_of taken) put × (length taken < most_taken)
 IsRight step first left taken put piece InputTooLong = GoesOn step first (lines_of taken) put × (length taken ≡ most_taken)
 IsRight step first left taken put piece OutputFault = IsCutOff step first left taken put piece
+IsRight step first left taken put piece (BadDatabase line kind) = (taken ≡ []) × (put ≡ [])
 IsRight step first left taken put piece Usage = (taken ≡ []) × (put ≡ [])
+IsRight step first left taken put piece FileFault = (taken ≡ []) × (put ≡ [])
+IsRight step first left taken put piece (TooManyStates limit) = (taken ≡ []) × (put ≡ [])
 IsRight step first left taken put piece NoMemory = (taken ≡ []) × (put ≡ [])
 
 -- A run took some bytes from the source and put some on the output, as its outcome says. Where the source tells what it has

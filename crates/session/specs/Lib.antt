@@ -1,11 +1,16 @@
 pub mod Machine
+pub mod Kept
 pub mod BoardText
 pub mod PointLists
 pub mod Readings
+pub mod PatternTexts
+pub mod MatchTexts
 pub mod Answering
 pub mod Replies
 pub mod Within
 pub mod Outcomes
 pub mod Notes
+pub mod Opening
 pub mod Headline
+pub mod Running
 pub mod Serving

@@ -1,5 +1,5 @@
 //! The loops of a run: a reply that is put, the lines of a piece, and the pieces of a source.
-ghost use Rattle.std.specs.Prelude.{◌≡◌, ◌≢◌, ◌≤◌, ◌<◌, true, false, length, take, IfOk, OnOk, OnErr};
+ghost use Rattle.std.specs.Prelude.{◌≡◌, ◌≤◌, ◌<◌, true, false, ◌++◌, length, take, IfOk, OnOk, OnErr};
 ghost use Rattle.std.specs.Io.{ReadsAtMost};
 ghost use Rattle.std.specs.Io.KnownBytes.{Appends, ReadConsumes};
 ghost use Rattle.gtp_io.specs.Outside.{IsCounted, Gave};
@@ -10,6 +10,8 @@ ghost use Rattle.gtp_lex.specs.LinesTaken.{taken_of, given_state};
 ghost use Rattle.gtp_lex.specs.Raw.{raw_line};
 ghost use Rattle.session.specs.Answering.{step};
 ghost use Rattle.session.specs.Headline.{Serves, IsCauseOf};
+ghost use Rattle.session.specs.Opening.{WasEntered};
+ghost use Rattle.session.specs.Kept.{machine_of};
 ghost use Rattle.session.specs.Serving.{PutsPart, Replies, RepliesPart, RunsTo, RunsPart};
 
 use crate::outcome::Outcome;
@@ -39,12 +41,22 @@ pub(crate) fn put_all<K: Sink>(output: &mut K, bytes: &[u8]) -> Result<(), Faile
     Ok(())
 }
 
+/// Puts two pieces, the second where the first went out whole.
+pub(crate) fn put_both<K: Sink>(output: &mut K, first: &[u8], second: &[u8]) -> Result<(), Failed>
+    ensures ok { OnOk result (Appends (K.written output.old) (K.written output.new) (first.now ++ second.now)) }
+    ensures part { OnErr result (PutsPart (K.written output.old) (K.written output.new) (first.now ++ second.now)) }
+    ensures cause { IsCounted (K.faults output.old) (K.faults output.new) result }
+{
+    put_all(output, first)?;
+    put_all(output, second)
+}
+
 // Answers one line, and says whether it ends the session.
 fn answer<K: Sink>(session: &mut Session, raw: Raw<'_>, output: &mut K) -> Result<bool, Failed>
     ensures ok { IfOk result (λ ends.
-        Replies step session.old (raw_line raw.entry) session.new ends (K.written output.old) (K.written output.new)) }
+        Replies step (machine_of session.old) (raw_line raw.entry) (machine_of session.new) ends (K.written output.old) (K.written output.new)) }
     ensures part { OnErr result
-        (RepliesPart step session.old (raw_line raw.entry) (K.written output.old) (K.written output.new)) }
+        (RepliesPart step (machine_of session.old) (raw_line raw.entry) (K.written output.old) (K.written output.new)) }
     ensures cause { IsCounted (K.faults output.old) (K.faults output.new) result }
 {
     match session.line(raw) {
@@ -73,9 +85,9 @@ fn answer_taken<K: Sink>(
 ) -> Result<bool, Failed>
     requires { (held : RawLine) × (lines.now ≡ given_state held) × (taken ≡ taken_of held) }
     ensures ok { (held : RawLine) → lines.now ≡ given_state held → taken ≡ taken_of held → IfOk result (λ ends.
-        Replies step session.old held session.new ends (K.written output.old) (K.written output.new)) }
+        Replies step (machine_of session.old) held (machine_of session.new) ends (K.written output.old) (K.written output.new)) }
     ensures part { (held : RawLine) → lines.now ≡ given_state held → taken ≡ taken_of held → OnErr result
-        (RepliesPart step session.old held (K.written output.old) (K.written output.new)) }
+        (RepliesPart step (machine_of session.old) held (K.written output.old) (K.written output.new)) }
     ensures cause { IsCounted (K.faults output.old) (K.faults output.new) result }
 {
     match taken {
@@ -94,10 +106,10 @@ fn answer_next<K: Sink>(
 ) -> Result<(usize, bool), Failed>
     requires { lines.old.waits ≡ false }
     ensures bound { IfOk result (λ turn. (turn.0 ≤ length rest.now) × (0 < length rest.now → 0 < turn.0)) }
-    ensures ok { IfOk result (λ turn. RunsTo step session.old (lines_from lines.old.held (take turn.0 rest.now)) session.new turn.1
+    ensures ok { IfOk result (λ turn. RunsTo step (machine_of session.old) (lines_from lines.old.held (take turn.0 rest.now)) (machine_of session.new) turn.1
         (K.written output.old) (K.written output.new)) }
     ensures held { IfOk result (λ turn. (lines.new.held ≡ held_from lines.old.held (take turn.0 rest.now)) × (lines.new.waits ≡ false)) }
-    ensures part { OnErr result (RunsPart step session.old (lines_from lines.old.held rest.now)
+    ensures part { OnErr result (RunsPart step (machine_of session.old) (lines_from lines.old.held rest.now)
         (K.written output.old) (K.written output.new)) }
     ensures cause { IsCounted (K.faults output.old) (K.faults output.new) result }
 {
@@ -119,11 +131,11 @@ fn answer_piece<K: Sink>(
     output: &mut K,
 ) -> Result<bool, Failed>
     requires { lines.old.waits ≡ false }
-    ensures ok { IfOk result (λ ended. RunsTo step session.old (lines_from lines.old.held piece.now) session.new ended
+    ensures ok { IfOk result (λ ended. RunsTo step (machine_of session.old) (lines_from lines.old.held piece.now) (machine_of session.new) ended
         (K.written output.old) (K.written output.new)) }
     ensures held { IfOk result (λ ended. ended ≡ false →
         (lines.new.held ≡ held_from lines.old.held piece.now) × (lines.new.waits ≡ false)) }
-    ensures part { OnErr result (RunsPart step session.old (lines_from lines.old.held piece.now)
+    ensures part { OnErr result (RunsPart step (machine_of session.old) (lines_from lines.old.held piece.now)
         (K.written output.old) (K.written output.new)) }
     ensures cause { IsCounted (K.faults output.old) (K.faults output.new) result }
 {
@@ -145,9 +157,9 @@ fn answer_rest<K: Sink>(
     output: &mut K,
 ) -> Result<bool, Failed>
     requires { lines.old.waits ≡ false }
-    ensures ok { IfOk result (λ ended. RunsTo step session.old (held_line lines.old.held) session.new ended
+    ensures ok { IfOk result (λ ended. RunsTo step (machine_of session.old) (held_line lines.old.held) (machine_of session.new) ended
         (K.written output.old) (K.written output.new)) }
-    ensures part { OnErr result (RunsPart step session.old (held_line lines.old.held) (K.written output.old) (K.written output.new)) }
+    ensures part { OnErr result (RunsPart step (machine_of session.old) (held_line lines.old.held) (K.written output.old) (K.written output.new)) }
     ensures cause { IsCounted (K.faults output.old) (K.faults output.new) result }
 {
     match lines.finish() {
@@ -178,8 +190,8 @@ pub(crate) fn serve<S: Source, K: Sink>(
     output: &mut K,
 ) -> Outcome
     requires { lines.old ≡ no_line }
-    ensures ran { (result ≢ Outcome.Usage) × (result ≢ Outcome.NoMemory) }
-    ensures serves { Serves step session.old (S.left input.old) (S.left input.new) (K.written output.old) (K.written output.new)
+    ensures ran { WasEntered result }
+    ensures serves { Serves step (machine_of session.old) (S.left input.old) (S.left input.new) (K.written output.old) (K.written output.new)
         (S.piece input.new) result }
     ensures input { IsCauseOf (result ≡ Outcome.InputFault) (S.faults input.old) (S.faults input.new) }
     ensures output { IsCauseOf (result ≡ Outcome.OutputFault) (K.faults output.old) (K.faults output.new) }

@@ -35,7 +35,7 @@ pub(crate) fn push_number(out: &mut Bytes, n: u8) -> Result<(), NoMemory>
 }
 
 /// Puts the vertex of a point.
-fn push_vertex(out: &mut Bytes, size: Size, p: Point) -> Result<(), NoMemory>
+pub(crate) fn push_vertex(out: &mut Bytes, size: Size, p: Point) -> Result<(), NoMemory>
     requires { p < size * size }
     ensures { OnOk result (out.new ≡ out.old ++ vertex_text size p) }
 {

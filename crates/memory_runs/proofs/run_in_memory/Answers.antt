@@ -5,10 +5,13 @@ use Rattle.memory_runs.proofs.run_in_memory.Goals as goal
 
 pub returns : goal.returns
 returns c =
-    let serves = c.run.ensures.serves.serves in
+    let runs = c.run.ensures.runs in
+    let serves = runs.serves.serves in
     let given = ap (λ (f : FeedState). f.left) c.new-feed.ensures in (
       c.run.new.input.piece,
       record {
+        patterns = runs.patterns;
+        files = runs.files;
         taken = serves.taken;
         rest = c.run.new.input.left;
         put = serves.put;

@@ -1,6 +1,4 @@
 -- The letter of one column more.
-use Rattle.std.proofs.Common.{◌∙◌, ◌∷◌, [], slice_index, append_assoc}
-use Rattle.gtp_cmd.specs.Vertices.{column_letters}
 use Rattle.session.specs.BoardText.{letter_text}
 use Rattle.session.proofs.Texts.{text-next, put_twice}
 use Rattle.session.proofs.board_text.push_letters.Goals as goal

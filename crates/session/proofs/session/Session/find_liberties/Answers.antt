@@ -2,6 +2,7 @@
 use Rattle.std.proofs.Common.{ap, ◌∙◌, sym, subst}
 use Rattle.go_rules.specs.Position.{BoardState}
 use Rattle.go_rules.specs.Strings.{cell_at, is_stone}
+use Rattle.session.specs.Kept.{machine_of}
 use Rattle.session.specs.Machine.{position_of}
 use Rattle.session.specs.PointLists.{liberty_list, vertices_text}
 use Rattle.session.specs.Answering.{done_growing}
@@ -11,7 +12,7 @@ use Rattle.session.proofs.session.Session.find_liberties.Goals as goal
 
 pub returns : goal.returns
 returns c =
-    let old = c.args.self.now in
+    let old = machine_of c.args.self.now in
     let position = c.position-position in
     let listed = done_growing old c.args.id (vertices_text old.size (liberty_list (position_of old) c.args.p)) in
     let stone = ap (λ (pos : BoardState). is_stone (cell_at pos.cells c.args.p)) (sym position.ensures.value) ∙ sym c.has_stone.ensures ∙ c.if-not-has_stone.false in

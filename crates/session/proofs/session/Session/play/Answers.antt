@@ -1,25 +1,27 @@
 -- The reply says what the history answered.
 use Rattle.std.proofs.Common.{◌≡◌, Err, ap, subst, ◌∙◌}
 use Rattle.session.specs.Answering.{played}
-use Rattle.session.specs.Machine.{Machine}
+use Rattle.session.specs.Kept.{Kept, machine_of}
 use Rattle.session.specs.Replies.{IsReply}
-use Rattle.session.proofs.Playing.{machine_of, move_added, move_illegal, move_past_full, move_without_memory}
+use Rattle.session.proofs.Playing.{with_game, move_added, move_illegal, move_past_full, move_without_memory}
 use Rattle.session.proofs.session.Session.play.Goals as goal
 use Rattle.session.proofs.session.Session.play.Goals.{in-Ok, in-Err-Illegal, in-Err-Full, in-Err-NoMemory}
 
-pub returns : goal.returns
-returns c =
+pub returns-clause-reply : goal.returns-clause-reply
+returns-clause-reply c =
     let game = c.self.inside.history in
-    let kept : Machine = record {
+    let kept = machine_of (record {
       size = game.size;
       moves = game.moves;
       komi = c.self.inside.komi;
       plies = c.self.inside.depths.plies;
       wide = c.self.inside.depths.wide;
-    } in
+      patterns = c.self.inside.patterns.items;
+      automaton = c.self.inside.automaton;
+    }) in
     let new = c.play.new.self in
-    let family : Machine → Type 0 = λ old. IsReply old (played old c.args.id c.args.m) c.match-play.result (machine_of new kept) in
-    subst family c.self.view_is (elim c.match-play.branch as (λ _. family (machine_of game kept)) [
+    let family : Kept → Type 0 = λ old. IsReply (machine_of old) (played (machine_of old) c.args.id c.args.m) c.match-play.result (with_game new kept) in
+    subst family c.self.view_is (elim c.match-play.branch as (λ _. IsReply kept (played kept c.args.id c.args.m) c.match-play.result (with_game new kept)) [
       | in-Ok w ↦
           move_added game kept c.args.id c.args.m new c.match-play.result w.in-Ok.ensures.ok w.in-Ok.ensures.allowed w.in-Ok.ensures.room
           (w.result-is ∙ w.told.ensures)

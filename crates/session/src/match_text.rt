@@ -1,0 +1,79 @@
+//! Matches as a growing text, one a line.
+ghost use Rattle.std.specs.Prelude.{◌≡◌, ◌*◌, ◌<◌, ◌++◌, length, slice_get, OnOk, IfOk};
+ghost use Rattle.match_engine.specs.Match.{machine_matches};
+ghost use Rattle.session.specs.Kept.{NumbersPatterns};
+ghost use Rattle.session.specs.MatchTexts.{name_of, match_text, matches_text, AreAmong};
+ghost use Rattle.session.specs.PatternTexts.{feed_after};
+
+use crate::vertices::{push_number, push_vertex};
+use dfa_core::Automaton;
+use go_base::{Bytes, Colour, NoMemory, Position, Size};
+use match_engine::{Match, matches};
+use pat_types::Pattern;
+use std::alloc::Global;
+
+/// The name of the pattern at this place of the list.
+fn name_at(patterns: &[Pattern], number: u16) -> &[u8]
+    requires { number < length patterns.now }
+    ensures { result.now ≡ name_of (slice_get patterns.now number) }
+{
+    let at = number as usize;
+    patterns[at].name.as_slice()
+}
+
+/// Puts a match.
+fn push_match(text: &mut Bytes, patterns: &[Pattern], size: Size, z: Match) -> Result<(), NoMemory>
+    requires pattern { z.pattern < length patterns.now }
+    requires at { z.at < size * size }
+    ensures { OnOk result (text.new ≡ text.old ++ match_text patterns.now size z) }
+{
+    text.extend(name_at(patterns, z.pattern))?;
+    text.push(b' ')?;
+    push_number(text, z.transform.get())?;
+    text.push(b' ')?;
+    push_vertex(text, size, z.at)
+}
+
+/// Puts a match of a list, on a line of its own.
+fn push_next(text: &mut Bytes, patterns: &[Pattern], size: Size, z: Match) -> Result<(), NoMemory>
+    requires pattern { z.pattern < length patterns.now }
+    requires at { z.at < size * size }
+    ensures { OnOk result (text.new ≡ text.old ++ feed_after text.old ++ match_text patterns.now size z) }
+{
+    if !text.as_slice().is_empty() {
+        text.push(b'\n')?;
+    }
+    push_match(text, patterns, size, z)
+}
+
+/// Matches of these patterns in their order, one a line.
+fn list_text(
+    alloc: Global,
+    patterns: &[Pattern],
+    size: Size,
+    found: &[Match],
+) -> Result<Bytes, NoMemory>
+    requires { AreAmong patterns.now size found.now }
+    ensures { IfOk result (λ text. text ≡ matches_text patterns.now size found.now) }
+{
+    let mut text = Bytes::new(alloc);
+    for z in found {
+        push_next(&mut text, patterns, size, *z)?;
+    }
+    Ok(text)
+}
+
+/// The matches of the patterns by an automaton, one a line.
+pub(crate) fn matches_text(
+    alloc: Global,
+    patterns: &[Pattern],
+    machine: &Automaton,
+    position: &Position,
+    friend: Colour,
+) -> Result<Bytes, NoMemory>
+    requires { NumbersPatterns machine.now patterns.now }
+    ensures { IfOk result (λ text. text ≡ matches_text patterns.now position.now.size (machine_matches machine.now patterns.now position.now friend)) }
+{
+    let found = matches(alloc, patterns, machine, position, friend)?;
+    list_text(alloc, patterns, position.size(), found.as_slice())
+}

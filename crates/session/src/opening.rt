@@ -1,0 +1,111 @@
+//! How a run opens the pattern files that its words name.
+ghost use Rattle.std.specs.Prelude.{◌≡◌, ◌≤◌, ◌++◌, [], length, drop, map, IfOk, OnOk, IfErr, None, string_bytes};
+ghost use Rattle.gtp_io.specs.Loading.{missed_after};
+ghost use Rattle.db_grammar.specs.Entries.{entry_of};
+ghost use Rattle.db_grammar.specs.Faults.{first_fault, entries};
+ghost use Rattle.session.specs.Opening.{is_option as begins_with_hyphen, has_option as has_one, most_patterns, needs_feed, added_feed, Adds, IsJoined, MissedBy, MissedAfter, IsDatabase, IsRefused, RefusesText};
+
+use crate::outcome::Outcome;
+use db_read::{DbError, read};
+use gtp_io::{LoadError, Loader};
+use pat_types::Pattern;
+use std::alloc::{AllocError, Global};
+
+/// Whether a word begins with a hyphen, so that it names no file.
+fn is_option(word: &str) -> bool
+    ensures { result ≡ begins_with_hyphen word.now }
+{
+    match word.as_bytes().first() {
+        Some(b) => *b == b'-',
+        None => false,
+    }
+}
+
+/// Whether one of the words begins with a hyphen.
+pub(crate) fn has_option(words: &[String]) -> bool
+    ensures { result ≡ has_one (map string_bytes words.now) }
+{
+    for word in words {
+        if is_option(word.as_str()) {
+            return true;
+        }
+    }
+    false
+}
+
+/// Whether the contents of a file are not empty and do not end in a line feed.
+fn needs_feed(text: &[u8]) -> bool
+    ensures { result ≡ needs_feed text.now }
+{
+    !text.is_empty() && text[text.len() - 1] != b'\n'
+}
+
+/// The text with a line feed, where what stands behind its first bytes needs one.
+fn with_feed(mut text: Vec<u8>, before: usize) -> Result<Vec<u8>, AllocError>
+    requires { before ≤ length text.items }
+    ensures { IfOk result (λ new. new.items ≡ text.items ++ added_feed (drop before text.items)) }
+{
+    if needs_feed(&text[before..]) {
+        text.push(b'\n')?;
+    }
+    Ok(text)
+}
+
+/// The text with the contents of a file behind it, and with the line feed that is added after them.
+fn with_file<L: Loader>(files: &mut L, name: &str, text: Vec<u8>) -> Result<Vec<u8>, LoadError>
+    ensures ok { IfOk result (λ new. Adds (L.contents files.old name.now) text.items new.items) }
+    ensures missed { L.missed files.new ≡ missed_after (L.missed files.old) name.now result }
+    ensures same { L.contents files.new ≡ L.contents files.old }
+{
+    let before = text.len();
+    let text = files.load(name, text)?;
+    Ok(with_feed(text, before)?)
+}
+
+/// The contents of the files, joined in their order. Nothing more is loaded after the first that fails.
+fn joined<L: Loader>(alloc: Global, names: &[String], files: &mut L) -> Result<Vec<u8>, LoadError>
+    ensures ok { IfOk result (λ text. IsJoined (L.contents files.old) (map string_bytes names.now) text.items) }
+    ensures kept { OnOk result (L.missed files.new ≡ L.missed files.old) }
+    ensures missed { IfErr result (MissedBy (map string_bytes names.now) (L.missed files.old) (L.missed files.new)) }
+    ensures same { L.contents files.new ≡ L.contents files.old }
+{
+    let mut text = Vec::new(alloc);
+    for name in names {
+        text = with_file(files, name.as_str(), text)?;
+    }
+    Ok(text)
+}
+
+/// The patterns of a text, or the outcome that its first fault makes.
+fn patterns_in(alloc: Global, text: &[u8]) -> Result<Vec<Pattern>, Outcome>
+    ensures ok { IfOk result (λ patterns. (first_fault [] text.now ≡ None) × (map entry_of patterns.items ≡ entries text.now)) }
+    ensures few { IfOk result (λ patterns. length patterns.items ≤ most_patterns) }
+    ensures err { IfErr result (RefusesText text.now) }
+{
+    match read(alloc, text, &[], Vec::new(alloc)) {
+        Ok(patterns) => Ok(patterns),
+        Err(DbError::NoMemory) => Err(Outcome::NoMemory),
+        Err(DbError::Fault { line, kind }) => Err(Outcome::BadDatabase { line, kind }),
+    }
+}
+
+/// The patterns of the files, or the outcome that refuses them.
+pub(crate) fn open_files<L: Loader>(
+    alloc: Global,
+    names: &[String],
+    files: &mut L,
+) -> Result<Vec<Pattern>, Outcome>
+    ensures ok { IfOk result (λ patterns. IsDatabase (L.contents files.old) (map string_bytes names.now) patterns.items) }
+    ensures few { IfOk result (λ patterns. length patterns.items ≤ most_patterns) }
+    ensures err { IfErr result (IsRefused (L.contents files.old) (map string_bytes names.now)) }
+    ensures kept { OnOk result (L.missed files.new ≡ L.missed files.old) }
+    ensures missed { IfErr result (MissedAfter (map string_bytes names.now) (L.missed files.old) (L.missed files.new)) }
+    ensures same { L.contents files.new ≡ L.contents files.old }
+{
+    let text = match joined(alloc, names, files) {
+        Ok(text) => text,
+        Err(LoadError::Failed) => return Err(Outcome::FileFault),
+        Err(LoadError::NoMemory) => return Err(Outcome::NoMemory),
+    };
+    patterns_in(alloc, text.as_slice())
+}
