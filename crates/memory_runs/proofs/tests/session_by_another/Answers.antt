@@ -5,5 +5,13 @@ use Rattle.memory_runs.proofs.tests.session_by_another.Goals as goal
 pub new-requires : goal.new-requires
 new-requires c = λ w n accepted.
     let below : n < length c.deref.result.now = c.in-Ok.ensures.numbers w n accepted in
-    omega (arith, below, c.deref.ensures.len, c.len-count.ensures, c.len-other_count.ensures, c.if-other_count-count.false, c.in_ok-patterns.patterns.ok,
-    c.in_ok-others.others.ok)
+    omega (
+      arith,
+      below,
+      c.deref.ensures.len,
+      c.len-count.ensures,
+      c.len-other_count.ensures,
+      c.if-other_count-count.false,
+      c.in_ok-patterns.patterns.ok,
+      c.in_ok-others.others.ok,
+    )
