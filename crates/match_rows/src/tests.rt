@@ -4,6 +4,7 @@ use dfa_join::{JoinError, compile};
 use go_base::{Colour, Point, Position, Size};
 use match_engine::{Match, matches};
 use pat_types::Pattern;
+use spiral::{OFFSETS, offset};
 use std::test::Fail;
 
 /// The smallest pattern: a friend's stone, and the move beside it.
@@ -11,6 +12,9 @@ const SMALLEST: &[u8] = b"Pattern P\nO*\n:8,s";
 
 /// The smallest pattern with the stone of the enemy.
 const AGAINST: &[u8] = b"Pattern Q\nX*\n:8,s";
+
+/// The smallest pattern with an edge at its right.
+const AT_THE_EDGE: &[u8] = b"Pattern R\nO*|\n:8,s";
 
 /// The patterns that a text spells.
 fn patterns_of(rt: &HostRuntime, text: &[u8]) -> Result<Vec<Pattern>, DbError> {
@@ -62,9 +66,16 @@ fn matches_by(
 
 #[test]
 fn state_counts_of_small_lists(rt: HostRuntime) -> Result<(), Fail> {
-    let rows: [(&str, &[u8], u32, Option<u32>); 6] = [
+    let rows: [(&str, &[u8], u32, Option<u32>); 8] = [
         ("the smallest pattern at its count", SMALLEST, 7, Some(7)),
         ("the smallest pattern above it", SMALLEST, 6, None),
+        (
+            "a pattern of sixteen letters at its count",
+            AT_THE_EDGE,
+            18,
+            Some(18),
+        ),
+        ("and above it", AT_THE_EDGE, 17, None),
         (
             "two patterns at their count",
             b"Pattern P\nO*\n:8,s\nPattern Q\nX*\n:8,s",
@@ -82,6 +93,24 @@ fn state_counts_of_small_lists(rt: HostRuntime) -> Result<(), Fail> {
     ];
     for (what, text, limit, want) in rows {
         assert_eq!(rt; rows_within(&rt, text, limit)?, want, "{what}");
+    }
+    Ok(())
+}
+
+#[test]
+fn first_offsets_of_the_spiral(rt: HostRuntime) -> Result<(), Fail> {
+    let rows = [
+        (3, (-1, 1)),
+        (4, (0, 1)),
+        (6, (1, 0)),
+        (8, (0, -1)),
+        (15, (0, 2)),
+    ];
+    for (number, want) in rows {
+        if number >= OFFSETS {
+            return Err("the index has an offset")?;
+        }
+        assert_eq!(rt; offset(number), want, "index {number}");
     }
     Ok(())
 }
