@@ -8,8 +8,9 @@ pub mod Liberties
 pub mod Joined
 pub mod Looking
 pub mod Takes
-pub mod Removing
+pub mod Putting
 pub mod PlayedOn
+pub mod TakenBack
 pub mod Kept
 pub mod Held
 pub mod Closing

@@ -25,8 +25,11 @@ pub record PlaysOn (s : ℕ) (old put after : List Cell) (c : Colour) (p : ℕ) 
   pub after_is : after ≡ map (λ q. cond (sets.contains taken q) Empty (cell_at put q)) (range_with_len 0 (s * s))
 
 module _ {s : ℕ} {old put after : List Cell} {c : Colour} {p : ℕ} {taken : sets.FinSet nat_cmp} (h : PlaysOn s old put after c p taken) where
+  pub plays_beside : TakenBeside s put c p
+  plays_beside = subst (λ t. TakenBeside s t c p) (sym h.put_is) (taken_beside (board_of s old) h.good c p h.on_board (empty_from _ h.is_empty))
+
   pub plays_taken : taken ≡ taken_at s put c
-  plays_taken = h.taken_is (subst (λ t. TakenBeside s t c p) (sym h.put_is) (taken_beside (board_of s old) h.good c p h.on_board (empty_from _ h.is_empty)))
+  plays_taken = h.taken_is plays_beside
 
   plays_length : length put ≡ s * s
   plays_length = ap length h.put_is ∙ length-set old p (stone_of c) ∙ h.good.cells

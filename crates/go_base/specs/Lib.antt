@@ -4,6 +4,7 @@ pub mod Trails
 pub mod Floods
 pub mod Views
 pub mod Takes
+pub mod TakenBack
 pub mod Flats
 pub mod Positions
 pub mod Facts

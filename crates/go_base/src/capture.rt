@@ -1,6 +1,6 @@
-//! What a play takes and which ban it leaves, on a board whose cells are told one by one.
+//! What a play takes and which ban it leaves, and how it is taken back, on a board whose cells are told one by one.
 
-ghost use Rattle.std.specs.Prelude.{◌≡◌, ◌⊎◌, ℕ, ◌*◌, ◌<◌, ◌==◌, ◌||◌, ◌&&◌, IsTrue, List, map, if◌then◌else◌};
+ghost use Rattle.std.specs.Prelude.{◌≡◌, ◌⊎◌, ℕ, ◌*◌, ◌<◌, ◌==◌, ◌||◌, ◌&&◌, IsTrue, List, map, IfOk, if◌then◌else◌};
 ghost use Rattle.std.specs.List.{range_with_len};
 ghost use Rattle.std.specs.FinSet as set;
 ghost use Rattle.go_rules.specs.declared.Cell.{Cell};
@@ -9,6 +9,7 @@ ghost use Rattle.go_rules.specs.Neighbourhood.{neighbourhood_of};
 ghost use Rattle.go_rules.specs.Position.{BoardState, IsPosition, other, stone_of, board_of};
 ghost use Rattle.go_rules.specs.Play.{is_taken, taken_at, ban_after, played_on, play_free};
 ghost use Rattle.go_base.specs.Takes.{TakenBeside, near_taken};
+ghost use Rattle.go_base.specs.TakenBack.{before_play, cells_before, ban_or_refusal};
 ghost use Rattle.go_base.specs.Views.{Looks, anywhere, nowhere, alone};
 
 use crate::flood::{Found, flood};
@@ -57,16 +58,16 @@ fn captured<V: View>(board: &mut V, c: Colour, p: Point) -> PointSet
     taken
 }
 
-/// Empties the points of the set.
-fn remove_all<V: View>(board: &mut V, taken: &PointSet)
-    requires { (r : ℕ) → IsTrue (set.contains taken.now r) → r < V.rows board.old * V.rows board.old }
+/// Puts the same on each point of the set.
+fn put_all<V: View>(board: &mut V, points: &PointSet, cell: Cell)
+    requires { (r : ℕ) → IsTrue (set.contains points.now r) → r < V.rows board.old * V.rows board.old }
     ensures asks { V.asks board.old board.new nowhere }
     ensures over { (pos : BoardState) → V.agrees board.new pos
-        → V.cells board.new pos ≡ map (λ q. if set.contains taken.now q then Cell.Empty else cell_at (V.cells board.old pos) q) (range_with_len 0 (V.rows board.old * V.rows board.old)) }
+        → V.cells board.new pos ≡ map (λ q. if set.contains points.now q then cell else cell_at (V.cells board.old pos) q) (range_with_len 0 (V.rows board.old * V.rows board.old)) }
 {
     let mut next = 0;
-    while let Some(q) = taken.first_from(next) {
-        board.put(q, Cell::Empty);
+    while let Some(q) = points.first_from(next) {
+        board.put(q, cell);
         next = q + 1;
     }
 }
@@ -92,16 +93,25 @@ fn are_one(a: u16, b: u16, c: u16) -> bool
     a == 1 && b == 1 && c == 1
 }
 
-/// Plays c at p with no regard to a ban, and answers the new ban. After a refusal the board may have changed.
-pub fn play_on<V: View>(
-    board: &mut V,
-    c: Colour,
-    p: Point,
-) -> Result<Option<(Point, Colour)>, Illegal>
+/// What a play took, and the ban that it leaves.
+#[derive(Drop)]
+pub struct Played {
+    /// The points of the stones that were taken.
+    pub taken: PointSet,
+    /// The play that the ko ban forbids now: a point, and the colour that may not play there.
+    pub ban: Option<(Point, Colour)>,
+}
+
+/// Plays c at p with no regard to a ban, and answers what it took and the new ban: Occupied or Suicide, and never Ko. After a
+/// refusal the board is as it was before. It takes no memory.
+pub fn play_on<V: View>(board: &mut V, c: Colour, p: Point) -> Result<Played, Illegal>
     requires { p < V.rows board.old * V.rows board.old }
     ensures asks { V.asks board.old board.new anywhere }
     ensures over { (pos : BoardState) → V.agrees board.new pos → IsPosition (board_of (V.rows board.old) (V.cells board.old pos))
-        → play_free (board_of (V.rows board.old) (V.cells board.old pos)) c p ≡ played_on (V.rows board.old) (V.cells board.new pos) result }
+        → play_free (board_of (V.rows board.old) (V.cells board.old pos)) c p ≡ played_on (V.rows board.old) (V.cells board.new pos) (ban_or_refusal result) }
+    ensures undone { (pos : BoardState) → V.agrees board.new pos → IsPosition (board_of (V.rows board.old) (V.cells board.old pos))
+        → cells_before (V.rows board.old) c p result (V.cells board.new pos) ≡ V.cells board.old pos }
+    ensures taken_on_board { IfOk result (λ played. (q : ℕ) → IsTrue (set.contains played.taken q) → q < V.rows board.old * V.rows board.old) }
     ensures near { (pos : BoardState) → V.agrees board.new pos
         → V.asks board.old board.new (neighbourhood_of (V.rows board.old) (V.cells board.old pos) (neighbourhood_of (V.rows board.old) (V.cells board.old pos) (alone p))) }
 {
@@ -110,10 +120,24 @@ pub fn play_on<V: View>(
     }
     board.put(p, c.cell());
     let taken = captured(board, c, p);
-    remove_all(board, &taken);
+    put_all(board, &taken, Cell::Empty);
     let own = flood(board, p);
     if own.liberties.count() == 0 {
+        board.put(p, Cell::Empty);
         return Err(Illegal::Suicide);
     }
-    Ok(ban_of(&taken, &own, c))
+    let ban = ban_of(&taken, &own, c);
+    Ok(Played { taken, ban })
+}
+
+/// Takes back a play of c at p that took these stones: they stand again, and p is empty. It takes no memory.
+pub fn take_back<V: View>(board: &mut V, c: Colour, p: Point, taken: &PointSet)
+    requires on_board { p < V.rows board.old * V.rows board.old }
+    requires taken_on_board { (q : ℕ) → IsTrue (set.contains taken.now q) → q < V.rows board.old * V.rows board.old }
+    ensures asks { V.asks board.old board.new nowhere }
+    ensures over { (pos : BoardState) → V.agrees board.new pos
+        → V.cells board.new pos ≡ before_play (V.rows board.old) c p taken.now (V.cells board.old pos) }
+{
+    put_all(board, taken, c.other().cell());
+    board.put(p, Cell::Empty);
 }

@@ -147,9 +147,9 @@ impl Position {
     {
         let mut board = self.board();
         match play_on(&mut board, c, p) {
-            Ok(ban) => Ok(Position {
+            Ok(played) => Ok(Position {
                 size: board.size,
-                ban,
+                ban: played.ban,
                 cells: board.cells,
             }),
             Err(e) => Err(e),

@@ -44,6 +44,7 @@ pub enum Illegal {
 }
 
 impl Colour {
+    /// The other colour.
     pub fn other(self) -> Colour
         ensures { result ≡ other self }
     {
