@@ -14,6 +14,7 @@ ghost use Rattle.trial_board.specs.declared.moves.TrialMove.{TrialMove};
 ghost use Rattle.trial_board.specs.declared.moves.TrialPlay.{TrialPlay};
 ghost use Rattle.trial_board.specs.Trials.{Trying, Stays, Moved, Put, most_moves, after, tried, tried_free, made_or_suicide, tail, is_some_move};
 
+use crate::kept::{Kept, nothing_kept, take_back_on};
 use crate::moves::{MAX_TRIAL_MOVES, TrialMove, TrialPlay, Tried};
 use crate::overlay::{Change, Overlay};
 use go_base::boundary::boundary_of;
@@ -24,14 +25,6 @@ use go_base::size::{MAX_POINTS, Point, Size};
 use go_base::view::View;
 use go_base::{Cell, Colour, Look};
 use std::marker::Model;
-
-/// A trial move, and what it takes to take it back: the changes and the ban that stood before it.
-#[derive(Clone, Copy)]
-pub struct Kept {
-    pub changed: [Change; MAX_POINTS],
-    pub ban: Option<(Point, Colour)>,
-    pub made: TrialMove,
-}
 
 /// A position with trial moves that can be taken back, GNU Go's `trymove` and `popgo`. It holds its view of the position, and
 /// asks it for a point only when a string or a play needs it; everything is kept in place and nothing takes memory.
@@ -64,17 +57,6 @@ fn no_changes() -> [Change; MAX_POINTS]
     ensures { result ≡ replicate largest_points Change.Untouched }
 {
     [Change::Untouched; MAX_POINTS]
-}
-
-/// Room for the trial moves.
-fn nothing_kept() -> [Kept; MAX_TRIAL_MOVES]
-    ensures { length result ≡ most_moves }
-{
-    [Kept {
-        changed: no_changes(),
-        ban: None,
-        made: TrialMove::Pass,
-    }; MAX_TRIAL_MOVES]
 }
 
 /// Whether a play is refused that a ban forbids, or not.
@@ -202,9 +184,9 @@ impl<L: Look> Trial<L> {
         ensures { self.new ≡ record self.old { moves = TrialMove.Pass ∷ self.old.moves } }
     {
         self.kept[self.standing as usize] = Kept {
-            changed: self.board.changed,
-            ban: self.ban,
             made: TrialMove::Pass,
+            ban: self.ban,
+            taken: PointSet::new(),
         };
         self.standing += 1;
         self.ban = None;
@@ -219,10 +201,17 @@ impl<L: Look> Trial<L> {
             return false;
         }
         self.standing -= 1;
-        let before = self.kept[self.standing as usize];
-        let changed = before.changed;
-        self.board.changed = changed;
-        self.ban = before.ban;
+        let Trial {
+            board,
+            ban,
+            kept,
+            standing,
+            ..
+        } = self;
+        let kept = &*kept;
+        let last = &kept[*standing as usize];
+        take_back_on(board, last);
+        *ban = last.ban;
         true
     }
 
@@ -247,26 +236,22 @@ impl<L: Look> Trial<L> {
         ensures near { (pos : BoardState) → Agrees (L.seen self.new.look) pos
             → AddsIn (L.seen self.old.look) (L.seen self.new.look) (neighbourhood_twice pos.size (after pos self.old.moves).cells p) }
     {
-        let before = self.board.changed;
         match play_on(&mut self.board, c, p) {
-            Ok(ban) => {
+            Ok(played) => {
                 self.kept[self.standing as usize] = Kept {
-                    changed: before,
-                    ban: self.ban,
                     made: TrialMove::Play(TrialPlay {
                         colour: c,
                         at: p,
                         dropped,
                     }),
+                    ban: self.ban,
+                    taken: played.taken,
                 };
                 self.standing += 1;
-                self.ban = ban;
+                self.ban = played.ban;
                 true
             }
-            Err(_) => {
-                self.board.changed = before;
-                false
-            }
+            Err(_) => false,
         }
     }
 
