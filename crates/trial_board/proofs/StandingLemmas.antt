@@ -130,32 +130,36 @@ IsStanding-push {seen} {more} {changed} {new} {ban} {kept} {n} k after_ban s roo
               (subst (λ t. IsAt pos t (before_move pos.size k.made k.taken (after pos (k.made ∷ t)).cells) k.ban) (sym ms) stands);
         }
 
--- the last move taken back: the cells are those before it
-pub IsStanding-pop : {seen more : Fact → Bool} {changed new : List Change} {ban : Option (ℕ × Colour)} {kept : List Kept} {n : ℕ} → IsStanding seen changed ban kept n → n ≢ 0
-    → Grows seen more → length new ≡ length changed
-    → ((pos : BoardState) → Agrees more pos → overlaid pos.size new pos.cells ≡ before_move pos.size (kept_at kept (n - 1)).made (kept_at kept (n - 1)).taken (overlaid pos.size changed pos.cells))
-    → IsStanding more new (kept_at kept (n - 1)).ban kept (n - 1)
-IsStanding-pop {seen} {more} {changed} {new} {ban} {kept} {n} s ne grows l back = record {
-  full = s.full;
-  few = omega (arith, s.few);
-  whole = l ∙ s.whole;
-  now = λ pos a.
+-- The last move taken back, where x is what is kept of it: on the board of s rows the cells are those before it.
+module _ {seen more : Fact → Bool} {changed : List Change} {ban : Option (ℕ × Colour)} {kept : List Kept} {n : ℕ} (standing : IsStanding seen changed ban kept n) (some : n ≢ 0)
+    (x : Kept) (last : x ≡ kept_at kept (n - 1)) (s : ℕ) (grows : Grows seen more) (new : List Change) where
+  now_before : (pos : BoardState) → Agrees more pos → pos.size ≡ s → overlaid pos.size new pos.cells ≡ before_move s x.made x.taken (overlaid pos.size changed pos.cells)
+      → IsAt pos (newest_first kept (n - 1)) (overlaid pos.size new pos.cells) x.ban
+  now_before pos a e back =
       let a0 = agrees_before grows a in
-      let at = (s.before pos a0 (n - 1) (omega arith)).at in
+      let at = subst (λ (k : Kept). IsAt pos (newest_first kept (n - 1)) (before_move pos.size k.made k.taken (after pos (newest_first kept (suc (n - 1)))).cells) k.ban) (sym last) (standing.before pos a0 (n - 1) (omega arith)).at in
       let n_is : n ≡ suc (n - 1) = omega arith in
-      let cells : (after pos (newest_first kept (suc (n - 1)))).cells ≡ overlaid pos.size changed pos.cells = subst (λ m. (after pos (newest_first kept m)).cells ≡ overlaid pos.size changed pos.cells) n_is (s.now pos a0).cells in
+      let cells = subst (λ m. (after pos (newest_first kept m)).cells ≡ overlaid pos.size changed pos.cells) n_is (standing.now pos a0).cells in
       record {
         sound = at.sound;
-        cells = at.cells ∙ ap (before_move pos.size (kept_at kept (n - 1)).made (kept_at kept (n - 1)).taken) cells ∙ sym (back pos a);
+        cells = at.cells ∙ ap (before_move pos.size x.made x.taken) cells ∙ ap (λ m. before_move m x.made x.taken (overlaid pos.size changed pos.cells)) e ∙ sym back;
         ban_is = at.ban_is;
-      };
-  before = λ pos a k h. s.before pos (agrees_before grows a) k (omega arith);
-}
+      }
+
+  pub IsStanding-pop : length new ≡ length changed → ((pos : BoardState) → Agrees more pos → pos.size ≡ s)
+      → ((pos : BoardState) → Agrees more pos → overlaid pos.size new pos.cells ≡ before_move s x.made x.taken (overlaid pos.size changed pos.cells)) → IsStanding more new x.ban kept (n - 1)
+  IsStanding-pop l fits back = record {
+    full = standing.full;
+    few = omega (arith, standing.few);
+    whole = l ∙ standing.whole;
+    now = λ pos a. now_before pos a (fits pos a) (back pos a);
+    before = λ pos a k h. standing.before pos (agrees_before grows a) k (omega arith);
+  }
 
 -- what the last move put and took is on the board
-pub IsStanding-last : {seen : Fact → Bool} {changed : List Change} {ban : Option (ℕ × Colour)} {kept : List Kept} {n : ℕ} (pos : BoardState) → IsStanding seen changed ban kept n → n ≢ 0 → Agrees seen pos
-    → IsOnBoard pos.size (kept_at kept (n - 1)).made (kept_at kept (n - 1)).taken
-IsStanding-last {n = n} pos s ne a = (s.before pos a (n - 1) (omega arith)).on_board
+pub IsStanding-last : {seen : Fact → Bool} {changed : List Change} {ban : Option (ℕ × Colour)} {kept : List Kept} {n : ℕ} (pos : BoardState) (x : Kept) → IsStanding seen changed ban kept n → n ≢ 0 → Agrees seen pos
+    → x ≡ kept_at kept (n - 1) → IsOnBoard pos.size x.made x.taken
+IsStanding-last {n = n} pos x s ne a last = subst (λ (k : Kept). IsOnBoard pos.size k.made k.taken) (sym last) (s.before pos a (n - 1) (omega arith)).on_board
 
 -- what is read of the last move, where the read has this default
 pub kept_read : (kept : List Kept) (i : ℕ) (other : Kept) → i < length kept → slice_index_or kept i other ≡ kept_at kept i

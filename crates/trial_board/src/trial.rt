@@ -14,7 +14,7 @@ ghost use Rattle.trial_board.specs.declared.moves.TrialMove.{TrialMove};
 ghost use Rattle.trial_board.specs.declared.moves.TrialPlay.{TrialPlay};
 ghost use Rattle.trial_board.specs.Trials.{Trying, Stays, Moved, Put, most_moves, after, tried, tried_free, made_or_suicide, tail, is_some_move};
 
-use crate::kept::{Kept, nothing_kept, take_back_on};
+use crate::kept::{Kept, nothing_kept};
 use crate::moves::{MAX_TRIAL_MOVES, TrialMove, TrialPlay, Tried};
 use crate::overlay::{Change, Overlay};
 use go_base::boundary::boundary_of;
@@ -33,7 +33,7 @@ pub struct Trial<L: Look> {
     board: Overlay<L>,
     /// The ban after the newest move; before the first move the view is asked.
     ban: Option<(Point, Colour)>,
-    /// The first `standing` of these are the moves that stand, the oldest first.
+    /// The first `standing` of these are the moves that stand, the oldest first, each with what it took and the ban before it.
     kept: [Kept; MAX_TRIAL_MOVES],
     standing: u8,
     /// How many plays were tried.
@@ -210,7 +210,7 @@ impl<L: Look> Trial<L> {
         } = self;
         let kept = &*kept;
         let last = &kept[*standing as usize];
-        take_back_on(board, last);
+        last.take_back(board);
         *ban = last.ban;
         true
     }

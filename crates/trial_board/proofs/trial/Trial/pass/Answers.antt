@@ -1,6 +1,5 @@
 -- A pass changes no cell.
 use Rattle.std.proofs.Common.{◌<◌, length, ap, refl, arith, None}
-use Rattle.std.specs.FinSet as set
 use Rattle.go_base.specs.Facts.{Grows-refl}
 use Rattle.trial_board.specs.declared.moves.TrialMove.TheVariants.{Pass}
 use Rattle.trial_board.specs.Trials.{most_moves}
