@@ -17,3 +17,4 @@ pub mod Closing
 pub mod PlayNear
 pub mod Seeing
 pub mod Standing
+pub mod LastLiberties

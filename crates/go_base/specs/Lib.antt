@@ -11,3 +11,4 @@ pub mod Facts
 pub mod Told
 pub mod Sizes
 pub mod Watches
+pub mod Surroundings

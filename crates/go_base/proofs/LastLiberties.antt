@@ -1,0 +1,139 @@
+-- The last liberties of the enemy strings next to a string, gathered string by string.
+use Rattle.std.proofs.Common.{◌≡◌, ℕ, ◌+◌, ◌*◌, ◌<◌, ◌≤◌, ◌&&◌, Bool, true, false, eqb, List, refl, sym, ap, subst, arith, inl, inr, ◌∙◌}
+use Rattle.std.proofs.lemmas.Bool.{cases_eq, cases_lt, or_cases, or_left, or_right, eqb-true, eq-eqb, both_ways, and_parts, and_from, lt-ltb}
+use Rattle.std.specs.Ordering.{nat_cmp}
+use Rattle.std.specs.Cmp.{nat_cmp_total}
+use Rattle.std.specs.FinSet as sets
+use Rattle.go_rules.specs.declared.Cell.{Cell}
+use Rattle.go_rules.specs.Below.{count_below}
+use Rattle.go_rules.specs.Strings.{cell_at, is_in_string, string_at, is_liberty, liberties, liberty_points}
+use Rattle.go_rules.specs.Boundary.{is_enemy, is_beside_string}
+use Rattle.go_rules.proofs.Counts.{any_below_gives, any_below_from, count_below_same}
+use Rattle.go_rules.proofs.Sets.{contains-set_below}
+use Rattle.go_rules.proofs.Paths.{IsLiberty-from_test, is_liberty-from_fact, IsInString-from_test}
+use Rattle.go_rules.proofs.Links.{liberty_moves}
+use Rattle.go_rules.proofs.Boundary.{is_in_string_on, string_back}
+use Rattle.go_base.specs.Surroundings.{is_only_liberty, is_last_liberty_of_enemy, AddsLast, KnowsLast}
+use Rattle.go_base.proofs.Liberties.{len-liberty_points}
+
+same_tests : (a b : Bool) → (a ≡ true → b ≡ true) → (b ≡ true → a ≡ true) → a ≡ b
+same_tests true true f g = refl
+same_tests false false f g = refl
+same_tests true false f g = sym (f refl)
+same_tests false true f g = g refl
+
+-- the set of the liberties has the liberties
+pub contains-liberty_points : (s : ℕ) (cells : List Cell) (r l : ℕ) → sets.contains (liberty_points s cells r) l ≡ is_liberty s cells r l
+unfolding liberty_points
+contains-liberty_points s cells r l = contains-set_below (s * s) (is_liberty s cells r) l ∙ same_tests _ _ (λ h. (and_parts _ _ h).1) (λ h. and_from _ _ (lt-ltb l (s * s) (IsLiberty-from_test s cells r l h).on_board) h)
+
+-- the points of one string have the same liberties
+same_liberty : (s : ℕ) (cells : List Cell) (p q l : ℕ) → p < s * s → is_in_string s cells p q ≡ true → is_liberty s cells p l ≡ is_liberty s cells q l
+same_liberty s cells p q l on h = same_tests _ _
+    (λ t. is_liberty-from_fact s cells q l (is_in_string_on s cells p q on h) (liberty_moves s cells q p l (is_in_string_on s cells p q on h) (IsInString-from_test s cells q p (string_back s cells p q on h)) (IsLiberty-from_test s cells p l t)))
+    (λ t. is_liberty-from_fact s cells p l on (liberty_moves s cells p q l on (IsInString-from_test s cells p q h) (IsLiberty-from_test s cells q l t)))
+
+-- and the same one liberty
+same_only : (s : ℕ) (cells : List Cell) (p q l : ℕ) → p < s * s → is_in_string s cells p q ≡ true → is_only_liberty s cells p l ≡ is_only_liberty s cells q l
+unfolding is_only_liberty liberties
+same_only s cells p q l on h =
+    ap (λ n. eqb n 1 && is_liberty s cells p l) (count_below_same (s * s) (is_liberty s cells p) (is_liberty s cells q) (λ k i. same_liberty s cells p q k on h))
+    ∙ ap (λ b. eqb (count_below (s * s) (is_liberty s cells q)) 1 && b) (same_liberty s cells p q l on h)
+
+-- the one liberties of the enemy strings that the points below n belong to are there, and nothing else is
+pub record Lasts (s : ℕ) (cells : List Cell) (p n : ℕ) (last : sets.FinSet nat_cmp) : Type 0 where
+  pub only : (l : ℕ) → sets.contains last l ≡ true → is_last_liberty_of_enemy s cells p l ≡ true
+  pub all : (q : ℕ) → q < n → is_beside_string s cells p q ≡ true → is_enemy (cell_at cells p) (cell_at cells q) ≡ true → (l : ℕ) → is_only_liberty s cells q l ≡ true → sets.contains last l ≡ true
+
+-- a string that was seen adds nothing
+pub AddsLast-seen : (s : ℕ) (cells : List Cell) (q : ℕ) (seen last : sets.FinSet nat_cmp) → KnowsLast s cells seen last → sets.contains seen q ≡ true → AddsLast s cells q last last
+AddsLast-seen s cells q seen last knows h = record { kept = λ l i. i; only = λ l i. inl i; all = λ l i. knows q h l i }
+
+module _ (s : ℕ) (cells : List Cell) (q n : ℕ) (found old : sets.FinSet nat_cmp) (e : found ≡ liberty_points s cells q) (count : n ≡ sets.len found) where
+  how_many : n ≡ liberties s cells q
+  how_many = count ∙ ap sets.len e ∙ len-liberty_points s cells q
+
+  its : (l : ℕ) → sets.contains found l ≡ is_liberty s cells q l
+  its l = ap (λ t. sets.contains t l) e ∙ contains-liberty_points s cells q l
+
+  -- the liberties of a string with just one were added
+  pub AddsLast-one : (new : sets.FinSet nat_cmp) → n ≡ 1 → new ≡ sets.union old found → AddsLast s cells q old new
+  unfolding is_only_liberty
+  AddsLast-one new one is =
+      let at = λ (l : ℕ). ap (λ t. sets.contains t l) is ∙ sets.contains-union nat_cmp_total old found l in
+      record {
+        kept = λ l i. at l ∙ or_left _ _ i;
+        only = λ l i. elim (or_cases _ _ (sym (at l) ∙ i)) [
+          | inl before ↦ inl before
+          | inr now ↦ inr (and_from _ _ (eq-eqb (liberties s cells q) 1 (sym how_many ∙ one)) (sym (its l) ∙ now))
+        ];
+        all = λ l i. at l ∙ or_right _ _ (its l ∙ (and_parts _ _ i).1);
+      }
+
+  -- a string with none or more adds nothing
+  pub AddsLast-none : (n ≡ 1 → ⊥) → AddsLast s cells q old old
+  unfolding is_only_liberty
+  AddsLast-none other = record {
+    kept = λ l i. i;
+    only = λ l i. inl i;
+    all = λ l i. absurd (other (how_many ∙ eqb-true (liberties s cells q) 1 (and_parts _ _ i).0));
+  }
+
+-- after a string's one liberty came, the string is among those seen
+pub KnowsLast-join : (s : ℕ) (cells : List Cell) (q : ℕ) (seen joined found last new : sets.FinSet nat_cmp) → q < s * s → found ≡ string_at s cells q
+    → joined ≡ sets.union seen found → KnowsLast s cells seen last → AddsLast s cells q last new → KnowsLast s cells joined new
+unfolding string_at
+KnowsLast-join s cells q seen joined found last new on e is knows adds x h l i =
+    elim (or_cases _ _ (sym (ap (λ t. sets.contains t x) is ∙ sets.contains-union nat_cmp_total seen found x) ∙ h)) [
+      | inl before ↦ adds.kept l (knows x before l i)
+      | inr now ↦
+          let link = (and_parts _ _ (sym (ap (λ t. sets.contains t x) e ∙ contains-set_below (s * s) (is_in_string s cells q) x) ∙ now)).1 in
+          adds.all l (same_only s cells q x l on link ∙ i)
+    ]
+
+-- nothing is known at first
+pub KnowsLast-none : (s : ℕ) (cells : List Cell) (seen last : sets.FinSet nat_cmp) → seen ≡ sets.empty → KnowsLast s cells seen last
+KnowsLast-none s cells seen last e q h = absurd (both_ways (sets.contains seen q) (ap (λ t. sets.contains t q) e ∙ sets.contains-empty nat_cmp q) h)
+
+-- no point is below 0
+pub Lasts-none : (s : ℕ) (cells : List Cell) (p : ℕ) (last : sets.FinSet nat_cmp) → last ≡ sets.empty → Lasts s cells p 0 last
+Lasts-none s cells p last e = record {
+  only = λ l h. absurd (both_ways (sets.contains last l) (ap (λ t. sets.contains t l) e ∙ sets.contains-empty nat_cmp l) h);
+  all = λ q b. absurd (omega arith);
+}
+
+-- no enemy next to the string stands between the next point and this one
+pub Lasts-jump : (s : ℕ) (cells : List Cell) (p n m : ℕ) (last : sets.FinSet nat_cmp) → Lasts s cells p n last
+    → ((q : ℕ) → n ≤ q → q < m → is_beside_string s cells p q ≡ true → is_enemy (cell_at cells p) (cell_at cells q) ≡ true → ⊥) → Lasts s cells p m last
+Lasts-jump s cells p n m last b none = record {
+  only = b.only;
+  all = λ q below beside enemy l h. elim (cases_lt q n) [
+    | inl before ↦ b.all q before beside enemy l h
+    | inr above ↦ absurd (none q above below beside enemy)
+  ];
+}
+
+-- the next point is an enemy next to the string, and its one liberty came
+pub Lasts-add : (s : ℕ) (cells : List Cell) (p n : ℕ) (last new : sets.FinSet nat_cmp) → Lasts s cells p n last → n < s * s
+    → is_beside_string s cells p n ≡ true → is_enemy (cell_at cells p) (cell_at cells n) ≡ true → AddsLast s cells n last new → Lasts s cells p (n + 1) new
+unfolding is_last_liberty_of_enemy
+Lasts-add s cells p n last new b on beside enemy add = record {
+  only = λ l h. elim (add.only l h) [
+    | inl old ↦ b.only l old
+    | inr now ↦ any_below_from (s * s) _ n on (and_from _ _ (and_from _ _ enemy beside) now)
+  ];
+  all = λ q below beside' enemy' l h. elim (cases_eq q n) [
+    | inl e ↦ add.all l (subst (λ x. is_only_liberty s cells x l ≡ true) e h)
+    | inr ne ↦ add.kept l (b.all q (omega arith) beside' enemy' l h)
+  ];
+}
+
+-- where every point was passed, the set has exactly the last liberties of the enemy strings
+pub Lasts-all : (s : ℕ) (cells : List Cell) (p n : ℕ) (last : sets.FinSet nat_cmp) → Lasts s cells p n last → s * s ≤ n → (l : ℕ) → sets.contains last l ≡ is_last_liberty_of_enemy s cells p l
+unfolding is_last_liberty_of_enemy
+Lasts-all s cells p n last b whole l = same_tests _ _ (b.only l)
+    (λ h.
+    let it = any_below_gives (s * s) _ h in
+    let parts = and_parts _ _ it.2 in
+    let first = and_parts _ _ parts.0 in
+    b.all it.0 (omega (arith, it.1, whole)) first.1 first.0 l parts.1)
