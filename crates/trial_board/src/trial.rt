@@ -1,10 +1,12 @@
 //! A position with trial moves that can be taken back.
 
 ghost use Rattle.std.specs.Prelude.{◌≡◌, ℕ, ◌+◌, ◌*◌, ◌-◌, ◌^◌, ◌<◌, ◌≤◌, min, Bool, IsTrue, true, false, not, ◌&&◌, [], ◌∷◌, length, replicate};
+ghost use Rattle.std.specs.FinSet as set;
 ghost use Rattle.go_rules.specs.Board.{largest_points};
 ghost use Rattle.go_rules.specs.Strings.{cell_at, liberty_points};
 ghost use Rattle.go_rules.specs.Boundary.{boundary_points};
 ghost use Rattle.go_rules.specs.Neighbourhood.{neighbourhood_of};
+ghost use Rattle.go_base.specs.Surroundings.{is_last_liberty_of_enemy};
 ghost use Rattle.go_base.specs.Views.{alone};
 ghost use Rattle.trial_board.specs.Overlays.{neighbourhood_twice};
 ghost use Rattle.go_rules.specs.Position.{BoardState, is_banned};
@@ -22,6 +24,7 @@ use go_base::capture::play_on;
 use go_base::flood::liberties_of;
 use go_base::points::PointSet;
 use go_base::size::{MAX_POINTS, Point, Size};
+use go_base::surroundings::{Surroundings, surroundings_of};
 use go_base::view::View;
 use go_base::{Cell, Colour, Look};
 use std::marker::Model;
@@ -161,6 +164,22 @@ impl<L: Look> Trial<L> {
             → AddsIn (L.seen self.old.look) (L.seen self.new.look) (neighbourhood_twice pos.size (after pos self.old.moves).cells p) }
     {
         boundary_of(&mut self.board, p)
+    }
+
+    /// The liberties of the string of p and the last liberties of the enemy strings next to it, both none where p is empty.
+    pub fn surroundings(&mut self, p: Point) -> Surroundings
+        requires { p < (L.shows self.old.look).size * (L.shows self.old.look).size }
+        ensures stays { Stays L.shows L.seen self.old self.new }
+        ensures count { self.new.count ≡ self.old.count }
+        ensures over { (pos : BoardState) → Agrees (L.seen self.new.look) pos
+            → (result.liberties ≡ liberty_points pos.size (after pos self.old.moves).cells p)
+            × ((l : ℕ) → set.contains result.last_liberties l ≡ is_last_liberty_of_enemy pos.size (after pos self.old.moves).cells p l) }
+        ensures answer { (result.liberties ≡ liberty_points (L.shows self.old.look).size (after (L.shows self.old.look) self.old.moves).cells p)
+            × ((l : ℕ) → set.contains result.last_liberties l ≡ is_last_liberty_of_enemy (L.shows self.old.look).size (after (L.shows self.old.look) self.old.moves).cells p l) }
+        ensures near { (pos : BoardState) → Agrees (L.seen self.new.look) pos
+            → AddsIn (L.seen self.old.look) (L.seen self.new.look) (neighbourhood_twice pos.size (after pos self.old.moves).cells p) }
+    {
+        surroundings_of(&mut self.board, p)
     }
 
     /// Whether the ban is on this play.
