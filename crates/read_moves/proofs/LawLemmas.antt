@@ -8,7 +8,8 @@ use Rattle.go_rules.specs.Position.{BoardState}
 use Rattle.go_rules.proofs.Counts.{any_below_gives, any_below_from}
 use Rattle.go_rules.proofs.Paths.{same_cell-true, same_cell-from, IsInString-from_test, is_is_in_string-from_fact, IsLiberty-from_test, is_liberty-from_fact}
 use Rattle.go_rules.proofs.Boundary.{is_in_string_on}
-use Rattle.read_moves.specs.Candidates.{is_empty_beside, is_only_liberty, takes_attacker, is_candidate, IsEmptyNeighbour, IsTakenAt, IsCandidate, fills, looks_wide, takes}
+use Rattle.go_base.specs.Surroundings.{is_only_liberty, is_last_liberty_of_enemy}
+use Rattle.read_moves.specs.Candidates.{is_empty_beside, is_candidate, IsEmptyNeighbour, IsTakenAt, IsCandidate, fills, looks_wide, takes}
 
 -- an empty point beside a liberty is an empty neighbour of one, and the other way round
 wide_gives : (s : ℕ) (cells : List Cell) (target p : ℕ) → is_empty_beside s cells (is_liberty s cells target) p ≡ true
@@ -28,8 +29,8 @@ wide_from s cells target p l on lib near =
     and_from _ _ (and_from _ _ (lt-ltb p (s * s) near.on_board) (same_cell-from _ _ near.is_empty)) (any_below_from (s * s) _ l on (and_from _ _ lib near.beside))
 
 -- an attacker's string that is taken, and the other way round
-takes_gives : (s : ℕ) (cells : List Cell) (target p : ℕ) → takes_attacker s cells target p ≡ true → (q : ℕ) × IsTakenAt s cells target q p
-unfolding takes_attacker is_beside_string is_only_liberty
+takes_gives : (s : ℕ) (cells : List Cell) (target p : ℕ) → is_last_liberty_of_enemy s cells target p ≡ true → (q : ℕ) × IsTakenAt s cells target q p
+unfolding is_last_liberty_of_enemy is_beside_string is_only_liberty
 takes_gives s cells target p h =
     let q = any_below_gives (s * s) _ h in
     let parts = and_parts _ _ q.2 in
@@ -47,8 +48,8 @@ takes_gives s cells target p h =
       },
     )
 
-takes_from : (s : ℕ) (cells : List Cell) (target q p : ℕ) → target < s * s → IsTakenAt s cells target q p → takes_attacker s cells target p ≡ true
-unfolding takes_attacker is_beside_string is_only_liberty
+takes_from : (s : ℕ) (cells : List Cell) (target q p : ℕ) → target < s * s → IsTakenAt s cells target q p → is_last_liberty_of_enemy s cells target p ≡ true
+unfolding is_last_liberty_of_enemy is_beside_string is_only_liberty
 takes_from s cells target q p on taken =
     let inside = is_is_in_string-from_fact s cells target taken.beside.0 on taken.beside.1 in
     any_below_from (s * s) _ q taken.on_board
@@ -59,7 +60,7 @@ takes_from s cells target q p on taken =
 -- a candidate by the test is one by the rules
 pub candidate_gives : (pos : BoardState) (target k p : ℕ) → is_candidate pos target k p ≡ true → IsCandidate pos target k p
 unfolding is_candidate
-candidate_gives pos target k p h = elim (or_cases (is_liberty pos.size pos.cells target p || ((ltb 0 k && ltb (liberties pos.size pos.cells target) 3) && is_empty_beside pos.size pos.cells (is_liberty pos.size pos.cells target) p)) (takes_attacker pos.size pos.cells target p) h) [
+candidate_gives pos target k p h = elim (or_cases (is_liberty pos.size pos.cells target p || ((ltb 0 k && ltb (liberties pos.size pos.cells target) 3) && is_empty_beside pos.size pos.cells (is_liberty pos.size pos.cells target) p)) (is_last_liberty_of_enemy pos.size pos.cells target p) h) [
   | inr t ↦ let taken = takes_gives pos.size pos.cells target p t in takes taken.0 taken.1
   | inl e ↦ elim (or_cases (is_liberty pos.size pos.cells target p) ((ltb 0 k && ltb (liberties pos.size pos.cells target) 3) && is_empty_beside pos.size pos.cells (is_liberty pos.size pos.cells target) p) e) [
     | inl lib ↦ fills (IsLiberty-from_test pos.size pos.cells target p lib)

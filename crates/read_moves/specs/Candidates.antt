@@ -1,34 +1,27 @@
 -- The moves that a reading tries.
-use Rattle.std.specs.Prelude.{◌≡◌, ℕ, ◌*◌, ◌<◌, ◌≤◌, ◌==◌, ◌&&◌, ◌||◌, Bool, true, nat_lt, List}
+use Rattle.std.specs.Prelude.{◌≡◌, ℕ, ◌*◌, ◌<◌, ◌≤◌, ◌&&◌, ◌||◌, Bool, true, nat_lt, List}
 use Rattle.std.specs.List.{range_with_len, filter}
 use Rattle.go_rules.specs.declared.Cell.{Cell}
 use Rattle.go_rules.specs.declared.Cell.TheVariants.{Empty}
 use Rattle.go_rules.specs.Board.{are_neighbours}
 use Rattle.go_rules.specs.Below.{any_below}
 use Rattle.go_rules.specs.Strings.{cell_at, same_cell, is_liberty, liberties, IsInString, IsLiberty}
-use Rattle.go_rules.specs.Boundary.{is_enemy, is_beside_string}
+use Rattle.go_rules.specs.Boundary.{is_enemy}
 use Rattle.go_rules.specs.Position.{BoardState}
+use Rattle.go_base.specs.Surroundings.{is_last_liberty_of_enemy}
 use Rattle.trial_board.specs.Overlays.{neighbourhood_twice}
 
 -- p is empty and next to a point of S
 unfoldable pub is_empty_beside : ℕ → List Cell → (ℕ → Bool) → ℕ → Bool
 is_empty_beside s cells S p = nat_lt p (s * s) && same_cell (cell_at cells p) Empty && any_below (s * s) (λ l. S l && are_neighbours s l p)
 
--- p is the one liberty of the string of q
-unfoldable pub is_only_liberty : ℕ → List Cell → ℕ → ℕ → Bool
-is_only_liberty s cells q p = (liberties s cells q == 1) && is_liberty s cells q p
-
--- p is the one liberty of an enemy string that is next to the string of the target
-unfoldable pub takes_attacker : ℕ → List Cell → ℕ → ℕ → Bool
-takes_attacker s cells target p =
-    any_below (s * s) (λ q. is_enemy (cell_at cells target) (cell_at cells q) && is_beside_string s cells target q && is_only_liberty s cells q p)
-
--- p is a liberty of the target; or, where k is above 0 and the target has at most two, an empty neighbour of one; or it takes an attacker's string
+-- p is a liberty of the target; or, where k is above 0 and the target has at most two, an empty neighbour of one; or the one
+-- liberty of an enemy string next to it
 unfoldable pub is_candidate : BoardState → ℕ → ℕ → ℕ → Bool
 is_candidate pos target k p =
     is_liberty pos.size pos.cells target p
     || ((nat_lt 0 k && nat_lt (liberties pos.size pos.cells target) 3) && is_empty_beside pos.size pos.cells (is_liberty pos.size pos.cells target) p)
-    || takes_attacker pos.size pos.cells target p
+    || is_last_liberty_of_enemy pos.size pos.cells target p
 
 -- the candidates in reading order
 abbrev pub candidates_of : BoardState → ℕ → ℕ → List ℕ
