@@ -2,10 +2,11 @@
 use Rattle.std.proofs.Common.{◌≡◌, ◌≢◌, ℕ, zero, suc, ◌+◌, ◌-◌, ◌*◌, ◌<◌, ◌≤◌, Bool, true, false, not, ◌&&◌, ◌||◌, cond, List, [], ◌∷◌, Option, Some, None, refl, ap, sym, ◌∙◌, arith, is_some, is_none, eqb, inl, inr}
 use Rattle.std.specs.List.{range_with_len, filter, find, list_any, list_all}
 use mathlib.Core.Bool.{beq}
-use Rattle.std.proofs.lemmas.Bool.{eqb-true, eqb-false, cases_Bool}
+use Rattle.std.proofs.lemmas.Bool.{eqb-true, eqb-false, cases_Bool, cases_lt}
 use Rattle.go_rules.specs.Position.{BoardState}
 use Rattle.go_rules.specs.Play.{pass}
 use Rattle.read_moves.specs.Candidates.{is_candidate, candidates_of}
+use Rattle.read_moves.proofs.LawLemmas.{candidate_on}
 use Rattle.read_tree.specs.declared.node.Node.{Node}
 use Rattle.read_tree.specs.declared.question.Spot.{Spot}
 use Rattle.read_tree.specs.declared.question.Spot.TheVariants.{Pass}
@@ -154,20 +155,31 @@ wins-defender_move (suc n) node pos h ne e =
     ∙ defender_none many lost (first_success n node pos) (list_all (λ p. each_child (attacker_wins n) (child_of node pos p)) ps)
     (ap (λ turn. is_none (find (λ p. suits n turn (child_of node pos p)) ps)) e ∙ all-first n (child_of node pos) ps))
 
--- the first that succeeds, found by a walk over the points
-pub first_success-found : (n : ℕ) (node : Node) (pos : BoardState) (points p : ℕ) (cands : ℕ → Bool) → ((q : ℕ) → cands q ≡ is_candidate pos node.target node.wide q) → pos.size * pos.size ≡ points → p < points
-    → ((q : ℕ) → q < p → (cands q && succeeds n node pos q) ≡ false) → cands p ≡ true → true ≡ succeeds n node pos p → Some p ≡ first_success n node pos
-first_success-found n node pos points p cands same e hp before c t =
-    sym (first-found (is_candidate pos node.target node.wide) (succeeds n node pos) (pos.size * pos.size) 0 p (omega arith) (omega arith)
-    (λ q l h. rw (← same q) (before q h)) (both (sym (same p) ∙ c) (sym t)))
+-- no point before p is a candidate that succeeds, where none before the next one is, and between them stands no candidate
+pub none_before : (cands wins : ℕ → Bool) (next p : ℕ) → ((q : ℕ) → q < next → (cands q && wins q) ≡ false) → ((q : ℕ) → next ≤ q → q < p → cands q ≡ false)
+    → (q : ℕ) → q < p → (cands q && wins q) ≡ false
+none_before cands wins next p before between q h = elim (cases_lt q next) [
+  | inl l ↦ before q l
+  | inr g ↦ rw (between q g h) refl
+]
+
+-- the first that succeeds, found by a walk over the candidates
+pub first_success-found : (n : ℕ) (node : Node) (pos : BoardState) (next p : ℕ) (cands : ℕ → Bool) → ((q : ℕ) → cands q ≡ is_candidate pos node.target node.wide q)
+    → ((q : ℕ) → q < next → (cands q && succeeds n node pos q) ≡ false) → ((q : ℕ) → next ≤ q → q < p → cands q ≡ false) → cands p ≡ true → true ≡ succeeds n node pos p → Some p ≡ first_success n node pos
+first_success-found n node pos next p cands same before between c t =
+    let on = candidate_on pos node.target node.wide p (sym (same p) ∙ c) in
+    sym (first-found (is_candidate pos node.target node.wide) (succeeds n node pos) (pos.size * pos.size) 0 p (omega arith) (omega (arith, on))
+    (λ q l h. rw (← same q) (none_before cands (succeeds n node pos) next p before between q h)) (both (sym (same p) ∙ c) (sym t)))
   where
     both : {a b : Bool} → a ≡ true → b ≡ true → (a && b) ≡ true
     both x y = rw (x, y) refl
 
-pub first_success-none : (n : ℕ) (node : Node) (pos : BoardState) (points p : ℕ) (cands : ℕ → Bool) → ((q : ℕ) → cands q ≡ is_candidate pos node.target node.wide q) → pos.size * pos.size ≡ points → points ≤ p
-    → ((q : ℕ) → q < p → (cands q && succeeds n node pos q) ≡ false) → None ≡ first_success n node pos
-first_success-none n node pos points p cands same e hp before =
-    sym (first-none (is_candidate pos node.target node.wide) (succeeds n node pos) (pos.size * pos.size) 0 (λ q l h. rw (← same q) (before q (omega arith))))
+-- none succeeds, where no candidate is left
+pub first_success-none : (n : ℕ) (node : Node) (pos : BoardState) (next : ℕ) (cands : ℕ → Bool) → ((q : ℕ) → cands q ≡ is_candidate pos node.target node.wide q)
+    → ((q : ℕ) → q < next → (cands q && succeeds n node pos q) ≡ false) → ((q : ℕ) → next ≤ q → cands q ≡ false) → None ≡ first_success n node pos
+first_success-none n node pos next cands same before left =
+    sym (first-none (is_candidate pos node.target node.wide) (succeeds n node pos) (pos.size * pos.size) 0
+    (λ q l h. rw (← same q) (none_before cands (succeeds n node pos) next (pos.size * pos.size) before (λ k g m. left k g) q (omega arith))))
 
 -- who wins at a node that no earlier rule decides, by whether its mover has a good move
 pub wins-by_move : (n : ℕ) (node : Node) (pos : BoardState) (some : Bool) → is_captured pos node.target ≡ false → n ≢ 0

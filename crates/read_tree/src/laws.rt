@@ -13,7 +13,7 @@ ghost use Rattle.read_tree.specs.Rules.{HasManyLiberties, IsChild, SomeChildWins
 use crate::question::Kind;
 use go_base::Cell;
 
-// Where a node is captured, where its target has too many liberties, and which children it has.
+/// Where a node is captured, where its target has too many liberties, and which children it has.
 pub fn nodes_are_by_the_rules()
     ensures captured { (pos : BoardState) (target : ℕ) → IsTrue (is_captured pos target) ↔ (cell_at pos.cells target ≡ Cell.Empty) }
     ensures many { (pos : BoardState) (target k : ℕ) → IsTrue (has_many_liberties pos target k) ↔ HasManyLiberties pos target k }
@@ -23,7 +23,7 @@ pub fn nodes_are_by_the_rules()
         IsTrue (can_play node pos p) ↔ ((next : Node) × (new : BoardState) × IsChild node pos p next new) }
 {}
 
-// The four rules that say who wins, in their order.
+/// The four rules that say who wins, in their order.
 pub fn the_tree_is_by_four_rules()
     ensures captured { (n : ℕ) (node : Node) (pos : BoardState) → IsTrue (is_captured pos node.target) → IsTrue (attacker_wins n node pos) }
     ensures out_of_plies { (node : Node) (pos : BoardState) → is_captured pos node.target ≡ false → attacker_wins 0 node pos ≡ false }
@@ -33,7 +33,7 @@ pub fn the_tree_is_by_four_rules()
         IsTrue (attacker_wins (n + 1) node pos) ↔ EachChildWins n node pos }
 {}
 
-// The codes by their ko allowances of attacker and defender, the greatest of them, and the first move that attains it.
+/// The codes by their ko allowances of attacker and defender, the greatest of them, and the first move that attains it.
 pub fn answers_are_by_codes()
     ensures attack_3 { (q : Question) (pos : BoardState) → q.kind ≡ Kind.Attack → attains_code q pos 3 ≡ attacker_wins q.plies (node_under q 0 1) pos }
     ensures attack_2 { (q : Question) (pos : BoardState) → q.kind ≡ Kind.Attack → attains_code q pos 2 ≡ attacker_wins q.plies (node_under q 0 0) pos }

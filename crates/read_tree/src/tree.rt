@@ -112,11 +112,12 @@ fn first_success<L: Look>(board: &mut Trial<L>, node: Node, plies: u8) -> Option
         → AddsNear (L.seen board.old.look) (L.seen board.new.look) (InActiveArea q root) }
 {
     let candidates = candidates(board, node.target, node.wide);
-    let size = board.size();
-    for p in 0..size.points() {
-        if candidates.has(p) && succeeds(board, node, p, plies) {
+    let mut next = 0;
+    while let Some(p) = candidates.first_from(next) {
+        if succeeds(board, node, p, plies) {
             return Some(p);
         }
+        next = p + 1;
     }
     None
 }

@@ -1,24 +1,24 @@
 -- The walk over the game tree answers what the tree says, over every position that agrees with what was seen.
-use Rattle.std.proofs.Common.{◌≡◌, ◌⊎◌, ◌∙◌, ◌*◌, suc, inl, inr, Bool, true, false, ◌&&◌, ap, sym, refl, arith, below_more, is_some}
+use Rattle.std.proofs.Common.{◌≡◌, ◌⊎◌, ◌∙◌, ◌*◌, ◌<◌, ℕ, suc, inl, inr, Bool, true, false, ◌&&◌, List, ap, sym, subst, refl, arith, below_more, is_some, rules}
 use Rattle.std.specs.FinSet as set
 use Rattle.go_base.specs.Facts.{agrees_before, Grows-refl, Grows-trans, same_size}
 use Rattle.go_rules.specs.declared.Cell.TheVariants.{Empty}
 use Rattle.go_rules.proofs.Cells.{eq_is_same_cell}
 use Rattle.std.proofs.lemmas.Bool.{eqb-true}
+use Rattle.go_rules.specs.Position.{BoardState}
+use Rattle.trial_board.specs.declared.moves.TrialMove.{TrialMove}
 use Rattle.trial_board.specs.Trials.{after, tail}
 use Rattle.trial_board.proofs.AfterLemmas.{size-after}
+use Rattle.read_moves.specs.Candidates.{is_candidate}
+use Rattle.read_moves.proofs.LawLemmas.{candidate_on}
 use Rattle.read_tree.specs.ActiveArea.{by_play, IsUndecided, InActiveArea}
 use Rattle.read_tree.proofs.AreaLemmas.{AddsNear-in, AddsNear-trans, AddsNear-mono, area_target, area_once, area_twice, area_play, pred_tree, undecided_defender, pass_tree, target_on}
-use Rattle.read_tree.proofs.WinLemmas.{wins-captured, wins-no_plies, wins-by_move, first_success-found, first_success-none}
+use Rattle.read_tree.proofs.WinLemmas.{wins-captured, wins-no_plies, wins-by_move, none_before, first_success-found, first_success-none}
 use Rattle.read_tree.proofs.tree.+read.Goals as goal
-use Rattle.read_tree.proofs.tree.+read.Goals.{first_success-else-has-via-then-has+else-succeeds, first_success-else-has-via-else-has}
 
 and_false : (a b : Bool) → b ≡ false → (a && b) ≡ false
 and_false true b e = e
 and_false false b e = refl
-
-false_and : (a b : Bool) → a ≡ false → (a && b) ≡ false
-false_and a b e = rw e refl
 
 -- the target is captured
 pub attacker_wins-returns-then-eq-clause-over : goal.attacker_wins-returns-then-eq-clause-over
@@ -43,58 +43,60 @@ attacker_wins-returns-clause-over g t c = λ pos a.
     wins-by_move c.args.plies c.args.node (after pos c.args.board.now.moves) c.is_some.result (rw cell at stands) c.if-plies-eq0.false
     (c.is_some.ensures ∙ ap is_some (rw c.cell.ensures.stays.moves at (c.good_move.ensures.over pos a)))
 
+-- a candidate is on the board
+candidate_inside : (shown : BoardState) (moves : List TrialMove) (target wide p : ℕ) → is_candidate (after shown moves) target wide p ≡ true → p < shown.size * shown.size
+candidate_inside shown moves target wide p h = subst (λ n. p < n * n) (size-after shown moves) (candidate_on (after shown moves) target wide p h)
+
+pub first_success-succeeds-requires : goal.first_success-succeeds-requires
+first_success-succeeds-requires g t c =
+    let inside = candidate_inside (g.L.Look.shows c.args.board.now.look) c.args.board.now.moves c.args.node.target c.args.node.wide c.in-Some.p (sym (c.candidates-candidates.ensures.answer c.in-Some.p) ∙ c.in-Some.ensures.some.2) in
+    search rules
+
+pub first_success-returns-then-succeeds-clause-on_board : goal.first_success-returns-then-succeeds-clause-on_board
+first_success-returns-then-succeeds-clause-on_board g t c =
+    candidate_inside (g.L.Look.shows c.args.board.now.look) c.args.board.now.moves c.args.node.target c.args.node.wide c.in-Some.p (sym (c.candidates-candidates.ensures.answer c.in-Some.p) ∙ c.in-Some.ensures.some.2)
+
 -- a candidate that succeeds, and none before it does
 pub first_success-returns-then-succeeds-clause-over : goal.first_success-returns-then-succeeds-clause-over
 first_success-returns-then-succeeds-clause-over g t c = λ pos a.
     let a1 = agrees_before c.succeeds.ensures.stays.grows a in
     let a0 = agrees_before c.loop-p.invariant.grows a1 in
-    let size = same_size (g.met.L.Look.sized c.candidates-candidates.new.board.look) a0 in
-    let fits = ap (λ n. n * n) (size-after pos c.args.board.now.moves ∙ size ∙ sym c.size-size.ensures) ∙ sym c.points-p-end.ensures.value in
-    first_success-found c.args.plies c.args.node (after pos c.args.board.now.moves) c.points-p-end.result c.loop-p.p (set.contains c.candidates-candidates.result)
-    (c.candidates-candidates.ensures.over pos a0) fits (omega arith) (c.loop-p.invariant.none pos a1) (sym c.has.ensures ∙ c.if-has.true)
+    let first = c.in-Some.ensures.some in
+    first_success-found c.args.plies c.args.node (after pos c.args.board.now.moves) c.loop-p.next c.in-Some.p (set.contains c.candidates-candidates.result)
+    (c.candidates-candidates.ensures.over pos a0) (c.loop-p.invariant.none pos a1) first.3 first.2
     (rw (c.loop-p.invariant.stays.moves, c.if-succeeds.true) at (c.succeeds.ensures.over pos a))
 
--- one more point is no candidate, or does not succeed
+-- one more candidate does not succeed
 pub first_success-loop-p-preserved : goal.first_success-loop-p-preserved
-first_success-loop-p-preserved g t c = elim c.else-has.branch [
-  | first_success-else-has-via-then-has+else-succeeds w ↦ record {
-    stays = rw w.board-is (record {
-      moves = w.succeeds.ensures.stays.moves ∙ c.loop-p.invariant.stays.moves;
-      shown = w.succeeds.ensures.stays.shown ∙ c.loop-p.invariant.stays.shown;
-      grows = Grows-trans c.loop-p.invariant.stays.grows w.succeeds.ensures.stays.grows;
-    });
-    grows = rw w.board-is (Grows-trans c.loop-p.invariant.grows w.succeeds.ensures.stays.grows);
-    near = λ pos a q root tree und.
-        let a2 = rw w.board-is at a in
-        let a1 = agrees_before w.succeeds.ensures.stays.grows a2 in
-        let a0 = agrees_before c.loop-p.invariant.grows a1 in
-        let candidate = sym (c.candidates-candidates.ensures.over pos a0 c.loop-p.p) ∙ sym c.has.ensures ∙ w.if-has.true in
-        rw w.board-is (AddsNear-trans (c.loop-p.invariant.near pos a1 q root tree und)
-        ((rw c.loop-p.invariant.stays.moves at (w.succeeds.ensures.near pos a2 q root)) tree und candidate));
-    none = λ pos a.
-        let a2 = rw w.board-is at a in
-        let a1 = agrees_before w.succeeds.ensures.stays.grows a2 in
-        let fails = rw c.loop-p.invariant.stays.moves at (w.succeeds.ensures.over pos a2) in
-        below_more _ _ (c.loop-p.invariant.none pos a1) (and_false (set.contains c.candidates-candidates.result c.loop-p.p) _ (sym fails ∙ w.if-succeeds.false));
-  }
-  | first_success-else-has-via-else-has w ↦ record {
-    stays = rw w.board-is c.loop-p.invariant.stays;
-    grows = rw w.board-is c.loop-p.invariant.grows;
-    near = λ pos a q root tree und. rw w.board-is (c.loop-p.invariant.near pos (rw w.board-is at a) q root tree und);
-    none = λ pos a.
-        let a1 = rw w.board-is at a in
-        below_more _ _ (c.loop-p.invariant.none pos a1) (false_and (set.contains c.candidates-candidates.result c.loop-p.p) _ (sym c.has.ensures ∙ w.if-has.false));
-  }
-]
+first_success-loop-p-preserved g t c =
+    let i = c.loop-p.invariant in
+    let first = c.in-Some.ensures.some in
+    record {
+      stays = record {
+        moves = c.succeeds.ensures.stays.moves ∙ i.stays.moves;
+        shown = c.succeeds.ensures.stays.shown ∙ i.stays.shown;
+        grows = Grows-trans i.stays.grows c.succeeds.ensures.stays.grows;
+      };
+      grows = Grows-trans i.grows c.succeeds.ensures.stays.grows;
+      near = λ pos a q root tree und.
+          let a1 = agrees_before c.succeeds.ensures.stays.grows a in
+          let a0 = agrees_before i.grows a1 in
+          let candidate = sym (c.candidates-candidates.ensures.over pos a0 c.in-Some.p) ∙ first.2 in
+          AddsNear-trans (i.near pos a1 q root tree und)
+          ((rw i.stays.moves at (c.succeeds.ensures.near pos a q root)) tree und candidate);
+      none = λ pos a.
+          let a1 = agrees_before c.succeeds.ensures.stays.grows a in
+          let fails = rw i.stays.moves at (c.succeeds.ensures.over pos a) in
+          below_more _ _ (none_before (set.contains c.candidates-candidates.result) _ c.loop-p.next c.in-Some.p (i.none pos a1) first.3)
+          (and_false (set.contains c.candidates-candidates.result c.in-Some.p) _ (sym fails ∙ c.if-succeeds.false));
+    }
 
 -- no candidate succeeds
 pub first_success-returns-clause-over : goal.first_success-returns-clause-over
 first_success-returns-clause-over g t c = λ pos a.
     let a0 = agrees_before c.loop-p.invariant.grows a in
-    let size = same_size (g.met.L.Look.sized c.candidates-candidates.new.board.look) a0 in
-    let fits = ap (λ n. n * n) (size-after pos c.args.board.now.moves ∙ size ∙ sym c.size-size.ensures) ∙ sym c.points-p-end.ensures.value in
-    first_success-none c.args.plies c.args.node (after pos c.args.board.now.moves) c.points-p-end.result c.loop-p.p (set.contains c.candidates-candidates.result)
-    (c.candidates-candidates.ensures.over pos a0) fits (omega arith) (c.loop-p.invariant.none pos a)
+    first_success-none c.args.plies c.args.node (after pos c.args.board.now.moves) c.loop-p.next (set.contains c.candidates-candidates.result)
+    (c.candidates-candidates.ensures.over pos a0) (c.loop-p.invariant.none pos a) c.in_default.ensures.none
 
 -- the look at the target, and the rest in the area
 pub attacker_wins-returns-clause-near : goal.attacker_wins-returns-clause-near
@@ -123,7 +125,7 @@ pub first_success-returns-then-succeeds-clause-near : goal.first_success-returns
 first_success-returns-then-succeeds-clause-near g t c = λ pos a q root tree und.
     let a1 = agrees_before c.succeeds.ensures.stays.grows a in
     let a0 = agrees_before c.loop-p.invariant.grows a1 in
-    let candidate = sym (c.candidates-candidates.ensures.over pos a0 c.loop-p.p) ∙ sym c.has.ensures ∙ c.if-has.true in
+    let candidate = sym (c.candidates-candidates.ensures.over pos a0 c.in-Some.p) ∙ c.in-Some.ensures.some.2 in
     AddsNear-trans (c.loop-p.invariant.near pos a1 q root tree und)
     ((rw c.loop-p.invariant.stays.moves at (c.succeeds.ensures.near pos a q root)) tree und candidate)
 

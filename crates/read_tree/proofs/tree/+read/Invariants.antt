@@ -1,5 +1,6 @@
-use Rattle.std.proofs.Common.{◌≡◌, ◌+◌, ◌*◌, ◌<◌, ℕ, suc, false, ◌&&◌}
+use Rattle.std.proofs.Common.{◌≡◌, ◌+◌, ◌-◌, ◌*◌, ◌<◌, ℕ, suc, false, ◌&&◌}
 use Rattle.std.specs.FinSet as set
+use Rattle.go_rules.specs.Board.{largest_points}
 use Rattle.go_rules.specs.Position.{BoardState}
 use Rattle.go_base.specs.Facts.{Agrees, Grows}
 use Rattle.trial_board.specs.Trials.{Stays, after}
@@ -21,7 +22,7 @@ decreases-first_success g l = 4 * l.plies + 2
 abbrev pub decreases-good_move : goal.decreases-good_move
 decreases-good_move g l = 4 * l.plies + 3
 
--- no point before this one is a candidate that succeeds, on any position that agrees
+-- no point before the next one is a candidate that succeeds, on any position that agrees
 abbrev pub invariant-first_success-loop-p : goal.invariant-first_success-loop-p
 invariant-first_success-loop-p g l = record {
   stays : Stays g.L.Look.shows g.L.Look.seen l.fn.board l.board;
@@ -29,6 +30,10 @@ invariant-first_success-loop-p g l = record {
   near : (pos : BoardState) → Agrees (g.L.Look.seen l.board.look) pos → (q : Question) (root : BoardState)
       → IsNodeOf q root (suc l.plies) l.node (after pos l.fn.board.moves) → IsUndecided l.node (after pos l.fn.board.moves)
       → AddsNear (g.L.Look.seen l.fn.board.look) (g.L.Look.seen l.board.look) (InActiveArea q root);
-  none : (pos : BoardState) → Agrees (g.L.Look.seen l.board.look) pos → (q : ℕ) → q < l.p
+  none : (pos : BoardState) → Agrees (g.L.Look.seen l.board.look) pos → (q : ℕ) → q < l.next
       → (set.contains l.candidates q && succeeds l.plies l.node (after pos l.fn.board.moves) q) ≡ false;
 }
+
+-- how many points are left
+abbrev pub decreases-first_success-loop-p : goal.decreases-first_success-loop-p
+decreases-first_success-loop-p g l = largest_points - l.next
