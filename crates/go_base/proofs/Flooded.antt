@@ -32,7 +32,7 @@ has_at [] i h = absurd (omega arith)
 has_at (x ∷ xs) zero h = or_left _ _ (eq-eqb x x refl)
 has_at (x ∷ xs) (suc i) h = or_right _ _ (has_at xs i (omega arith))
 
-at_append : (xs ys : List ℕ) (i : ℕ) → i < length xs → get_or (xs ++ ys) i 0 ≡ get_or xs i 0
+pub at_append : (xs ys : List ℕ) (i : ℕ) → i < length xs → get_or (xs ++ ys) i 0 ≡ get_or xs i 0
 at_append [] ys i h = absurd (omega arith)
 at_append (x ∷ xs) ys zero h = refl
 at_append (x ∷ xs) ys (suc i) h = at_append xs ys i (omega arith)

@@ -4,6 +4,7 @@ pub mod Beside
 pub mod Trailed
 pub mod Flooded
 pub mod Visiting
+pub mod WithoutLiberty
 pub mod Liberties
 pub mod Joined
 pub mod Looking

@@ -12,7 +12,7 @@ use Rattle.go_rules.specs.declared.Colour.{Colour}
 use Rattle.go_rules.specs.Strings.{cell_at, is_stone, liberties, start}
 use Rattle.go_rules.specs.Position.{other, stone_of}
 use Rattle.go_rules.specs.Play.{is_taken, taken_at}
-use Rattle.go_rules.proofs.Sets.{contains-set_below}
+use Rattle.go_rules.proofs.Sets.{contains-set_below, same_nat_set}
 use Rattle.go_rules.proofs.Links.{liberties_from}
 use Rattle.go_rules.proofs.Plays.{stone_is, empty_from, at_put_same, at_put_other, taken_parts, own_not_taken}
 use Rattle.go_base.specs.TakenBack.{before_play}
@@ -72,11 +72,11 @@ module _ {s : ℕ} {old put after : List Cell} {c : Colour} {p : ℕ} {taken : s
     | inr f ↦ f
   ]
 
-  after_here : cell_at after p ≡ stone_of c
+  pub after_here : cell_at after p ≡ stone_of c
   after_here = after_at p h.on_board ∙ ap (λ b. cond b Empty (cell_at put p)) own_stays ∙ put_here
 
   -- a play that takes something has a liberty, where a taken neighbour stood
-  pub taker_lives : (q : ℕ) → sets.contains taken q ≡ true → 0 < liberties s after p
+  taker_lives : (q : ℕ) → sets.contains taken q ≡ true → 0 < liberties s after p
   taker_lives q t =
       let x = plays_beside h q (taken_is q t).0 (taken_is q t).1 in
       liberties_from s after p x.0 h.on_board (record {
@@ -84,6 +84,14 @@ module _ {s : ℕ} {old put after : List Cell} {c : Colour} {p : ℕ} {taken : s
         is_empty = after_at x.0 x.1 ∙ ap (λ b. cond b Empty (cell_at put x.0)) (is_among x.0 x.1 x.3);
         beside = (p, record { stone = ap is_stone after_here ∙ stone_is c; path = start }, x.2);
       })
+
+  -- a play without a liberty took nothing
+  took_none : liberties s after p ≡ 0 → (k : ℕ) → sets.contains taken k ≡ false
+  took_none z k = elim (cases_Bool (sets.contains taken k)) [ inl t ↦ (let alive = taker_lives k t in absurd (omega (arith, alive, z))) | inr f ↦ f ]
+
+  -- so a play that took something has one
+  pub takers_live : taken ≢ sets.empty → liberties s after p ≢ 0
+  takers_live some z = some (same_nat_set taken sets.empty (λ k. took_none z k ∙ sym (sets.contains-empty nat_cmp k)))
 
   -- what was taken stands again, and the point is empty
   pub plays_back : before_play s c p taken after ≡ old
@@ -96,8 +104,5 @@ module _ {s : ℕ} {old put after : List Cell} {c : Colour} {p : ℕ} {taken : s
   pub suicide_back : liberties s after p ≡ 0 → set after p Empty ≡ old
   suicide_back z = same_board (s * s) (set after p Empty) old (length-set after p Empty ∙ after_length) h.good.cells (λ k on. elim (cases_eq k p) [
     | inl e ↦ ap (cell_at (set after p Empty)) e ∙ at_put_same after p Empty (omega (arith, after_length, h.on_board)) ∙ sym (ap (cell_at old) e ∙ empty_from _ h.is_empty)
-    | inr ne ↦ at_put_other after p k Empty ne ∙ after_at k on ∙ ap (λ b. cond b Empty (cell_at put k)) (none k) ∙ sym (put_there k ne)
+    | inr ne ↦ at_put_other after p k Empty ne ∙ after_at k on ∙ ap (λ b. cond b Empty (cell_at put k)) (took_none z k) ∙ sym (put_there k ne)
   ])
-    where
-      none : (k : ℕ) → sets.contains taken k ≡ false
-      none k = elim (cases_Bool (sets.contains taken k)) [ inl t ↦ (let alive = taker_lives k t in absurd (omega (arith, alive, z))) | inr f ↦ f ]

@@ -1,32 +1,34 @@
 -- The strings that a play takes, gathered side by side.
-use Rattle.std.proofs.Common.{◌≡◌, ℕ, ◌+◌, ◌*◌, ◌<◌, ◌≤◌, ◌&&◌, Bool, true, false, cond, eqb, Some, List, refl, sym, ap, subst, arith, inl, inr, ◌∙◌}
-use Rattle.std.proofs.lemmas.Bool.{cases_Bool, cases_eq, or_cases, or_left, or_right, both_ways, and_parts, and_from, lt-ltb, ltb-true}
+use Rattle.std.proofs.Common.{◌≡◌, ℕ, ◌+◌, ◌*◌, ◌<◌, ◌≤◌, Bool, true, false, cond, Some, None, List, refl, sym, ap, subst, arith, inl, inr, ◌∙◌}
+use Rattle.std.proofs.lemmas.Bool.{cases_Bool, cases_eq, or_cases, or_left, or_right, both_ways, and_parts, and_from, lt-ltb, ltb-true, eq-eqb, ne_eqb}
 use Rattle.std.specs.Ordering.{nat_cmp}
 use Rattle.std.specs.Cmp.{nat_cmp_total}
 use Rattle.std.specs.FinSet as sets
 use Rattle.go_rules.specs.declared.Cell.{Cell}
 use Rattle.go_rules.specs.declared.Colour.{Colour}
-use Rattle.go_rules.specs.Strings.{cell_at, is_stone, is_in_string, string_at, liberties, Path}
+use Rattle.go_rules.specs.Strings.{cell_at, is_stone, same_cell, is_in_string, string_at, liberties, Path}
 use Rattle.go_rules.specs.Play.{is_taken, taken_at}
 use Rattle.go_rules.specs.Position.{other, stone_of}
 use Rattle.go_rules.proofs.Sets.{contains-set_below, same_nat_set}
-use Rattle.go_rules.proofs.Cells.{eq_is_same_cell}
-use denote.Enum.Bare.{sameb}
-use Rattle.go_rules.specs.contracts.Cell.{the_type}
-use Rattle.go_rules.proofs.Paths.{path_on_board, IsInString-from_test, is_is_in_string-from_fact}
+use Rattle.go_rules.proofs.Paths.{same_cell-from, path_on_board, IsInString-from_test, is_is_in_string-from_fact}
+use Rattle.go_rules.proofs.Links.{path_on}
 use Rattle.go_rules.proofs.Plays.{taken_whole, taken_parts, stone_is}
 use Rattle.go_base.specs.Sides.{neighbour_at}
-use Rattle.go_base.specs.Takes.{TakenBeside}
+use Rattle.go_base.specs.Takes.{TakenBeside, HasWholeStrings}
+use Rattle.go_base.specs.WithoutLiberty.{stones_without_liberty}
+use Rattle.go_base.proofs.WithoutLiberty.{found_without, none_without}
 use Rattle.go_base.proofs.Beside.{neighbour_at-all}
 
 -- what the first n sides gave
 pub record Takes (s : ℕ) (put : List Cell) (c : Colour) (p n : ℕ) (taken : sets.FinSet nat_cmp) : Type 0 where
   pub only : (q : ℕ) → sets.contains taken q ≡ true → (q < s * s) × (is_taken s put c q ≡ true)
+  pub whole : HasWholeStrings s put taken
   pub all : (k : ℕ) → k < n → (r : ℕ) → neighbour_at s p k ≡ Some r → is_taken s put c r ≡ true → (q : ℕ) → Path s put r q → sets.contains taken q ≡ true
 
 pub Takes-none : (s : ℕ) (put : List Cell) (c : Colour) (p : ℕ) (taken : sets.FinSet nat_cmp) → taken ≡ sets.empty → Takes s put c p 0 taken
 Takes-none s put c p taken e = record {
   only = λ q h. absurd (both_ways (sets.contains taken q) (ap (λ t. sets.contains t q) e ∙ sets.contains-empty nat_cmp q) h);
+  whole = λ q h. absurd (both_ways (sets.contains taken q) (ap (λ t. sets.contains t q) e ∙ sets.contains-empty nat_cmp q) h);
   all = λ k l. absurd (omega arith);
 }
 
@@ -34,6 +36,7 @@ Takes-skip : (s : ℕ) (put : List Cell) (c : Colour) (p n : ℕ) (taken : sets.
     → ((r : ℕ) → neighbour_at s p n ≡ Some r → is_taken s put c r ≡ true → ⊥) → Takes s put c p (n + 1) taken
 Takes-skip s put c p n taken h none = record {
   only = h.only;
+  whole = h.whole;
   all = λ k l r e t q path. elim (cases_eq k n) [
     | inl f ↦ absurd (none r (ap (neighbour_at s p) (sym f) ∙ e) t)
     | inr ne ↦ h.all k (omega arith) r e t q path
@@ -57,6 +60,10 @@ Takes-add s put c p n r taken new h on e t is =
       only = λ q b. elim (or_cases _ _ (sym (has q) ∙ b)) [
         | inl before ↦ h.only q before
         | inr now ↦ let path = string_path s put r q now in (path_on_board s put r on path, taken_whole s put c r q on t path)
+      ];
+      whole = λ q b x i. has x ∙ elim (or_cases _ _ (sym (has q) ∙ b)) [
+        | inl before ↦ or_left _ _ (h.whole q before x i)
+        | inr now ↦ or_right _ _ (string_has s put r x on (ap is_stone (taken_parts s put c r t).0 ∙ stone_is (other c)) (path_on s put r q (string_path s put r q now) (string_path s put q x i)))
       ];
       all = λ k l r' e' t' q path. has q ∙ elim (cases_eq k n) [
         | inl f ↦
@@ -98,15 +105,26 @@ Takes-all s put c p n taken on four h beside =
     h.all side.0 (omega (arith, side.1, four)) x.0 side.2 x.3 q x.4)
     ∙ sym (contains-set_below (s * s) (is_taken s put c) q))
 
-pub is_taken_from : (s : ℕ) (put : List Cell) (c : Colour) (q : ℕ) (k : Cell) (r : Bool) (n : ℕ) → k ≡ stone_of (other c) → r ≡ sameb the_type (cell_at put q) k → n ≡ liberties s put q
-    → (r && eqb n 0) ≡ is_taken s put c q
-unfolding is_taken
-is_taken_from s put c q k r n ke re ne = rw (re ∙ eq_is_same_cell (cell_at put q) k, ke, ne) refl
+-- a stone that is there came with its string
+pub union_there : (s : ℕ) (put : List Cell) (q : ℕ) (taken : sets.FinSet nat_cmp) → HasWholeStrings s put taken → sets.contains taken q ≡ true → taken ≡ sets.union taken (string_at s put q)
+union_there s put q taken whole h =
+    same_nat_set _ _ (λ r. same_tests _ _
+    (λ b. sets.contains-union nat_cmp_total taken (string_at s put q) r ∙ or_left _ _ b)
+    (λ b. elim (or_cases _ _ (sym (sets.contains-union nat_cmp_total taken (string_at s put q) r) ∙ b)) [ inl before ↦ before | inr now ↦ whole q h r now ]))
 
-pub not_taken_from : (s : ℕ) (put : List Cell) (c : Colour) (q : ℕ) (k : Cell) (r : Bool) → k ≡ stone_of (other c) → r ≡ sameb the_type (cell_at put q) k → r ≡ false
-    → r ≡ is_taken s put c q
-not_taken_from s put c q k r ke re f =
-    is_taken_from' s put c q k r ke re f
-  where
-    is_taken_from' : (s : ℕ) (put : List Cell) (c : Colour) (q : ℕ) (k : Cell) (r : Bool) → k ≡ stone_of (other c) → r ≡ sameb the_type (cell_at put q) k → r ≡ false → r ≡ is_taken s put c q
-    is_taken_from' s put c q k r ke re f = f ∙ sym (ap (λ b. b && eqb (liberties s put q) 0) f) ∙ is_taken_from s put c q k r (liberties s put q) ke re refl
+-- an enemy's string that was found without a liberty is taken
+pub is_taken_from : (s : ℕ) (put : List Cell) (c : Colour) (q : ℕ) (stones : sets.FinSet nat_cmp) → cell_at put q ≡ stone_of (other c) → Some stones ≡ stones_without_liberty s put q
+    → (is_taken s put c q ≡ true) × (stones ≡ string_at s put q)
+unfolding is_taken
+is_taken_from s put c q stones enemy is = let found = found_without s put q stones is in (and_from _ _ (same_cell-from _ _ enemy) (eq-eqb (liberties s put q) 0 found.1), found.2)
+
+-- an enemy's string in which a liberty was found is not
+pub not_taken_from : (s : ℕ) (put : List Cell) (c : Colour) (q : ℕ) → cell_at put q ≡ stone_of (other c) → None ≡ stones_without_liberty s put q → is_taken s put c q ≡ false
+unfolding is_taken
+not_taken_from s put c q enemy is =
+    rw (same_cell-from _ _ enemy) (ne_eqb (liberties s put q) 0 (none_without s put q (ap is_stone enemy ∙ stone_is (other c)) is))
+
+-- what is no enemy is not taken
+pub no_enemy_taken : (s : ℕ) (put : List Cell) (c : Colour) (q : ℕ) → same_cell (cell_at put q) (stone_of (other c)) ≡ false → is_taken s put c q ≡ false
+unfolding is_taken
+no_enemy_taken s put c q f = rw f refl

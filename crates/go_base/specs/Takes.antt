@@ -1,10 +1,12 @@
--- Where a stone was put on a position, it is next to each string that has no liberty.
+-- Where a stone was put on a position, it is next to each string that has no liberty; what is gathered side by side is whole strings.
 use Rattle.std.specs.Prelude.{◌≡◌, ℕ, ◌*◌, ◌<◌, ◌==◌, ◌&&◌, ◌||◌, Bool, true, List}
+use Rattle.std.specs.Ordering.{nat_cmp}
+use Rattle.std.specs.FinSet as set
 use Rattle.go_rules.specs.declared.Cell.{Cell}
 use Rattle.go_rules.specs.declared.Colour.{Colour}
 use Rattle.go_rules.specs.Board.{are_neighbours}
 use Rattle.go_rules.specs.Below.{any_below}
-use Rattle.go_rules.specs.Strings.{cell_at, same_cell, Path}
+use Rattle.go_rules.specs.Strings.{cell_at, same_cell, string_at, Path}
 use Rattle.go_rules.specs.Neighbourhood.{neighbourhood_of}
 use Rattle.go_rules.specs.Play.{is_taken}
 use Rattle.go_rules.specs.Position.{other, stone_of}
@@ -13,6 +15,10 @@ use Rattle.go_base.specs.Views.{alone}
 -- what is taken after c put a stone at p hangs on a neighbour of p, which is taken too
 abbrev pub TakenBeside : ℕ → List Cell → Colour → ℕ → Type 0
 TakenBeside s put c p = (q : ℕ) → q < s * s → is_taken s put c q ≡ true → (x : ℕ) × (x < s * s) × (are_neighbours s p x ≡ true) × (is_taken s put c x ≡ true) × Path s put x q
+
+-- with each stone the set has its whole string
+abbrev pub HasWholeStrings : ℕ → List Cell → set.FinSet nat_cmp → Type 0
+HasWholeStrings s cells stones = (q : ℕ) → set.contains stones q ≡ true → (r : ℕ) → set.contains (string_at s cells q) r ≡ true → set.contains stones r ≡ true
 
 -- r is a neighbour of p, or close to one that holds an enemy of c
 unfoldable pub near_taken : ℕ → List Cell → Colour → ℕ → ℕ → Bool

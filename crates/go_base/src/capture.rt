@@ -1,40 +1,46 @@
 //! What a play takes and which ban it leaves, and how it is taken back, on a board whose cells are told one by one.
 
-ghost use Rattle.std.specs.Prelude.{◌≡◌, ◌⊎◌, ℕ, ◌*◌, ◌<◌, ◌==◌, ◌||◌, ◌&&◌, IsTrue, List, map, IfOk, if◌then◌else◌};
+ghost use Rattle.std.specs.Prelude.{◌≡◌, ◌≢◌, ◌⊎◌, ℕ, ◌*◌, ◌<◌, ◌==◌, ◌||◌, ◌&&◌, IsTrue, List, map, IfOk, if◌then◌else◌};
 ghost use Rattle.std.specs.List.{range_with_len};
 ghost use Rattle.std.specs.FinSet as set;
 ghost use Rattle.go_rules.specs.declared.Cell.{Cell};
-ghost use Rattle.go_rules.specs.Strings.{cell_at, same_cell, string_at, liberty_points};
+ghost use Rattle.go_rules.specs.Board.{largest_points};
+ghost use Rattle.go_rules.specs.Strings.{cell_at, is_stone, same_cell, string_at, liberties};
 ghost use Rattle.go_rules.specs.Neighbourhood.{neighbourhood_of};
 ghost use Rattle.go_rules.specs.Position.{BoardState, IsPosition, other, stone_of, board_of};
 ghost use Rattle.go_rules.specs.Play.{is_taken, taken_at, ban_after, played_on, play_free};
-ghost use Rattle.go_base.specs.Takes.{TakenBeside, near_taken};
+ghost use Rattle.go_base.specs.Takes.{TakenBeside, HasWholeStrings, near_taken};
 ghost use Rattle.go_base.specs.TakenBack.{before_play, cells_before, ban_or_refusal};
 ghost use Rattle.go_base.specs.Views.{Looks, anywhere, nowhere, alone};
 
-use crate::flood::{Found, flood};
+use crate::flood::flood;
 use crate::points::PointSet;
 use crate::sides::neighbour;
 use crate::size::{Point, Size};
 use crate::view::View;
+use crate::without_liberty::string_without_liberty;
 use go_rules::{Cell, Colour, Illegal};
 
-/// Adds the stones of the string of q to the taken ones, where they are enemies of c without a liberty.
+/// Adds the stones of the string of q to the taken ones, where they are enemies of c without a liberty. A string that is among the
+/// taken ones already is not searched again.
 fn take<V: View>(board: &mut V, c: Colour, q: Point, taken: &mut PointSet)
-    requires { q < V.rows board.old * V.rows board.old }
+    requires on_board { q < V.rows board.old * V.rows board.old }
+    requires small { q < largest_points }
     ensures looks { Looks V.cells V.asks board.old board.new anywhere }
-    ensures over { (pos : BoardState) → V.agrees board.new pos
+    ensures over { (pos : BoardState) → V.agrees board.new pos → HasWholeStrings (V.rows board.old) (V.cells board.old pos) taken.old
         → taken.new ≡ (if is_taken (V.rows board.old) (V.cells board.old pos) c q then set.union taken.old (string_at (V.rows board.old) (V.cells board.old pos) q) else taken.old) }
     ensures on_board { (r : ℕ) → IsTrue (set.contains taken.new r) → IsTrue (set.contains taken.old r) ⊎ (r < V.rows board.old * V.rows board.old) }
     ensures near { (pos : BoardState) → V.agrees board.new pos
         → V.asks board.old board.new (λ r. alone q r || (same_cell (cell_at (V.cells board.old pos) q) (stone_of (other c)) && neighbourhood_of (V.rows board.old) (V.cells board.old pos) (alone q) r)) }
 {
+    if taken.has(q) {
+        return;
+    }
     if board.at(q) != c.other().cell() {
         return;
     }
-    let found = flood(board, q);
-    if found.liberties.count() == 0 {
-        taken.join(&found.stones);
+    if let Some(stones) = string_without_liberty(board, q) {
+        taken.join(&stones);
     }
 }
 
@@ -72,13 +78,38 @@ fn put_all<V: View>(board: &mut V, points: &PointSet, cell: Cell)
     }
 }
 
-/// The ban after c took these stones by one that now belongs to the string found: where one stone was taken by one that is
-/// alone and has one liberty, the other colour may not play where the taken one stood.
-fn ban_of(taken: &PointSet, own: &Found, c: Colour) -> Option<(Point, Colour)>
-    ensures { (s p : ℕ) (put after : List Cell) → taken.now ≡ taken_at s put c
-        → own.now.stones ≡ string_at s after p → own.now.liberties ≡ liberty_points s after p → result ≡ ban_after s put after c p }
+/// Whether the string of the stone at p has no liberty, where these stones were taken by it. A stone that took another has the liberty
+/// where that stood, so nothing is searched for it.
+fn is_suicide<V: View>(board: &mut V, p: Point, taken: &PointSet) -> bool
+    requires { p < V.rows board.old * V.rows board.old }
+    ensures looks { Looks V.cells V.asks board.old board.new anywhere }
+    ensures over { (pos : BoardState) → V.agrees board.new pos → IsTrue (is_stone (cell_at (V.cells board.old pos) p))
+        → (taken.now ≢ set.empty → liberties (V.rows board.old) (V.cells board.old pos) p ≢ 0)
+        → result ≡ (liberties (V.rows board.old) (V.cells board.old pos) p == 0) }
+    ensures near { (pos : BoardState) → V.agrees board.new pos
+        → V.asks board.old board.new (neighbourhood_of (V.rows board.old) (V.cells board.old pos) (alone p)) }
 {
-    if !are_one(taken.count(), own.stones.count(), own.liberties.count()) {
+    if taken.count() != 0 {
+        return false;
+    }
+    string_without_liberty(board, p).is_some()
+}
+
+/// The ban after c took these stones by the one at p: where one stone was taken by one that is alone and has one liberty, the other
+/// colour may not play where the taken one stood. The string of p is searched only where one stone was taken.
+fn ban_of<V: View>(board: &mut V, c: Colour, p: Point, taken: &PointSet) -> Option<(Point, Colour)>
+    requires { p < V.rows board.old * V.rows board.old }
+    ensures looks { Looks V.cells V.asks board.old board.new anywhere }
+    ensures over { (pos : BoardState) → V.agrees board.new pos → (put : List Cell) → taken.now ≡ taken_at (V.rows board.old) put c
+        → result ≡ ban_after (V.rows board.old) put (V.cells board.old pos) c p }
+    ensures near { (pos : BoardState) → V.agrees board.new pos
+        → V.asks board.old board.new (neighbourhood_of (V.rows board.old) (V.cells board.old pos) (alone p)) }
+{
+    if taken.count() != 1 {
+        return None;
+    }
+    let own = flood(board, p);
+    if !are_one(own.stones.count(), own.liberties.count()) {
         return None;
     }
     match taken.first_from(0) {
@@ -87,10 +118,10 @@ fn ban_of(taken: &PointSet, own: &Found, c: Colour) -> Option<(Point, Colour)>
     }
 }
 
-fn are_one(a: u16, b: u16, c: u16) -> bool
-    ensures { result ≡ ((a == 1) && (b == 1) && (c == 1)) }
+fn are_one(a: u16, b: u16) -> bool
+    ensures { result ≡ ((a == 1) && (b == 1)) }
 {
-    a == 1 && b == 1 && c == 1
+    a == 1 && b == 1
 }
 
 /// What a play took, and the ban that it leaves.
@@ -121,12 +152,11 @@ pub fn play_on<V: View>(board: &mut V, c: Colour, p: Point) -> Result<Played, Il
     board.put(p, c.cell());
     let taken = captured(board, c, p);
     put_all(board, &taken, Cell::Empty);
-    let own = flood(board, p);
-    if own.liberties.count() == 0 {
+    if is_suicide(board, p, &taken) {
         board.put(p, Cell::Empty);
         return Err(Illegal::Suicide);
     }
-    let ban = ban_of(&taken, &own, c);
+    let ban = ban_of(board, c, p, &taken);
     Ok(Played { taken, ban })
 }
 

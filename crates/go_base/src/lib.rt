@@ -20,6 +20,7 @@ pub mod surroundings;
 mod trail;
 pub mod transform;
 pub mod view;
+pub mod without_liberty;
 
 pub use bytes::{Bytes, NoMemory};
 pub use facts::Facts;

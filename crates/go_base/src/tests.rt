@@ -70,7 +70,7 @@ fn the_transformations_are_the_table(rt: HostRuntime) -> Result<(), Fail> {
 #[test]
 fn captures_take_whole_strings_and_leave_no_ban(rt: HostRuntime) -> Result<(), Fail> {
     // A stone that takes one stone and has more than one liberty leaves no ban; nor does one that takes two.
-    let rows: [(&str, u8, &[Play], &str); 5] = [
+    let rows: [(&str, u8, &[Play], &str); 6] = [
         (
             "a stone in the corner",
             3,
@@ -116,6 +116,19 @@ fn captures_take_whole_strings_and_leave_no_ban(rt: HostRuntime) -> Result<(), F
                 (White, 0, 0),
             ],
             "O.O.O.O..",
+        ),
+        (
+            "a string that the stone touches on two sides",
+            3,
+            &[
+                (White, 0, 0),
+                (White, 0, 1),
+                (White, 1, 0),
+                (Black, 0, 2),
+                (Black, 2, 0),
+                (Black, 1, 1),
+            ],
+            "..X.X.X..",
         ),
         (
             "on the smallest board",

@@ -1,35 +1,53 @@
-use Rattle.std.proofs.Common.{◌≡◌, ℕ, ◌&&◌, List, eqb, ap, ◌∙◌, Some}
+use Rattle.std.proofs.Common.{◌≡◌, ◌&&◌, false, eqb, refl, sym, ap, ◌∙◌, Some}
+use Rattle.std.proofs.lemmas.Bool.{eq-eqb, ne_eqb}
 use Rattle.std.specs.FinSet as set
-use Rattle.go_rules.specs.declared.Cell.{Cell}
 use Rattle.go_rules.specs.declared.Colour.{Colour}
-use Rattle.go_rules.specs.Strings.{string_at, liberty_points, liberties}
+use Rattle.go_rules.specs.Strings.{string_at, liberties}
+use Rattle.go_rules.specs.Position.{BoardState}
 use Rattle.go_rules.proofs.Bans.{ban_none, ban_some, ban_empty}
 use Rattle.go_base.proofs.Liberties.{len-liberty_points}
+use Rattle.go_base.proofs.capture.ban_of.Given.{Over}
 use Rattle.go_base.proofs.capture.ban_of.Goals as goal
 use Rattle.go_base.proofs.capture.ban_of.Goals.{After-are_one}
 
--- the test by the counts is the test of the rules
-test_is : (c : After-are_one) (s p : ℕ) (after : List Cell) → c.args.own.now.stones ≡ string_at s after p → c.args.own.now.liberties ≡ liberty_points s after p
-    → c.are_one.result ≡ (eqb (set.len c.args.taken.now) 1 && eqb (set.len (string_at s after p)) 1 && eqb (liberties s after p) 1)
-test_is c s p after stones free =
+-- more than one stone was taken, or none
+pub returns-then-count-ne1-clause-over : goal.returns-then-count-ne1-clause-over
+returns-then-count-ne1-clause-over g c = λ pos a put taken.
+    let s = g.V.View.rows c.args.board.now in
+    let after = g.V.View.cells c.args.board.now pos in
+    let not_one = ne_eqb (set.len c.args.taken.now) 1 (λ e. c.if-count-ne1.true (c.count.ensures.value ∙ e)) in
+    ban_none s put after c.args.c c.args.p c.args.taken.now false taken
+    (sym (ap (λ b. b && eqb (set.len (string_at s after c.args.p)) 1 && eqb (liberties s after c.args.p) 1) not_one)) refl
+
+-- where one stone was taken, the test by the other counts is the test of the rules
+test_is : (g : Over) (c : After-are_one g) → c.count.result ≡ 1 → (pos : BoardState) → g.V.View.agrees c.flood-own.new.board pos
+    → c.are_one.result ≡ (eqb (set.len c.args.taken.now) 1 && eqb (set.len (string_at (g.V.View.rows c.args.board.now) (g.V.View.cells c.args.board.now pos) c.args.p)) 1 && eqb (liberties (g.V.View.rows c.args.board.now) (g.V.View.cells c.args.board.now pos) c.args.p) 1)
+test_is g c one pos a =
+    let s = g.V.View.rows c.args.board.now in
+    let after = g.V.View.cells c.args.board.now pos in
+    let stones = c.flood-own.ensures.stones pos a in
+    let free = c.flood-own.ensures.liberties pos a in
     c.are_one.ensures
-    ∙ ap (λ n. eqb n 1 && eqb c.count-2.result 1 && eqb c.count-3.result 1) c.count.ensures.value
-    ∙ ap (λ n. eqb (set.len c.args.taken.now) 1 && eqb n 1 && eqb c.count-3.result 1) (c.count-2.ensures.value ∙ ap set.len stones)
-    ∙ ap (λ n. eqb (set.len c.args.taken.now) 1 && eqb (set.len (string_at s after p)) 1 && eqb n 1) (c.count-3.ensures.value ∙ ap set.len free ∙ len-liberty_points s after p)
+    ∙ ap (λ n. eqb n 1 && eqb c.count-3.result 1) (c.count-2.ensures.value ∙ ap set.len stones)
+    ∙ ap (λ n. eqb (set.len (string_at s after c.args.p)) 1 && eqb n 1) (c.count-3.ensures.value ∙ ap set.len free ∙ len-liberty_points s after c.args.p)
+    ∙ sym (ap (λ b. b && eqb (set.len (string_at s after c.args.p)) 1 && eqb (liberties s after c.args.p) 1) (eq-eqb (set.len c.args.taken.now) 1 (sym c.count.ensures.value ∙ one)))
 
 -- no ko
-pub returns-then-not-are_one : goal.returns-then-not-are_one
-returns-then-not-are_one c = λ s p put after taken stones free.
-    ban_none s put after c.args.c p c.args.taken.now c.are_one.result taken (test_is (goal.at.returns-then-not-are_one c).After-are_one s p after stones free) c.if-not-are_one.true
+pub returns-then-not-are_one-clause-over : goal.returns-then-not-are_one-clause-over
+returns-then-not-are_one-clause-over g c = λ pos a put taken.
+    let test = test_is g (goal.at.returns-then-not-are_one-clause-over g c).After-are_one c.if-count-ne1.false pos a in
+    ban_none (g.V.View.rows c.args.board.now) put (g.V.View.cells c.args.board.now pos) c.args.c c.args.p c.args.taken.now c.are_one.result taken test c.if-not-are_one.true
 
 -- the one stone that was taken
-pub returns-in-Some : goal.returns-in-Some
-returns-in-Some c = λ s p put after taken stones free.
+pub returns-in-Some-clause-over : goal.returns-in-Some-clause-over
+returns-in-Some-clause-over g c = λ pos a put taken.
+    let test = test_is g (goal.at.returns-in-Some-clause-over g c).After-are_one c.if-count-ne1.false pos a in
     let first = c.in-Some.ensures.some in
     ap (λ (k : Colour). Some (c.in-Some.q, k)) c.other.ensures
-    ∙ ban_some s put after c.args.c p c.in-Some.q c.args.taken.now c.are_one.result taken (test_is (goal.at.returns-in-Some c).After-are_one s p after stones free) c.if-not-are_one.false first.2 first.3
+    ∙ ban_some (g.V.View.rows c.args.board.now) put (g.V.View.cells c.args.board.now pos) c.args.c c.args.p c.in-Some.q c.args.taken.now c.are_one.result taken test c.if-not-are_one.false first.2 first.3
 
 -- one stone was taken, so this does not come
-pub returns-in-None : goal.returns-in-None
-returns-in-None c = λ s p put after taken stones free.
-    ban_empty s put after c.args.c p c.args.taken.now c.are_one.result taken (test_is (goal.at.returns-in-None c).After-are_one s p after stones free) c.if-not-are_one.false c.in-None.ensures.none
+pub returns-in-None-clause-over : goal.returns-in-None-clause-over
+returns-in-None-clause-over g c = λ pos a put taken.
+    let test = test_is g (goal.at.returns-in-None-clause-over g c).After-are_one c.if-count-ne1.false pos a in
+    ban_empty (g.V.View.rows c.args.board.now) put (g.V.View.cells c.args.board.now pos) c.args.c c.args.p c.args.taken.now c.are_one.result taken test c.if-not-are_one.false c.in-None.ensures.none

@@ -21,8 +21,10 @@ loop-side-init g c = record {
 
 -- a side of the point is on the board
 pub take-requires : goal.take-requires
-take-requires g c =
-    subst (λ n. c.in-Some.q < n * n) (c.size-size.ensures ∙ sym (g.met.V.View.asks_rows _ _ _ c.loop-side.invariant.looks.asked)) c.in-Some.ensures.near.0
+take-requires g c = record {
+  on_board = subst (λ n. c.in-Some.q < n * n) (c.size-size.ensures ∙ sym (g.met.V.View.asks_rows _ _ _ c.loop-side.invariant.looks.asked)) c.in-Some.ensures.near.0;
+  small = c.in-Some.ensures.near.1;
+}
 
 -- the next side's string came where it is taken
 pub loop-side-preserved : goal.loop-side-preserved
@@ -54,7 +56,7 @@ loop-side-preserved g c =
                 let a0 = g.met.V.View.asks_agrees _ _ _ w.take.ensures.looks.asked pos a1 in
                 let cells = g.V.View.cells c.args.board.now pos in
                 let came = rw (rows, i.looks.same pos) at (w.take.ensures.over pos a1) in
-                rw w.taken-is (Takes-next s cells c.args.c c.args.p side w.in-Some.q c.loop-side.taken _ (i.over pos a0) on.0 at came);
+                rw w.taken-is (Takes-next s cells c.args.c c.args.p side w.in-Some.q c.loop-side.taken _ (i.over pos a0) on.0 at (came (i.over pos a0).whole));
           }
       | in_default w ↦ record {
         looks = rw w.board-is i.looks;

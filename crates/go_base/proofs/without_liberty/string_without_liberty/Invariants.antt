@@ -1,0 +1,23 @@
+use Rattle.std.proofs.Common.{◌≡◌, ℕ, ◌-◌, ◌*◌, ◌<◌, true}
+use Rattle.go_rules.specs.Board.{largest_points}
+use Rattle.go_rules.specs.Position.{BoardState}
+use Rattle.go_rules.specs.Neighbourhood.{neighbourhood_of}
+use Rattle.go_base.specs.Trails.{has_point}
+use Rattle.go_base.specs.Views.{Looks, anywhere, alone}
+use Rattle.go_base.proofs.WithoutLiberty.{Surrounds}
+use Rattle.go_base.proofs.without_liberty.string_without_liberty.Given as goal
+
+-- the stones of the trail so far have their neighbours on it, and no empty neighbour
+abbrev pub invariant-loop-next : goal.invariant-loop-next
+invariant-loop-next g l = record {
+  looks : Looks g.V.View.cells g.V.View.asks l.fn.board l.board anywhere;
+  more : Looks g.V.View.cells g.V.View.asks l.initial.board l.board anywhere;
+  over : (pos : BoardState) → g.V.View.agrees l.board pos → Surrounds (g.V.View.rows l.fn.board) (g.V.View.cells l.fn.board pos) l.p l.next l.trail;
+  near : (pos : BoardState) → g.V.View.agrees l.board pos
+      → g.V.View.asks l.fn.board l.board (neighbourhood_of (g.V.View.rows l.fn.board) (g.V.View.cells l.fn.board pos) (alone l.p));
+  stones_on_board : (r : ℕ) → has_point l.trail r ≡ true → r < g.V.View.rows l.fn.board * g.V.View.rows l.fn.board;
+}
+
+-- how many points may still come
+abbrev pub decreases-loop-next : goal.decreases-loop-next
+decreases-loop-next g l = largest_points - l.next
