@@ -30,7 +30,8 @@ use go_base::{Cell, Colour, Look};
 use std::marker::Model;
 
 /// A position with trial moves that can be taken back, GNU Go's `trymove` and `popgo`. It holds its view of the position, and
-/// asks it for a point only when a string or a play needs it; everything is kept in place and nothing takes memory.
+/// asks it for a point only when a string or a play needs it. A move is kept by what it took, so that taking it back puts the
+/// captured stones again; everything is kept in place, in some 15 KB, and nothing takes memory.
 pub struct Trial<L: Look> {
     /// The view, and what the standing moves changed over it.
     board: Overlay<L>,
@@ -211,7 +212,7 @@ impl<L: Look> Trial<L> {
         self.ban = None;
     }
 
-    /// Takes the last trial move back, with its captures and its ban; false exactly where no trial move is left.
+    /// Takes the last trial move back, with its captures and its ban; false exactly where no trial move is left. It looks at no point.
     pub fn back(&mut self) -> bool
         ensures some { result ≡ is_some_move self.old.moves }
         ensures moves { self.new ≡ record self.old { moves = tail self.old.moves } }
