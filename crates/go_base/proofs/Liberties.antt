@@ -1,6 +1,6 @@
 -- Liberties, counted point by point.
-use Rattle.std.proofs.Common.{◌≡◌, ℕ, suc, ◌+◌, ◌*◌, ◌<◌, ◌≤◌, ◌||◌, ◌&&◌, Bool, true, false, eqb, Some, List, refl, sym, ap, arith, inl, inr, ◌∙◌, ◌/◌, ◌%◌, add-one}
-use Rattle.std.proofs.lemmas.Bool.{cases_Bool, cases_eq, eq-eqb, ne_eqb, both_ways, and_parts, and_from, lt-ltb}
+use Rattle.std.proofs.Common.{◌≡◌, ℕ, suc, ◌+◌, ◌*◌, ◌<◌, ◌||◌, ◌&&◌, Bool, true, false, eqb, List, refl, sym, ap, arith, inl, inr, ◌∙◌, ◌/◌, ◌%◌, add-one}
+use Rattle.std.proofs.lemmas.Bool.{cases_eq, eq-eqb, ne_eqb, lt-ltb}
 use Rattle.std.specs.FinSet as sets
 use Rattle.std.specs.Ordering.{nat_cmp}
 use Rattle.go_rules.specs.declared.Cell.{Cell}
@@ -8,10 +8,8 @@ use Rattle.go_rules.specs.declared.Cell.TheVariants.{Empty}
 use Rattle.go_rules.specs.Board.{are_neighbours, are_one_apart}
 use Rattle.go_rules.specs.Below.{any_below, count_below}
 use Rattle.go_rules.specs.Strings.{cell_at, same_cell, is_in_string, string_at, is_liberty, liberty_points, liberties}
-use Rattle.go_rules.proofs.Counts.{any_below_gives, any_below_from, any_below_same}
+use Rattle.go_rules.proofs.Counts.{any_below_same}
 use Rattle.go_rules.proofs.Sets.{contains-set_below, len-set_below}
-use Rattle.go_base.specs.Sides.{neighbour_at}
-use Rattle.go_base.proofs.Beside.{neighbour_at-all, neighbour_at-near}
 
 eqb_comm : (a b : ℕ) → eqb a b ≡ eqb b a
 eqb_comm a b = elim (cases_eq a b) [
@@ -31,24 +29,6 @@ one_apart_comm a b = or_comm (eqb a (b + 1)) (eqb b (a + 1))
 pub are_neighbours_comm : (s p q : ℕ) → are_neighbours s p q ≡ are_neighbours s q p
 unfolding are_neighbours
 are_neighbours_comm s p q = rw (eqb_comm (p / s) (q / s), one_apart_comm (p % s) (q % s), eqb_comm (p % s) (q % s), one_apart_comm (p / s) (q / s)) refl
-
-pub beside_found : (s p q : ℕ) (found : sets.FinSet nat_cmp) (side : ℕ) → p < s * s → neighbour_at s p side ≡ Some q → sets.contains found q ≡ true
-    → any_below (s * s) (λ r. sets.contains found r && are_neighbours s r p) ≡ true
-beside_found s p q found side on e has =
-    let near = neighbour_at-near s p side q on e in
-    any_below_from (s * s) _ q near.0 (and_from _ _ has (are_neighbours_comm s q p ∙ near.1))
-
-pub beside_none : (s p n : ℕ) (found : sets.FinSet nat_cmp) → p < s * s → 4 ≤ n → ((k : ℕ) → k < n → (q : ℕ) → neighbour_at s p k ≡ Some q → sets.contains found q ≡ false)
-    → any_below (s * s) (λ r. sets.contains found r && are_neighbours s r p) ≡ false
-beside_none s p n found on four none =
-    elim (cases_Bool (any_below (s * s) (λ r. sets.contains found r && are_neighbours s r p))) [
-      | inl t ↦
-          let it = any_below_gives (s * s) _ t in
-          let both = and_parts _ _ it.2 in
-          let side = neighbour_at-all s p it.0 on it.1 (are_neighbours_comm s p it.0 ∙ both.1) in
-          absurd (both_ways _ (none side.0 (omega (arith, side.1, four)) it.0 side.2) both.0)
-      | inr f ↦ f
-    ]
 
 -- a liberty by the string's set
 pub is_liberty_by : (s : ℕ) (cells : List Cell) (p l : ℕ) (found : sets.FinSet nat_cmp) → found ≡ string_at s cells p → l < s * s

@@ -1,10 +1,9 @@
 //! Strings, their liberties and the enemy stones next to them, found by one flood over a board whose cells are told one by one.
 
-ghost use Rattle.std.specs.Prelude.{◌≡◌, ◌≢◌, ◌⊎◌, ℕ, ◌*◌, ◌<◌, ◌&&◌, length, Bool, IsTrue, true, false};
+ghost use Rattle.std.specs.Prelude.{◌≡◌, ◌≢◌, ◌⊎◌, ℕ, ◌*◌, ◌<◌, IsTrue, true};
 ghost use Rattle.std.specs.FinSet as set;
 ghost use Rattle.go_rules.specs.declared.Cell.{Cell};
-ghost use Rattle.go_rules.specs.Below.{any_below};
-ghost use Rattle.go_rules.specs.Board.{largest_points, are_neighbours};
+ghost use Rattle.go_rules.specs.Board.{largest_points};
 ghost use Rattle.go_rules.specs.Strings.{cell_at, string_at, liberty_points};
 ghost use Rattle.go_rules.specs.Neighbourhood.{neighbourhood_of};
 ghost use Rattle.go_rules.specs.Position.{BoardState};
@@ -14,7 +13,7 @@ ghost use Rattle.go_base.specs.Views.{Looks, anywhere, around, alone};
 
 use crate::points::PointSet;
 use crate::sides::neighbour;
-use crate::size::{Point, Size};
+use crate::size::Point;
 use crate::trail::Trail;
 use crate::view::View;
 use go_rules::Cell;
@@ -159,19 +158,4 @@ pub fn liberties_of<V: View>(board: &mut V, p: Point) -> PointSet
         enemies: _,
     } = flood(board, p);
     liberties
-}
-
-/// Whether p is a neighbour of a point of the set.
-pub fn touches(size: Size, found: &PointSet, p: Point) -> bool
-    requires { p < size * size }
-    ensures { result ≡ any_below (size * size) (λ q. set.contains found.now q && are_neighbours size q p) }
-{
-    for side in 0..4 {
-        if let Some(q) = neighbour(size, p, side) {
-            if found.has(q) {
-                return true;
-            }
-        }
-    }
-    false
 }
