@@ -15,7 +15,7 @@ mod raw;
 pub use lines::{Lines, Taken};
 pub use raw::Raw;
 
-// Lines that are taken piece by piece are the lines of the stream, however the stream is cut.
+/// Lines that are taken piece by piece are the lines of the stream, however the stream is cut.
 pub fn pieces_give_the_lines_of_the_stream()
     ensures lines { (pieces : List (List ℕ)) → lines_in_turn (Line []) pieces ≡ lines_of (concat pieces) }
     ensures with_rest { (pieces : List (List ℕ)) →

@@ -49,10 +49,11 @@ abbrev pub IsWithoutWords : RawLine → Type 0
 IsWithoutWords TooLong = ⊥
 IsWithoutWords (Line text) = words_of (cleaned text) ≡ []
 
--- the byte with which a success begins, and that with which a refusal begins
+-- the byte with which a success begins
 abbrev pub equals_sign : ℕ
 equals_sign = 61
 
+-- the byte with which a refusal begins
 abbrev pub question_mark : ℕ
 question_mark = 63
 
