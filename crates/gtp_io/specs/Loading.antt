@@ -1,5 +1,5 @@
 -- What a loader promises of one call.
-use Rattle.std.specs.Prelude.{◌≡◌, ℕ, true, List, [], ◌∷◌, ◌++◌, Option, Some, None, Result, Ok, Err, if◌then◌else◌}
+use Rattle.std.specs.Prelude.{◌≡◌, ℕ, true, List, [], ◌∷◌, ◌++◌, Option, Some, None, Result, Ok, Err, if◌then◌else◌, codes}
 use Rattle.std.specs.Str.{bytes_eq}
 use Rattle.gtp_io.specs.declared.errors.LoadError.{LoadError}
 use Rattle.gtp_io.specs.declared.errors.LoadError.TheVariants.{Failed, NoMemory}
@@ -19,3 +19,8 @@ missed_after missed name (Err NoMemory) = missed
 abbrev pub named : List (List ℕ) → List (List ℕ) → List ℕ → Option (List ℕ)
 named (known ∷ names) (text ∷ contents) name = if bytes_eq known name then Some text else named names contents name
 named _ _ name = None
+
+-- what is printed of a load that has no contents
+abbrev pub load_error_text : LoadError → List ℕ
+load_error_text Failed = codes "failed"
+load_error_text NoMemory = codes "out of memory"

@@ -1,6 +1,7 @@
 //! What the calls of this crate answer where they fail.
-ghost use Rattle.std.specs.Prelude.{◌≡◌};
+ghost use Rattle.std.specs.Prelude.{◌≡◌, Some, codes};
 ghost use Rattle.gtp_io.specs.declared.errors.LoadError.TheVariants as load;
+ghost use Rattle.gtp_io.specs.Loading.{load_error_text};
 
 use std::alloc::AllocError;
 use std::error::Error;
@@ -22,26 +23,32 @@ pub enum LoadError {
 }
 
 impl fmt::Display for Failed {
+    ghost output = { λ _. Some (codes "failed") };
+
     fn fmt<W: fmt::Write>(&self, f: &mut fmt::Formatter<W>) -> fmt::Result {
-        write!(f, "failed")
+        f.write_str("failed")
     }
 }
 
 impl Error for Failed {}
 
 impl fmt::Display for NoMemory {
+    ghost output = { λ _. Some (codes "out of memory") };
+
     fn fmt<W: fmt::Write>(&self, f: &mut fmt::Formatter<W>) -> fmt::Result {
-        write!(f, "out of memory")
+        f.write_str("out of memory")
     }
 }
 
 impl Error for NoMemory {}
 
 impl fmt::Display for LoadError {
+    ghost output = { λ e. Some (load_error_text e) };
+
     fn fmt<W: fmt::Write>(&self, f: &mut fmt::Formatter<W>) -> fmt::Result {
         match self {
-            LoadError::Failed => write!(f, "failed"),
-            LoadError::NoMemory => write!(f, "out of memory"),
+            LoadError::Failed => f.write_str("failed"),
+            LoadError::NoMemory => f.write_str("out of memory"),
         }
     }
 }

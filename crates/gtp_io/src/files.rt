@@ -1,5 +1,5 @@
 //! The files of the system. No contract tells what a file holds.
-ghost use Rattle.std.specs.Prelude.{None, map, string_bytes};
+ghost use Rattle.std.specs.Prelude.{◌≡◌, [], None, map, string_bytes};
 ghost use Rattle.std.specs.Io.{StartsWith};
 
 use crate::loader::place_for;
@@ -31,8 +31,10 @@ fn read_file<R: Files>(files: &R, name: &str, into: &mut Vec<u8>) -> io::Result<
 }
 
 impl<'a, R: Files> FileLoader<'a, R> {
-    /// A loader of the files that the handle gives.
-    pub fn new(alloc: Global, files: &'a R) -> FileLoader<'a, R> {
+    /// A loader of the files that the handle gives. No name was missed yet. It keeps the allocator and takes no memory.
+    pub fn new(alloc: Global, files: &'a R) -> FileLoader<'a, R>
+        ensures { result.missed.items ≡ [] }
+    {
         FileLoader {
             files,
             missed: Vec::new(alloc),
