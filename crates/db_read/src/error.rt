@@ -1,5 +1,8 @@
 //! Why a database text is not read.
 
+ghost use Rattle.std.specs.Prelude.{Some};
+ghost use Rattle.db_read.specs.Messages.{error_text};
+
 use std::fmt::{self, Display, Formatter, Write};
 
 /// Why a database text is not read: no memory was found, or the first fault of the text.
@@ -12,6 +15,8 @@ pub enum DbError {
 }
 
 impl Display for DbError {
+    ghost output = { λ e. Some (error_text e) };
+
     fn fmt<W: Write>(&self, f: &mut Formatter<W>) -> fmt::Result {
         match self {
             DbError::NoMemory => write!(f, "out of memory"),
