@@ -69,3 +69,19 @@ module _ {pos : BoardState} {old new : Flat} (c : Colour) (p : ℕ) (ban : Optio
     position = free_keeps pos c p (position_of (record { size = new.size; ban = ban; cells = new.cells })) h.position on (sym held_done);
     padded = subst (λ n. drop (n * n) new.cells ≡ padding n) (sym k.size) (k.rest ∙ h.padded);
   }
+
+-- the board as a position, where it holds one
+pub held_position : {pos : BoardState} {board : Flat} → Holds pos board → IsPosition (board_of board.size (take (board.size * board.size) board.cells))
+held_position {pos} {board} h =
+    subst IsPosition (sym (ap (λ n. board_of n (take (board.size * board.size) board.cells)) h.size ∙ ap (board_of pos.size) h.cells))
+    (record { size_at_least = h.position.size_at_least; size_at_most = h.position.size_at_most; cells = h.position.cells; alive = h.position.alive; ban = tt })
+
+-- a board whose cells came back holds the position still
+pub holds_again : {pos : BoardState} {old new : Flat} → Holds pos old → KeepsRest old new → take (new.size * new.size) new.cells ≡ take (old.size * old.size) old.cells → Holds pos new
+holds_again {pos} {old} {new} h k back = record {
+  position = h.position;
+  size = k.size ∙ h.size;
+  cells = back ∙ h.cells;
+  whole = whole_after old new k h.whole;
+  padded = subst (λ n. drop (n * n) new.cells ≡ padding n) (sym k.size) (k.rest ∙ h.padded);
+}

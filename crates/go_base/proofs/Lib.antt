@@ -19,3 +19,4 @@ pub mod PlayNear
 pub mod Seeing
 pub mod Standing
 pub mod LastLiberties
+pub mod Allowed

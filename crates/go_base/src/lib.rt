@@ -11,6 +11,7 @@ pub mod bytes;
 pub mod capture;
 pub mod facts;
 pub mod flood;
+mod legal;
 pub mod look;
 pub mod points;
 pub mod position;

@@ -93,7 +93,7 @@ impl Position {
     }
 
     /// A copy of the board.
-    fn board(&self) -> Flat
+    pub(crate) fn board(&self) -> Flat
         ensures { Holds self.now result }
     {
         let _ = self.size.get();

@@ -314,3 +314,37 @@ fn bytes_and_sets_grow(rt: HostRuntime) -> Result<(), Fail> {
     assert_eq!(rt; points.first_from(65), Some(360));
     Ok(())
 }
+
+#[test]
+fn legal_points_are_those_that_can_be_played(rt: HostRuntime) -> Result<(), Fail> {
+    // . X O .        Black has just taken a white stone at the second point of the second row, so white may not play there, and
+    // X . X O        in the upper left corner white's stone would have no liberty. In the upper right one black's stone would
+    // . X O .        have none either, but it takes one.
+    let plays: [Play; 8] = [
+        (Black, 0, 1),
+        (White, 0, 2),
+        (Black, 1, 0),
+        (White, 1, 3),
+        (Black, 2, 1),
+        (White, 2, 2),
+        (White, 1, 1),
+        (Black, 1, 2),
+    ];
+    let position = after(4, &plays).ok_or("each play is legal")?;
+    let size = position.size();
+    for c in [Black, White] {
+        let legal = position.legal_points(c);
+        for p in 0..size.points() {
+            assert_eq!(rt; legal.has(p), position.play(c, p).is_ok(), "{c:?} at {p}");
+        }
+    }
+    assert_eq!(rt; position.legal_points(Black).count(), 9);
+    assert_eq!(rt; position.legal_points(White).count(), 7);
+    let smallest = Position::new(Size::new(2).ok_or("the size is one of a board")?);
+    assert_eq!(rt;
+        smallest.legal_points(White).count(),
+        4,
+        "each point of an empty board"
+    );
+    Ok(())
+}

@@ -1,5 +1,5 @@
 -- Plays and passes as functions that compute: a stone is put, what it captures is taken, suicide is judged, a ban is left.
-use Rattle.std.specs.Prelude.{ℕ, ◌*◌, ◌==◌, ◌&&◌, Bool, List, map, slice_set, Option, None, Result, Ok, Err, if◌then◌else◌, option_map}
+use Rattle.std.specs.Prelude.{ℕ, ◌*◌, ◌==◌, ◌&&◌, Bool, List, map, slice_set, Option, None, Result, Ok, Err, is_ok, if◌then◌else◌, option_map}
 use Rattle.std.specs.List.{range_with_len}
 use Rattle.std.specs.Ordering.{nat_cmp}
 use Rattle.std.specs.FinSet as set
@@ -47,6 +47,14 @@ play pos c p =
     if is_stone (cell_at pos.cells p) then Err Occupied
     else if is_banned pos.ban c p then Err Ko
     else play_free pos c p
+
+-- the rules allow c to play at p
+abbrev pub is_legal : BoardState → Colour → ℕ → Bool
+is_legal pos c p = is_ok (play pos c p)
+
+-- the points where the rules allow c to play
+unfoldable pub legal_points : BoardState → Colour → set.FinSet nat_cmp
+legal_points pos c = set_below (pos.size * pos.size) (is_legal pos c)
 
 -- the position with its ban dropped
 abbrev pub pass : BoardState → BoardState

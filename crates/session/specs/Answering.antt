@@ -23,7 +23,7 @@ use Rattle.session.specs.BoardText.{board_text}
 use Rattle.session.specs.MatchTexts.{matches_text}
 use Rattle.session.specs.PatternTexts.{patterns_text}
 use Rattle.session.specs.Readings.{answer_text, reading_of}
-use Rattle.session.specs.PointLists.{legal_points, liberty_list, vertices_text}
+use Rattle.session.specs.PointLists.{legal_list, liberty_list, vertices_text}
 
 -- no reply
 abbrev pub passed_over : Machine → Step Machine
@@ -95,7 +95,7 @@ command_step old id (command.Play c at) = played old id (record { colour = c; at
 command_step old id command.Undo = taken_back old id old.moves
 command_step old id command.ShowBoard = done_growing old id (board_text (position_of old))
 command_step old id (command.IsLegal c at) = done old id (digit_of (is_ok (moved (position_of old) (record { colour = c; at = at }))))
-command_step old id (command.AllLegal c) = done_growing old id (vertices_text old.size (legal_points (position_of old) c))
+command_step old id (command.AllLegal c) = done_growing old id (vertices_text old.size (legal_list (position_of old) c))
 command_step old id (command.CountLib p) =
     told_of_stone old id p (done old id (decimal (liberties (position_of old).size (position_of old).cells p)))
 command_step old id (command.FindLib p) =

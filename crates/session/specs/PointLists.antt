@@ -1,28 +1,26 @@
 -- Lists of points in reading order, and their text.
-use Rattle.std.specs.Prelude.{ℕ, ◌*◌, Bool, List, [], ◌∷◌, map, filter, is_ok}
+use Rattle.std.specs.Prelude.{ℕ, ◌*◌, List, [], ◌∷◌, map, filter}
 use Rattle.std.specs.List.{join_with_byte, range_with_len}
+use Rattle.std.specs.Ordering.{nat_cmp}
+use Rattle.std.specs.FinSet as set
 use Rattle.go_rules.specs.declared.Colour.{Colour}
-use Rattle.go_rules.specs.Strings.{is_liberty}
+use Rattle.go_rules.specs.Strings.{liberty_points}
 use Rattle.go_rules.specs.Position.{BoardState}
-use Rattle.go_rules.specs.Play.{play}
+use Rattle.go_rules.specs.Play.{legal_points}
 use Rattle.gtp_cmd.specs.Words.{blank}
 use Rattle.gtp_cmd.specs.Vertices.{vertex_text}
 
--- the points of a board of size s, in reading order
-abbrev pub points_of : ℕ → List ℕ
-points_of s = range_with_len 0 (s * s)
+-- the members of a set of points of a board of size s, in reading order
+abbrev pub in_reading_order : ℕ → set.FinSet nat_cmp → List ℕ
+in_reading_order s points = filter (set.contains points) (range_with_len 0 (s * s))
 
--- the rules allow c to play at p
-abbrev pub is_legal : BoardState → Colour → ℕ → Bool
-is_legal pos c p = is_ok (play pos c p)
+-- the points where c may play, in reading order
+abbrev pub legal_list : BoardState → Colour → List ℕ
+legal_list pos c = in_reading_order pos.size (legal_points pos c)
 
--- the points where c may play
-abbrev pub legal_points : BoardState → Colour → List ℕ
-legal_points pos c = filter (is_legal pos c) (points_of pos.size)
-
--- the liberties of the string of p
+-- the liberties of the string of p, in reading order
 abbrev pub liberty_list : BoardState → ℕ → List ℕ
-liberty_list pos p = filter (is_liberty pos.size pos.cells p) (points_of pos.size)
+liberty_list pos p = in_reading_order pos.size (liberty_points pos.size pos.cells p)
 
 -- the vertices of points of a board of size s, parted by blanks
 abbrev pub vertices_text : ℕ → List ℕ → List ℕ

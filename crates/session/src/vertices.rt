@@ -1,9 +1,9 @@
 //! Points as vertices, in a growing text.
 ghost use Rattle.std.specs.Prelude.{◌≡◌, ◌-◌, ◌*◌, ◌<◌, ◌++◌, ◌∷◌, [], OnOk, IfOk, decimal, slice_index};
 ghost use Rattle.gtp_cmd.specs.Vertices.{vertex_text, column_letters};
-ghost use Rattle.session.specs.PointLists.{legal_points, liberty_list, vertices_text, blank_after};
+ghost use Rattle.session.specs.PointLists.{in_reading_order, legal_list, liberty_list, vertices_text, blank_after};
 
-use go_base::{Bytes, Colour, NoMemory, Point, Position, Size};
+use go_base::{Bytes, Colour, NoMemory, Point, PointSet, Position, Size};
 use itoa::Buffer;
 use std::alloc::Global;
 
@@ -55,18 +55,24 @@ fn push_next(out: &mut Bytes, size: Size, p: Point) -> Result<(), NoMemory>
     push_vertex(out, size, p)
 }
 
-/// The points where a colour may play, as vertices in reading order.
-pub(crate) fn legal_text(alloc: Global, position: &Position, c: Colour) -> Result<Bytes, NoMemory>
-    ensures { IfOk result (λ text. text ≡ vertices_text position.now.size (legal_points position.now c)) }
+/// The points of a set as vertices in reading order.
+fn points_text(alloc: Global, size: Size, points: &PointSet) -> Result<Bytes, NoMemory>
+    ensures { IfOk result (λ text. text ≡ vertices_text size (in_reading_order size points.now)) }
 {
-    let size = position.size();
     let mut text = Bytes::new(alloc);
     for p in 0..size.points() {
-        if position.play(c, p).is_ok() {
+        if points.has(p) {
             push_next(&mut text, size, p)?;
         }
     }
     Ok(text)
+}
+
+/// The points where a colour may play, as vertices in reading order.
+pub(crate) fn legal_text(alloc: Global, position: &Position, c: Colour) -> Result<Bytes, NoMemory>
+    ensures { IfOk result (λ text. text ≡ vertices_text position.now.size (legal_list position.now c)) }
+{
+    points_text(alloc, position.size(), &position.legal_points(c))
 }
 
 /// The liberties of the string of p, as vertices in reading order.
@@ -78,13 +84,5 @@ pub(crate) fn liberties_text(
     requires { p < position.now.size * position.now.size }
     ensures { IfOk result (λ text. text ≡ vertices_text position.now.size (liberty_list position.now p)) }
 {
-    let size = position.size();
-    let liberties = position.liberty_points(p);
-    let mut text = Bytes::new(alloc);
-    for q in 0..size.points() {
-        if liberties.has(q) {
-            push_next(&mut text, size, q)?;
-        }
-    }
-    Ok(text)
+    points_text(alloc, position.size(), &position.liberty_points(p))
 }

@@ -1,0 +1,18 @@
+-- One point more: it was put where it is a member.
+use Rattle.std.proofs.Common.{ap, ◌∙◌, sym}
+use Rattle.std.specs.FinSet as set
+use Rattle.session.proofs.Texts.{vertices-passes, vertices-fails}
+use Rattle.session.proofs.vertices.points_text.Goals as goal
+use Rattle.session.proofs.vertices.points_text.Goals.{then-has+in_ok-push_next, else-has}
+
+pub loop-p-preserved : goal.loop-p-preserved
+loop-p-preserved c =
+    let member = set.contains c.args.points.now in
+    elim c.if-has.branch [
+      | then-has+in_ok-push_next w ↦
+          vertices-passes c.args.size c.loop-p.p member c.loop-p.text c.loop-p.invariant c.if-has.text
+          (sym c.has.ensures ∙ w.if-has.true) (w.text-is ∙ w.in_ok-push_next.ensures)
+      | else-has w ↦
+          vertices-fails c.args.size c.loop-p.p member c.loop-p.text c.loop-p.invariant c.if-has.text
+          (sym c.has.ensures ∙ w.if-has.false) w.text-is
+    ]
