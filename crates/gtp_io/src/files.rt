@@ -6,20 +6,29 @@ use crate::loader::place_for;
 use crate::{LoadError, Loader};
 use std::alloc::Global;
 use std::io::Read;
+use std::marker::Model;
 use std::rt::Files;
 use std::{fs, io};
 
 /// The most bytes that a file may have.
 const LONGEST_FILE: usize = 268_435_456;
 
-/// Loads files by their paths. A file that cannot be read fails, and so does one of more than 268,435,456 bytes.
+/// Loads files by their paths; seen as the names of those that failed. A file that cannot be read fails, and so does one of more than 268,435,456 bytes.
 #[derive(Drop)]
 pub struct FileLoader<'a, R> {
     files: &'a R,
     missed: Vec<String>,
 }
 
-// Reads a file behind the bytes, at most one byte more than a file may have, and says whether it was read whole.
+impl<'a, R> Model for FileLoader<'a, R> {
+    ghost use Rattle.std.specs.Prelude.{List, ℕ, map, string_bytes};
+
+    ghost Value = { List (List ℕ) };
+
+    ghost view = { λ f. map string_bytes f.missed.items };
+}
+
+/// Reads a file behind the bytes, at most one byte more than a file may have, and says whether it was read whole.
 fn read_file<R: Files>(files: &R, name: &str, into: &mut Vec<u8>) -> io::Result<bool>
     ensures { StartsWith into.new.items into.old.items }
 {
@@ -33,7 +42,7 @@ fn read_file<R: Files>(files: &R, name: &str, into: &mut Vec<u8>) -> io::Result<
 impl<'a, R: Files> FileLoader<'a, R> {
     /// A loader of the files that the handle gives. No name was missed yet. It keeps the allocator and takes no memory.
     pub fn new(alloc: Global, files: &'a R) -> FileLoader<'a, R>
-        ensures { result.missed.items ≡ [] }
+        ensures { result ≡ [] }
     {
         FileLoader {
             files,
@@ -45,7 +54,7 @@ impl<'a, R: Files> FileLoader<'a, R> {
 impl<'a, R: Files> Loader for FileLoader<'a, R> {
     ghost contents = { λ _ _. None };
 
-    ghost missed = { λ f. map string_bytes f.missed.items };
+    ghost missed = { λ f. f };
 
     fn load(&mut self, name: &str, mut into: Vec<u8>) -> Result<Vec<u8>, LoadError> {
         let place = place_for(&mut self.missed, name)?;
