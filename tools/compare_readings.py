@@ -1,7 +1,7 @@
 """Asks gopat the `attack` and `defend` questions of GNU Go's own regression suite, in the positions of its game records, and
 says how long that takes and how often both programs say that it can or cannot be done.
 
-usage: python3 tools/compare_readings.py GOPAT GNUGO REGRESSION PLIES WIDE [FILE.gtp]
+usage: python3 tools/compare_readings.py GOPAT GNUGO REGRESSION PLIES WIDE [FILE]
 
 REGRESSION is the folder with *.tst in GNU Go's source. With a file's name, gopat's lines are left there too.
 """
@@ -9,7 +9,7 @@ REGRESSION is the folder with *.tst in GNU Go's source. With a file's name, gopa
 import pathlib
 import re
 import sys
-from typing import NamedTuple
+from typing import Iterator, NamedTuple
 
 import gtp
 
@@ -24,7 +24,7 @@ class Asked(NamedTuple):
     theirs: gtp.Reply
 
 
-def suite(folder: pathlib.Path):
+def suite(folder: pathlib.Path) -> Iterator[tuple[str, str]]:
     """The lines that load a record, each with a question that follows it."""
     for path in sorted(folder.glob("*.tst")):
         load = None
@@ -36,17 +36,20 @@ def suite(folder: pathlib.Path):
                 yield load, question[1]
 
 
-def asked_of_gnugo(gnugo: str, folder: pathlib.Path, load: str, question: str) -> Asked | None:
-    """The position by GNU Go's reading of the record, and its answer; None where it has no such record."""
-    lines = [load, "query_boardsize", "list_stones black", "list_stones white", question]
-    (loaded, size, black, white, answer), _ = gtp.session([gnugo, "--mode", "gtp", "--quiet"], lines, str(folder))
-    return Asked(int(size.text), black.text.split(), white.text.split(), question, answer) if loaded.ok else None
+def asked_of_gnugo(gnugo: str, folder: pathlib.Path) -> Iterator[Asked]:
+    """The questions of the suite, with the position by GNU Go's reading of the record, and its answer."""
+    for load, question in suite(folder):
+        lines = [load, "query_boardsize", "list_stones black", "list_stones white", question]
+        replies, _ = gtp.session([gnugo, "--mode", "gtp", "--quiet"], lines, str(folder))
+        loaded, size, black, white, answer = replies
+        if loaded.ok:
+            yield Asked(int(size.text), black.text.split(), white.text.split(), question, answer)
 
 
-def lines_of(asked: Asked) -> list[str]:
-    """The lines that set the position up and ask the question, which comes last."""
-    plays = [f"play b {v}" for v in asked.black] + [f"play w {v}" for v in asked.white]
-    return [f"boardsize {asked.size}", *plays, asked.question]
+def set_up(asked: Asked) -> list[str]:
+    """The lines that give the position."""
+    plays = [f"play b {vertex}" for vertex in asked.black] + [f"play w {vertex}" for vertex in asked.white]
+    return [f"boardsize {asked.size}", *plays]
 
 
 def can(reply: gtp.Reply) -> bool:
@@ -55,23 +58,23 @@ def can(reply: gtp.Reply) -> bool:
 
 
 def main(gopat: str, gnugo: str, regression: str, plies: str, wide: str, kept: str | None = None):
-    folder = pathlib.Path(regression)
-    found = [asked_of_gnugo(gnugo, folder, load, question) for load, question in suite(folder)]
-    questions = [asked for asked in found if asked]
-    lines, places = [f"depths {plies} {wide}"], []
+    questions = list(asked_of_gnugo(gnugo, pathlib.Path(regression)))
+    lines, plain, places = [f"depths {plies} {wide}"], [], []
     for asked in questions:
-        lines += lines_of(asked)
+        plain += set_up(asked)
+        lines += set_up(asked) + [asked.question]
         places.append(len(lines) - 1)
     if kept:
         pathlib.Path(kept).write_text("\n".join(lines) + "\n", encoding="ascii")
-    plain = [line for place, line in enumerate(lines) if place not in set(places)]
+
     _, seconds_without = gtp.session([gopat], plain)
     replies, seconds = gtp.session([gopat], lines)
-    answered = [(replies[place], asked.theirs) for place, asked in zip(places, questions) if asked.theirs.ok]
-    alike = sum(can(ours) == can(theirs) for ours, theirs in answered if ours.ok)
-    refused = [(ours, theirs) for ours, theirs in zip((replies[p] for p in places), (q.theirs for q in questions)) if ours.ok != theirs.ok]
-    print(f"{len(questions)} questions, {len(answered)} of a stone, {len(refused)} refused by one program alone")
-    print(f"{seconds:.3f} s, and {seconds_without:.3f} s for the {len(plain)} lines without the questions")
+    answers = [(replies[place], asked.theirs) for place, asked in zip(places, questions)]
+    answered = [(ours, theirs) for ours, theirs in answers if ours.ok and theirs.ok]
+    alone = sum(ours.ok != theirs.ok for ours, theirs in answers)
+    alike = sum(can(ours) == can(theirs) for ours, theirs in answered)
+    print(f"{len(answers)} questions, {len(answered)} of them answered by both, {alone} refused by one alone")
+    print(f"{seconds:.3f} s; without the questions {seconds_without:.3f} s, for {len(plain)} lines")
     print(f"{alike} times both say the same of whether it can be done")
 
 

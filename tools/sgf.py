@@ -1,12 +1,16 @@
 """Game records in SGF: the board size, the komi and the stones of the main line, as moves of the Go Text Protocol."""
 
+import re
 from typing import Iterator, NamedTuple
 
 COLUMNS = "ABCDEFGHJKLMNOPQRSTUVWXYZ"
 
+TOKEN = re.compile(r"[()]|([A-Za-z]+)((?:\s*\[(?:\\.|[^\\\]])*\])+)", re.DOTALL)
+VALUE = re.compile(r"\[((?:\\.|[^\\\]])*)\]", re.DOTALL)
+
 
 class Move(NamedTuple):
-    """A stone or a pass. A stone that the record sets up is a move too: of a position, any order of plays gives it."""
+    """A stone or a pass. A stone that the record sets up is a move too: any order of plays gives the same position."""
 
     colour: str
     vertex: str
@@ -22,7 +26,7 @@ class Record(NamedTuple):
 
 
 class NotPlayable(Exception):
-    """The record has no main line of plays alone, as where it takes stones off the board."""
+    """The record's main line is no row of plays, as where it takes stones off the board."""
 
 
 def read(path: str) -> Record:
@@ -39,66 +43,28 @@ def read(path: str) -> Record:
         if name == "AE":
             raise NotPlayable(path)
         if name in ("AB", "AW"):
-            moves += [Move(name[1].lower(), vertex(v, size)) for v in listed(values)]
+            moves += [Move(name[1].lower(), vertex(point, size)) for point in listed(values)]
         elif name in ("B", "W"):
             moves.append(Move(name.lower(), vertex(values[0], size)))
     return Record(size, komi, moves)
 
 
 def main_line(text: str) -> Iterator[tuple[str, list[str]]]:
-    """The properties of the first variation, in order."""
-    for kind, name, values in tokens(text):
-        if kind == ")":
+    """The properties of the first variation, in order. In old records a name has small letters too, which do not count."""
+    for token in TOKEN.finditer(text):
+        if token[0] == ")":
             return
-        if kind == "property":
-            yield name, values
-
-
-def tokens(text: str) -> Iterator[tuple[str, str, list[str]]]:
-    """The parentheses and the properties of a record."""
-    at = 0
-    while at < len(text):
-        if text[at] in "()":
-            yield text[at], "", []
-            at += 1
-        elif text[at].isalpha():
-            start = at
-            while text[at].isalpha():
-                at += 1
-            name = "".join(letter for letter in text[start:at] if letter.isupper())
-            values, at = property_values(text, at)
-            yield "property", name, values
-        else:
-            at += 1
-
-
-def property_values(text: str, at: int) -> tuple[list[str], int]:
-    """The bracketed values from a place on, and the place behind them."""
-    values = []
-    while True:
-        while at < len(text) and text[at].isspace():
-            at += 1
-        if at == len(text) or text[at] != "[":
-            return values, at
-        at += 1
-        value = []
-        while at < len(text) and text[at] != "]":
-            at += text[at] == "\\"
-            value.append(text[at : at + 1])
-            at += 1
-        at += 1
-        values.append("".join(value))
+        if token[1]:
+            name = "".join(letter for letter in token[1] if letter.isupper())
+            yield name, [re.sub(r"\\(.)", r"\1", value) for value in VALUE.findall(token[2])]
 
 
 def listed(values: list[str]) -> Iterator[str]:
     """The points of a list, in which AA:BB is a rectangle."""
     for value in values:
-        if ":" not in value:
-            yield value
-            continue
-        first, last = value.split(":")
-        for column in range(ord(first[0]), ord(last[0]) + 1):
-            for row in range(ord(first[1]), ord(last[1]) + 1):
+        first, _, last = value.partition(":")
+        for column in range(ord(first[0]), ord((last or first)[0]) + 1):
+            for row in range(ord(first[1]), ord((last or first)[1]) + 1):
                 yield chr(column) + chr(row)
 
 
