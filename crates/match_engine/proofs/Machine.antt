@@ -25,7 +25,8 @@ use Rattle.dfa_match.specs.declared.Hit.{Hit}
 use Rattle.dfa_match.specs.Sights.{word_at}
 use Rattle.dfa_match.specs.Hits.{IsHit, AreHits}
 use Rattle.match_engine.specs.declared.found.Match.{Match}
-use Rattle.match_engine.specs.Match.{is_legal, lies_on_board, accepts_from, has_hit, place_of_anchor, is_machine_match, machine_matches}
+use Rattle.go_rules.specs.Play.{is_legal}
+use Rattle.match_engine.specs.Match.{lies_on_board, accepts_from, has_hit, place_of_anchor, is_machine_match, machine_matches}
 use Rattle.match_engine.specs.Found.{place_of_star, match_at, match_from}
 use Rattle.match_engine.proofs.Lists.{Contains-filter_map, Contains-filter_map_from}
 use Rattle.match_engine.proofs.Orders.{IsBy, by-has, by-from, by-in_order, same_matches}

@@ -5,7 +5,7 @@ use Rattle.std.proofs.lemmas.Int.{ints}
 use Rattle.std.proofs.lemmas.Option.{same_Some}
 use Rattle.go_rules.specs.declared.Colour.{Colour}
 use Rattle.go_rules.specs.declared.Illegal.{Illegal}
-use Rattle.go_rules.specs.Play.{play}
+use Rattle.go_rules.specs.Play.{play, is_legal}
 use Rattle.go_rules.specs.Position.{BoardState}
 use Rattle.go_rules.specs.Transform.{transformations}
 use Rattle.spiral.specs.Spiral.{place_at}
@@ -22,7 +22,7 @@ use Rattle.dfa_match.proofs.Bounds.{anchor_within}
 use Rattle.dfa_match.proofs.FitHits.{fit_from_hit, hit_from_fit}
 use Rattle.match_engine.specs.declared.found.Match.{Match}
 use Rattle.match_engine.specs.Fits.{place_of_cell, fits}
-use Rattle.match_engine.specs.Match.{is_legal, is_match, matches_of, IsMatch, AreMatches, has_hit, place_of_anchor, lies_on_board, is_machine_match, machine_matches}
+use Rattle.match_engine.specs.Match.{is_match, matches_of, IsMatch, AreMatches, has_hit, place_of_anchor, lies_on_board, is_machine_match, machine_matches}
 use Rattle.match_engine.proofs.Corners.{on_all}
 use Rattle.match_engine.proofs.InWords.{each_cell, all_cells, letter_from_cell, fits-true, fits-from}
 use Rattle.match_engine.proofs.Machine.{count_within, hit_of_accept, accept_of_hit, has_hit-true}

@@ -1,11 +1,11 @@
 -- The matches of patterns on a position, in order: by the pattern's number, the transformation, and the point of the move.
 -- A pattern asks for nothing here but its diagram and a legal move: constraints, classes and helpers are not evaluated.
-use Rattle.std.specs.Prelude.{◌≡◌, ℕ, ◌+◌, ◌*◌, ◌<◌, ◌&&◌, ◌==◌, ◌⊎◌, Bool, false, pos, List, map, filter, Option, Some, None, is_some, is_ok, Ok, slice_get, Contains}
+use Rattle.std.specs.Prelude.{◌≡◌, ℕ, ◌+◌, ◌*◌, ◌<◌, ◌&&◌, ◌==◌, ◌⊎◌, Bool, false, pos, List, map, filter, Option, Some, None, is_some, Ok, slice_get, Contains}
 use Rattle.std.specs.List.{list_all, list_any, flat_map, enumerate_from, range_with_len, AllPairs}
 use Rattle.go_rules.specs.declared.Colour.{Colour}
 use Rattle.go_rules.specs.Below.{any_below}
 use Rattle.go_rules.specs.Position.{BoardState}
-use Rattle.go_rules.specs.Play.{play}
+use Rattle.go_rules.specs.Play.{play, is_legal}
 use Rattle.spiral.specs.Spiral.{offset_count}
 use Rattle.pat_types.specs.declared.pattern.Pattern.{Pattern}
 use Rattle.pat_types.specs.Cells.{anchor_of}
@@ -14,10 +14,6 @@ use Rattle.dfa_core.specs.Automata.{Row, accepted}
 use Rattle.dfa_match.specs.Sights.{word_at}
 use Rattle.match_engine.specs.declared.found.Match.{Match}
 use Rattle.match_engine.specs.Fits.{place_of_cell, fits, Fits}
-
--- the friend's play at m is legal
-abbrev pub is_legal : BoardState → Colour → ℕ → Bool
-is_legal board friend m = is_ok (play board friend m)
 
 -- whether the pattern matches at m under t: it fits there, and the friend's play at m is legal
 abbrev pub is_match : Pattern → BoardState → Colour → ℕ → ℕ → Bool

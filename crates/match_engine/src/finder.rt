@@ -6,7 +6,8 @@ ghost use Rattle.dfa_core.specs.Automata.{accepted};
 ghost use Rattle.dfa_core.specs.States.{matched_from};
 ghost use Rattle.dfa_core.specs.Words.{Word};
 ghost use Rattle.dfa_match.specs.declared.Hit.{Hit as HitSeen};
-ghost use Rattle.match_engine.specs.Match.{is_legal as is_legal_on, matches_of, machine_matches};
+ghost use Rattle.go_rules.specs.Play.{is_legal as is_legal_on};
+ghost use Rattle.match_engine.specs.Match.{matches_of, machine_matches};
 ghost use Rattle.match_engine.specs.Found.{match_of as match_made, match_from};
 
 use crate::found::Match;
