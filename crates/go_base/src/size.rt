@@ -9,7 +9,7 @@ use std::marker::Model;
 pub const MIN_SIZE: u8 = 2;
 
 /// The greatest number of rows that a board may have.
-pub const MAX_SIZE: u8 = 19;
+pub const MAX_SIZE: u8 = 25;
 
 /// How many points the largest board has.
 pub const MAX_POINTS: usize = MAX_SIZE as usize * MAX_SIZE as usize;

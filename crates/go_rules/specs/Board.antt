@@ -8,7 +8,7 @@ smallest_size = 2
 
 -- the greatest number of rows that a board may have
 abbrev pub largest_size : ℕ
-largest_size = 19
+largest_size = 25
 
 -- how many points the largest board has
 abbrev pub largest_points : ℕ
