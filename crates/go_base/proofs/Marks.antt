@@ -1,6 +1,7 @@
 -- The bits of a set of points.
 use Rattle.std.proofs.Common.{◌≡◌, ◌≢◌, ℕ, zero, suc, ◌+◌, ◌*◌, ◌/◌, ◌%◌, ◌^◌, ◌<◌, ◌≤◌, ◌||◌, ◌&&◌, Bool, true, false, cond, eqb, ltb, List, [], ◌∷◌, length, get_or, bit_and, bit_or, refl, sym, ap, arith, inl, inr, ◌∙◌, get_or-set_same, get_or-set_other}
 use Rattle.std.proofs.Math.ListN.{set}
+use Rattle.std.specs.Prelude.{replicate}
 use Rattle.std.proofs.lemmas.Bool.{cases_eq, lt-ltb, le-ltb, eq-eqb, ne_eqb}
 use Rattle.std.proofs.lemmas.Nat.Bits.{bit_at-zero, bit_at_set_same, bit_at_set_other, shr_and_one}
 use Rattle.std.specs.Int.{bit_at, w64}
@@ -20,26 +21,22 @@ pub len-marked : (words : List ℕ) → sets.len (marked words) ≤ largest_poin
 unfolding marked
 len-marked words = rw (len-set_below largest_points (is_marked words)) (count_below_at_most largest_points (is_marked words))
 
-abbrev zeros : List ℕ
-zeros = 0 ∷ 0 ∷ 0 ∷ 0 ∷ 0 ∷ 0 ∷ []
-
-six_zeros : (j : ℕ) → get_or zeros j 0 ≡ 0
-six_zeros zero = refl
-six_zeros (suc zero) = refl
-six_zeros (suc (suc zero)) = refl
-six_zeros (suc (suc (suc zero))) = refl
-six_zeros (suc (suc (suc (suc zero)))) = refl
-six_zeros (suc (suc (suc (suc (suc zero))))) = refl
-six_zeros (suc (suc (suc (suc (suc (suc j)))))) = refl
+-- each word of a list of zeros is zero, and so is what stands past its end
+zeros_at : (n j : ℕ) → get_or (replicate {A = ℕ} n 0) j 0 ≡ zero
+zeros_at zero j = refl
+zeros_at (suc n) zero = refl
+zeros_at (suc n) (suc j) = zeros_at n j
 
 and-false : (b : Bool) → (b && false) ≡ false
 and-false true = refl
 and-false false = refl
 
-is_marked-none : (q : ℕ) → is_marked (0 ∷ 0 ∷ 0 ∷ 0 ∷ 0 ∷ 0 ∷ []) q ≡ false
-is_marked-none q = ap (λ n. eqb (bit_at n (q % 64)) 1) (six_zeros (q / 64)) ∙ ap (λ n. eqb n 1) (bit_at-zero (q % 64))
+-- no point is marked in words that are zero
+is_marked-none : (q : ℕ) → is_marked (replicate set_words 0) q ≡ false
+is_marked-none q = ap (λ n. eqb (bit_at n (q % 64)) 1) (zeros_at set_words (q / 64)) ∙ ap (λ n. eqb n 1) (bit_at-zero (q % 64))
 
-pub marked-none : marked (0 ∷ 0 ∷ 0 ∷ 0 ∷ 0 ∷ 0 ∷ []) ≡ sets.empty
+-- words that are zero keep the empty set
+pub marked-none : marked (replicate set_words 0) ≡ sets.empty
 marked-none = same_nat_set _ _ (λ q. contains-marked _ q ∙ ap (λ b. ltb q largest_points && b) (is_marked-none q) ∙ and-false (ltb q largest_points) ∙ sym (sets.contains-empty nat_cmp q))
 
 -- one more bit
