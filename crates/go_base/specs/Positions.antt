@@ -1,9 +1,10 @@
 -- How a position is kept: the cells past the board are empty.
-use Rattle.std.specs.Prelude.{◌≡◌, ℕ, ◌-◌, ◌*◌, ◌≤◌, length, List, ◌++◌, take, drop, replicate}
+use Rattle.std.specs.Prelude.{◌≡◌, ℕ, ◌-◌, ◌*◌, ◌≤◌, length, List, ◌++◌, take, drop, replicate, Option}
 use Rattle.std.proofs.Common.{ap, sym, ◌∙◌}
 use Rattle.std.proofs.lemmas.List.{take-append-drop}
 use Rattle.go_rules.specs.Board.{largest_size, largest_points}
 use Rattle.go_rules.specs.declared.Cell.{Cell}
+use Rattle.go_rules.specs.declared.Colour.{Colour}
 use Rattle.go_rules.specs.declared.Cell.TheVariants.{Empty}
 use Rattle.go_rules.specs.Position.{BoardState, IsPosition}
 use Rattle.go_base.specs.declared.position.Position.TheInside.{Inside}
@@ -38,4 +39,13 @@ pub record Holds (pos : BoardState) (board : Flat) : Type 0 where
   pub size : board.size ≡ pos.size
   pub cells : take (board.size * board.size) board.cells ≡ pos.cells
   pub whole : (length board.cells ≡ largest_points) × (board.size ≤ largest_size)
+  pub padded : drop (board.size * board.size) board.cells ≡ padding board.size
+
+-- the position on the board, with the ban
+abbrev pub position_on : Flat → Option (ℕ × Colour) → BoardState
+position_on board ban = record { size = board.size; cells = take (board.size * board.size) board.cells; ban = ban }
+
+-- the board holds a position with the ban
+pub record HoldsWith (board : Flat) (ban : Option (ℕ × Colour)) : Type 0 where
+  pub position : IsPosition (position_on board ban)
   pub padded : drop (board.size * board.size) board.cells ≡ padding board.size

@@ -65,7 +65,7 @@ fn captured<V: View>(board: &mut V, c: Colour, p: Point) -> PointSet
 }
 
 /// Puts the same on each point of the set.
-fn put_all<V: View>(board: &mut V, points: &PointSet, cell: Cell)
+pub fn put_all<V: View>(board: &mut V, points: &PointSet, cell: Cell)
     requires { (r : ℕ) → IsTrue (set.contains points.now r) → r < V.rows board.old * V.rows board.old }
     ensures asks { V.asks board.old board.new nowhere }
     ensures over { (pos : BoardState) → V.agrees board.new pos
@@ -97,7 +97,12 @@ fn is_suicide<V: View>(board: &mut V, p: Point, taken: &PointSet) -> bool
 
 /// The ban after c took these stones by the one at p: where one stone was taken by one that is alone and has one liberty, the other
 /// colour may not play where the taken one stood. The string of p is searched only where one stone was taken.
-fn ban_of<V: View>(board: &mut V, c: Colour, p: Point, taken: &PointSet) -> Option<(Point, Colour)>
+pub fn ban_of<V: View>(
+    board: &mut V,
+    c: Colour,
+    p: Point,
+    taken: &PointSet,
+) -> Option<(Point, Colour)>
     requires { p < V.rows board.old * V.rows board.old }
     ensures looks { Looks V.cells V.asks board.old board.new anywhere }
     ensures over { (pos : BoardState) → V.agrees board.new pos → (put : List Cell) → taken.now ≡ taken_at (V.rows board.old) put c

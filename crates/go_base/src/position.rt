@@ -5,7 +5,7 @@ ghost use Rattle.go_rules.specs.Board.{largest_points};
 ghost use Rattle.go_rules.specs.Position.{BoardState, IsPosition, is_banned};
 ghost use Rattle.go_rules.specs.Play.{pass as passed, play as played, play_free as played_free};
 ghost use Rattle.go_rules.specs.Strings.{cell_at, string_at, liberty_points, liberties as liberties_at};
-ghost use Rattle.go_base.specs.Positions.{Holds};
+ghost use Rattle.go_base.specs.Positions.{Holds, HoldsWith, position_on};
 
 use crate::capture::play_on;
 use crate::flood::{liberties_of, string_of};
@@ -48,6 +48,18 @@ fn empty_cells() -> [Cell; MAX_POINTS]
 }
 
 impl Position {
+    /// The position that the board holds, with a ban whose point is empty.
+    pub fn of(board: &Flat, ban: Option<(Point, Colour)>) -> Position
+        requires { HoldsWith board.now ban }
+        ensures { result ≡ position_on board.now ban }
+    {
+        Position {
+            size: board.size,
+            ban,
+            cells: board.cells,
+        }
+    }
+
     /// The empty board, without a ban.
     pub fn new(size: Size) -> Position
         ensures { result ≡ record { size = size; cells = replicate (size * size) Cell.Empty; ban = None } }
@@ -93,7 +105,7 @@ impl Position {
     }
 
     /// A copy of the board.
-    pub(crate) fn board(&self) -> Flat
+    pub fn board(&self) -> Flat
         ensures { Holds self.now result }
     {
         let _ = self.size.get();
