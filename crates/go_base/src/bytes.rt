@@ -2,7 +2,7 @@
 
 ghost use Rattle.std.specs.Prelude.{◌≡◌, [], ◌∷◌, ◌++◌, OnOk, OnErr};
 
-use std::alloc::Global;
+use std::alloc::{AllocError, AllocFailed, Global};
 use std::marker::Model;
 use thiserror::Error;
 
@@ -10,6 +10,18 @@ use thiserror::Error;
 #[derive(Clone, Copy, Debug, PartialEq, Eq, Error)]
 #[error("out of memory")]
 pub struct NoMemory;
+
+impl From<AllocError> for NoMemory {
+    fn from(_: AllocError) -> NoMemory {
+        NoMemory
+    }
+}
+
+impl<T: Drop> From<AllocFailed<T>> for NoMemory {
+    fn from(_: AllocFailed<T>) -> NoMemory {
+        NoMemory
+    }
+}
 
 /// Bytes one after another, as of a name or a reply, seen as their list.
 #[derive(Debug, Drop)]
@@ -47,7 +59,7 @@ impl Bytes {
         ensures ok { OnOk result (self.new ≡ self.old ++ x ∷ []) }
         ensures err { OnErr result (self.new ≡ self.old) }
     {
-        self.items.push(x).map_err(|_| NoMemory)
+        Ok(self.items.push(x)?)
     }
 
     /// Puts all bytes of `more` at the end. Takes memory; a refusal changes nothing.
@@ -55,6 +67,6 @@ impl Bytes {
         ensures ok { OnOk result (self.new ≡ self.old ++ more.now) }
         ensures err { OnErr result (self.new ≡ self.old) }
     {
-        self.items.extend_from_slice(more).map_err(|_| NoMemory)
+        Ok(self.items.extend_from_slice(more)?)
     }
 }
