@@ -187,7 +187,10 @@ stone_from White h = refl
 
 -- what a side gives is around the point
 pub at_side : (s p side q : ℕ) → p < s * s → neighbour_at s p side ≡ Some q → (r : ℕ) → eqb r q ≡ true → around s p r ≡ true
-at_side s p side q on e r h = or_right _ _ (ap (are_neighbours s p) (eqb-true r q h) ∙ (neighbour_at-near s p side q on e).1)
+at_side s p side q on e r h =
+    let near = neighbour_at-near s p side q on e in
+    let is_q = eqb-true r q h in
+    and_from _ _ (lt-ltb r (s * s) (subst (λ x. x < s * s) (sym is_q) near.0)) (or_right _ _ (ap (are_neighbours s p) is_q ∙ near.1))
 
 -- each point of a trail that began on the board is on it
 pub on_board_more : (s : ℕ) (old new : List ℕ) → ((r : ℕ) → has_point old r ≡ true → r < s * s) → AddsOnBoard s old new → (r : ℕ) → has_point new r ≡ true → r < s * s

@@ -20,14 +20,18 @@ use Rattle.go_rules.proofs.Plays.{stone_is, enemy_differs, at_put_same, at_put_o
 use Rattle.go_rules.proofs.Boundary.{string_self}
 use Rattle.go_base.specs.Views.{alone}
 use Rattle.go_base.specs.Takes.{near_taken}
-use Rattle.go_base.proofs.Closing.{whole_self, whole_string, whole_cases, close_whole, close_next, close_self, close_point, alone_self, within, beside, closeness}
+use Rattle.go_rules.proofs.InWords.{whole_strings_of-on_board}
+use Rattle.go_base.proofs.Closing.{whole_self, whole_string, whole_cases, close_whole, close_next, close_again, close_alone, close_point, alone_self, within, beside, closeness}
 
+-- the neighbourhood of the neighbourhood of p
 abbrev twice : ℕ → List Cell → ℕ → ℕ → Bool
 twice s cells p = neighbourhood_of s cells (neighbourhood_of s cells (alone p))
 
-pub twice_self : (s : ℕ) (cells : List Cell) (p r : ℕ) → alone p r ≡ true → twice s cells p r ≡ true
-twice_self s cells p r h = close_self s cells (neighbourhood_of s cells (alone p)) r (close_self s cells (alone p) r h)
+-- which has p, where p is a point of the board
+pub twice_self : (s : ℕ) (cells : List Cell) (p r : ℕ) → p < s * s → alone p r ≡ true → twice s cells p r ≡ true
+twice_self s cells p r on h = close_again s cells (alone p) r (close_alone s cells p r on h)
 
+-- a neighbour of p, and what is close to an enemy there, is near what a play at p takes
 pub near_taken_from : (s : ℕ) (cells : List Cell) (c : Colour) (p q r : ℕ) → q < s * s → are_neighbours s p q ≡ true
     → (alone q r || (same_cell (cell_at cells q) (stone_of (other c)) && neighbourhood_of s cells (alone q) r)) ≡ true → near_taken s cells c p r ≡ true
 unfolding near_taken
@@ -37,12 +41,12 @@ near_taken_from s cells c p q r on near h = any_below_from (s * s) _ q on (and_f
 close_moves : (s : ℕ) (a b : List Cell) (q : ℕ) → q < s * s → ((x : ℕ) → Path s a q x → cell_at b x ≡ cell_at a x) → (r : ℕ) → neighbourhood_of s a (alone q) r ≡ true → neighbourhood_of s b (alone q) r ≡ true
 close_moves s a b q on same r h = elim (closeness s a (alone q) r h) [
   | within w ↦ close_whole s b (alone q) r (moved r w)
-  | beside y y_on w n ↦ close_next s b (alone q) y r y_on (moved y w) n
+  | beside y r_on w n ↦ close_next s b (alone q) y r r_on (moved y w) n
 ]
   where
     moved : (y : ℕ) → whole_strings_of s a (alone q) y ≡ true → whole_strings_of s b (alone q) y ≡ true
     moved y w = elim (whole_cases s a (alone q) y w) [
-      | inl e ↦ whole_self s b (alone q) y e
+      | inl e ↦ whole_self s b (alone q) y (whole_strings_of-on_board s a (alone q) y w) e
       | inr i ↦
           let x_is : i.0 ≡ q = eqb-true i.0 q i.2 in
           let inside = IsInString-from_test s a q y (subst (λ x. is_in_string s a x y ≡ true) x_is i.3) in
@@ -74,17 +78,17 @@ module _ {s : ℕ} {old put after : List Cell} {c : Colour} {p : ℕ} {taken : s
   put_there q ne = sym (ap (λ t. cell_at t q) h.put_is ∙ at_put_other old p q (stone_of c) ne)
 
   -- a neighbour is close
-  close_side : (q : ℕ) → are_neighbours s p q ≡ true → neighbourhood_of s old (alone p) q ≡ true
-  close_side q n = close_next s old (alone p) p q h.on_board (whole_self s old (alone p) p (alone_self p)) n
+  close_side : (q : ℕ) → q < s * s → are_neighbours s p q ≡ true → neighbourhood_of s old (alone p) q ≡ true
+  close_side q on n = close_next s old (alone p) p q on (whole_self s old (alone p) p h.on_board (alone_self p)) n
 
   pub twice_taken : (r : ℕ) → near_taken s put c p r ≡ true → twice s old p r ≡ true
   unfolding near_taken
   twice_taken r t =
       let found = any_below_gives (s * s) _ t in
       let both = and_parts _ _ found.2 in
-      let close = close_side found.0 both.0 in
+      let close = close_side found.0 found.1 both.0 in
       elim (or_cases _ _ both.1) [
-        | inl e ↦ close_self s old (neighbourhood_of s old (alone p)) r (subst (λ x. neighbourhood_of s old (alone p) x ≡ true) (sym (eqb-true r found.0 e)) close)
+        | inl e ↦ close_again s old (alone p) r (subst (λ x. neighbourhood_of s old (alone p) x ≡ true) (sym (eqb-true r found.0 e)) close)
         | inr f ↦
             let parts = and_parts _ _ f in
             let enemy = same_cell-true _ _ parts.0 in
@@ -124,7 +128,7 @@ module _ {s : ℕ} {old put after : List Cell} {c : Colour} {p : ℕ} {taken : s
   ]
 
   whole_joined : (y : ℕ) → Joined s old c p y → whole_strings_of s old (neighbourhood_of s old (alone p)) y ≡ true
-  whole_joined y j = whole_string s old (neighbourhood_of s old (alone p)) j.x y j.x_on (close_side j.x j.x_near) j.inside
+  whole_joined y j = whole_string s old (neighbourhood_of s old (alone p)) j.x y j.x_on (close_side j.x j.x_on j.x_near) j.inside
 
   own_cases : (y : ℕ) → whole_strings_of s after (alone p) y ≡ true → (y ≡ p) ⊎ Joined s old c p y
   own_cases y w = elim (whole_cases s after (alone p) y w) [
@@ -146,11 +150,11 @@ module _ {s : ℕ} {old put after : List Cell} {c : Colour} {p : ℕ} {taken : s
   pub twice_own : (r : ℕ) → neighbourhood_of s after (alone p) r ≡ true → twice s old p r ≡ true
   twice_own r t = elim (closeness s after (alone p) r t) [
     | within w ↦ elim (own_cases r w) [
-      | inl e ↦ twice_self s old p r (subst (λ x. alone p x ≡ true) (sym e) (alone_self p))
+      | inl e ↦ twice_self s old p r h.on_board (subst (λ x. alone p x ≡ true) (sym e) (alone_self p))
       | inr j ↦ close_whole s old (neighbourhood_of s old (alone p)) r (whole_joined r j)
     ]
-    | beside y y_on w n ↦ elim (own_cases y w) [
-      | inl e ↦ close_self s old (neighbourhood_of s old (alone p)) r (close_side r (subst (λ x. are_neighbours s x r ≡ true) e n))
-      | inr j ↦ close_next s old (neighbourhood_of s old (alone p)) y r y_on (whole_joined y j) n
+    | beside y on w n ↦ elim (own_cases y w) [
+      | inl e ↦ close_again s old (alone p) r (close_side r on (subst (λ x. are_neighbours s x r ≡ true) e n))
+      | inr j ↦ close_next s old (neighbourhood_of s old (alone p)) y r on (whole_joined y j) n
     ]
   ]

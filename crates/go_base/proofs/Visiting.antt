@@ -265,4 +265,5 @@ unfolding is_beside_string
 enemy_close s cells p q foes on e h =
     let it = any_below_gives (s * s) _ (enemy_beside s cells p q foes e h).0 in
     let both = and_parts _ _ it.2 in
-    close_next s cells (alone p) it.0 q it.1 (whole_string s cells (alone p) p it.0 on (alone_self p) both.0) both.1
+    let q_on = ltb-true q (s * s) (and_parts _ _ (sym (ap (λ t. sets.contains t q) e ∙ contains-set_below (s * s) _ q) ∙ h)).0 in
+    close_next s cells (alone p) it.0 q q_on (whole_string s cells (alone p) p it.0 on (alone_self p) both.0) both.1

@@ -1,5 +1,5 @@
 -- What a look at a view keeps.
-use Rattle.std.specs.Prelude.{◌≡◌, ℕ, Bool, true, false, ◌==◌, ◌||◌, List}
+use Rattle.std.specs.Prelude.{◌≡◌, ℕ, ◌*◌, Bool, true, false, nat_lt, ◌==◌, ◌&&◌, ◌||◌, List}
 use Rattle.go_rules.specs.declared.Cell.{Cell}
 use Rattle.go_rules.specs.Position.{BoardState}
 use Rattle.go_rules.specs.Board.{are_neighbours}
@@ -21,6 +21,10 @@ nowhere q = false
 abbrev pub alone : ℕ → ℕ → Bool
 alone p q = q == p
 
--- p and its neighbours
+-- the neighbours of p on a board of size s
+abbrev pub neighbours_of : ℕ → ℕ → ℕ → Bool
+neighbours_of s p q = nat_lt q (s * s) && are_neighbours s p q
+
+-- p and its neighbours on a board of size s
 abbrev pub around : ℕ → ℕ → ℕ → Bool
-around s p q = (q == p) || are_neighbours s p q
+around s p q = nat_lt q (s * s) && ((q == p) || are_neighbours s p q)

@@ -1,6 +1,6 @@
 -- What the tests of strings, boundaries and neighbourhoods say in words.
 use Rattle.std.proofs.Common.{◌≡◌, ◌↔◌, ℕ, ◌*◌, ◌<◌, Bool, true, List, ap, inl, inr, ◌∙◌}
-use Rattle.std.proofs.lemmas.Bool.{cases_Bool, or_cases, or_left, or_right, and_parts, and_from, both_ways, not-true, not_from_false}
+use Rattle.std.proofs.lemmas.Bool.{cases_Bool, lt-ltb, ltb-true, or_cases, or_left, or_right, and_parts, and_from, both_ways, not-true, not_from_false}
 use Rattle.go_rules.specs.declared.Cell.{Cell}
 use Rattle.go_rules.specs.Strings.{cell_at, is_stone, is_in_string, IsInString, start}
 use Rattle.go_rules.specs.Boundary.{is_beside_string, is_boundary, IsBoundary}
@@ -52,33 +52,67 @@ is_boundary-is s cells p r on r_on = (
       (any_below_from (s * s) _ x (path_on_board s cells p on h.beside.2.1.path) (and_from _ _ (is_is_in_string-from_fact s cells p x on h.beside.2.1) h.beside.2.2)))),
 )
 
+-- what passes the test of whole strings is a point of the board
+pub whole_strings_of-on_board : (s : ℕ) (cells : List Cell) (S : ℕ → Bool) (q : ℕ) → whole_strings_of s cells S q ≡ true → q < s * s
+unfolding whole_strings_of
+whole_strings_of-on_board s cells S q h = ltb-true q (s * s) (and_parts _ _ h).0
+
+-- what passes the test of the neighbourhood is a point of the board
+pub neighbourhood_of-on_board : (s : ℕ) (cells : List Cell) (S : ℕ → Bool) (q : ℕ) → neighbourhood_of s cells S q ≡ true → q < s * s
+unfolding neighbourhood_of
+neighbourhood_of-on_board s cells S q h = ltb-true q (s * s) (and_parts _ _ h).0
+
+-- what belongs to the whole strings of a set is a point of the board
+whole_on_board : (s : ℕ) (cells : List Cell) (S : ℕ → Bool) (q : ℕ) → InWholeStrings s cells S q → q < s * s
+whole_on_board s cells S q (member on i) = on
+whole_on_board s cells S q (of_string x on i h) = path_on_board s cells x on h.path
+
+-- what belongs to the neighbourhood of a set is a point of the board
+pub in_neighbourhood_on_board : (s : ℕ) (cells : List Cell) (S : ℕ → Bool) (q : ℕ) → InNeighbourhood s cells S q → q < s * s
+in_neighbourhood_on_board s cells S q (inside w) = whole_on_board s cells S q w
+in_neighbourhood_on_board s cells S q (next_to y on w n) = on
+
 -- the test of whole strings gives the fact
 whole_to : (s : ℕ) (cells : List Cell) (S : ℕ → Bool) (q : ℕ) → whole_strings_of s cells S q ≡ true → InWholeStrings s cells S q
 unfolding whole_strings_of
-whole_to s cells S q h = elim (or_cases _ _ h) [
-  | inl i ↦ member i
-  | inr i ↦ let found = any_below_gives (s * s) _ i in let both = and_parts _ _ found.2 in of_string found.0 found.1 both.0 (IsInString-from_test s cells found.0 q both.1)
-]
+whole_to s cells S q h =
+    let parts = and_parts _ _ h in
+    elim (or_cases _ _ parts.1) [
+      | inl i ↦ member (ltb-true q (s * s) parts.0) i
+      | inr i ↦
+          let found = any_below_gives (s * s) _ i in
+          let both = and_parts _ _ found.2 in
+          of_string found.0 found.1 both.0 (IsInString-from_test s cells found.0 q both.1)
+    ]
 
 -- the fact of whole strings gives the test
 whole_from : (s : ℕ) (cells : List Cell) (S : ℕ → Bool) (q : ℕ) → InWholeStrings s cells S q → whole_strings_of s cells S q ≡ true
 unfolding whole_strings_of
-whole_from s cells S q (member i) = or_left _ _ i
-whole_from s cells S q (of_string x on i h) = or_right _ _ (any_below_from (s * s) _ x on (and_from _ _ i (is_is_in_string-from_fact s cells x q on h)))
+whole_from s cells S q (member on i) = and_from _ _ (lt-ltb q (s * s) on) (or_left _ _ i)
+whole_from s cells S q (of_string x on i h) =
+    and_from _ _ (lt-ltb q (s * s) (path_on_board s cells x on h.path))
+    (or_right _ _ (any_below_from (s * s) _ x on (and_from _ _ i (is_is_in_string-from_fact s cells x q on h))))
 
 -- the test of the neighbourhood gives the fact
 neighbourhood_to : (s : ℕ) (cells : List Cell) (S : ℕ → Bool) (q : ℕ) → neighbourhood_of s cells S q ≡ true → InNeighbourhood s cells S q
 unfolding neighbourhood_of
-neighbourhood_to s cells S q h = elim (or_cases _ _ h) [
-  | inl w ↦ inside (whole_to s cells S q w)
-  | inr n ↦ let found = any_below_gives (s * s) _ n in let both = and_parts _ _ found.2 in next_to found.0 found.1 (whole_to s cells S found.0 both.0) both.1
-]
+neighbourhood_to s cells S q h =
+    let parts = and_parts _ _ h in
+    elim (or_cases _ _ parts.1) [
+      | inl w ↦ inside (whole_to s cells S q w)
+      | inr n ↦
+          let found = any_below_gives (s * s) _ n in
+          let both = and_parts _ _ found.2 in
+          next_to found.0 (ltb-true q (s * s) parts.0) (whole_to s cells S found.0 both.0) both.1
+    ]
 
 -- the fact of the neighbourhood gives the test
 neighbourhood_from : (s : ℕ) (cells : List Cell) (S : ℕ → Bool) (q : ℕ) → InNeighbourhood s cells S q → neighbourhood_of s cells S q ≡ true
 unfolding neighbourhood_of
-neighbourhood_from s cells S q (inside w) = or_left _ _ (whole_from s cells S q w)
-neighbourhood_from s cells S q (next_to y on w n) = or_right _ _ (any_below_from (s * s) _ y on (and_from _ _ (whole_from s cells S y w) n))
+neighbourhood_from s cells S q (inside w) = and_from _ _ (lt-ltb q (s * s) (whole_on_board s cells S q w)) (or_left _ _ (whole_from s cells S q w))
+neighbourhood_from s cells S q (next_to y on w n) =
+    and_from _ _ (lt-ltb q (s * s) on)
+    (or_right _ _ (any_below_from (s * s) _ y (whole_on_board s cells S y w) (and_from _ _ (whole_from s cells S y w) n)))
 
 -- the test of the neighbourhood is the fact
 pub neighbourhood_of-is : (s : ℕ) (cells : List Cell) (S : ℕ → Bool) (q : ℕ) → (neighbourhood_of s cells S q ≡ true) ↔ InNeighbourhood s cells S q

@@ -1,25 +1,27 @@
--- The neighbourhood of a set of points: the set, the whole strings of its stones, and the neighbours of all of these. What a
--- look at a position may need is said by neighbourhoods.
-use Rattle.std.specs.Prelude.{◌≡◌, ℕ, ◌*◌, ◌<◌, ◌&&◌, ◌||◌, Bool, true, List}
+-- The neighbourhood of a set of points: its points on the board, the whole strings of their stones, and the neighbours of all of
+-- these. What a look at a position may need is said by neighbourhoods.
+use Rattle.std.specs.Prelude.{◌≡◌, ℕ, ◌*◌, ◌<◌, ◌&&◌, ◌||◌, Bool, true, nat_lt, List}
 use Rattle.go_rules.specs.declared.Cell.{Cell}
 use Rattle.go_rules.specs.Below.{any_below}
 use Rattle.go_rules.specs.Board.{are_neighbours}
 use Rattle.go_rules.specs.Strings.{is_in_string, IsInString}
 
--- q is in S, or in the string of a point of S
+-- q is a point of the board, and in S or in the string of a point of S
 unfoldable pub whole_strings_of : ℕ → List Cell → (ℕ → Bool) → ℕ → Bool
-whole_strings_of s cells S q = S q || any_below (s * s) (λ x. S x && is_in_string s cells x q)
+whole_strings_of s cells S q = nat_lt q (s * s) && (S q || any_below (s * s) (λ x. S x && is_in_string s cells x q))
 
--- q is in S or in the string of a point of S, or a neighbour of such a point
+-- q is a point of the board, and in S, or in the string of a point of S, or a neighbour of such a point
 unfoldable pub neighbourhood_of : ℕ → List Cell → (ℕ → Bool) → ℕ → Bool
-neighbourhood_of s cells S q = whole_strings_of s cells S q || any_below (s * s) (λ y. whole_strings_of s cells S y && are_neighbours s y q)
+neighbourhood_of s cells S q =
+    nat_lt q (s * s)
+    && (whole_strings_of s cells S q || any_below (s * s) (λ y. whole_strings_of s cells S y && are_neighbours s y q))
 
 -- in words, how q belongs to the whole strings of S
 pub data InWholeStrings (s : ℕ) (cells : List Cell) (S : ℕ → Bool) (q : ℕ) : Type 0 where
-  member : S q ≡ true → InWholeStrings s cells S q
+  member : q < s * s → S q ≡ true → InWholeStrings s cells S q
   of_string : (x : ℕ) → x < s * s → S x ≡ true → IsInString s cells x q → InWholeStrings s cells S q
 
 -- in words, how q belongs to the neighbourhood of S
 pub data InNeighbourhood (s : ℕ) (cells : List Cell) (S : ℕ → Bool) (q : ℕ) : Type 0 where
   inside : InWholeStrings s cells S q → InNeighbourhood s cells S q
-  next_to : (y : ℕ) → y < s * s → InWholeStrings s cells S y → are_neighbours s y q ≡ true → InNeighbourhood s cells S q
+  next_to : (y : ℕ) → q < s * s → InWholeStrings s cells S y → are_neighbours s y q ≡ true → InNeighbourhood s cells S q

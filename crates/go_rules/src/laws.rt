@@ -60,12 +60,14 @@ pub fn strings_are_classes()
         → IsLiberty s cells q l → IsLiberty s cells p l }
 {}
 
-/// The tests of the boundary of a string and of the neighbourhood of a set of points say what the words say.
+/// The tests of the boundary of a string and of the neighbourhood of a set of points say what the words say, and a neighbourhood lies
+/// on the board.
 pub fn boundaries_are_in_words()
     ensures boundary { (s : ℕ) (cells : List Cell) (p r : ℕ) → p < s * s → r < s * s
         → IsTrue (is_boundary s cells p r) ↔ IsBoundary s cells p r }
     ensures neighbourhood { (s : ℕ) (cells : List Cell) (S : ℕ → Bool) (q : ℕ)
         → IsTrue (neighbourhood_of s cells S q) ↔ InNeighbourhood s cells S q }
+    ensures on_board { (s : ℕ) (cells : List Cell) (S : ℕ → Bool) (q : ℕ) → InNeighbourhood s cells S q → q < s * s }
 {}
 
 /// What the computing definition of a play answers is what the rules say: the position that follows, or why there is none.

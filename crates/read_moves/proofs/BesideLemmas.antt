@@ -10,7 +10,7 @@ use Rattle.go_rules.specs.Strings.{cell_at, same_cell}
 use Rattle.go_rules.proofs.Counts.{any_below_gives, any_below_from}
 use Rattle.go_rules.proofs.Sets.{contains-insert_nat}
 use Rattle.go_base.specs.Sides.{neighbour_at}
-use Rattle.go_base.specs.Views.{alone}
+use Rattle.go_base.specs.Views.{alone, neighbours_of}
 use Rattle.go_base.proofs.Beside.{neighbour_at-all, neighbour_at-near}
 use Rattle.read_moves.specs.Candidates.{is_empty_beside}
 
@@ -19,6 +19,13 @@ same_tests true true f g = refl
 same_tests false false f g = refl
 same_tests true false f g = sym (f refl)
 same_tests false true f g = g refl
+
+-- the point at a side of l is a neighbour of l on the board
+pub neighbours_of-side : (s l side q r : ℕ) → l < s * s → neighbour_at s l side ≡ Some q → alone q r ≡ true → neighbours_of s l r ≡ true
+neighbours_of-side s l side q r on at h =
+    let near = neighbour_at-near s l side q on at in
+    let is_q = eqb-true r q h in
+    and_from _ _ (lt-ltb r (s * s) (subst (λ x. x < s * s) (sym is_q) near.0)) (ap (are_neighbours s l) is_q ∙ near.1)
 
 -- p is an empty neighbour of l
 abbrev EmptyAt : ℕ → List Cell → ℕ → ℕ → Type 0

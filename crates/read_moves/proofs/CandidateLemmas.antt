@@ -1,6 +1,6 @@
 -- What the candidates are, by the sets that are gathered.
 use Rattle.std.proofs.Common.{◌≡◌, ℕ, ◌*◌, ◌<◌, ◌&&◌, ◌||◌, Bool, true, false, ltb, List, refl, sym, ap, ◌∙◌}
-use Rattle.std.proofs.lemmas.Bool.{and_parts}
+use Rattle.std.proofs.lemmas.Bool.{and_parts, ltb-true}
 use Rattle.std.specs.Ordering.{nat_cmp}
 use Rattle.std.specs.FinSet as sets
 use Rattle.go_rules.specs.declared.Cell.{Cell}
@@ -12,9 +12,8 @@ use Rattle.go_rules.specs.Neighbourhood.{neighbourhood_of}
 use Rattle.go_rules.specs.Position.{BoardState}
 use Rattle.go_rules.proofs.Counts.{any_below_gives, any_below_same}
 use Rattle.go_rules.proofs.Paths.{IsLiberty-from_test, is_is_in_string-from_fact}
-use Rattle.go_rules.proofs.Boundary.{is_in_string_on}
 use Rattle.go_base.specs.Surroundings.{is_last_liberty_of_enemy}
-use Rattle.go_base.specs.Views.{alone}
+use Rattle.go_base.specs.Views.{alone, neighbours_of}
 use Rattle.go_base.proofs.Closing.{whole_self, whole_string, close_next, alone_self}
 use Rattle.go_base.proofs.LastLiberties.{contains-liberty_points}
 use Rattle.trial_board.specs.Overlays.{neighbourhood_twice}
@@ -48,12 +47,13 @@ candidate_is here s target k p x b libs last es el et eb ex =
 
 -- the neighbours of the liberties are close to what is close to the target
 pub near_liberties : (s : ℕ) (cells : List Cell) (t r : ℕ) (libs : sets.FinSet nat_cmp) → t < s * s → libs ≡ liberty_points s cells t
-    → any_below (s * s) (λ l. sets.contains libs l && are_neighbours s l r) ≡ true → neighbourhood_twice s cells t r ≡ true
+    → any_below (s * s) (λ l. sets.contains libs l && neighbours_of s l r) ≡ true → neighbourhood_twice s cells t r ≡ true
 near_liberties s cells t r libs on e h =
     let it = any_below_gives (s * s) _ h in
     let both = and_parts _ _ it.2 in
     let lib = IsLiberty-from_test s cells t it.0 (sym (ap (λ x. sets.contains x it.0) e ∙ contains-liberty_points s cells t it.0) ∙ both.0) in
     let q = lib.beside in
     let q_in = is_is_in_string-from_fact s cells t q.0 on q.1 in
-    let close = close_next s cells (alone t) q.0 it.0 (is_in_string_on s cells t q.0 on q_in) (whole_string s cells (alone t) t q.0 on (alone_self t) q_in) q.2 in
-    close_next s cells (neighbourhood_of s cells (alone t)) it.0 r it.1 (whole_self s cells (neighbourhood_of s cells (alone t)) it.0 close) both.1
+    let close = close_next s cells (alone t) q.0 it.0 it.1 (whole_string s cells (alone t) t q.0 on (alone_self t) q_in) q.2 in
+    let near = and_parts _ _ both.1 in
+    close_next s cells (neighbourhood_of s cells (alone t)) it.0 r (ltb-true r (s * s) near.0) (whole_self s cells (neighbourhood_of s cells (alone t)) it.0 it.1 close) near.1

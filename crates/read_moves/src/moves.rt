@@ -3,11 +3,11 @@
 ghost use Rattle.std.specs.Prelude.{◌≡◌, ℕ, ◌*◌, ◌<◌, ◌&&◌, ◌||◌, Bool, IsTrue, if◌then◌else◌};
 ghost use Rattle.std.specs.FinSet as set;
 ghost use Rattle.go_rules.specs.Below.{any_below};
-ghost use Rattle.go_rules.specs.Board.{largest_points, are_neighbours};
+ghost use Rattle.go_rules.specs.Board.{largest_points};
 ghost use Rattle.go_rules.specs.Strings.{cell_at, same_cell};
 ghost use Rattle.go_rules.specs.Position.{BoardState};
 ghost use Rattle.go_base.specs.Facts.{Agrees, AddsIn};
-ghost use Rattle.go_base.specs.Views.{alone};
+ghost use Rattle.go_base.specs.Views.{alone, neighbours_of};
 ghost use Rattle.trial_board.specs.Trials.{Stays, after};
 ghost use Rattle.read_moves.specs.Candidates.{is_empty_beside, is_candidate, near_candidates};
 
@@ -39,7 +39,7 @@ fn add_sides<L: Look>(board: &mut Trial<L>, l: Point, found: &mut PointSet)
     ensures over { (pos : BoardState) → Agrees (L.seen board.new.look) pos → (p : ℕ)
         → set.contains found.new p ≡ (set.contains found.old p || is_empty_beside pos.size (after pos board.old.moves).cells (alone l) p) }
     ensures near { (pos : BoardState) → Agrees (L.seen board.new.look) pos
-        → AddsIn (L.seen board.old.look) (L.seen board.new.look) (are_neighbours pos.size l) }
+        → AddsIn (L.seen board.old.look) (L.seen board.new.look) (neighbours_of pos.size l) }
 {
     let size = board.size();
     for side in 0..4 {
@@ -56,7 +56,7 @@ fn add_beside<L: Look>(board: &mut Trial<L>, points: &PointSet, found: &mut Poin
     ensures over { (pos : BoardState) → Agrees (L.seen board.new.look) pos → (p : ℕ)
         → set.contains found.new p ≡ (set.contains found.old p || is_empty_beside pos.size (after pos board.old.moves).cells (set.contains points.now) p) }
     ensures near { (pos : BoardState) → Agrees (L.seen board.new.look) pos → AddsIn (L.seen board.old.look) (L.seen board.new.look)
-        (λ r. any_below (pos.size * pos.size) (λ l. set.contains points.now l && are_neighbours pos.size l r)) }
+        (λ r. any_below (pos.size * pos.size) (λ l. set.contains points.now l && neighbours_of pos.size l r)) }
 {
     let mut next = 0;
     while let Some(l) = points.first_from(next) {

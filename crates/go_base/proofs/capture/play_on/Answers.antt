@@ -30,7 +30,7 @@ returns-then-ne-clause-over g c = λ pos a good.
     (sym (occupied_is g (goal.at.returns-then-ne-clause-over g c).After-ne pos a) ∙ c.if-ne.true))
 
 pub returns-then-ne-clause-near : goal.returns-then-ne-clause-near
-returns-then-ne-clause-near g c = λ pos a. g.met.V.View.asks_within _ _ _ _ c.at.ensures.looks.asked (λ r h. twice_self (g.V.View.rows c.args.board.now) (g.V.View.cells c.args.board.now pos) c.args.p r h)
+returns-then-ne-clause-near g c = λ pos a. g.met.V.View.asks_within _ _ _ _ c.at.ensures.looks.asked (λ r h. twice_self (g.V.View.rows c.args.board.now) (g.V.View.cells c.args.board.now pos) c.args.p r c.requires h)
 
 -- what was taken is on the board
 pub put_all-requires : goal.put_all-requires
@@ -111,7 +111,7 @@ module _ (g : Over) (c : After-is_suicide g) (pos : BoardState) (a : g.V.View.ag
   -- where it was looked until then
   near_play : g.V.View.asks c.args.board.now c.is_suicide.new.board (neighbourhood_of (g.V.View.rows c.args.board.now) (g.V.View.cells c.args.board.now pos) (neighbourhood_of (g.V.View.rows c.args.board.now) (g.V.View.cells c.args.board.now pos) (alone c.args.p)))
   near_play =
-      g.met.V.View.asks_more _ _ _ _ (g.met.V.View.asks_within _ _ _ _ c.at.ensures.looks.asked (λ r h. twice_self (g.V.View.rows c.args.board.now) (g.V.View.cells c.args.board.now pos) c.args.p r h))
+      g.met.V.View.asks_more _ _ _ _ (g.met.V.View.asks_within _ _ _ _ c.at.ensures.looks.asked (λ r h. twice_self (g.V.View.rows c.args.board.now) (g.V.View.cells c.args.board.now pos) c.args.p r c.requires h))
       (g.met.V.View.asks_more _ _ _ _ (g.met.V.View.asks_within _ _ _ _ c.put.ensures.asks (λ r h. absurd (both_ways false refl h)))
       (g.met.V.View.asks_more _ _ _ _ (g.met.V.View.asks_within _ _ _ _ (rw rows_put at (c.captured-taken.ensures.near pos at_captured)) (λ r h. twice_taken leaves r h))
       (g.met.V.View.asks_more _ _ _ _ (g.met.V.View.asks_within _ _ _ _ c.put_all.ensures.asks (λ r h. absurd (both_ways false refl h)))

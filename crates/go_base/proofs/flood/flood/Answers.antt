@@ -4,7 +4,7 @@ use Rattle.go_base.specs.Trails.{add_once, has_point}
 use Rattle.go_base.proofs.Flooded.{string_is, string_is_none, has_at, stone_from, on_board_one, on_board_more}
 use Rattle.go_base.proofs.Visiting.{none_at, FloodsOut-start, FloodsOut-next, trail_like, flood_liberties, flood_enemies, no_liberties, no_enemies}
 use Rattle.go_base.specs.Views.{alone}
-use Rattle.go_base.proofs.Closing.{close_self, close_around}
+use Rattle.go_base.proofs.Closing.{close_alone, close_around}
 use Rattle.go_base.proofs.Looking.{Looks-none, Looks-more, Looks-within}
 use Rattle.go_rules.proofs.Cells.{cells_same, cells_differ}
 use Rattle.go_base.proofs.flood.flood.Goals as goal
@@ -30,7 +30,7 @@ returns-then-eq-clause-enemies g c = λ pos a.
 
 -- only the point itself was looked at
 pub returns-then-eq-clause-near : goal.returns-then-eq-clause-near
-returns-then-eq-clause-near g c = λ pos a. g.met.V.View.asks_within _ _ _ _ c.at-own.ensures.looks.asked (λ r h. close_self (g.V.View.rows c.args.board.now) (g.V.View.cells c.args.board.now pos) (alone c.args.p) r h)
+returns-then-eq-clause-near g c = λ pos a. g.met.V.View.asks_within _ _ _ _ c.at-own.ensures.looks.asked (λ r h. close_alone (g.V.View.rows c.args.board.now) (g.V.View.cells c.args.board.now pos) c.args.p r c.requires h)
 
 -- the trail begins with the point
 pub loop-next-init : goal.loop-next-init
@@ -40,7 +40,7 @@ loop-next-init g c =
       looks = Looks-within g.met.V.View.asks_within c.at-own.ensures.looks (λ q h. refl);
       more = Looks-none g.met.V.View.asks_none _ _;
       over = λ pos a. FloodsOut-start (g.V.View.rows c.args.board.now) (g.V.View.cells c.args.board.now pos) _ c.args.p _ _ _ begun c.new-liberties.ensures c.new-enemies.ensures;
-      near = λ pos a. g.met.V.View.asks_within _ _ _ _ c.at-own.ensures.looks.asked (λ r h. close_self (g.V.View.rows c.args.board.now) (g.V.View.cells c.args.board.now pos) (alone c.args.p) r h);
+      near = λ pos a. g.met.V.View.asks_within _ _ _ _ c.at-own.ensures.looks.asked (λ r h. close_alone (g.V.View.rows c.args.board.now) (g.V.View.cells c.args.board.now pos) c.args.p r c.requires h);
       enemies_on_board = λ r h. absurd (none_at c.new-enemies.result r c.new-enemies.ensures h);
       stones_on_board = λ r h. on_board_one (g.V.View.rows c.args.board.now) c.args.p c.requires r (ap (λ t. has_point t r) (sym begun) ∙ h);
     }

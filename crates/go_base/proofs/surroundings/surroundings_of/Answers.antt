@@ -1,7 +1,7 @@
 use Rattle.std.proofs.Common.{◌*◌, arith}
 use Rattle.go_rules.specs.Neighbourhood.{neighbourhood_of}
 use Rattle.go_base.specs.Views.{alone}
-use Rattle.go_base.proofs.Closing.{close_self, close_point}
+use Rattle.go_base.proofs.Closing.{close_again, close_point}
 use Rattle.go_base.proofs.Visiting.{enemy_beside, enemy_close, no_enemy}
 use Rattle.go_base.proofs.LastLiberties.{Lasts-none, Lasts-jump, Lasts-add, Lasts-all, KnowsLast-none}
 use Rattle.go_base.proofs.Looking.{Looks-none, Looks-more}
@@ -15,7 +15,7 @@ loop-q-init g c = record {
   near = λ pos a.
       let s = g.V.View.rows c.args.board.now in
       let cells = g.V.View.cells c.args.board.now pos in
-      g.met.V.View.asks_within _ _ _ _ (c.flood-liberties.ensures.near pos a) (λ q h. close_self s cells (neighbourhood_of s cells (alone c.args.p)) q h);
+      g.met.V.View.asks_within _ _ _ _ (c.flood-liberties.ensures.near pos a) (λ q h. close_again s cells (alone c.args.p) q h);
   over = λ pos a. Lasts-none _ _ _ c.new-last_liberties.result c.new-last_liberties.ensures;
   knows = λ pos a. KnowsLast-none _ _ c.new-seen.result c.new-last_liberties.result c.new-seen.ensures;
 }

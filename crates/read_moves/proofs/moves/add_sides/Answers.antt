@@ -1,11 +1,8 @@
 use Rattle.std.proofs.Common.{◌≡◌, ◌*◌, ◌<◌, ap, sym, subst, ◌∙◌, arith, Some}
-use Rattle.std.proofs.lemmas.Bool.{eqb-true}
-use Rattle.go_rules.specs.Board.{are_neighbours}
 use Rattle.go_base.specs.Facts.{agrees_before, Grows-trans, AddsIn-trans, AddsIn-mono, same_size}
 use Rattle.go_base.specs.Sides.{neighbour_at}
-use Rattle.go_base.proofs.Beside.{neighbour_at-near}
 use Rattle.trial_board.specs.Trials.{after}
-use Rattle.read_moves.proofs.BesideLemmas.{AddsSides-skip, AddsSides-visit, AddsSides-all}
+use Rattle.read_moves.proofs.BesideLemmas.{neighbours_of-side, AddsSides-skip, AddsSides-visit, AddsSides-all}
 use Rattle.read_moves.proofs.moves.add_sides.Goals as goal
 use Rattle.read_moves.proofs.moves.add_sides.Goals.{in-Some, in_default}
 
@@ -28,8 +25,7 @@ loop-side-preserved g c =
             let e = same_size (g.met.L.Look.sized c.loop-side.board.look) a0 ∙ ap (λ x. x.size) i.stays.shown in
             let on = subst (λ n. l < n * n) (sym e) c.requires in
             let at : neighbour_at pos.size l side ≡ Some w.in-Some.q = ap (λ n. neighbour_at n l side) (e ∙ sym c.size-size.ensures) ∙ sym c.neighbour.ensures.value ∙ w.in-Some.is in
-            rw w.board-is (AddsIn-trans (i.near pos a0)
-            (AddsIn-mono w.add_empty.ensures.near (λ r h. ap (are_neighbours pos.size l) (eqb-true r w.in-Some.q h) ∙ (neighbour_at-near pos.size l side w.in-Some.q on at).1)));
+            rw w.board-is (AddsIn-trans (i.near pos a0) (AddsIn-mono w.add_empty.ensures.near (λ r h. neighbours_of-side pos.size l side w.in-Some.q r on at h)));
         over = λ pos a.
             let a1 = rw w.board-is at a in
             let a0 = agrees_before w.add_empty.ensures.stays.grows a1 in

@@ -1,6 +1,6 @@
-use Rattle.go_rules.specs.Board.{are_neighbours}
 use Rattle.go_rules.specs.Position.{BoardState}
 use Rattle.go_base.specs.Facts.{Agrees, AddsIn}
+use Rattle.go_base.specs.Views.{neighbours_of}
 use Rattle.trial_board.specs.Trials.{Stays, after}
 use Rattle.read_moves.proofs.BesideLemmas.{AddsSides}
 use Rattle.read_moves.proofs.moves.add_sides.Given as goal
@@ -9,6 +9,6 @@ use Rattle.read_moves.proofs.moves.add_sides.Given as goal
 abbrev pub invariant-loop-side : goal.invariant-loop-side
 invariant-loop-side g l = record {
   stays : Stays g.L.Look.shows g.L.Look.seen l.fn.board l.board;
-  near : (pos : BoardState) → Agrees (g.L.Look.seen l.board.look) pos → AddsIn (g.L.Look.seen l.fn.board.look) (g.L.Look.seen l.board.look) (are_neighbours pos.size l.l);
+  near : (pos : BoardState) → Agrees (g.L.Look.seen l.board.look) pos → AddsIn (g.L.Look.seen l.fn.board.look) (g.L.Look.seen l.board.look) (neighbours_of pos.size l.l);
   over : (pos : BoardState) → Agrees (g.L.Look.seen l.board.look) pos → AddsSides pos.size (after pos l.fn.board.moves).cells l.l l.side l.fn.found l.found;
 }
