@@ -31,7 +31,7 @@ edge_pl : first_fault [] (80 ∷ 97 ∷ 116 ∷ 116 ∷ 101 ∷ 114 ∷ 110 ∷ 
 unfolding lines_of kept_if kept_from kind_of is_edge_line is_row shape_of wanted is_misplaced diagram_fault split_at_commas fields_fault labels_under constraint_fault labels_closing_fault after_line so_far pattern_fault found found_at_end least_fault first_fault entries
 edge_pl = refl
 
-large : first_fault [] (80 ∷ 97 ∷ 116 ∷ 116 ∷ 101 ∷ 114 ∷ 110 ∷ 32 ∷ 65 ∷ 10 ∷ 46 ∷ 46 ∷ 46 ∷ 46 ∷ 46 ∷ 46 ∷ 46 ∷ 46 ∷ 46 ∷ 46 ∷ 46 ∷ 46 ∷ 46 ∷ 46 ∷ 46 ∷ 46 ∷ 46 ∷ 46 ∷ 46 ∷ 46 ∷ 10 ∷ []) ≡ Some (record { line = 2; kind = 9 })
+large : first_fault [] (80 ∷ 97 ∷ 116 ∷ 116 ∷ 101 ∷ 114 ∷ 110 ∷ 32 ∷ 65 ∷ 10 ∷ 46 ∷ 46 ∷ 46 ∷ 46 ∷ 46 ∷ 46 ∷ 46 ∷ 46 ∷ 46 ∷ 46 ∷ 46 ∷ 46 ∷ 46 ∷ 46 ∷ 46 ∷ 46 ∷ 46 ∷ 46 ∷ 46 ∷ 46 ∷ 46 ∷ 46 ∷ 46 ∷ 46 ∷ 46 ∷ 46 ∷ 10 ∷ []) ≡ Some (record { line = 2; kind = 9 })
 unfolding lines_of kept_if kept_from kind_of is_edge_line is_row shape_of wanted is_misplaced diagram_fault split_at_commas fields_fault labels_under constraint_fault labels_closing_fault after_line so_far pattern_fault found found_at_end least_fault first_fault entries
 large = refl
 

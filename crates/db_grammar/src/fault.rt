@@ -39,7 +39,7 @@ pub const MOVE_COUNT: u8 = 7;
 /// An edge where none may stand, or one that is missing on a side.
 pub const EDGE_PLACE: u8 = 8;
 
-/// A diagram line of more than 19 bytes, or a twentieth one.
+/// A diagram line that is longer than the largest board is wide, or one more than it has rows.
 pub const TOO_LARGE: u8 = 9;
 
 /// A pattern that ends before its colon line.

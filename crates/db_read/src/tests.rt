@@ -70,8 +70,8 @@ fn first_fault_of_each_kind(rt: HostRuntime) -> Result<(), Fail> {
             (3, 8),
         ),
         (
-            "a row of twenty letters",
-            b"Pattern A\n....................",
+            "a row of 26 points",
+            b"Pattern A\n..........................",
             (2, 9),
         ),
         ("no colon line at the end", b"Pattern A\nO*", (3, 10)),

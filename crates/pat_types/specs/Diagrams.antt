@@ -1,4 +1,5 @@
--- Diagrams: rectangles of letters in reading order with exactly one star, which lie with their edges within the largest board.
+-- Diagrams: rectangles of letters in reading order with exactly one star. With their edges they lie within the largest
+-- board.
 use Rattle.std.specs.Prelude.{◌≡◌, ℕ, ◌+◌, ◌*◌, ◌<◌, ◌≤◌, Bool, true, false, List, length, slice_index_or, ◌==◌}
 use Rattle.go_rules.specs.Board.{largest_size}
 use Rattle.pat_types.specs.declared.letter.Letter.{Letter}
@@ -20,7 +21,8 @@ drawn_line true = 1
 drawn_line false = 0
 
 -- the letters are a whole rectangle with one star, at the place `star`, and lie with the edges within the largest board
-pub record IsDiagram (rows columns : ℕ) (letters : List Letter) (top bottom left right : Bool) (star : ℕ × ℕ) : Type 0 where
+pub record IsDiagram (rows columns : ℕ) (letters : List Letter) (top bottom left right : Bool)
+    (star : ℕ × ℕ) : Type 0 where
   pub rows_from : 1 ≤ rows
   pub columns_from : 1 ≤ columns
   pub rows_to : drawn_line top + rows + drawn_line bottom ≤ largest_size
@@ -28,4 +30,5 @@ pub record IsDiagram (rows columns : ℕ) (letters : List Letter) (top bottom le
   pub size : length letters ≡ rows * columns
   pub star_row : star.0 < rows
   pub star_column : star.1 < columns
-  pub one_star : (i : ℕ) → i < rows * columns → is_star (slice_index_or letters i Friend) ≡ (i == star.0 * columns + star.1)
+  pub one_star : (i : ℕ) → i < rows * columns
+      → is_star (slice_index_or letters i Friend) ≡ (i == star.0 * columns + star.1)

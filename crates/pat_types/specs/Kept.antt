@@ -81,7 +81,9 @@ arity_of XplayDefend = (2, 9)
 
 -- the function may be called so
 abbrev pub may_call : List LabelAt → Function → List Arg → Bool
-may_call labels f args = are_between (arity_of f).0 (arity_of f).1 args && (if is_play f then end_in_point labels args else list_all (is_point labels) args)
+may_call labels f args =
+    are_between (arity_of f).0 (arity_of f).1 args
+    && (if is_play f then end_in_point labels args else list_all (is_point labels) args)
 
 -- the numbers are at most 999,999, each function is called as it may be, and each label is one of these
 unfoldable pub can_evaluate : List LabelAt → Expr → Bool

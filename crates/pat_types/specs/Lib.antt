@@ -3,3 +3,4 @@ pub mod Marks
 pub mod Diagrams
 pub mod Kept
 pub mod Cells
+pub mod Edges

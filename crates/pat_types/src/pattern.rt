@@ -9,7 +9,8 @@ use crate::lists::{Items, Labels, Letters};
 use crate::mark::Mark;
 use go_base::Bytes;
 
-/// A further field of a pattern's colon line: the name of a helper, or a name with a text in parentheses, which tests nothing.
+/// A further field of a pattern's colon line: the name of a helper, or a name with a text in parentheses, which tests
+/// nothing.
 #[derive(Debug, Drop)]
 pub struct Item {
     /// The helper's name, or the name before the parentheses.
@@ -31,7 +32,7 @@ pub struct LabelAt {
 
 /// A pattern of the database, after GNU Go Manual, "The Pattern Code".
 ///
-/// The type keeps that the diagram is a whole rectangle with one star and lies with its edges within 19 rows and 19 columns,
+/// The type keeps that the diagram is a whole rectangle with one star and lies with its edges within the largest board,
 /// that the labels lie in it and differ, and that the constraint can be evaluated.
 #[derive(Debug, Drop)]
 pub struct Pattern {
