@@ -12,7 +12,7 @@ use Rattle.go_rules.proofs.Sets.{contains-insert_nat}
 use Rattle.go_base.specs.Sides.{neighbour_at}
 use Rattle.go_base.specs.Views.{alone, neighbours_of}
 use Rattle.go_base.proofs.Beside.{neighbour_at-all, neighbour_at-near}
-use Rattle.read_moves.specs.Candidates.{is_empty_beside}
+use Rattle.read_rules.specs.Candidates.{is_empty_beside}
 
 same_tests : (a b : Bool) → (a ≡ true → b ≡ true) → (b ≡ true → a ≡ true) → a ≡ b
 same_tests true true f g = refl

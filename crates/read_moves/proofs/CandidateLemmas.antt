@@ -17,7 +17,7 @@ use Rattle.go_base.specs.Views.{alone, neighbours_of}
 use Rattle.go_base.proofs.Closing.{whole_self, whole_string, close_next, alone_self}
 use Rattle.go_base.proofs.LastLiberties.{contains-liberty_points}
 use Rattle.trial_board.specs.Overlays.{neighbourhood_twice}
-use Rattle.read_moves.specs.Candidates.{is_empty_beside, is_candidate}
+use Rattle.read_rules.specs.Candidates.{is_empty_beside, is_candidate}
 
 empty_beside_same : (s : ℕ) (cells : List Cell) (S T : ℕ → Bool) (q : ℕ) → ((l : ℕ) → S l ≡ T l) → is_empty_beside s cells S q ≡ is_empty_beside s cells T q
 unfolding is_empty_beside

@@ -5,12 +5,10 @@
 //! and takes no memory.
 #![tactic(auto)]
 
-pub mod depths;
-pub mod laws;
 pub mod moves;
 
-pub use depths::Depths;
 pub use moves::candidates;
+pub use read_rules::Depths;
 
 #[cfg(test)]
 mod tests;

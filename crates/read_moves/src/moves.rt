@@ -9,7 +9,7 @@ ghost use Rattle.go_rules.specs.Position.{BoardState};
 ghost use Rattle.go_base.specs.Facts.{Agrees, AddsIn};
 ghost use Rattle.go_base.specs.Views.{alone, neighbours_of};
 ghost use Rattle.trial_board.specs.Trials.{Stays, after};
-ghost use Rattle.read_moves.specs.Candidates.{is_empty_beside, is_candidate, near_candidates};
+ghost use Rattle.read_rules.specs.Candidates.{is_empty_beside, is_candidate, near_candidates};
 
 use go_base::points::PointSet;
 use go_base::sides::neighbour;

@@ -2,7 +2,7 @@
 
 ghost use Rattle.std.specs.Prelude.{◌*◌, ◌<◌, IfSome};
 
-use super::{Depths, candidates};
+use super::candidates;
 use go_base::size::MAX_POINTS;
 use go_base::{Colour, Point, PointSet, Position, Size, Watch};
 use std::test::Fail;
@@ -116,21 +116,4 @@ fn liberties_their_neighbours_and_captures_are_tried(rt: HostRuntime) -> Result<
         }
     }
     Ok(())
-}
-
-#[test]
-fn depths_have_their_ranges(rt: HostRuntime) {
-    for (plies, wide, valid) in [
-        (0, 0, false),
-        (1, 0, true),
-        (200, 12, true),
-        (201, 0, false),
-        (10, 13, false),
-    ] {
-        assert_eq!(rt;
-            Depths::new(plies, wide).is_some(),
-            valid,
-            "{plies} and {wide}"
-        );
-    }
 }

@@ -1,5 +1,5 @@
-pub mod GameTree
-pub mod Answer
-pub mod ActiveArea
 pub mod Steps
-pub mod Rules
+pub use Rattle.read_rules.specs.GameTree
+pub use Rattle.read_rules.specs.Answer
+pub use Rattle.read_rules.specs.ActiveArea
+pub use Rattle.read_rules.specs.Rules

@@ -7,15 +7,13 @@
 //! After GNU Go Manual, "Tactical reading"; the tree, its bounds and its ko allowances are this project's own.
 #![tactic(auto)]
 
-pub mod laws;
-pub mod node;
-pub mod question;
 pub mod reading;
+pub mod told;
 mod tree;
 
-pub use node::Node;
-pub use question::{Answer, Kind, Question, Spot, Told};
+pub use read_rules::{Answer, Depths, Kind, Node, ReadingQuestion, Spot};
 pub use reading::{attack, defend};
+pub use told::Told;
 
 #[cfg(test)]
 mod tests;

@@ -5,16 +5,15 @@ ghost use Rattle.go_rules.specs.Position.{BoardState};
 ghost use Rattle.go_rules.specs.Strings.{cell_at};
 ghost use Rattle.go_base.specs.Facts.{Agrees, Grows, CellIs};
 ghost use Rattle.trial_board.specs.Trials.{Stays, most_moves, after};
-ghost use Rattle.read_tree.specs.GameTree.{is_captured};
-ghost use Rattle.read_tree.specs.ActiveArea.{InActiveArea, AddsNear};
-ghost use Rattle.read_tree.specs.Answer.{own_allowance, other_allowance, first_node, is_about, answer_of, asked_on, colour_of};
-ghost use Rattle.read_tree.specs.Steps.{Reads, IsOnBoard};
+ghost use Rattle.read_rules.specs.GameTree.{is_captured};
+ghost use Rattle.read_rules.specs.ActiveArea.{InActiveArea, AddsNear};
+ghost use Rattle.read_rules.specs.Answer.{own_allowance, other_allowance, first_node, is_about, answer_of, asked_on, colour_of};
+ghost use Rattle.read_rules.specs.GoodMoves.{Reads, IsOnBoard};
 
-use crate::node::Node;
-use crate::question::{Answer, Kind, Question, Spot, Told};
+use crate::told::Told;
 use crate::tree::good_move;
 use go_base::{Cell, Colour, Look, Point};
-use read_moves::Depths;
+use read_rules::{Answer, Depths, Kind, Node, ReadingQuestion, Spot};
 use trial_board::Trial;
 
 /// How often the side that is asked about may ignore the ko ban under a code.
@@ -32,7 +31,7 @@ fn other_allowance(code: u8) -> u8
 }
 
 /// The first node of a question under the ko allowances of a code.
-fn first_node(question: &Question, code: u8) -> Node
+fn first_node(question: &ReadingQuestion, code: u8) -> Node
     ensures { result ≡ first_node question.now code }
 {
     let own = own_allowance(code);
@@ -58,7 +57,7 @@ fn first_node(question: &Question, code: u8) -> Node
 }
 
 /// The first move by which the question attains the code, where it does.
-fn read_code<L: Look>(board: &mut Trial<L>, question: &Question, code: u8) -> Option<Spot>
+fn read_code<L: Look>(board: &mut Trial<L>, question: &ReadingQuestion, code: u8) -> Option<Spot>
     requires plies { 0 < question.now.plies }
     requires room { length board.old.moves + question.now.plies ≤ most_moves }
     requires target { question.now.target < (L.shows board.old.look).size * (L.shows board.old.look).size }
@@ -77,7 +76,7 @@ fn read_code<L: Look>(board: &mut Trial<L>, question: &Question, code: u8) -> Op
 }
 
 /// The answer to a question that is about the position.
-fn read<L: Look>(board: &mut Trial<L>, question: &Question) -> Answer
+fn read<L: Look>(board: &mut Trial<L>, question: &ReadingQuestion) -> Answer
     requires plies { 0 < question.now.plies }
     requires room { length board.old.moves + question.now.plies ≤ most_moves }
     requires target { question.now.target < (L.shows board.old.look).size * (L.shows board.old.look).size }
@@ -140,7 +139,7 @@ fn answered<L: Look>(look: L, kind: Kind, target: Point, depths: Depths) -> Told
 {
     let mut view = look;
     let colour = colour_of(view.cell(target));
-    let question = Question {
+    let question = ReadingQuestion {
         size: view.size(),
         kind,
         target,

@@ -6,17 +6,17 @@ ghost use Rattle.go_rules.specs.Position.{BoardState};
 ghost use Rattle.go_base.specs.Facts.{Agrees, Grows, AddsIn};
 ghost use Rattle.go_base.specs.Views.{alone};
 ghost use Rattle.trial_board.specs.Overlays.{neighbourhood_twice};
-ghost use Rattle.read_moves.specs.Candidates.{is_candidate};
+ghost use Rattle.read_rules.specs.Candidates.{is_candidate};
 ghost use Rattle.trial_board.specs.Trials.{Stays, most_moves, after};
-ghost use Rattle.read_tree.specs.declared.question.Question.{Question};
-ghost use Rattle.read_tree.specs.ActiveArea.{IsNodeOf, IsUndecided, InActiveArea, AddsNear};
-ghost use Rattle.read_tree.specs.GameTree.{is_captured, has_many_liberties, child_of, attacker_wins, succeeds, first_success, at_point};
-ghost use Rattle.read_tree.specs.Steps.{tail_if, with_position, good_move, IsOnBoard};
+ghost use Rattle.read_rules.specs.declared.question.ReadingQuestion.{ReadingQuestion};
+ghost use Rattle.read_rules.specs.ActiveArea.{IsNodeOf, IsUndecided, InActiveArea, AddsNear};
+ghost use Rattle.read_rules.specs.GameTree.{is_captured, has_many_liberties, child_of, attacker_wins, succeeds, first_success, at_point};
+ghost use Rattle.read_rules.specs.GoodMoves.{good_move, IsOnBoard};
+ghost use Rattle.read_tree.specs.Steps.{tail_if, with_position};
 
-use crate::node::Node;
-use crate::question::Spot;
 use go_base::{Cell, Look, Point};
 use read_moves::candidates;
+use read_rules::{Node, Spot};
 use trial_board::{Trial, Tried};
 
 /// A target with more liberties is not attacked.
@@ -83,7 +83,7 @@ fn succeeds<L: Look>(board: &mut Trial<L>, node: Node, p: Point, plies: u8) -> b
     ensures stays { Stays L.shows L.seen board.old board.new }
     ensures over { (pos : BoardState) → Agrees (L.seen board.new.look) pos
         → result ≡ succeeds plies node (after pos board.old.moves) p }
-    ensures near { (pos : BoardState) → Agrees (L.seen board.new.look) pos → (q : Question) (root : BoardState)
+    ensures near { (pos : BoardState) → Agrees (L.seen board.new.look) pos → (q : ReadingQuestion) (root : BoardState)
         → IsNodeOf q root (suc plies) node (after pos board.old.moves) → IsUndecided node (after pos board.old.moves)
         → IsTrue (is_candidate (after pos board.old.moves) node.target node.wide p)
         → AddsNear (L.seen board.old.look) (L.seen board.new.look) (InActiveArea q root) }
@@ -107,7 +107,7 @@ fn first_success<L: Look>(board: &mut Trial<L>, node: Node, plies: u8) -> Option
     ensures on_board { IfSome result (λ p. p < (L.shows board.old.look).size * (L.shows board.old.look).size) }
     ensures over { (pos : BoardState) → Agrees (L.seen board.new.look) pos
         → result ≡ first_success plies node (after pos board.old.moves) }
-    ensures near { (pos : BoardState) → Agrees (L.seen board.new.look) pos → (q : Question) (root : BoardState)
+    ensures near { (pos : BoardState) → Agrees (L.seen board.new.look) pos → (q : ReadingQuestion) (root : BoardState)
         → IsNodeOf q root (suc plies) node (after pos board.old.moves) → IsUndecided node (after pos board.old.moves)
         → AddsNear (L.seen board.old.look) (L.seen board.new.look) (InActiveArea q root) }
 {
@@ -142,7 +142,7 @@ pub fn good_move<L: Look>(board: &mut Trial<L>, node: Node, plies: u8) -> Option
     ensures on_board { IfSome result (IsOnBoard (L.shows board.old.look).size) }
     ensures over { (pos : BoardState) → Agrees (L.seen board.new.look) pos
         → result ≡ good_move plies node (after pos board.old.moves) }
-    ensures near { (pos : BoardState) → Agrees (L.seen board.new.look) pos → (q : Question) (root : BoardState)
+    ensures near { (pos : BoardState) → Agrees (L.seen board.new.look) pos → (q : ReadingQuestion) (root : BoardState)
         → IsNodeOf q root (suc plies) node (after pos board.old.moves) → is_captured (after pos board.old.moves) node.target ≡ false
         → AddsNear (L.seen board.old.look) (L.seen board.new.look) (InActiveArea q root) }
 {
@@ -169,7 +169,7 @@ fn attacker_wins<L: Look>(board: &mut Trial<L>, node: Node, plies: u8) -> bool
     ensures stays { Stays L.shows L.seen board.old board.new }
     ensures over { (pos : BoardState) → Agrees (L.seen board.new.look) pos
         → result ≡ attacker_wins plies node (after pos board.old.moves) }
-    ensures near { (pos : BoardState) → Agrees (L.seen board.new.look) pos → (q : Question) (root : BoardState)
+    ensures near { (pos : BoardState) → Agrees (L.seen board.new.look) pos → (q : ReadingQuestion) (root : BoardState)
         → IsNodeOf q root plies node (after pos board.old.moves)
         → AddsNear (L.seen board.old.look) (L.seen board.new.look) (λ p. (p ≡ node.target) ⊎ InActiveArea q root p) }
 {

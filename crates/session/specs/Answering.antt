@@ -16,8 +16,8 @@ use Rattle.gtp_cmd.specs.declared.commands.Parsed.{Parsed}
 use Rattle.gtp_cmd.specs.declared.commands.Parsed.TheVariants as parsed
 use Rattle.gtp_cmd.specs.declared.refusals.RefuseText.{RefuseText}
 use Rattle.gtp_cmd.specs.declared.refusals.RefuseText.TheVariants.{LineTooLong, UnacceptableSize, IllegalMove, HistoryFull, CannotUndo, VertexEmpty, OutOfMemory}
-use Rattle.read_tree.specs.declared.question.Kind.{Kind}
-use Rattle.read_tree.specs.declared.question.Kind.TheVariants.{Attack, Defend}
+use Rattle.read_rules.specs.declared.question.Kind.{Kind}
+use Rattle.read_rules.specs.declared.question.Kind.TheVariants.{Attack, Defend}
 use Rattle.session.specs.Machine.{Machine, position_of}
 use Rattle.session.specs.BoardText.{board_text}
 use Rattle.session.specs.MatchTexts.{matches_text}

@@ -1,10 +1,10 @@
 -- What a session tells of readings.
 use Rattle.std.specs.Prelude.{ℕ, List, [], ◌∷◌, ◌++◌, Option, None, Some, codes, decimal}
-use Rattle.read_tree.specs.declared.question.Kind.{Kind}
-use Rattle.read_tree.specs.declared.question.Spot.{Spot}
-use Rattle.read_tree.specs.declared.question.Spot.TheVariants.{At, Pass}
-use Rattle.read_tree.specs.declared.question.Answer.{Answer}
-use Rattle.read_tree.specs.Answer.{answer_of, asked_on}
+use Rattle.read_rules.specs.declared.question.Kind.{Kind}
+use Rattle.read_rules.specs.declared.question.Spot.{Spot}
+use Rattle.read_rules.specs.declared.question.Spot.TheVariants.{At, Pass}
+use Rattle.read_rules.specs.declared.question.Answer.{Answer}
+use Rattle.read_rules.specs.Answer.{answer_of, asked_on}
 use Rattle.gtp_cmd.specs.Words.{blank}
 use Rattle.gtp_cmd.specs.Vertices.{vertex_text}
 use Rattle.session.specs.Machine.{Machine, position_of}

@@ -9,7 +9,7 @@ ghost use Rattle.gtp_lex.specs.Raw.{raw_line};
 ghost use Rattle.session.specs.Machine.{position_of};
 ghost use Rattle.session.specs.Kept.{machine_of, first_kept, NumbersPatterns};
 ghost use Rattle.session.specs.Answering.{step, parsed_step, command_step, resized, played, taken_back, told_of_stone, read_of_stone, word_of, digit_of};
-ghost use Rattle.read_tree.specs.declared.question.Kind.{Kind};
+ghost use Rattle.read_rules.specs.declared.question.Kind.{Kind};
 ghost use Rattle.session.specs.Replies.{IsReply, IsReplyTo, IsGrowing, IsWithoutWords, IsRefusal, reply_bytes};
 
 use crate::board_text::board_text;

@@ -10,7 +10,7 @@ use Rattle.go_base.proofs.LastLiberties.{contains-liberty_points}
 use Rattle.go_base.proofs.Liberties.{len-liberty_points}
 use Rattle.trial_board.specs.Trials.{after}
 use Rattle.trial_board.proofs.AfterLemmas.{size-after}
-use Rattle.read_moves.specs.Candidates.{is_empty_beside, is_candidate}
+use Rattle.read_rules.specs.Candidates.{is_empty_beside, is_candidate}
 use Rattle.read_moves.proofs.CandidateLemmas.{candidate_is, near_liberties}
 use Rattle.read_moves.proofs.moves.candidates.Given.{Over}
 use Rattle.read_moves.proofs.moves.candidates.Goals as goal

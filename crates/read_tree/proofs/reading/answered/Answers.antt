@@ -5,18 +5,18 @@ use Rattle.go_rules.specs.Strings.{cell_at}
 use Rattle.go_rules.specs.Position.{BoardState}
 use Rattle.go_base.specs.Facts.{Agrees, CellIs, agrees_before, same_size}
 use Rattle.trial_board.specs.Trials.{after}
-use Rattle.read_tree.specs.declared.question.Question.{Question}
-use Rattle.read_tree.specs.Answer.{is_about, asked_on, first_node}
-use Rattle.read_tree.specs.ActiveArea.{first, InActiveArea, AddsNear}
-use Rattle.read_tree.proofs.AnswerLemmas.{about_asked, about_stands, question_is}
-use Rattle.read_tree.proofs.AreaLemmas.{AddsNear-in, AddsNear-trans, area_target, target_on}
+use Rattle.read_rules.specs.declared.question.ReadingQuestion.{ReadingQuestion}
+use Rattle.read_rules.specs.Answer.{is_about, asked_on, first_node}
+use Rattle.read_rules.specs.ActiveArea.{first, InActiveArea, AddsNear}
+use Rattle.read_rules.proofs.AnswerLemmas.{about_asked, about_stands, question_is}
+use Rattle.read_rules.proofs.AreaLemmas.{AddsNear-in, AddsNear-trans, area_target, target_on}
 use Rattle.read_tree.proofs.reading.answered.Goals as goal
 
 pub returns-clause-near : goal.returns-clause-near
 returns-clause-near g c = λ pos a.
     let shown = g.L.Look.shows c.args.look in
     let asked = asked_on shown c.args.kind c.args.target c.args.depths.plies c.args.depths.wide in
-    let question : Question = record { size = c.size.result; kind = c.args.kind; target = c.args.target; colour = c.colour_of-colour.result; plies = c.args.depths.plies; wide = c.args.depths.wide } in
+    let question : ReadingQuestion = record { size = c.size.result; kind = c.args.kind; target = c.args.target; colour = c.colour_of-colour.result; plies = c.args.depths.plies; wide = c.args.depths.wide } in
     let a3 = subst (λ look. Agrees (g.L.Look.seen look) pos) c.finish.ensures a in
     let a2 = agrees_before c.read-answer.ensures.stays.grows a3 in
     let a1 = subst (λ t. Agrees (g.L.Look.seen t.look) pos) c.new-board.ensures a2 in
@@ -28,7 +28,7 @@ returns-clause-near g c = λ pos a.
     let about = about_asked shown pos c.args.kind c.args.target c.args.depths.plies c.args.depths.wide c.requires.stone size (cell_here ∙ sym cell_shown) in
     let at_board = subst (λ t. is_about question (after pos t.moves) ≡ true → AddsNear (g.L.Look.seen t.look) (g.L.Look.seen c.read-answer.new.board.look) (InActiveArea question (after pos t.moves)))
     c.new-board.ensures (c.read-answer.ensures.near pos a3) in
-    let readings = subst (λ (q : Question). is_about q pos ≡ true → AddsNear (g.L.Look.seen c.cell.new.self) (g.L.Look.seen c.read-answer.new.board.look) (InActiveArea q pos)) is_asked at_board in
+    let readings = subst (λ (q : ReadingQuestion). is_about q pos ≡ true → AddsNear (g.L.Look.seen c.cell.new.self) (g.L.Look.seen c.read-answer.new.board.look) (InActiveArea q pos)) is_asked at_board in
     let inside = target_on pos.size shown.size c.args.target size c.requires.on_board in
     let target = AddsNear-in (InActiveArea asked pos) c.cell.ensures.near (λ p h. area_target asked pos pos c.args.depths.plies (first_node asked 1) (first 1 (omega arith) (omega arith)) pos.size refl inside
     (about_stands asked pos about) p (eqb-true p c.args.target h)) in

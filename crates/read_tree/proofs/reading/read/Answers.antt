@@ -2,8 +2,8 @@
 use Rattle.std.proofs.Common.{◌∙◌, arith}
 use Rattle.go_base.specs.Facts.{agrees_before}
 use Rattle.trial_board.specs.Trials.{after}
-use Rattle.read_tree.proofs.AnswerLemmas.{about_stands, answer_3, answer_2, answer_1, answer_0}
-use Rattle.read_tree.proofs.AreaLemmas.{AddsNear-trans}
+use Rattle.read_rules.proofs.AnswerLemmas.{about_stands, answer_3, answer_2, answer_1, answer_0}
+use Rattle.read_rules.proofs.AreaLemmas.{AddsNear-trans}
 use Rattle.read_tree.proofs.reading.read.Goals as goal
 
 pub returns-in-Some-clause-over : goal.returns-in-Some-clause-over

@@ -1,9 +1,9 @@
 -- The good move at the first node is the first move that attains the code.
 use Rattle.std.proofs.Common.{◌≢◌, arith}
 use Rattle.trial_board.specs.Trials.{after}
-use Rattle.read_tree.specs.ActiveArea.{first}
-use Rattle.read_tree.proofs.AnswerLemmas.{reads}
-use Rattle.read_tree.proofs.AreaLemmas.{pred_tree}
+use Rattle.read_rules.specs.ActiveArea.{first}
+use Rattle.read_rules.proofs.AnswerLemmas.{reads}
+use Rattle.read_rules.proofs.AreaLemmas.{pred_tree}
 use Rattle.read_tree.proofs.reading.read_code.Goals as goal
 
 pub returns-clause-over : goal.returns-clause-over

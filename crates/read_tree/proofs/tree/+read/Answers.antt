@@ -9,11 +9,11 @@ use Rattle.go_rules.specs.Position.{BoardState}
 use Rattle.trial_board.specs.declared.moves.TrialMove.{TrialMove}
 use Rattle.trial_board.specs.Trials.{after, tail}
 use Rattle.trial_board.proofs.AfterLemmas.{size-after}
-use Rattle.read_moves.specs.Candidates.{is_candidate}
-use Rattle.read_moves.proofs.LawLemmas.{candidate_on}
-use Rattle.read_tree.specs.ActiveArea.{by_play, IsUndecided, InActiveArea}
-use Rattle.read_tree.proofs.AreaLemmas.{AddsNear-in, AddsNear-trans, AddsNear-mono, area_target, area_once, area_twice, area_play, pred_tree, undecided_defender, pass_tree, target_on}
-use Rattle.read_tree.proofs.WinLemmas.{wins-captured, wins-no_plies, wins-by_move, none_before, first_success-found, first_success-none}
+use Rattle.read_rules.specs.Candidates.{is_candidate}
+use Rattle.read_rules.proofs.CandidateLaws.{candidate_on}
+use Rattle.read_rules.specs.ActiveArea.{by_play, IsUndecided, InActiveArea}
+use Rattle.read_rules.proofs.AreaLemmas.{AddsNear-in, AddsNear-trans, AddsNear-mono, area_target, area_once, area_twice, area_play, pred_tree, undecided_defender, pass_tree, target_on}
+use Rattle.read_rules.proofs.WinLemmas.{wins-captured, wins-no_plies, wins-by_move, none_before, first_success-found, first_success-none}
 use Rattle.read_tree.proofs.tree.+read.Goals as goal
 
 and_false : (a b : Bool) → b ≡ false → (a && b) ≡ false

@@ -4,9 +4,9 @@ use Rattle.go_rules.specs.Board.{largest_points}
 use Rattle.go_rules.specs.Position.{BoardState}
 use Rattle.go_base.specs.Facts.{Agrees, Grows}
 use Rattle.trial_board.specs.Trials.{Stays, after}
-use Rattle.read_tree.specs.declared.question.Question.{Question}
-use Rattle.read_tree.specs.ActiveArea.{IsNodeOf, IsUndecided, InActiveArea, AddsNear}
-use Rattle.read_tree.specs.GameTree.{succeeds}
+use Rattle.read_rules.specs.declared.question.ReadingQuestion.{ReadingQuestion}
+use Rattle.read_rules.specs.ActiveArea.{IsNodeOf, IsUndecided, InActiveArea, AddsNear}
+use Rattle.read_rules.specs.GameTree.{succeeds}
 use Rattle.read_tree.proofs.tree.+read.Given as goal
 
 -- each step down the tree spends a ply, and within a node the order of the calls is fixed
@@ -27,7 +27,7 @@ abbrev pub invariant-first_success-loop-p : goal.invariant-first_success-loop-p
 invariant-first_success-loop-p g l = record {
   stays : Stays g.L.Look.shows g.L.Look.seen l.fn.board l.board;
   grows : Grows (g.L.Look.seen l.initial.board.look) (g.L.Look.seen l.board.look);
-  near : (pos : BoardState) → Agrees (g.L.Look.seen l.board.look) pos → (q : Question) (root : BoardState)
+  near : (pos : BoardState) → Agrees (g.L.Look.seen l.board.look) pos → (q : ReadingQuestion) (root : BoardState)
       → IsNodeOf q root (suc l.plies) l.node (after pos l.fn.board.moves) → IsUndecided l.node (after pos l.fn.board.moves)
       → AddsNear (g.L.Look.seen l.fn.board.look) (g.L.Look.seen l.board.look) (InActiveArea q root);
   none : (pos : BoardState) → Agrees (g.L.Look.seen l.board.look) pos → (q : ℕ) → q < l.next

@@ -5,7 +5,7 @@ use Rattle.go_base.proofs.Liberties.{len-liberty_points}
 use Rattle.go_rules.specs.Strings.{liberties}
 use Rattle.trial_board.specs.Trials.{after}
 use Rattle.trial_board.proofs.AfterLemmas.{size-after}
-use Rattle.read_tree.specs.GameTree.{has_many_liberties}
+use Rattle.read_rules.specs.GameTree.{has_many_liberties}
 use Rattle.read_tree.proofs.tree.has_many_liberties.Goals as goal
 
 pub returns-clause-over : goal.returns-clause-over

@@ -8,13 +8,13 @@ use Rattle.go_rules.specs.declared.Colour.TheVariants.{Black as black, White as 
 use Rattle.go_rules.specs.Strings.{cell_at, same_cell}
 use Rattle.go_rules.specs.Position.{BoardState, stone_of}
 use Rattle.go_rules.proofs.Paths.{same_cell-true, same_cell-from}
-use Rattle.read_tree.specs.declared.question.Kind.{Kind}
-use Rattle.read_tree.specs.declared.question.Spot.{Spot}
-use Rattle.read_tree.specs.declared.question.Question.{Question}
-use Rattle.read_tree.specs.GameTree.{is_captured, attacker_wins, first_move}
-use Rattle.read_tree.specs.Answer.{is_attack, first_node, attains_code, is_about, code_of, first_move_of, move_of, answer_of, colour_of, asked_on}
-use Rattle.read_tree.specs.Steps.{is_barred, good_move, Reads}
-use Rattle.read_tree.proofs.WinLemmas.{wins-attacker_move, wins-defender_move}
+use Rattle.read_rules.specs.declared.question.Kind.{Kind}
+use Rattle.read_rules.specs.declared.question.Spot.{Spot}
+use Rattle.read_rules.specs.declared.question.ReadingQuestion.{ReadingQuestion}
+use Rattle.read_rules.specs.GameTree.{is_captured, attacker_wins, first_move}
+use Rattle.read_rules.specs.Answer.{is_attack, first_node, attains_code, is_about, code_of, first_move_of, move_of, answer_of, colour_of, asked_on}
+use Rattle.read_rules.specs.GoodMoves.{is_barred, good_move, Reads}
+use Rattle.read_rules.proofs.WinLemmas.{wins-attacker_move, wins-defender_move}
 
 not_not : (b : Bool) → not (not b) ≡ b
 not_not true = refl
@@ -26,7 +26,7 @@ kept true first found e s = absurd (let w : false ≡ true = sym (ap is_some e) 
 kept false first found e s = e
 
 -- the good move at the first node is what a reading under the code looks for
-pub reads : (q : Question) (pos : BoardState) (code : ℕ) (found : Option Spot) → q.plies ≢ 0 → is_captured pos q.target ≡ false
+pub reads : (q : ReadingQuestion) (pos : BoardState) (code : ℕ) (found : Option Spot) → q.plies ≢ 0 → is_captured pos q.target ≡ false
     → found ≡ good_move (q.plies - 1) (first_node q code) pos → Reads q pos code found
 reads q pos code found ne h e =
     let node = first_node q code in
@@ -44,14 +44,14 @@ stone_stands cell black e = ap (λ k. same_cell k Empty) e
 stone_stands cell white e = ap (λ k. same_cell k Empty) e
 
 -- on a position that the question is about the target stands
-pub about_stands : (q : Question) (pos : BoardState) → is_about q pos ≡ true → is_captured pos q.target ≡ false
+pub about_stands : (q : ReadingQuestion) (pos : BoardState) → is_about q pos ≡ true → is_captured pos q.target ≡ false
 about_stands q pos h = stone_stands (cell_at pos.cells q.target) q.colour (same_cell-true _ _ (and_parts _ _ h).1)
 
 -- the code by what is attained
 chosen : (about three two one : Bool) → ℕ
 chosen about three two one = cond (not about) 0 (cond three 3 (cond two 2 (cond one 1 0)))
 
-code_of-chosen : (q : Question) (pos : BoardState) → code_of q pos ≡ chosen (is_about q pos) (attains_code q pos 3) (attains_code q pos 2) (attains_code q pos 1)
+code_of-chosen : (q : ReadingQuestion) (pos : BoardState) → code_of q pos ≡ chosen (is_about q pos) (attains_code q pos 3) (attains_code q pos 2) (attains_code q pos 1)
 unfolding code_of chosen
 code_of-chosen q pos = refl
 
@@ -72,33 +72,33 @@ unfolding chosen
 chosen-0 about three two one a t s o = rw (a, t, s, o) refl
 
 -- the answer of a code
-answer_with : (q : Question) (pos : BoardState) (code : ℕ) (at : Option Spot) → code_of q pos ≡ code → at ≡ move_of q pos code → record { code = code; at = at } ≡ answer_of q pos
+answer_with : (q : ReadingQuestion) (pos : BoardState) (code : ℕ) (at : Option Spot) → code_of q pos ≡ code → at ≡ move_of q pos code → record { code = code; at = at } ≡ answer_of q pos
 unfolding answer_of
 answer_with q pos code at e f =
     ap (λ (m : Option Spot). record { code = code; at = m }) f ∙ ap (λ (k : ℕ). record { code = k; at = move_of q pos k }) (sym e)
 
-missed : {q : Question} {pos : BoardState} {code : ℕ} {found : Option Spot} → Reads q pos code found → found ≡ None → attains_code q pos code ≡ false
+missed : {q : ReadingQuestion} {pos : BoardState} {code : ℕ} {found : Option Spot} → Reads q pos code found → found ≡ None → attains_code q pos code ≡ false
 missed r e = sym r.attained ∙ ap is_some e
 
-hit : {q : Question} {pos : BoardState} {code : ℕ} {found : Option Spot} {spot : Spot} → Reads q pos code found → found ≡ Some spot → attains_code q pos code ≡ true
+hit : {q : ReadingQuestion} {pos : BoardState} {code : ℕ} {found : Option Spot} {spot : Spot} → Reads q pos code found → found ≡ Some spot → attains_code q pos code ≡ true
 hit r e = sym r.attained ∙ ap is_some e
 
-move : {q : Question} {pos : BoardState} {code : ℕ} {found : Option Spot} {spot : Spot} → Reads q pos code found → found ≡ Some spot → Some spot ≡ first_move_of q pos code
+move : {q : ReadingQuestion} {pos : BoardState} {code : ℕ} {found : Option Spot} {spot : Spot} → Reads q pos code found → found ≡ Some spot → Some spot ≡ first_move_of q pos code
 move r e = sym e ∙ r.move (ap is_some e)
 
-pub answer_3 : (q : Question) (pos : BoardState) (three : Option Spot) (spot : Spot) → is_about q pos ≡ true → Reads q pos 3 three → three ≡ Some spot
+pub answer_3 : (q : ReadingQuestion) (pos : BoardState) (three : Option Spot) (spot : Spot) → is_about q pos ≡ true → Reads q pos 3 three → three ≡ Some spot
     → record { code = 3; at = Some spot } ≡ answer_of q pos
 answer_3 q pos three spot a r e = answer_with q pos 3 (Some spot) (code_of-chosen q pos ∙ chosen-3 _ _ _ _ a (hit r e)) (move r e)
 
-pub answer_2 : (q : Question) (pos : BoardState) (three two : Option Spot) (spot : Spot) → is_about q pos ≡ true → Reads q pos 3 three → three ≡ None → Reads q pos 2 two → two ≡ Some spot
+pub answer_2 : (q : ReadingQuestion) (pos : BoardState) (three two : Option Spot) (spot : Spot) → is_about q pos ≡ true → Reads q pos 3 three → three ≡ None → Reads q pos 2 two → two ≡ Some spot
     → record { code = 2; at = Some spot } ≡ answer_of q pos
 answer_2 q pos three two spot a r3 e3 r e = answer_with q pos 2 (Some spot) (code_of-chosen q pos ∙ chosen-2 _ _ _ _ a (missed r3 e3) (hit r e)) (move r e)
 
-pub answer_1 : (q : Question) (pos : BoardState) (three two one : Option Spot) (spot : Spot) → is_about q pos ≡ true → Reads q pos 3 three → three ≡ None → Reads q pos 2 two → two ≡ None
+pub answer_1 : (q : ReadingQuestion) (pos : BoardState) (three two one : Option Spot) (spot : Spot) → is_about q pos ≡ true → Reads q pos 3 three → three ≡ None → Reads q pos 2 two → two ≡ None
     → Reads q pos 1 one → one ≡ Some spot → record { code = 1; at = Some spot } ≡ answer_of q pos
 answer_1 q pos three two one spot a r3 e3 r2 e2 r e = answer_with q pos 1 (Some spot) (code_of-chosen q pos ∙ chosen-1 _ _ _ _ a (missed r3 e3) (missed r2 e2) (hit r e)) (move r e)
 
-pub answer_0 : (q : Question) (pos : BoardState) (three two one : Option Spot) → is_about q pos ≡ true → Reads q pos 3 three → three ≡ None → Reads q pos 2 two → two ≡ None
+pub answer_0 : (q : ReadingQuestion) (pos : BoardState) (three two one : Option Spot) → is_about q pos ≡ true → Reads q pos 3 three → three ≡ None → Reads q pos 2 two → two ≡ None
     → Reads q pos 1 one → one ≡ None → record { code = 0; at = None } ≡ answer_of q pos
 answer_0 q pos three two one a r3 e3 r2 e2 r e = answer_with q pos 0 None (code_of-chosen q pos ∙ chosen-0 _ _ _ _ a (missed r3 e3) (missed r2 e2) (missed r e)) refl
 

@@ -9,7 +9,7 @@ use Rattle.go_rules.proofs.Counts.{any_below_gives, any_below_from}
 use Rattle.go_rules.proofs.Paths.{same_cell-true, same_cell-from, IsInString-from_test, is_is_in_string-from_fact, IsLiberty-from_test, is_liberty-from_fact}
 use Rattle.go_rules.proofs.Boundary.{is_in_string_on}
 use Rattle.go_base.specs.Surroundings.{is_only_liberty, is_last_liberty_of_enemy}
-use Rattle.read_moves.specs.Candidates.{is_empty_beside, is_candidate, IsEmptyNeighbour, IsTakenAt, IsCandidate, fills, looks_wide, takes}
+use Rattle.read_rules.specs.Candidates.{is_empty_beside, is_candidate, IsEmptyNeighbour, IsTakenAt, IsCandidate, fills, looks_wide, takes}
 
 -- an empty point beside a liberty is an empty neighbour of one, and the other way round
 wide_gives : (s : ℕ) (cells : List Cell) (target p : ℕ) → is_empty_beside s cells (is_liberty s cells target) p ≡ true

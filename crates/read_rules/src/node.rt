@@ -1,7 +1,7 @@
 //! A node of the game tree: what is read, whose turn it is, and what is left to spend.
 
 ghost use Rattle.std.specs.Prelude.{◌≡◌};
-ghost use Rattle.read_tree.specs.GameTree.{mover_of, allowance_of, next_node};
+ghost use Rattle.read_rules.specs.GameTree.{mover_of, allowance_of, next_node};
 
 use go_base::{Colour, Point};
 

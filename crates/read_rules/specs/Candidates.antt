@@ -7,9 +7,10 @@ use Rattle.go_rules.specs.Board.{are_neighbours}
 use Rattle.go_rules.specs.Below.{any_below}
 use Rattle.go_rules.specs.Strings.{cell_at, same_cell, is_liberty, liberties, IsInString, IsLiberty}
 use Rattle.go_rules.specs.Boundary.{is_enemy}
+use Rattle.go_rules.specs.Neighbourhood.{neighbourhood_of}
 use Rattle.go_rules.specs.Position.{BoardState}
 use Rattle.go_base.specs.Surroundings.{is_last_liberty_of_enemy}
-use Rattle.trial_board.specs.Overlays.{neighbourhood_twice}
+use Rattle.go_base.specs.Views.{alone}
 
 -- p is empty and next to a point of S
 unfoldable pub is_empty_beside : ℕ → List Cell → (ℕ → Bool) → ℕ → Bool
@@ -29,7 +30,7 @@ candidates_of pos target k = filter (is_candidate pos target k) (range_with_len 
 
 -- the points that a search for the candidates of a target may ask for
 abbrev pub near_candidates : ℕ → List Cell → ℕ → ℕ → Bool
-near_candidates s cells target = neighbourhood_twice s cells target
+near_candidates s cells target = neighbourhood_of s cells (neighbourhood_of s cells (alone target))
 
 -- The same in terms of strings and liberties; the law `candidates_are_by_strings` ties the two.
 

@@ -5,13 +5,13 @@ use mathlib.Core.Bool.{beq}
 use Rattle.std.proofs.lemmas.Bool.{eqb-true, eqb-false, cases_Bool, cases_lt}
 use Rattle.go_rules.specs.Position.{BoardState}
 use Rattle.go_rules.specs.Play.{pass}
-use Rattle.read_moves.specs.Candidates.{is_candidate, candidates_of}
-use Rattle.read_moves.proofs.LawLemmas.{candidate_on}
-use Rattle.read_tree.specs.declared.node.Node.{Node}
-use Rattle.read_tree.specs.declared.question.Spot.{Spot}
-use Rattle.read_tree.specs.declared.question.Spot.TheVariants.{Pass}
-use Rattle.read_tree.specs.GameTree.{attacker_wins, child_of, next_node, allowance_of, suits, succeeds, first_success, at_point, is_captured, has_many_liberties, some_child, each_child}
-use Rattle.read_tree.specs.Steps.{good_move}
+use Rattle.read_rules.specs.Candidates.{is_candidate, candidates_of}
+use Rattle.read_rules.proofs.CandidateLaws.{candidate_on}
+use Rattle.read_rules.specs.declared.node.Node.{Node}
+use Rattle.read_rules.specs.declared.question.Spot.{Spot}
+use Rattle.read_rules.specs.declared.question.Spot.TheVariants.{Pass}
+use Rattle.read_rules.specs.GameTree.{attacker_wins, child_of, next_node, allowance_of, suits, succeeds, first_success, at_point, is_captured, has_many_liberties, some_child, each_child}
+use Rattle.read_rules.specs.GoodMoves.{good_move}
 
 -- the first that passes both tests, among the numbers from a on
 pub first-found : (g t : ℕ → Bool) (n a p : ℕ) → a ≤ p → p < a + n → ((q : ℕ) → a ≤ q → q < p → (g q && t q) ≡ false) → (g p && t p) ≡ true → find t (filter g (range_with_len a n)) ≡ Some p

@@ -1,5 +1,5 @@
-use Rattle.read_moves.proofs.LawLemmas.{candidate_gives, candidate_from, candidate_on}
-use Rattle.read_moves.proofs.laws.candidates_are_by_strings.Goals as goal
+use Rattle.read_rules.proofs.CandidateLaws.{candidate_gives, candidate_from, candidate_on}
+use Rattle.read_rules.proofs.laws.candidates_are_by_strings.Goals as goal
 
 pub returns-clause-candidate : goal.returns-clause-candidate
 returns-clause-candidate c = λ pos target k p on. (candidate_gives pos target k p, candidate_from pos target k p on)

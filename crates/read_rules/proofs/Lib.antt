@@ -1,0 +1,6 @@
+pub mod CandidateLaws
+pub mod WalkLemmas
+pub mod WinLemmas
+pub mod AnswerLemmas
+pub mod RuleLemmas
+pub mod AreaLemmas

@@ -1,0 +1,6 @@
+pub mod Candidates
+pub mod GameTree
+pub mod Answer
+pub mod GoodMoves
+pub mod Rules
+pub mod ActiveArea

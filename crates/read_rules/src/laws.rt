@@ -1,0 +1,60 @@
+//! What the computing definitions of the candidates, of the game tree and of the answers mean, in Go's words.
+
+ghost use Rattle.std.specs.Prelude.{◌≡◌, ◌≢◌, ◌↔◌, ℕ, ◌+◌, ◌-◌, ◌*◌, ◌<◌, Bool, true, false, not, IsTrue, Some, None};
+ghost use Rattle.go_rules.specs.Position.{BoardState};
+ghost use Rattle.go_rules.specs.Strings.{cell_at};
+ghost use Rattle.read_rules.specs.Candidates.{is_candidate, IsCandidate};
+ghost use Rattle.read_rules.specs.declared.node.Node.{Node};
+ghost use Rattle.read_rules.specs.declared.question.ReadingQuestion.{ReadingQuestion};
+ghost use Rattle.read_rules.specs.declared.question.Spot.{Spot};
+ghost use Rattle.read_rules.specs.GameTree.{is_captured, has_many_liberties, child_of, can_play, attacker_wins, succeeds};
+ghost use Rattle.read_rules.specs.Answer.{attains_code, is_about, code_of, first_node, answer_of};
+ghost use Rattle.read_rules.specs.Rules.{HasManyLiberties, IsChild, SomeChildWins, EachChildWins, Succeeds, IsFirstMove, node_under, IsGreatestCode};
+
+use crate::question::Kind;
+use go_base::Cell;
+
+/// A candidate is a liberty of the target, an empty neighbour of one where the target has few and a wide ply is left, or the
+/// last liberty of an enemy string next to the target.
+pub fn candidates_are_by_strings()
+    ensures candidate { (pos : BoardState) (target k p : ℕ) → target < pos.size * pos.size →
+        IsTrue (is_candidate pos target k p) ↔ IsCandidate pos target k p }
+    ensures on_board { (pos : BoardState) (target k p : ℕ) → IsTrue (is_candidate pos target k p) → p < pos.size * pos.size }
+{}
+
+/// Where a node is captured, where its target has too many liberties, and which children it has.
+pub fn nodes_are_by_the_rules()
+    ensures captured { (pos : BoardState) (target : ℕ) → IsTrue (is_captured pos target) ↔ (cell_at pos.cells target ≡ Cell.Empty) }
+    ensures many { (pos : BoardState) (target k : ℕ) → IsTrue (has_many_liberties pos target k) ↔ HasManyLiberties pos target k }
+    ensures child { (node : Node) (pos : BoardState) (p : ℕ) (next : Node) (new : BoardState) →
+        (child_of node pos p ≡ Some (next, new)) ↔ IsChild node pos p next new }
+    ensures can_play { (node : Node) (pos : BoardState) (p : ℕ) →
+        IsTrue (can_play node pos p) ↔ ((next : Node) × (new : BoardState) × IsChild node pos p next new) }
+{}
+
+/// The four rules that say who wins, in their order.
+pub fn the_tree_is_by_four_rules()
+    ensures captured { (n : ℕ) (node : Node) (pos : BoardState) → IsTrue (is_captured pos node.target) → IsTrue (attacker_wins n node pos) }
+    ensures out_of_plies { (node : Node) (pos : BoardState) → is_captured pos node.target ≡ false → attacker_wins 0 node pos ≡ false }
+    ensures attacker_to_play { (n : ℕ) (node : Node) (pos : BoardState) → is_captured pos node.target ≡ false → node.attacker_to_play ≡ true →
+        IsTrue (attacker_wins (n + 1) node pos) ↔ ((has_many_liberties pos node.target node.wide ≡ false) × SomeChildWins n node pos) }
+    ensures defender_to_play { (n : ℕ) (node : Node) (pos : BoardState) → is_captured pos node.target ≡ false → node.attacker_to_play ≡ false →
+        IsTrue (attacker_wins (n + 1) node pos) ↔ EachChildWins n node pos }
+{}
+
+/// The codes by their ko allowances of attacker and defender, the greatest of them, and the first move that attains it.
+pub fn answers_are_by_codes()
+    ensures attack_3 { (q : ReadingQuestion) (pos : BoardState) → q.kind ≡ Kind.Attack → attains_code q pos 3 ≡ attacker_wins q.plies (node_under q 0 1) pos }
+    ensures attack_2 { (q : ReadingQuestion) (pos : BoardState) → q.kind ≡ Kind.Attack → attains_code q pos 2 ≡ attacker_wins q.plies (node_under q 0 0) pos }
+    ensures attack_1 { (q : ReadingQuestion) (pos : BoardState) → q.kind ≡ Kind.Attack → attains_code q pos 1 ≡ attacker_wins q.plies (node_under q 1 0) pos }
+    ensures defend_3 { (q : ReadingQuestion) (pos : BoardState) → q.kind ≡ Kind.Defend → attains_code q pos 3 ≡ not (attacker_wins q.plies (node_under q 1 0) pos) }
+    ensures defend_2 { (q : ReadingQuestion) (pos : BoardState) → q.kind ≡ Kind.Defend → attains_code q pos 2 ≡ not (attacker_wins q.plies (node_under q 0 0) pos) }
+    ensures defend_1 { (q : ReadingQuestion) (pos : BoardState) → q.kind ≡ Kind.Defend → attains_code q pos 1 ≡ not (attacker_wins q.plies (node_under q 0 1) pos) }
+
+    ensures greatest { (q : ReadingQuestion) (pos : BoardState) → is_about q pos ≡ true → IsGreatestCode q pos (code_of q pos) }
+    ensures another { (q : ReadingQuestion) (pos : BoardState) → is_about q pos ≡ false → answer_of q pos ≡ record { code = 0; at = None } }
+    ensures code { (q : ReadingQuestion) (pos : BoardState) → (answer_of q pos).code ≡ code_of q pos }
+    ensures no_move { (q : ReadingQuestion) (pos : BoardState) → code_of q pos ≡ 0 → (answer_of q pos).at ≡ None }
+    ensures first_move { (q : ReadingQuestion) (pos : BoardState) → q.plies ≢ 0 → code_of q pos ≢ 0 →
+        (spot : Spot) × ((answer_of q pos).at ≡ Some spot) × IsFirstMove (q.plies - 1) (first_node q (code_of q pos)) pos spot }
+{}
