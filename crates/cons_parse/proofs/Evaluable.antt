@@ -1,0 +1,222 @@
+-- An expression without faults can be evaluated.
+use Rattle.std.proofs.Common.{◌≡◌, ℕ, suc, ◌+◌, ◌-◌, ◌≤◌, Bool, true, false, ◌&&◌, ◌||◌, not, nat_le, nat_lt, cond, List, [], ◌∷◌, ◌++◌, length, refl, ap, sym, ◌∙◌, arith}
+use Rattle.std.specs.List.{list_any, list_all, slice_get}
+use Rattle.std.proofs.lemmas.Bool.{ltb-false, le-leb}
+use Rattle.std.proofs.lemmas.List.{length-append}
+use Rattle.pat_types.specs.declared.pattern.LabelAt.{LabelAt}
+use Rattle.pat_types.specs.declared.expr.Arg.{Arg}
+use Rattle.pat_types.specs.declared.expr.Arg.TheVariants.{Label, Star, Nowhere}
+use Rattle.pat_types.specs.declared.expr.Function.{Function}
+use Rattle.pat_types.specs.declared.expr.Function.TheVariants as function
+use Rattle.pat_types.specs.declared.expr.Expr.{Expr, Num, Call, Not', Neg', Bin'}
+use Rattle.pat_types.specs.Kept.{names, arity_of, is_play, is_point, is_move, end_in_point, may_call, can_evaluate, leaf_count}
+use Rattle.cons_parse.specs.declared.token.Name.{Name}
+use Rattle.cons_parse.specs.declared.token.Name.TheVariants.{Letter, Known, Unknown}
+use Rattle.cons_parse.specs.declared.calls.Item.{Item}
+use Rattle.cons_parse.specs.declared.calls.Item.TheVariants as item
+use Rattle.cons_parse.specs.Grammar as written
+use Rattle.cons_parse.specs.Grammar.{Written, spelling}
+use Rattle.cons_parse.specs.Faults.{is_nowhere, is_some_nowhere, ends_nowhere, has_stray_pass, is_miscalled, misses, is_unknown, is_unknown_call, is_unknown_label, is_unlabelled, some_call}
+use Rattle.cons_parse.specs.Trees.{Tree, NumTree, CallTree, NotTree, NegTree, BinTree, tree_of, meaning_of, call_tree}
+use Rattle.cons_parse.proofs.SmallNumbers.{is_small_item}
+
+-- the same of trees
+abbrev pub can_be : List LabelAt → Tree → Bool
+can_be labels (NumTree n) = nat_lt n 1000000
+can_be labels (CallTree f args) = may_call labels f args
+can_be labels (NotTree e) = can_be labels e
+can_be labels (NegTree e) = can_be labels e
+can_be labels (BinTree op a b) = can_be labels a && can_be labels b
+
+-- how many numbers and calls a tree has
+abbrev pub leaves : Tree → ℕ
+leaves (NumTree n) = 1
+leaves (CallTree f args) = 1
+leaves (NotTree e) = leaves e
+leaves (NegTree e) = leaves e
+leaves (BinTree op a b) = leaves a + leaves b
+
+-- an expression can be evaluated exactly where its tree can
+pub can_tree : (labels : List LabelAt) (e : Expr) → can_evaluate labels e ≡ can_be labels (tree_of e)
+unfolding can_evaluate
+can_tree labels (Num n) = refl
+can_tree labels (Call f args) = refl
+can_tree labels (Not' p e) = can_tree labels e
+can_tree labels (Neg' p e) = can_tree labels e
+can_tree labels (Bin' op p a q b) = let x = can_tree labels a in let y = can_tree labels b in rw (x, y) refl
+
+-- an expression has as many leaves as its tree
+pub leaf_tree : (e : Expr) → leaf_count e ≡ leaves (tree_of e)
+unfolding leaf_count
+leaf_tree (Num n) = refl
+leaf_tree (Call f args) = refl
+leaf_tree (Not' p e) = leaf_tree e
+leaf_tree (Neg' p e) = leaf_tree e
+leaf_tree (Bin' op p a q b) = let x = leaf_tree a in let y = leaf_tree b in rw (x, y) refl
+
+-- tests
+
+-- where none of two tests passes, each fails
+or_none : (a b : Bool) → (a || b) ≡ false → (a ≡ false) × (b ≡ false)
+or_none true b h = cc
+or_none false b h = (refl, h)
+
+-- two tests that pass, pass together
+and_true : (a b : Bool) → a ≡ true → b ≡ true → (a && b) ≡ true
+and_true true b h k = k
+and_true false b h k = cc
+
+-- two tests that pass together, pass each
+and_both : (a b : Bool) → (a && b) ≡ true → (a ≡ true) × (b ≡ true)
+and_both true b h = (refl, h)
+and_both false b h = cc
+
+-- what is not denied holds
+not_false : (b : Bool) → not b ≡ false → b ≡ true
+not_false true h = refl
+not_false false h = cc
+
+-- all of two lists pass where all of each do
+all_append : (t : Item → Bool) (is js : List Item) → list_all t (is ++ js) ≡ (list_all t is && list_all t js)
+all_append t [] js = refl
+all_append t (i ∷ is) js =
+    ap (λ (b : Bool). t i && b) (all_append t is js) ∙ and_assoc (t i) (list_all t is) (list_all t js)
+  where
+    and_assoc : (a b c : Bool) → (a && (b && c)) ≡ ((a && b) && c)
+    and_assoc true b c = refl
+    and_assoc false b c = refl
+
+-- arguments
+
+-- an argument that is no pass and no unknown label is a point
+point_of : (labels : List LabelAt) (a : Arg) → is_nowhere a ≡ false → is_unknown_label labels a ≡ false
+    → is_point labels a ≡ true
+point_of labels (Label c) h k = not_false (names labels c) k
+point_of labels Star h k = refl
+point_of labels Nowhere h k = cc
+
+-- an argument that is no unknown label is a move
+move_of : (labels : List LabelAt) (a : Arg) → is_unknown_label labels a ≡ false → is_move labels a ≡ true
+move_of labels (Label c) k = not_false (names labels c) k
+move_of labels Star k = refl
+move_of labels Nowhere k = refl
+
+-- arguments without passes and unknown labels are points
+all_points : (labels : List LabelAt) (args : List Arg) → list_any is_nowhere args ≡ false
+    → list_any (is_unknown_label labels) args ≡ false → list_all (is_point labels) args ≡ true
+all_points labels [] h k = refl
+all_points labels (a ∷ args) h k =
+    let p = or_none (is_nowhere a) (list_any is_nowhere args) h in
+    let q = or_none (is_unknown_label labels a) (list_any (is_unknown_label labels) args) k in
+    and_true (is_point labels a) (list_all (is_point labels) args) (point_of labels a p.0 q.0)
+    (all_points labels args p.1 q.1)
+
+-- the last argument is the last of those behind the first
+last_of_more : (m p : Arg) (more : List Arg) → ends_nowhere (m ∷ p ∷ more) ≡ ends_nowhere (p ∷ more)
+last_of_more m p more =
+    let a : suc (suc (length more)) - 1 ≡ suc (length more) = omega arith in
+    let b : suc (length more) - 1 ≡ length more = omega arith in
+    ap (λ (n : ℕ). is_some_nowhere (slice_get (m ∷ p ∷ more) n)) a
+    ∙ ap (λ (n : ℕ). is_some_nowhere (slice_get (p ∷ more) n)) (sym b)
+
+-- arguments without unknown labels, the last of them no pass, are moves and then a point
+moves_then_point : (labels : List LabelAt) (args : List Arg) → 1 ≤ length args → ends_nowhere args ≡ false
+    → list_any (is_unknown_label labels) args ≡ false → end_in_point labels args ≡ true
+moves_then_point labels [] l h k = absurd (omega arith)
+moves_then_point labels (p ∷ []) l h k = point_of labels p h (or_none (is_unknown_label labels p) false k).0
+moves_then_point labels (m ∷ p ∷ more) l h k =
+    let q = or_none (is_unknown_label labels m) (list_any (is_unknown_label labels) (p ∷ more)) k in
+    and_true (is_move labels m) (end_in_point labels (p ∷ more)) (move_of labels m q.0)
+    (moves_then_point labels (p ∷ more) (omega arith) (sym (last_of_more m p more) ∙ h) q.1)
+
+-- arguments without faults are as the function takes them
+args_if : (labels : List LabelAt) (v : Bool) (args : List Arg) → 1 ≤ length args
+    → cond v (ends_nowhere args) (list_any is_nowhere args) ≡ false → list_any (is_unknown_label labels) args ≡ false
+    → cond v (end_in_point labels args) (list_all (is_point labels) args) ≡ true
+args_if labels true args l h k = moves_then_point labels args l h k
+args_if labels false args l h k = all_points labels args h k
+
+-- each function has an argument
+least_arity : (f : Function) → 1 ≤ (arity_of f).0
+least_arity function.Lib = omega arith
+least_arity function.Xlib = omega arith
+least_arity function.Olib = omega arith
+least_arity function.Attack = omega arith
+least_arity function.Defend = omega arith
+least_arity function.Ko = omega arith
+least_arity function.SafeXmove = omega arith
+least_arity function.SafeOmove = omega arith
+least_arity function.LegalXmove = omega arith
+least_arity function.LegalOmove = omega arith
+least_arity function.OSomewhere = omega arith
+least_arity function.XSomewhere = omega arith
+least_arity function.SameWorm = omega arith
+least_arity function.DoesAttack = omega arith
+least_arity function.DoesDefend = omega arith
+least_arity function.OdefendAgainst = omega arith
+least_arity function.XdefendAgainst = omega arith
+least_arity function.OplayAttack = omega arith
+least_arity function.OplayDefend = omega arith
+least_arity function.XplayAttack = omega arith
+least_arity function.XplayDefend = omega arith
+
+-- a function without faults may be called so
+call_may : (labels : List LabelAt) (f : Function) (args : List Arg) → is_miscalled f args ≡ false
+    → list_any (is_unknown_label labels) args ≡ false → may_call labels f args ≡ true
+call_may labels f args h k =
+    let p = or_none (nat_lt (length args) (arity_of f).0 || nat_lt (arity_of f).1 (length args))
+    (has_stray_pass f args) h in
+    let q = or_none (nat_lt (length args) (arity_of f).0) (nat_lt (arity_of f).1 (length args)) p.0 in
+    let low : (arity_of f).0 ≤ length args = ltb-false (length args) (arity_of f).0 q.0 in
+    let high : length args ≤ (arity_of f).1 = ltb-false (arity_of f).1 (length args) q.1 in
+    let some : 1 ≤ length args = omega (arith, low, least_arity f) in
+    and_true (nat_le (arity_of f).0 (length args) && nat_le (length args) (arity_of f).1) _
+    (and_true (nat_le (arity_of f).0 (length args)) (nat_le (length args) (arity_of f).1)
+    (le-leb (arity_of f).0 (length args) low) (le-leb (length args) (arity_of f).1 high))
+    (args_if labels (is_play f) args some p.1 k)
+
+-- a call without faults can be evaluated
+named_may : (labels : List LabelAt) (name : Name) (args : List Arg) → is_unknown name ≡ false
+    → misses name args ≡ false → list_any (is_unknown_label labels) args ≡ false
+    → can_be labels (call_tree name args) ≡ true
+named_may labels (Letter c) args u h k = cc
+named_may labels (Known f) args u h k = call_may labels f args h k
+named_may labels Unknown args u h k = cc
+
+-- an expression with small numbers and no faults of its calls
+pub meaning_can : (labels : List LabelAt) (w : Written) → list_all is_small_item (spelling w) ≡ true
+    → some_call is_unknown_call w ≡ false → some_call misses w ≡ false → some_call (is_unlabelled labels) w ≡ false
+    → can_be labels (meaning_of w) ≡ true
+meaning_can labels (written.Num n) s u h k = (and_both (nat_lt n 1000000) true s).0
+meaning_can labels (written.Call name args) s u h k = named_may labels name args u h k
+meaning_can labels (written.Parens e) s u h k =
+    meaning_can labels e
+    (and_both (list_all is_small_item (spelling e)) true
+    (sym (all_append is_small_item (spelling e) (item.Close ∷ [])) ∙ s)).0 u h k
+meaning_can labels (written.Not e) s u h k = meaning_can labels e s u h k
+meaning_can labels (written.Neg e) s u h k = meaning_can labels e s u h k
+meaning_can labels (written.Bin op a b) s u h k =
+    let t = and_both (list_all is_small_item (spelling a)) (list_all is_small_item (spelling b))
+    (sym (all_append is_small_item (spelling a) (item.Operator op ∷ spelling b)) ∙ s) in
+    let v = or_none (some_call is_unknown_call a) (some_call is_unknown_call b) u in
+    let i = or_none (some_call misses a) (some_call misses b) h in
+    let l = or_none (some_call (is_unlabelled labels) a) (some_call (is_unlabelled labels) b) k in
+    and_true (can_be labels (meaning_of a)) (can_be labels (meaning_of b)) (meaning_can labels a t.0 v.0 i.0 l.0)
+    (meaning_can labels b t.1 v.1 i.1 l.1)
+
+-- a call is one leaf
+call_leaf : (name : Name) (args : List Arg) → leaves (call_tree name args) ≡ 1
+call_leaf (Letter c) args = refl
+call_leaf (Known f) args = refl
+call_leaf Unknown args = refl
+
+-- each leaf has an item
+pub meaning_leaves : (w : Written) → leaves (meaning_of w) ≤ length (spelling w)
+meaning_leaves (written.Num n) = omega arith
+meaning_leaves (written.Call name args) = omega (arith, call_leaf name args)
+meaning_leaves (written.Parens e) = let h = meaning_leaves e in
+    omega (arith, length-append (spelling e) (item.Close ∷ []))
+meaning_leaves (written.Not e) = let h = meaning_leaves e in omega arith
+meaning_leaves (written.Neg e) = let h = meaning_leaves e in omega arith
+meaning_leaves (written.Bin op a b) = let h = meaning_leaves a in let k = meaning_leaves b in
+    omega (arith, length-append (spelling a) (item.Operator op ∷ spelling b))

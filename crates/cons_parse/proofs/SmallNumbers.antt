@@ -1,0 +1,299 @@
+-- The tokens and the items of a text are no more than its bytes, and their numbers have six digits at most.
+use Rattle.std.proofs.Common.{◌≡◌, ℕ, zero, suc, ◌+◌, ◌-◌, ◌*◌, ◌^◌, ◌<◌, ◌≤◌, Bool, true, false, ◌&&◌, ◌==◌, nat_le, nat_lt, cond, List, [], ◌∷◌, length, take, Option, Some, None, refl, arith}
+use Rattle.std.specs.List.{list_all, prefix_len}
+use Rattle.std.specs.Option.{option_map, option_and_then}
+use Rattle.std.proofs.lemmas.Bool.{ltb-false, leb-true, lt-ltb}
+use Rattle.db_lex.specs.Lines.{is_blank}
+use Rattle.pat_types.specs.declared.expr.Op.TheVariants.{Or, And, Eq, Ne, Lt, Le, Gt, Ge, Add, Sub}
+use Rattle.pat_types.specs.declared.expr.Arg.{Arg}
+use Rattle.cons_parse.specs.declared.token.Token.{Token}
+use Rattle.cons_parse.specs.declared.token.Token.TheVariants as token
+use Rattle.cons_parse.specs.declared.token.Name.{Name}
+use Rattle.cons_parse.specs.declared.calls.Item.{Item}
+use Rattle.cons_parse.specs.declared.calls.Item.TheVariants as item
+use Rattle.cons_parse.specs.Tokens.{is_digit, is_letter, is_name_byte, name_of, value_after, value_of, two_at, one_at, with_more, or_shorter, sign_at, number_at, token_at, and_more as and_tokens, tokens_after, tokens_of}
+use Rattle.cons_parse.specs.Calls.{item_at, arguments_at, and_more as and_items, items_after, items_of, items_in}
+
+-- digits
+
+-- a digit is below ten
+digit_range : (d : ℕ) → is_digit d ≡ true → d - 48 < 10
+digit_range d h = range_if (nat_le 48 d) (nat_le d 57) refl refl h
+  where
+    range_if : (a b : Bool) → nat_le 48 d ≡ a → nat_le d 57 ≡ b → (a && b) ≡ true → d - 48 < 10
+    range_if true true e f h = let l = leb-true d 57 f in omega arith
+    range_if true false e f h = cc
+    range_if false b e f h = cc
+
+-- one more digit makes a number at most ten times as large
+digit_step : (i n d : ℕ) → i < 6 → n < 10 ^ i → d < 10 → n * 10 + d < 10 ^ (i + 1)
+digit_step zero n d h b k = omega arith
+digit_step (suc zero) n d h b k = omega arith
+digit_step (suc (suc zero)) n d h b k = omega arith
+digit_step (suc (suc (suc zero))) n d h b k = omega arith
+digit_step (suc (suc (suc (suc zero)))) n d h b k = omega arith
+digit_step (suc (suc (suc (suc (suc zero))))) n d h b k = omega arith
+digit_step (suc (suc (suc (suc (suc (suc i)))))) n d h b k = absurd (omega arith)
+
+-- six digits make less than a million
+below_million : (i n : ℕ) → i ≤ 6 → n < 10 ^ i → n < 1000000
+below_million zero n h b = omega arith
+below_million (suc zero) n h b = omega arith
+below_million (suc (suc zero)) n h b = omega arith
+below_million (suc (suc (suc zero))) n h b = omega arith
+below_million (suc (suc (suc (suc zero)))) n h b = omega arith
+below_million (suc (suc (suc (suc (suc zero))))) n h b = omega arith
+below_million (suc (suc (suc (suc (suc (suc zero)))))) n h b = omega arith
+below_million (suc (suc (suc (suc (suc (suc (suc i))))))) n h b = absurd (omega arith)
+
+-- two tests that pass together, pass each
+and_both : (a b : Bool) → (a && b) ≡ true → (a ≡ true) × (b ≡ true)
+and_both true b h = (refl, h)
+and_both false b h = cc
+
+-- the value of at most six digits is below a million
+value_small : (ds : List ℕ) (i n : ℕ) → i + length ds ≤ 6 → n < 10 ^ i → list_all is_digit ds ≡ true
+    → value_after n ds < 1000000
+value_small [] i n l h d = below_million i n (omega arith) h
+value_small (d ∷ ds) i n l h a =
+    let p = and_both (is_digit d) (list_all is_digit ds) a in
+    value_small ds (i + 1) (n * 10 + (d - 48)) (omega arith)
+    (digit_step i n (d - 48) (omega arith) h (digit_range d p.0)) p.1
+
+-- the digits at the front of a list, by its first byte
+front_if : (v : Bool) (b : ℕ) (bs : List ℕ) → is_digit b ≡ v
+    → list_all is_digit (take (prefix_len is_digit bs) bs) ≡ true
+    → list_all is_digit (take (cond v (1 + prefix_len is_digit bs) 0) (b ∷ bs)) ≡ true
+front_if false b bs e h = refl
+front_if true b bs e h = let n : 1 + prefix_len is_digit bs ≡ suc (prefix_len is_digit bs) = omega arith in rw (n, e) h
+
+-- the digits at the front are digits
+front_digits : (bs : List ℕ) → list_all is_digit (take (prefix_len is_digit bs) bs) ≡ true
+front_digits [] = refl
+front_digits (b ∷ bs) = front_if (is_digit b) b bs refl (front_digits bs)
+
+-- the front of n has at most n
+length_front : (n : ℕ) (bs : List ℕ) → length (take n bs) ≤ n
+length_front zero bs = omega arith
+length_front (suc n) [] = omega arith
+length_front (suc n) (b ∷ bs) = let h = length_front n bs in omega arith
+
+-- tokens
+
+-- the token is no number, or one below a million
+abbrev pub is_small : Token → Bool
+is_small (token.Number n) = nat_lt n 1000000
+is_small (token.Called name) = true
+is_small (token.Operator op) = true
+is_small token.Bang = true
+is_small token.Open = true
+is_small token.Close = true
+is_small token.Comma = true
+is_small token.Asterisk = true
+is_small token.Question = true
+
+-- there is no token, or it is small
+abbrev pub small_token : Option (Token × ℕ) → Bool
+small_token None = true
+small_token (Some t) = is_small t.0
+
+-- there is no sign, or it is small
+abbrev pub small_sign : Option Token → Bool
+small_sign None = true
+small_sign (Some t) = is_small t
+
+-- of two small signs the chosen one is small
+or_next : (c : Bool) (t : Token) (o : Option Token) → is_small t ≡ true → small_sign o ≡ true
+    → small_sign (cond c (Some t) o) ≡ true
+or_next true t o h k = h
+or_next false t o h k = k
+
+-- a sign of two bytes is small
+two_small : (b c : ℕ) → small_sign (two_at b c) ≡ true
+two_small b c =
+    or_next (b == 124 && c == 124) (token.Operator Or) _ refl
+    (or_next (b == 38 && c == 38) (token.Operator And) _ refl
+    (or_next (b == 61 && c == 61) (token.Operator Eq) _ refl
+    (or_next (b == 33 && c == 61) (token.Operator Ne) _ refl
+    (or_next (b == 60 && c == 61) (token.Operator Le) _ refl
+    (or_next (b == 62 && c == 61) (token.Operator Ge) None refl refl)))))
+
+-- a sign of one byte is small
+one_small : (b : ℕ) → small_sign (one_at b) ≡ true
+one_small b =
+    or_next (b == 60) (token.Operator Lt) _ refl
+    (or_next (b == 62) (token.Operator Gt) _ refl
+    (or_next (b == 43) (token.Operator Add) _ refl (or_next (b == 45) (token.Operator Sub) _ refl
+    (or_next (b == 33) token.Bang _ refl
+    (or_next (b == 40) token.Open _ refl (or_next (b == 41) token.Close _ refl (or_next (b == 44) token.Comma _ refl
+    (or_next (b == 42) token.Asterisk _ refl (or_next (b == 63) token.Question None refl refl)))))))))
+
+-- a small sign stays small with its length
+with_small : (n : ℕ) (o : Option Token) → small_sign o ≡ true → small_token (with_more n o) ≡ true
+with_small n None h = refl
+with_small n (Some t) h = h
+
+-- of two small tokens the longer one is small
+shorter_small : (o p : Option (Token × ℕ)) → small_token o ≡ true → small_token p ≡ true
+    → small_token (or_shorter o p) ≡ true
+shorter_small None p h k = k
+shorter_small (Some t) p h k = h
+
+-- a sign is small
+sign_small : (b : ℕ) (bs : List ℕ) → small_token (sign_at b bs) ≡ true
+sign_small b [] = with_small 0 (one_at b) (one_small b)
+sign_small b (c ∷ bs) =
+    shorter_small (with_more 1 (two_at b c)) (with_more 0 (one_at b)) (with_small 1 (two_at b c) (two_small b c))
+    (with_small 0 (one_at b) (one_small b))
+
+-- a number of at most six digits is small
+number_small : (v : Bool) (b : ℕ) (bs : List ℕ) → is_digit b ≡ true → nat_lt 5 (prefix_len is_digit bs) ≡ v
+    → small_token
+    (cond v None
+    (Some (token.Number (value_of (take (prefix_len is_digit bs + 1) (b ∷ bs))), prefix_len is_digit bs))) ≡ true
+number_small true b bs d e = refl
+number_small false b bs d e =
+    let n : prefix_len is_digit bs + 1 ≡ suc (prefix_len is_digit bs) = omega arith in
+    let few : prefix_len is_digit bs ≤ 5 = ltb-false 5 (prefix_len is_digit bs) e in
+    let l = length_front (prefix_len is_digit bs) bs in
+    let r : b - 48 < 10 = digit_range b d in
+    let s : value_after (0 * 10 + (b - 48)) (take (prefix_len is_digit bs) bs) < 1000000 =
+    value_small (take (prefix_len is_digit bs) bs) 1 (0 * 10 + (b - 48)) (omega arith) (omega arith)
+    (front_digits bs) in
+    rw n (lt-ltb (value_after (0 * 10 + (b - 48)) (take (prefix_len is_digit bs) bs)) 1000000 s)
+
+-- of two small tokens the chosen one is small
+choice_small : (v : Bool) (o p : Option (Token × ℕ)) → (v ≡ true → small_token o ≡ true) → small_token p ≡ true
+    → small_token (cond v o p) ≡ true
+choice_small true o p h k = h refl
+choice_small false o p h k = k
+
+-- each token is small
+token_small : (b : ℕ) (bs : List ℕ) → small_token (token_at b bs) ≡ true
+unfolding token_at
+token_small b bs =
+    choice_small (is_digit b) (number_at (prefix_len is_digit bs) (b ∷ bs)) _
+    (λ d. number_small (nat_lt 5 (prefix_len is_digit bs)) b bs d refl)
+    (choice_small (is_letter b)
+    (Some (token.Called (name_of (take (prefix_len is_name_byte bs + 1) (b ∷ bs))), prefix_len is_name_byte bs))
+    (sign_at b bs) (λ l. refl) (sign_small b bs))
+
+-- how many there are, and whether each is small
+abbrev pub count_of : {X : Type 0} → Option (List X) → ℕ
+count_of None = 0
+count_of (Some xs) = length xs
+
+-- there is no list, or each of it is small
+abbrev pub all_small : {X : Type 0} → (X → Bool) → Option (List X) → Bool
+all_small small None = true
+all_small small (Some xs) = list_all small xs
+
+-- there are at most n, and each is small
+pub record AreFew {X : Type 0} (small : X → Bool) (n : ℕ) (xs : Option (List X)) : Type 0 where
+  pub count : count_of xs ≤ n
+  pub each : all_small small xs ≡ true
+
+-- of two lists of few the chosen one has few
+few_choice : {X : Type 0} (small : X → Bool) (n : ℕ) (v : Bool) (o p : Option (List X)) → AreFew small n o
+    → AreFew small n p → AreFew small n (cond v o p)
+few_choice small n true o p h k = h
+few_choice small n false o p h k = k
+
+-- few are few of one more
+few_more : {X : Type 0} (small : X → Bool) (n : ℕ) (xs : Option (List X)) → AreFew small n xs → AreFew small (suc n) xs
+few_more small n xs h = let c = h.count in record { count = omega arith; each = h.each }
+
+-- two tests that pass, pass together
+and_true : (a b : Bool) → a ≡ true → b ≡ true → (a && b) ≡ true
+and_true true b h k = k
+and_true false b h k = cc
+
+-- one more small one makes few of one more
+few_and : {X : Type 0} (small : X → Bool) (n : ℕ) (x : X) (xs : Option (List X)) → small x ≡ true → AreFew small n xs
+    → AreFew small (suc n) (option_map (λ ys. x ∷ ys) xs)
+few_and small n x None s h = record { count = omega arith; each = refl }
+few_and small n x (Some xs) s h = let c = h.count in
+    record { count = omega arith; each = and_true (small x) (list_all small xs) s h.each }
+
+-- a token and those behind it are few
+tokens_then : (bs : List ℕ) (t : Option (Token × ℕ)) → small_token t ≡ true
+    → ((k : ℕ) → AreFew is_small (length bs) (tokens_after k bs))
+    → AreFew is_small (suc (length bs)) (option_and_then (λ t. and_tokens t.0 (tokens_after t.1 bs)) t)
+tokens_then bs None s f = record { count = omega arith; each = refl }
+tokens_then bs (Some t) s f = few_and is_small (length bs) t.0 (tokens_after t.1 bs) s (f t.1)
+
+-- a text has at most as many tokens as bytes, and each is small
+pub tokens_few : (bs : List ℕ) (n : ℕ) → AreFew is_small (length bs) (tokens_after n bs)
+unfolding tokens_after
+tokens_few [] zero = record { count = omega arith; each = refl }
+tokens_few [] (suc n) = record { count = omega arith; each = refl }
+tokens_few (b ∷ bs) (suc n) = few_more is_small (length bs) (tokens_after n bs) (tokens_few bs n)
+tokens_few (b ∷ bs) zero =
+    few_choice is_small (suc (length bs)) (is_blank b) (tokens_after 0 bs) _
+    (few_more is_small (length bs) (tokens_after 0 bs) (tokens_few bs 0))
+    (tokens_then bs (token_at b bs) (token_small b bs) (tokens_few bs))
+
+-- items
+
+-- the item is no number, or one below a million
+abbrev pub is_small_item : Item → Bool
+is_small_item (item.Number n) = nat_lt n 1000000
+is_small_item (item.Call name args) = true
+is_small_item (item.Operator op) = true
+is_small_item item.Bang = true
+is_small_item item.Open = true
+is_small_item item.Close = true
+
+-- there is no item, or it is small
+abbrev pub small_item : Option (Item × ℕ) → Bool
+small_item None = true
+small_item (Some i) = is_small_item i.0
+
+-- a call is small
+call_small : (name : Name) (m : Option (List Arg × ℕ))
+    → small_item (option_map (λ m. (item.Call name m.0, m.1)) m) ≡ true
+call_small name None = refl
+call_small name (Some m) = refl
+
+-- an item of a small token is small
+item_small : (t : Token) (ts : List Token) → is_small t ≡ true → small_item (item_at t ts) ≡ true
+item_small (token.Number n) ts h = h
+item_small (token.Called name) ts h = call_small name (arguments_at ts)
+item_small (token.Operator op) ts h = refl
+item_small token.Bang ts h = refl
+item_small token.Open ts h = refl
+item_small token.Close ts h = refl
+item_small token.Comma ts h = refl
+item_small token.Asterisk ts h = refl
+item_small token.Question ts h = refl
+
+-- an item and those behind it are few
+items_then : (ts : List Token) (i : Option (Item × ℕ)) → small_item i ≡ true
+    → ((k : ℕ) → AreFew is_small_item (length ts) (items_after k ts))
+    → AreFew is_small_item (suc (length ts)) (option_and_then (λ i. and_items i.0 (items_after i.1 ts)) i)
+items_then ts None s f = record { count = omega arith; each = refl }
+items_then ts (Some i) s f = few_and is_small_item (length ts) i.0 (items_after i.1 ts) s (f i.1)
+
+-- there are at most as many items as tokens, and each is small
+pub items_few : (ts : List Token) (n : ℕ) → list_all is_small ts ≡ true
+    → AreFew is_small_item (length ts) (items_after n ts)
+unfolding items_after
+items_few [] zero h = record { count = omega arith; each = refl }
+items_few [] (suc n) h = record { count = omega arith; each = refl }
+items_few (t ∷ ts) (suc n) h =
+    few_more is_small_item (length ts) (items_after n ts)
+    (items_few ts n (and_both (is_small t) (list_all is_small ts) h).1)
+items_few (t ∷ ts) zero h =
+    let p = and_both (is_small t) (list_all is_small ts) h in
+    items_then ts (item_at t ts) (item_small t ts p.0) (λ k. items_few ts k p.1)
+
+-- few tokens have few items
+items_of_tokens : (n : ℕ) (ts : Option (List Token)) → AreFew is_small n ts
+    → AreFew is_small_item n (option_and_then items_of ts)
+items_of_tokens n None h = record { count = omega arith; each = refl }
+items_of_tokens n (Some ts) h = let r = items_few ts 0 h.each in let c = h.count in let d = r.count in
+    record { count = omega arith; each = r.each }
+
+-- a text has at most as many items as bytes, and each is small
+pub text_few : (text : List ℕ) → AreFew is_small_item (length text) (items_in text)
+text_few text = items_of_tokens (length text) (tokens_of text) (tokens_few text 0)

@@ -1,0 +1,103 @@
+-- The walk over items: what is open at a place, and whether a leaf before it stands too deep.
+use Rattle.std.specs.Prelude.{◌≡◌, Bool, true, false, ◌||◌, nat_lt, List, [], ◌∷◌, length, reverse, Option, Some, None, if◌then◌else◌}
+use Rattle.std.specs.Option.{option_and_then}
+use Rattle.pat_types.specs.declared.expr.Op.{Op}
+use Rattle.pat_types.specs.declared.expr.Op.TheVariants.{Sub}
+use Rattle.cons_parse.specs.declared.calls.Item.{Item}
+use Rattle.cons_parse.specs.declared.calls.Item.TheVariants as item
+use Rattle.cons_parse.specs.declared.scan.Mark.{Mark}
+use Rattle.cons_parse.specs.declared.scan.Mark.TheVariants.{Prefix, Parenthesis}
+use Rattle.cons_parse.specs.declared.scan.Place.{Place}
+use Rattle.cons_parse.specs.Faults.{most_levels}
+
+-- a place: what is open, the newest first; whether an operand stands before it, and whether a leaf before it is too deep
+pub record Spot : Type 0 where
+  pub open_marks : List Mark
+  pub after : Bool
+  pub deep : Bool
+
+-- the place that the code keeps
+abbrev pub spot_of : Place → Spot
+spot_of p = record { open_marks = reverse p.marks.items; after = p.after; deep = p.deep }
+
+-- the newest open mark is a sign before its operand
+abbrev pub is_prefixed : List Mark → Bool
+is_prefixed [] = false
+is_prefixed (Prefix ∷ ms) = true
+is_prefixed (Parenthesis ∷ ms) = false
+
+-- without the prefixes of an operand that has been read
+abbrev pub settled : List Mark → List Mark
+settled [] = []
+settled (Prefix ∷ ms) = settled ms
+settled (Parenthesis ∷ ms) = Parenthesis ∷ ms
+
+-- behind a leaf
+abbrev pub after_leaf : List Mark → Bool → Spot
+after_leaf ms deep = record { open_marks = settled ms; after = true; deep = deep || nat_lt most_levels (length ms) }
+
+-- behind what is open now
+abbrev pub behind : Mark → List Mark → Bool → Spot
+behind m ms deep = record { open_marks = m ∷ ms; after = false; deep = deep }
+
+-- the operator is `-`
+abbrev pub is_sub : Op → Bool
+is_sub Sub = true
+is_sub _ = false
+
+-- behind an item where an operand was to come
+abbrev pub begun : List Mark → Bool → Item → Option Spot
+begun ms deep (item.Number n) = Some (after_leaf ms deep)
+begun ms deep (item.Call name args) = Some (after_leaf ms deep)
+begun ms deep (item.Operator op) = if is_sub op then Some (behind Prefix ms deep) else None
+begun ms deep item.Bang = Some (behind Prefix ms deep)
+begun ms deep item.Open = Some (behind Parenthesis ms deep)
+begun ms deep item.Close = None
+
+-- without the parenthesis that was opened last
+abbrev pub closed : List Mark → Bool → Option Spot
+closed [] deep = None
+closed (Prefix ∷ ms) deep = None
+closed (Parenthesis ∷ ms) deep = Some (record { open_marks = settled ms; after = true; deep = deep })
+
+-- behind an item where an operand stands before it
+abbrev pub gone_on : List Mark → Bool → Item → Option Spot
+gone_on ms deep (item.Number n) = None
+gone_on ms deep (item.Call name args) = None
+gone_on ms deep (item.Operator op) = Some (record { open_marks = ms; after = false; deep = deep })
+gone_on ms deep item.Bang = None
+gone_on ms deep item.Open = None
+gone_on ms deep item.Close = closed ms deep
+
+-- behind an item
+abbrev pub advance : Spot → Item → Option Spot
+advance s i = if s.after then gone_on s.open_marks s.deep i else begun s.open_marks s.deep i
+
+-- whether a leaf stands too deep, where all is closed
+abbrev pub ended_with : List Mark → Bool → Option Bool
+ended_with [] deep = Some deep
+ended_with (m ∷ ms) deep = None
+
+-- whether a leaf stands too deep, if this place may be the end
+abbrev pub ended : Spot → Option Bool
+ended s = if s.after then ended_with s.open_marks s.deep else None
+
+-- whether a leaf stands too deep, from a place on, if the items are in the grammar
+unfoldable pub scanned_from : Spot → List Item → Option Bool
+scanned_from s [] = ended s
+scanned_from s (i ∷ is) = option_and_then (λ t. scanned_from t is) (advance s i)
+
+-- the place before the first item
+abbrev pub at_start : Spot
+at_start = record { open_marks = []; after = false; deep = false }
+
+-- whether a leaf stands too deep, if the items are in the grammar
+abbrev pub scanned : List Item → Option Bool
+scanned is = scanned_from at_start is
+
+-- what closing a parenthesis answers, and what is then open
+abbrev pub Closes : List Mark → List Mark → Bool → Type 0
+Closes old new true = (ms : List Mark) × (old ≡ Parenthesis ∷ ms) × (new ≡ settled ms)
+Closes [] new false = Unit {0}
+Closes (Prefix ∷ ms) new false = Unit {0}
+Closes (Parenthesis ∷ ms) new false = ⊥

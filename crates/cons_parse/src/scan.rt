@@ -1,0 +1,145 @@
+//! Whether items are in the grammar, and whether a leaf stands too deep: a walk with a stack of what is open.
+
+ghost use Rattle.std.specs.Prelude.{◌≡◌, ◌<◌, reverse, true, false};
+ghost use Rattle.cons_parse.specs.Answers.{Gives, Steps};
+ghost use Rattle.cons_parse.specs.Scan.{settled, begun, gone_on, advance, ended, scanned, spot_of, is_prefixed as prefixed, Closes};
+
+use crate::calls::Item;
+use crate::error::ConsError;
+use pat_types::Op;
+use std::alloc::Global;
+
+/// The most levels within which a leaf may stand.
+const MOST_LEVELS: usize = 32;
+
+/// What is open at a place, each of which is one level.
+#[derive(Clone, Copy, Debug, PartialEq, Eq)]
+pub enum Mark {
+    /// A `!` or a `-` before its operand.
+    Prefix,
+    /// A parenthesis.
+    Parenthesis,
+}
+
+/// A place among the items.
+#[derive(Drop)]
+pub struct Place {
+    /// What is open, the newest last.
+    pub marks: Vec<Mark>,
+    /// Whether an operand stands before the place.
+    pub after: bool,
+    /// Whether a leaf before the place stands too deep.
+    pub deep: bool,
+}
+
+/// Whether a sign is what was opened last.
+fn is_prefixed(marks: &[Mark]) -> bool
+    ensures { result ≡ prefixed (reverse marks.now) }
+{
+    match marks {
+        [.., Mark::Prefix] => true,
+        _ => false,
+    }
+}
+
+/// Closes the prefixes of an operand that has just been read.
+fn settle(marks: &mut Vec<Mark>)
+    ensures { reverse marks.new.items ≡ settled (reverse marks.old.items) }
+{
+    'prefixes: while is_prefixed(marks) {
+        let _ = marks.pop();
+    }
+}
+
+/// Closes a parenthesis, if one is open.
+fn close(marks: &mut Vec<Mark>) -> bool
+    ensures { Closes (reverse marks.old.items) (reverse marks.new.items) result }
+{
+    match marks.pop() {
+        Some(Mark::Parenthesis) => {
+            settle(marks);
+            true
+        }
+        _ => false,
+    }
+}
+
+/// Goes over an item where an operand is to come.
+fn begin(place: &mut Place, item: &Item) -> Result<(), ConsError>
+    requires { place.old.after ≡ false }
+    ensures { Steps result (spot_of place.new) (begun (reverse place.old.marks.items) place.old.deep item.now) }
+{
+    match item {
+        Item::Number(_) | Item::Call(_, _) => {
+            place.deep = place.deep || place.marks.len() > MOST_LEVELS;
+            place.after = true;
+            settle(&mut place.marks);
+        }
+        Item::Bang | Item::Operator(Op::Sub) => place.marks.push(Mark::Prefix)?,
+        Item::Open => place.marks.push(Mark::Parenthesis)?,
+        _ => return Err(ConsError::Syntax),
+    }
+    Ok(())
+}
+
+/// Goes over an item where an operand stands before it.
+fn go_on(place: &mut Place, item: &Item) -> Result<(), ConsError>
+    requires { place.old.after ≡ true }
+    ensures { Steps result (spot_of place.new) (gone_on (reverse place.old.marks.items) place.old.deep item.now) }
+{
+    match item {
+        Item::Operator(_) => place.after = false,
+        Item::Close => {
+            if !close(&mut place.marks) {
+                return Err(ConsError::Syntax);
+            }
+        }
+        _ => return Err(ConsError::Syntax),
+    }
+    Ok(())
+}
+
+/// Goes over an item.
+fn step(place: &mut Place, item: &Item) -> Result<(), ConsError>
+    ensures { Steps result (spot_of place.new) (advance (spot_of place.old) item.now) }
+{
+    if place.after {
+        go_on(place, item)
+    } else {
+        begin(place, item)
+    }
+}
+
+/// Whether a leaf before the end stands too deep, if all is closed there.
+fn end(place: &Place) -> Option<bool>
+    ensures { result ≡ ended (spot_of place.now) }
+{
+    if !place.after {
+        return None;
+    }
+    if place.marks.len() > 0 {
+        return None;
+    }
+    Some(place.deep)
+}
+
+/// Whether a leaf of these items stands too deep, or Syntax where they are not in the grammar.
+pub fn scan(alloc: Global, items: &[Item]) -> Result<bool, ConsError>
+    ensures { Gives (λ deep. deep) result (scanned items.now) }
+{
+    let mut place = Place {
+        marks: Vec::new(alloc),
+        after: false,
+        deep: false,
+    };
+    for item in items {
+        match step(&mut place, item) {
+            Ok(()) => {}
+            Err(e) => return Err(e),
+        }
+    }
+    match end(&place) {
+        Some(deep) => Ok(deep),
+        None => Err(ConsError::Syntax),
+    }
+}

@@ -1,0 +1,278 @@
+//! The tokens of an expression.
+
+ghost use Rattle.std.specs.Prelude.{◌≡◌, ◌≤◌, ◌<◌, ◌^◌, ◌+◌, ◌∷◌, ◌==◌, ◌&&◌, ◌||◌, nat_le, nat_lt, ℕ, length, IfSome, true, slice_index};
+ghost use Rattle.std.specs.List.{prefix_len};
+ghost use Rattle.cons_parse.specs.Tokens.{is_letter as letter, is_digit as digit, is_name_byte as name_byte, value_of as value, function_named as function_of, name_of as name_in, two_at as two, one_at as one, first_sign, first_token, tokens_of as all_tokens};
+ghost use Rattle.cons_parse.specs.Answers.{Gives};
+
+use crate::error::ConsError;
+use db_lex::is_blank;
+use pat_types::{Function, Op};
+use std::alloc::Global;
+
+/// The most digits that a number may have.
+const MOST_DIGITS: usize = 6;
+
+/// A name: one letter, the name of a function, or another.
+#[derive(Clone, Copy, Debug, PartialEq, Eq)]
+pub enum Name {
+    /// One letter, which may be an argument.
+    Letter(u8),
+    /// The name of a function.
+    Known(Function),
+    /// Any other name.
+    Unknown,
+}
+
+/// A token. `-` is the operator `Sub` also where it stands before its operand.
+#[derive(Clone, Copy, Debug, PartialEq, Eq)]
+pub enum Token {
+    /// A number of at most six digits.
+    Number(u32),
+    /// A name.
+    Called(Name),
+    /// A binary operator, or the sign `-`.
+    Operator(Op),
+    /// `!`.
+    Bang,
+    /// `(`.
+    Open,
+    /// `)`.
+    Close,
+    /// `,`.
+    Comma,
+    /// `*`, the point of the pattern's move.
+    Asterisk,
+    /// `?`, a pass.
+    Question,
+}
+
+/// Whether a byte is an ASCII letter.
+fn is_letter(b: u8) -> bool
+    ensures { result ≡ letter b }
+{
+    (65 <= b && b <= 90) || (97 <= b && b <= 122)
+}
+
+/// Whether a byte is a digit.
+fn is_digit(b: u8) -> bool
+    ensures { result ≡ digit b }
+{
+    48 <= b && b <= 57
+}
+
+/// Whether a byte may stand in a name.
+fn is_name_byte(b: u8) -> bool
+    ensures { result ≡ name_byte b }
+{
+    is_letter(b) || is_digit(b) || b == b'_'
+}
+
+/// How many digits stand at the front.
+fn digits_len(bytes: &[u8]) -> usize
+    ensures value { result ≡ prefix_len digit bytes.now }
+    ensures within { result ≤ length bytes.now }
+{
+    for (i, b) in bytes.iter().enumerate() {
+        if !is_digit(*b) {
+            return i;
+        }
+    }
+    bytes.len()
+}
+
+/// How many letters, digits and `_` stand at the front.
+fn name_len(bytes: &[u8]) -> usize
+    ensures value { result ≡ prefix_len name_byte bytes.now }
+    ensures within { result ≤ length bytes.now }
+{
+    for (i, b) in bytes.iter().enumerate() {
+        if !is_name_byte(*b) {
+            return i;
+        }
+    }
+    bytes.len()
+}
+
+/// Whether a digit and so many more are too many for a number.
+fn are_too_many(more: usize) -> bool
+    ensures { result ≡ nat_lt 5 more }
+{
+    more >= MOST_DIGITS
+}
+
+/// The number that digits write, of which there are few enough.
+fn value_of(digits: &[u8]) -> u32
+    requires few { length digits.now ≤ MOST_DIGITS }
+    requires digits { (i : ℕ) → i < length digits.now → digit (slice_index digits.now i) ≡ true }
+    ensures { result ≡ value digits.now }
+{
+    let mut n: u32 = 0;
+    for d in digits {
+        n = n * 10 + (*d - 48) as u32;
+    }
+    n
+}
+
+/// The function that a name is.
+fn function_named(name: &[u8]) -> Option<Function>
+    ensures { result ≡ function_of name.now }
+{
+    if name == b"lib".as_slice() {
+        Some(Function::Lib)
+    } else if name == b"xlib".as_slice() {
+        Some(Function::Xlib)
+    } else if name == b"olib".as_slice() {
+        Some(Function::Olib)
+    } else if name == b"attack".as_slice() {
+        Some(Function::Attack)
+    } else if name == b"defend".as_slice() {
+        Some(Function::Defend)
+    } else if name == b"ko".as_slice() {
+        Some(Function::Ko)
+    } else if name == b"safe_xmove".as_slice() {
+        Some(Function::SafeXmove)
+    } else if name == b"safe_omove".as_slice() {
+        Some(Function::SafeOmove)
+    } else if name == b"legal_xmove".as_slice() {
+        Some(Function::LegalXmove)
+    } else if name == b"legal_omove".as_slice() {
+        Some(Function::LegalOmove)
+    } else if name == b"o_somewhere".as_slice() {
+        Some(Function::OSomewhere)
+    } else if name == b"x_somewhere".as_slice() {
+        Some(Function::XSomewhere)
+    } else if name == b"same_worm".as_slice() {
+        Some(Function::SameWorm)
+    } else if name == b"does_attack".as_slice() {
+        Some(Function::DoesAttack)
+    } else if name == b"does_defend".as_slice() {
+        Some(Function::DoesDefend)
+    } else if name == b"odefend_against".as_slice() {
+        Some(Function::OdefendAgainst)
+    } else if name == b"xdefend_against".as_slice() {
+        Some(Function::XdefendAgainst)
+    } else if name == b"oplay_attack".as_slice() {
+        Some(Function::OplayAttack)
+    } else if name == b"oplay_defend".as_slice() {
+        Some(Function::OplayDefend)
+    } else if name == b"xplay_attack".as_slice() {
+        Some(Function::XplayAttack)
+    } else if name == b"xplay_defend".as_slice() {
+        Some(Function::XplayDefend)
+    } else {
+        None
+    }
+}
+
+/// The name that these bytes are.
+fn name_of(bytes: &[u8]) -> Name
+    ensures { result ≡ name_in bytes.now }
+{
+    match bytes {
+        [letter] => Name::Letter(*letter),
+        _ => match function_named(bytes) {
+            Some(function) => Name::Known(function),
+            None => Name::Unknown,
+        },
+    }
+}
+
+/// The token of two bytes.
+fn two_at(b: u8, c: u8) -> Option<Token>
+    ensures { result ≡ two b c }
+{
+    if b == b'|' && c == b'|' {
+        Some(Token::Operator(Op::Or))
+    } else if b == b'&' && c == b'&' {
+        Some(Token::Operator(Op::And))
+    } else if b == b'=' && c == b'=' {
+        Some(Token::Operator(Op::Eq))
+    } else if b == b'!' && c == b'=' {
+        Some(Token::Operator(Op::Ne))
+    } else if b == b'<' && c == b'=' {
+        Some(Token::Operator(Op::Le))
+    } else if b == b'>' && c == b'=' {
+        Some(Token::Operator(Op::Ge))
+    } else {
+        None
+    }
+}
+
+/// The token of one byte.
+fn one_at(b: u8) -> Option<Token>
+    ensures { result ≡ one b }
+{
+    match b {
+        b'<' => Some(Token::Operator(Op::Lt)),
+        b'>' => Some(Token::Operator(Op::Gt)),
+        b'+' => Some(Token::Operator(Op::Add)),
+        b'-' => Some(Token::Operator(Op::Sub)),
+        b'!' => Some(Token::Bang),
+        b'(' => Some(Token::Open),
+        b')' => Some(Token::Close),
+        b',' => Some(Token::Comma),
+        b'*' => Some(Token::Asterisk),
+        b'?' => Some(Token::Question),
+        _ => None,
+    }
+}
+
+/// The longest sign at the front, and how many bytes follow its first.
+fn sign_at(bytes: &[u8]) -> Option<(Token, usize)>
+    requires { 0 < length bytes.now }
+    ensures value { result ≡ first_sign bytes.now }
+    ensures within { IfSome result (λ t. t.1 < length bytes.now) }
+{
+    if bytes.len() > 1 {
+        if let Some(token) = two_at(bytes[0], bytes[1]) {
+            return Some((token, 1));
+        }
+    }
+    match one_at(bytes[0]) {
+        Some(token) => Some((token, 0)),
+        None => None,
+    }
+}
+
+/// The longest token at the front, which is no blank, and how many bytes follow its first.
+fn token_at(bytes: &[u8]) -> Option<(Token, usize)>
+    requires { 0 < length bytes.now }
+    ensures value { result ≡ first_token bytes.now }
+    ensures within { IfSome result (λ t. t.1 < length bytes.now) }
+{
+    if is_digit(bytes[0]) {
+        let more = digits_len(&bytes[1..]);
+        if are_too_many(more) {
+            return None;
+        }
+        Some((Token::Number(value_of(&bytes[..more + 1])), more))
+    } else if is_letter(bytes[0]) {
+        let more = name_len(&bytes[1..]);
+        Some((Token::Called(name_of(&bytes[..more + 1])), more))
+    } else {
+        sign_at(bytes)
+    }
+}
+
+/// The tokens of a text, or Syntax where it is not made of tokens and blanks.
+pub fn tokens_of(alloc: Global, text: &[u8]) -> Result<Vec<Token>, ConsError>
+    ensures { Gives (λ v. v.items) result (all_tokens text.now) }
+{
+    let mut tokens = Vec::new(alloc);
+    let mut at = 0;
+    while at < text.len() {
+        if is_blank(text[at]) {
+            at += 1;
+            continue;
+        }
+        match token_at(&text[at..]) {
+            Some((token, more)) => {
+                tokens.push(token)?;
+                at += 1 + more;
+            }
+            None => return Err(ConsError::Syntax),
+        }
+    }
+    Ok(tokens)
+}
