@@ -1,10 +1,12 @@
 -- What a loader promises of one call.
-use Rattle.std.specs.Prelude.{◌≡◌, ℕ, true, List, [], ◌∷◌, ◌++◌, Option, Some, None, Result, Ok, Err, if◌then◌else◌, codes}
+use Rattle.std.specs.Prelude.{◌≡◌, ℕ, ◌+◌, nat_le, Bool, true, List, [], ◌∷◌, ◌++◌, length, take, Option, Some, None}
+use Rattle.std.specs.Prelude.{Result, Ok, Err, if◌then◌else◌, codes}
 use Rattle.std.specs.Str.{bytes_eq}
 use Rattle.gtp_io.specs.declared.errors.LoadError.{LoadError}
 use Rattle.gtp_io.specs.declared.errors.LoadError.TheVariants.{Failed, NoMemory}
 
--- the bytes are those that were handed in, followed by the contents where these are told, and by some bytes where they are not
+-- the bytes are those that were handed in, followed by the contents where these are told, and by some bytes where they
+-- are not
 abbrev pub IsLoaded : Option (List ℕ) → List ℕ → List ℕ → Type 0
 IsLoaded None into bytes = (more : List ℕ) × (bytes ≡ into ++ more)
 IsLoaded (Some contents) into bytes = bytes ≡ into ++ contents
@@ -19,6 +21,21 @@ missed_after missed name (Err NoMemory) = missed
 abbrev pub named : List (List ℕ) → List (List ℕ) → List ℕ → Option (List ℕ)
 named (known ∷ names) (text ∷ contents) name = if bytes_eq known name then Some text else named names contents name
 named _ _ name = None
+
+-- the most bytes that a file may have
+abbrev pub longest_file : ℕ
+longest_file = 268435456
+
+-- a `FileLoader`: the most bytes of a file, and the names missed
+pub record FilesState : Type 0 where
+  pub most : ℕ
+  pub missed : List (List ℕ)
+
+-- the text was read behind the bytes, up to one byte more than most, and it is whole exactly where it has at most this
+-- many
+pub record IsReadUpTo (most : ℕ) (text into bytes : List ℕ) (whole : Bool) : Type 0 where
+  pub read : bytes ≡ into ++ take (most + 1) text
+  pub fits : whole ≡ nat_le (length text) most
 
 -- what is printed of a load that has no contents
 abbrev pub load_error_text : LoadError → List ℕ

@@ -1,5 +1,6 @@
 -- What contracts see of the objects over the system's streams.
-use Rattle.std.specs.Prelude.{ℕ}
+use Rattle.std.specs.Prelude.{ℕ, List, Option, Result, take, MatchResult}
+use Rattle.std.specs.Io.KnownBytes.{Appends}
 
 -- a `StdSource`: its reader, how many bytes the last call gave, and how many calls failed
 pub record SourceState (R : Type 0) : Type 0 where
@@ -11,3 +12,8 @@ pub record SourceState (R : Type 0) : Type 0 where
 pub record SinkState (W : Type 0) : Type 0 where
   pub writer : W
   pub faults : ℕ
+
+-- the writer got as many of the bytes as the call says that it took, and some front of them where the call failed
+abbrev pub PassesOn : {E : Type 0} → Option (List ℕ) → Option (List ℕ) → Result ℕ E → List ℕ → Type 0
+PassesOn old new result bytes =
+    MatchResult result (λ n. Appends old new (take n bytes)) (λ _. (n : ℕ) × Appends old new (take n bytes))

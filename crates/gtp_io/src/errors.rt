@@ -7,7 +7,7 @@ use std::alloc::AllocError;
 use std::error::Error;
 use std::fmt;
 
-/// The object failed, and its count of faults rose.
+/// The object failed: its count of faults rose in this call, or stands at the greatest value of a u64.
 #[derive(Clone, Copy, Debug, PartialEq, Eq)]
 pub struct Failed;
 
@@ -18,7 +18,9 @@ pub struct NoMemory;
 /// Why a load has no contents: the loader failed, or memory was not found.
 #[derive(Clone, Copy, Debug, PartialEq, Eq)]
 pub enum LoadError {
+    /// The loader failed, and the name was appended to those that it missed.
     Failed,
+    /// Memory was not found.
     NoMemory,
 }
 

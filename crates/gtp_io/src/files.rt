@@ -1,6 +1,7 @@
 //! The files of the system. No contract tells what a file holds.
-ghost use Rattle.std.specs.Prelude.{◌≡◌, [], None, map, string_bytes};
+ghost use Rattle.std.specs.Prelude.{◌≡◌, ◌≤◌, [], None, map, string_bytes, IfOk, IfSome};
 ghost use Rattle.std.specs.Io.{StartsWith};
+ghost use Rattle.gtp_io.specs.Loading.{IsReadUpTo, longest_file};
 
 use crate::loader::place_for;
 use crate::{LoadError, Loader};
@@ -13,39 +14,64 @@ use std::{fs, io};
 /// The most bytes that a file may have.
 const LONGEST_FILE: usize = 268_435_456;
 
-/// Loads files by their paths; seen as the names of those that failed. A file that cannot be read fails, and so does one of more than 268,435,456 bytes.
+/// Loads files by their paths; seen as the most bytes of a file, and the names of those that failed.
+///
+/// A file that cannot be read fails, and so does one of more bytes.
 #[derive(Drop)]
 pub struct FileLoader<'a, R> {
     files: &'a R,
+    most: usize,
     missed: Vec<String>,
 }
 
 impl<'a, R> Model for FileLoader<'a, R> {
-    ghost use Rattle.std.specs.Prelude.{List, ℕ, map, string_bytes};
+    ghost use Rattle.std.specs.Prelude.{◌≤◌, map, string_bytes};
+    ghost use Rattle.gtp_io.specs.Loading.{FilesState, longest_file};
 
-    ghost Value = { List (List ℕ) };
+    ghost Value = { FilesState };
 
-    ghost view = { λ f. map string_bytes f.missed.items };
+    ghost view = { λ f. record { most = f.most; missed = map string_bytes f.missed.items } };
+
+    ghost invariant = { λ f. f.most ≤ longest_file };
 }
 
-/// Reads a file behind the bytes, at most one byte more than a file may have, and says whether it was read whole.
-fn read_file<R: Files>(files: &R, name: &str, into: &mut Vec<u8>) -> io::Result<bool>
+/// Reads behind the bytes what the reader has left, up to one byte more than `most`, and says whether it was read
+/// whole.
+fn read_up_to<R: Read + Drop>(reader: R, most: usize, into: &mut Vec<u8>) -> io::Result<bool>
+    requires { most ≤ longest_file }
+    ensures front { StartsWith into.new.items into.old.items }
+    ensures whole { IfOk result (λ whole. IfSome (R.remaining reader)
+        (λ text. IsReadUpTo most text into.old.items into.new.items whole)) }
+{
+    let count = reader.take(most as u64 + 1).read_to_end(into)?;
+    Ok(count <= most)
+}
+
+/// Reads a file behind the bytes, and says whether it was read whole.
+fn read_file<R: Files>(files: &R, name: &str, most: usize, into: &mut Vec<u8>) -> io::Result<bool>
+    requires { most ≤ longest_file }
     ensures { StartsWith into.new.items into.old.items }
 {
-    let before = into.len();
-    fs::open(files, name)?
-        .take(LONGEST_FILE as u64 + 1)
-        .read_to_end(into)?;
-    Ok(into.len() - before <= LONGEST_FILE)
+    read_up_to(fs::open(files, name)?, most, into)
 }
 
 impl<'a, R: Files> FileLoader<'a, R> {
-    /// A loader of the files that the handle gives. No name was missed yet. It keeps the allocator and takes no memory.
+    /// A loader of the files that the handle gives, of at most 268,435,456 bytes each. No name was missed yet. It keeps
+    /// the allocator and takes no memory.
     pub fn new(alloc: Global, files: &'a R) -> FileLoader<'a, R>
-        ensures { result ≡ [] }
+        ensures { result ≡ record { most = longest_file; missed = [] } }
+    {
+        FileLoader::up_to(alloc, files, LONGEST_FILE)
+    }
+
+    /// The same with a smaller number of bytes.
+    pub fn up_to(alloc: Global, files: &'a R, most: usize) -> FileLoader<'a, R>
+        requires { most ≤ longest_file }
+        ensures { result ≡ record { most = most; missed = [] } }
     {
         FileLoader {
             files,
+            most,
             missed: Vec::new(alloc),
         }
     }
@@ -54,11 +80,11 @@ impl<'a, R: Files> FileLoader<'a, R> {
 impl<'a, R: Files> Loader for FileLoader<'a, R> {
     ghost contents = { λ _ _. None };
 
-    ghost missed = { λ f. f };
+    ghost missed = { λ f. f.missed };
 
     fn load(&mut self, name: &str, mut into: Vec<u8>) -> Result<Vec<u8>, LoadError> {
         let place = place_for(&mut self.missed, name)?;
-        match read_file(self.files, name, &mut into) {
+        match read_file(self.files, name, self.most, &mut into) {
             Ok(true) => return Ok(into),
             Err(error) if error.kind() == io::ErrorKind::OutOfMemory => {
                 return Err(LoadError::NoMemory);
@@ -67,5 +93,26 @@ impl<'a, R: Files> Loader for FileLoader<'a, R> {
         }
         self.missed.push(place).unwrap();
         Err(LoadError::Failed)
+    }
+}
+
+#[cfg(test)]
+mod tests {
+    use super::*;
+    use std::test::Fail;
+
+    #[test]
+    fn files_of_the_greatest_length_are_read(rt: HostRuntime) -> Result<(), Fail> {
+        let alloc = rt.alloc();
+        for (file, text, want) in [
+            ("a byte less", "abc", true),
+            ("all bytes", "abcd", true),
+            ("one more", "abcde", false),
+        ] {
+            let mut into = Vec::from_slice(alloc, b"# ")?;
+            assert_eq!(rt; read_up_to(text.as_bytes(), 4, &mut into)?, want, "{file}");
+            assert_eq!(rt; into.len(), 2 + text.len(), "{file}");
+        }
+        Ok(())
     }
 }

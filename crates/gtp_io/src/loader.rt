@@ -10,19 +10,21 @@ pub trait Loader {
     /// The contents of a name, where the loader tells them. No call changes them.
     ghost contents: { Self → List ℕ → Option (List ℕ) };
 
-    /// The names of the calls that answered Failed, in order. The count of the loader's faults is the length of this list.
+    /// The names of the calls that answered Failed, in order. The count of the loader's faults is the length of this
+    /// list.
     ghost missed: { Self → List (List ℕ) };
 
     /// Gives the bytes of `into`, followed by the contents of the name.
     ///
-    /// Failed comes only where the name was appended to those that were missed. NoMemory is the free answer of every loader.
+    /// Failed comes only where the name was appended to those that were missed. NoMemory is the free answer of every
+    /// loader.
     fn load(&mut self, name: &str, into: Vec<u8>) -> Result<Vec<u8>, LoadError>
         ensures loaded { IfOk result (λ bytes. IsLoaded (contents self.old name.now) into.items bytes.items) }
         ensures missed { missed self.new ≡ missed_after (missed self.old) name.now result }
         ensures same { contents self.new ≡ contents self.old };
 }
 
-// Takes a place for a name among those that were missed, and makes the copy that is kept there.
+/// Takes a place for a name among those that were missed, and makes the copy that is kept there.
 pub(crate) fn place_for(missed: &mut Vec<String>, name: &str) -> Result<String, AllocError>
     ensures name { IfOk result (λ copy. string_bytes copy ≡ name.now) }
     ensures place { OnOk result (vec_len missed.new < vec_capacity missed.new) }

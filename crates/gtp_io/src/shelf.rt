@@ -1,5 +1,7 @@
 //! Loaders over contents in memory.
-ghost use Rattle.std.specs.Prelude.{◌≡◌, ◌≢◌, ◌⊎◌, ◌++◌, ◌<◌, List, ℕ, [], None, Some, Err, map, length, Contains, IfOk, OnOk, IsErrOf, IfSome, IsSome, IsSomeAnd, MatchBool, slice_get, option_and_then, string_bytes, vec_len, unwrap_or};
+ghost use Rattle.std.specs.Prelude.{◌≡◌, ◌≢◌, ◌⊎◌, ◌++◌, ◌<◌, List, ℕ, [], None, Some, Err, map, length, Contains};
+ghost use Rattle.std.specs.Prelude.{IfOk, OnOk, IsErrOf, IfSome, IsSome, IsSomeAnd, MatchBool, slice_get};
+ghost use Rattle.std.specs.Prelude.{option_and_then, string_bytes, vec_len, unwrap_or};
 ghost use Rattle.gtp_io.specs.Loading.{IsLoaded, missed_after, named};
 ghost use Rattle.gtp_io.specs.Memory.{ShelfState, SureShelfState, next_call};
 
@@ -71,7 +73,8 @@ fn append_named(
 }
 
 impl Shelf {
-    /// The two lists have one length, and the first of equal names is meant. `fails` lists the calls that fail, counted from 1.
+    /// The two lists have one length, and the first of equal names is meant. `fails` lists the calls that fail, counted
+    /// from 1.
     pub fn new(names: Vec<String>, contents: Vec<Vec<u8>>, fails: Vec<u64>) -> Shelf
         requires { vec_len names ≡ vec_len contents }
         ensures { result ≡ record {
@@ -99,18 +102,21 @@ impl Loader for Shelf {
     ghost missed = { λ s. s.missed };
 
     fn load(&mut self, name: &str, mut into: Vec<u8>) -> Result<Vec<u8>, LoadError>
-        ensures loaded { IfOk result (λ bytes. IsLoaded (named self.old.names self.old.contents name.now) into.items bytes.items) }
+        ensures loaded { IfOk result
+            (λ bytes. IsLoaded (named self.old.names self.old.contents name.now) into.items bytes.items) }
         ensures missed { self.new.missed ≡ missed_after self.old.missed name.now result }
         ensures same { named self.new.names self.new.contents ≡ named self.old.names self.old.contents }
 
         // The listed calls fail, and those for a name that is not there. A call that finds no memory is not counted.
         ensures failed { IsErrOf result LoadError.Failed →
-            Contains self.old.fails (next_call self.old.calls) ⊎ (named self.old.names self.old.contents name.now ≡ None) }
+            Contains self.old.fails (next_call self.old.calls)
+            ⊎ (named self.old.names self.old.contents name.now ≡ None) }
         ensures known { OnOk result (IsSome (named self.old.names self.old.contents name.now)) }
         ensures unlisted { OnOk result (¬ Contains self.old.fails (next_call self.old.calls)) }
         ensures no_memory { IsErrOf result LoadError.NoMemory → self.new ≡ self.old }
         ensures calls { result ≢ Err LoadError.NoMemory → self.new.calls ≡ next_call self.old.calls }
-        ensures kept { (self.new.names ≡ self.old.names) × (self.new.contents ≡ self.old.contents) × (self.new.fails ≡ self.old.fails) }
+        ensures kept { (self.new.names ≡ self.old.names) × (self.new.contents ≡ self.old.contents)
+            × (self.new.fails ≡ self.old.fails) }
     {
         let place = place_for(&mut self.missed, name)?;
         let call = self.calls.saturating_add(1);
@@ -136,7 +142,10 @@ pub struct SureShelf {
 impl Model for SureShelf {
     ghost Value = { SureShelfState };
 
-    ghost view = { λ s. record { names = map string_bytes s.names.items; contents = map (λ v. v.items) s.contents.items } };
+    ghost view = { λ s. record {
+      names = map string_bytes s.names.items;
+      contents = map (λ v. v.items) s.contents.items;
+    } };
 
     ghost invariant = { λ s. vec_len s.names ≡ vec_len s.contents };
 }
@@ -145,7 +154,10 @@ impl SureShelf {
     /// The two lists have one length, and the first of equal names is meant.
     pub fn new(names: Vec<String>, contents: Vec<Vec<u8>>) -> SureShelf
         requires { vec_len names ≡ vec_len contents }
-        ensures { result ≡ record { names = map string_bytes names.items; contents = map (λ v. v.items) contents.items } }
+        ensures { result ≡ record {
+          names = map string_bytes names.items;
+          contents = map (λ v. v.items) contents.items;
+        } }
     {
         SureShelf { names, contents }
     }

@@ -10,7 +10,7 @@ pub trait Sink {
     /// The bytes written, where the sink tells them.
     ghost written: { Self → Option (List ℕ) };
 
-    /// How often the sink has failed.
+    /// How often the sink has failed, up to the greatest value of a u64.
     ghost faults: { Self → ℕ };
 
     /// Takes a front of the bytes and says how many: at least one where the piece is not empty.

@@ -14,7 +14,7 @@ pub trait Source {
     /// How many bytes the last call gave.
     ghost piece: { Self → ℕ };
 
-    /// How often the source has failed.
+    /// How often the source has failed, up to the greatest value of a u64.
     ghost faults: { Self → ℕ };
 
     /// Gives the next bytes of what is left, at most as many as the buffer holds, and says how many.

@@ -8,7 +8,7 @@ use std::io::{Read, Write};
 use std::test::Fail;
 use std::{fs, io};
 
-// A reader and writer that always fails.
+/// A reader and writer that always fails.
 #[derive(Drop)]
 struct Broken;
 
@@ -24,6 +24,28 @@ impl Write for Broken {
     }
 
     fn flush(&mut self) -> io::Result<()> {
+        Ok(())
+    }
+}
+
+/// A writer that takes one byte of a call, and counts how often it was flushed.
+#[derive(Drop)]
+struct OneByOne {
+    bytes: Vec<u8>,
+    flushes: u8,
+}
+
+impl Write for OneByOne {
+    fn write(&mut self, buf: &[u8]) -> io::Result<usize> {
+        let Some(first) = buf.first() else {
+            return Ok(0);
+        };
+        self.bytes.push(*first)?;
+        Ok(1)
+    }
+
+    fn flush(&mut self) -> io::Result<()> {
+        self.flushes = self.flushes.saturating_add(1);
         Ok(())
     }
 }
@@ -132,6 +154,22 @@ fn standard_streams_pass_bytes_on(rt: HostRuntime) -> Result<(), Fail> {
 }
 
 #[test]
+fn a_sink_tells_how_many_bytes_were_taken_and_flushes_each_time(
+    rt: HostRuntime,
+) -> Result<(), Fail> {
+    let mut writer = OneByOne {
+        bytes: Vec::new(rt.alloc()),
+        flushes: 0,
+    };
+    let mut sink = StdSink::new(&mut writer);
+    assert_eq!(rt; sink.put(b"name"), Ok(1));
+    assert_eq!(rt; sink.put(b"ame"), Ok(1));
+    assert_eq!(rt; writer.bytes.as_slice(), b"na".as_slice());
+    assert_eq!(rt; writer.flushes, 2);
+    Ok(())
+}
+
+#[test]
 fn files_are_loaded_by_their_paths(rt: HostRuntime) -> Result<(), Fail> {
     let alloc = rt.alloc();
     fs::write(&rt, "gtp_io_sample.txt", "text")?;
@@ -139,6 +177,13 @@ fn files_are_loaded_by_their_paths(rt: HostRuntime) -> Result<(), Fail> {
     let joined = files.load("gtp_io_sample.txt", Vec::from_slice(alloc, b"some ")?)?;
     assert_eq!(rt; joined.as_slice(), b"some text".as_slice());
     assert!(rt; files.load("no_such_file", Vec::new(alloc)) == Err(LoadError::Failed));
+    assert!(rt;
+        FileLoader::up_to(alloc, &rt, 4)
+            .load("gtp_io_sample.txt", Vec::new(alloc))
+            .is_ok()
+    );
+    let mut short = FileLoader::up_to(alloc, &rt, 3);
+    assert!(rt; short.load("gtp_io_sample.txt", Vec::new(alloc)) == Err(LoadError::Failed));
     fs::remove_file(&rt, "gtp_io_sample.txt")?;
     Ok(())
 }

@@ -7,12 +7,18 @@ use Rattle.gtp_io.proofs.shelf.find.Goals as goal
 
 pub returns-then-eq-clause-found : goal.returns-then-eq-clause-found
 returns-then-eq-clause-found c =
-    let test = ap (λ b. bytes_eq b c.args.name.now) (sym (c.as_str.ensures.value ∙ ap string_bytes c.index-names-i.is)) ∙ sym c.eq.ensures ∙ c.if-eq.true in
+    let test = ap (λ b. bytes_eq b c.args.name.now) (sym (c.as_str.ensures.value ∙ ap string_bytes c.index-names-i.is))
+    ∙ sym c.eq.ensures ∙ c.if-eq.true in
     sym c.loop-i.invariant
-    ∙ named-here string_bytes (λ v. v.items) c.args.names.now c.args.contents.now c.args.name.now c.requires c.loop-i.i c.index-names-i.result c.loop-i-test.true test
+    ∙ named-here string_bytes
+    (λ v. v.items) c.args.names.now c.args.contents.now c.args.name.now c.requires c.loop-i.i
+    c.index-names-i.result c.loop-i-test.true test
 
 pub loop-i-preserved : goal.loop-i-preserved
 loop-i-preserved c =
-    let test = ap (λ b. bytes_eq b c.args.name.now) (sym (c.as_str.ensures.value ∙ ap string_bytes c.index-names-i.is)) ∙ sym c.eq.ensures ∙ c.if-eq.false in
-    sym (named-drop string_bytes (λ v. v.items) c.args.names.now c.args.contents.now c.args.name.now c.requires c.loop-i.i c.index-names-i.result c.loop-i-test.true test)
+    let test = ap (λ b. bytes_eq b c.args.name.now) (sym (c.as_str.ensures.value ∙ ap string_bytes c.index-names-i.is))
+    ∙ sym c.eq.ensures ∙ c.if-eq.false in
+    sym (named-drop string_bytes
+    (λ v. v.items) c.args.names.now c.args.contents.now c.args.name.now c.requires c.loop-i.i
+    c.index-names-i.result c.loop-i-test.true test)
     ∙ c.loop-i.invariant

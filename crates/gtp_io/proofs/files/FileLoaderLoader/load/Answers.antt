@@ -6,5 +6,6 @@ pub returns-in-Ok-true-clause-loaded : goal.returns-in-Ok-true-clause-loaded
 returns-in-Ok-true-clause-loaded g c =
     let kept = length c.args.into.items in (
       drop kept c.read_file.new.into.items,
-      sym (take-append-drop kept c.read_file.new.into.items) ∙ ap (λ l. l ++ drop kept c.read_file.new.into.items) c.read_file.ensures,
+      sym (take-append-drop kept c.read_file.new.into.items)
+          ∙ ap (λ l. l ++ drop kept c.read_file.new.into.items) c.read_file.ensures,
     )

@@ -4,10 +4,12 @@ use Rattle.std.specs.String.{string_bytes}
 use Rattle.gtp_io.specs.Loading.{named}
 use Rattle.gtp_io.specs.Memory.{ShelfState}
 use Rattle.gtp_io.proofs.shelf.ShelfLoader.load.Goals as goal
-use Rattle.gtp_io.proofs.shelf.ShelfLoader.load.Goals.{else-not-contains-via-then-not-contains+in_ok-append_named+else-branch, else-not-contains-via-else-not-contains}
+use Rattle.gtp_io.proofs.shelf.ShelfLoader.load.Goals.{else-not-contains-via-then-not-contains+in_ok-append_named+else-branch}
+use Rattle.gtp_io.proofs.shelf.ShelfLoader.load.Goals.{else-not-contains-via-else-not-contains}
 
 -- a name that is not among some names is not among equal ones
-missing_among : (names names' contents contents' : List (List ℕ)) (name : List ℕ) → names ≡ names' → contents ≡ contents' → named names contents name ≡ None → named names' contents' name ≡ None
+missing_among : (names names' contents contents' : List (List ℕ)) (name : List ℕ) → names ≡ names'
+    → contents ≡ contents' → named names contents name ≡ None → named names' contents' name ≡ None
 missing_among names names' contents contents' name same_names same_contents missing = cc
 
 pub returns-clause-failed : goal.returns-clause-failed
@@ -17,8 +19,10 @@ returns-clause-failed c =
       | else-not-contains-via-then-not-contains+in_ok-append_named+else-branch w ↦
           let missing = rw w.if-branch.false at w.in_ok-append_named.ensures.loaded in
           inr (missing_among _ _ _ _ c.args.name.now
-          (ap (map string_bytes) w.deref-then-not-contains.ensures.value ∙ ap (λ (s : ShelfState). s.names) c.self.view_is)
-          (ap (map (λ v. v.items)) w.deref-then-not-contains-2.ensures.value ∙ ap (λ (s : ShelfState). s.contents) c.self.view_is)
+          (ap (map string_bytes) w.deref-then-not-contains.ensures.value
+          ∙ ap (λ (s : ShelfState). s.names) c.self.view_is)
+          (ap (map (λ v. v.items)) w.deref-then-not-contains-2.ensures.value
+          ∙ ap (λ (s : ShelfState). s.contents) c.self.view_is)
           missing.0)
       | else-not-contains-via-else-not-contains w ↦ inl (search rules)
     ]
