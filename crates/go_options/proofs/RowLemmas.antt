@@ -1,0 +1,78 @@
+-- What the getters read, by the rows of a parse.
+use Rattle.std.proofs.Common.{◌≡◌, ◌∙◌, ◌≤◌, ap, ℕ, false, List, Option, Some, None, Result, Ok, Err, refl, sym, subst}
+use Rattle.std.proofs.Common.{arith, codes, option_map, []}
+use Rattle.std.specs.Prelude.{MatchOption, unwrap_or}
+use Rattle.std.specs.Option.{option_map_or}
+use Rattle.std.proofs.lemmas.Option.{same_Some}
+use Rattle.std.specs.Str.{bytes_eq}
+use Rattle.std.specs.Str.Parse.{ParsesUnsigned}
+use Rattle.clap.specs.Matches.{ReadsOne, first_value, matched_of, one_text, raw_values}
+use Rattle.clap.specs.Walk.{Text, rows_of}
+use Rattle.clap.specs.declared.parser.matches.Found.{Found}
+use Rattle.clap.proofs.WalkLemmas.{first_value-rows, one_text-rows, raw_values-rows}
+use Rattle.go_options.specs.Found.{IsFrom, flag_in, number_in, number_of, words_in}
+use Rattle.go_options.specs.Numbers.{HasNumber, HasOnlyNumber, IsWhole, largest}
+
+-- the number of an option is that of its text
+pub number_of_text : (f : Found) (id : Text) (text : Text) → one_text f id ≡ Some text
+    → number_in id (rows_of f) ≡ Some (number_of text)
+number_of_text f id text one = ap (option_map number_of) (sym (one_text-rows f id) ∙ one)
+
+-- `get_one` reads the number of an option, where its texts are numbers
+pub number_read : {E : Type 0} (G : Text → Result ℕ E → Type 0) (f : Found) (id : Text) (r : Option ℕ)
+    → ((u : Text) (x : Result ℕ E) → G u x → ParsesUnsigned 32 10 u x) → HasOnlyNumber f id 0 largest
+    → (one_text f id ≡ None → r ≡ None) → ((t : Text) → one_text f id ≡ Some t → ReadsOne G t r)
+    → r ≡ number_in id (rows_of f)
+number_read {E} G f id r only whole none value = go (one_text f id) refl
+  where
+    reads : (t : Text) (o : Option ℕ) → ReadsOne G t o → IsWhole 0 largest t → o ≡ Some (number_of t)
+    reads t (Some v) h w = ap Some (only t (Ok v) h).1
+    reads t None h w = absurd (only t (Err h.0) h.1 (w.0, omega (arith, w.1.1)))
+
+    go : (o : Option Text) → one_text f id ≡ o → r ≡ number_in id (rows_of f)
+    go None e = none e ∙ sym (ap (option_map number_of) (sym (one_text-rows f id) ∙ e))
+    go (Some t) e = reads t r (value t e) (whole t e) ∙ sym (number_of_text f id t e)
+
+-- a number that an option has lies in its range
+pub number_from : (f : Found) (id : Text) (low high n : ℕ) → HasNumber f id low high → number_in id (rows_of f) ≡ Some n
+    → IsFrom low high n
+number_from f id low high n has is =
+    let same : number_of has.0 ≡ n = same_Some _ _ (sym (number_of_text f id has.0 has.1) ∙ is) in
+    (omega (arith, has.2.1.0), omega (arith, has.2.1.1))
+
+-- a number of a range fits the type
+pub wide_number : (f : Found) (id : Text) (low high : ℕ) → high ≤ largest → HasNumber f id low high
+    → HasNumber f id 0 largest
+wide_number f id low high fits has = (has.0, has.1, (has.2.0, (omega arith, omega (arith, has.2.1.1))))
+
+pub wide_only : (f : Found) (id : Text) (low high : ℕ) → high ≤ largest → HasOnlyNumber f id low high
+    → HasOnlyNumber f id 0 largest
+wide_only f id low high fits only text one =
+    let whole = only text one in
+    (whole.0, (omega arith, omega (arith, whole.1.1)))
+
+-- whether a flag is set, by the text that `get_str` gives
+pub flag_read : (f : Found) (id : Text) (o : Option Text) → o ≡ first_value f id
+    → option_map_or (λ t. bytes_eq t (codes "true")) o false ≡ flag_in id (rows_of f)
+flag_read f id o is =
+    ap (λ (t : Option Text). option_map_or (λ u. bytes_eq u (codes "true")) t false) (is ∙ first_value-rows f id)
+
+-- the words that are no option, by what `get_strs` gives
+pub words_read : (f : Found) (id : Text) (o : Option (List Text)) → o ≡ option_map raw_values (matched_of f id)
+    → unwrap_or o [] ≡ words_in id (rows_of f)
+words_read f id o is = ap (λ (w : Option (List Text)). unwrap_or w []) (is ∙ raw_values-rows f id)
+
+-- and so does the number of an option that may have none
+pub only_from : (f : Found) (id : Text) (low high : ℕ) (o : Option ℕ) → HasOnlyNumber f id low high
+    → o ≡ number_in id (rows_of f)
+    → MatchOption o (Unit {0}) (IsFrom low high)
+only_from f id low high o only is =
+    subst (λ (n : Option ℕ). MatchOption n (Unit {0}) (IsFrom low high)) (sym is) (go (one_text f id) refl)
+  where
+    go : (t : Option Text) → one_text f id ≡ t → MatchOption (number_in id (rows_of f)) (Unit {0}) (IsFrom low high)
+    go None e =
+        let none : number_in id (rows_of f) ≡ None = ap (option_map number_of) (sym (one_text-rows f id) ∙ e) in
+        subst (λ (n : Option ℕ). MatchOption n (Unit {0}) (IsFrom low high)) (sym none) tt
+    go (Some t) e =
+        subst (λ (n : Option ℕ). MatchOption n (Unit {0}) (IsFrom low high)) (sym (number_of_text f id t e))
+        (only t e).1

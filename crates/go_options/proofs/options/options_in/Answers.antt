@@ -1,0 +1,34 @@
+use Rattle.std.proofs.Common.{arith, codes}
+use Rattle.clap.specs.Matches.{found_of}
+use Rattle.go_options.proofs.RowLemmas.{number_from, only_from}
+use Rattle.go_options.proofs.options.options_in.Goals as goal
+
+pub overflow_cast-result : goal.overflow_cast-result
+overflow_cast-result c =
+    omega (
+      arith,
+      (number_from (found_of c.args.matches.now)
+          (codes "depth") 1 200 c.given_number.result c.requires.depth c.given_number.ensures).1,
+    )
+
+pub overflow_cast-result-2 : goal.overflow_cast-result-2
+overflow_cast-result-2 c =
+    omega (
+      arith,
+      (number_from (found_of c.args.matches.now)
+          (codes "branch") 0 12 c.given_number-2.result c.requires.branch c.given_number-2.ensures).1,
+    )
+
+pub returns-clause-ranges : goal.returns-clause-ranges
+returns-clause-ranges c =
+    let found = found_of c.args.matches.now in
+    record {
+      depth = number_from found (codes "depth") 1 200 c.given_number.result c.requires.depth c.given_number.ensures;
+      branch = number_from found
+          (codes "branch") 0 12 c.given_number-2.result c.requires.branch c.given_number-2.ensures;
+      cache = number_from found
+          (codes "cache") 8 65536 c.given_number-3.result c.requires.cache c.given_number-3.ensures;
+      states = number_from found
+          (codes "states") 1 1000000 c.given_number-4.result c.requires.states c.given_number-4.ensures;
+      generate = only_from found (codes "generate") 1 100000 c.number.result c.requires.generate c.number.ensures;
+    }

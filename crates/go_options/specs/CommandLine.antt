@@ -1,0 +1,60 @@
+-- The command line of the program as one value of `clap`, and what `clap`'s definitions make of words over it.
+use Rattle.std.specs.Prelude.{ℕ, pos, Bool, true, List, [], ◌∷◌, Some, codes}
+use Rattle.clap.specs.Lexer.{usize_max}
+use Rattle.clap.specs.Walk.{Row, Rule, Text, is_empty}
+use Rattle.clap.specs.Simple.{App, matches_of, new_app, new_rule, on_top}
+use Rattle.clap.specs.Faults.{fault_of}
+use Rattle.clap.specs.declared.builder.action.ArgAction.TheVariants.{Set, Append, SetTrue}
+use Rattle.clap.specs.declared.builder.value_parser.ValueParser.{ValueParser}
+use Rattle.clap.specs.declared.builder.value_parser.ValueParser.TheVariants as parser
+
+-- a whole number from low to high
+abbrev pub whole_from : ℕ → ℕ → ValueParser
+whole_from low high = parser.Signed (pos low) (pos high)
+
+-- an option of this name that has one value
+abbrev pub option_rule : Text → ValueParser → Rule
+option_rule name values = record (new_rule name) { long = Some name; action = Some Set; parser = Some values }
+
+-- the same with a value that stands where the option does not
+abbrev pub default_rule : Text → ValueParser → Text → Rule
+default_rule name values text = record (option_rule name values) { defaults = text ∷ [] }
+
+-- a flag of this name
+abbrev pub flag_rule : Text → Rule
+flag_rule name = record (new_rule name) { long = Some name; action = Some SetTrue }
+
+-- any number of words that are no option
+abbrev pub words_rule : Text → Rule
+words_rule name = record (new_rule name) {
+  action = Some Append;
+  range = Some (record { start_inclusive = 0; end_inclusive = usize_max });
+}
+
+-- a command of this name whose words begin after its name, without help and version
+abbrev pub bare_command : Text → App
+bare_command name = on_top
+    (λ s. record s { no_binary_name = true; disable_help_flag = true; disable_version_flag = true }) (new_app name)
+
+-- the rules of the command line, in their order
+abbrev pub the_rules : List Rule
+the_rules = default_rule (codes "depth") (whole_from 1 200) (codes "10")
+    ∷ default_rule (codes "branch") (whole_from 0 12) (codes "2")
+    ∷ default_rule (codes "cache") (whole_from 8 65536) (codes "4096")
+    ∷ default_rule (codes "states") (whole_from 1 1000000) (codes "100000")
+    ∷ option_rule (codes "generate") (whole_from 1 100000)
+    ∷ flag_rule (codes "stats")
+    ∷ words_rule (codes "files")
+    ∷ []
+
+-- the command line of the program
+unfoldable pub command_line : App
+command_line = on_top (λ s. record s { rules = the_rules }) (bare_command (codes "gopat"))
+
+-- the command line takes the words: no step of a parse of them fails
+abbrev pub is_taken : List Text → Bool
+is_taken words = is_empty (fault_of command_line words)
+
+-- what a parse finds in words that are taken
+abbrev pub rows_in : List Text → List Row
+rows_in words = matches_of command_line words

@@ -1,0 +1,46 @@
+-- The options that are found in the rows of a parse.
+use Rattle.std.specs.Prelude.{◌≡◌, ◌≤◌, ℕ, Bool, false, List, [], Option, Some, codes, unwrap_or, option_map}
+use Rattle.std.specs.Prelude.{MatchOption}
+use Rattle.std.specs.Option.{option_map_or}
+use Rattle.std.specs.Str.{bytes_eq}
+use Rattle.std.specs.Str.Parse.{digits_value, without_leading_plus}
+use Rattle.clap.specs.Walk.{Row, Text, all_of, first_of, one_of}
+use Rattle.go_options.specs.declared.options.Options.{Options}
+
+-- the number that decimal digits write, where a plus may stand first
+abbrev pub number_of : Text → ℕ
+number_of text = digits_value 10 (without_leading_plus text)
+
+-- the number of an option, where it has a value
+abbrev pub number_in : Text → List Row → Option ℕ
+number_in name rows = option_map number_of (one_of name rows)
+
+-- whether a flag is set
+abbrev pub flag_in : Text → List Row → Bool
+flag_in name rows = option_map_or (λ text. bytes_eq text (codes "true")) (first_of name rows) false
+
+-- the words that are no option
+abbrev pub words_in : Text → List Row → List Text
+words_in name rows = unwrap_or (all_of name rows) []
+
+-- the options are those that the rows have
+pub record AreFound (rows : List Row) (options : Options) : Type 0 where
+  pub depth : number_in (codes "depth") rows ≡ Some options.depth
+  pub branch : number_in (codes "branch") rows ≡ Some options.branch
+  pub cache : number_in (codes "cache") rows ≡ Some options.cache
+  pub states : number_in (codes "states") rows ≡ Some options.states
+  pub generate : number_in (codes "generate") rows ≡ options.generate
+  pub stats : flag_in (codes "stats") rows ≡ options.stats
+  pub files : words_in (codes "files") rows ≡ options.files
+
+-- the number lies from low to high
+abbrev pub IsFrom : ℕ → ℕ → ℕ → Type 0
+IsFrom low high n = (low ≤ n) × (n ≤ high)
+
+-- each number of the options lies in its range
+pub record AreInRange (options : Options) : Type 0 where
+  pub depth : IsFrom 1 200 options.depth
+  pub branch : IsFrom 0 12 options.branch
+  pub cache : IsFrom 8 65536 options.cache
+  pub states : IsFrom 1 1000000 options.states
+  pub generate : MatchOption options.generate (Unit {0}) (IsFrom 1 100000)

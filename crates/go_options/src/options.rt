@@ -1,0 +1,127 @@
+//! The options, and how the words give them.
+ghost use Rattle.std.specs.Prelude.{◌≡◌, ◌≢◌, ℕ, List, Some, codes, false, map, string_bytes, true, IfOk, IsErrOf};
+ghost use Rattle.std.specs.Prelude.{OnOk};
+ghost use Rattle.clap.specs.Matches.{found_of};
+ghost use Rattle.clap.specs.Walk.{rows_of};
+ghost use Rattle.go_options.specs.CommandLine.{is_taken, rows_in};
+ghost use Rattle.go_options.specs.Found.{AreFound, AreInRange, flag_in, number_in, words_in};
+ghost use Rattle.go_options.specs.Numbers.{HasNumber, HasNumbers, HasOnlyNumber, largest};
+
+use crate::command::command;
+use crate::{Files, NoMemory, OptionsError};
+use clap::ArgMatches;
+use clap::error::ErrorKind;
+use std::alloc::Global;
+
+/// What the words of the command line ask for.
+#[derive(Debug, Drop)]
+pub struct Options {
+    /// How many plies a reading goes deep, from 1 to 200.
+    pub depth: u8,
+    /// How many plies of a reading look wide, from 0 to 12.
+    pub branch: u8,
+    /// How many questions are kept at most, from 8 to 65536.
+    pub cache: u32,
+    /// The most states of the automaton, from 1 to 1000000.
+    pub states: u32,
+    /// Whether the counts are noted at the end.
+    pub stats: bool,
+    /// How many lines are generated in place of the input, from 1 to 100000.
+    pub generate: Option<u32>,
+    /// The names of the pattern files.
+    pub files: Files,
+}
+
+/// The number of an option, where it has a value.
+fn number(matches: &ArgMatches<'_>, name: &str) -> Option<u32>
+    requires { HasOnlyNumber (found_of matches.now) name.now 0 largest }
+    ensures { result ≡ number_in name.now (rows_of (found_of matches.now)) }
+{
+    matches.get_one::<u32>(name)
+}
+
+/// The number of an option that has one.
+fn given_number(matches: &ArgMatches<'_>, name: &str) -> u32
+    requires { HasNumber (found_of matches.now) name.now 0 largest }
+    ensures { number_in name.now (rows_of (found_of matches.now)) ≡ Some result }
+{
+    number(matches, name).unwrap()
+}
+
+/// Whether a flag is set.
+fn flag(matches: &ArgMatches<'_>, name: &str) -> bool
+    ensures { result ≡ flag_in name.now (rows_of (found_of matches.now)) }
+{
+    match matches.get_str(name) {
+        Some(text) => text == "true",
+        None => false,
+    }
+}
+
+/// Copies of the names.
+fn copied(alloc: Global, names: &[&str]) -> Result<Files, NoMemory>
+    ensures { IfOk result (λ files. files ≡ map (λ name. name.now) names.now) }
+{
+    let mut files = Files::new(alloc);
+    for name in names {
+        files.push(String::from_str(alloc, name)?)?;
+    }
+    Ok(files)
+}
+
+/// The words that are no option.
+fn words(alloc: Global, matches: &ArgMatches<'_>, name: &str) -> Result<Files, NoMemory>
+    ensures { IfOk result (λ files. files ≡ words_in name.now (rows_of (found_of matches.now))) }
+{
+    match matches.get_strs(name) {
+        Some(names) => copied(alloc, names),
+        None => Ok(Files::new(alloc)),
+    }
+}
+
+/// The options that were found.
+fn options_in(alloc: Global, matches: &ArgMatches<'_>) -> Result<Options, NoMemory>
+    requires { HasNumbers (found_of matches.now) }
+    ensures found { IfOk result (AreFound (rows_of (found_of matches.now))) }
+    ensures ranges { IfOk result AreInRange }
+{
+    let files = words(alloc, matches, "files")?;
+    Ok(Options {
+        depth: given_number(matches, "depth") as u8,
+        branch: given_number(matches, "branch") as u8,
+        cache: given_number(matches, "cache"),
+        states: given_number(matches, "states"),
+        stats: flag(matches, "stats"),
+        generate: number(matches, "generate"),
+        files,
+    })
+}
+
+/// What a parse that gave no options fails by.
+fn cause(kind: ErrorKind) -> OptionsError
+    ensures usage { result ≡ OptionsError.Usage → kind ≢ ErrorKind.OutOfMemory }
+    ensures memory { kind ≡ ErrorKind.OutOfMemory → result ≡ OptionsError.NoMemory }
+{
+    match kind {
+        ErrorKind::OutOfMemory => OptionsError::NoMemory,
+        _ => OptionsError::Usage,
+    }
+}
+
+/// The options that the words of a command line give, which are without the program's name.
+///
+/// A value stands behind `=` in its option's word or in the word that follows, and `--` ends the options; a word that
+/// begins with no hyphen, or is `-` alone, names a file. Usage comes only where the command line does not take the
+/// words: for a name that it does not have, a value that is no number in its range or is missing, a flag with a value,
+/// and an option that is given twice.
+pub fn read_options(alloc: Global, words: &[String]) -> Result<Options, OptionsError>
+    ensures found { IfOk result (AreFound (rows_in (map string_bytes words.now))) }
+    ensures ranges { IfOk result AreInRange }
+    ensures taken { OnOk result (is_taken (map string_bytes words.now) ≡ true) }
+    ensures usage { IsErrOf result OptionsError.Usage → is_taken (map string_bytes words.now) ≡ false }
+{
+    match command(alloc)?.try_get_matches_from(words) {
+        Ok(matches) => Ok(options_in(alloc, &matches)?),
+        Err(error) => Err(cause(error.kind())),
+    }
+}

@@ -1,0 +1,116 @@
+//! The notes of a run.
+ghost use Rattle.std.specs.Prelude.{◌≡◌, ◌++◌, List, ℕ, Some, OnOk, OnErr};
+ghost use Rattle.std.specs.List.{concat};
+ghost use Rattle.std.specs.Io.KnownBytes.{Appends};
+ghost use Rattle.gtp_io.specs.Outside.{IsCounted};
+ghost use Rattle.run_notes.specs.Notes.{counts_line, notes_text, sent_line};
+ghost use Rattle.run_notes.specs.Putting.{IsNoted, PutsFront};
+
+use crate::pieces::{labelled, put_pieces, text};
+use gtp_cmd::Short;
+use gtp_io::{Failed, Sink};
+
+/// The counts of a run.
+#[derive(Clone, Copy, Debug, PartialEq, Eq)]
+pub struct Counts {
+    /// How many lines asked for a reading and were answered with a code.
+    pub readings: u64,
+    /// How many of these were read afresh.
+    pub fresh: u64,
+    /// How many moves were tried by the fresh readings.
+    pub trials: u64,
+    /// How many readings were not kept for want of memory.
+    pub refused: u64,
+}
+
+/// What a run sent.
+#[derive(Clone, Copy, Debug, PartialEq, Eq)]
+pub struct Sent {
+    /// How many replies went out whole.
+    pub lines: u64,
+    /// How many bytes were put on the output.
+    pub bytes: u64,
+}
+
+/// Puts the line of the counts.
+fn put_counts<D: Sink>(notes: &mut D, counts: Counts) -> Result<(), Failed>
+    ensures ok { OnOk result (Appends (D.written notes.old) (D.written notes.new) (counts_line (Some counts))) }
+    ensures part { OnErr result (PutsFront (D.written notes.old) (D.written notes.new) (counts_line (Some counts))) }
+    ensures cause { IsCounted (D.faults notes.old) (D.faults notes.new) result }
+{
+    let pieces = [
+        labelled(b"readings ", counts.readings),
+        labelled(b" fresh ", counts.fresh),
+        labelled(b" trials ", counts.trials),
+        labelled(b" refused ", counts.refused),
+        text(b"\n"),
+    ];
+    put_pieces(notes, &pieces)
+}
+
+/// Puts the line of what was sent.
+fn put_sent<D: Sink>(notes: &mut D, sent: Sent) -> Result<(), Failed>
+    ensures ok { OnOk result (Appends (D.written notes.old) (D.written notes.new) (sent_line (Some sent))) }
+    ensures part { OnErr result (PutsFront (D.written notes.old) (D.written notes.new) (sent_line (Some sent))) }
+    ensures cause { IsCounted (D.faults notes.old) (D.faults notes.new) result }
+{
+    let pieces = [
+        labelled(b"lines ", sent.lines),
+        labelled(b" bytes ", sent.bytes),
+        text(b"\n"),
+    ];
+    put_pieces(notes, &pieces)
+}
+
+/// Puts the line of the counts where they are asked for.
+fn put_some_counts<D: Sink>(notes: &mut D, counts: Option<Counts>) -> Result<(), Failed>
+    ensures ok { OnOk result (Appends (D.written notes.old) (D.written notes.new) (counts_line counts)) }
+    ensures part { OnErr result (PutsFront (D.written notes.old) (D.written notes.new) (counts_line counts)) }
+    ensures cause { IsCounted (D.faults notes.old) (D.faults notes.new) result }
+{
+    match counts {
+        Some(counts) => put_counts(notes, counts),
+        None => Ok(()),
+    }
+}
+
+/// Puts the line of what was sent where lines were generated.
+fn put_some_sent<D: Sink>(notes: &mut D, sent: Option<Sent>) -> Result<(), Failed>
+    ensures ok { OnOk result (Appends (D.written notes.old) (D.written notes.new) (sent_line sent)) }
+    ensures part { OnErr result (PutsFront (D.written notes.old) (D.written notes.new) (sent_line sent)) }
+    ensures cause { IsCounted (D.faults notes.old) (D.faults notes.new) result }
+{
+    match sent {
+        Some(sent) => put_sent(notes, sent),
+        None => Ok(()),
+    }
+}
+
+/// Puts all notes, or fails where the sink does.
+fn put_lines<D: Sink>(
+    notes: &mut D,
+    counts: Option<Counts>,
+    sent: Option<Sent>,
+    last: &[Short],
+) -> Result<(), Failed>
+    ensures ok { OnOk result
+        (Appends (D.written notes.old) (D.written notes.new) (notes_text counts sent (concat last.now))) }
+    ensures part { OnErr result
+        (PutsFront (D.written notes.old) (D.written notes.new) (notes_text counts sent (concat last.now))) }
+    ensures cause { IsCounted (D.faults notes.old) (D.faults notes.new) result }
+{
+    put_some_counts(notes, counts)?;
+    put_some_sent(notes, sent)?;
+    put_pieces(notes, last)
+}
+
+/// Puts the notes of a run on a sink: its counts and what it sent, where they are asked for, and the pieces of its last
+/// line.
+///
+/// Nothing more is put after the sink's first failure.
+pub fn put_notes<D: Sink>(notes: &mut D, counts: Option<Counts>, sent: Option<Sent>, last: &[Short])
+    ensures { IsNoted (D.written notes.old) (D.written notes.new) (D.faults notes.old) (D.faults notes.new)
+        (notes_text counts sent (concat last.now)) }
+{
+    let _ = put_lines(notes, counts, sent, last);
+}

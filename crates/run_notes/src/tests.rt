@@ -1,0 +1,55 @@
+//! The lines as they are printed.
+ghost use Rattle.std.specs.Prelude.{◌<◌};
+
+use crate::{Counts, Sent, put_notes};
+use gtp_cmd::Short;
+use gtp_io::Page;
+use std::alloc::Global;
+use std::test::Fail;
+
+const COUNTS: Counts = Counts {
+    readings: 2,
+    fresh: 1,
+    trials: 18_446_744_073_709_551_615,
+    refused: 0,
+};
+
+const SENT: Sent = Sent { lines: 3, bytes: 9 };
+
+/// The notes on a page that takes this many bytes of a call and fails at this call.
+fn noted(alloc: Global, most: usize, fails: u64) -> Result<Page, Fail>
+    requires { 0 < most }
+{
+    let mut last = Short::new();
+    last.extend(b"input failed\n");
+    let mut page = Page::new(alloc, 200, most, vec![in alloc; fails]?)?;
+    put_notes(&mut page, Some(COUNTS), Some(SENT), &[last]);
+    Ok(page)
+}
+
+#[test]
+fn all_lines_go_out(rt: HostRuntime) -> Result<(), Fail> {
+    let wanted: &[u8] =
+        b"readings 2 fresh 1 trials 18446744073709551615 refused 0\nlines 3 bytes 9\ninput failed\n";
+    let whole = noted(rt.alloc(), 200, 0)?;
+    assert!(rt; whole.bytes() == wanted);
+    let pieces = noted(rt.alloc(), 3, 0)?;
+    assert!(rt; pieces.bytes() == wanted);
+    Ok(())
+}
+
+#[test]
+fn nothing_is_put_after_a_failure(rt: HostRuntime) -> Result<(), Fail> {
+    let page = noted(rt.alloc(), 200, 3)?;
+    assert!(rt; page.bytes() == b"readings 2 fresh 1".as_slice());
+    Ok(())
+}
+
+#[test]
+fn no_line_stands_where_none_is_asked_for(rt: HostRuntime) -> Result<(), Fail> {
+    let alloc = rt.alloc();
+    let mut page = Page::new(alloc, 200, 200, Vec::new(alloc))?;
+    put_notes(&mut page, None, None, &[]);
+    assert_eq!(rt; page.bytes().len(), 0);
+    Ok(())
+}

@@ -1,0 +1,105 @@
+//! The generated lines, one at a time.
+ghost use Rattle.std.specs.Prelude.{◌≡◌, ◌+◌, ◌*◌, ◌<◌, ◌≤◌, ◌^◌, ◌++◌, codes, length, slice_index};
+ghost use Rattle.gtp_cmd.specs.Vertices.{column_letters, vertex_text};
+ghost use Rattle.workload.specs.GeneratedLines.{colour_of_line, ended, line_with, next_number, opening_lines};
+ghost use Rattle.workload.specs.GeneratedLines.{point_of_number, rows, text_of};
+
+use gtp_cmd::Short;
+use itoa::Buffer;
+
+/// How many rows the board has.
+const ROWS: u8 = 9;
+
+/// The letters of its columns from the left.
+const COLUMN_LETTERS: [u8; 9] = *b"ABCDEFGHJ";
+
+/// The number that follows a number.
+pub(crate) fn next_number(x: u32) -> u32
+    ensures value { result ≡ next_number x }
+    ensures small { result < 2 ^ 31 }
+{
+    ((u64::from(x) * 1_103_515_245 + 12_345) % 0x8000_0000) as u32
+}
+
+/// A short text of these bytes.
+fn text(bytes: &[u8]) -> Short
+    requires { length bytes.now ≤ 48 }
+    ensures { result ≡ bytes.now }
+{
+    let mut text = Short::new();
+    text.extend(bytes);
+    text
+}
+
+/// The letter of a column.
+fn column_letter(column: u8) -> u8
+    requires { column < rows }
+    ensures { result ≡ slice_index column_letters column }
+{
+    COLUMN_LETTERS[column as usize]
+}
+
+/// The line with the vertex of a point behind it.
+fn with_vertex(mut line: Short, point: u8) -> Short
+    requires point { point < rows * rows }
+    requires room { length line ≤ 20 }
+    ensures text { result ≡ line ++ vertex_text rows point }
+    ensures short { length result ≤ 30 }
+{
+    let mut buffer = Buffer::new();
+    line.extend(&[column_letter(point % ROWS)]);
+    line.extend(buffer.format(ROWS - point / ROWS).as_bytes());
+    line
+}
+
+/// The line with the colour of line i behind it.
+fn with_colour(mut line: Short, i: u32) -> Short
+    requires { length line ≤ 20 }
+    ensures text { result ≡ line ++ colour_of_line i }
+    ensures short { length result ≤ length line + 1 }
+{
+    line.extend(if i % 2 == 1 { b"b" } else { b"w" });
+    line
+}
+
+/// The line with a blank behind it.
+fn with_blank(mut line: Short) -> Short
+    requires { length line ≤ 20 }
+    ensures { result ≡ line ++ codes " " }
+{
+    line.extend(b" ");
+    line
+}
+
+/// Line i with this number, without its line feed.
+#[tactic(auto, unfolding(crate::specs::GeneratedLines::line_with))]
+fn bare_line(i: u32, x: u32) -> Short
+    ensures text { result ≡ line_with i x }
+    ensures short { length result ≤ 40 }
+{
+    let point = (x / 65_536 % 81) as u8;
+    match i % 16 {
+        4 => text(b"undo"),
+        8 => with_vertex(text(b"attack "), point),
+        12 => with_vertex(text(b"defend "), point),
+        0 => with_colour(text(b"match_patterns "), i),
+        _ => with_vertex(with_blank(with_colour(text(b"play "), i)), point),
+    }
+}
+
+/// Line i with this number and its line feed.
+pub(crate) fn line(i: u32, x: u32) -> Short
+    ensures text { result ≡ ended (line_with i x) }
+    ensures some { 0 < length result }
+{
+    let mut line = bare_line(i, x);
+    line.extend(b"\n");
+    line
+}
+
+/// The lines that set the board up.
+pub(crate) fn opening() -> Short
+    ensures { result ≡ text_of opening_lines }
+{
+    text(b"boardsize 9\ndepths 5 1\n")
+}

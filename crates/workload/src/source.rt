@@ -1,0 +1,59 @@
+//! The source.
+ghost use Rattle.std.specs.Prelude.{◌≡◌, Some};
+ghost use Rattle.std.specs.Io.{ReadsAtMost};
+ghost use Rattle.std.specs.Io.KnownBytes.{ReadConsumes};
+ghost use Rattle.gtp_io.specs.Outside.{Gave, IsCounted};
+ghost use Rattle.workload.specs.GeneratedLines.{generated_text};
+
+use crate::rest::Rest;
+use gtp_io::{Failed, Source};
+use std::marker::Model;
+
+/// A source of generated lines, which never fails and takes no memory. A call gives bytes of one line at most, but for
+/// the first lines, which set the board up and count as one.
+#[derive(Drop)]
+pub struct Workload {
+    rest: Rest,
+    piece: usize,
+}
+
+impl Model for Workload {
+    ghost use Rattle.workload.specs.Remaining.{AreMade, WorkloadState, left_from};
+
+    ghost Value = { WorkloadState };
+
+    ghost view = { λ w. record { left = left_from w.rest.lines w.rest.made w.rest.line w.rest.at; piece = w.piece } };
+
+    ghost invariant = { λ w. AreMade w.rest.lines w.rest.made w.rest.number w.rest.line w.rest.at };
+}
+
+impl Workload {
+    /// The lines that set the board up, and then n lines.
+    pub fn new(n: u32) -> Workload
+        ensures { result ≡ record { left = generated_text n; piece = 0 } }
+    {
+        Workload {
+            rest: Rest::new(n),
+            piece: 0,
+        }
+    }
+}
+
+impl Source for Workload {
+    ghost left = { λ w. Some w.left };
+
+    ghost piece = { λ w. w.piece };
+
+    ghost faults = { λ _. 0 };
+
+    fn next(&mut self, buf: &mut [u8]) -> Result<usize, Failed>
+        ensures bound { ReadsAtMost result buf.new }
+        ensures bytes { ReadConsumes (Some self.old.left) (Some self.new.left) result buf.new }
+        ensures piece { Gave self.new.piece result }
+        ensures cause { IsCounted 0 0 result }
+    {
+        self.rest.ready();
+        self.piece = self.rest.give(buf);
+        Ok(self.piece)
+    }
+}
