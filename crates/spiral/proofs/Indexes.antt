@@ -12,7 +12,7 @@ use Rattle.spiral.proofs.Places.{offset_by_parts}
 abbrev pub apart : ℕ → ℕ → ℕ
 apart a b = (a - b) + (b - a)
 
--- the ring of the offset in this row and column, both counted from 18 before the first
+-- the ring of the offset in this row and column, both counted from the first of all rows and columns
 abbrev pub ring_at : ℕ → ℕ → ℕ
 ring_at row column = max (apart row largest_offset) (apart column largest_offset)
 
@@ -80,7 +80,7 @@ index_back i p = eqb-true _ _ (agree_below_at (λ n. index_by (offset_at n) == n
 pub offsets_differ : (i j : ℕ) → i < offset_count → j < offset_count → offset_at i ≡ offset_at j → i ≡ j
 offsets_differ i j p q e = sym (index_back i p) ∙ ap index_by e ∙ index_back j q
 
--- whether both parts are from -18 to 18
+-- whether no part is beyond the largest offset
 abbrev is_near : Offset → Bool
 is_near d = (le_z (neg_ℤ (pos largest_offset)) d.0 && le_z d.0 (pos largest_offset)) && (le_z (neg_ℤ (pos largest_offset)) d.1 && le_z d.1 (pos largest_offset))
 
@@ -106,7 +106,7 @@ from_middle : (z : ℤ) → neg_ℤ (pos largest_offset) ≤ℤ z → z ≤ℤ p
 from_middle (pos k) low high = (k + largest_offset, omega (arith, ints, high), omega (arith, ints))
 from_middle (negsuc k) low high = (largest_offset - suc k, omega (arith, ints, low), omega (arith, ints, low))
 
--- each offset with both parts from -18 to 18 has an index
+-- each offset with no part beyond the largest has an index
 pub offset_exists : (d : Offset) → IsNear d → (i : ℕ) × (i < offset_count) × (offset_at i ≡ d)
 offset_exists d near =
     let row = from_middle d.0 near.row_low near.row_high in

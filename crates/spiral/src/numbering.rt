@@ -5,7 +5,7 @@ ghost use Rattle.spiral.specs.Spiral.{offset_count, offset_at};
 
 use crate::ring::{LAST_RING, in_ring, index_in_square, ring_start, ring_with};
 
-/// How many offsets there are: those with both parts from -18 to 18.
+/// How many offsets there are: those with both parts from -24 to 24.
 pub const OFFSETS: u16 = (2 * LAST_RING + 1) * (2 * LAST_RING + 1);
 
 /// The offset with an index: how many rows down and how many columns to the right it leads, each negative for the other way.
@@ -30,7 +30,7 @@ pub fn index(dr: i8, dc: i8) -> u16
     )
 }
 
-/// No two indices have one offset, and each index below 1,369 has one with both parts from -18 to 18.
+/// No two indices have one offset, and each index below `OFFSETS` has one, with both parts from -24 to 24.
 pub fn offsets_differ()
     ensures differ { (i j : ℕ) → i < offset_count → j < offset_count → offset_at i ≡ offset_at j → i ≡ j }
     ensures near { (i : ℕ) → i < offset_count → IsNear (offset_at i) }

@@ -13,8 +13,8 @@ fn rings_begin_above_left_and_go_right(rt: HostRuntime) -> Result<(), Fail> {
         ("its lower left corner", 7, (1, -1)),
         ("the first ring ends", 8, (0, -1)),
         ("the second ring begins", 9, (-2, -2)),
-        ("the last ring begins", 1225, (-18, -18)),
-        ("the last offset", 1368, (-17, -18)),
+        ("the last ring begins", 2209, (-24, -24)),
+        ("the last offset", 2400, (-23, -24)),
     ];
     for (place, number, want) in rows {
         if number >= OFFSETS {
@@ -24,6 +24,6 @@ fn rings_begin_above_left_and_go_right(rt: HostRuntime) -> Result<(), Fail> {
         assert_eq!(rt; (dr, dc), want, "{place}");
         assert_eq!(rt; index(dr, dc), number, "{place}");
     }
-    assert_eq!(rt; OFFSETS, 1369, "all offsets within the largest board");
+    assert_eq!(rt; OFFSETS, 2401, "all offsets within the largest board");
     Ok(())
 }
