@@ -1,11 +1,12 @@
 -- What a pattern draws along the spiral, and its length.
-use Rattle.std.proofs.Common.{◌≡◌, ℕ, zero, suc, ◌-◌, ◌<◌, true, false, cond, ℤ, pos, ◌+ℤ◌, refl, ap, ◌∙◌, sym, arith}
+use Rattle.std.proofs.Common.{◌≡◌, ℕ, zero, suc, ◌-◌, ◌<◌, ◌≤◌, inl, inr, true, false, cond, ℤ, pos, ◌+ℤ◌, refl, ap, ◌∙◌, sym, arith}
+use Rattle.std.proofs.lemmas.Bool.{cases_Bool}
 use Rattle.go_rules.specs.Transform.{Offset}
-use Rattle.spiral.specs.Spiral.{offset_at}
+use Rattle.spiral.specs.Spiral.{offset_at, offset_count}
 use Rattle.pat_types.specs.declared.pattern.Pattern.{Pattern}
 use Rattle.pat_types.specs.declared.cell.Drawn.{Drawn}
 use Rattle.pat_types.specs.Cells.{drawn_at, anchor_of}
-use Rattle.dfa_core.specs.Fits.{drawn_along, is_drawn, length_below}
+use Rattle.dfa_core.specs.Fits.{drawn_along, is_drawn, length_below, pattern_length}
 
 -- the anchor and the offset give the cell
 pub drawn_along_at : (p : Pattern) (i : ℕ) (d : Drawn) (a : ℕ × ℕ) (o : Offset) (r c : ℤ) → a ≡ anchor_of p → o ≡ offset_at i → r ≡ pos a.0 +ℤ o.0 → c ≡ pos a.1 +ℤ o.1
@@ -13,10 +14,12 @@ pub drawn_along_at : (p : Pattern) (i : ℕ) (d : Drawn) (a : ℕ × ℕ) (o : O
 unfolding drawn_along
 drawn_along_at p i d a o r c anchor offset row column e = rw (e, row, column, anchor, offset) refl
 
+-- where a cell is drawn at an index, that is the last below the next
 pub length_below-drawn : (p : Pattern) (i : ℕ) → is_drawn (drawn_along p i) ≡ true → length_below p (suc i) ≡ suc i
 unfolding length_below
 length_below-drawn p i e = ap (λ b. cond b (suc i) (length_below p i)) e
 
+-- and where none is, the last is one before
 pub length_below-blank : (p : Pattern) (i : ℕ) → is_drawn (drawn_along p i) ≡ false → length_below p (suc i) ≡ length_below p i
 unfolding length_below
 length_below-blank p i e = ap (λ b. cond b (suc i) (length_below p i)) e
@@ -40,6 +43,21 @@ length_at_blank p (suc i) more blank = ap (length_below p) (sym less) ∙ sym (l
     less : i ≡ suc i - 1
     less = omega arith
 
+-- nothing is drawn below the first index
 pub length_below-zero : (p : Pattern) (n : ℕ) → n ≡ 0 → 0 ≡ length_below p n
 unfolding length_below
 length_below-zero p n e = rw e refl
+
+-- the length below n is at most n
+length_below-most : (p : Pattern) (n : ℕ) → length_below p n ≤ n
+length_below-most p zero = omega (arith, length_below-zero p 0 refl)
+length_below-most p (suc n) =
+    elim (cases_Bool (is_drawn (drawn_along p n))) [
+      | inl last ↦ omega (arith, length_below-drawn p n last)
+      | inr blank ↦ omega (arith, length_below-blank p n blank, length_below-most p n)
+    ]
+
+-- no pattern is longer than the spiral
+pub pattern_length-most : (p : Pattern) → pattern_length p ≤ offset_count
+unfolding pattern_length
+pattern_length-most p = length_below-most p offset_count
