@@ -8,9 +8,9 @@ use Rattle.go_rules.specs.Position.{BoardState}
 use Rattle.pat_types.specs.declared.pattern.Pattern.{Pattern}
 use Rattle.dfa_core.specs.Words.{Word}
 use Rattle.dfa_core.specs.Automata.{Row, accepted}
-use Rattle.dfa_core.specs.Fits.{drawn_along, is_drawn, length_below, pattern_length, is_refuted}
-use Rattle.dfa_core.specs.States.{is_matched, matched_from}
-use Rattle.dfa_core.proofs.Lengths.{length_below-drawn, length_below-blank, length_below-zero}
+use Rattle.dfa_core.specs.Fits.{pattern_length, is_refuted}
+use Rattle.dfa_core.specs.States.{is_matched, matched_from, IsMachineOf}
+use Rattle.dfa_core.proofs.Lengths.{pattern_length-most}
 use Rattle.dfa_match.specs.declared.Hit.{Hit}
 use Rattle.dfa_match.specs.Sights.{seen_at, word_at}
 use Rattle.dfa_match.specs.Hits.{IsHit}
@@ -24,6 +24,7 @@ pub record IsNumbered (k : ℕ) (ps : List Pattern) (w : Word) (n : ℕ) : Type 
   pub number : slice_get ps (n - k) ≡ Some pattern
   pub matched : is_matched w pattern ≡ true
 
+-- each of these numbers is that of a pattern that matches
 numbered : (k : ℕ) (ps : List Pattern) (w : Word) (n : ℕ) → Contains (matched_from k ps w) n → IsNumbered k ps w n
 numbered k [] w n here = absurd (omega (arith, here.1))
 numbered k (p ∷ ps) w n here =
@@ -46,6 +47,7 @@ numbered k (p ∷ ps) w n here =
         record { pattern = p; from = omega (arith, same); number = ap (slice_get (p ∷ ps)) none; matched = hit }
     now (inr miss) at = let none : Contains [] n = subst (λ b. Contains (cond b (k ∷ []) []) n) miss at in absurd (omega (arith, none.1))
 
+-- and each pattern that matches has its number among them
 number_of : (k : ℕ) (ps : List Pattern) (w : Word) (i : ℕ) (p : Pattern) → slice_get ps i ≡ Some p → is_matched w p ≡ true → Contains (matched_from k ps w) (k + i)
 number_of k [] w i p at matched = absurd (let h : ⊥ = cc in h)
 number_of k (q ∷ ps) w zero p at matched =
@@ -58,23 +60,12 @@ number_of k (q ∷ ps) w (suc i) p at matched =
     Contains-append_right (cond (is_matched w q) (k ∷ []) []) (matched_from (suc k) ps w) (k + suc i)
     (subst (Contains (matched_from (suc k) ps w)) sums (number_of (suc k) ps w i p at matched))
 
-length_below-most : (p : Pattern) (n : ℕ) → length_below p n ≤ n
-length_below-most p zero = omega (arith, length_below-zero p 0 refl)
-length_below-most p (suc n) =
-    elim (cases_Bool (is_drawn (drawn_along p n))) [
-      | inl last ↦ omega (arith, length_below-drawn p n last)
-      | inr blank ↦ omega (arith, length_below-blank p n blank, length_below-most p n)
-    ]
-
-pattern_length-most : (p : Pattern) → pattern_length p ≤ offset_count
-unfolding pattern_length
-pattern_length-most p = length_below-most p offset_count
-
-module _ (patterns : List Pattern) (machine : List Row) (at : BoardState) (friend : Colour) (hit : Hit) (accepts : (w : Word) → accepted machine w ≡ matched_from 0 patterns w) where
+module _ (patterns : List Pattern) (machine : List Row) (at : BoardState) (friend : Colour) (hit : Hit) (accepts : IsMachineOf patterns machine) where
+  -- what the machine accepts is a pattern that fits
   pub fit_from_hit : IsHit machine at friend hit → IsFit patterns at friend hit
   fit_from_hit is =
       let w : Word = word_at at friend hit.transform hit.anchor is.letters in
-      let found = numbered 0 patterns w hit.pattern (subst (λ ns. Contains ns hit.pattern) (accepts w) is.accepts) in
+      let found = numbered 0 patterns w hit.pattern (accepts.sound w hit.pattern is.accepts) in
       let none : hit.pattern ≡ hit.pattern - 0 = omega arith in
       let long : is.letters ≡ pattern_length found.pattern =
       sym (word_length found.pattern (seen_at at friend hit.transform hit.anchor) 0 is.letters)
@@ -88,6 +79,7 @@ module _ (patterns : List Pattern) (machine : List Row) (at : BoardState) (frien
             (subst (λ n. is_matched (word_at at friend hit.transform hit.anchor n) found.pattern ≡ true) long found.matched);
       }
 
+  -- and the other way round
   pub hit_from_fit : IsFit patterns at friend hit → IsHit machine at friend hit
   hit_from_fit is =
       let w : Word = word_at at friend hit.transform hit.anchor (pattern_length is.pattern) in
@@ -98,5 +90,5 @@ module _ (patterns : List Pattern) (machine : List Row) (at : BoardState) (frien
         anchor = is.anchor;
         letters = pattern_length is.pattern;
         spiral = pattern_length-most is.pattern;
-        accepts = subst (λ ns. Contains ns hit.pattern) (sym (accepts w)) (subst (Contains (matched_from 0 patterns w)) none (number_of 0 patterns w hit.pattern is.pattern is.number matched));
+        accepts = accepts.complete w hit.pattern (subst (Contains (matched_from 0 patterns w)) none (number_of 0 patterns w hit.pattern is.pattern is.number matched));
       }

@@ -1,5 +1,5 @@
 -- A word matches a pattern exactly where the pattern fits.
-use Rattle.std.proofs.Common.{◌≡◌, ℕ, zero, suc, ◌+◌, ◌<◌, ◌≤◌, true, false, not, eqb, length, ℤ, pos, ◌+ℤ◌, ◌-ℤ◌, refl, sym, ap, ◌∙◌, subst, arith, ◌⊎◌, inl, inr}
+use Rattle.std.proofs.Common.{◌≡◌, ℕ, zero, suc, ◌+◌, ◌<◌, ◌≤◌, true, false, not, eqb, length, Option, ℤ, pos, ◌+ℤ◌, ◌-ℤ◌, refl, sym, ap, ◌∙◌, subst, arith, ◌⊎◌, inl, inr}
 use Rattle.std.proofs.lemmas.Int.{ints}
 use Rattle.std.proofs.lemmas.Bool.{cases_Bool, cases_eq, or_parts, or_from, and_parts, and_from, not-false, not-true, not_from_true, not_from_false, eq-eqb, both_ways, false≢true}
 use Rattle.go_rules.specs.declared.Colour.{Colour}
@@ -17,6 +17,7 @@ use Rattle.dfa_core.proofs.Lengths.{length_below-drawn, length_below-blank}
 use Rattle.dfa_match.specs.Sights.{seen_at, seen_at_place, word_from, word_at}
 use Rattle.dfa_match.specs.Fitting.{FitsAt}
 use Rattle.dfa_match.proofs.Walking.{word_from-suc, word_from-zero}
+use Rattle.dfa_match.proofs.Admitted.{fits_seen}
 use Rattle.dfa_match.proofs.Bounds.{drawn_near}
 
 module _ (p : Pattern) (seen : ℕ → Seen) where
@@ -38,6 +39,7 @@ module _ (p : Pattern) (seen : ℕ → Seen) where
       ∙ or_from (not (admits p i (seen i))) (refuted_from p (suc i) (word_from seen (suc i) n)) (not_from_true (admits p i (seen i)) (all i (omega arith) (omega arith)))
       (not_refuted (suc i) n (λ k low high. all k (omega arith) (omega arith)))
 
+  -- a word that is read has as many letters as were read
   pub word_length : (i n : ℕ) → length (word_from seen i n) ≡ n
   word_length i zero = ap length (word_from-zero seen i)
   word_length i (suc n) = ap length (word_from-suc seen i n) ∙ ap suc (word_length (suc i) n)
@@ -54,6 +56,7 @@ drawn_below p (suc n) i low drawn =
       ]
     ]
 
+-- where nothing is drawn anything is admitted
 blank_admits : (d : Drawn) (x : Seen) → is_drawn d ≡ false → drawn_admits d x ≡ true
 blank_admits Nothing x e = refl
 blank_admits OffBoard x e = absurd (false≢true (sym e))
@@ -64,21 +67,28 @@ along_is : (p : Pattern) (i : ℕ) → drawn_along p i ≡ drawn_at p (pos (anch
 unfolding drawn_along
 along_is p i = refl
 
+-- what is seen at an index is what is seen at its place
 seen_is : (at : BoardState) (friend : Colour) (t m i : ℕ) → seen_at at friend t m i ≡ seen_at_place at friend (place_at at.size t m (offset_at i))
 unfolding seen_at
 seen_is at friend t m i = refl
 
+-- an index with a drawn cell is below the pattern's length
 below_length : (p : Pattern) (i : ℕ) → i < offset_count → is_drawn (drawn_along p i) ≡ true → i < pattern_length p
 unfolding pattern_length
 below_length p i low drawn = drawn_below p offset_count i low drawn
 
 module _ (p : Pattern) (at : BoardState) (friend : Colour) (t m : ℕ) where
+  -- the place of a cell
+  abbrev place : ℤ → ℤ → Option ℕ
+  place r c = place_at at.size t m (r -ℤ pos (anchor_of p).0, c -ℤ pos (anchor_of p).1)
+
   -- what is seen at the place of a cell
   abbrev see : ℤ → ℤ → Seen
-  see r c = seen_at_place at friend (place_at at.size t m (r -ℤ pos (anchor_of p).0, c -ℤ pos (anchor_of p).1))
+  see r c = seen_at_place at friend (place r c)
 
+  -- where the word matches, the pattern fits
   pub fits_from_match : is_matched (word_at at friend t m (pattern_length p)) p ≡ true → FitsAt p at friend t m
-  fits_from_match matched = record { cells = λ r c. by r c (cases_Bool (is_drawn (drawn_at p r c))) }
+  fits_from_match matched = record { cells = λ r c. fits_seen (drawn_at p r c) at friend (place r c) ∙ by r c (cases_Bool (is_drawn (drawn_at p r c))) }
     where
       admitted : (k : ℕ) → k < pattern_length p → admits p k (seen_at at friend t m k) ≡ true
       admitted k low =
@@ -102,6 +112,7 @@ module _ (p : Pattern) (at : BoardState) (friend : Colour) (t m : ℕ) where
       by r c (inr blank) = blank_admits (drawn_at p r c) (see r c) blank
       by r c (inl drawn) = let found = offset_exists _ (drawn_near p r c drawn) in drawn_cell r c found.0 found.1 found.2 drawn
 
+  -- and the other way round
   pub match_from_fits : FitsAt p at friend t m → is_matched (word_at at friend t m (pattern_length p)) p ≡ true
   match_from_fits fits =
       and_from (eqb (length (word_at at friend t m (pattern_length p))) (pattern_length p)) _
@@ -117,4 +128,4 @@ module _ (p : Pattern) (at : BoardState) (friend : Colour) (t m : ℕ) where
           let o : (r -ℤ pos (anchor_of p).0, c -ℤ pos (anchor_of p).1) ≡ offset_at k = λ i. (row i, column i) in
           ap (λ d. drawn_admits d (seen_at at friend t m k)) (along_is p k)
           ∙ ap (drawn_admits (drawn_at p r c)) (seen_is at friend t m k ∙ ap (λ d. seen_at_place at friend (place_at at.size t m d)) (sym o))
-          ∙ fits.cells r c
+          ∙ sym (fits_seen (drawn_at p r c) at friend (place r c)) ∙ fits.cells r c

@@ -6,13 +6,13 @@ use Rattle.go_rules.specs.Transform.{transformations}
 use Rattle.spiral.specs.Spiral.{place_at}
 use Rattle.pat_types.specs.declared.pattern.Pattern.{Pattern}
 use Rattle.pat_types.specs.Cells.{drawn_at, anchor_of}
-use Rattle.dfa_core.specs.Fits.{drawn_admits}
+use Rattle.match_rules.specs.Fits.{drawn_fits}
 use Rattle.dfa_match.specs.declared.Hit.{Hit}
-use Rattle.dfa_match.specs.Sights.{seen_at_place}
 
--- each cell of the pattern, moved by t with the anchor's cell at m, has its place on the board and its letter admits what is seen there, or is an edge cell and has its place off the board
+-- what is drawn in each cell of the pattern fits at its place, with the anchor's cell at m under t: letters lie on the board and admit
+-- what stands there, and edge cells lie off it
 pub record FitsAt (p : Pattern) (at : BoardState) (friend : Colour) (t m : ℕ) : Type 0 where
-  pub cells : (r c : ℤ) → drawn_admits (drawn_at p r c) (seen_at_place at friend (place_at at.size t m (r -ℤ pos (anchor_of p).0, c -ℤ pos (anchor_of p).1))) ≡ true
+  pub cells : (r c : ℤ) → drawn_fits (drawn_at p r c) at friend (place_at at.size t m (r -ℤ pos (anchor_of p).0, c -ℤ pos (anchor_of p).1)) ≡ true
 
 -- the pattern with the hit's number fits at the hit's anchor under its transformation
 pub record IsFit (patterns : List Pattern) (at : BoardState) (friend : Colour) (hit : Hit) : Type 0 where

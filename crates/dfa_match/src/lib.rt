@@ -10,23 +10,21 @@
 ghost use Rattle.std.specs.Prelude.{◌≡◌, ◌↔◌, true, List, ℕ, ◌+◌, ◌*◌, ◌/◌, ◌%◌, ◌<◌, ◌++◌, [], IfOk, OnOk, IfSome};
 ghost use Rattle.go_rules.specs.Position.{BoardState};
 ghost use Rattle.go_rules.specs.Transform.{transformations};
-ghost use Rattle.dfa_core.specs.Automata.{Row, accepted, numbers_along};
+ghost use Rattle.dfa_core.specs.Automata.{Row, numbers_along};
 ghost use Rattle.dfa_match.specs.Sights.{seen_of, seen_at_place, seen_at, word_at};
 ghost use Rattle.go_rules.specs.declared.Colour.{Colour as ColourSeen};
 ghost use Rattle.pat_types.specs.declared.pattern.Pattern.{Pattern};
 ghost use Rattle.spiral.specs.Spiral.{offset_count};
 ghost use Rattle.dfa_core.specs.Fits.{pattern_length};
-ghost use Rattle.dfa_core.specs.States.{is_matched, matched_from};
+ghost use Rattle.dfa_core.specs.States.{is_matched, IsMachineOf};
 ghost use Rattle.dfa_match.specs.Fitting.{FitsAt, IsFit};
 ghost use Rattle.dfa_match.specs.declared.Hit.{Hit as HitSeen};
-ghost use Rattle.dfa_core.specs.Words.{Word};
 ghost use Rattle.dfa_match.specs.Hits.{hits_at, IsHit, AreHits, AreHitsWhere, comes_before};
 
 use dfa_core::{Automaton, Seen};
 use go_base::transform::TRANSFORMATIONS;
-use go_base::{Cell, Colour, Look, Point, Transform};
+use go_base::{Cell, Colour, Look, NoMemory, Point, Transform};
 use spiral::{OFFSETS, TurnedSpiral};
-use std::alloc::AllocError;
 
 /// A pattern that an automaton accepts from an anchor under a transformation.
 #[derive(Clone, Copy, Debug, PartialEq, Eq)]
@@ -89,7 +87,7 @@ fn letter<L: Look>(
 }
 
 /// Adds the hits of these patterns.
-fn add(out: &mut Vec<Hit>, numbers: &[u16], t: Transform, anchor: Point) -> Result<(), AllocError>
+fn add(out: &mut Vec<Hit>, numbers: &[u16], t: Transform, anchor: Point) -> Result<(), NoMemory>
     ensures { OnOk result (out.new.items ≡ out.old.items ++ hits_at t anchor numbers.now) }
 {
     for n in numbers {
@@ -110,7 +108,7 @@ fn walk<L: Look>(
     spiral: &TurnedSpiral,
     anchor: Point,
     out: &mut Vec<Hit>,
-) -> Result<(), AllocError>
+) -> Result<(), NoMemory>
     requires { anchor < (L.shows look.old).size * (L.shows look.old).size }
     ensures ok { OnOk result (out.new.items ≡ out.old.items ++ hits_at spiral.now anchor (numbers_along machine.now 0 (word_at (L.shows look.old) friend spiral.now anchor offset_count))) }
     ensures same { L.shows look.new ≡ L.shows look.old }
@@ -139,7 +137,7 @@ fn sweep<L: Look>(
     t: Transform,
     points: u16,
     out: &mut Vec<Hit>,
-) -> Result<(), AllocError>
+) -> Result<(), NoMemory>
     requires points { points ≡ (L.shows look.old).size * (L.shows look.old).size }
     requires before { AreHitsWhere machine.now (L.shows look.old) friend (comes_before t 0) out.old.items }
     requires transform { t < transformations }
@@ -161,7 +159,7 @@ pub fn scan<L: Look>(
     look: &mut L,
     friend: Colour,
     out: Vec<Hit>,
-) -> Result<Vec<Hit>, AllocError>
+) -> Result<Vec<Hit>, NoMemory>
     requires { out.items ≡ [] }
     ensures hits { IfOk result (λ hits. AreHits machine.now (L.shows look.old) friend hits.items) }
     ensures same { L.shows look.new ≡ L.shows look.old }
@@ -186,5 +184,5 @@ pub fn matched_words_are_fits()
 /// The hits of the automaton of a list of patterns are where these patterns fit.
 pub fn hits_of_patterns_are_fits()
     ensures { (patterns : List Pattern) (machine : List Row) (pos : BoardState) (friend : ColourSeen) (hit : HitSeen) →
-        ((w : Word) → accepted machine w ≡ matched_from 0 patterns w) → IsHit machine pos friend hit ↔ IsFit patterns pos friend hit }
+        IsMachineOf patterns machine → IsHit machine pos friend hit ↔ IsFit patterns pos friend hit }
 {}

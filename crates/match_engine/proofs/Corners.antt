@@ -5,9 +5,9 @@ use Rattle.std.proofs.lemmas.Bool.{false≢true}
 use Rattle.std.proofs.lemmas.Int.{ints}
 use Rattle.go_rules.specs.Transform.{transformations}
 use Rattle.pat_types.specs.declared.pattern.Pattern.{Pattern}
-use Rattle.match_engine.specs.Fits.{place_of_cell}
-use Rattle.match_engine.specs.Match.{lies_on_board}
-use Rattle.match_engine.proofs.Lists.{passes_each, passes_all, Contains-below, Contains-below_from}
+use Rattle.match_rules.specs.Fits.{place_of_cell}
+use Rattle.match_engine.specs.MachineMatches.{lies_on_board}
+use Rattle.match_rules.proofs.Lists.{passes_each, passes_all, Contains-below, Contains-below_from}
 use Rattle.match_engine.proofs.Places.{placed_between}
 
 -- an option that is there has a value

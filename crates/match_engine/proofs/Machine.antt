@@ -24,12 +24,12 @@ use Rattle.dfa_core.specs.Automata.{Row, accepted, AreDistinct}
 use Rattle.dfa_match.specs.declared.Hit.{Hit}
 use Rattle.dfa_match.specs.Sights.{word_at}
 use Rattle.dfa_match.specs.Hits.{IsHit, AreHits}
-use Rattle.match_engine.specs.declared.found.Match.{Match}
+use Rattle.match_rules.specs.declared.found.Match.{Match}
 use Rattle.go_rules.specs.Play.{is_legal}
-use Rattle.match_engine.specs.Match.{lies_on_board, accepts_from, has_hit, place_of_anchor, is_machine_match, machine_matches}
+use Rattle.match_engine.specs.MachineMatches.{lies_on_board, accepts_from, has_hit, place_of_anchor, is_machine_match, machine_matches}
 use Rattle.match_engine.specs.Found.{place_of_star, match_at, match_from}
-use Rattle.match_engine.proofs.Lists.{Contains-filter_map, Contains-filter_map_from}
-use Rattle.match_engine.proofs.Orders.{IsBy, by-has, by-from, by-in_order, same_matches}
+use Rattle.match_rules.proofs.Lists.{Contains-filter_map, Contains-filter_map_from}
+use Rattle.match_rules.proofs.Orders.{IsBy, by-has, by-from, by-in_order, same_matches}
 use Rattle.match_engine.proofs.Places.{sum_of, placed_on, place_at-sum, place_at-none}
 use Rattle.match_engine.proofs.Sorting.{match_cmp, sorted-in_order, AreDistinct-permutation, AreDistinct-filter_map}
 

@@ -1,32 +1,30 @@
 -- The matches by the machine of the patterns are the matches.
-use Rattle.std.proofs.Common.{◌≡◌, ℕ, ◌<◌, true, ◌&&◌, List, Some, is_some, is_ok, Result, Ok, Err, refl, sym, ap, ◌∙◌, subst, arith, ℤ, pos, ◌+ℤ◌, ◌-ℤ◌}
-use Rattle.std.proofs.lemmas.Bool.{and_parts, and_from, false≢true}
+use Rattle.std.proofs.Common.{◌≡◌, ℕ, ◌<◌, true, ◌&&◌, List, Some, is_some, refl, sym, ap, ◌∙◌, subst, arith, ℤ, pos, ◌+ℤ◌, ◌-ℤ◌}
+use Rattle.std.proofs.lemmas.Bool.{and_parts, and_from}
 use Rattle.std.proofs.lemmas.Int.{ints}
 use Rattle.std.proofs.lemmas.Option.{same_Some}
 use Rattle.go_rules.specs.declared.Colour.{Colour}
-use Rattle.go_rules.specs.declared.Illegal.{Illegal}
-use Rattle.go_rules.specs.Play.{play, is_legal}
+use Rattle.go_rules.specs.Play.{is_legal}
 use Rattle.go_rules.specs.Position.{BoardState}
 use Rattle.go_rules.specs.Transform.{transformations}
 use Rattle.spiral.specs.Spiral.{place_at}
 use Rattle.pat_types.specs.declared.pattern.Pattern.{Pattern}
 use Rattle.pat_types.specs.Cells.{drawn_at, anchor_of}
 use Rattle.dfa_core.specs.Automata.{Row, accepted}
-use Rattle.dfa_core.specs.Fits.{drawn_admits}
-use Rattle.dfa_core.specs.States.{matched_from}
+use Rattle.dfa_core.specs.States.{IsMachineOf}
 use Rattle.dfa_core.specs.Words.{Word}
 use Rattle.dfa_match.specs.declared.Hit.{Hit}
 use Rattle.dfa_match.specs.Fitting.{FitsAt, IsFit}
-use Rattle.dfa_match.specs.Sights.{seen_at_place}
 use Rattle.dfa_match.proofs.Bounds.{anchor_within}
 use Rattle.dfa_match.proofs.FitHits.{fit_from_hit, hit_from_fit}
-use Rattle.match_engine.specs.declared.found.Match.{Match}
-use Rattle.match_engine.specs.Fits.{place_of_cell, fits}
-use Rattle.match_engine.specs.Match.{is_match, matches_of, IsMatch, AreMatches, has_hit, place_of_anchor, lies_on_board, is_machine_match, machine_matches}
+use Rattle.match_rules.specs.declared.found.Match.{Match}
+use Rattle.match_rules.specs.Fits.{place_of_cell, drawn_fits, fits}
+use Rattle.match_rules.specs.Match.{is_match, matches_of}
+use Rattle.match_engine.specs.MachineMatches.{has_hit, place_of_anchor, lies_on_board, is_machine_match, machine_matches}
 use Rattle.match_engine.proofs.Corners.{on_all}
-use Rattle.match_engine.proofs.InWords.{each_cell, all_cells, letter_from_cell, fits-true, fits-from}
+use Rattle.match_rules.proofs.InWords.{each_cell, all_cells, letter_from_cell}
 use Rattle.match_engine.proofs.Machine.{count_within, hit_of_accept, accept_of_hit, has_hit-true}
-use Rattle.match_engine.proofs.Orders.{IsBy, by-has, by-from, by-in_order, same_matches}
+use Rattle.match_rules.proofs.Orders.{IsBy, by-has, by-from, by-in_order, same_matches}
 use Rattle.match_engine.proofs.Places.{sum_of, placed_on, place_at-sum}
 
 module _ (p : Pattern) (board : BoardState) (friend : Colour) (t m a : ℕ) (low : t < transformations) (anchor : place_of_anchor p board.size t m ≡ Some a) where
@@ -43,15 +41,15 @@ module _ (p : Pattern) (board : BoardState) (friend : Colour) (t m a : ℕ) (low
   fits_at_star : FitsAt p board friend t a → fits p board friend t m ≡ true
   fits_at_star at =
       all_cells p board friend t m
-      (λ r c. ap (λ o. drawn_admits (drawn_at p r c) (seen_at_place board friend o)) (sym (same_place r c)) ∙ at.cells r c)
+      (λ r c. ap (drawn_fits (drawn_at p r c) board friend) (sym (same_place r c)) ∙ at.cells r c)
 
   -- and the other way round
   fits_at_anchor : fits p board friend t m ≡ true → FitsAt p board friend t a
   fits_at_anchor is = record {
-    cells = λ r c. ap (λ o. drawn_admits (drawn_at p r c) (seen_at_place board friend o)) (same_place r c) ∙ each_cell p board friend t m is r c;
+    cells = λ r c. ap (drawn_fits (drawn_at p r c) board friend) (same_place r c) ∙ each_cell p board friend t m is r c;
   }
 
-module _ (patterns : List Pattern) (machine : List Row) (board : BoardState) (friend : Colour) (accepts : (w : Word) → accepted machine w ≡ matched_from 0 patterns w) where
+module _ (patterns : List Pattern) (machine : List Row) (board : BoardState) (friend : Colour) (accepts : IsMachineOf patterns machine) where
   -- a match by the machine is one of the patterns
   match_of_machine : (z : Match) → IsBy (is_machine_match machine board friend) patterns board.size z → IsBy (λ number p t m. is_match p board friend t m) patterns board.size z
   match_of_machine z by =
@@ -110,47 +108,3 @@ module _ (patterns : List Pattern) (machine : List Row) (board : BoardState) (fr
       (by-in_order (is_machine_match machine board friend) patterns board.size) (by-in_order (λ number p t m. is_match p board friend t m) patterns board.size)
       (λ z there. by-from (λ number p t m. is_match p board friend t m) patterns board.size z (match_of_machine z (by-has (is_machine_match machine board friend) patterns board.size z there)))
       (λ z there. by-from (is_machine_match machine board friend) patterns board.size z (machine_of_match z (by-has (λ number p t m. is_match p board friend t m) patterns board.size z there)))
-
--- a play that is legal leads to a position
-next_of : (r : Result BoardState Illegal) → is_ok r ≡ true → (next : BoardState) × (r ≡ Ok next)
-next_of (Ok next) e = (next, refl)
-next_of (Err reason) e = absurd (false≢true e)
-
-module _ (patterns : List Pattern) (board : BoardState) (friend : Colour) where
-  -- what passes the test is a match
-  match_from_by : (z : Match) → IsBy (λ number p t m. is_match p board friend t m) patterns board.size z → IsMatch patterns board friend z
-  match_from_by z by =
-      let parts = and_parts (fits by.pattern board friend z.transform z.at) (is_legal board friend z.at) by.passes in
-      record {
-        pattern = by.pattern;
-        number = by.number;
-        transform = by.transform;
-        on_board = by.at;
-        fits = fits-true by.pattern board friend z.transform z.at parts.0;
-        legal = next_of (play board friend z.at) parts.1;
-      }
-
-  -- and the other way round
-  by_from_match : (z : Match) → IsMatch patterns board friend z → IsBy (λ number p t m. is_match p board friend t m) patterns board.size z
-  by_from_match z is = record {
-    pattern = is.pattern;
-    number = is.number;
-    transform = is.transform;
-    at = is.on_board;
-    passes = and_from (fits is.pattern board friend z.transform z.at) (is_legal board friend z.at) (fits-from is.pattern board friend z.transform z.at is.fits) (ap is_ok is.legal.1);
-  }
-
-  -- the list of matches has exactly the matches, in order
-  pub are_matches : AreMatches patterns board friend (matches_of patterns board friend)
-  unfolding matches_of
-  are_matches = record {
-    sound = λ z there. match_from_by z (by-has (λ number p t m. is_match p board friend t m) patterns board.size z there);
-    complete = λ z is. by-from (λ number p t m. is_match p board friend t m) patterns board.size z (by_from_match z is);
-    in_order = by-in_order (λ number p t m. is_match p board friend t m) patterns board.size;
-  }
-
-  -- and no other list does
-  pub only_matches : (zs : List Match) → AreMatches patterns board friend zs → zs ≡ matches_of patterns board friend
-  only_matches zs are =
-      same_matches zs (matches_of patterns board friend) are.in_order are_matches.in_order
-      (λ z there. are_matches.complete z (are.sound z there)) (λ z there. are.complete z (are_matches.sound z there))

@@ -11,9 +11,9 @@ use Rattle.std.proofs.lemmas.List.Edits.{swapped_from_swap, length-swap}
 use Rattle.std.proofs.lemmas.List.Elements.{Contains-get_or}
 use Rattle.std.proofs.lemmas.List.Sorted.{sorted_far, ranks_by, IsPermutation-keeps}
 use Rattle.dfa_core.specs.Automata.{AreDistinct}
-use Rattle.match_engine.specs.declared.found.Match.{Match}
-use Rattle.match_engine.specs.Match.{ComesBefore}
-use Rattle.match_engine.proofs.Lists.{Contains-first, Contains-rest, Contains-filter_map}
+use Rattle.match_rules.specs.declared.found.Match.{Match}
+use Rattle.match_rules.specs.Match.{ComesBefore}
+use Rattle.match_rules.proofs.Lists.{Contains-first, Contains-rest, Contains-filter_map}
 
 -- the order of matches, as an answer of three comparisons
 abbrev pub match_cmp : Match → Match → Ordering

@@ -7,9 +7,9 @@ use Rattle.pat_types.specs.declared.pattern.Pattern.{Pattern}
 use Rattle.pat_types.specs.Cells.{anchor_of}
 use Rattle.pat_types.specs.Marks.{count_of}
 use Rattle.dfa_match.specs.declared.Hit.{Hit}
-use Rattle.match_engine.specs.declared.found.Match.{Match}
+use Rattle.match_rules.specs.declared.found.Match.{Match}
 use Rattle.go_rules.specs.Play.{is_legal}
-use Rattle.match_engine.specs.Match.{lies_on_board}
+use Rattle.match_engine.specs.MachineMatches.{lies_on_board}
 
 -- the star's point, with the anchor's cell at a under t
 abbrev pub place_of_star : Pattern → ℕ → ℕ → ℕ → Option ℕ

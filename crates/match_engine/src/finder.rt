@@ -3,20 +3,21 @@ ghost use Rattle.std.specs.Prelude.{◌≡◌, ℕ, ◌*◌, ◌<◌, length, So
 ghost use Rattle.std.specs.List.{filter_map};
 ghost use Rattle.go_rules.specs.Position.{BoardState};
 ghost use Rattle.dfa_core.specs.Automata.{accepted};
-ghost use Rattle.dfa_core.specs.States.{matched_from};
+ghost use Rattle.dfa_core.specs.States.{IsMachineOf};
 ghost use Rattle.dfa_core.specs.Words.{Word};
 ghost use Rattle.dfa_match.specs.declared.Hit.{Hit as HitSeen};
 ghost use Rattle.go_rules.specs.Play.{is_legal as is_legal_on};
-ghost use Rattle.match_engine.specs.Match.{matches_of, machine_matches};
+ghost use Rattle.match_rules.specs.Match.{matches_of};
+ghost use Rattle.match_engine.specs.MachineMatches.{machine_matches};
 ghost use Rattle.match_engine.specs.Found.{match_of as match_made, match_from};
 
-use crate::found::Match;
 use crate::placing::{lies_on_board, star_place};
 use dfa_core::Automaton;
 use dfa_match::{Hit, scan};
 use go_base::{Colour, NoMemory, Point, Position, Watch};
+use match_rules::Match;
 use pat_types::{Pattern, mark_count};
-use std::alloc::{AllocError, Global};
+use std::alloc::Global;
 
 /// Whether a play is legal.
 fn is_legal(position: &Position, friend: Colour, at: Point) -> bool
@@ -55,7 +56,7 @@ fn matches_among(
     position: &Position,
     friend: Colour,
     hits: &[Hit],
-) -> Result<Vec<Match>, AllocError>
+) -> Result<Vec<Match>, NoMemory>
     requires numbers { (hit : HitSeen) → Contains hits.now hit → hit.pattern < length patterns.now }
     requires anchors { (hit : HitSeen) → Contains hits.now hit → hit.anchor < position.now.size * position.now.size }
     ensures { IfOk result (λ v. v.items ≡ filter_map (λ hit. match_from (slice_get patterns.now hit.pattern) position.now friend hit) hits.now) }
@@ -84,22 +85,7 @@ pub fn matches(
 ) -> Result<Vec<Match>, NoMemory>
     requires numbers { (w : Word) (n : ℕ) → Contains (accepted machine.now w) n → n < length patterns.now }
     ensures machine { IfOk result (λ v. v.items ≡ machine_matches machine.now patterns.now position.now friend) }
-    ensures patterns { IfOk result (λ v. ((w : Word) → accepted machine.now w ≡ matched_from 0 patterns.now w) → v.items ≡ matches_of patterns.now position.now friend) }
-{
-    all_matches(alloc, patterns, machine, position, friend).map_err(|_| NoMemory)
-}
-
-/// The same, with the allocator's own error.
-fn all_matches(
-    alloc: Global,
-    patterns: &[Pattern],
-    machine: &Automaton,
-    position: &Position,
-    friend: Colour,
-) -> Result<Vec<Match>, AllocError>
-    requires { (w : Word) (n : ℕ) → Contains (accepted machine.now w) n → n < length patterns.now }
-    ensures machine { IfOk result (λ v. v.items ≡ machine_matches machine.now patterns.now position.now friend) }
-    ensures patterns { IfOk result (λ v. ((w : Word) → accepted machine.now w ≡ matched_from 0 patterns.now w) → v.items ≡ matches_of patterns.now position.now friend) }
+    ensures patterns { IfOk result (λ v. IsMachineOf patterns.now machine.now → v.items ≡ matches_of patterns.now position.now friend) }
 {
     let mut watch = Watch::new(position);
     let hits = scan(machine, &mut watch, friend, Vec::new(alloc))?;

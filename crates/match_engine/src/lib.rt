@@ -8,9 +8,8 @@
 #![tactic(auto)]
 
 mod finder;
-mod found;
 pub mod laws;
 mod placing;
 
 pub use finder::matches;
-pub use found::Match;
+pub use match_rules::Match;

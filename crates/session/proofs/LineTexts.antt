@@ -5,7 +5,7 @@ use Rattle.std.specs.List.{join_with_byte}
 use Rattle.gtp_cmd.specs.Words.{line_feed}
 use Rattle.pat_types.specs.declared.pattern.Pattern.{Pattern}
 use Rattle.std.specs.List.{slice_get}
-use Rattle.match_engine.specs.declared.found.Match.{Match}
+use Rattle.match_rules.specs.declared.found.Match.{Match}
 use Rattle.gtp_cmd.specs.Vertices.{vertex_text}
 use Rattle.session.specs.MatchTexts.{name_of, match_text, matches_text}
 use Rattle.session.specs.PatternTexts.{mark_text, classes_text, pattern_text, patterns_text, feed_after}

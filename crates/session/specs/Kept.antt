@@ -5,7 +5,7 @@ use Rattle.go_rules.specs.Board.{largest_size}
 use Rattle.pat_types.specs.declared.pattern.Pattern.{Pattern}
 use Rattle.dfa_core.specs.Automata.{Row, accepted}
 use Rattle.dfa_core.specs.Words.{Word}
-use Rattle.match_engine.specs.Match.{machine_matches}
+use Rattle.match_engine.specs.MachineMatches.{machine_matches}
 use Rattle.session.specs.Machine.{Machine, first_plies, first_wide}
 
 -- settings and moves, and the automaton by which the matches of the patterns are found

@@ -2,8 +2,8 @@
 use Rattle.std.specs.Prelude.{ℕ, List, [], codes}
 use Rattle.go_rules.specs.declared.Move.{Move}
 use Rattle.pat_types.specs.declared.pattern.Pattern.{Pattern}
-use Rattle.match_engine.specs.declared.found.Match.{Match}
-use Rattle.match_engine.specs.Match.{matches_of}
+use Rattle.match_rules.specs.declared.found.Match.{Match}
+use Rattle.match_rules.specs.Match.{matches_of}
 use Rattle.go_rules.specs.declared.Colour.{Colour}
 use Rattle.go_rules.specs.Board.{largest_size}
 use Rattle.go_rules.specs.Position.{BoardState}

@@ -2,7 +2,7 @@
 use Rattle.std.specs.Prelude.{ℕ, ◌*◌, ◌<◌, List, [], ◌++◌, length, map, Option, Some, None, slice_get, Contains, codes, decimal}
 use Rattle.std.specs.List.{join_with_byte}
 use Rattle.pat_types.specs.declared.pattern.Pattern.{Pattern}
-use Rattle.match_engine.specs.declared.found.Match.{Match}
+use Rattle.match_rules.specs.declared.found.Match.{Match}
 use Rattle.gtp_cmd.specs.Words.{line_feed}
 use Rattle.gtp_cmd.specs.Vertices.{vertex_text}
 

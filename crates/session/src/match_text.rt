@@ -1,6 +1,6 @@
 //! Matches as a growing text, one a line.
 ghost use Rattle.std.specs.Prelude.{◌≡◌, ◌*◌, ◌<◌, ◌++◌, length, slice_get, OnOk, IfOk};
-ghost use Rattle.match_engine.specs.Match.{machine_matches};
+ghost use Rattle.match_engine.specs.MachineMatches.{machine_matches};
 ghost use Rattle.session.specs.Kept.{NumbersPatterns};
 ghost use Rattle.session.specs.MatchTexts.{name_of, match_text, matches_text, AreAmong};
 ghost use Rattle.session.specs.PatternTexts.{feed_after};

@@ -1,8 +1,6 @@
 //! The top call of the program.
 ghost use Rattle.std.specs.Prelude.{◌≡◌, ◌≤◌, ◌⊎◌, ◌↔◌, IsTrue, IfOk, OnOk, IfErr, length, map, string_bytes};
-ghost use Rattle.dfa_core.specs.Automata.{accepted};
-ghost use Rattle.dfa_core.specs.States.{matched_from};
-ghost use Rattle.dfa_core.specs.Words.{Word};
+ghost use Rattle.dfa_core.specs.States.{IsMachineOf};
 ghost use Rattle.session.specs.Machine.{first_machine};
 ghost use Rattle.session.specs.Answering.{step};
 ghost use Rattle.session.specs.Headline.{Serves, IsCauseOf};
@@ -34,7 +32,7 @@ fn serve_by<S: Source, K: Sink>(
     output: &mut K,
 ) -> Outcome
     requires numbers { NumbersPatterns machine patterns.items }
-    requires machine { (w : Word) → accepted machine w ≡ matched_from 0 patterns.items w }
+    requires machine { IsMachineOf patterns.items machine }
     ensures ran { (result ≡ Outcome.NoMemory) ⊎ WasEntered result }
     ensures serves { Serves step (first_machine patterns.items) (S.left input.old) (S.left input.new)
         (K.written output.old) (K.written output.new) (S.piece input.new) result }
@@ -53,7 +51,7 @@ fn serve_by<S: Source, K: Sink>(
 // The automaton of the patterns, or the outcome that refuses them.
 fn automaton_of(alloc: Global, patterns: &[Pattern]) -> Result<Automaton, Outcome>
     requires { length patterns.now ≤ most_patterns }
-    ensures machine { IfOk result (λ machine. (w : Word) → accepted machine w ≡ matched_from 0 patterns.now w) }
+    ensures machine { IfOk result (IsMachineOf patterns.now) }
     ensures numbers { IfOk result (λ machine. NumbersPatterns machine patterns.now) }
     ensures few { OnOk result (HasFewStates patterns.now) }
     ensures err { IfErr result (RefusesStates patterns.now) }

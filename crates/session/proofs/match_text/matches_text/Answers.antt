@@ -1,6 +1,6 @@
 -- The matches that were found are among the patterns and on the board.
 use Rattle.std.proofs.Common.{sym, subst, ◌∙◌}
-use Rattle.match_engine.specs.Match.{machine_matches}
+use Rattle.match_engine.specs.MachineMatches.{machine_matches}
 use Rattle.session.specs.MatchTexts.{AreAmong}
 use Rattle.session.proofs.Finding.{AreAmong-found}
 use Rattle.session.proofs.match_text.matches_text.Goals as goal

@@ -1,7 +1,7 @@
 -- The matches by the automaton are listed.
 use Rattle.std.proofs.Common.{sym, ap, subst, ◌∙◌}
 use Rattle.go_rules.specs.Position.{BoardState}
-use Rattle.match_engine.specs.Match.{machine_matches}
+use Rattle.match_engine.specs.MachineMatches.{machine_matches}
 use Rattle.session.specs.Machine.{position_of}
 use Rattle.session.specs.Kept.{Kept, machine_of, NumbersPatterns}
 use Rattle.session.specs.MatchTexts.{matches_text}

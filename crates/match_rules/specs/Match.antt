@@ -1,19 +1,14 @@
 -- The matches of patterns on a position, in order: by the pattern's number, the transformation, and the point of the move.
 -- A pattern asks for nothing here but its diagram and a legal move: constraints, classes and helpers are not evaluated.
-use Rattle.std.specs.Prelude.{◌≡◌, ℕ, ◌+◌, ◌*◌, ◌<◌, ◌&&◌, ◌==◌, ◌⊎◌, Bool, false, pos, List, map, filter, Option, Some, None, is_some, Ok, slice_get, Contains}
-use Rattle.std.specs.List.{list_all, list_any, flat_map, enumerate_from, range_with_len, AllPairs}
+use Rattle.std.specs.Prelude.{◌≡◌, ℕ, ◌*◌, ◌<◌, ◌&&◌, ◌⊎◌, Bool, List, map, filter, Some, Ok, slice_get, Contains}
+use Rattle.std.specs.List.{flat_map, enumerate_from, range_with_len, AllPairs}
 use Rattle.go_rules.specs.declared.Colour.{Colour}
-use Rattle.go_rules.specs.Below.{any_below}
 use Rattle.go_rules.specs.Position.{BoardState}
 use Rattle.go_rules.specs.Play.{play, is_legal}
-use Rattle.spiral.specs.Spiral.{offset_count}
 use Rattle.pat_types.specs.declared.pattern.Pattern.{Pattern}
-use Rattle.pat_types.specs.Cells.{anchor_of}
 use Rattle.pat_types.specs.Marks.{count_of}
-use Rattle.dfa_core.specs.Automata.{Row, accepted}
-use Rattle.dfa_match.specs.Sights.{word_at}
-use Rattle.match_engine.specs.declared.found.Match.{Match}
-use Rattle.match_engine.specs.Fits.{place_of_cell, fits, Fits}
+use Rattle.match_rules.specs.declared.found.Match.{Match}
+use Rattle.match_rules.specs.Fits.{fits, Fits}
 
 -- whether the pattern matches at m under t: it fits there, and the friend's play at m is legal
 abbrev pub is_match : Pattern → BoardState → Colour → ℕ → ℕ → Bool
@@ -53,30 +48,3 @@ pub record AreMatches (patterns : List Pattern) (board : BoardState) (friend : C
   pub sound : (z : Match) → Contains zs z → IsMatch patterns board friend z
   pub complete : (z : Match) → IsMatch patterns board friend z → Contains zs z
   pub in_order : AllPairs ComesBefore zs
-
--- the machine accepts the number at the end of some front of the word that is read from the anchor a under t
-unfoldable pub accepts_from : List Row → BoardState → Colour → ℕ → ℕ → ℕ → Bool
-accepts_from machine board friend number t a = any_below (offset_count + 1) (λ n. list_any (λ k. k == number) (accepted machine (word_at board friend t a n)))
-
--- the machine has a hit of the number under t at this anchor, if there is one
-abbrev pub has_hit : List Row → BoardState → Colour → ℕ → ℕ → Option ℕ → Bool
-has_hit machine board friend number t None = false
-has_hit machine board friend number t (Some a) = accepts_from machine board friend number t a
-
--- the anchor's point, with the star at m under t
-abbrev pub place_of_anchor : Pattern → ℕ → ℕ → ℕ → Option ℕ
-place_of_anchor p s t m = place_of_cell p s t m (pos (anchor_of p).0) (pos (anchor_of p).1)
-
--- every letter of the diagram lies on the board, with the star at m under t
-abbrev pub lies_on_board : Pattern → ℕ → ℕ → ℕ → Bool
-lies_on_board p s t m = list_all (λ r. list_all (λ c. is_some (place_of_cell p s t m (pos r) (pos c))) (range_with_len 0 p.cols)) (range_with_len 0 p.rows)
-
--- whether the machine says that the pattern with this number matches at m under t: it has a hit whose star stands at m, the whole
--- diagram lies on the board, and the friend's play at m is legal
-abbrev pub is_machine_match : List Row → BoardState → Colour → ℕ → Pattern → ℕ → ℕ → Bool
-is_machine_match machine board friend number p t m =
-    has_hit machine board friend number t (place_of_anchor p board.size t m) && (lies_on_board p board.size t m && is_legal board friend m)
-
--- the matches of the patterns by a machine, which need not be theirs
-unfoldable pub machine_matches : List Row → List Pattern → BoardState → Colour → List Match
-machine_matches machine patterns board friend = matches_by (is_machine_match machine board friend) patterns board.size

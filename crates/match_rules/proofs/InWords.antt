@@ -1,16 +1,12 @@
 -- The test of a fit is the fact.
-use Rattle.std.proofs.Common.{◌≡◌, ℕ, suc, ◌+◌, ◌<◌, inl, inr, Bool, true, false, not, ◌&&◌, ◌||◌, cond, ltb, eqb, Option, Some, None, Contains, refl, sym, ap, ◌∙◌, subst, arith, ℤ, pos, negsuc, ◌-ℤ◌, map}
+use Rattle.std.proofs.Common.{◌≡◌, ℕ, suc, ◌+◌, ◌<◌, inl, inr, Bool, true, false, ◌&&◌, cond, ltb, eqb, Option, Some, None, Contains, refl, sym, ap, ◌∙◌, subst, arith, ℤ, pos, negsuc, ◌-ℤ◌, map}
 use Rattle.std.specs.List.{range_with_len}
 use Rattle.std.proofs.lemmas.Bool.{cases_Bool, ltb-true, lt-ltb, eqb-true, and_parts, false≢true}
 use Rattle.std.proofs.lemmas.Int.{ints}
-use Rattle.go_rules.specs.declared.Cell.{Cell}
-use Rattle.go_rules.specs.declared.Cell.TheVariants.{Empty as empty_cell, Black as black_stone, White as white_stone}
 use Rattle.go_rules.specs.declared.Colour.{Colour}
-use Rattle.go_rules.specs.declared.Colour.TheVariants.{Black as black, White as white}
-use Rattle.go_rules.specs.Position.{BoardState, other, stone_of}
-use Rattle.go_rules.specs.Strings.{cell_at, same_cell}
+use Rattle.go_rules.specs.Position.{BoardState}
+use Rattle.go_rules.specs.Strings.{cell_at}
 use Rattle.pat_types.specs.declared.letter.Letter.{Letter}
-use Rattle.pat_types.specs.declared.letter.Letter.TheVariants.{Friend, Enemy, Empty, FriendOrEmpty, EnemyOrEmpty, Any, Star}
 use Rattle.pat_types.specs.declared.cell.Drawn.{Drawn}
 use Rattle.pat_types.specs.declared.cell.Drawn.TheVariants.{Nothing, OffBoard, Shows}
 use Rattle.pat_types.specs.declared.cell.Line.{Line}
@@ -18,72 +14,19 @@ use Rattle.pat_types.specs.declared.cell.Line.TheVariants.{Crosses, Edge, Beyond
 use Rattle.pat_types.specs.declared.pattern.Pattern.{Pattern}
 use Rattle.pat_types.specs.Letters.{admits}
 use Rattle.pat_types.specs.Cells.{line_at, drawn_by, drawn_at}
-use Rattle.dfa_core.specs.Fits.{letter_admits, drawn_admits, is_friend, is_enemy, is_empty, is_off}
-use Rattle.dfa_match.specs.Sights.{seen_of, seen_at_place}
-use Rattle.match_engine.specs.Fits.{place_of_cell, letter_at, LetterFits, Fits, line_cells, cells_of, cell_fits, fits}
-use Rattle.match_engine.proofs.Lists.{passes_each, passes_all, Contains-map_from, Contains-flat_map_from, Contains-below_from}
+use Rattle.match_rules.specs.Fits.{place_of_cell, letter_at, LetterFits, Fits, line_cells, cells_of, drawn_fits, cell_fits, fits}
+use Rattle.match_rules.proofs.Lists.{passes_each, passes_all, Contains-map_from, Contains-flat_map_from, Contains-below_from}
 
--- a friend's stone is seen where one stands
-friend_seen : (cell : Cell) (friend : Colour) → same_cell cell (stone_of friend) ≡ is_friend (seen_of friend cell)
-friend_seen empty_cell black = refl
-friend_seen empty_cell white = refl
-friend_seen black_stone black = refl
-friend_seen black_stone white = refl
-friend_seen white_stone black = refl
-friend_seen white_stone white = refl
+-- a letter fits only on the board, where it admits what stands there
+letter_on : (l : Letter) (board : BoardState) (friend : Colour) (o : Option ℕ) → drawn_fits (Shows l) board friend o ≡ true
+    → (q : ℕ) × (o ≡ Some q) × (admits l (cell_at board.cells q) friend ≡ true)
+letter_on l board friend None e = absurd (false≢true e)
+letter_on l board friend (Some q) e = (q, refl, e)
 
--- an enemy's stone is seen where one stands
-enemy_seen : (cell : Cell) (friend : Colour) → same_cell cell (stone_of (other friend)) ≡ is_enemy (seen_of friend cell)
-enemy_seen empty_cell black = refl
-enemy_seen empty_cell white = refl
-enemy_seen black_stone black = refl
-enemy_seen black_stone white = refl
-enemy_seen white_stone black = refl
-enemy_seen white_stone white = refl
-
--- an empty point is seen where nothing stands
-empty_seen : (cell : Cell) (friend : Colour) → same_cell cell empty_cell ≡ is_empty (seen_of friend cell)
-empty_seen empty_cell black = refl
-empty_seen empty_cell white = refl
-empty_seen black_stone black = refl
-empty_seen black_stone white = refl
-empty_seen white_stone black = refl
-empty_seen white_stone white = refl
-
--- what stands on the board is never off it
-never_off : (cell : Cell) (friend : Colour) → is_off (seen_of friend cell) ≡ false
-never_off empty_cell black = refl
-never_off empty_cell white = refl
-never_off black_stone black = refl
-never_off black_stone white = refl
-never_off white_stone black = refl
-never_off white_stone white = refl
-
--- a letter admits a cell where it admits what is seen there
-admits_seen : (l : Letter) (cell : Cell) (friend : Colour) → admits l cell friend ≡ letter_admits l (seen_of friend cell)
-admits_seen Friend cell friend = friend_seen cell friend
-admits_seen Enemy cell friend = enemy_seen cell friend
-admits_seen Empty cell friend = empty_seen cell friend
-admits_seen FriendOrEmpty cell friend = ap (λ b. b || same_cell cell empty_cell) (friend_seen cell friend) ∙ ap (λ b. is_friend (seen_of friend cell) || b) (empty_seen cell friend)
-admits_seen EnemyOrEmpty cell friend = ap (λ b. b || same_cell cell empty_cell) (enemy_seen cell friend) ∙ ap (λ b. is_enemy (seen_of friend cell) || b) (empty_seen cell friend)
-admits_seen Any cell friend = sym (ap not (never_off cell friend))
-admits_seen Star cell friend = empty_seen cell friend
-
--- no letter admits what is off the board
-on_board : (l : Letter) (board : BoardState) (friend : Colour) (o : Option ℕ) → letter_admits l (seen_at_place board friend o) ≡ true → (q : ℕ) × (o ≡ Some q) × (letter_admits l (seen_of friend (cell_at board.cells q)) ≡ true)
-on_board l board friend (Some q) e = (q, refl, e)
-on_board Friend board friend None e = absurd (false≢true e)
-on_board Enemy board friend None e = absurd (false≢true e)
-on_board Empty board friend None e = absurd (false≢true e)
-on_board FriendOrEmpty board friend None e = absurd (false≢true e)
-on_board EnemyOrEmpty board friend None e = absurd (false≢true e)
-on_board Any board friend None e = absurd (false≢true e)
-on_board Star board friend None e = absurd (false≢true e)
-
--- what is off the board has no place on it
-off_board : (board : BoardState) (friend : Colour) (o : Option ℕ) → is_off (seen_at_place board friend o) ≡ true → o ≡ None
-off_board board friend None e = refl
-off_board board friend (Some q) e = absurd (false≢true (sym (never_off (cell_at board.cells q) friend) ∙ e))
+-- an edge cell fits only off the board
+edge_off : (board : BoardState) (friend : Colour) (o : Option ℕ) → drawn_fits OffBoard board friend o ≡ true → o ≡ None
+edge_off board friend None e = refl
+edge_off board friend (Some q) e = absurd (false≢true e)
 
 -- the line is drawn
 abbrev is_line : Line → Bool
@@ -187,7 +130,7 @@ module _ (p : Pattern) (board : BoardState) (friend : Colour) (t m : ℕ) where
       drawn some = passes_each (cell_fits p board friend t m) (cells_of p) all (r, c) (drawn_within p r c some)
 
       by : (d : Drawn) → drawn_at p r c ≡ d → cell_fits p board friend t m (r, c) ≡ true
-      by Nothing e = ap (λ d. drawn_admits d (seen_at_place board friend (place_of_cell p board.size t m r c))) e
+      by Nothing e = ap (λ d. drawn_fits d board friend (place_of_cell p board.size t m r c)) e
       by OffBoard e = drawn (λ none. let h : OffBoard ≡ Nothing = sym e ∙ none in cc)
       by (Shows l) e = drawn (λ none. let h : Shows l ≡ Nothing = sym e ∙ none in cc)
 
@@ -199,17 +142,16 @@ module _ (p : Pattern) (board : BoardState) (friend : Colour) (t m : ℕ) where
   -- a letter's cell that fits lies on the board, and the letter admits what stands there
   pub letter_from_cell : (i j : ℕ) → i < p.rows → j < p.cols → cell_fits p board friend t m (pos i, pos j) ≡ true → LetterFits p board friend t m i j
   letter_from_cell i j low low' e =
-      let seen : letter_admits (letter_at p i j) (seen_at_place board friend (place_of_cell p board.size t m (pos i) (pos j))) ≡ true =
-      sym (ap (λ d. drawn_admits d (seen_at_place board friend (place_of_cell p board.size t m (pos i) (pos j)))) (shows p i j low low')) ∙ e in
-      let on = on_board (letter_at p i j) board friend (place_of_cell p board.size t m (pos i) (pos j)) seen in
-      record { point = on.0; place = on.1; admitted = admits_seen (letter_at p i j) (cell_at board.cells on.0) friend ∙ on.2 }
+      let on = letter_on (letter_at p i j) board friend (place_of_cell p board.size t m (pos i) (pos j))
+      (sym (ap (λ d. drawn_fits d board friend (place_of_cell p board.size t m (pos i) (pos j))) (shows p i j low low')) ∙ e) in
+      record { point = on.0; place = on.1; admitted = on.2 }
 
   -- a pattern whose cells fit fits
   fits_from_cells : ((r c : ℤ) → cell_fits p board friend t m (r, c) ≡ true) → Fits p board friend t m
   fits_from_cells each = record {
     letters = λ i j low low'. letter_from_cell i j low low' (each (pos i) (pos j));
-    edges = λ r c edge. off_board board friend (place_of_cell p board.size t m r c)
-        (sym (ap (λ d. drawn_admits d (seen_at_place board friend (place_of_cell p board.size t m r c))) edge) ∙ each r c);
+    edges = λ r c edge. edge_off board friend (place_of_cell p board.size t m r c)
+        (sym (ap (λ d. drawn_fits d board friend (place_of_cell p board.size t m r c)) edge) ∙ each r c);
   }
 
   -- a pattern that fits has its cells fit
@@ -217,19 +159,18 @@ module _ (p : Pattern) (board : BoardState) (friend : Colour) (t m : ℕ) where
   cells_from_fits is r c = by (drawn_at p r c) refl
     where
       -- a letter's cell fits
-      letter : (l : Letter) → (i : ℕ) × (j : ℕ) × (r ≡ pos i) × (c ≡ pos j) × (i < p.rows) × (j < p.cols) × (letter_at p i j ≡ l) → letter_admits l (seen_at_place board friend (place_of_cell p board.size t m r c)) ≡ true
+      letter : (l : Letter) → (i : ℕ) × (j : ℕ) × (r ≡ pos i) × (c ≡ pos j) × (i < p.rows) × (j < p.cols) × (letter_at p i j ≡ l) → drawn_fits (Shows l) board friend (place_of_cell p board.size t m r c) ≡ true
       letter l at =
           let here = is.letters at.0 at.1 at.4 at.5 in
           let place : place_of_cell p board.size t m r c ≡ Some here.point = ap (λ z. place_of_cell p board.size t m z c) at.2 ∙ ap (place_of_cell p board.size t m (pos at.0)) at.3 ∙ here.place in
-          ap (λ o. letter_admits l (seen_at_place board friend o)) place
-          ∙ ap (λ k. letter_admits k (seen_of friend (cell_at board.cells here.point))) (sym at.6)
-          ∙ sym (admits_seen (letter_at p at.0 at.1) (cell_at board.cells here.point) friend) ∙ here.admitted
+          ap (drawn_fits (Shows l) board friend) place
+          ∙ ap (λ k. admits k (cell_at board.cells here.point) friend) (sym at.6) ∙ here.admitted
 
       by : (d : Drawn) → drawn_at p r c ≡ d → cell_fits p board friend t m (r, c) ≡ true
-      by Nothing e = ap (λ d. drawn_admits d (seen_at_place board friend (place_of_cell p board.size t m r c))) e
+      by Nothing e = ap (λ d. drawn_fits d board friend (place_of_cell p board.size t m r c)) e
       by OffBoard e =
-          ap (λ d. drawn_admits d (seen_at_place board friend (place_of_cell p board.size t m r c))) e ∙ ap (λ o. is_off (seen_at_place board friend o)) (is.edges r c e)
-      by (Shows l) e = ap (λ d. drawn_admits d (seen_at_place board friend (place_of_cell p board.size t m r c))) e ∙ letter l (shown p r c l e)
+          ap (λ d. drawn_fits d board friend (place_of_cell p board.size t m r c)) e ∙ ap (drawn_fits OffBoard board friend) (is.edges r c e)
+      by (Shows l) e = ap (λ d. drawn_fits d board friend (place_of_cell p board.size t m r c)) e ∙ letter l (shown p r c l e)
 
   -- the test of a fit says the fact
   pub fits-true : fits p board friend t m ≡ true → Fits p board friend t m

@@ -1,6 +1,6 @@
 -- Where a pattern fits on a position, after "The Pattern Code" of the GNU Go Manual: its diagram is moved by a transformation so
 -- that the star stands at a point, and every letter and every edge is compared with the board.
-use Rattle.std.specs.Prelude.{◌≡◌, ℕ, ◌+◌, ◌*◌, ◌<◌, Bool, true, ℤ, pos, ◌-ℤ◌, List, map, Option, Some, None, slice_index_or}
+use Rattle.std.specs.Prelude.{◌≡◌, ℕ, ◌+◌, ◌*◌, ◌<◌, Bool, true, false, ℤ, pos, ◌-ℤ◌, List, map, Option, Some, None, slice_index_or}
 use Rattle.std.specs.List.{list_all, flat_map, range_with_len}
 use Rattle.go_rules.specs.declared.Colour.{Colour}
 use Rattle.go_rules.specs.Position.{BoardState}
@@ -8,12 +8,11 @@ use Rattle.go_rules.specs.Strings.{cell_at}
 use Rattle.spiral.specs.Spiral.{place_at}
 use Rattle.pat_types.specs.declared.letter.Letter.{Letter}
 use Rattle.pat_types.specs.declared.letter.Letter.TheVariants.{Friend}
-use Rattle.pat_types.specs.declared.cell.Drawn.TheVariants.{OffBoard}
+use Rattle.pat_types.specs.declared.cell.Drawn.{Drawn}
+use Rattle.pat_types.specs.declared.cell.Drawn.TheVariants.{Nothing, OffBoard, Shows}
 use Rattle.pat_types.specs.declared.pattern.Pattern.{Pattern}
 use Rattle.pat_types.specs.Letters.{admits}
 use Rattle.pat_types.specs.Cells.{drawn_at}
-use Rattle.dfa_core.specs.Fits.{drawn_admits}
-use Rattle.dfa_match.specs.Sights.{seen_at_place}
 
 -- the point of a board of size s where the cell in row r and column c of the diagram lies, with the star at m under t
 abbrev pub place_of_cell : Pattern → ℕ → ℕ → ℕ → ℤ → ℤ → Option ℕ
@@ -47,9 +46,18 @@ line_cells n = map (λ k. pos k -ℤ pos 1) (range_with_len 0 (n + 2))
 abbrev pub cells_of : Pattern → List (ℤ × ℤ)
 cells_of p = flat_map (λ r. map (λ c. (r, c)) (line_cells p.cols)) (line_cells p.rows)
 
--- what is drawn in a cell admits what is seen at its place, with the star at m under t
+-- whether what is drawn fits at a place: a letter on the board, where it admits what stands there, an edge cell off the board alone,
+-- and where nothing is drawn anything does
+abbrev pub drawn_fits : Drawn → BoardState → Colour → Option ℕ → Bool
+drawn_fits Nothing board friend place = true
+drawn_fits OffBoard board friend None = true
+drawn_fits OffBoard board friend (Some q) = false
+drawn_fits (Shows l) board friend None = false
+drawn_fits (Shows l) board friend (Some q) = admits l (cell_at board.cells q) friend
+
+-- whether what is drawn in a cell fits at its place, with the star at m under t
 abbrev pub cell_fits : Pattern → BoardState → Colour → ℕ → ℕ → ℤ × ℤ → Bool
-cell_fits p board friend t m cell = drawn_admits (drawn_at p cell.0 cell.1) (seen_at_place board friend (place_of_cell p board.size t m cell.0 cell.1))
+cell_fits p board friend t m cell = drawn_fits (drawn_at p cell.0 cell.1) board friend (place_of_cell p board.size t m cell.0 cell.1)
 
 -- whether the pattern fits at m under t: each of its cells does
 unfoldable pub fits : Pattern → BoardState → Colour → ℕ → ℕ → Bool

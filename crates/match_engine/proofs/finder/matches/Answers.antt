@@ -1,15 +1,15 @@
 use Rattle.std.proofs.Common.{◌≡◌, ◌∙◌, ◌*◌, ◌<◌, ap, subst, Contains}
 use Rattle.std.specs.List.{filter_map}
 use Rattle.dfa_match.specs.Hits.{AreHits}
-use Rattle.match_engine.specs.Match.{machine_matches}
+use Rattle.match_engine.specs.MachineMatches.{machine_matches}
 use Rattle.match_engine.proofs.Machine.{made, sorted_matches}
 use Rattle.match_engine.proofs.Patterns.{same_by_machine}
-use Rattle.match_engine.proofs.finder.all_matches.Goals as goal
+use Rattle.match_engine.proofs.finder.matches.Goals as goal
 
 -- each number of a hit is accepted after some word
 pub matches_among-requires-clause-numbers : goal.matches_among-requires-clause-numbers
 matches_among-requires-clause-numbers c = λ hit there.
-    let is = c.in_ok-hits.ensures.hits.sound hit (subst (λ xs. Contains xs hit) c.as_slice.ensures.value there) in c.requires _ hit.pattern is.accepts
+    let is = c.in_ok-hits.ensures.hits.sound hit (subst (λ xs. Contains xs hit) c.as_slice.ensures.value there) in c.requires.numbers _ hit.pattern is.accepts
 
 -- each hit has its anchor on the board
 pub matches_among-requires-clause-anchors : goal.matches_among-requires-clause-anchors

@@ -1,5 +1,5 @@
-use Rattle.match_engine.proofs.InWords.{fits-true, fits-from}
-use Rattle.match_engine.proofs.laws.fits_are_in_words.Goals as goal
+use Rattle.match_rules.proofs.InWords.{fits-true, fits-from}
+use Rattle.match_rules.proofs.laws.fits_are_in_words.Goals as goal
 
 -- by the cells, one after another
 pub returns : goal.returns

@@ -1,5 +1,5 @@
-use Rattle.match_engine.proofs.Patterns.{are_matches, only_matches}
-use Rattle.match_engine.proofs.laws.matches_are_in_words.Goals as goal
+use Rattle.match_rules.proofs.Listed.{are_matches, only_matches}
+use Rattle.match_rules.proofs.laws.matches_are_in_words.Goals as goal
 
 -- members and order are those of the ranges that the list is made of
 pub returns-clause-matches : goal.returns-clause-matches

@@ -1,0 +1,4 @@
+pub mod Lists
+pub mod Orders
+pub mod InWords
+pub mod Listed
