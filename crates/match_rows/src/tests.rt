@@ -16,6 +16,21 @@ const AGAINST: &[u8] = b"Pattern Q\nX*\n:8,s";
 /// The smallest pattern with an edge at its right.
 const AT_THE_EDGE: &[u8] = b"Pattern R\nO*|\n:8,s";
 
+/// The smallest pattern in the lower right corner.
+const IN_THE_CORNER: &[u8] = b"Pattern C\nO*|\n--+\n:O,s";
+
+/// The smallest pattern with an edge above it.
+const UNDER_THE_TOP: &[u8] = b"Pattern T\n--\nO*\n:O,s";
+
+/// The smallest pattern with an edge below it.
+const OVER_THE_BOTTOM: &[u8] = b"Pattern B\nO*\n--\n:O,s";
+
+/// The smallest pattern with an edge at its left.
+const FROM_THE_LEFT: &[u8] = b"Pattern L\n|O*\n:O,s";
+
+/// The longest row: a move in the last column of the largest board, and empty points before it.
+const LONGEST_ROW: &[u8] = b"Pattern L\n........................*\n:O,s";
+
 /// The patterns that a text spells.
 fn patterns_of(rt: &HostRuntime, text: &[u8]) -> Result<Vec<Pattern>, DbError> {
     read(rt.alloc(), text, &[], Vec::new(rt.alloc()))
@@ -60,13 +75,13 @@ fn matches_by(
     if others.len() > patterns.len() || others.len() > 4096 {
         return Err("the other list is no longer")?;
     }
-    let machine = compile(rt.alloc(), &others, 1000)?;
+    let machine = compile(rt.alloc(), &others, 10_000)?;
     Ok(matches(rt.alloc(), &patterns, &machine, position, friend)?)
 }
 
 #[test]
 fn state_counts_of_small_lists(rt: HostRuntime) -> Result<(), Fail> {
-    let rows: [(&str, &[u8], u32, Option<u32>); 8] = [
+    let rows: [(&str, &[u8], u32, Option<u32>); 13] = [
         ("the smallest pattern at its count", SMALLEST, 7, Some(7)),
         ("the smallest pattern above it", SMALLEST, 6, None),
         (
@@ -76,6 +91,11 @@ fn state_counts_of_small_lists(rt: HostRuntime) -> Result<(), Fail> {
             Some(18),
         ),
         ("and above it", AT_THE_EDGE, 17, None),
+        ("a corner has one letter more", IN_THE_CORNER, 19, Some(19)),
+        ("and its count is exact", IN_THE_CORNER, 18, None),
+        ("an edge above has five letters", UNDER_THE_TOP, 99, Some(7)),
+        ("an edge below has seven", OVER_THE_BOTTOM, 99, Some(9)),
+        ("an edge at the left has nine", FROM_THE_LEFT, 99, Some(11)),
         (
             "two patterns at their count",
             b"Pattern P\nO*\n:8,s\nPattern Q\nX*\n:8,s",
@@ -229,6 +249,42 @@ fn matches_of_one_pattern(rt: HostRuntime) -> Result<(), Fail> {
                 "{what}"
             );
         }
+    }
+    Ok(())
+}
+
+#[test]
+fn edges_are_where_they_are_drawn(rt: HostRuntime) -> Result<(), Fail> {
+    let rows: [(&str, &[u8], Point, Option<Point>); 11] = [
+        ("under the top edge", UNDER_THE_TOP, 4, Some(5)),
+        ("not over the bottom edge", UNDER_THE_TOP, 76, None),
+        ("not in the second row", UNDER_THE_TOP, 13, None),
+        ("over the bottom edge", OVER_THE_BOTTOM, 76, Some(77)),
+        ("not under the top edge", OVER_THE_BOTTOM, 4, None),
+        ("beside the left edge", FROM_THE_LEFT, 36, Some(37)),
+        ("not in the second column", FROM_THE_LEFT, 37, None),
+        ("in the lower right corner", IN_THE_CORNER, 79, Some(80)),
+        ("not in the upper right corner", IN_THE_CORNER, 7, None),
+        ("not in the lower left corner", IN_THE_CORNER, 72, None),
+        ("not above the corner", IN_THE_CORNER, 70, None),
+    ];
+    for (what, text, stone, want) in rows {
+        let position = with_stones(9, &[stone])?;
+        let found = matches_by(&rt, text, text, &position, Colour::Black)?;
+        assert_eq!(rt; found.first().map(|m| m.at), want, "{what}");
+        assert!(rt; found.len() < 2, "{what}");
+    }
+    Ok(())
+}
+
+#[test]
+fn the_longest_row_ends_in_the_last_column(rt: HostRuntime) -> Result<(), Fail> {
+    let position = with_stones(25, &[])?;
+    let found = matches_by(&rt, LONGEST_ROW, LONGEST_ROW, &position, Colour::Black)?;
+    assert_eq!(rt; found.len(), 25, "one in each row");
+    for (row, m) in found.iter().enumerate() {
+        assert_eq!(rt; m.transform.get(), 0, "row {row}");
+        assert_eq!(rt; m.at as usize, row * 25 + 24, "row {row}");
     }
     Ok(())
 }
