@@ -62,17 +62,21 @@ text_at : (f : Found) (id : Text) (x : MatchedArg) (how : Reading) (v : Bor Text
 text_at f id x how v found reading first = rw (found, reading, first) refl
 
 module _ (old : Command) (m : ArgMatches) (p : IsParsedFrom old m) (is : app_of old ≡ command_line) where
+  -- each argument of the parsed command is simple
   simple : all_simple (shape_of old).rules ≡ true
   unfolding command_line
   simple = ap (λ (a : App). all_simple a.top.rules) is
 
+  -- the parsed command is plain
   plain : (shape_of old).is_plain ≡ true
   unfolding command_line
   plain = ap (λ (a : App). a.top.is_plain) is
 
+  -- the parsed command has no groups
   no_groups : groups_of p.built ≡ []
   no_groups = (p.from.same_groups (simple_groups old simple)).1 ∙ (plain_fields old plain).groups
 
+  -- what was found is what the parse put there
   parsed : IsParsed p.built (found_of m) (has_subcommand m)
   parsed = p.parsed (p.from.globals ∙ (plain_fields old plain).globals)
 

@@ -31,6 +31,7 @@ only_here id [] k = true
 only_here id (r ∷ rs) zero = has_none id rs
 only_here id (r ∷ rs) (suc k) = not (bytes_eq r.id id) && only_here id rs k
 
+-- an id that no rule has is no argument's
 absent : (xs : List Arg) (id : Text) → has_none id (map rule_of xs) ≡ true → (j : ℕ) (e : Arg) → j < length xs
     → bytes_eq (slice_index_or xs j e).id.now id ≡ true → ⊥
 absent [] id none j e lt same = absurd (omega arith)
@@ -41,6 +42,7 @@ absent (x ∷ xs) id none zero e lt same =
 absent (x ∷ xs) id none (suc j) e lt same =
     absent xs id (both (not (bytes_eq x.id.now id)) (has_none id (map rule_of xs)) none).1 j e (omega arith) same
 
+-- an id that only the rule at a place has is that of the argument there alone
 one_place : (xs : List Arg) (id : Text) (k : ℕ) → only_here id (map rule_of xs) k ≡ true → (j : ℕ) (e : Arg)
     → j < length xs
     → bytes_eq (slice_index_or xs j e).id.now id ≡ true → j ≡ k
@@ -64,6 +66,7 @@ placed f (x ∷ xs) (suc k) r at =
     let next = placed f xs k r at in
     (next.0, omega (arith, next.1), next.2, next.3)
 
+-- what is not there is missing
 no_value : {X : Type 0} (o : Option X) → not (is_some o) ≡ true → o ≡ None
 no_value None e = refl
 no_value (Some x) e = absurd (true≢false (sym e))

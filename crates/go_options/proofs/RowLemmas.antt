@@ -45,6 +45,7 @@ pub wide_number : (f : Found) (id : Text) (low high : ℕ) → high ≤ largest 
     → HasNumber f id 0 largest
 wide_number f id low high fits has = (has.0, has.1, (has.2.0, (omega arith, omega (arith, has.2.1.1))))
 
+-- a value that lies in a smaller range lies in the larger one, where there is a value
 pub wide_only : (f : Found) (id : Text) (low high : ℕ) → high ≤ largest → HasOnlyNumber f id low high
     → HasOnlyNumber f id 0 largest
 wide_only f id low high fits only text one =

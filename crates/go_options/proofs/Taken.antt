@@ -12,10 +12,12 @@ use Rattle.clap.specs.declared.error.kind.ErrorKind.TheVariants.{OutOfMemory}
 use Rattle.clap.specs.declared.parser.matches.ArgMatches.{ArgMatches}
 use Rattle.go_options.specs.CommandLine.{command_line, is_taken, rows_in}
 
+-- the command line is a simple command
 is_simple_line : is_simple command_line ≡ true
 unfolding command_line
 is_simple_line = refl
 
+-- no argument of the command line bears on another
 is_free_line : is_simple_and_free command_line ≡ true
 unfolding command_line
 is_free_line = refl
@@ -32,6 +34,7 @@ is_taken_by a words is none =
     ap (λ (b : App). is_empty (fault_of b words)) (sym is)
     ∙ ap (λ (faults : Kinds). is_empty faults) (none (ap is_simple_and_free is ∙ is_free_line))
 
+-- where a parse failed by a kind that is not want of memory, there is a fault
 some_fault : (faults : Kinds) (e : Error) → HasKind faults e → (kind_of e ≡ OutOfMemory → ⊥) → is_empty faults ≡ false
 some_fault [] e (inl memory) other = absurd (other memory)
 some_fault [] e (inr none) other = absurd none

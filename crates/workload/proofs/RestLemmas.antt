@@ -5,6 +5,7 @@ use Rattle.std.proofs.lemmas.List.{drop-drop, take-append-drop}
 use Rattle.workload.specs.GeneratedLines.{ended, line_at, line_with, lines_after, next_number, number_of_line, text_of}
 use Rattle.workload.specs.Remaining.{left_from}
 
+-- the number before the first line is that of the lines
 pub number_first : (n : ℕ) → n ≡ number_of_line n 0
 unfolding number_of_line
 number_first n = refl
@@ -29,6 +30,7 @@ next_left n i x at line new more done is new_is =
     ap (lines_after n i) count ∙ one_more n i (n - (i + 1)) in
     rw (none, lines, new_is, is) refl
 
+-- no lines follow where none is left
 no_lines : (n i : ℕ) → lines_after n i 0 ≡ []
 unfolding lines_after
 no_lines n i = refl

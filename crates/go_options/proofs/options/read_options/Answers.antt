@@ -26,6 +26,7 @@ returns-in_ok-options_in-in-Ok-clause-taken c =
     is_taken_by (app_of c.in_ok-command.field-0)
     (map string_bytes c.args.words.now) c.in_ok-command.ensures c.in-Ok.ensures.kinds
 
+-- a failure of one cause is of no other
 same_cause : (a b : OptionsError) → IsErrOf {T = Options} (Err a) b → a ≡ b
 same_cause a b e = cc
 

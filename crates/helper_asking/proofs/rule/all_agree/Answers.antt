@@ -1,0 +1,30 @@
+-- The fields were asked in turn, each as the rule has it.
+use Rattle.std.proofs.Common.{sym}
+use Rattle.helpers.specs.Slots.{states_of}
+use Rattle.helper_asking.proofs.Steps.{asked_for-none}
+use Rattle.helper_asking.proofs.Fields.{asked_for-end, asked_for-next}
+use Rattle.helper_asking.proofs.rule.all_agree.Goals as goal
+
+pub loop-i-init : goal.loop-i-init
+loop-i-init g c = asked_for-none _ c.args.pos.now c.args.at c.args.friend
+
+pub returns-then-not-agrees-clause-answer : goal.returns-then-not-agrees-clause-answer
+returns-then-not-agrees-clause-answer g c =
+    let slots = states_of (λ z. (goal.Helper-dyn g z).state z.1) c.args.helpers.now in
+    let asked = c.agrees.ensures slots c.loop-i.invariant.calls (sym c.loop-i.invariant.answer) in
+    (asked_for-end slots c.args.pos.now c.args.at c.args.friend c.args.items.now c.loop-i.i c.index-items-i.result
+    c.loop-i-test.true c.index-items-i.is c.agrees.result _ asked c.if-not-agrees.true).answer
+
+pub returns-then-not-agrees-clause-calls : goal.returns-then-not-agrees-clause-calls
+returns-then-not-agrees-clause-calls g c =
+    let slots = states_of (λ z. (goal.Helper-dyn g z).state z.1) c.args.helpers.now in
+    let asked = c.agrees.ensures slots c.loop-i.invariant.calls (sym c.loop-i.invariant.answer) in
+    (asked_for-end slots c.args.pos.now c.args.at c.args.friend c.args.items.now c.loop-i.i c.index-items-i.result
+    c.loop-i-test.true c.index-items-i.is c.agrees.result _ asked c.if-not-agrees.true).calls
+
+pub loop-i-preserved : goal.loop-i-preserved
+loop-i-preserved g c =
+    let slots = states_of (λ z. (goal.Helper-dyn g z).state z.1) c.args.helpers.now in
+    let asked = c.agrees.ensures slots c.loop-i.invariant.calls (sym c.loop-i.invariant.answer) in
+    asked_for-next slots c.args.pos.now c.args.at c.args.friend c.args.items.now c.loop-i.i c.index-items-i.result
+    c.loop-i-test.true c.index-items-i.is c.agrees.result _ asked c.if-not-agrees.false

@@ -1,0 +1,143 @@
+//! A list of helpers, which are asked by name.
+
+ghost use Rattle.std.specs.Prelude.{⊤, ◌≡◌, ◌<◌, ◌*◌, true, Some, map, length, option_map, is_some, IfOk, IfSome};
+ghost use Rattle.std.specs.List.{position_from};
+ghost use Rattle.helpers.specs.Asking.{has_name, named, slot_says, slot_asked, says_yes, calls_of, after_asking};
+ghost use Rattle.helpers.specs.Asking.{after_off, after_remove};
+ghost use Rattle.helpers.specs.Slots.{slot_state, listed};
+
+use crate::Helper;
+use go_base::{Colour, NoMemory, Point, Position};
+use std::alloc::{AllocError, Global};
+
+/// A place of a list of helpers.
+#[derive(Drop)]
+pub struct HelperSlot {
+    /// The helper that stands there.
+    pub helper: Box<dyn Helper>,
+    /// Whether it is on. A helper that is off is not asked, and counts as one that says no.
+    pub on: bool,
+}
+
+impl HelperSlot {
+    /// Whether its helper has the name.
+    fn has_name(&self, name: &[u8]) -> bool
+        ensures { result ≡ has_name name.now (slot_state state self.now) }
+    {
+        self.helper.name().as_bytes() == name
+    }
+
+    /// How often its helper was asked.
+    fn calls(&self) -> u64
+        ensures { result ≡ (slot_state state self.now).helper.calls }
+    {
+        self.helper.calls()
+    }
+
+    /// What its helper says of a play of `friend` at `at`, no where it is off.
+    fn decide(&mut self, pos: &Position, at: Point, friend: Colour) -> bool
+        requires { at < pos.now.size * pos.now.size }
+        ensures answer { result ≡ slot_says (Some (slot_state state self.old)) pos.now at friend }
+        ensures after { slot_state state self.new ≡ slot_asked (slot_state state self.old) }
+    {
+        self.on && self.helper.decide(pos, at, friend)
+    }
+}
+
+/// A list of helpers. Each is asked by its name; where two share a name the first is meant.
+#[derive(Drop)]
+pub struct Helpers {
+    /// The helpers in order.
+    pub slots: Vec<HelperSlot>,
+}
+
+impl Helpers {
+    /// One place for each helper, in order, all on. Takes memory.
+    ///
+    /// The empty condition of this call and of `off` and `remove` says that they make no helper of their own, so that
+    /// the crates above are proved for whatever helpers they are handed.
+    pub fn new(alloc: Global, list: Vec<Box<dyn Helper>>) -> Result<Helpers, NoMemory>
+        requires { ⊤ }
+        ensures slots { IfOk result
+            (λ helpers. helpers.slots.items ≡ map (λ b. record { helper = b; on = true }) list.items) }
+        ensures states { IfOk result
+            (λ helpers. listed state helpers ≡ map (λ b. record { helper = state b; on = true }) list.items) }
+    {
+        match Helpers::all_on(alloc, list) {
+            Ok(helpers) => Ok(helpers),
+            Err(_) => Err(NoMemory),
+        }
+    }
+
+    /// The same, with the allocator's own error.
+    fn all_on(alloc: Global, list: Vec<Box<dyn Helper>>) -> Result<Helpers, AllocError>
+        ensures { IfOk result
+            (λ helpers. helpers.slots.items ≡ map (λ b. record { helper = b; on = true }) list.items) }
+    {
+        let mut slots = Vec::new(alloc);
+        for helper in list {
+            slots.push(HelperSlot { helper, on: true })?;
+        }
+        Ok(Helpers { slots })
+    }
+
+    /// Where the helper of the name stands.
+    fn place(&self, name: &[u8]) -> Option<usize>
+        ensures bound { IfSome result (λ i. i < length self.now.slots.items) }
+        ensures first { result ≡ position_from (has_name name.now) 0 (listed state self.now) }
+    {
+        for (i, slot) in self.slots.iter().enumerate() {
+            if slot.has_name(name) {
+                return Some(i);
+            }
+        }
+        None
+    }
+
+    /// How often the helper of the name was asked. None exactly where no helper has the name.
+    pub fn calls(&self, name: &[u8]) -> Option<u64>
+        ensures { result ≡ calls_of name.now (listed state self.now) }
+    {
+        let place = self.place(name)?;
+        Some(self.slots[place].calls())
+    }
+
+    /// Switches the helper of the name off. False exactly where no helper has the name.
+    pub fn off(&mut self, name: &[u8]) -> bool
+        requires { ⊤ }
+        ensures found { result ≡ is_some (named name.now (listed state self.old)) }
+        ensures after { listed state self.new ≡ after_off name.now (listed state self.old) }
+    {
+        match self.place(name) {
+            Some(place) => {
+                self.slots[place].on = false;
+                true
+            }
+            None => false,
+        }
+    }
+
+    /// Takes the helper of the name out of the list. None exactly where no helper has the name.
+    pub fn remove(&mut self, name: &[u8]) -> Option<Box<dyn Helper>>
+        requires { ⊤ }
+        ensures found { option_map state result ≡ option_map (λ s. s.helper) (named name.now (listed state self.old)) }
+        ensures after { listed state self.new ≡ after_remove name.now (listed state self.old) }
+    {
+        let place = self.place(name)?;
+        let slot = self.slots.remove(place);
+        Some(slot.helper)
+    }
+
+    /// What the helper of the name says of a play of `friend` at `at`. Where there is none, or it is off, this is no,
+    /// and nothing is called.
+    pub fn decide(&mut self, name: &[u8], pos: &Position, at: Point, friend: Colour) -> bool
+        requires { at < pos.now.size * pos.now.size }
+        ensures answer { result ≡ says_yes (listed state self.old) name.now pos.now at friend }
+        ensures after { listed state self.new ≡ after_asking name.now (listed state self.old) }
+    {
+        match self.place(name) {
+            Some(place) => self.slots[place].decide(pos, at, friend),
+            None => false,
+        }
+    }
+}
