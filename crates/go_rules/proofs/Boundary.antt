@@ -7,7 +7,8 @@ use Rattle.std.specs.FinSet as sets
 use Rattle.go_rules.specs.declared.Cell.{Cell}
 use Rattle.go_rules.specs.declared.Cell.TheVariants.{Empty, Black, White}
 use Rattle.go_rules.specs.Strings.{cell_at, is_stone, is_in_string, string_at, start}
-use Rattle.go_rules.specs.Boundary.{is_enemy, is_beside_string, is_boundary, boundary_points}
+use Rattle.go_rules.specs.Boundary.{is_enemy, is_beside_string, is_boundary, boundary_points, LeastOf, AddsLeast, KnowsLeast}
+use Rattle.go_rules.proofs.Tests.{same_tests}
 use Rattle.go_rules.proofs.Counts.{any_below_gives, any_below_from, any_below_none, any_below_false}
 use Rattle.go_rules.proofs.Sets.{contains-set_below, contains-insert_nat, same_nat_set}
 use Rattle.go_rules.proofs.Paths.{path_on_board, IsInString-from_test, is_is_in_string-from_fact}
@@ -47,21 +48,10 @@ enemy_stone Black Black h = absurd (both_ways false refl h)
 enemy_stone White Empty h = absurd (both_ways false refl h)
 enemy_stone White White h = absurd (both_ways false refl h)
 
--- r is the least point of the string of q
-pub record LeastOf (s : ℕ) (cells : List Cell) (q r : ℕ) : Type 0 where
-  pub inside : is_in_string s cells q r ≡ true
-  pub least : (k : ℕ) → k < r → is_in_string s cells q k ≡ false
-
 -- the least points of the enemy strings that the points below n belong to are there, and nothing else is
 pub record Bounds (s : ℕ) (cells : List Cell) (p n : ℕ) (least : sets.FinSet nat_cmp) : Type 0 where
   pub only : (r : ℕ) → sets.contains least r ≡ true → (r < s * s) × (is_boundary s cells p r ≡ true)
   pub all : (q : ℕ) → q < n → is_beside_string s cells p q ≡ true → is_enemy (cell_at cells p) (cell_at cells q) ≡ true → (r : ℕ) → LeastOf s cells q r → sets.contains least r ≡ true
-
--- what is added for one point
-pub record AddsLeast (s : ℕ) (cells : List Cell) (q : ℕ) (old new : sets.FinSet nat_cmp) : Type 0 where
-  pub kept : (r : ℕ) → sets.contains old r ≡ true → sets.contains new r ≡ true
-  pub only : (r : ℕ) → sets.contains new r ≡ true → (sets.contains old r ≡ true) ⊎ LeastOf s cells q r
-  pub all : (r : ℕ) → LeastOf s cells q r → sets.contains new r ≡ true
 
 -- no point is below 0
 pub Bounds-none : (s : ℕ) (cells : List Cell) (p : ℕ) (least : sets.FinSet nat_cmp) → least ≡ sets.empty → Bounds s cells p 0 least
@@ -131,12 +121,6 @@ Bounds-all s cells p n least b whole =
     same_nat_set _ _ (λ r. same_tests _ _ (λ h. let o = b.only r h in and_from _ _ (lt-ltb r (s * s) o.0) o.1)
     (λ h. let parts = and_parts _ _ h in least_found s cells p n r least b whole (ltb-true r (s * s) parts.0) parts.1)
     ∙ sym (contains-set_below (s * s) (is_boundary s cells p) r))
-  where
-    same_tests : (a b : Bool) → (a ≡ true → b ≡ true) → (b ≡ true → a ≡ true) → a ≡ b
-    same_tests true true f g = refl
-    same_tests false false f g = refl
-    same_tests true false f g = sym (f refl)
-    same_tests false true f g = g refl
 
 -- the string's set tells its least point
 pub least_in : (s : ℕ) (cells : List Cell) (q r : ℕ) (found : sets.FinSet nat_cmp) → q < s * s → found ≡ string_at s cells q → sets.contains found r ≡ true → ((k : ℕ) → k < r → sets.contains found k ≡ false) → LeastOf s cells q r
@@ -183,10 +167,6 @@ AddsLeast-none s cells q found old on e none = record {
   only = λ k i. inl i;
   all = λ k l. absurd (both_ways (sets.contains found k) (none k (omega arith)) (least_is s cells q k found on e l).0);
 }
-
--- the least point of the string of each point seen is known
-abbrev pub KnowsLeast : ℕ → List Cell → sets.FinSet nat_cmp → sets.FinSet nat_cmp → Type 0
-KnowsLeast s cells seen least = (q : ℕ) → sets.contains seen q ≡ true → (r : ℕ) → LeastOf s cells q r → sets.contains least r ≡ true
 
 -- the points of one string have the same least point
 LeastOf-moves : (s : ℕ) (cells : List Cell) (q x r : ℕ) → q < s * s → is_in_string s cells q x ≡ true → LeastOf s cells x r → LeastOf s cells q r

@@ -106,3 +106,8 @@ first_below_is (suc n) test q l t none =
 pub first_below_none : (n : ℕ) (test : ℕ → Bool) → ((k : ℕ) → k < n → test k ≡ false) → first_below n test ≡ None
 first_below_none zero test h = refl
 first_below_none (suc n) test h = rw (any_below_false n test (λ k l. h k (omega arith)), h n (omega arith)) refl
+
+-- where each fails, none is counted
+pub count_below_none : (n : ℕ) (test : ℕ → Bool) → ((k : ℕ) → k < n → test k ≡ false) → count_below n test ≡ 0
+count_below_none zero test h = refl
+count_below_none (suc n) test h = rw (h n (omega arith), count_below_none n test (λ k l. h k (omega arith))) refl

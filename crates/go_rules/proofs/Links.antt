@@ -5,22 +5,9 @@ use Rattle.go_rules.specs.declared.Cell.{Cell}
 use Rattle.go_rules.specs.Board.{are_neighbours, are_one_apart}
 use Rattle.go_rules.specs.Below.{any_below, count_below}
 use Rattle.go_rules.specs.Strings.{cell_at, Path, start, step, IsInString, IsLiberty, is_liberty, liberties}
+use Rattle.go_rules.proofs.Tests.{eqb_comm, or_comm}
 use Rattle.go_rules.proofs.Counts.{count_below_less, any_below_gives}
 use Rattle.go_rules.proofs.Paths.{path_on_board, IsLiberty-from_test, is_liberty-from_fact}
-
--- which number is compared with which does not matter
-eqb_comm : (a b : ℕ) → eqb a b ≡ eqb b a
-eqb_comm a b = elim (cases_eq a b) [
-  | inl e ↦ eq-eqb a b e ∙ sym (eq-eqb b a (sym e))
-  | inr ne ↦ ne_eqb a b ne ∙ sym (ne_eqb b a (λ e. ne (sym e)))
-]
-
--- which of two tests comes first does not matter
-or_comm : (a b : Bool) → (a || b) ≡ (b || a)
-or_comm true true = refl
-or_comm true false = refl
-or_comm false true = refl
-or_comm false false = refl
 
 -- which of two numbers follows the other does not matter
 one_apart_comm : (a b : ℕ) → are_one_apart a b ≡ are_one_apart b a

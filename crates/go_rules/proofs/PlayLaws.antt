@@ -1,19 +1,20 @@
 -- The computing definitions say what the rules say of paths.
-use Rattle.std.proofs.Common.{◌≡◌, ◌≢◌, ◌↔◌, ◌⊎◌, ℕ, zero, suc, ◌*◌, ◌<◌, true, false, cond, eqb, Option, Some, None, IfSome, List, [], ◌∷◌, replicate, Ok, Err, refl, sym, ap, subst, arith, inl, inr, ◌∙◌}
+use Rattle.std.proofs.Common.{◌≡◌, ◌≢◌, ◌↔◌, ◌⊎◌, ℕ, zero, suc, ◌*◌, ◌<◌, true, false, cond, eqb, Option, Some, None, IfSome, List, [], ◌∷◌, replicate, Result, Ok, Err, refl, sym, ap, subst, arith, inl, inr, ◌∙◌}
 use Rattle.std.proofs.lemmas.List.{length-replicate}
 use Rattle.std.proofs.lemmas.Bool.{cases_Bool, eqb-true, eqb-false, eq-eqb, both_ways, and_parts, and_from, true_from_ne_false}
 use Rattle.go_rules.specs.declared.Cell.{Cell}
 use Rattle.go_rules.specs.declared.Cell.TheVariants.{Empty}
 use Rattle.go_rules.specs.declared.Colour.{Colour}
+use Rattle.go_rules.specs.declared.Illegal.{Illegal}
 use Rattle.go_rules.specs.declared.Illegal.TheVariants.{Occupied, Ko, Suicide}
 use Rattle.go_rules.specs.Strings.{cell_at, is_stone, liberties, IsLiberty}
 use Rattle.go_rules.specs.declared.Colour.TheVariants.{Black as black, White as white}
 use Rattle.go_rules.specs.declared.Move.{Move}
 use Rattle.go_rules.specs.Board.{IsSize}
-use Rattle.go_rules.specs.Replay.{empty_board, moved_to, moved, led_to, replay_from, IsLegalMove, IsLegalGame}
+use Rattle.go_rules.specs.Replay.{empty_board, moved_to, moved, led_to, replay_from, replay, IsLegalMove, IsLegalGame}
 use Rattle.go_rules.specs.Position.{BoardState, IsPosition, other, stone_of, same_colour, is_banned}
 use Rattle.go_rules.specs.Play.{is_taken, cells_after, ban_after, play, play_free, pass}
-use Rattle.go_rules.specs.Rules.{IsCaptured, Removes, Follows, IsSuicide}
+use Rattle.go_rules.specs.Rules.{IsCaptured, Removes, Follows, IsSuicide, IsPositionInWords}
 use Rattle.go_rules.proofs.Links.{liberties_some, liberties_from, path_keeps}
 use Rattle.go_rules.proofs.Paths.{path_on_board}
 use Rattle.go_rules.proofs.Plays.{taken_parts, taken_from, at_after, empty_from, at_put_same, at_put_other, own_not_taken}
@@ -153,7 +154,7 @@ banned_is (Some b) c p h =
     ap (λ (x : ℕ). Some (x, b.1)) (eqb-true b.0 p parts.0) ∙ ap (λ (k : Colour). Some (p, k)) (same_colour-true b.1 c parts.1)
 
 -- a colour is the same as itself
-same_colour-itself : (c : Colour) → same_colour c c ≡ true
+pub same_colour-itself : (c : Colour) → same_colour c c ≡ true
 same_colour-itself black = refl
 same_colour-itself white = refl
 
@@ -274,15 +275,27 @@ suicide_exactly pos c p on = (
   λ h. free_otherwise pos c p h.1.was_empty h.0 ∙ suicide_from pos c p h.1,
 )
 
--- a play that the rules answer gives a position again
-pub play_keeps : (pos : BoardState) (c : Colour) (p : ℕ) (new : BoardState) → IsPosition pos → p < pos.size * pos.size → play pos c p ≡ Ok new → IsPosition new
-play_keeps pos c p new good on e = elim (cases_Bool (is_stone (cell_at pos.cells p))) [
+-- a play that the rules answer is done with no regard to the ban
+pub play_done : (pos : BoardState) (c : Colour) (p : ℕ) (new : BoardState) → play pos c p ≡ Ok new → play_free pos c p ≡ Ok new
+play_done pos c p new e = elim (cases_Bool (is_stone (cell_at pos.cells p))) [
   | inl t ↦ absurd (let w : Err Occupied ≡ Ok new = play_occupied pos c p t ∙ e in cc)
   | inr f ↦ elim (cases_Bool (is_banned pos.ban c p)) [
     | inl b ↦ absurd (let w : Err Ko ≡ Ok new = play_ko pos c p f b ∙ e in cc)
-    | inr n ↦ free_keeps pos c p new good on (play_else pos c p f n ∙ e)
+    | inr n ↦ play_else pos c p f n ∙ e
   ]
 ]
+
+-- a play, done or refused, leaves a board of the same size
+pub play_size : (pos : BoardState) (c : Colour) (p : ℕ) → (led_to pos (play pos c p)).size ≡ pos.size
+play_size pos c p = by_answer (play pos c p) refl
+  where
+    by_answer : (r : Result BoardState Illegal) → play pos c p ≡ r → (led_to pos r).size ≡ pos.size
+    by_answer (Ok new) e = ap (λ (x : BoardState). x.size) (done_state pos c p new (play_done pos c p new e)).1
+    by_answer (Err x) e = refl
+
+-- a play that the rules answer gives a position again
+pub play_keeps : (pos : BoardState) (c : Colour) (p : ℕ) (new : BoardState) → IsPosition pos → p < pos.size * pos.size → play pos c p ≡ Ok new → IsPosition new
+play_keeps pos c p new good on e = free_keeps pos c p new good on (play_done pos c p new e)
 
 -- and so does a pass
 pub pass_keeps : (pos : BoardState) → IsPosition pos → IsPosition (pass pos)
@@ -317,3 +330,39 @@ pub game_keeps : (pos : BoardState) (ms : List Move) → IsPosition pos → IsLe
 unfolding replay_from
 game_keeps pos [] good legal = good
 game_keeps pos (m ∷ ms) good legal = game_keeps (led_to pos (moved pos m)) ms (moved_keeps pos m good legal.0) legal.1
+
+-- the point of a position's ban is on the board and empty
+ban_in_words : (s : ℕ) (cells : List Cell) (ban : Option (ℕ × Colour)) → IfSome ban (λ b. (b.0 < s * s) × (cell_at cells b.0 ≡ Empty))
+    → (q : ℕ) (c : Colour) → ban ≡ Some (q, c) → (q < s * s) × (cell_at cells q ≡ Empty)
+ban_in_words s cells ban good q c e = subst (λ b. IfSome b (λ x. (x.0 < s * s) × (cell_at cells x.0 ≡ Empty))) e good
+
+-- and back
+ban_by_words : (s : ℕ) (cells : List Cell) (ban : Option (ℕ × Colour)) → ((q : ℕ) (c : Colour) → ban ≡ Some (q, c) → (q < s * s) × (cell_at cells q ≡ Empty))
+    → IfSome ban (λ b. (b.0 < s * s) × (cell_at cells b.0 ≡ Empty))
+ban_by_words s cells None good = tt
+ban_by_words s cells (Some b) good = good b.0 b.1 refl
+
+-- a position keeps what the words say
+pub position_in_words : (pos : BoardState) → IsPosition pos → IsPositionInWords pos
+position_in_words pos good = record {
+  size = record { at_least = good.size_at_least; at_most = good.size_at_most };
+  cells = good.cells;
+  alive = λ p on stone. liberties_some pos.size pos.cells p (good.alive p on (true_from_ne_false _ (λ f. stone (empty_from (cell_at pos.cells p) f))));
+  ban = ban_in_words pos.size pos.cells pos.ban good.ban;
+}
+
+-- what keeps it is a position
+pub position_by_words : (pos : BoardState) → IsPositionInWords pos → IsPosition pos
+position_by_words pos words = record {
+  size_at_least = words.size.at_least;
+  size_at_most = words.size.at_most;
+  cells = words.cells;
+  alive = λ p on stone.
+      let lib = words.alive p on (λ z. both_ways (is_stone (cell_at pos.cells p)) (ap is_stone z) stone) in
+      liberties_from pos.size pos.cells p lib.0 on lib.1;
+  ban = ban_by_words pos.size pos.cells pos.ban words.ban;
+}
+
+-- and so does each legal game from the empty board on
+pub replayed_in_words : (s : ℕ) (moves : List Move) → IsSize s → IsLegalGame (empty_board s) moves → IsPositionInWords (replay s moves)
+replayed_in_words s moves size legal = position_in_words (replay s moves) (game_keeps (empty_board s) moves (empty_is_position s size) legal)

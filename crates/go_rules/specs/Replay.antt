@@ -1,10 +1,12 @@
 -- Games: moves played one after another from a first position.
-use Rattle.std.specs.Prelude.{◌≡◌, ℕ, ◌+◌, ◌*◌, ◌<◌, List, [], ◌∷◌, slice_set, replicate, Option, Some, None, IfSome, Result, Ok, Err, if◌then◌else◌}
+use Rattle.std.specs.Prelude.{◌≡◌, ℕ, ◌+◌, ◌*◌, ◌<◌, ◌&&◌, not, List, [], ◌∷◌, slice_set, replicate, Option, Some, None, IfSome, Result, Ok, Err, if◌then◌else◌}
 use Rattle.go_rules.specs.declared.Cell.TheVariants.{Empty}
 use Rattle.go_rules.specs.declared.Colour.{Colour}
 use Rattle.go_rules.specs.declared.Illegal.{Illegal}
 use Rattle.go_rules.specs.declared.Move.{Move}
 use Rattle.go_rules.specs.Below.{count_below}
+use Rattle.go_rules.specs.declared.Cell.{Cell}
+use Rattle.go_rules.specs.Strings.{cell_at, is_stone}
 use Rattle.go_rules.specs.Position.{BoardState, stone_of, same_colour}
 use Rattle.go_rules.specs.Play.{play, pass, is_taken}
 
@@ -59,3 +61,7 @@ pub record IsLegalMove (pos : BoardState) (m : Move) : Type 0 where
 abbrev pub IsLegalGame : BoardState → List Move → Type 0
 IsLegalGame pos [] = Unit {0}
 IsLegalGame pos (m ∷ ms) = IsLegalMove pos m × IsLegalGame (led_to pos (moved pos m)) ms
+
+-- how many points of a board of size s hold a stone before and none after
+abbrev pub stones_gone : ℕ → List Cell → List Cell → ℕ
+stones_gone s before after = count_below (s * s) (λ q. is_stone (cell_at before q) && not (is_stone (cell_at after q)))

@@ -1,8 +1,9 @@
 -- The rules of a play in terms of paths: what the computing definitions of Play are proved to mean.
-use Rattle.std.specs.Prelude.{◌≡◌, ℕ, ◌*◌, ◌<◌, List, slice_set}
+use Rattle.std.specs.Prelude.{◌≡◌, ◌≢◌, ℕ, ◌*◌, ◌<◌, List, length, slice_set, Some}
 use Rattle.go_rules.specs.declared.Cell.{Cell}
 use Rattle.go_rules.specs.declared.Cell.TheVariants.{Empty}
 use Rattle.go_rules.specs.declared.Colour.{Colour}
+use Rattle.go_rules.specs.Board.{IsSize}
 use Rattle.go_rules.specs.Strings.{cell_at, IsInString, IsLiberty}
 use Rattle.go_rules.specs.Position.{BoardState, other, stone_of}
 
@@ -41,3 +42,10 @@ pub record LeavesBan (pos : BoardState) (c : Colour) (p : ℕ) (after : List Cel
   pub one_taken : (r : ℕ) → r < pos.size * pos.size → IsCaptured pos.size (slice_set pos.cells p (stone_of c)) c r → r ≡ q
   pub stone_alone : (r : ℕ) → IsInString pos.size after p r → r ≡ p
   pub one_liberty : (l : ℕ) × IsOnlyLiberty pos.size after p l
+
+-- the board is of a size, it has a cell for each point, each stone's string has a liberty, and the point of its ban is on it and empty
+pub record IsPositionInWords (pos : BoardState) : Type 0 where
+  pub size : IsSize pos.size
+  pub cells : length pos.cells ≡ pos.size * pos.size
+  pub alive : (p : ℕ) → p < pos.size * pos.size → cell_at pos.cells p ≢ Empty → (l : ℕ) × IsLiberty pos.size pos.cells p l
+  pub ban : (q : ℕ) (c : Colour) → pos.ban ≡ Some (q, c) → (q < pos.size * pos.size) × (cell_at pos.cells q ≡ Empty)

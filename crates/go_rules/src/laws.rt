@@ -2,7 +2,7 @@
 //! nothing. The definitions that compute (`play`, `is_in_string`, `liberties`) stand in the contracts of the crates above; the laws
 //! tie them to paths, places and the rules as a Go book has them.
 
-ghost use Rattle.std.specs.Prelude.{◌≡◌, ◌≢◌, ◌⊎◌, ℕ, Ok, Err, Some, ◌*◌, ◌<◌, ◌↔◌, Bool, IsTrue, true, List, slice_set};
+ghost use Rattle.std.specs.Prelude.{◌≡◌, ◌≢◌, ◌⊎◌, ℕ, Ok, Err, Some, None, ◌+◌, ◌*◌, ◌<◌, ◌↔◌, Bool, IsTrue, true, List, [], ◌∷◌, ◌++◌, slice_set};
 ghost use Rattle.go_rules.specs.declared.Cell.{Cell};
 ghost use Rattle.go_rules.specs.declared.Colour.{Colour};
 ghost use Rattle.go_rules.specs.declared.Illegal.{Illegal};
@@ -14,8 +14,8 @@ ghost use Rattle.go_rules.specs.Boundary.{is_boundary, IsBoundary};
 ghost use Rattle.go_rules.specs.Neighbourhood.{neighbourhood_of, InNeighbourhood};
 ghost use Rattle.go_rules.specs.Position.{BoardState, IsPosition, other, stone_of};
 ghost use Rattle.go_rules.specs.Play.{play, play_free, pass};
-ghost use Rattle.go_rules.specs.Rules.{IsCaptured, Follows, IsSuicide, LeavesBan};
-ghost use Rattle.go_rules.specs.Replay.{empty_board, replay_from, IsLegalGame};
+ghost use Rattle.go_rules.specs.Rules.{IsCaptured, Follows, IsSuicide, LeavesBan, IsPositionInWords};
+ghost use Rattle.go_rules.specs.Replay.{empty_board, moved, replay_from, replay, captures, stones_gone, IsLegalMove, IsLegalGame};
 
 /// The points of a board are its places, numbered in reading order.
 pub fn points_are_places()
@@ -124,4 +124,22 @@ pub fn games_keep_positions()
         → play_free pos c p ≡ Ok new → IsPosition new }
     ensures pass { (pos : BoardState) → IsPosition pos → IsPosition (pass pos) }
     ensures game { (pos : BoardState) (moves : List Move) → IsPosition pos → IsLegalGame pos moves → IsPosition (replay_from pos moves) }
+{}
+
+/// What a position keeps, in words, and so what each legal game keeps from the empty board on: each string has a liberty, and the
+/// ban's point is empty and on the board.
+pub fn positions_are_in_words()
+    ensures words { (pos : BoardState) → IsPosition pos ↔ IsPositionInWords pos }
+    ensures game { (s : ℕ) (moves : List Move) → IsSize s → IsLegalGame (empty_board s) moves → IsPositionInWords (replay s moves) }
+{}
+
+/// What a colour took grows by its own moves alone: by as many stones as stood before the move and do not stand after it. A pass takes
+/// none, and where no move was made nothing was taken.
+pub fn captures_are_stones_gone()
+    ensures nothing { (s : ℕ) (c : Colour) → captures s c [] ≡ 0 }
+    ensures own { (s : ℕ) (moves : List Move) (m : Move) (next : BoardState) → IsSize s → IsLegalGame (empty_board s) moves
+        → IsLegalMove (replay s moves) m → moved (replay s moves) m ≡ Ok next
+        → captures s m.colour (moves ++ m ∷ []) ≡ captures s m.colour moves + stones_gone s (replay s moves).cells next.cells }
+    ensures others { (s : ℕ) (moves : List Move) (m : Move) → captures s (other m.colour) (moves ++ m ∷ []) ≡ captures s (other m.colour) moves }
+    ensures pass { (s : ℕ) (c k : Colour) (moves : List Move) → captures s c (moves ++ (record { colour = k; at = None }) ∷ []) ≡ captures s c moves }
 {}
