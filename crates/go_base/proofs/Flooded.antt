@@ -9,6 +9,7 @@ use Rattle.go_rules.specs.Board.{are_neighbours}
 use Rattle.go_rules.specs.Strings.{cell_at, is_stone, is_in_string, string_at, reached, Path, start, step}
 use Rattle.go_rules.proofs.Sets.{contains-set_below, same_nat_set}
 use Rattle.go_rules.proofs.Paths.{path_on_board, IsInString-from_test, is_is_in_string-from_fact}
+use Rattle.go_rules.proofs.Tests.{same_tests, and-false}
 use Rattle.go_base.specs.Sides.{neighbour_at}
 use Rattle.go_base.specs.Trails.{has_point, add_once}
 use Rattle.go_base.specs.Floods.{Spreads, AddsOnBoard}
@@ -154,12 +155,6 @@ Flooded-all s cells p n trail h l (step {q} {r} path on near same) =
     let found = has_index trail q (Flooded-all s cells p n trail h l path) in
     h.closed found.0 (omega (arith, found.1, l)) r on (rw found.2 near) (rw found.2 (same ∙ sym (path_same s cells p path)))
 
-same_tests : (a b : Bool) → (a ≡ true → b ≡ true) → (b ≡ true → a ≡ true) → a ≡ b
-same_tests true true f g = refl
-same_tests false false f g = refl
-same_tests true false f g = sym (f refl)
-same_tests false true f g = g refl
-
 pub string_is : (s : ℕ) (cells : List Cell) (p n : ℕ) (trail : List ℕ) (found : sets.FinSet nat_cmp) → p < s * s → is_stone (cell_at cells p) ≡ true → Flooded s cells p n trail → length trail ≤ n
     → ((q : ℕ) → sets.contains found q ≡ has_point trail q) → found ≡ string_at s cells p
 unfolding string_at
@@ -175,10 +170,6 @@ pub string_is_none : (s : ℕ) (cells : List Cell) (p : ℕ) (found : sets.FinSe
 unfolding string_at is_in_string
 string_is_none s cells p found e same =
     same_nat_set _ _ (λ q. same q ∙ sym (contains-set_below (s * s) (is_in_string s cells p) q ∙ ap (λ k. ltb q (s * s) && (is_stone k && reached s cells p (s * s) q)) e ∙ and-false (ltb q (s * s))))
-  where
-    and-false : (b : Bool) → (b && false) ≡ false
-    and-false true = refl
-    and-false false = refl
 
 pub stone_from : (k : Cell) → (k ≡ Empty → ⊥) → is_stone k ≡ true
 stone_from Empty h = absurd (h refl)

@@ -5,14 +5,11 @@ use Rattle.std.specs.Ordering.{nat_cmp}
 use Rattle.std.specs.Cmp.{nat_cmp_total}
 use Rattle.std.specs.FinSet as sets
 use Rattle.go_rules.proofs.Sets.{contains-insert_nat, same_nat_set}
+use Rattle.go_rules.proofs.Tests.{or-false}
 
 -- the members below n have come
 abbrev pub JoinedBelow : sets.FinSet nat_cmp → sets.FinSet nat_cmp → ℕ → sets.FinSet nat_cmp → Type 0
 JoinedBelow old more n new = (r : ℕ) → sets.contains new r ≡ (sets.contains old r || (ltb r n && sets.contains more r))
-
-or-false : (a : Bool) → a ≡ (a || false)
-or-false true = refl
-or-false false = refl
 
 pub joined_none : (old more : sets.FinSet nat_cmp) → JoinedBelow old more 0 old
 joined_none old more r = rw (le-ltb r 0 (omega arith)) (or-false _)

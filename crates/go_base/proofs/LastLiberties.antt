@@ -13,14 +13,9 @@ use Rattle.go_rules.proofs.Sets.{contains-set_below}
 use Rattle.go_rules.proofs.Paths.{IsLiberty-from_test, is_liberty-from_fact, IsInString-from_test}
 use Rattle.go_rules.proofs.Links.{liberty_moves}
 use Rattle.go_rules.proofs.Boundary.{is_in_string_on, string_back}
+use Rattle.go_rules.proofs.Tests.{same_tests}
 use Rattle.go_base.specs.Surroundings.{is_only_liberty, is_last_liberty_of_enemy, AddsLast, KnowsLast}
 use Rattle.go_base.proofs.Liberties.{len-liberty_points}
-
-same_tests : (a b : Bool) → (a ≡ true → b ≡ true) → (b ≡ true → a ≡ true) → a ≡ b
-same_tests true true f g = refl
-same_tests false false f g = refl
-same_tests true false f g = sym (f refl)
-same_tests false true f g = g refl
 
 -- the set of the liberties has the liberties
 pub contains-liberty_points : (s : ℕ) (cells : List Cell) (r l : ℕ) → sets.contains (liberty_points s cells r) l ≡ is_liberty s cells r l

@@ -7,6 +7,7 @@ use Rattle.std.proofs.lemmas.Bool.{cases_lt, lt-ltb, le-ltb}
 use Rattle.std.specs.Int.{bit_at, w64, trailing_zeros}
 use Rattle.std.specs.FinSet as sets
 use Rattle.go_rules.specs.Board.{largest_points}
+use Rattle.go_rules.proofs.Tests.{and-false}
 use Rattle.go_base.specs.Bits.{is_marked, marked}
 use Rattle.go_base.proofs.Marks.{contains-marked, contains-above}
 
@@ -64,10 +65,6 @@ module _ (words : List ℕ) (p from bit : ℕ) (low : p ≤ from) (before : (r :
 module _ (words : List ℕ) (p q : ℕ) (low : p ≤ q) (before : (r : ℕ) → p ≤ r → r < q → is_marked words r ≡ false) where
   not_before : (r : ℕ) → p ≤ r → r < q → sets.contains (marked words) r ≡ false
   not_before r l m = contains-marked words r ∙ ap (λ b. ltb r largest_points && b) (before r l m) ∙ and-false (ltb r largest_points)
-    where
-      and-false : (b : Bool) → (b && false) ≡ false
-      and-false true = refl
-      and-false false = refl
 
   -- the first of the set from p on is q, where q is a point
   pub first_some : is_marked words q ≡ true → (o : Option ℕ) → o ≡ cond (ltb q largest_points) (Some q) None

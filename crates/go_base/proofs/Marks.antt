@@ -11,6 +11,7 @@ use Rattle.std.specs.FinSet as sets
 use Rattle.go_rules.specs.Board.{largest_points}
 use Rattle.go_rules.proofs.Sets.{contains-set_below, contains-insert_nat, same_nat_set, len-set_below}
 use Rattle.go_rules.proofs.Counts.{count_below_at_most}
+use Rattle.go_rules.proofs.Tests.{and-false}
 use Rattle.go_base.specs.Bits.{set_words, is_marked, marked}
 
 pub contains-marked : (words : List ℕ) (q : ℕ) → sets.contains (marked words) q ≡ (ltb q largest_points && is_marked words q)
@@ -26,10 +27,6 @@ zeros_at : (n j : ℕ) → get_or (replicate {A = ℕ} n 0) j 0 ≡ zero
 zeros_at zero j = refl
 zeros_at (suc n) zero = refl
 zeros_at (suc n) (suc j) = zeros_at n j
-
-and-false : (b : Bool) → (b && false) ≡ false
-and-false true = refl
-and-false false = refl
 
 -- no point is marked in words that are zero
 is_marked-none : (q : ℕ) → is_marked (replicate set_words 0) q ≡ false

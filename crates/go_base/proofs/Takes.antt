@@ -13,6 +13,7 @@ use Rattle.go_rules.proofs.Sets.{contains-set_below, same_nat_set}
 use Rattle.go_rules.proofs.Paths.{same_cell-from, path_on_board, IsInString-from_test, is_is_in_string-from_fact}
 use Rattle.go_rules.proofs.Links.{path_on}
 use Rattle.go_rules.proofs.Plays.{taken_whole, taken_parts, stone_is}
+use Rattle.go_rules.proofs.Tests.{same_tests}
 use Rattle.go_base.specs.Sides.{neighbour_at}
 use Rattle.go_base.specs.Takes.{TakenBeside, HasWholeStrings}
 use Rattle.go_base.specs.WithoutLiberty.{stones_without_liberty}
@@ -86,12 +87,6 @@ Takes-next s put c p n r taken new h on e is = elim (cases_Bool (is_taken s put 
 -- the next side gave nothing
 pub Takes-nothing : (s : ℕ) (put : List Cell) (c : Colour) (p n : ℕ) (taken : sets.FinSet nat_cmp) → Takes s put c p n taken → ((r : ℕ) → neighbour_at s p n ≡ Some r → ⊥) → Takes s put c p (n + 1) taken
 Takes-nothing s put c p n taken h none = Takes-skip s put c p n taken h (λ r e t. none r e)
-
-same_tests : (a b : Bool) → (a ≡ true → b ≡ true) → (b ≡ true → a ≡ true) → a ≡ b
-same_tests true true f g = refl
-same_tests false false f g = refl
-same_tests true false f g = sym (f refl)
-same_tests false true f g = g refl
 
 pub Takes-all : (s : ℕ) (put : List Cell) (c : Colour) (p n : ℕ) (taken : sets.FinSet nat_cmp) → p < s * s → 4 ≤ n → Takes s put c p n taken → TakenBeside s put c p → taken ≡ taken_at s put c
 unfolding taken_at

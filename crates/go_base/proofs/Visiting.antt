@@ -14,6 +14,7 @@ use Rattle.go_rules.proofs.Sets.{contains-set_below, contains-insert_nat, same_n
 use Rattle.go_rules.proofs.Paths.{path_on_board, same_cell-true, same_cell-from, IsInString-from_test, is_is_in_string-from_fact}
 use Rattle.go_rules.proofs.Links.{path_same}
 use Rattle.go_rules.specs.Neighbourhood.{neighbourhood_of}
+use Rattle.go_rules.proofs.Tests.{same_tests, and-false}
 use Rattle.go_base.specs.Views.{alone}
 use Rattle.go_base.proofs.Closing.{close_next, whole_string, alone_self}
 use Rattle.go_base.specs.Sides.{neighbour_at}
@@ -128,12 +129,6 @@ Gathered-next s cells test n trail new more found next h l is on g =
       ];
     }
 
-same_tests : (a b : Bool) → (a ≡ true → b ≡ true) → (b ≡ true → a ≡ true) → a ≡ b
-same_tests true true f g = refl
-same_tests false false f g = refl
-same_tests true false f g = sym (f refl)
-same_tests false true f g = g refl
-
 -- what a flood over the whole trail gathered
 Gathered-all : (s : ℕ) (cells : List Cell) (test : Cell → Bool) (p n : ℕ) (trail : List ℕ) (found : sets.FinSet nat_cmp) → p < s * s → is_stone (cell_at cells p) ≡ true
     → Flooded s cells p n trail → length trail ≤ n → Gathered s cells test n trail found → found ≡ set_below (s * s) (λ l. is_beside_string s cells p l && test (cell_at cells l))
@@ -232,10 +227,6 @@ none_beside : (s : ℕ) (cells : List Cell) (p : ℕ) (test : Cell → Bool) (fo
 none_beside s cells p test found e is =
     is ∙ same_nat_set _ _ (λ q. sets.contains-empty nat_cmp q ∙ sym (contains-set_below (s * s) (λ x. is_beside_string s cells p x && test (cell_at cells x)) q
     ∙ ap (λ b. ltb q (s * s) && (b && test (cell_at cells q))) (beside_empty s cells p q e) ∙ and-false (ltb q (s * s))))
-  where
-    and-false : (b : Bool) → (b && false) ≡ false
-    and-false true = refl
-    and-false false = refl
 
 pub no_liberties : (s : ℕ) (cells : List Cell) (p : ℕ) (free : sets.FinSet nat_cmp) → cell_at cells p ≡ Empty → free ≡ sets.empty → free ≡ liberty_points s cells p
 no_liberties s cells p free e is = none_beside s cells p (λ cell. same_cell cell Empty) free e is ∙ liberties_beside s cells p

@@ -2,10 +2,9 @@
 
 ghost use Rattle.std.specs.Prelude.{◌≡◌, ℕ, ◌*◌, ◌<◌};
 ghost use Rattle.go_rules.specs.Board.{largest_points};
-ghost use Rattle.go_rules.specs.Boundary.{boundary_points};
+ghost use Rattle.go_rules.specs.Boundary.{boundary_points, AddsLeast, KnowsLeast};
 ghost use Rattle.go_rules.specs.Neighbourhood.{neighbourhood_of};
 ghost use Rattle.go_rules.specs.Position.{BoardState};
-ghost use Rattle.go_rules.proofs.Boundary.{AddsLeast, KnowsLeast};
 ghost use Rattle.go_base.specs.Views.{Looks, anywhere, alone};
 
 use crate::flood::{flood, string_of};

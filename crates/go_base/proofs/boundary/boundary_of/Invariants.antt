@@ -2,7 +2,8 @@ use Rattle.std.proofs.Common.{◌-◌}
 use Rattle.go_rules.specs.Board.{largest_points}
 use Rattle.go_rules.specs.Position.{BoardState}
 use Rattle.go_rules.specs.Neighbourhood.{neighbourhood_of}
-use Rattle.go_rules.proofs.Boundary.{Bounds, KnowsLeast}
+use Rattle.go_rules.specs.Boundary.{KnowsLeast}
+use Rattle.go_rules.proofs.Boundary.{Bounds}
 use Rattle.go_base.specs.Views.{Looks, anywhere, alone}
 use Rattle.go_base.proofs.boundary.boundary_of.Given as goal
 
