@@ -29,7 +29,7 @@ zeros_at (suc n) zero = refl
 zeros_at (suc n) (suc j) = zeros_at n j
 
 -- no point is marked in words that are zero
-is_marked-none : (q : ℕ) → is_marked (replicate set_words 0) q ≡ false
+pub is_marked-none : (q : ℕ) → is_marked (replicate set_words 0) q ≡ false
 is_marked-none q = ap (λ n. eqb (bit_at n (q % 64)) 1) (zeros_at set_words (q / 64)) ∙ ap (λ n. eqb n 1) (bit_at-zero (q % 64))
 
 -- words that are zero keep the empty set
@@ -40,12 +40,12 @@ marked-none = same_nat_set _ _ (λ q. contains-marked _ q ∙ ap (λ b. ltb q la
 abbrev pub with_bit : List ℕ → ℕ → List ℕ
 with_bit words p = set words (p / 64) (bit_or (get_or words (p / 64) 0) (1 * 2 ^ (p % 64) % 18446744073709551616))
 
-is_marked-with_bit_same : (words : List ℕ) (p : ℕ) → p / 64 < length words → is_marked (with_bit words p) p ≡ true
+pub is_marked-with_bit_same : (words : List ℕ) (p : ℕ) → p / 64 < length words → is_marked (with_bit words p) p ≡ true
 is_marked-with_bit_same words p h =
     let r : p % 64 < 64 = omega arith in
     ap (λ n. eqb (bit_at n (p % 64)) 1) (get_or-set_same words (p / 64) _ 0 h) ∙ ap (λ n. eqb n 1) (bit_at_set_same w64 (get_or words (p / 64) 0) (p % 64) r)
 
-is_marked-with_bit_other : (words : List ℕ) (p q : ℕ) → p / 64 < length words → q ≢ p → is_marked (with_bit words p) q ≡ is_marked words q
+pub is_marked-with_bit_other : (words : List ℕ) (p q : ℕ) → p / 64 < length words → q ≢ p → is_marked (with_bit words p) q ≡ is_marked words q
 is_marked-with_bit_other words p q h ne =
     let r : p % 64 < 64 = omega arith in
     elim (cases_eq (q / 64) (p / 64)) [
@@ -66,9 +66,13 @@ marked-with_bit words p six h =
     ]
     ∙ sym (contains-insert_nat (marked words) p q ∙ ap (λ b. eqb q p || b) (contains-marked words q)))
 
--- what the code's test says
+-- the code's test of a bit is that of the definition
+pub marked_bit : (words : List ℕ) (p : ℕ) → eqb (bit_and (get_or words (p / 64) 0 / 2 ^ (p % 64)) 1) 1 ≡ is_marked words p
+marked_bit words p = ap (λ n. eqb n 1) (shr_and_one (get_or words (p / 64) 0) (p % 64))
+
+-- and so it tells whether the set has the point
 pub has_bit : (words : List ℕ) (p : ℕ) → p < largest_points → eqb (bit_and (get_or words (p / 64) 0 / 2 ^ (p % 64)) 1) 1 ≡ sets.contains (marked words) p
-has_bit words p h = ap (λ n. eqb n 1) (shr_and_one (get_or words (p / 64) 0) (p % 64)) ∙ sym (contains-marked words p ∙ ap (λ b. b && is_marked words p) (lt-ltb p largest_points h))
+has_bit words p h = marked_bit words p ∙ sym (contains-marked words p ∙ ap (λ b. b && is_marked words p) (lt-ltb p largest_points h))
 
 pub len-with_bit : (words : List ℕ) (p : ℕ) → length words ≡ set_words → p < largest_points → sets.contains (marked words) p ≡ false → sets.len (marked (with_bit words p)) ≡ sets.len (marked words) + 1
 len-with_bit words p six h new = ap sets.len (marked-with_bit words p six h) ∙ sets.len-insert nat_cmp_total (marked words) p ∙ ap (λ b. cond b (sets.len (marked words)) (sets.len (marked words) + 1)) new

@@ -4,7 +4,6 @@ use Rattle.std.proofs.Common.{inl, inr}
 use Rattle.std.specs.Coded.{le_prop}
 use native.Mathlib.Nat.{ℕ_set}
 use mathlib.Core.Sum.{⊎_set}
-use Rattle.go_rules.specs.Board.{largest_points}
 use Rattle.go_rules.specs.declared.Cell.{Cell}
 use Rattle.go_rules.specs.declared.Cell.TheVariants.{Empty}
 use Rattle.go_rules.specs.declared.Colour.{Colour}
@@ -102,7 +101,3 @@ Agrees-prop seen pos = hlevel (IsPosition-prop, Holds-prop)
 -- bans are a set
 pub ban_set : (a b : Option (ℕ × Colour)) → IsProp (a ≡ b)
 ban_set a b = hlevel (⊎_set, ℕ_set)
-
--- that two arrays are whole has one proof at most
-pub whole_prop : (a b : ℕ) → IsProp ((a ≡ largest_points) × (b ≡ largest_points))
-whole_prop a b = hlevel (ℕ_set)

@@ -1,5 +1,5 @@
 -- Which facts a record of facts has.
-use Rattle.std.specs.Prelude.{◌≡◌, ℕ, ◌*◌, ◌==◌, ◌&&◌, ◌||◌, Bool, true, false, nat_lt, IsTrue, slice_index_or}
+use Rattle.std.specs.Prelude.{◌≡◌, ◌⊎◌, ℕ, ◌*◌, ◌==◌, ◌&&◌, ◌||◌, Bool, true, false, not, nat_lt, IsTrue, List}
 use Rattle.go_rules.specs.declared.Cell.{Cell}
 use Rattle.go_rules.specs.declared.Cell.TheVariants.{Empty, Black, White}
 use Rattle.go_rules.specs.declared.Colour.{Colour}
@@ -7,30 +7,19 @@ use Rattle.go_rules.specs.declared.Colour.TheVariants.{Black as black, White as 
 use Rattle.go_rules.specs.Strings.{cell_at}
 use Rattle.go_rules.specs.Position.{BoardState, is_banned}
 use Rattle.go_base.specs.declared.facts.Facts.{Facts}
-use Rattle.go_base.specs.declared.facts.Known.{Known}
-use Rattle.go_base.specs.declared.facts.Known.TheVariants.{Unseen, Nothing, BlackStone, WhiteStone}
-use Rattle.go_base.specs.declared.facts.Asked.{Asked}
-use Rattle.go_base.specs.declared.facts.Asked.TheVariants.{Neither, OfBlack, OfWhite, Both}
+use Rattle.go_base.specs.Bits.{is_marked}
 use Rattle.go_base.specs.Facts.{Fact, SizeIs, CellIs, BanIs}
 
--- the cell is known to be this one
-abbrev pub is_known : Known → Cell → Bool
-is_known Unseen cell = false
-is_known Nothing Empty = true
-is_known Nothing _ = false
-is_known BlackStone Black = true
-is_known BlackStone _ = false
-is_known WhiteStone White = true
-is_known WhiteStone _ = false
+-- the bits of the points where this cell was seen
+abbrev pub seen_as : Facts → Cell → List ℕ
+seen_as f Empty = f.empty
+seen_as f Black = f.black
+seen_as f White = f.white
 
--- the ban of the colour was asked for
-abbrev pub is_asked : Asked → Colour → Bool
-is_asked Neither c = false
-is_asked OfBlack black = true
-is_asked OfBlack white = false
-is_asked OfWhite black = false
-is_asked OfWhite white = true
-is_asked Both c = true
+-- the bits of the points where it was asked whether the ban forbids the colour to play
+abbrev pub asked_of : Facts → Colour → List ℕ
+asked_of f black = f.asked_of_black
+asked_of f white = f.asked_of_white
 
 -- both are true, or both are false
 abbrev pub same_bool : Bool → Bool → Bool
@@ -41,28 +30,40 @@ same_bool false false = true
 -- the fact is among these
 abbrev pub told : Facts → Fact → Bool
 told f (SizeIs n) = f.size == n
-told f (CellIs p cell) = nat_lt p (f.size * f.size) && is_known (slice_index_or f.cells p Unseen) cell
-told f (BanIs p c forbidden) = nat_lt p (f.size * f.size) && (is_asked (slice_index_or f.bans p Neither) c && same_bool (is_banned f.ban c p) forbidden)
+told f (CellIs p cell) = nat_lt p (f.size * f.size) && is_marked (seen_as f cell) p
+told f (BanIs p c forbidden) = nat_lt p (f.size * f.size) && (is_marked (asked_of f c) p && same_bool (is_banned f.ban c p) forbidden)
+
+-- new has the facts of old, and what was seen to stand at p
+pub record SeesCell (old new : Facts) (p : ℕ) (cell : Cell) : Type 0 where
+  pub size : new.size ≡ old.size
+  pub ban : new.ban ≡ old.ban
+  pub here : is_marked (seen_as new cell) p ≡ true
+  pub kept : (x : Cell) (q : ℕ) → is_marked (seen_as old x) q ≡ true → is_marked (seen_as new x) q ≡ true
+  pub only : (x : Cell) (q : ℕ) → is_marked (seen_as new x) q ≡ true → (is_marked (seen_as old x) q ≡ true) ⊎ ((q ≡ p) × (x ≡ cell))
+  pub bans : (c : Colour) → asked_of new c ≡ asked_of old c
+
+-- new has the facts of old, and whether the ban forbids c to play at p
+pub record AsksBan (old new : Facts) (p : ℕ) (c : Colour) : Type 0 where
+  pub size : new.size ≡ old.size
+  pub ban : new.ban ≡ old.ban
+  pub here : is_marked (asked_of new c) p ≡ true
+  pub kept : (k : Colour) (q : ℕ) → is_marked (asked_of old k) q ≡ true → is_marked (asked_of new k) q ≡ true
+  pub only : (k : Colour) (q : ℕ) → is_marked (asked_of new k) q ≡ true → (is_marked (asked_of old k) q ≡ true) ⊎ ((q ≡ p) × (k ≡ c))
+  pub cells : (cell : Cell) → seen_as new cell ≡ seen_as old cell
 
 -- the facts about q are so on the position
 pub record HoldsAt (f : Facts) (pos : BoardState) (q : ℕ) : Type 0 where
-  pub cell : (cell : Cell) → IsTrue (is_known (slice_index_or f.cells q Unseen) cell) → cell_at pos.cells q ≡ cell
-  pub ban : (c : Colour) → IsTrue (is_asked (slice_index_or f.bans q Neither) c) → is_banned pos.ban c q ≡ is_banned f.ban c q
+  pub cell : (cell : Cell) → IsTrue (is_marked (seen_as f cell) q) → cell_at pos.cells q ≡ cell
+  pub ban : (c : Colour) → IsTrue (is_marked (asked_of f c) q) → is_banned pos.ban c q ≡ is_banned f.ban c q
 
--- the cell was seen
-abbrev pub is_seen : Known → Bool
-is_seen Unseen = false
-is_seen Nothing = true
-is_seen BlackStone = true
-is_seen WhiteStone = true
-
--- the ban was asked for
-abbrev pub is_asked_for : Asked → Bool
-is_asked_for Neither = false
-is_asked_for OfBlack = true
-is_asked_for OfWhite = true
-is_asked_for Both = true
+-- the cell may be what was seen, where it was seen to be empty, to hold a black stone or a white one
+abbrev pub is_admitted : Cell → Bool → Bool → Bool → Bool
+is_admitted Empty was_empty was_black was_white = not was_black && not was_white
+is_admitted Black was_empty was_black was_white = not was_empty && not was_white
+is_admitted White was_empty was_black was_white = not was_empty && not was_black
 
 -- some fact is about q
 abbrev pub is_fact_at : Facts → ℕ → Bool
-is_fact_at f q = is_seen (slice_index_or f.cells q Unseen) || is_asked_for (slice_index_or f.bans q Neither)
+is_fact_at f q =
+    (is_marked (seen_as f Empty) q || (is_marked (seen_as f Black) q || is_marked (seen_as f White) q))
+    || (is_marked (asked_of f black) q || is_marked (asked_of f white) q)

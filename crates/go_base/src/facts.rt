@@ -1,139 +1,105 @@
 //! The recorded facts of a reading: its size, cells of points, and for a point and a colour whether the ko ban forbids the play.
 
-ghost use Rattle.std.specs.Prelude.{◌≡◌, ℕ, ◌*◌, ◌<◌, ◌↔◌, Bool, IsTrue, false, not, ◌||◌, ◌&&◌, slice_index_or, replicate};
+ghost use Rattle.std.specs.Prelude.{◌≡◌, ℕ, ◌*◌, ◌<◌, ◌↔◌, IsTrue, false, not, ◌||◌, ◌&&◌};
 ghost use Rattle.std.specs.FinSet as set;
 ghost use Rattle.go_rules.specs.Below.{set_below};
 ghost use Rattle.go_rules.specs.Board.{largest_points};
-ghost use Rattle.go_rules.specs.Strings.{cell_at};
+ghost use Rattle.go_rules.specs.declared.Cell.{Cell};
+ghost use Rattle.go_rules.specs.declared.Colour.{Colour};
 ghost use Rattle.go_rules.specs.Position.{BoardState, is_banned};
+ghost use Rattle.go_base.specs.Bits.{is_marked};
 ghost use Rattle.go_base.specs.Facts.{Agrees};
-ghost use Rattle.go_base.specs.Told.{told, is_known, is_asked, HoldsAt, is_fact_at, is_seen, is_asked_for, same_bool};
-ghost use Rattle.go_base.specs.declared.facts.Known.{Known};
-ghost use Rattle.go_base.specs.declared.facts.Asked.{Asked};
+ghost use Rattle.go_base.specs.Told.{told, seen_as, asked_of, SeesCell, AsksBan, HoldsAt, is_admitted, is_fact_at, same_bool};
 
+use crate::bits::PointBits;
 use crate::points::PointSet;
 use crate::position::Position;
-use crate::size::{MAX_POINTS, Point, Size};
+use crate::size::{Point, Size};
 use go_rules::{Cell, Colour};
 
-/// What is known of a cell.
-#[derive(Clone, Copy, Debug, PartialEq, Eq)]
-pub enum Known {
-    Unseen,
-    Nothing,
-    BlackStone,
-    WhiteStone,
-}
-
-/// For which colours the ban was asked for.
-#[derive(Clone, Copy, Debug, PartialEq, Eq)]
-pub enum Asked {
-    Neither,
-    OfBlack,
-    OfWhite,
-    Both,
-}
-
-/// The facts that were seen of a position, in some 740 bytes. Of the ban it keeps the whole; what counts is what was asked for.
+/// The facts that were seen of a position, in some 420 bytes. Of the ban it keeps the whole; what counts is what was asked for.
 #[derive(Clone, Copy, Debug)]
 pub struct Facts {
     /// The size, which is always a fact.
     pub size: Size,
     /// The ban of the position that was seen.
     pub ban: Option<(Point, Colour)>,
-    /// What is known of the cell of each point.
-    pub cells: [Known; MAX_POINTS],
-    /// For which colours the ban was asked for at each point.
-    pub bans: [Asked; MAX_POINTS],
-}
-
-/// No cell is known.
-pub fn no_cells() -> [Known; MAX_POINTS]
-    ensures { result ≡ replicate largest_points Known.Unseen }
-{
-    [Known::Unseen; MAX_POINTS]
-}
-
-/// The ban was asked for nowhere.
-pub fn no_bans() -> [Asked; MAX_POINTS]
-    ensures { result ≡ replicate largest_points Asked.Neither }
-{
-    [Asked::Neither; MAX_POINTS]
-}
-
-impl Known {
-    /// What is known of a cell that was seen.
-    pub fn of(cell: Cell) -> Known
-        ensures { (k : Cell) → IsTrue (is_known result k) ↔ (k ≡ cell) }
-    {
-        match cell {
-            Cell::Empty => Known::Nothing,
-            Cell::Black => Known::BlackStone,
-            Cell::White => Known::WhiteStone,
-        }
-    }
-
-    /// Whether the cell may be this one.
-    fn admits(self, cell: Cell) -> bool
-        ensures { result ≡ (not (is_seen self) || is_known self cell) }
-    {
-        match (self, cell) {
-            (Known::Unseen, _) => true,
-            (Known::Nothing, Cell::Empty) => true,
-            (Known::BlackStone, Cell::Black) => true,
-            (Known::WhiteStone, Cell::White) => true,
-            _ => false,
-        }
-    }
-
-    fn is_seen(self) -> bool
-        ensures { result ≡ is_seen self }
-    {
-        match self {
-            Known::Unseen => false,
-            _ => true,
-        }
-    }
-}
-
-impl Asked {
-    /// Asked for the same colours, and for c too.
-    pub fn with(self, c: Colour) -> Asked
-        ensures here { IsTrue (is_asked result c) }
-        ensures kept { (k : Colour) → IsTrue (is_asked self k) → IsTrue (is_asked result k) }
-        ensures only { (k : Colour) → IsTrue (is_asked result k) → is_asked self k ≡ false → k ≡ c }
-    {
-        match (self, c) {
-            (Asked::Neither, Colour::Black) => Asked::OfBlack,
-            (Asked::Neither, Colour::White) => Asked::OfWhite,
-            (Asked::OfBlack, Colour::Black) => Asked::OfBlack,
-            (Asked::OfWhite, Colour::White) => Asked::OfWhite,
-            _ => Asked::Both,
-        }
-    }
-
-    fn has(self, c: Colour) -> bool
-        ensures { result ≡ is_asked self c }
-    {
-        match (self, c) {
-            (Asked::Both, _) => true,
-            (Asked::OfBlack, Colour::Black) => true,
-            (Asked::OfWhite, Colour::White) => true,
-            _ => false,
-        }
-    }
-
-    fn is_some(self) -> bool
-        ensures { result ≡ is_asked_for self }
-    {
-        match self {
-            Asked::Neither => false,
-            _ => true,
-        }
-    }
+    /// The points that were seen to be empty.
+    pub empty: PointBits,
+    /// The points where a black stone was seen.
+    pub black: PointBits,
+    /// The points where a white stone was seen.
+    pub white: PointBits,
+    /// The points where it was asked whether the ban forbids Black to play.
+    pub asked_of_black: PointBits,
+    /// The points where it was asked whether the ban forbids White to play.
+    pub asked_of_white: PointBits,
 }
 
 impl Facts {
+    /// Nothing but the size was seen of a position with this ban.
+    pub(crate) fn new(size: Size, ban: Option<(Point, Colour)>) -> Facts
+        ensures size { result.size ≡ size }
+        ensures ban { result.ban ≡ ban }
+        ensures cells { (cell : Cell) (q : ℕ) → is_marked (seen_as result cell) q ≡ false }
+        ensures bans { (c : Colour) (q : ℕ) → is_marked (asked_of result c) q ≡ false }
+    {
+        Facts {
+            size,
+            ban,
+            empty: PointBits::new(),
+            black: PointBits::new(),
+            white: PointBits::new(),
+            asked_of_black: PointBits::new(),
+            asked_of_white: PointBits::new(),
+        }
+    }
+
+    /// Records what was seen to stand at p.
+    pub(crate) fn see(&mut self, p: Point, cell: Cell)
+        requires { p < largest_points }
+        ensures { SeesCell self.old self.new p cell }
+    {
+        match cell {
+            Cell::Empty => self.empty.add(p),
+            Cell::Black => self.black.add(p),
+            Cell::White => self.white.add(p),
+        }
+    }
+
+    /// Records that it was asked whether the ban forbids c to play at p.
+    pub(crate) fn ask(&mut self, p: Point, c: Colour)
+        requires { p < largest_points }
+        ensures { AsksBan self.old self.new p c }
+    {
+        match c {
+            Colour::Black => self.asked_of_black.add(p),
+            Colour::White => self.asked_of_white.add(p),
+        }
+    }
+
+    /// Whether it was asked for the ban of the colour at p.
+    fn is_asked(&self, c: Colour, p: Point) -> bool
+        requires { p < largest_points }
+        ensures { result ≡ is_marked (asked_of self.now c) p }
+    {
+        match c {
+            Colour::Black => self.asked_of_black.has(p),
+            Colour::White => self.asked_of_white.has(p),
+        }
+    }
+
+    /// Whether the cell of q is as it was seen, if it was.
+    fn cell_stands(&self, q: Point, cell: Cell) -> bool
+        requires { q < largest_points }
+        ensures { result ≡ is_admitted cell (is_marked (seen_as self.now Cell.Empty) q) (is_marked (seen_as self.now Cell.Black) q) (is_marked (seen_as self.now Cell.White) q) }
+    {
+        let empty = self.empty.has(q);
+        let black = self.black.has(q);
+        let white = self.white.has(q);
+        is_admitted(cell, empty, black, white)
+    }
+
     /// Whether the ban that was seen is on this play.
     fn bans(&self, c: Colour, p: Point) -> bool
         ensures { result ≡ is_banned self.now.ban c p }
@@ -147,9 +113,9 @@ impl Facts {
     /// Whether the ban of the colour is as it was seen, if it was.
     fn ban_stands(&self, position: &Position, c: Colour, q: Point) -> bool
         requires { q < largest_points }
-        ensures { result ≡ (not (is_asked (slice_index_or self.now.bans q Asked.Neither) c) || same_bool (is_banned position.now.ban c q) (is_banned self.now.ban c q)) }
+        ensures { result ≡ (not (is_marked (asked_of self.now c) q) || same_bool (is_banned position.now.ban c q) (is_banned self.now.ban c q)) }
     {
-        if !self.bans[q as usize].has(c) {
+        if !self.is_asked(c, q) {
             return true;
         }
         self.bans(c, q) == position.bans(c, q)
@@ -161,7 +127,7 @@ impl Facts {
         ensures { IsTrue result ↔ HoldsAt self.now position.now q }
     {
         let _ = position.size().points();
-        let cell = self.cells[q as usize].admits(position.cell(q));
+        let cell = self.cell_stands(q, position.cell(q));
         let black = self.ban_stands(position, Colour::Black, q);
         let white = self.ban_stands(position, Colour::White, q);
         all(cell, black, white)
@@ -199,7 +165,9 @@ impl Facts {
         requires { q < largest_points }
         ensures { result ≡ is_fact_at self.now q }
     {
-        self.cells[q as usize].is_seen() || self.bans[q as usize].is_some()
+        let seen = either(self.empty.has(q), either(self.black.has(q), self.white.has(q)));
+        let asked = either(self.asked_of_black.has(q), self.asked_of_white.has(q));
+        either(seen, asked)
     }
 }
 
@@ -207,4 +175,21 @@ fn all(a: bool, b: bool, c: bool) -> bool
     ensures { result ≡ (a && b && c) }
 {
     a && b && c
+}
+
+fn either(a: bool, b: bool) -> bool
+    ensures { result ≡ (a || b) }
+{
+    a || b
+}
+
+/// Whether the cell may be what was seen, where it was seen to be empty, to hold a black stone or a white one.
+fn is_admitted(cell: Cell, empty: bool, black: bool, white: bool) -> bool
+    ensures { result ≡ is_admitted cell empty black white }
+{
+    match cell {
+        Cell::Empty => !black && !white,
+        Cell::Black => !empty && !white,
+        Cell::White => !empty && !black,
+    }
 }

@@ -6,6 +6,7 @@
 //! defines them, and none takes memory.
 #![tactic(auto)]
 
+pub mod bits;
 pub mod boundary;
 pub mod bytes;
 pub mod capture;

@@ -1,14 +1,13 @@
 //! Views of a position that record what was asked: a reading of the board rests on these facts alone.
 
-ghost use Rattle.std.specs.Prelude.{◌≡◌, ℕ, ◌*◌, ◌<◌, Bool, IsTrue, false, length};
-ghost use Rattle.go_rules.specs.Board.{largest_points};
+ghost use Rattle.std.specs.Prelude.{◌≡◌, ℕ, ◌*◌, ◌<◌, Bool, IsTrue, false};
 ghost use Rattle.go_rules.specs.Strings.{cell_at};
 ghost use Rattle.go_rules.specs.Position.{BoardState, is_banned};
 ghost use Rattle.go_base.specs.Views.{alone};
-ghost use Rattle.go_base.specs.Facts.{Agrees, Grows, AddsIn, Agrees-prop, ban_set, whole_prop};
+ghost use Rattle.go_base.specs.Facts.{Agrees, Grows, AddsIn, Agrees-prop, ban_set};
 ghost use Rattle.go_base.specs.Told.{told};
 
-use crate::facts::{Facts, Known, no_bans, no_cells};
+use crate::facts::Facts;
 use crate::position::Position;
 use crate::size::{Point, Size};
 use go_rules::{Cell, Colour};
@@ -59,7 +58,6 @@ pub struct Watch<'a> {
     facts: Facts,
     ghost holds: { Agrees (told facts) position.now } by { Agrees-prop _ _ },
     ghost ban: { facts.ban ≡ position.now.ban } by { ban_set _ _ },
-    ghost whole: { (length facts.cells ≡ largest_points) × (length facts.bans ≡ largest_points) } by { whole_prop _ _ },
 }
 
 impl<'a> Watch<'a> {
@@ -71,13 +69,10 @@ impl<'a> Watch<'a> {
         ensures shows { shown_by result ≡ position.now }
         ensures none { (fact : Fact) → IsTrue (told (facts_of result) fact) → fact ≡ SizeIs position.now.size }
     {
-        let facts = Facts {
-            size: position.size(),
-            ban: position.ban(),
-            cells: no_cells(),
-            bans: no_bans(),
-        };
-        Watch { position, facts }
+        Watch {
+            position,
+            facts: Facts::new(position.size(), position.ban()),
+        }
     }
 
     /// The facts recorded until now.
@@ -107,14 +102,13 @@ impl<'a> Look for Watch<'a> {
     fn cell(&mut self, p: Point) -> Cell {
         let _ = self.position.size().points();
         let cell = self.position.cell(p);
-        self.facts.cells[p as usize] = Known::of(cell);
+        self.facts.see(p, cell);
         cell
     }
 
     fn ko(&mut self, p: Point, c: Colour) -> bool {
         let _ = self.position.size().points();
-        let asked = self.facts.bans[p as usize];
-        self.facts.bans[p as usize] = asked.with(c);
+        self.facts.ask(p, c);
         self.position.bans(c, p)
     }
 }
