@@ -1,9 +1,8 @@
 -- What the neighbourhood of a set of points has.
-use Rattle.std.proofs.Common.{◌≡◌, ◌⊎◌, ℕ, ◌*◌, ◌<◌, ◌&&◌, Bool, true, List, refl, sym, ap, subst, inl, inr, ◌∙◌}
+use Rattle.std.proofs.Common.{◌≡◌, ◌⊎◌, ℕ, ◌*◌, ◌<◌, Bool, true, List, refl, sym, ap, subst, inl, inr, ◌∙◌}
 use Rattle.std.proofs.lemmas.Bool.{and_parts, and_from, or_cases, or_left, or_right, eqb-true, eq-eqb, lt-ltb, ltb-true}
 use Rattle.go_rules.specs.declared.Cell.{Cell}
 use Rattle.go_rules.specs.Board.{are_neighbours}
-use Rattle.go_rules.specs.Below.{any_below}
 use Rattle.go_rules.specs.Strings.{cell_at, is_stone, is_in_string, Path}
 use Rattle.go_rules.specs.Neighbourhood.{whole_strings_of, neighbourhood_of}
 use Rattle.go_rules.proofs.Counts.{any_below_gives, any_below_from}
@@ -104,7 +103,7 @@ alone_self p = eq-eqb p p refl
 pub close_around : (s : ℕ) (cells : List Cell) (p q r : ℕ) → p < s * s → is_stone (cell_at cells p) ≡ true → Path s cells p q → around s q r ≡ true → neighbourhood_of s cells (alone p) r ≡ true
 close_around s cells p q r on stone path h =
     let whole : whole_strings_of s cells (alone p) q ≡ true =
-        whole_string s cells (alone p) p q on (alone_self p) (is_is_in_string-from_fact s cells p q on (record { stone = stone; path = path })) in
+    whole_string s cells (alone p) p q on (alone_self p) (is_is_in_string-from_fact s cells p q on (record { stone = stone; path = path })) in
     let parts = and_parts _ _ h in
     elim (or_cases _ _ parts.1) [
       | inl e ↦ close_whole s cells (alone p) r (subst (λ x. whole_strings_of s cells (alone p) x ≡ true) (sym (eqb-true r q e)) whole)

@@ -1,10 +1,8 @@
 -- What one more look adds to the facts.
-use Rattle.std.proofs.Common.{◌≡◌, ◌≢◌, ◌⊎◌, ℕ, ◌*◌, ◌<◌, ◌&&◌, Bool, true, false, ltb, List, Option, refl, sym, ap, subst, inl, inr, ◌∙◌}
-use Rattle.std.proofs.lemmas.Bool.{cases_eq, both_ways, and_parts, and_from, lt-ltb, eqb-true, eq-eqb}
+use Rattle.std.proofs.Common.{◌≡◌, ◌⊎◌, ℕ, ◌*◌, ◌<◌, ◌&&◌, Bool, true, false, ltb, List, Option, refl, sym, ap, subst, inl, inr, ◌∙◌}
+use Rattle.std.proofs.lemmas.Bool.{both_ways, and_parts, and_from, lt-ltb, eqb-true, eq-eqb}
 use Rattle.go_rules.specs.declared.Cell.{Cell}
-use Rattle.go_rules.specs.declared.Cell.TheVariants.{Empty, Black, White}
 use Rattle.go_rules.specs.declared.Colour.{Colour}
-use Rattle.go_rules.specs.declared.Colour.TheVariants.{Black as black, White as white}
 use Rattle.go_rules.specs.Strings.{cell_at}
 use Rattle.go_rules.specs.Position.{BoardState, IsPosition, is_banned}
 use Rattle.go_base.specs.Views.{alone}
@@ -128,7 +126,7 @@ module _ (f g : Facts) (pos : BoardState) (a : Agrees (told f) pos) (same : f.ba
           let more = and_parts _ _ parts.1 in
           elim (asks.only k q more.0) [
             | inl before ↦ inl (and_from _ _ (sym (ap (λ n. ltb q (n * n)) asks.size) ∙ parts.0)
-              (and_from _ _ before (sym (ap (λ v. same_bool (is_banned v k q) b) asks.ban) ∙ more.1)))
+                (and_from _ _ before (sym (ap (λ v. same_bool (is_banned v k q) b) asks.ban) ∙ more.1)))
             | inr e ↦ inr (eq-eqb q p e.0)
           ]
 

@@ -84,7 +84,7 @@ holds_test f pos q a b c r ea eb ec er = (
       },
   λ h.
       let cells = admitted_all (is_marked (seen_as f Empty) q) (is_marked (seen_as f Black) q) (is_marked (seen_as f White) q) (cell_at pos.cells q)
-          (elim [ | Empty ↦ h.cell Empty | Black ↦ h.cell Black | White ↦ h.cell White ]) in
+      (elim [ Empty ↦ h.cell Empty | Black ↦ h.cell Black | White ↦ h.cell White ]) in
       er ∙ and_from _ _ (and_from _ _ (ea ∙ cells) (eb ∙ asked_all _ _ _ (h.ban black))) (ec ∙ asked_all _ _ _ (h.ban white)),
 )
 

@@ -165,7 +165,10 @@ impl Facts {
         requires { q < largest_points }
         ensures { result ≡ is_fact_at self.now q }
     {
-        let seen = either(self.empty.has(q), either(self.black.has(q), self.white.has(q)));
+        let seen = either(
+            self.empty.has(q),
+            either(self.black.has(q), self.white.has(q)),
+        );
         let asked = either(self.asked_of_black.has(q), self.asked_of_white.has(q));
         either(seen, asked)
     }

@@ -1,16 +1,14 @@
 -- What a colour took, by the stones that are gone after its moves.
-use Rattle.std.proofs.Common.{◌≡◌, ◌≢◌, ℕ, zero, suc, ◌+◌, ◌*◌, ◌<◌, ◌&&◌, Bool, true, false, not, cond, Option, Some, None, IfSome, List, [], ◌∷◌, ◌++◌, Ok, refl, sym, ap, subst, arith, inl, inr, ◌∙◌}
+use Rattle.std.proofs.Common.{◌≡◌, ℕ, ◌+◌, ◌*◌, ◌<◌, ◌&&◌, Bool, true, false, not, cond, Option, Some, None, IfSome, List, [], ◌∷◌, ◌++◌, Ok, refl, sym, ap, arith, inl, inr, ◌∙◌}
 use Rattle.std.proofs.lemmas.Bool.{cases_Bool, cases_eq}
-use Rattle.go_rules.specs.declared.Cell.{Cell}
 use Rattle.go_rules.specs.declared.Cell.TheVariants.{Empty}
 use Rattle.go_rules.specs.declared.Colour.{Colour}
 use Rattle.go_rules.specs.declared.Colour.TheVariants.{Black as black, White as white}
 use Rattle.go_rules.specs.declared.Move.{Move}
 use Rattle.go_rules.specs.Board.{IsSize}
-use Rattle.go_rules.specs.Below.{count_below}
 use Rattle.go_rules.specs.Strings.{cell_at, is_stone}
 use Rattle.go_rules.specs.Position.{BoardState, IsPosition, other, stone_of, same_colour}
-use Rattle.go_rules.specs.Play.{is_taken, play, play_free}
+use Rattle.go_rules.specs.Play.{is_taken, play_free}
 use Rattle.go_rules.specs.Replay.{empty_board, moved_to, moved, led_to, replay_from, replay, taken_by, captures_from, captures, stones_gone, IsLegalMove, IsLegalGame}
 use Rattle.go_rules.proofs.Counts.{count_below_same, count_below_none}
 use Rattle.go_rules.proofs.Plays.{at_after, at_put_same, at_put_other, own_not_taken, taken_parts, stone_is}
@@ -99,7 +97,7 @@ own_captures s moves m next size legal allowed e =
 pub others_captures : (s : ℕ) (moves : List Move) (m : Move) → captures s (other m.colour) (moves ++ m ∷ []) ≡ captures s (other m.colour) moves
 others_captures s moves m =
     let none : cond (same_colour m.colour (other m.colour)) (taken_by (replay s moves) m.colour m.at) 0 ≡ 0 =
-        ap (λ b. cond b (taken_by (replay s moves) m.colour m.at) 0) (same_colour-other m.colour) in
+    ap (λ b. cond b (taken_by (replay s moves) m.colour m.at) 0) (same_colour-other m.colour) in
     omega (arith, captures_snoc (empty_board s) (other m.colour) moves m, none)
 
 -- a pass took nothing

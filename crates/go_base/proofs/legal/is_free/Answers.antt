@@ -1,5 +1,5 @@
 -- A play that was tried is taken back, and a refused one changed nothing.
-use Rattle.std.proofs.Common.{◌≡◌, ◌*◌, take, ap, sym, ◌∙◌, Ok, Err, is_ok}
+use Rattle.std.proofs.Common.{◌*◌, take, ap, ◌∙◌, Ok, Err, is_ok}
 use Rattle.go_base.specs.TakenBack.{before_play}
 use Rattle.go_base.specs.Flats.{KeepsRest-trans}
 use Rattle.go_base.proofs.Held.{held_free, held_position, holds_again, whole_after}
