@@ -8,7 +8,7 @@ use Rattle.go_rules.specs.Position.{BoardState, IsPosition, is_banned}
 use Rattle.go_base.specs.Views.{alone}
 use Rattle.go_base.specs.Bits.{is_marked}
 use Rattle.go_base.specs.declared.facts.Facts.{Facts}
-use Rattle.go_base.specs.Facts.{Fact, SizeIs, CellIs, BanIs, Holds, Agrees, Grows, AddsIn, IsAbout}
+use Rattle.go_base.specs.Facts.{Fact, SizeIs, CellIs, BanIs, IsFactOf, Agrees, Grows, AddsIn, IsAbout}
 use Rattle.go_base.specs.Told.{told, seen_as, asked_of, same_bool, SeesCell, AsksBan}
 
 -- two truths that are told to be the same are equal
@@ -85,7 +85,7 @@ module _ (f g : Facts) (pos : BoardState) (a : Agrees (told f) pos) (p : ℕ) (o
   pub cell_agrees : Agrees (told g) pos
   cell_agrees = record { sound = a.sound; each = each }
     where
-      each : (fact : Fact) → told g fact ≡ true → Holds pos fact
+      each : (fact : Fact) → told g fact ≡ true → IsFactOf pos fact
       each (SizeIs n) h = a.each (SizeIs n) (size_was n h)
       each (BanIs q c b) h = a.each (BanIs q c b) (ban_was q c b h)
       each (CellIs q x) h = elim (was q x h) [ inl o ↦ a.each (CellIs q x) o | inr e ↦ ap (cell_at pos.cells) e.0 ∙ sym here ∙ sym e.1 ]
@@ -134,7 +134,7 @@ module _ (f g : Facts) (pos : BoardState) (a : Agrees (told f) pos) (same : f.ba
   pub ban_agrees : Agrees (told g) pos
   ban_agrees = record { sound = a.sound; each = each }
     where
-      each : (fact : Fact) → told g fact ≡ true → Holds pos fact
+      each : (fact : Fact) → told g fact ≡ true → IsFactOf pos fact
       each (SizeIs n) h = a.each (SizeIs n) (eq-eqb f.size n (sym asks.size ∙ eqb-true g.size n h))
       each (CellIs q x) h = a.each (CellIs q x) (sym (same_cells f.size g.size (seen_as f x) (seen_as g x) q asks.size (asks.cells x)) ∙ h)
       each (BanIs q k b) h =
@@ -151,4 +151,4 @@ module _ (f : Facts) (n : ℕ) (size : f.size ≡ n) (cells : (cell : Cell) (q :
 
   -- so each position of this size agrees
   pub none_agrees : (pos : BoardState) → IsPosition pos → pos.size ≡ n → Agrees (told f) pos
-  none_agrees pos good e = record { sound = good; each = λ fact h. subst (Holds pos) (sym (none_told fact h)) e }
+  none_agrees pos good e = record { sound = good; each = λ fact h. subst (IsFactOf pos) (sym (none_told fact h)) e }

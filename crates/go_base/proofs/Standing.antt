@@ -10,7 +10,7 @@ use Rattle.go_rules.specs.Position.{BoardState, IsPosition, is_banned}
 use Rattle.go_rules.proofs.Paths.{same_cell-from}
 use Rattle.go_base.specs.Bits.{is_marked}
 use Rattle.go_base.specs.declared.facts.Facts.{Facts}
-use Rattle.go_base.specs.Facts.{Fact, SizeIs, CellIs, BanIs, Holds, Agrees}
+use Rattle.go_base.specs.Facts.{Fact, SizeIs, CellIs, BanIs, IsFactOf, Agrees}
 use Rattle.go_base.specs.Told.{told, seen_as, asked_of, is_admitted, same_bool, HoldsAt}
 use Rattle.go_base.proofs.Seeing.{same_bool-true, same_bool-refl}
 
@@ -95,7 +95,7 @@ stands_all f pos good e h = record { sound = good; each = each }
     on : (q : ℕ) (b : Bool) → (ltb q (f.size * f.size) && b) ≡ true → (q < pos.size * pos.size) × (b ≡ true)
     on q b t = let parts = and_parts _ _ t in (subst (λ n. q < n * n) e (ltb-true q (f.size * f.size) parts.0), parts.1)
 
-    each : (fact : Fact) → told f fact ≡ true → Holds pos fact
+    each : (fact : Fact) → told f fact ≡ true → IsFactOf pos fact
     each (SizeIs n) t = sym e ∙ eqb-true f.size n t
     each (CellIs q x) t = let i = on q _ t in (h q i.0).cell x i.1
     each (BanIs q c b) t = let i = on q _ t in let parts = and_parts _ _ i.1 in (h q i.0).ban c parts.0 ∙ same_bool-true _ _ parts.1

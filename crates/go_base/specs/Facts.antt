@@ -17,15 +17,15 @@ pub data Fact : Type 0 where
   BanIs : ℕ → Colour → Bool → Fact
 
 -- the fact is so on the position
-abbrev pub Holds : BoardState → Fact → Type 0
-Holds pos (SizeIs n) = pos.size ≡ n
-Holds pos (CellIs p cell) = cell_at pos.cells p ≡ cell
-Holds pos (BanIs p c forbidden) = is_banned pos.ban c p ≡ forbidden
+abbrev pub IsFactOf : BoardState → Fact → Type 0
+IsFactOf pos (SizeIs n) = pos.size ≡ n
+IsFactOf pos (CellIs p cell) = cell_at pos.cells p ≡ cell
+IsFactOf pos (BanIs p c forbidden) = is_banned pos.ban c p ≡ forbidden
 
 -- it is a position, and each fact seen is so on it
 pub record Agrees (seen : Fact → Bool) (pos : BoardState) : Type 0 where
   pub sound : IsPosition pos
-  pub each : (fact : Fact) → IsTrue (seen fact) → Holds pos fact
+  pub each : (fact : Fact) → IsTrue (seen fact) → IsFactOf pos fact
 
 -- whatever was seen before is seen now
 pub record Grows (before now : Fact → Bool) : Type 0 where
@@ -89,14 +89,14 @@ IsPosition-prop : (pos : BoardState) → IsProp (IsPosition pos)
 IsPosition-prop pos = hlevel (le_prop, ℕ_set, ban-prop)
 
 -- that a fact is so has one proof at most
-Holds-prop : (pos : BoardState) (fact : Fact) → IsProp (Holds pos fact)
-Holds-prop pos (SizeIs n) = hlevel (ℕ_set pos.size n)
-Holds-prop pos (CellIs p cell) = hlevel ⊎_set
-Holds-prop pos (BanIs p c forbidden) = hlevel ⊎_set
+IsFactOf-prop : (pos : BoardState) (fact : Fact) → IsProp (IsFactOf pos fact)
+IsFactOf-prop pos (SizeIs n) = hlevel (ℕ_set pos.size n)
+IsFactOf-prop pos (CellIs p cell) = hlevel ⊎_set
+IsFactOf-prop pos (BanIs p c forbidden) = hlevel ⊎_set
 
 -- that a position agrees has one proof at most
 pub Agrees-prop : (seen : Fact → Bool) (pos : BoardState) → IsProp (Agrees seen pos)
-Agrees-prop seen pos = hlevel (IsPosition-prop, Holds-prop)
+Agrees-prop seen pos = hlevel (IsPosition-prop, IsFactOf-prop)
 
 -- bans are a set
 pub ban_set : (a b : Option (ℕ × Colour)) → IsProp (a ≡ b)

@@ -11,6 +11,7 @@ ghost use Rattle.go_base.specs.Bits.{is_marked};
 ghost use Rattle.go_base.specs.Facts.{Agrees};
 ghost use Rattle.go_base.specs.Told.{told, seen_as, asked_of, SeesCell, AsksBan, HoldsAt, is_admitted, is_fact_at, same_bool};
 
+use crate::ban::is_banned;
 use crate::bits::PointBits;
 use crate::points::PointSet;
 use crate::position::Position;
@@ -100,16 +101,6 @@ impl Facts {
         is_admitted(cell, empty, black, white)
     }
 
-    /// Whether the ban that was seen is on this play.
-    fn bans(&self, c: Colour, p: Point) -> bool
-        ensures { result ≡ is_banned self.now.ban c p }
-    {
-        match self.ban {
-            Some((q, colour)) => q == p && colour == c,
-            None => false,
-        }
-    }
-
     /// Whether the ban of the colour is as it was seen, if it was.
     fn ban_stands(&self, position: &Position, c: Colour, q: Point) -> bool
         requires { q < largest_points }
@@ -118,7 +109,7 @@ impl Facts {
         if !self.is_asked(c, q) {
             return true;
         }
-        self.bans(c, q) == position.bans(c, q)
+        is_banned(self.ban, c, q) == position.bans(c, q)
     }
 
     /// Whether what was seen at q is so on the position.

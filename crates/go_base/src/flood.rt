@@ -127,7 +127,7 @@ pub fn flood<V: View>(board: &mut V, p: Point) -> Found
 }
 
 /// The stones of the string of p, none where p is empty.
-pub fn string_of<V: View>(board: &mut V, p: Point) -> PointSet
+pub(crate) fn string_of<V: View>(board: &mut V, p: Point) -> PointSet
     requires { p < V.rows board.old * V.rows board.old }
     ensures looks { Looks V.cells V.asks board.old board.new anywhere }
     ensures over { (pos : BoardState) → V.agrees board.new pos

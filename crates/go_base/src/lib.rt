@@ -6,6 +6,7 @@
 //! defines them, and none takes memory.
 #![tactic(auto)]
 
+pub mod ban;
 pub mod bits;
 pub mod boundary;
 pub mod bytes;
@@ -22,7 +23,7 @@ pub mod surroundings;
 mod trail;
 pub mod transform;
 pub mod view;
-pub mod without_liberty;
+mod without_liberty;
 
 pub use bytes::{Bytes, NoMemory};
 pub use facts::Facts;

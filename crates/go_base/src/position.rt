@@ -7,6 +7,7 @@ ghost use Rattle.go_rules.specs.Play.{pass as passed, play as played, play_free 
 ghost use Rattle.go_rules.specs.Strings.{cell_at, string_at, liberty_points, liberties as liberties_at};
 ghost use Rattle.go_base.specs.Positions.{Holds, HoldsWith, position_on};
 
+use crate::ban::is_banned;
 use crate::capture::play_on;
 use crate::flood::{liberties_of, string_of};
 use crate::points::PointSet;
@@ -145,10 +146,7 @@ impl Position {
     pub fn bans(&self, c: Colour, p: Point) -> bool
         ensures { result ≡ is_banned self.now.ban c p }
     {
-        match self.ban {
-            Some((q, colour)) => q == p && colour == c,
-            None => false,
-        }
+        is_banned(self.ban, c, p)
     }
 
     /// The position after c plays at p, with the ban dropped first: Occupied or Suicide, as for `play`, and never Ko.

@@ -60,7 +60,7 @@ fn reaches_empty<V: View>(board: &mut V, own: Cell, q: Point, trail: &mut Trail)
 
 /// The stones of the string of p, where p holds a stone and its string has no liberty; else None. It looks at the stones and their
 /// neighbours, and no further once it has seen a liberty. It takes no memory.
-pub fn string_without_liberty<V: View>(board: &mut V, p: Point) -> Option<PointSet>
+pub(crate) fn string_without_liberty<V: View>(board: &mut V, p: Point) -> Option<PointSet>
     requires { p < V.rows board.old * V.rows board.old }
     ensures looks { Looks V.cells V.asks board.old board.new anywhere }
     ensures over { (pos : BoardState) → V.agrees board.new pos

@@ -21,6 +21,7 @@ use crate::moves::{MAX_TRIAL_MOVES, TrialMove, TrialPlay, Tried};
 use crate::overlay::{Change, Overlay};
 use go_base::boundary::boundary_of;
 use go_base::capture::play_on;
+use go_base::ban::is_banned;
 use go_base::flood::liberties_of;
 use go_base::points::PointSet;
 use go_base::size::{MAX_POINTS, Point, Size};
@@ -68,16 +69,6 @@ fn is_refused(banned: bool, allow: bool) -> bool
     ensures { result ≡ (banned && not allow) }
 {
     banned && !allow
-}
-
-/// Whether the ban is on this play.
-fn is_on(ban: Option<(Point, Colour)>, c: Colour, p: Point) -> bool
-    ensures { result ≡ is_banned ban c p }
-{
-    match ban {
-        Some((q, colour)) => q == p && colour == c,
-        None => false,
-    }
 }
 
 impl<L: Look> Trial<L> {
@@ -195,7 +186,7 @@ impl<L: Look> Trial<L> {
         if self.standing == 0 {
             return self.board.look.ko(p, c);
         }
-        is_on(self.ban, c, p)
+        is_banned(self.ban, c, p)
     }
 
     /// Adds a pass, which lifts the ban.

@@ -1,0 +1,17 @@
+//! The test of the ko ban.
+
+ghost use Rattle.std.specs.Prelude.{◌≡◌};
+ghost use Rattle.go_rules.specs.Position.{is_banned};
+
+use crate::size::Point;
+use go_rules::Colour;
+
+/// Whether the ban is on the play of c at p. It is on at most one play.
+pub fn is_banned(ban: Option<(Point, Colour)>, c: Colour, p: Point) -> bool
+    ensures { result ≡ is_banned ban c p }
+{
+    match ban {
+        Some((q, colour)) => q == p && colour == c,
+        None => false,
+    }
+}
