@@ -5,24 +5,30 @@ use Rattle.std.proofs.lemmas.Nat.{div-mul-add, mod-mul-add, div_below, mod_below
 use Rattle.go_rules.specs.Board.{largest_size, largest_points, are_neighbours, are_one_apart}
 use Rattle.go_base.specs.Sides.{neighbour_at}
 
+-- row r and column c are those of point r * s + c
 row_column : (s p r c : ℕ) → c < s → p ≡ r * s + c → (p / s ≡ r) × (p % s ≡ c)
 row_column s p r c h e = rw e (div-mul-add r s c h, mod-mul-add r s c h)
 
+-- numbers of which one follows the other pass the test
 are_one_apart-from : (a b : ℕ) → (a ≡ b + 1) ⊎ (b ≡ a + 1) → are_one_apart a b ≡ true
 are_one_apart-from a b (inl e) = or_left _ _ (eq-eqb _ _ e)
 are_one_apart-from a b (inr e) = or_right _ _ (eq-eqb _ _ e)
 
+-- of numbers that pass the test one follows the other
 are_one_apart-true : (a b : ℕ) → are_one_apart a b ≡ true → (a ≡ b + 1) ⊎ (b ≡ a + 1)
 are_one_apart-true a b h = elim (or_cases _ _ h) [ inl e ↦ inl (eqb-true _ _ e) | inr e ↦ inr (eqb-true _ _ e) ]
 
+-- points of one row whose columns follow one another are neighbours
 next_in_row : (s p q : ℕ) → p / s ≡ q / s → are_one_apart (p % s) (q % s) ≡ true → are_neighbours s p q ≡ true
 unfolding are_neighbours
 next_in_row s p q e h = or_left _ _ (and_from _ _ (eq-eqb _ _ e) h)
 
+-- points of one column whose rows follow one another are neighbours
 next_in_column : (s p q : ℕ) → p % s ≡ q % s → are_one_apart (p / s) (q / s) ≡ true → are_neighbours s p q ≡ true
 unfolding are_neighbours
 next_in_column s p q e h = or_right _ _ (and_from _ _ (eq-eqb _ _ e) h)
 
+-- neighbours stand in one row and columns that follow one another, or the other way about
 next_cases : (s p q : ℕ) → are_neighbours s p q ≡ true → ((p / s ≡ q / s) × ((p % s ≡ q % s + 1) ⊎ (q % s ≡ p % s + 1))) ⊎ ((p % s ≡ q % s) × ((p / s ≡ q / s + 1) ⊎ (q / s ≡ p / s + 1)))
 unfolding are_neighbours
 next_cases s p q h = elim (or_cases _ _ h) [
@@ -57,6 +63,7 @@ record Placed (s p : ℕ) : Type 0 where
   column_is : p % s ≡ c
   positive : 0 < s
 
+-- a point of the board has a row and a column on it
 placed : (s p : ℕ) → p < s * s → Placed s p
 placed s p h =
     let pos : 0 < s = elim (cases_eq s 0) [ inl e ↦ absurd (let z : p < 0 * 0 = rw e at h in omega arith) | inr ne ↦ omega arith ] in
@@ -70,6 +77,7 @@ below s p h l =
     let its = row_column s (p + s) (suc m.r) m.c m.c_in f in
     next_in_column s p (p + s) (m.column_is ∙ sym its.1) (are_one_apart-from _ _ (inr (its.0 ∙ (let g : suc m.r ≡ m.r + 1 = omega arith in g) ∙ ap (λ n. n + 1) (sym m.row_is))))
 
+-- the point before one that is not first in its row is its neighbour
 left : (s p : ℕ) → p < s * s → (p % s ≡ 0 → ⊥) → (p - 1 < s * s) × (are_neighbours s p (p - 1) ≡ true)
 left s p h l =
     let m = placed s p h in
@@ -78,6 +86,7 @@ left s p h l =
     let its = row_column s (p - 1) m.r (m.c - 1) (omega (arith, m.c_in)) f in
     (omega arith, next_in_row s p (p - 1) (m.row_is ∙ sym its.0) (are_one_apart-from (p % s) ((p - 1) % s) (inl (omega (arith, m.column_is, its.1, c_pos)))))
 
+-- the point after one that is not last in its row is its neighbour
 right : (s p : ℕ) → p < s * s → (p % s + 1 ≡ s → ⊥) → (p + 1 < s * s) × (are_neighbours s p (p + 1) ≡ true)
 right s p h l =
     let m = placed s p h in
@@ -146,7 +155,7 @@ neighbour_at-all s p q h k n =
           ]
     ]
 
--- a board has at most 361 points
+-- a board has no more points than the largest one
 pub square_small : (s : ℕ) → s ≤ largest_size → s * s ≤ largest_points
 square_small s h = mul-le s s largest_size largest_size h h
 
@@ -154,17 +163,22 @@ square_small s h = mul-le s s largest_size largest_size h h
 abbrev pub IsNear : ℕ → ℕ → ℕ → Type 0
 IsNear s p q = (q < s * s) × (q < largest_points) × (are_neighbours s p q ≡ true)
 
+-- a neighbour on a board is one on the largest board too
 near_from : (s p q : ℕ) → s ≤ largest_size → (q < s * s) × (are_neighbours s p q ≡ true) → IsNear s p q
 near_from s p q small h = (h.0, omega (arith, square_small s small, h.0), h.1)
 
+-- the point above is a neighbour
 pub near_above : (s t p : ℕ) → t ≡ s → s ≤ largest_size → p < s * s → t ≤ p → IsNear s p (p - t)
 near_above s t p e small h l = let l' : s ≤ p = rw e at l in rw e (near_from s p (p - s) small (above s p h l'))
 
+-- the point below is a neighbour
 pub near_below : (s t p : ℕ) → t ≡ s → s ≤ largest_size → p < s * s → p + t < t * t → IsNear s p (p + t)
 near_below s t p e small h l = let l' = rw e at l in rw e (near_from s p (p + s) small (l', below s p h l'))
 
+-- the point to the left is a neighbour
 pub near_left : (s t p : ℕ) → t ≡ s → s ≤ largest_size → p < s * s → (p % t ≡ 0 → ⊥) → IsNear s p (p - 1)
 near_left s t p e small h l = let l' = rw e at l in near_from s p (p - 1) small (left s p h l')
 
+-- the point to the right is a neighbour
 pub near_right : (s t p : ℕ) → t ≡ s → s ≤ largest_size → p < s * s → (p % t + 1 ≡ t → ⊥) → IsNear s p (p + 1)
 near_right s t p e small h l = let l' = rw e at l in near_from s p (p + 1) small (right s p h l')

@@ -26,6 +26,7 @@ kept_length a k small =
     let back = ap length k.padded ∙ length-replicate (largest_points - a.size * a.size) Empty in
     ap length (sym (take-append-drop (a.size * a.size) a.cells)) ∙ length-append (take (a.size * a.size) a.cells) (drop (a.size * a.size) a.cells) ∙ omega (arith, few, front, back)
 
+-- the board that a position is kept as holds the position
 pub holds_of : (a : Inside) (pos : BoardState) → position_of a ≡ pos → IsKept a → a.size ≤ largest_size → Holds pos (record { size = a.size; cells = a.cells })
 holds_of a pos e k small = record {
   position = subst IsPosition e k.position;
@@ -35,9 +36,11 @@ holds_of a pos e k small = record {
   padded = k.padded;
 }
 
+-- a board that keeps the rest is as long as before
 pub whole_after : (old new : Flat) → KeepsRest old new → (length old.cells ≡ largest_points) × (old.size ≤ largest_size) → (length new.cells ≡ largest_points) × (new.size ≤ largest_size)
 whole_after old new k w = (k.length ∙ w.0, subst (λ n. n ≤ largest_size) (sym k.size) w.1)
 
+-- the code's test for a stone is that of the definition
 pub stone_is_test : (a : Inside) (p : ℕ) (r : Bool) → p < a.size * a.size → r ≡ not (sameb the_type (cell_at a.cells p) Empty) → r ≡ is_stone (cell_at (take (a.size * a.size) a.cells) p)
 stone_is_test a p r on e = e ∙ stone_test (cell_at a.cells p) ∙ ap is_stone (sym (get_or-take (a.size * a.size) a.cells p Empty on))
 
@@ -53,17 +56,21 @@ module _ {pos : BoardState} {old new : Flat} (c : Colour) (p : ℕ) (result : Re
   board_is : board_of old.size (take (old.size * old.size) old.cells) ≡ board_of pos.size pos.cells
   board_is = ap (λ n. board_of n (take (old.size * old.size) old.cells)) h.size ∙ ap (board_of pos.size) h.cells
 
+  -- the cells of a position without its ban are a position
   board_good : IsPosition (board_of pos.size pos.cells)
   board_good = record { size_at_least = h.position.size_at_least; size_at_most = h.position.size_at_most; cells = h.position.cells; alive = h.position.alive; ban = tt }
 
+  -- the play on the board is the play of the rules
   pub held_free : played_on old.size (take (new.size * new.size) new.cells) result ≡ play_free pos c p
   held_free = sym (over pos (whole_after old new k h.whole) (subst IsPosition (sym board_is) board_good)) ∙ ap (λ b. play_free b c p) board_is ∙ free_board pos c p
 
 module _ {pos : BoardState} {old new : Flat} (c : Colour) (p : ℕ) (ban : Option (ℕ × Colour)) (h : Holds pos old) (k : KeepsRest old new)
     (is : played_on old.size (take (new.size * new.size) new.cells) (Ok ban) ≡ play_free pos c p) where
+  -- a play that is done gives the position of the rules
   pub held_done : Ok (position_of (record { size = new.size; ban = ban; cells = new.cells })) ≡ play_free pos c p
   held_done = ap (λ (n : ℕ). Ok (record { size = n; cells = take (new.size * new.size) new.cells; ban = ban })) k.size ∙ is
 
+  -- and what is kept of it is the position and the empty rest
   pub held_kept : p < pos.size * pos.size → IsKept (record { size = new.size; ban = ban; cells = new.cells })
   held_kept on = record {
     position = free_keeps pos c p (position_of (record { size = new.size; ban = ban; cells = new.cells })) h.position on (sym held_done);

@@ -11,9 +11,11 @@ use Rattle.go_rules.proofs.Tests.{or-false}
 abbrev pub JoinedBelow : sets.FinSet nat_cmp → sets.FinSet nat_cmp → ℕ → sets.FinSet nat_cmp → Type 0
 JoinedBelow old more n new = (r : ℕ) → sets.contains new r ≡ (sets.contains old r || (ltb r n && sets.contains more r))
 
+-- no member below 0 came
 pub joined_none : (old more : sets.FinSet nat_cmp) → JoinedBelow old more 0 old
 joined_none old more r = rw (le-ltb r 0 (omega arith)) (or-false _)
 
+-- a number is n, or below n + 1 exactly where it is below n
 joined_step : (old more : sets.FinSet nat_cmp) (n : ℕ) (r : ℕ) → r ≡ n ⊎ (ltb r (n + 1) ≡ ltb r n)
 joined_step old more n r = elim (cases_eq r n) [
   | inl e ↦ inl e
@@ -23,10 +25,12 @@ joined_step old more n r = elim (cases_eq r n) [
   ]
 ]
 
+-- a test or one that passes passes
 or-true : (a : Bool) → (a || true) ≡ true
 or-true true = refl
 or-true false = refl
 
+-- the member n came
 joined_add : (old more new : sets.FinSet nat_cmp) (n : ℕ) → JoinedBelow old more n new → sets.contains more n ≡ true → JoinedBelow old more (n + 1) (sets.insert new n)
 joined_add old more new n h hit r = contains-insert_nat new n r ∙ elim (joined_step old more n r) [
   | inl e ↦ rw (e, eq-eqb n n refl, lt-ltb n (n + 1) (omega arith), hit) (sym (or-true _))
@@ -51,6 +55,7 @@ pub joined_next : (old more new : sets.FinSet nat_cmp) (n m : ℕ) → n ≤ m �
     → JoinedBelow old more (m + 1) (sets.insert new m)
 joined_next old more new n m l h none hit = joined_add old more new m (joined_jump old more new n m l h none) hit
 
+-- where no member is left, all of the other set came
 pub joined_all : (old more new : sets.FinSet nat_cmp) (n : ℕ) → JoinedBelow old more n new → ((r : ℕ) → n ≤ r → sets.contains more r ≡ false) → new ≡ sets.union old more
 joined_all old more new n h above = same_nat_set _ _ (λ r. h r ∙ elim (cases_lt r n) [
   | inl l ↦ rw (lt-ltb r n l) refl

@@ -45,9 +45,11 @@ pub AddsLast-seen : (s : ℕ) (cells : List Cell) (q : ℕ) (seen last : sets.Fi
 AddsLast-seen s cells q seen last knows h = record { kept = λ l i. i; only = λ l i. inl i; all = λ l i. knows q h l i }
 
 module _ (s : ℕ) (cells : List Cell) (q n : ℕ) (found old : sets.FinSet nat_cmp) (e : found ≡ liberty_points s cells q) (count : n ≡ sets.len found) where
+  -- the liberties of the string are counted
   how_many : n ≡ liberties s cells q
   how_many = count ∙ ap sets.len e ∙ len-liberty_points s cells q
 
+  -- the set has the liberties of the string
   its : (l : ℕ) → sets.contains found l ≡ is_liberty s cells q l
   its l = ap (λ t. sets.contains t l) e ∙ contains-liberty_points s cells q l
 

@@ -27,6 +27,7 @@ pub record LowestFrom (word from at : ℕ) : Type 0 where
   pub hit : bit_at word at ≡ 1
   pub misses : (k : ℕ) → from ≤ k → k < at → bit_at word k ≡ 0
 
+-- the lowest bit that is not below a place is found by the zeros behind it
 pub lowest_from : (word from : ℕ) → word < 2 ^ 64 → 0 < word / 2 ^ from → LowestFrom word from (from + trailing_zeros w64 (word / 2 ^ from))
 lowest_from word from fits some =
     let rest : ℕ = word / 2 ^ from in
@@ -63,6 +64,7 @@ module _ (words : List ℕ) (p from bit : ℕ) (low : p ≤ from) (before : (r :
   is_marked-found small hit = rw (div-mul-add (from / 64) 64 bit small, mod-mul-add (from / 64) 64 bit small, hit) refl
 
 module _ (words : List ℕ) (p q : ℕ) (low : p ≤ q) (before : (r : ℕ) → p ≤ r → r < q → is_marked words r ≡ false) where
+  -- no point before the one found is in the set
   not_before : (r : ℕ) → p ≤ r → r < q → sets.contains (marked words) r ≡ false
   not_before r l m = contains-marked words r ∙ ap (λ b. ltb r largest_points && b) (before r l m) ∙ and-false (ltb r largest_points)
 

@@ -14,10 +14,12 @@ use Rattle.go_rules.proofs.Counts.{count_below_at_most}
 use Rattle.go_rules.proofs.Tests.{and-false}
 use Rattle.go_base.specs.Bits.{set_words, is_marked, marked}
 
+-- the set that words keep has the points of the largest board that are marked
 pub contains-marked : (words : List ℕ) (q : ℕ) → sets.contains (marked words) q ≡ (ltb q largest_points && is_marked words q)
 unfolding marked
 contains-marked words q = contains-set_below largest_points (is_marked words) q
 
+-- it has no more members than the largest board has points
 pub len-marked : (words : List ℕ) → sets.len (marked words) ≤ largest_points
 unfolding marked
 len-marked words = rw (len-set_below largest_points (is_marked words)) (count_below_at_most largest_points (is_marked words))
@@ -40,11 +42,13 @@ marked-none = same_nat_set _ _ (λ q. contains-marked _ q ∙ ap (λ b. ltb q la
 abbrev pub with_bit : List ℕ → ℕ → List ℕ
 with_bit words p = set words (p / 64) (bit_or (get_or words (p / 64) 0) (1 * 2 ^ (p % 64) % 18446744073709551616))
 
+-- with one more bit its point is marked
 pub is_marked-with_bit_same : (words : List ℕ) (p : ℕ) → p / 64 < length words → is_marked (with_bit words p) p ≡ true
 is_marked-with_bit_same words p h =
     let r : p % 64 < 64 = omega arith in
     ap (λ n. eqb (bit_at n (p % 64)) 1) (get_or-set_same words (p / 64) _ 0 h) ∙ ap (λ n. eqb n 1) (bit_at_set_same w64 (get_or words (p / 64) 0) (p % 64) r)
 
+-- and each other point is marked as before
 pub is_marked-with_bit_other : (words : List ℕ) (p q : ℕ) → p / 64 < length words → q ≢ p → is_marked (with_bit words p) q ≡ is_marked words q
 is_marked-with_bit_other words p q h ne =
     let r : p % 64 < 64 = omega arith in
@@ -55,6 +59,7 @@ is_marked-with_bit_other words p q h ne =
       | inr f ↦ ap (λ n. eqb (bit_at n (q % 64)) 1) (get_or-set_other words (p / 64) (q / 64) _ 0 f)
     ]
 
+-- with one more bit the set has one more member
 pub marked-with_bit : (words : List ℕ) (p : ℕ) → length words ≡ set_words → p < largest_points → marked (with_bit words p) ≡ sets.insert (marked words) p
 marked-with_bit words p six h =
     let in_words : p / 64 < length words = omega arith in
@@ -74,14 +79,17 @@ marked_bit words p = ap (λ n. eqb n 1) (shr_and_one (get_or words (p / 64) 0) (
 pub has_bit : (words : List ℕ) (p : ℕ) → p < largest_points → eqb (bit_and (get_or words (p / 64) 0 / 2 ^ (p % 64)) 1) 1 ≡ sets.contains (marked words) p
 has_bit words p h = marked_bit words p ∙ sym (contains-marked words p ∙ ap (λ b. b && is_marked words p) (lt-ltb p largest_points h))
 
+-- and counts one more, if it is new
 pub len-with_bit : (words : List ℕ) (p : ℕ) → length words ≡ set_words → p < largest_points → sets.contains (marked words) p ≡ false → sets.len (marked (with_bit words p)) ≡ sets.len (marked words) + 1
 len-with_bit words p six h new = ap sets.len (marked-with_bit words p six h) ∙ sets.len-insert nat_cmp_total (marked words) p ∙ ap (λ b. cond b (sets.len (marked words)) (sets.len (marked words) + 1)) new
 
+-- a member that is inserted again changes nothing
 pub insert-member : (s : sets.FinSet nat_cmp) (p : ℕ) → sets.contains s p ≡ true → s ≡ sets.insert s p
 insert-member s p h = same_nat_set _ _ (λ q. elim (cases_eq q p) as (λ _. sets.contains s q ≡ sets.contains (sets.insert s p) q) [
   | inl e ↦ rw (e, contains-insert_nat s p p, eq-eqb p p refl) h
   | inr ne ↦ rw (contains-insert_nat s p q, ne_eqb q p ne) refl
 ])
 
+-- no number above the points of the largest board is in the set
 pub contains-above : (words : List ℕ) (q : ℕ) → largest_points ≤ q → sets.contains (marked words) q ≡ false
 contains-above words q h = contains-marked words q ∙ ap (λ b. b && is_marked words q) (le-ltb q largest_points h)

@@ -71,9 +71,11 @@ record Joined (s : ℕ) (old : List Cell) (c : Colour) (p y : ℕ) : Type 0 wher
   its : cell_at old y ≡ stone_of c
 
 module _ {s : ℕ} {old put after : List Cell} {c : Colour} {p : ℕ} {taken : sets.FinSet nat_cmp} (h : Leaves s old put after c p taken) where
+  -- the stone stands at p
   put_here : cell_at put p ≡ stone_of c
   put_here = ap (λ t. cell_at t p) h.put_is ∙ at_put_same old p (stone_of c) (omega (arith, h.whole, h.on_board))
 
+  -- each other point is as before
   put_there : (q : ℕ) → q ≢ p → cell_at old q ≡ cell_at put q
   put_there q ne = sym (ap (λ t. cell_at t q) h.put_is ∙ at_put_other old p q (stone_of c) ne)
 
@@ -81,6 +83,7 @@ module _ {s : ℕ} {old put after : List Cell} {c : Colour} {p : ℕ} {taken : s
   close_side : (q : ℕ) → q < s * s → are_neighbours s p q ≡ true → neighbourhood_of s old (alone p) q ≡ true
   close_side q on n = close_next s old (alone p) p q on (whole_self s old (alone p) p h.on_board (alone_self p)) n
 
+  -- what is near to what the play takes is in the neighbourhood of the neighbourhood of p
   pub twice_taken : (r : ℕ) → near_taken s put c p r ≡ true → twice s old p r ≡ true
   unfolding near_taken
   twice_taken r t =
@@ -127,9 +130,11 @@ module _ {s : ℕ} {old put after : List Cell} {c : Colour} {p : ℕ} {taken : s
         ]
   ]
 
+  -- a stone that the play joins is in the string of a neighbour of p
   whole_joined : (y : ℕ) → Joined s old c p y → whole_strings_of s old (neighbourhood_of s old (alone p)) y ≡ true
   whole_joined y j = whole_string s old (neighbourhood_of s old (alone p)) j.x y j.x_on (close_side j.x j.x_on j.x_near) j.inside
 
+  -- a point of the string of the played stone is p, or was joined by it
   own_cases : (y : ℕ) → whole_strings_of s after (alone p) y ≡ true → (y ≡ p) ⊎ Joined s old c p y
   own_cases y w = elim (whole_cases s after (alone p) y w) [
     | inl e ↦ inl (eqb-true y p e)
@@ -147,6 +152,7 @@ module _ {s : ℕ} {old put after : List Cell} {c : Colour} {p : ℕ} {taken : s
             | inr f ↦ at ∙ ap (λ b. cond b Empty (cell_at put p)) f ∙ put_here
           ]
 
+  -- the neighbourhood of the played stone after the play lies within that of the neighbourhood of p before it
   pub twice_own : (r : ℕ) → neighbourhood_of s after (alone p) r ≡ true → twice s old p r ≡ true
   twice_own r t = elim (closeness s after (alone p) r t) [
     | within w ↦ elim (own_cases r w) [

@@ -25,22 +25,28 @@ pub record PlaysOn (s : ℕ) (old put after : List Cell) (c : Colour) (p : ℕ) 
   pub after_is : after ≡ map (λ q. cond (sets.contains taken q) Empty (cell_at put q)) (range_with_len 0 (s * s))
 
 module _ {s : ℕ} {old put after : List Cell} {c : Colour} {p : ℕ} {taken : sets.FinSet nat_cmp} (h : PlaysOn s old put after c p taken) where
+  -- what the play takes hangs on a neighbour of its point
   pub plays_beside : TakenBeside s put c p
   plays_beside = subst (λ t. TakenBeside s t c p) (sym h.put_is) (taken_beside (board_of s old) h.good c p h.on_board (empty_from _ h.is_empty))
 
+  -- what was gathered is what the rules take
   pub plays_taken : taken ≡ taken_at s put c
   plays_taken = h.taken_is plays_beside
 
+  -- the cells with the stone put are as many as before
   plays_length : length put ≡ s * s
   plays_length = ap length h.put_is ∙ length-set old p (stone_of c) ∙ h.good.cells
 
+  -- the cells afterwards are those of the rules
   pub plays_after : after ≡ after_on (board_of s old) c p
   plays_after = h.after_is ∙ ap (λ n. map (λ q. cond (sets.contains taken q) Empty (cell_at put q)) (range_with_len 0 n)) (sym plays_length)
       ∙ after_from s put c taken plays_taken plays_length ∙ ap (λ t. cells_after s t c) h.put_is
 
+  -- a stone without a liberty is suicide by the rules
   pub plays_suicide : liberties s after p ≡ 0 → play_free (board_of s old) c p ≡ Err Suicide
   plays_suicide z = sym (free_suicide (board_of s old) c p h.is_empty (ap (λ t. liberties s t p) (sym plays_after) ∙ z))
 
+  -- else the play is done by the rules
   pub plays_done : (ban : Option (ℕ × Colour)) → liberties s after p ≢ 0 → ((put : List Cell) → taken ≡ taken_at s put c → ban ≡ ban_after s put after c p)
       → play_free (board_of s old) c p ≡ Ok (record { size = s; cells = after; ban = ban })
   plays_done ban nz b =

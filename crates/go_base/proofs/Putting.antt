@@ -15,6 +15,7 @@ pub record PutOn (cell : Cell) (points : sets.FinSet nat_cmp) (old new : List Ce
   pub done : (k : ℕ) → k < n → cell_at new k ≡ cond (sets.contains points k) cell (cell_at old k)
   pub rest : (k : ℕ) → n ≤ k → cell_at new k ≡ cell_at old k
 
+-- nothing was put on the points below 0
 pub PutOn-none : (cell : Cell) (points : sets.FinSet nat_cmp) (old : List Cell) → PutOn cell points old old 0
 PutOn-none cell points old = record { done = λ k l. absurd (omega arith); rest = λ k l. refl }
 
@@ -28,6 +29,7 @@ PutOn-jump cell points old new n m l h none = record {
   rest = λ k i. h.rest k (omega arith);
 }
 
+-- the cell was put on a point of the set
 PutOn-hit : (cell : Cell) (points : sets.FinSet nat_cmp) (old new : List Cell) (n : ℕ) → PutOn cell points old new n → n < length new → sets.contains points n ≡ true → PutOn cell points old (set new n cell) (n + 1)
 PutOn-hit cell points old new n h i t = record {
   done = λ k l. elim (cases_eq k n) [

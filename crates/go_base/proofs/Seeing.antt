@@ -69,6 +69,7 @@ module _ (f g : Facts) (pos : BoardState) (a : Agrees (told f) pos) (p : ℕ) (o
   size_was : (n : ℕ) → told g (SizeIs n) ≡ true → told f (SizeIs n) ≡ true
   size_was n h = eq-eqb f.size n (sym sees.size ∙ eqb-true g.size n h)
 
+  -- and so was what is told of a ban
   ban_was : (q : ℕ) (c : Colour) (b : Bool) → told g (BanIs q c b) ≡ true → told f (BanIs q c b) ≡ true
   ban_was q c b h = sym (same_bans f.size g.size f.ban g.ban (asked_of f c) (asked_of g c) q c b sees.size sees.ban (sees.bans c)) ∙ h
 
@@ -92,6 +93,7 @@ module _ (f g : Facts) (pos : BoardState) (a : Agrees (told f) pos) (p : ℕ) (o
 
 -- It was asked whether the ban of a position forbids c to play at p, over facts that agree with it and have its ban.
 module _ (f g : Facts) (pos : BoardState) (a : Agrees (told f) pos) (same : f.ban ≡ pos.ban) (p : ℕ) (on : p < pos.size * pos.size) (c : Colour) (asks : AsksBan f g p c) where
+  -- the facts still have the ban of the position
   now_same : g.ban ≡ pos.ban
   now_same = asks.ban ∙ same
 

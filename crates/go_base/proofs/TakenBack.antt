@@ -41,15 +41,19 @@ same_board : (n : ℕ) (a b : List Cell) → length a ≡ n → length b ≡ n �
 same_board n a b la lb h = fill_by_all (cell_at b) a n Empty la h ∙ sym (fill_by_all (cell_at b) b n Empty lb (λ k on. refl))
 
 module _ {s : ℕ} {old put after : List Cell} {c : Colour} {p : ℕ} {taken : sets.FinSet nat_cmp} (h : PlaysOn s old put after c p taken) where
+  -- the stone stood at p
   put_here : cell_at put p ≡ stone_of c
   put_here = ap (λ t. cell_at t p) h.put_is ∙ at_put_same old p (stone_of c) (omega (arith, h.good.cells, h.on_board))
 
+  -- each other point was as before it
   put_there : (q : ℕ) → q ≢ p → cell_at old q ≡ cell_at put q
   put_there q ne = sym (ap (λ t. cell_at t q) h.put_is ∙ at_put_other old p q (stone_of c) ne)
 
+  -- a point is empty where its stone was taken, and else as the put left it
   after_at : (q : ℕ) → q < s * s → cell_at after q ≡ cond (sets.contains taken q) Empty (cell_at put q)
   after_at q on = ap (λ t. cell_at t q) h.after_is ∙ get_or-map-range_with_len _ 0 (s * s) q q Empty on (omega arith)
 
+  -- the cells are as many as the points
   after_length : length after ≡ s * s
   after_length = ap length h.after_is ∙ length-map-range_with_len _ 0 (s * s)
 
@@ -72,6 +76,7 @@ module _ {s : ℕ} {old put after : List Cell} {c : Colour} {p : ℕ} {taken : s
     | inr f ↦ f
   ]
 
+  -- the stone stands at p after the play
   pub after_here : cell_at after p ≡ stone_of c
   after_here = after_at p h.on_board ∙ ap (λ b. cond b Empty (cell_at put p)) own_stays ∙ put_here
 

@@ -26,6 +26,7 @@ pub record Takes (s : ℕ) (put : List Cell) (c : Colour) (p n : ℕ) (taken : s
   pub whole : HasWholeStrings s put taken
   pub all : (k : ℕ) → k < n → (r : ℕ) → neighbour_at s p k ≡ Some r → is_taken s put c r ≡ true → (q : ℕ) → Path s put r q → sets.contains taken q ≡ true
 
+-- no side was visited
 pub Takes-none : (s : ℕ) (put : List Cell) (c : Colour) (p : ℕ) (taken : sets.FinSet nat_cmp) → taken ≡ sets.empty → Takes s put c p 0 taken
 Takes-none s put c p taken e = record {
   only = λ q h. absurd (both_ways (sets.contains taken q) (ap (λ t. sets.contains t q) e ∙ sets.contains-empty nat_cmp q) h);
@@ -33,6 +34,7 @@ Takes-none s put c p taken e = record {
   all = λ k l. absurd (omega arith);
 }
 
+-- the next side gave nothing that is taken
 Takes-skip : (s : ℕ) (put : List Cell) (c : Colour) (p n : ℕ) (taken : sets.FinSet nat_cmp) → Takes s put c p n taken
     → ((r : ℕ) → neighbour_at s p n ≡ Some r → is_taken s put c r ≡ true → ⊥) → Takes s put c p (n + 1) taken
 Takes-skip s put c p n taken h none = record {
@@ -44,15 +46,18 @@ Takes-skip s put c p n taken h none = record {
   ];
 }
 
+-- a point that a path leads to is in the string
 string_has : (s : ℕ) (cells : List Cell) (r q : ℕ) → r < s * s → is_stone (cell_at cells r) ≡ true → Path s cells r q → sets.contains (string_at s cells r) q ≡ true
 unfolding string_at
 string_has s cells r q on stone path =
     contains-set_below (s * s) (is_in_string s cells r) q ∙ and_from _ _ (lt-ltb q (s * s) (path_on_board s cells r on path)) (is_is_in_string-from_fact s cells r q on (record { stone = stone; path = path }))
 
+-- a path leads to each point of the string
 string_path : (s : ℕ) (cells : List Cell) (r q : ℕ) → sets.contains (string_at s cells r) q ≡ true → Path s cells r q
 unfolding string_at
 string_path s cells r q h = (IsInString-from_test s cells r q (and_parts _ _ (sym (contains-set_below (s * s) (is_in_string s cells r) q) ∙ h)).1).path
 
+-- the next side gave a string that is taken
 Takes-add : (s : ℕ) (put : List Cell) (c : Colour) (p n r : ℕ) (taken new : sets.FinSet nat_cmp) → Takes s put c p n taken → r < s * s
     → neighbour_at s p n ≡ Some r → is_taken s put c r ≡ true → new ≡ sets.union taken (string_at s put r) → Takes s put c p (n + 1) new
 Takes-add s put c p n r taken new h on e t is =
@@ -88,6 +93,7 @@ Takes-next s put c p n r taken new h on e is = elim (cases_Bool (is_taken s put 
 pub Takes-nothing : (s : ℕ) (put : List Cell) (c : Colour) (p n : ℕ) (taken : sets.FinSet nat_cmp) → Takes s put c p n taken → ((r : ℕ) → neighbour_at s p n ≡ Some r → ⊥) → Takes s put c p (n + 1) taken
 Takes-nothing s put c p n taken h none = Takes-skip s put c p n taken h (λ r e t. none r e)
 
+-- after the four sides all that the rules take is there
 pub Takes-all : (s : ℕ) (put : List Cell) (c : Colour) (p n : ℕ) (taken : sets.FinSet nat_cmp) → p < s * s → 4 ≤ n → Takes s put c p n taken → TakenBeside s put c p → taken ≡ taken_at s put c
 unfolding taken_at
 Takes-all s put c p n taken on four h beside =

@@ -10,18 +10,22 @@ use Rattle.go_rules.proofs.Sets.{contains-insert_nat}
 use Rattle.go_rules.proofs.Tests.{eqb_comm}
 use Rattle.go_base.specs.Trails.{has_point, add_once, IsTrail}
 
+-- which of two tests comes first does not matter
 or_swapped : (a b c : Bool) → (a || (b || c)) ≡ (b || (a || c))
 or_swapped true true c = refl
 or_swapped true false c = refl
 or_swapped false b c = refl
 
+-- a list with one more point has it and its own points
 pub has_push : (points : List ℕ) (p q : ℕ) → has_point (points ++ p ∷ []) q ≡ (eqb p q || has_point points q)
 has_push [] p q = refl
 has_push (x ∷ points) p q = ap (λ b. eqb x q || b) (has_push points p q) ∙ or_swapped (eqb x q) (eqb p q) _
 
+-- a trail is as long as its set has members
 pub view_length : (members : sets.FinSet nat_cmp) (order : List ℕ) → IsTrail members order → length (take (sets.len members) order) ≡ sets.len members
 view_length members order t = simp length-take (omega (arith, t.few, t.whole))
 
+-- a new point comes at the end of the trail
 pub view_add : (members : sets.FinSet nat_cmp) (order : List ℕ) (p n : ℕ) → IsTrail members order → sets.contains members p ≡ false → n ≡ sets.len (sets.insert members p) → n ≤ largest_points
     → (n ≡ sets.len members + 1) × (take n (set order (n - 1) p) ≡ take (sets.len members) order ++ p ∷ [])
 view_add members order p n t new is small =
@@ -29,6 +33,7 @@ view_add members order p n t new is small =
     let f : n - 1 ≡ sets.len members = omega arith in
     (e, rw f (take-set_at order (sets.len members) n p e (omega (arith, t.whole))))
 
+-- and the trail and its set stay in step
 pub IsTrail-add : (members : sets.FinSet nat_cmp) (order : List ℕ) (p n : ℕ) → IsTrail members order → sets.contains members p ≡ false → n ≡ sets.len (sets.insert members p) → n ≤ largest_points
     → IsTrail (sets.insert members p) (set order (n - 1) p)
 IsTrail-add members order p n t new is small =
@@ -40,6 +45,7 @@ IsTrail-add members order p n t new is small =
           ∙ sym (ap (λ k. has_point (take k (set order (n - 1) p)) q) (sym is) ∙ ap (λ xs. has_point xs q) v.1 ∙ has_push (take (sets.len members) order) p q);
     }
 
+-- no point is a trail
 pub IsTrail-none : (order : List ℕ) → length order ≡ largest_points → IsTrail sets.empty order
 IsTrail-none order whole = record {
   whole = whole;
@@ -47,13 +53,11 @@ IsTrail-none order whole = record {
   same = λ q. sets.contains-empty nat_cmp q ∙ sym (ap (λ k. has_point (take k order) q) (sets.len-empty nat_cmp));
 }
 
+-- the trail of the empty set is empty
 pub view_none : (members : sets.FinSet nat_cmp) (order : List ℕ) → members ≡ sets.empty → take (sets.len members) order ≡ []
 view_none members order e = let z : sets.len members ≡ 0 = ap sets.len e ∙ sets.len-empty nat_cmp in rw z refl
 
+-- a new point is added
 pub add_once_new : (members : sets.FinSet nat_cmp) (order points : List ℕ) (p : ℕ) → IsTrail members order → take (sets.len members) order ≡ points → sets.contains members p ≡ false
     → add_once points p ≡ take (sets.len members) order ++ p ∷ []
 add_once_new members order points p t e new = rw (← e) (rw (sym (t.same p) ∙ new) refl)
-
-pub add_once_old : (members : sets.FinSet nat_cmp) (order points : List ℕ) (p : ℕ) → IsTrail members order → take (sets.len members) order ≡ points → sets.contains members p ≡ true
-    → points ≡ add_once points p
-add_once_old members order points p t e old = rw (← e) (rw (sym (t.same p) ∙ old) refl)

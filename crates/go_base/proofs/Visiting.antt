@@ -24,6 +24,7 @@ use Rattle.go_base.proofs.Beside.{neighbour_at-all, neighbour_at-near}
 use Rattle.go_base.proofs.Flooded.{Flooded, Flooded-start, Flooded-next, Flooded-all, Spreads-none, Spreads-skip, Spreads-add, has_at, has_index}
 
 module _ (s : ℕ) (cells : List Cell) (test : Cell → Bool) (q : ℕ) where
+  -- no side was visited
   Gathers-none : (old : sets.FinSet nat_cmp) → Gathers s cells test q 0 old old
   Gathers-none old = record { kept = λ r h. h; all = λ side l. absurd (omega arith); only = λ r h. inl h }
 
@@ -99,17 +100,20 @@ pub record Gathered (s : ℕ) (cells : List Cell) (test : Cell → Bool) (n : �
   pub all : (i : ℕ) → i < n → (l : ℕ) → l < s * s → are_neighbours s (get_or trail i 0) l ≡ true → test (cell_at cells l) ≡ true → sets.contains found l ≡ true
   pub only : (l : ℕ) → sets.contains found l ≡ true → (i : ℕ) × (i < n) × (l < s * s) × (are_neighbours s (get_or trail i 0) l ≡ true) × (test (cell_at cells l) ≡ true)
 
+-- a longer list has at each place what the shorter one has
 at_append : (xs ys : List ℕ) (i : ℕ) → i < length xs → get_or (xs ++ ys) i 0 ≡ get_or xs i 0
 at_append [] ys i h = absurd (omega arith)
 at_append (x ∷ xs) ys zero h = refl
 at_append (x ∷ xs) ys (suc i) h = at_append xs ys i (omega arith)
 
+-- nothing was gathered from no stone
 Gathered-none : (s : ℕ) (cells : List Cell) (test : Cell → Bool) (trail : List ℕ) (found : sets.FinSet nat_cmp) → found ≡ sets.empty → Gathered s cells test 0 trail found
 Gathered-none s cells test trail found e = record {
   all = λ i l. absurd (omega arith);
   only = λ l h. absurd (both_ways (sets.contains found l) (ap (λ t. sets.contains t l) e ∙ sets.contains-empty nat_cmp l) h);
 }
 
+-- what is beside one more stone was gathered
 Gathered-next : (s : ℕ) (cells : List Cell) (test : Cell → Bool) (n : ℕ) (trail new more : List ℕ) (found next : sets.FinSet nat_cmp) → Gathered s cells test n trail found → n < length trail
     → new ≡ trail ++ more → get_or trail n 0 < s * s → Gathers s cells test (get_or trail n 0) 4 found next → Gathered s cells test (n + 1) new next
 Gathered-next s cells test n trail new more found next h l is on g =
@@ -150,6 +154,7 @@ Gathered-all s cells test p n trail found on stone h l g =
     g.all i.0 (omega (arith, i.1, l)) x (ltb-true x (s * s) parts.0) (ap (λ y. are_neighbours s y x) i.2 ∙ link.1) both.1)
     ∙ sym (contains-set_below (s * s) (λ y. is_beside_string s cells p y && test (cell_at cells y)) x))
 
+-- which of two tests comes first does not matter
 and_swapped : (a b c : Bool) → (a && (b && c)) ≡ (a && (a && c && b))
 and_swapped true true true = refl
 and_swapped true true false = refl
@@ -171,6 +176,7 @@ pub record FloodsOut (s : ℕ) (cells : List Cell) (own : Cell) (p n : ℕ) (tra
   pub liberties : Gathered s cells (λ cell. same_cell cell Empty) n trail free
   pub enemies : Gathered s cells (is_enemy own) n trail foes
 
+-- at first nothing but the point is known
 pub FloodsOut-start : (s : ℕ) (cells : List Cell) (own : Cell) (p : ℕ) (trail : List ℕ) (free foes : sets.FinSet nat_cmp) → trail ≡ add_once [] p → free ≡ sets.empty → foes ≡ sets.empty
     → FloodsOut s cells own p 0 trail free foes
 FloodsOut-start s cells own p trail free foes t f e = record {
@@ -183,6 +189,7 @@ FloodsOut-start s cells own p trail free foes t f e = record {
 pub trail_like : (s : ℕ) (cells : List Cell) (p n : ℕ) (trail : List ℕ) → Flooded s cells p n trail → n < length trail → cell_at cells (get_or trail n 0) ≡ cell_at cells p
 trail_like s cells p n trail h l = path_same s cells p (h.only (get_or trail n 0) (has_at trail n l))
 
+-- one more stone was visited
 pub FloodsOut-next : (s : ℕ) (cells : List Cell) (own : Cell) (p n : ℕ) (trail new : List ℕ) (free freed foes foed : sets.FinSet nat_cmp) → p < s * s
     → FloodsOut s cells own p n trail free foes → n < length trail → SpreadsOut s cells own (get_or trail n 0) 4 trail new free freed foes foed → FloodsOut s cells own p (n + 1) new freed foed
 FloodsOut-next s cells own p n trail new free freed foes foed on h l sp =
@@ -195,6 +202,7 @@ FloodsOut-next s cells own p n trail new free freed foes foed on h l sp =
 
 module _ (s : ℕ) (cells : List Cell) (own : Cell) (p n : ℕ) (trail : List ℕ) (free foes : sets.FinSet nat_cmp) (on : p < s * s) (like : own ≡ cell_at cells p) (stone : own ≢ Empty)
     (h : FloodsOut s cells own p n trail free foes) (l : length trail ≤ n) where
+  -- the point holds a stone
   pub stone_at : is_stone (cell_at cells p) ≡ true
   stone_at = by_cell (cell_at cells p) (λ e. stone (like ∙ e))
     where
@@ -203,9 +211,11 @@ module _ (s : ℕ) (cells : List Cell) (own : Cell) (p n : ℕ) (trail : List �
       by_cell Black not_empty = refl
       by_cell White not_empty = refl
 
+  -- the empty points gathered are the liberties
   pub flood_liberties : free ≡ liberty_points s cells p
   flood_liberties = Gathered-all s cells _ p n trail free on stone_at h.stones l h.liberties ∙ liberties_beside s cells p
 
+  -- the enemies gathered are those next to the string
   pub flood_enemies : foes ≡ enemy_points s cells p
   flood_enemies = subst (λ k. foes ≡ set_below (s * s) (λ q. is_beside_string s cells p q && is_enemy k (cell_at cells q))) like
       (Gathered-all s cells (is_enemy own) p n trail foes on stone_at h.stones l h.enemies)
@@ -228,9 +238,11 @@ none_beside s cells p test found e is =
     is ∙ same_nat_set _ _ (λ q. sets.contains-empty nat_cmp q ∙ sym (contains-set_below (s * s) (λ x. is_beside_string s cells p x && test (cell_at cells x)) q
     ∙ ap (λ b. ltb q (s * s) && (b && test (cell_at cells q))) (beside_empty s cells p q e) ∙ and-false (ltb q (s * s))))
 
+-- an empty point has no liberties
 pub no_liberties : (s : ℕ) (cells : List Cell) (p : ℕ) (free : sets.FinSet nat_cmp) → cell_at cells p ≡ Empty → free ≡ sets.empty → free ≡ liberty_points s cells p
 no_liberties s cells p free e is = none_beside s cells p (λ cell. same_cell cell Empty) free e is ∙ liberties_beside s cells p
 
+-- nor enemies next to it
 pub no_enemies : (s : ℕ) (cells : List Cell) (p : ℕ) (foes : sets.FinSet nat_cmp) → cell_at cells p ≡ Empty → foes ≡ sets.empty → foes ≡ enemy_points s cells p
 no_enemies s cells p foes e is = none_beside s cells p (is_enemy (cell_at cells p)) foes e is
 
@@ -239,6 +251,7 @@ pub none_at : (found : sets.FinSet nat_cmp) (q : ℕ) → found ≡ sets.empty �
 none_at found q e h = both_ways (sets.contains found q) (ap (λ t. sets.contains t q) e ∙ sets.contains-empty nat_cmp q) h
 
 module _ (s : ℕ) (cells : List Cell) (p q : ℕ) (foes : sets.FinSet nat_cmp) (e : foes ≡ enemy_points s cells p) where
+  -- a member is a point of the board beside the string that holds an enemy
   its_parts : (ltb q (s * s) && (is_beside_string s cells p q && is_enemy (cell_at cells p) (cell_at cells q))) ≡ sets.contains foes q
   its_parts = sym (contains-set_below (s * s) (λ x. is_beside_string s cells p x && is_enemy (cell_at cells p) (cell_at cells x)) q) ∙ ap (λ t. sets.contains t q) (sym e)
 

@@ -26,6 +26,7 @@ pub record Meets (s : ℕ) (cells : List Cell) (own : Cell) (q n : ℕ) (old new
   pub spreads : cell_at cells q ≡ own → Spreads s cells q n old new
   pub none : (k : ℕ) → k < n → (r : ℕ) → neighbour_at s q k ≡ Some r → same_cell (cell_at cells r) Empty ≡ false
 
+-- no side was visited
 pub Meets-none : (s : ℕ) (cells : List Cell) (own : Cell) (q : ℕ) (old : List ℕ) → Meets s cells own q 0 old old
 Meets-none s cells own q old = record { spreads = λ like. Spreads-none s cells q old; none = λ k l. absurd (omega arith) }
 
@@ -86,9 +87,11 @@ pub record Surrounds (s : ℕ) (cells : List Cell) (p n : ℕ) (trail : List ℕ
   pub stones : Flooded s cells p n trail
   pub tight : (i : ℕ) → i < n → has_empty_neighbour s cells (get_or trail i 0) ≡ false
 
+-- at first the trail has the point alone
 pub Surrounds-start : (s : ℕ) (cells : List Cell) (p : ℕ) (trail : List ℕ) → trail ≡ add_once [] p → Surrounds s cells p 0 trail
 Surrounds-start s cells p trail t = record { stones = subst (Flooded s cells p 0) (sym t) (Flooded-start s cells p); tight = λ i l. absurd (omega arith) }
 
+-- one more stone has no empty neighbour
 pub Surrounds-next : (s : ℕ) (cells : List Cell) (p n : ℕ) (trail new : List ℕ) → p < s * s → Surrounds s cells p n trail → n < length trail
     → Spreads s cells (get_or trail n 0) 4 trail new → has_empty_neighbour s cells (get_or trail n 0) ≡ false → Surrounds s cells p (n + 1) new
 Surrounds-next s cells p n trail new on h l sp none =

@@ -112,9 +112,11 @@ after_from s put c taken e l =
     ∙ ap (λ b. cond b Empty (cell_at put k)) (ap (λ t. sets.contains t k) e ∙ contains-set_below (s * s) (is_taken s put c) k ∙ ap (λ b. b && is_taken s put c k) (lt-ltb k (s * s) h)))
 
 module _ (pos : BoardState) (good : IsPosition pos) (c : Colour) (p : ℕ) (p_on : p < pos.size * pos.size) (p_empty : cell_at pos.cells p ≡ Empty) where
+  -- the point of the play has a cell
   p_in : p < length pos.cells
   p_in = omega (arith, good.cells, p_on)
 
+  -- a point that holds a stone is not the point of the play
   not_p : (q : ℕ) → is_stone (cell_at pos.cells q) ≡ true → q ≢ p
   not_p q stone e = both_ways (is_stone Empty) refl (ap is_stone (sym (ap (cell_at pos.cells) e ∙ p_empty)) ∙ stone)
 
@@ -150,6 +152,7 @@ module _ (pos : BoardState) (good : IsPosition pos) (c : Colour) (p : ℕ) (p_on
             absurd (omega (arith, alive, parts.1))
       ]
 
+  -- a stone of the player elsewhere stood before the play
   own_old : (q : ℕ) → q ≢ p → cell_at (set pos.cells p (stone_of c)) q ≡ stone_of c → is_stone (cell_at pos.cells q) ≡ true
   own_old q ne e = ap is_stone (sym (at_put_other pos.cells p q (stone_of c) ne) ∙ e) ∙ stone_is c
 

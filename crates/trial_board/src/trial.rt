@@ -14,14 +14,14 @@ ghost use Rattle.go_rules.specs.Play.{play_free};
 ghost use Rattle.go_base.specs.Facts.{Agrees, Grows, AddsIn};
 ghost use Rattle.trial_board.specs.declared.moves.TrialMove.{TrialMove};
 ghost use Rattle.trial_board.specs.declared.moves.TrialPlay.{TrialPlay};
-ghost use Rattle.trial_board.specs.Trials.{Trying, Stays, Moved, Put, most_moves, after, tried, tried_free, made_or_suicide, tail, is_some_move};
+ghost use Rattle.trial_board.specs.Trials.{Trying, Stays, Moved, IsNoted, Put, most_moves, after, tried, tried_free, made_or_suicide, tail, is_some_move};
 
 use crate::kept::{Kept, nothing_kept};
 use crate::moves::{MAX_TRIAL_MOVES, TrialMove, TrialPlay, Tried};
 use crate::overlay::{Change, Overlay};
+use go_base::ban::is_banned;
 use go_base::boundary::boundary_of;
 use go_base::capture::play_on;
-use go_base::ban::is_banned;
 use go_base::flood::liberties_of;
 use go_base::points::PointSet;
 use go_base::size::{MAX_POINTS, Point, Size};
@@ -32,7 +32,7 @@ use std::marker::Model;
 
 /// A position with trial moves that can be taken back, GNU Go's `trymove` and `popgo`. It holds its view of the position, and
 /// asks it for a point only when a string or a play needs it. A move is kept by what it took, so that taking it back puts the
-/// captured stones again; everything is kept in place, in some 15 KB, and nothing takes memory.
+/// captured stones again; everything is kept in place, in some 21 KB, and nothing takes memory.
 pub struct Trial<L: Look> {
     /// The view, and what the standing moves changed over it.
     board: Overlay<L>,
@@ -267,7 +267,8 @@ impl<L: Look> Trial<L> {
     }
 
     /// Plays c at p, and with `allow` also where the ban alone forbids it. Refused are, in this order, a play on a stone, one that
-    /// the ban forbids without `allow`, and suicide; a refused play leaves the trial moves, and counts as tried.
+    /// the ban forbids without `allow`, and suicide; a refused play leaves the trial moves, and counts as tried. The trial move notes
+    /// that a ban was dropped for it, exactly where the ban forbade the play.
     pub fn play(&mut self, c: Colour, p: Point, allow: bool) -> Tried
         requires room { length self.old.moves < most_moves }
         requires on_board { p < (L.shows self.old.look).size * (L.shows self.old.look).size }
@@ -275,6 +276,9 @@ impl<L: Look> Trial<L> {
         ensures grows { Grows (L.seen self.old.look) (L.seen self.new.look) }
         ensures count { self.new.count ≡ min (self.old.count + 1) (2 ^ 64 - 1) }
         ensures moves { Moved result c p self.old.moves self.new.moves }
+        ensures noted { (pos : BoardState) → Agrees (L.seen self.new.look) pos
+            → IsNoted result (is_banned (after pos self.old.moves).ban c p) self.new.moves }
+        ensures noted_here { IsNoted result (is_banned (after (L.shows self.old.look) self.old.moves).ban c p) self.new.moves }
         ensures over { (pos : BoardState) → Agrees (L.seen self.new.look) pos
             → tried (after pos self.old.moves) c p allow ≡ (result, after pos self.new.moves) }
         ensures answer { tried (after (L.shows self.old.look) self.old.moves) c p allow ≡ (result, after (L.shows self.old.look) self.new.moves) }
