@@ -1,45 +1,50 @@
 //! The colon line: its faults, and what it says.
 
-ghost use Rattle.std.specs.Prelude.{◌≡◌, ◌≤◌, ◌<◌, ◌==◌, ◌&&◌, ◌||◌, not, nat_lt, nat_le, is_none, ℕ, List, [], ◌∷◌, ◌++◌, length, map, count_by, codes, Some, None, IfOk};
+ghost use Rattle.std.specs.Prelude.{◌≡◌, ◌≤◌, ◌<◌, ◌==◌, ◌&&◌, ◌||◌, not, nat_lt, nat_le, is_none, ℕ, List, [], ◌∷◌, ◌++◌, length, map, count_by, codes, Some, None, IfOk, IfErr, take};
 ghost use Rattle.std.specs.List.{list_any, list_all};
 ghost use Rattle.std.specs.Str.{bytes_eq};
 ghost use Rattle.db_lex.specs.Lines.{trimmed};
 ghost use Rattle.pat_types.specs.Diagrams.{is_star};
 ghost use Rattle.db_grammar.specs.Diagram.{star_count as stars};
 ghost use Rattle.db_grammar.specs.Kinds.{first_of, no_diagram, move_count, bad_mark, bad_class, bad_item, unknown_helper};
-ghost use Rattle.db_grammar.specs.Colon.{fields_of as all_fields, mark_of as mark_in, class_field as second_field, further as others, is_item as item, item_of as item_from, names_nothing as nothing_named, asks_for_readings as readings_asked_for, class_letters as letters_in, null, are_classes as classes, fields_fault as first_fields_fault};
+ghost use Rattle.db_grammar.specs.Colon.{fields_of as all_fields, mark_of as mark_in, class_field as second_field, further as others, is_item as item, item_of as item_from, names_nothing as nothing_named, asks_for_readings as readings_asked_for, class_letters as letters_in, null, are_classes as classes, fields_fault as first_fields_fault, colon_fault};
+ghost use Rattle.db_grammar.specs.Faults.{Blames};
+ghost use Rattle.db_colon.specs.Says.{Says, most_fields};
 ghost use Rattle.db_diagram.specs.Reads.{Draws};
 
 use crate::fields::{are_classes, field_len, is_item, is_name, mark_by, name_before, text_after};
 use db_diagram::Diagram;
-use db_grammar::{BAD_CLASS, BAD_ITEM, BAD_MARK, MOVE_COUNT, NO_DIAGRAM, UNKNOWN_HELPER};
+use db_grammar::{
+    BAD_CLASS, BAD_ITEM, BAD_MARK, LineError, MOVE_COUNT, NO_DIAGRAM, UNKNOWN_HELPER,
+};
 use db_lex::trim;
 use go_base::{Bytes, NoMemory};
 use pat_types::{Item, Items, Letter, Mark};
 use std::alloc::Global;
 
-/// The fields of a colon line, without the blanks at their ends.
-pub fn fields_of(alloc: Global, line: &[u8]) -> Result<Vec<&[u8]>, NoMemory>
+/// The most fields that are looked at: a mark, class letters, 16 items, and one more, which is one too many.
+const MOST_FIELDS: usize = 19;
+
+/// The first fields of a colon line, without the blanks at their ends: no more of them than are looked at.
+fn first_fields(alloc: Global, line: &[u8]) -> Result<Vec<&[u8]>, NoMemory>
     requires { 0 < length line.now }
-    ensures { IfOk result (λ fields. map (λ f. f.now) fields.items ≡ all_fields line.now) }
+    ensures { IfOk result (λ fields. map (λ f. f.now) fields.items ≡ take most_fields (all_fields line.now)) }
 {
     let mut fields = Vec::new(alloc);
     let mut rest = &line[1..];
-    loop {
+    while fields.len() < MOST_FIELDS {
         let len = field_len(rest);
-        match fields.push(trim(&rest[..len])) {
-            Ok(()) => {}
-            Err(_) => return Err(NoMemory),
-        }
+        fields.push(trim(&rest[..len]))?;
         if len >= rest.len() {
             return Ok(fields);
         }
         rest = &rest[len + 1..];
     }
+    Ok(fields)
 }
 
 /// The mark that the first field is.
-pub fn mark_of(fields: &[&[u8]]) -> Option<Mark>
+fn mark_of(fields: &[&[u8]]) -> Option<Mark>
     ensures { result ≡ mark_in (map (λ f. f.now) fields.now) }
 {
     match fields {
@@ -52,7 +57,7 @@ pub fn mark_of(fields: &[&[u8]]) -> Option<Mark>
 }
 
 /// The second field, or nothing where it is missing.
-pub fn class_field<'a>(fields: &[&'a [u8]]) -> &'a [u8]
+fn class_field<'a>(fields: &[&'a [u8]]) -> &'a [u8]
     ensures { result.now ≡ second_field (map (λ f. f.now) fields.now) }
 {
     match fields {
@@ -62,7 +67,7 @@ pub fn class_field<'a>(fields: &[&'a [u8]]) -> &'a [u8]
 }
 
 /// The fields after the second.
-pub fn further<'a, 'b>(fields: &'b [&'a [u8]]) -> &'b [&'a [u8]]
+fn further<'a, 'b>(fields: &'b [&'a [u8]]) -> &'b [&'a [u8]]
     ensures { map (λ f. f.now) result.now ≡ others (map (λ f. f.now) fields.now) }
 {
     match fields {
@@ -204,8 +209,9 @@ fn first_kind(
 }
 
 /// The first fault of a colon line with these fields after a diagram.
-pub fn fields_fault(helpers: &[Bytes], diagram: &Diagram, fields: &[&[u8]]) -> Option<u8>
-    ensures { (words : List (List ℕ)) → Draws diagram.now words → result ≡ first_fields_fault helpers.now words (map (λ f. f.now) fields.now) }
+fn fields_fault(helpers: &[Bytes], diagram: &Diagram, fields: &[&[u8]]) -> Option<u8>
+    ensures { (words : List (List ℕ)) → Draws diagram.now words →
+        result ≡ first_fields_fault helpers.now words (map (λ f. f.now) fields.now) }
 {
     let stars = star_count(diagram.letters.as_slice());
     first_kind(
@@ -228,7 +234,7 @@ pub fn bytes_of(alloc: Global, bytes: &[u8]) -> Result<Bytes, NoMemory>
 }
 
 /// The class letters of the second field.
-pub fn class_letters(alloc: Global, field: &[u8]) -> Result<Bytes, NoMemory>
+fn class_letters(alloc: Global, field: &[u8]) -> Result<Bytes, NoMemory>
     ensures { IfOk result (λ list. list ≡ letters_in field.now) }
 {
     let mut list = Bytes::new(alloc);
@@ -257,7 +263,7 @@ fn item_of(alloc: Global, field: &[u8]) -> Result<Item, NoMemory>
 }
 
 /// The items that the further fields are.
-pub fn items_of(alloc: Global, fields: &[&[u8]]) -> Result<Items, NoMemory>
+fn items_of(alloc: Global, fields: &[&[u8]]) -> Result<Items, NoMemory>
     ensures { IfOk result (λ list. list ≡ map item_from (map (λ f. f.now) fields.now)) }
 {
     let mut list = Items::new(alloc);
@@ -265,4 +271,41 @@ pub fn items_of(alloc: Global, fields: &[&[u8]]) -> Result<Items, NoMemory>
         list.push(item_of(alloc, field)?)?;
     }
     Ok(list)
+}
+
+/// What a colon line without a fault says.
+#[derive(Debug, Drop)]
+pub struct ColonLine {
+    /// The mark.
+    pub mark: Mark,
+    /// The class letters, without `-`.
+    pub classes: Bytes,
+    /// The further fields, in order.
+    pub items: Items,
+}
+
+/// Reads a colon line that stands after a diagram. Of a line with too many fields no more than the first 19 are looked
+/// at.
+pub fn read_colon_line(
+    alloc: Global,
+    helpers: &[Bytes],
+    diagram: &Diagram,
+    line: &[u8],
+) -> Result<ColonLine, LineError>
+    requires { 0 < length line.now }
+    ensures ok { IfOk result (λ c. (words : List (List ℕ)) → Draws diagram.now words →
+        (colon_fault helpers.now words line.now ≡ None) × Says c line.now) }
+    ensures err { IfErr result (λ e. (words : List (List ℕ)) → Draws diagram.now words →
+        Blames e (colon_fault helpers.now words line.now)) }
+{
+    let fields = first_fields(alloc, line)?;
+    let fields = fields.as_slice();
+    if let Some(kind) = fields_fault(helpers, diagram, fields) {
+        return Err(LineError::Kind(kind));
+    }
+    Ok(ColonLine {
+        mark: mark_of(fields).unwrap_or(Mark::Oh),
+        classes: class_letters(alloc, class_field(fields))?,
+        items: items_of(alloc, further(fields))?,
+    })
 }

@@ -4,6 +4,4 @@
 mod colon;
 mod fields;
 
-pub use colon::{
-    bytes_of, class_field, class_letters, fields_fault, fields_of, further, items_of, mark_of,
-};
+pub use colon::{ColonLine, bytes_of, read_colon_line};

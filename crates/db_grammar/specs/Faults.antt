@@ -28,11 +28,20 @@ or_else None b = b
 abbrev pub is_name_char : ℕ → Bool
 is_name_char b = nat_le 33 b && nat_le b 126
 
+-- the most entries that a text may have
+abbrev pub most_entries : ℕ
+most_entries = 4096
+
+-- the Pattern line has no name, or one that is too long or has a byte that no name has
+abbrev pub is_unnamed : List ℕ → Bool
+is_unnamed line =
+    length (name_on line) == 0 || nat_lt 80 (length (name_on line)) || not (list_all is_name_char (name_on line))
+
 -- the first fault of a Pattern line before which so many entries begin
 unfoldable pub pattern_fault : ℕ → List ℕ → Option ℕ
 pattern_fault entries line = first_of (
-    (nat_le 4096 entries, too_many_patterns)
-    ∷ (length (name_on line) == 0 || nat_lt 80 (length (name_on line)) || not (list_all is_name_char (name_on line)), no_name)
+    (nat_le most_entries entries, too_many_patterns)
+    ∷ (is_unnamed line, no_name)
     ∷ [])
 
 -- a fault of this kind at a line
@@ -44,9 +53,18 @@ abbrev pub first_number : List KeptLine → ℕ
 first_number [] = 0
 first_number (line ∷ more) = line.number
 
--- the fault of a block's expression: each is refused, since none is read yet; it is told at the block's first expression line
+-- the kind of the fault of the expression on these lines, under these diagrams: each is refused, since none is read yet
+abbrev pub kind_of_expression : List KeptLine → List KeptLine → List KeptLine → Option ℕ
+kind_of_expression diagram constraint [] = None
+kind_of_expression diagram constraint (line ∷ lines) = Some expr_fault
+
+-- the kind of the fault of a block's expression
+abbrev pub expression_kind : Block → Option ℕ
+expression_kind b = kind_of_expression b.diagram b.constraint b.expression
+
+-- the fault of a block's expression, which is told at its first line
 abbrev pub expression_fault : Block → Option Fault
-expression_fault b = Some (record { line = first_number b.expression; kind = expr_fault })
+expression_fault b = at_line (first_number b.expression) (expression_kind b)
 
 -- a line of this kind leaves the stage; what leaves it by the end leaves it too
 abbrev pub closes : Stage → Option LineKind → Bool
@@ -59,7 +77,8 @@ closes _ _ = false
 -- the fault of what a stage has gathered in a block
 abbrev pub gathered_fault : ℕ → Stage → Option Block → Option Fault
 gathered_fault number stage None = None
-gathered_fault number Labels (Some b) = at_line number (labels_closing_fault (words_in b.diagram) (words_in b.constraint))
+gathered_fault number Labels (Some b) =
+    at_line number (labels_closing_fault (words_in b.diagram) (words_in b.constraint))
 gathered_fault number Expression (Some b) = expression_fault b
 gathered_fault number _ (Some b) = None
 
@@ -99,13 +118,15 @@ table_fault helpers s line (Next stage) = own_fault helpers s line (kind_of line
 unfoldable pub found : List (List ℕ) → SoFar → KeptLine → Option Fault
 found helpers s line =
     if line.is_bad then Some (record { line = line.number; kind = bad_byte })
-    else or_else (closing_fault line.number (Some (kind_of line.bytes)) s) (at_line line.number (table_fault helpers s line (cell_for s.stage line)))
+    else or_else (closing_fault line.number (Some (kind_of line.bytes)) s)
+    (at_line line.number (table_fault helpers s line (cell_for s.stage line)))
 
 -- the first fault that fits at the end, whose line has this number
 unfoldable pub found_at_end : ℕ → SoFar → Option Fault
 found_at_end number s = or_else (closing_fault number None s) (at_line number (end_refused s.stage))
 
--- the first fault that fits at the k-th of the lines that are not passed over, or at the end where there is none; it looks only at the lines up to there
+-- the first fault that fits at the k-th of the lines that are not passed over, or at the end where there is none; it
+-- looks only at the lines up to there
 abbrev pub fault_at_place : List (List ℕ) → ℕ → SoFar → Option KeptLine → Option Fault
 fault_at_place helpers end s None = found_at_end end s
 fault_at_place helpers end s (Some line) = found helpers s line
@@ -125,7 +146,8 @@ end_number text = length (lines_of text) + 1
 
 -- the first fault of a text, for the names of the helpers
 unfoldable pub first_fault : List (List ℕ) → List ℕ → Option Fault
-first_fault helpers text = least_fault (fault_at helpers (end_number text) (kept_lines text)) (length (kept_lines text) + 1)
+first_fault helpers text =
+    least_fault (fault_at helpers (end_number text) (kept_lines text)) (length (kept_lines text) + 1)
 
 -- the entries of a text in order
 unfoldable pub entries : List ℕ → List Entry

@@ -1,5 +1,10 @@
 //! The kinds of fault of a database text, as numbers from 1 to 18, and what a line is refused with.
 
+ghost use Rattle.std.specs.Prelude.{◌≡◌};
+ghost use Rattle.db_grammar.specs.declared.fault.LineError.TheVariants.{NoMemory as no_memory};
+
+use go_base::NoMemory;
+
 /// The first fault of a text: the number of its line, counted from 1, and its kind. A fault at the end of the text has as its
 /// line the number of lines plus one; a fault of an expression has the line of its first `;`.
 #[derive(Clone, Copy, Debug, PartialEq, Eq)]
@@ -13,6 +18,14 @@ pub struct Fault {
 pub enum LineError {
     NoMemory,
     Kind(u8),
+}
+
+impl From<NoMemory> for LineError {
+    ghost from_gives = { λ _ e. e ≡ no_memory };
+
+    fn from(_e: NoMemory) -> LineError {
+        LineError::NoMemory
+    }
 }
 
 /// A byte that no line may have.

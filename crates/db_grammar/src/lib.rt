@@ -15,6 +15,6 @@ pub use fault::{
     Fault, LineError, MOVE_COUNT, NO_COLON_LINE, NO_DIAGRAM, NO_NAME, RAGGED, STRAY_LINE,
     TOO_LARGE, TOO_MANY_PATTERNS, UNKNOWN_HELPER,
 };
-pub use laws::accepted_texts_are_cut;
+pub use laws::{databases_have_no_fault, entries_are_those_of_the_blocks};
 pub use shape::Shape;
 pub use stage::{Stage, TableCell};

@@ -1,5 +1,5 @@
 -- What a reader has read of a text.
-use Rattle.std.specs.Prelude.{◌≡◌, ◌≢◌, ℕ, ◌&&◌, nat_lt, [], ◌∷◌, length, map, Option, Some, None}
+use Rattle.std.specs.Prelude.{◌≡◌, ◌≢◌, ℕ, Bool, if◌then◌else◌, ◌&&◌, nat_lt, [], ◌∷◌, length, map, Option, Some, None}
 use Rattle.db_read.specs.declared.draft.Draft.{Draft}
 use Rattle.db_read.specs.declared.error.DbError.{DbError}
 use Rattle.db_read.specs.declared.error.DbError.TheVariants as errors
@@ -27,13 +27,17 @@ abbrev pub error_at : ℕ → LineError → DbError
 error_at number line_errors.NoMemory = errors.NoMemory
 error_at number (line_errors.Kind kind) = errors.Fault number kind
 
--- what a stage has gathered is at fault, by the numbers of its lines and the first expression line
-abbrev pub gathered : ℕ → Stage → ℕ → ℕ → ℕ → Option Fault
-gathered number Labels mains lines first = at_line number (first_of ((nat_lt 0 lines && nat_lt lines mains, constraint_shape) ∷ []))
-gathered number Expression mains lines first = Some (record { line = first; kind = expr_fault })
-gathered number _ mains lines first = None
+-- what a stage has gathered is at fault, by the numbers of its lines, whether there is an expression, and its first
+-- line
+abbrev pub gathered : ℕ → Stage → ℕ → ℕ → Bool → ℕ → Option Fault
+gathered number Labels mains lines has first =
+    at_line number (first_of ((nat_lt 0 lines && nat_lt lines mains, constraint_shape) ∷ []))
+gathered number Expression mains lines has first =
+    if has then Some (record { line = first; kind = expr_fault }) else None
+gathered number _ mains lines has first = None
 
--- in the stage Diagram a block has neither a colon line nor a constraint diagram; in a later one its diagram has one star
+-- in the stage Diagram a block has neither a colon line nor a constraint diagram; in a later one its diagram has one
+-- star
 abbrev pub IsAtStage : Stage → Block → Type 0
 IsAtStage Start b = Unit {0}
 IsAtStage Diagram b = (b.colon ≡ []) × (b.constraint ≡ [])

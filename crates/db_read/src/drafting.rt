@@ -12,9 +12,7 @@ ghost use Rattle.db_diagram.specs.Reads.{Draws, IsMarked};
 
 use crate::draft::Draft;
 use crate::names::name_of;
-use db_colon::{
-    bytes_of, class_field, class_letters, fields_fault, fields_of, further, items_of, mark_of,
-};
+use db_colon::{bytes_of, read_colon_line};
 use db_diagram::{Diagram, Marks};
 use db_grammar::LineError;
 use pat_types::{Bytes, Items, Labels, Letters, Mark, NoMemory};
@@ -88,25 +86,10 @@ impl<'a> Draft<'a> {
             (colon_fault helpers.now (words_in b.diagram) line.now ≡ None) × Drafts self.new (record b { colon = b.colon ++ k ∷ [] })) }
         ensures err { IfErr result (λ e. (b : Block) → Drafts self.old b → Blames e (colon_fault helpers.now (words_in b.diagram) line.now)) }
     {
-        let fields = match fields_of(alloc, line) {
-            Ok(fields) => fields,
-            Err(_) => return Err(LineError::NoMemory),
-        };
-        let fields = fields.as_slice();
-        if let Some(kind) = fields_fault(helpers, &self.diagram, fields) {
-            return Err(LineError::Kind(kind));
-        }
-        let classes = match class_letters(alloc, class_field(fields)) {
-            Ok(classes) => classes,
-            Err(_) => return Err(LineError::NoMemory),
-        };
-        let items = match items_of(alloc, further(fields)) {
-            Ok(items) => items,
-            Err(_) => return Err(LineError::NoMemory),
-        };
-        self.mark = mark_of(fields).unwrap_or(Mark::Oh);
-        self.classes = classes;
-        self.items = items;
+        let colon = read_colon_line(alloc, helpers, &self.diagram, line)?;
+        self.mark = colon.mark;
+        self.classes = colon.classes;
+        self.items = colon.items;
         Ok(())
     }
 

@@ -62,6 +62,7 @@ impl<'a> Reader<'a> {
             self.stage,
             mains,
             lines,
+            self.draft.has_expression,
             self.draft.first_expression,
         )
     }

@@ -58,8 +58,15 @@ pub fn closes(stage: Stage, kind: Option<LineKind>) -> bool
 }
 
 /// The fault of what a stage has gathered.
-pub fn gathered(number: u64, stage: Stage, mains: usize, lines: usize, first: u64) -> Option<Fault>
-    ensures { result ≡ fault_gathered number stage mains lines first }
+pub fn gathered(
+    number: u64,
+    stage: Stage,
+    mains: usize,
+    lines: usize,
+    has_expression: bool,
+    first: u64,
+) -> Option<Fault>
+    ensures { result ≡ fault_gathered number stage mains lines has_expression first }
 {
     match stage {
         Stage::Labels => {
@@ -72,10 +79,16 @@ pub fn gathered(number: u64, stage: Stage, mains: usize, lines: usize, first: u6
                 None
             }
         }
-        Stage::Expression => Some(Fault {
-            line: first,
-            kind: EXPR_FAULT,
-        }),
+        Stage::Expression => {
+            if has_expression {
+                Some(Fault {
+                    line: first,
+                    kind: EXPR_FAULT,
+                })
+            } else {
+                None
+            }
+        }
         _ => None,
     }
 }

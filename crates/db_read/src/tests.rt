@@ -1,7 +1,7 @@
 //! What texts come to: the patterns that they spell, or the line and the kind of their first fault.
 
 use crate::{DbError, read};
-use pat_types::Pattern;
+use pat_types::{Letter, Mark, Pattern};
 use std::test::Fail;
 
 /// The realistic file of a pattern collection.
@@ -121,46 +121,84 @@ fn entries_beyond_4096_are_refused(rt: HostRuntime) -> Result<(), Fail> {
     Ok(())
 }
 
-/// What a pattern of one line has: its size, its star, how many labels and further fields.
-fn shape_of(p: &Pattern) -> ((u8, u8), (u8, u8), usize, usize) {
+/// The size and the star of a pattern, the points of its edges, and its mark.
+fn outline_of(p: &Pattern) -> ((u8, u8), (u8, u8), (bool, bool, bool, bool), Mark) {
     (
         (p.rows, p.cols),
         p.star,
-        p.labels.as_slice().len(),
-        p.items.as_slice().len(),
+        (p.top, p.bottom, p.left, p.right),
+        p.mark,
     )
+}
+
+/// The only pattern of a text without a fault.
+fn only_pattern(rt: &HostRuntime, text: &[u8]) -> Result<Pattern, Fail> {
+    let mut patterns = match read(rt.alloc(), text, &[], Vec::new(rt.alloc())) {
+        Ok(patterns) => patterns,
+        Err(_) => return Err(Fail::from("the text has no fault")),
+    };
+    match patterns.pop() {
+        Some(p) if patterns.is_empty() => Ok(p),
+        _ => Err(Fail::from("the text has one pattern")),
+    }
 }
 
 #[test]
 fn a_pattern_is_read_as_it_is_written(rt: HostRuntime) -> Result<(), Fail> {
     let text =
         b"Pattern Edge1 a comment\n+--\n|O*  side\n|..\n:-,Ds-,NULL,value(3, 4)\n+--\n|OA\n|B.\n> action";
-    let read = read(rt.alloc(), text, &[], Vec::new(rt.alloc()));
-    let patterns = match read {
-        Ok(patterns) => patterns,
-        Err(_) => return Err(Fail::from("the text has no fault")),
-    };
-    assert_eq!(rt; patterns.len(), 1, "one pattern");
-    let p = &patterns[0];
+    let p = only_pattern(&rt, text)?;
+    let name = b"Edge1".as_slice();
     assert_eq!(rt;
         p.name.as_slice(),
-        b"Edge1".as_slice(),
+        name,
         "the first word of the rest is the name"
     );
+    let outline = ((2, 2), (0, 1), (true, false, true, false), Mark::Dash);
+    assert_eq!(rt; outline_of(&p), outline, "size, star, edges and mark");
+    let classes = b"Ds".as_slice();
+    assert_eq!(rt; p.classes.as_slice(), classes, "a dash is no class letter");
+    let letters = [Letter::Friend, Letter::Star, Letter::Empty, Letter::Empty];
     assert_eq!(rt;
-        shape_of(p),
-        ((2, 2), (0, 1), 2, 2),
-        "size, star, labels and fields"
+        p.letters.as_slice(),
+        letters.as_slice(),
+        "letters in reading order"
     );
+    Ok(())
+}
+
+#[test]
+fn labels_and_items_are_read_as_they_are_written(rt: HostRuntime) -> Result<(), Fail> {
+    let p = only_pattern(
+        &rt,
+        b"Pattern P\n+--\n|O*\n|..\n:8,s,NULL,value(3, 4)\n+--\n|OA\n|B.",
+    )?;
+    let labels = [(b'A', 0, 1), (b'B', 1, 0)];
+    assert_eq!(rt; p.labels.as_slice().len(), labels.len(), "as many labels");
+    for (label, want) in p.labels.as_slice().iter().zip(labels) {
+        let read = (label.letter, label.row, label.col);
+        assert_eq!(rt;
+            read,
+            want,
+            "a letter over a cell of the diagram, edges apart"
+        );
+    }
+    let items = [
+        (b"NULL".as_slice(), b"no text".as_slice()),
+        (b"value", b"3, 4"),
+    ];
     assert_eq!(rt;
-        p.classes.as_slice(),
-        b"Ds".as_slice(),
-        "a dash is no class letter"
+        p.items.as_slice().len(),
+        items.len(),
+        "as many further fields"
     );
-    assert_eq!(rt;
-        (p.top, p.bottom, p.left, p.right),
-        (true, false, true, false),
-        "edges"
-    );
+    for (item, (name, text)) in p.items.as_slice().iter().zip(items) {
+        assert_eq!(rt; item.name.as_slice(), name, "the name of a further field");
+        let read = match &item.text {
+            Some(text) => text.as_slice(),
+            None => b"no text".as_slice(),
+        };
+        assert_eq!(rt; read, text, "the text between its parentheses");
+    }
     Ok(())
 }
