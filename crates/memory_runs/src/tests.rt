@@ -218,7 +218,10 @@ const UNMADE_CALLS: [(&str, &[File], &[u8], Way, u8, usize); 8] = [
         "each file is loaded once",
         TWO_FILES,
         b"name\n",
-        Way { loader_fails: 3, ..WHOLE },
+        Way {
+            loader_fails: 3,
+            ..WHOLE
+        },
         0,
         0,
     ),
@@ -226,7 +229,10 @@ const UNMADE_CALLS: [(&str, &[File], &[u8], Way, u8, usize); 8] = [
         "no bytes are asked for after the end",
         &[],
         b"name\n",
-        Way { source_fails: 3, ..WHOLE },
+        Way {
+            source_fails: 3,
+            ..WHOLE
+        },
         0,
         0,
     ),
@@ -234,7 +240,10 @@ const UNMADE_CALLS: [(&str, &[File], &[u8], Way, u8, usize); 8] = [
         "none after a line that ends the session",
         &[],
         b"quit\nname\n",
-        Way { source_fails: 2, ..WHOLE },
+        Way {
+            source_fails: 2,
+            ..WHOLE
+        },
         0,
         0,
     ),
@@ -242,7 +251,11 @@ const UNMADE_CALLS: [(&str, &[File], &[u8], Way, u8, usize); 8] = [
         "none after a fault of the source",
         &[],
         b"name\nname\n",
-        Way { piece: 5, source_fails: 2, ..WHOLE },
+        Way {
+            piece: 5,
+            source_fails: 2,
+            ..WHOLE
+        },
         4,
         5,
     ),
@@ -250,7 +263,11 @@ const UNMADE_CALLS: [(&str, &[File], &[u8], Way, u8, usize); 8] = [
         "none after a fault of the output",
         &[],
         b"name\nname\n",
-        Way { piece: 5, sink_fails: 1, ..WHOLE },
+        Way {
+            piece: 5,
+            sink_fails: 1,
+            ..WHOLE
+        },
         5,
         5,
     ),
@@ -258,7 +275,10 @@ const UNMADE_CALLS: [(&str, &[File], &[u8], Way, u8, usize); 8] = [
         "each reply is put once, and nothing for a line without words",
         &[],
         b"name\n#\nname\n",
-        Way { sink_fails: 3, ..WHOLE },
+        Way {
+            sink_fails: 3,
+            ..WHOLE
+        },
         0,
         0,
     ),
@@ -266,7 +286,10 @@ const UNMADE_CALLS: [(&str, &[File], &[u8], Way, u8, usize); 8] = [
         "no bytes are asked for where the files have a fault",
         BAD_FILE,
         b"name\n",
-        Way { source_fails: 1, ..WHOLE },
+        Way {
+            source_fails: 1,
+            ..WHOLE
+        },
         1,
         5,
     ),
@@ -274,7 +297,10 @@ const UNMADE_CALLS: [(&str, &[File], &[u8], Way, u8, usize); 8] = [
         "nothing is put where the files have a fault",
         BAD_FILE,
         b"name\n",
-        Way { sink_fails: 1, ..WHOLE },
+        Way {
+            sink_fails: 1,
+            ..WHOLE
+        },
         1,
         5,
     ),

@@ -1,6 +1,5 @@
 -- Sessions that find matches by an automaton, and the plain machine.
-use Rattle.std.proofs.Common.{◌≡◌, ℕ, ◌*◌, ◌<◌, List, length, Option, Some, refl, sym, ap, subst, ◌∙◌}
-use Rattle.std.specs.List.{Contains}
+use Rattle.std.proofs.Common.{◌≡◌, ℕ, List, Option, refl, sym, subst}
 use Rattle.std.proofs.lemmas.Option.{slice_get_within}
 use Rattle.go_rules.specs.declared.Colour.{Colour}
 use Rattle.go_rules.specs.Position.{BoardState}
@@ -8,7 +7,6 @@ use Rattle.pat_types.specs.declared.pattern.Pattern.{Pattern}
 use Rattle.dfa_core.specs.Automata.{Row, accepted}
 use Rattle.dfa_core.specs.States.{matched_from}
 use Rattle.dfa_core.specs.Words.{Word}
-use Rattle.match_engine.specs.declared.found.Match.{Match}
 use Rattle.match_engine.specs.Match.{machine_matches, is_machine_match}
 use Rattle.match_engine.proofs.Orders.{by-has}
 use Rattle.match_engine.proofs.Patterns.{same_by_machine}

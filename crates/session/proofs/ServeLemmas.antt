@@ -1,11 +1,11 @@
 -- The steps of the loops of a run, over plain values.
-use Rattle.std.proofs.Common.{◌≡◌, ◌≢◌, ℕ, ◌+◌, ◌-◌, ◌<◌, ◌≤◌, Bool, true, false, List, [], ◌∷◌, ◌++◌, length, take, drop, Option, Some, None, Result, Ok, Err, OnErr, IfOk, refl, sym, ap, subst, ◌∙◌, append_assoc, append-nil, take-append-drop, length-append, arith}
-use Rattle.std.specs.Io.KnownBytes.{Appends, Consumes}
-use Rattle.std.proofs.KnownBytes.{Appends-nil, Appends-trans, Consumes-nil, Consumes-trans}
-use Rattle.std.proofs.lemmas.List.{take_rest, take_all, drop_all}
+use Rattle.std.proofs.Common.{◌≡◌, ◌≢◌, ℕ, ◌-◌, Bool, true, false, List, [], ◌∷◌, ◌++◌, length, take, drop, Option, Some, None, Result, Ok, Err, OnErr, IfOk, refl, sym, ap, subst, ◌∙◌, append_assoc, take-append-drop, length-append, arith}
+use Rattle.std.specs.Io.KnownBytes.{Appends}
+use Rattle.std.proofs.KnownBytes.{Appends-nil, Appends-trans}
+use Rattle.std.proofs.lemmas.List.{take_rest, take_all}
 use Rattle.gtp_rules.specs.Lines.{RawLine, Line, TooLong}
 use Rattle.gtp_rules.specs.Steps.{Step}
-use Rattle.gtp_rules.specs.Transcript.{Answers, IsRun, Cut}
+use Rattle.gtp_rules.specs.Transcript.{IsRun}
 use Rattle.gtp_rules.proofs.Runs.{IsRun-nil, IsRun-one, IsRun-append, IsRun-ended, Cut-after, Cut-more}
 use Rattle.gtp_lex.specs.Held.{lines_from, held_from, held_line}
 use Rattle.gtp_lex.specs.Lines.{LinesState, Feeds}

@@ -1,16 +1,16 @@
 -- A run so far, and what it says by its outcome when it stops here.
-use Rattle.std.proofs.Common.{◌≡◌, ◌⊎◌, ℕ, ◌+◌, ◌-◌, ◌^◌, ◌<◌, ◌≤◌, Bool, true, false, List, [], ◌∷◌, ◌++◌, length, take, drop, Option, Some, None, refl, sym, ap, subst, ◌∙◌, append_assoc, append-nil, take-append-drop, arith, inl, inr, length-append}
+use Rattle.std.proofs.Common.{◌≡◌, ℕ, ◌+◌, ◌-◌, ◌<◌, ◌≤◌, Bool, true, false, List, [], ◌∷◌, ◌++◌, length, take, Option, refl, sym, ap, subst, ◌∙◌, append-nil, arith, inl, inr, length-append}
 use Rattle.std.specs.Io.KnownBytes.{Appends, Consumes, IsAtEnd, Keeps}
 use Rattle.std.proofs.KnownBytes.{Appends-nil, Appends-trans, Consumes-nil, Consumes-trans, Consumes-kept}
 use Rattle.std.proofs.lemmas.List.{take_at, take_all, length-take-le}
 use Rattle.gtp_rules.specs.Lines.{RawLine, Line, lines_of, lines_with_rest, rest_of, rest_line}
 use Rattle.gtp_rules.specs.Steps.{Step}
-use Rattle.gtp_rules.specs.Transcript.{IsRun, IsTranscript, GoesOn, Cut}
-use Rattle.gtp_rules.proofs.Runs.{IsRun-nil, IsRun-append, IsRun-ended, Cut-after, Cut-more, Cut-is, Cut-front}
+use Rattle.gtp_rules.specs.Transcript.{IsRun, GoesOn}
+use Rattle.gtp_rules.proofs.Runs.{IsRun-nil, IsRun-append, Cut-after, Cut-more, Cut-is, Cut-front}
 use Rattle.gtp_lex.specs.Held.{lines_from, held_from, held_line}
 use Rattle.gtp_lex.proofs.HeldLemmas.{lines_from-append, held_from-append, lines_of-lines_from, lines_with_rest-lines_from}
 use Rattle.session.specs.Serving.{RunsTo, RunsPart}
-use Rattle.session.specs.Headline.{most_taken, Streams, Serves, IsRight, IsReadToEnd, IsEnded, IsCutOff, IsFront, earlier}
+use Rattle.session.specs.Headline.{most_taken, Streams, Serves, earlier}
 use Rattle.session.specs.declared.outcome.End.TheVariants.{Done, InputFault, OutputFault, InputTooLong}
 
 -- some bytes were taken and some put, each line that ended was answered, the rest is held, and room bytes may still be taken

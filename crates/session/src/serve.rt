@@ -194,10 +194,20 @@ pub(crate) fn serve<S: Source, K: Sink>(
 ) -> End
     requires { lines.old ≡ no_line }
     ensures serves { Serves (step_of session.old) (machine_of session.old)
-        (record { left = S.left input.old; piece = S.piece input.old; input_faults = S.faults input.old;
-            written = K.written output.old; output_faults = K.faults output.old })
-        (record { left = S.left input.new; piece = S.piece input.new; input_faults = S.faults input.new;
-            written = K.written output.new; output_faults = K.faults output.new }) result }
+        (record {
+          left = S.left input.old;
+          piece = S.piece input.old;
+          input_faults = S.faults input.old;
+          written = K.written output.old;
+          output_faults = K.faults output.old;
+        })
+        (record {
+          left = S.left input.new;
+          piece = S.piece input.new;
+          input_faults = S.faults input.new;
+          written = K.written output.new;
+          output_faults = K.faults output.new;
+        }) result }
     ensures input { IsCauseOf (result ≡ End.InputFault) (S.faults input.old) (S.faults input.new) }
     ensures output { IsCauseOf (result ≡ End.OutputFault) (K.faults output.old) (K.faults output.new) }
 {

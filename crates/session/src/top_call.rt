@@ -24,10 +24,20 @@ fn run_unnoted<L: Loader, S: Source, K: Sink>(
 ) -> Outcome
     ensures usage { result ≡ Outcome.Usage ↔ IsTrue (has_one (map string_bytes words.now)) }
     ensures came { Came (map string_bytes words.now) (L.contents files.old)
-        (record { left = S.left input.old; piece = S.piece input.old; input_faults = S.faults input.old;
-            written = K.written output.old; output_faults = K.faults output.old })
-        (record { left = S.left input.new; piece = S.piece input.new; input_faults = S.faults input.new;
-            written = K.written output.new; output_faults = K.faults output.new }) (phase_of result) }
+        (record {
+          left = S.left input.old;
+          piece = S.piece input.old;
+          input_faults = S.faults input.old;
+          written = K.written output.old;
+          output_faults = K.faults output.old;
+        })
+        (record {
+          left = S.left input.new;
+          piece = S.piece input.new;
+          input_faults = S.faults input.new;
+          written = K.written output.new;
+          output_faults = K.faults output.new;
+        }) (phase_of result) }
     ensures missed { MissedAfter (map string_bytes words.now) (L.missed files.old) (L.missed files.new) (phase_of result) }
     ensures same { L.contents files.new ≡ L.contents files.old }
     ensures input { IsCauseOf (result ≡ Outcome.InputFault) (S.faults input.old) (S.faults input.new) }
@@ -71,14 +81,32 @@ pub fn run<L: Loader, S: Source, K: Sink, D: Sink>(
 
     // By the outcome, what the files are, what was taken, put and noted, which files were missed, and whose count of faults rose.
     ensures runs { Runs (map string_bytes words.now)
-        (record { contents = L.contents files.old; missed = L.missed files.old;
-            streams = record { left = S.left input.old; piece = S.piece input.old; input_faults = S.faults input.old;
-                written = K.written output.old; output_faults = K.faults output.old };
-            noted = D.written notes.old; notes_faults = D.faults notes.old })
-        (record { contents = L.contents files.new; missed = L.missed files.new;
-            streams = record { left = S.left input.new; piece = S.piece input.new; input_faults = S.faults input.new;
-                written = K.written output.new; output_faults = K.faults output.new };
-            noted = D.written notes.new; notes_faults = D.faults notes.new })
+        (record {
+          contents = L.contents files.old;
+          missed = L.missed files.old;
+          streams = record {
+            left = S.left input.old;
+            piece = S.piece input.old;
+            input_faults = S.faults input.old;
+            written = K.written output.old;
+            output_faults = K.faults output.old;
+          };
+          noted = D.written notes.old;
+          notes_faults = D.faults notes.old;
+        })
+        (record {
+          contents = L.contents files.new;
+          missed = L.missed files.new;
+          streams = record {
+            left = S.left input.new;
+            piece = S.piece input.new;
+            input_faults = S.faults input.new;
+            written = K.written output.new;
+            output_faults = K.faults output.new;
+          };
+          noted = D.written notes.new;
+          notes_faults = D.faults notes.new;
+        })
         result }
 {
     let outcome = run_unnoted(alloc, words, files, input, output);
@@ -99,14 +127,32 @@ pub fn run_words<L: Loader, S: Source, K: Sink, D: Sink>(
     ensures not_had { IfErr words (λ error. result ≡ unhad error) }
 
     ensures runs { Runs (names_had (λ words. map string_bytes words.items) words)
-        (record { contents = L.contents files.old; missed = L.missed files.old;
-            streams = record { left = S.left input.old; piece = S.piece input.old; input_faults = S.faults input.old;
-                written = K.written output.old; output_faults = K.faults output.old };
-            noted = D.written notes.old; notes_faults = D.faults notes.old })
-        (record { contents = L.contents files.new; missed = L.missed files.new;
-            streams = record { left = S.left input.new; piece = S.piece input.new; input_faults = S.faults input.new;
-                written = K.written output.new; output_faults = K.faults output.new };
-            noted = D.written notes.new; notes_faults = D.faults notes.new })
+        (record {
+          contents = L.contents files.old;
+          missed = L.missed files.old;
+          streams = record {
+            left = S.left input.old;
+            piece = S.piece input.old;
+            input_faults = S.faults input.old;
+            written = K.written output.old;
+            output_faults = K.faults output.old;
+          };
+          noted = D.written notes.old;
+          notes_faults = D.faults notes.old;
+        })
+        (record {
+          contents = L.contents files.new;
+          missed = L.missed files.new;
+          streams = record {
+            left = S.left input.new;
+            piece = S.piece input.new;
+            input_faults = S.faults input.new;
+            written = K.written output.new;
+            output_faults = K.faults output.new;
+          };
+          noted = D.written notes.new;
+          notes_faults = D.faults notes.new;
+        })
         result }
 {
     match words {

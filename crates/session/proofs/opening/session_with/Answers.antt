@@ -1,8 +1,6 @@
 -- The automaton accepts the patterns' numbers alone, and by it the session is plain.
-use Rattle.std.proofs.Common.{◌≡◌, sym, subst, ap, ◌∙◌}
-use Rattle.dfa_core.specs.Automata.{accepted}
+use Rattle.std.proofs.Common.{sym, subst, ap, ◌∙◌}
 use Rattle.dfa_core.specs.States.{matched_from}
-use Rattle.dfa_core.specs.Words.{Word}
 use Rattle.session.specs.Kept.{NumbersPatterns}
 use Rattle.session.specs.Opened.{IsPlainWith}
 use Rattle.session.proofs.Finding.{plain-first}

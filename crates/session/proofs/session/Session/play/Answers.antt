@@ -1,5 +1,5 @@
 -- The answer says what the history answered.
-use Rattle.std.proofs.Common.{◌≡◌, Err, ap, subst, ◌∙◌}
+use Rattle.std.proofs.Common.{Err, ap, subst, ◌∙◌}
 use Rattle.session.specs.BoardCommands.{played}
 use Rattle.session.specs.Kept.{Kept, machine_of}
 use Rattle.session.specs.Answers.{IsAnswer}
