@@ -4,11 +4,10 @@ use Rattle.std.proofs.lemmas.Option.{slice_get_within}
 use Rattle.go_rules.specs.declared.Colour.{Colour}
 use Rattle.go_rules.specs.Position.{BoardState}
 use Rattle.pat_types.specs.declared.pattern.Pattern.{Pattern}
-use Rattle.dfa_core.specs.Automata.{Row, accepted}
-use Rattle.dfa_core.specs.States.{matched_from}
-use Rattle.dfa_core.specs.Words.{Word}
-use Rattle.match_engine.specs.Match.{machine_matches, is_machine_match}
-use Rattle.match_engine.proofs.Orders.{by-has}
+use Rattle.dfa_core.specs.Automata.{Row}
+use Rattle.dfa_core.specs.States.{IsMachineOf}
+use Rattle.match_engine.specs.MachineMatches.{machine_matches, is_machine_match}
+use Rattle.match_rules.proofs.Orders.{by-has}
 use Rattle.match_engine.proofs.Patterns.{same_by_machine}
 use Rattle.gtp_lex.specs.Lines.{LinesState}
 use Rattle.session.specs.Machine.{first_machine, position_of}
@@ -31,7 +30,7 @@ AreAmong-found rows patterns board friend = λ z there.
     (slice_get_within patterns z.pattern by.pattern by.number, by.at)
 
 -- with the automaton of its patterns a session is plain before its first line
-pub plain-first : (patterns : List Pattern) (rows : List Row) → ((w : Word) → accepted rows w ≡ matched_from 0 patterns w)
+pub plain-first : (patterns : List Pattern) (rows : List Row) → IsMachineOf patterns rows
     → IsPlainWith patterns (first_kept patterns rows)
 plain-first patterns rows accepts = record {
   machine = refl;

@@ -3,8 +3,9 @@ use Rattle.std.specs.Prelude.{List}
 use Rattle.go_rules.specs.declared.Colour.{Colour}
 use Rattle.pat_types.specs.declared.pattern.Pattern.{Pattern}
 use Rattle.dfa_core.specs.Automata.{Row}
-use Rattle.match_engine.specs.declared.found.Match.{Match}
-use Rattle.match_engine.specs.Match.{matches_of, machine_matches}
+use Rattle.match_rules.specs.declared.found.Match.{Match}
+use Rattle.match_rules.specs.Match.{matches_of}
+use Rattle.match_engine.specs.MachineMatches.{machine_matches}
 use Rattle.session.specs.Machine.{Machine, position_of}
 
 -- patterns, and their matches on the position of a machine for a friend
