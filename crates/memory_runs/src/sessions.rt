@@ -49,7 +49,7 @@ pub const SESSIONS: [Session; 25] = [
     Session {
         name: "board_sizes_and_the_smallest_board",
         files: &[],
-        input: b"boardsize 1\nboardsize 20\nboardsize x\nboardsize 2\nplay b A1\nplay b B2\nis_legal w B1\nall_legal w\nall_legal b\ncountlib A1\nshowboard\n",
+        input: b"boardsize 1\nboardsize 26\nboardsize x\nboardsize 2\nplay b A1\nplay b B2\nis_legal w B1\nall_legal w\nall_legal b\ncountlib A1\nshowboard\n",
         output: b"? unacceptable size\n\n? unacceptable size\n\n? syntax error\n\n=\n\n=\n\n=\n\n= 0\n\n=\n\n= A2 B1\n\n= 2\n\n= \n 2 . X\n 1 X .\n   A B\n\n",
     },
     Session {

@@ -6,10 +6,13 @@ use dfa_join::compile;
 use gtp_io::{Feed, Page, Shelf, SureFeed, SurePage, SureShelf};
 use gtp_lex::Raw;
 use pat_types::Pattern;
-use session::{Outcome, Reply, Session, run};
+use session::{Outcome, Reply, Session, WordsError, run, run_words};
 use std::alloc::Global;
 use std::process::Abort;
 use std::test::Fail;
+
+/// The most bytes of one call.
+const PIECE: usize = 4096;
 
 /// Room for the replies of every session.
 const ROOM: usize = 4096;
@@ -38,7 +41,7 @@ struct Way {
 
 /// Nothing fails, and each call moves as much as it can.
 const WHOLE: Way = Way {
-    piece: 4096,
+    piece: PIECE,
     loader_fails: 0,
     source_fails: 0,
     sink_fails: 0,
@@ -143,9 +146,10 @@ fn longest_line_and_one_byte_more(rt: HostRuntime) -> Result<(), Fail> {
     for (what, letters, output) in cases {
         let mut input = vec![in rt.alloc(); b'x'; letters]?;
         input.extend_from_slice(b"\nname\n")?;
+        let mut feed = Feed::new(input, PIECE, Vec::new(rt.alloc()));
         let mut page = Page::new(rt.alloc(), ROOM, ROOM, Vec::new(rt.alloc()))?;
         let mut none = shelf(&rt, rt.alloc(), &[], 0)?;
-        let outcome = run_in_memory(rt.alloc(), &[], &mut none, input, &mut page);
+        let outcome = run_in_memory(rt.alloc(), &[], &mut none, &mut feed, &mut page);
         assert_eq!(rt; page.bytes(), output, "{what}");
         assert_eq!(rt; outcome, Outcome::Done, "{what}");
     }
@@ -187,6 +191,128 @@ fn reads_no_further_than_it_answers(rt: HostRuntime) -> Result<(), Fail> {
     assert_eq!(rt; ran.output.bytes(), b"".as_slice());
     assert_eq!(rt; ran.left, 8);
     assert_eq!(rt; ran.outcome, Outcome::OutputFault);
+    Ok(())
+}
+
+/// Two files, each without a fault.
+const TWO_FILES: &[File] = &[
+    File {
+        name: "p",
+        text: b"Pattern P\nO*\n:8,s\n",
+    },
+    File {
+        name: "q",
+        text: b"Pattern Q\nX*\n:8,s\n",
+    },
+];
+
+/// A file with a fault in its third line.
+const BAD_FILE: &[File] = &[File {
+    name: "p",
+    text: b"Pattern A\nOX\n:8,s\n",
+}];
+
+/// Runs in which one call is set to fail that is not to be made, and how they end: the exit status, and how many bytes are left.
+const UNMADE_CALLS: [(&str, &[File], &[u8], Way, u8, usize); 8] = [
+    (
+        "each file is loaded once",
+        TWO_FILES,
+        b"name\n",
+        Way {
+            loader_fails: 3,
+            ..WHOLE
+        },
+        0,
+        0,
+    ),
+    (
+        "no bytes are asked for after the end",
+        &[],
+        b"name\n",
+        Way {
+            source_fails: 3,
+            ..WHOLE
+        },
+        0,
+        0,
+    ),
+    (
+        "none after a line that ends the session",
+        &[],
+        b"quit\nname\n",
+        Way {
+            source_fails: 2,
+            ..WHOLE
+        },
+        0,
+        0,
+    ),
+    (
+        "none after a fault of the source",
+        &[],
+        b"name\nname\n",
+        Way {
+            piece: 5,
+            source_fails: 2,
+            ..WHOLE
+        },
+        4,
+        5,
+    ),
+    (
+        "none after a fault of the output",
+        &[],
+        b"name\nname\n",
+        Way {
+            piece: 5,
+            sink_fails: 1,
+            ..WHOLE
+        },
+        5,
+        5,
+    ),
+    (
+        "each reply is put once, and nothing for a line without words",
+        &[],
+        b"name\n#\nname\n",
+        Way {
+            sink_fails: 3,
+            ..WHOLE
+        },
+        0,
+        0,
+    ),
+    (
+        "no bytes are asked for where the files have a fault",
+        BAD_FILE,
+        b"name\n",
+        Way {
+            source_fails: 1,
+            ..WHOLE
+        },
+        1,
+        5,
+    ),
+    (
+        "nothing is put where the files have a fault",
+        BAD_FILE,
+        b"name\n",
+        Way {
+            sink_fails: 1,
+            ..WHOLE
+        },
+        1,
+        5,
+    ),
+];
+
+#[test]
+fn no_call_is_made_that_is_not_needed(rt: HostRuntime) -> Result<(), Fail> {
+    for (what, files, input, way, status, left) in UNMADE_CALLS {
+        let ran = go(&rt, rt.alloc(), files, input, way)?;
+        assert_eq!(rt; ran.outcome.code(), status, "{what}");
+        assert_eq!(rt; ran.left, left, "{what}");
+    }
     Ok(())
 }
 
@@ -244,6 +370,33 @@ fn notes_that_fail_change_no_outcome(rt: HostRuntime) -> Result<(), Fail> {
     let ran = go(&rt, rt.alloc(), &[], b"name\n", way)?;
     assert_eq!(rt; ran.notes.bytes(), b"".as_slice());
     assert_eq!(rt; ran.outcome, Outcome::InputFault);
+    Ok(())
+}
+
+#[test]
+fn words_that_could_not_be_had_are_told(rt: HostRuntime) -> Result<(), Fail> {
+    for (error, status, note) in [
+        (
+            WordsError::NotText,
+            2,
+            b"usage: gopat [options] [file ...]\n".as_slice(),
+        ),
+        (WordsError::NoMemory, 3, b"out of memory\n".as_slice()),
+    ] {
+        let mut shelf = SureShelf::new(Vec::new(rt.alloc()), Vec::new(rt.alloc()));
+        let mut feed = SureFeed::new(Vec::from_slice(rt.alloc(), b"name\n")?, 5);
+        let mut notes = Page::new(rt.alloc(), ROOM, ROOM, Vec::new(rt.alloc()))?;
+        let outcome = run_words(
+            rt.alloc(),
+            Err(error),
+            &mut shelf,
+            &mut feed,
+            &mut SurePage::new(),
+            &mut notes,
+        );
+        assert_eq!(rt; outcome.code(), status);
+        assert_eq!(rt; notes.bytes(), note);
+    }
     Ok(())
 }
 

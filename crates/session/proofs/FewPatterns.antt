@@ -1,5 +1,5 @@
 -- A text without a fault has at most as many entries as a database may have.
-use Rattle.std.proofs.Common.{◌≡◌, ℕ, ◌+◌, ◌≤◌, ◌<◌, Bool, true, false, cond, leb, List, [], ◌∷◌, ◌++◌, length, map, Option, Some, None, refl, sym, ap, subst, ◌∙◌, arith, length-append}
+use Rattle.std.proofs.Common.{◌≡◌, ℕ, ◌+◌, ◌≤◌, ◌<◌, Bool, true, false, cond, leb, List, [], ◌∷◌, ◌++◌, length, map, Option, Some, None, Result, Ok, Err, IfOk, refl, sym, ap, subst, ◌∙◌, arith, length-append}
 use Rattle.std.proofs.lemmas.Bool.Decides.{nat_tests}
 use Rattle.std.proofs.lemmas.List.{length-map}
 use Rattle.std.specs.Prelude.{fold}
@@ -114,3 +114,9 @@ pub few_patterns : {A : Type 0} (f : A → Entry) (patterns : List A) (text : Li
     → length patterns ≤ most_patterns
 few_patterns f patterns text none spelled =
     subst (λ n. n ≤ most_patterns) (ap length (sym spelled) ∙ length-map patterns f) (few_entries [] text none)
+
+-- so has what was read of a text without a fault
+pub few_read : {V A E : Type 0} (items : V → List A) (f : A → Entry) (result : Result V E) (text : List ℕ)
+    → IfOk result (λ v. (first_fault [] text ≡ None) × (map f (items v) ≡ entries text)) → IfOk result (λ v. length (items v) ≤ most_patterns)
+few_read items f (Ok v) text read = few_patterns f (items v) text read.0 read.1
+few_read items f (Err e) text read = tt

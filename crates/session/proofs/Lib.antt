@@ -3,7 +3,7 @@ pub mod WithinLemmas
 pub mod Said
 pub mod Playing
 pub mod Replied
-pub mod Refusals
+pub mod Soundness
 pub mod ServeLemmas
 pub mod Served
 pub mod LineTexts

@@ -4,13 +4,16 @@ use Rattle.std.proofs.Math.Seq.{drop-append_seam}
 use Rattle.std.proofs.lemmas.List.{map-append, take_more}
 use Rattle.std.proofs.lemmas.List.Concat.{flat_map-append}
 use Rattle.gtp_io.specs.Loading.{IsLoaded}
-use Rattle.gtp_rules.specs.Lines.{RawLine}
-use Rattle.gtp_rules.specs.Steps.{Step}
+use Rattle.session.specs.Opening.{added_feed, ended, joined_text, IsContents, AreContents, IsJoined, Adds, MissedBy, MissedIn, IsDatabase, RefusesStates, IsRefused, unloaded, unread}
+use Rattle.db_read.specs.Reading.{BlamesAt}
+use Rattle.db_read.specs.declared.error.DbError.{DbError}
+use Rattle.db_read.specs.declared.error.DbError.TheVariants as db
+use Rattle.gtp_io.specs.declared.errors.LoadError.{LoadError}
+use Rattle.gtp_io.specs.declared.errors.LoadError.TheVariants as load
+use Rattle.db_grammar.specs.Faults.{first_fault}
 use Rattle.pat_types.specs.declared.pattern.Pattern.{Pattern}
-use Rattle.session.specs.Headline.{IsRight}
-use Rattle.session.specs.Opening.{added_feed, ended, joined_text, IsContents, AreContents, IsJoined, Adds, FilesAre, IsRefused, RefusesStates}
-use Rattle.session.specs.declared.outcome.Outcome.{Outcome}
-use Rattle.session.specs.declared.outcome.Outcome.TheVariants.{Done, BadDatabase, Usage, NoMemory, InputFault, OutputFault, FileFault, TooManyStates, InputTooLong}
+use Rattle.session.specs.declared.outcome.OpenError.{OpenError}
+use Rattle.session.specs.declared.outcome.OpenError.TheVariants as opening
 
 -- what was loaded stands behind the bytes that were handed in
 loaded : (contents : Option (List ℕ)) (into bytes : List ℕ) → IsLoaded contents into bytes → (more : List ℕ) × IsContents contents more × (bytes ≡ into ++ more)
@@ -54,41 +57,44 @@ IsJoined-next f contents words i word text new within is so_far adds =
       joined = adds.added ∙ ap (λ l. l ++ ended adds.text) so_far.joined ∙ sym (joined_text-next so_far.texts adds.text);
     }
 
--- files that were refused are so
-pub FilesAre-refused : (contents : List ℕ → Option (List ℕ)) (names : List (List ℕ)) (patterns : List Pattern) (o : Outcome) → IsRefused contents names o
-    → FilesAre contents names patterns o
-FilesAre-refused contents names patterns Done is = absurd is
-FilesAre-refused contents names patterns (BadDatabase line kind) is = is
-FilesAre-refused contents names patterns Usage is = absurd is
-FilesAre-refused contents names patterns NoMemory is = tt
-FilesAre-refused contents names patterns InputFault is = absurd is
-FilesAre-refused contents names patterns OutputFault is = absurd is
-FilesAre-refused contents names patterns FileFault is = tt
-FilesAre-refused contents names patterns (TooManyStates limit) is = absurd is
-FilesAre-refused contents names patterns InputTooLong is = absurd is
+-- Why files were not opened.
+module _ (contents : List ℕ → Option (List ℕ)) (names : List (List ℕ)) (most : ℕ) where
+  -- a file could not be loaded
+  pub refused-unloaded : (cause : LoadError) → IsRefused contents names most (unloaded cause)
+  refused-unloaded load.Failed = tt
+  refused-unloaded load.NoMemory = tt
 
--- where the files were refused nothing was taken and nothing put
-pub IsRight-refused : {M : Type 0} (step : M → RawLine → Step M) (first : M) (left : Option (List ℕ)) (piece : ℕ) (contents : List ℕ → Option (List ℕ)) (names : List (List ℕ))
-    (o : Outcome) → IsRefused contents names o → IsRight step first left [] [] piece o
-IsRight-refused step first left piece contents names Done is = absurd is
-IsRight-refused step first left piece contents names (BadDatabase line kind) is = (refl, refl)
-IsRight-refused step first left piece contents names Usage is = absurd is
-IsRight-refused step first left piece contents names NoMemory is = (refl, refl)
-IsRight-refused step first left piece contents names InputFault is = absurd is
-IsRight-refused step first left piece contents names OutputFault is = absurd is
-IsRight-refused step first left piece contents names FileFault is = (refl, refl)
-IsRight-refused step first left piece contents names (TooManyStates limit) is = absurd is
-IsRight-refused step first left piece contents names InputTooLong is = absurd is
+  -- the joined text is no database
+  pub refused-unread : (text : List ℕ) (cause : DbError) → IsJoined contents names text → BlamesAt cause (first_fault [] text)
+      → IsRefused contents names most (unread cause)
+  refused-unread text (db.Fault line kind) joined blames = record { text = text; joined = joined; fault = blames }
+  refused-unread text db.NoMemory joined blames = tt
 
--- where the automaton was refused nothing was taken and nothing put
-pub IsRight-states : {M : Type 0} (step : M → RawLine → Step M) (first : M) (left : Option (List ℕ)) (piece : ℕ) (patterns : List Pattern) (o : Outcome)
-    → RefusesStates patterns o → IsRight step first left [] [] piece o
-IsRight-states step first left piece patterns Done none = absurd none
-IsRight-states step first left piece patterns (BadDatabase line kind) none = absurd none
-IsRight-states step first left piece patterns Usage none = absurd none
-IsRight-states step first left piece patterns NoMemory none = (refl, refl)
-IsRight-states step first left piece patterns InputFault none = absurd none
-IsRight-states step first left piece patterns OutputFault none = absurd none
-IsRight-states step first left piece patterns FileFault none = absurd none
-IsRight-states step first left piece patterns (TooManyStates limit) refused = (refl, refl)
-IsRight-states step first left piece patterns InputTooLong none = absurd none
+  -- the patterns have too many states, or there was no memory
+  pub refused-states : (patterns : List Pattern) (error : OpenError) → IsDatabase contents names patterns → RefusesStates patterns most error
+      → IsRefused contents names most error
+  refused-states patterns opening.FileFault database refuses = tt
+  refused-states patterns (opening.BadDatabase line kind) database refuses = absurd refuses
+  refused-states patterns (opening.TooManyStates limit) database refuses =
+      (refuses.0, record { patterns = patterns; database = database; many = refuses.1 })
+  refused-states patterns opening.NoMemory database refuses = tt
+
+-- Which names are missed then.
+module _ (names before now : List (List ℕ)) where
+  -- a file could not be loaded
+  pub missed-unloaded : (cause : LoadError) → MissedBy names before now cause → MissedIn names before now (unloaded cause)
+  missed-unloaded load.Failed missed = missed
+  missed-unloaded load.NoMemory missed = missed
+
+  -- every file was loaded, and their text is no database
+  pub missed-unread : (cause : DbError) → now ≡ before → MissedIn names before now (unread cause)
+  missed-unread (db.Fault line kind) same = same
+  missed-unread db.NoMemory same = same
+
+  -- every file was loaded, and the patterns were refused
+  pub missed-states : (patterns : List Pattern) (most : ℕ) (error : OpenError) → RefusesStates patterns most error → now ≡ before
+      → MissedIn names before now error
+  missed-states patterns most opening.FileFault refuses same = absurd refuses
+  missed-states patterns most (opening.BadDatabase line kind) refuses same = same
+  missed-states patterns most (opening.TooManyStates limit) refuses same = same
+  missed-states patterns most opening.NoMemory refuses same = same

@@ -1,10 +1,9 @@
 -- What a line with words says.
-use Rattle.std.proofs.Common.{◌≡◌, ℕ, List, [], ◌∷◌, Option, Some, None, refl, sym, ap, ◌∙◌}
+use Rattle.std.proofs.Common.{◌≡◌, ℕ, List, [], ◌∷◌, Option, Some, None, refl, ap}
 use Rattle.gtp_cmd.specs.Words.{words_of, cleaned, id_of}
 use Rattle.gtp_cmd.specs.Commands.{command_of, named, asked, called, said, said_with, parsed_words, parsed_of}
 use Rattle.gtp_cmd.specs.declared.commands.Command.{Command}
 use Rattle.gtp_cmd.specs.declared.commands.CommandName.{CommandName}
-use Rattle.gtp_cmd.specs.declared.commands.Parsed.{Parsed}
 use Rattle.gtp_cmd.specs.declared.commands.Parsed.TheVariants.{Nothing}
 
 -- a command that may be missing says something

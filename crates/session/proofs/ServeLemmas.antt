@@ -1,17 +1,20 @@
 -- The steps of the loops of a run, over plain values.
-use Rattle.std.proofs.Common.{◌≡◌, ◌≢◌, ℕ, ◌+◌, ◌-◌, ◌<◌, ◌≤◌, Bool, true, false, List, [], ◌∷◌, ◌++◌, length, take, drop, Option, Some, None, Result, Ok, Err, OnErr, IfOk, refl, sym, ap, subst, ◌∙◌, append_assoc, append-nil, take-append-drop, length-append, arith}
-use Rattle.std.specs.Io.KnownBytes.{Appends, Consumes}
-use Rattle.std.proofs.KnownBytes.{Appends-nil, Appends-trans, Consumes-nil, Consumes-trans}
-use Rattle.std.proofs.lemmas.List.{take_rest, take_all, drop_all}
+use Rattle.std.proofs.Common.{◌≡◌, ◌≢◌, ℕ, ◌-◌, Bool, true, false, List, [], ◌∷◌, ◌++◌, length, take, drop, Option, Some, None, Result, Ok, Err, OnErr, IfOk, refl, sym, ap, subst, ◌∙◌, append_assoc, take-append-drop, length-append, arith}
+use Rattle.std.specs.Io.KnownBytes.{Appends}
+use Rattle.std.proofs.KnownBytes.{Appends-nil, Appends-trans}
+use Rattle.std.proofs.lemmas.List.{take_rest, take_all}
 use Rattle.gtp_rules.specs.Lines.{RawLine, Line, TooLong}
 use Rattle.gtp_rules.specs.Steps.{Step}
-use Rattle.gtp_rules.specs.Transcript.{Answers, IsRun, Cut}
+use Rattle.gtp_rules.specs.Transcript.{IsRun}
 use Rattle.gtp_rules.proofs.Runs.{IsRun-nil, IsRun-one, IsRun-append, IsRun-ended, Cut-after, Cut-more}
 use Rattle.gtp_lex.specs.Held.{lines_from, held_from, held_line}
 use Rattle.gtp_lex.specs.Lines.{LinesState, Feeds}
 use Rattle.gtp_lex.specs.LinesTaken.{taken_of, given_state}
 use Rattle.gtp_lex.specs.declared.lines.Taken.{Taken}
 use Rattle.gtp_lex.proofs.HeldLemmas.{lines_from-append, held_from-append}
+use Rattle.session.specs.Machine.{Machine}
+use Rattle.session.specs.Matcher.{Matcher}
+use Rattle.session.specs.Answering as answering
 use Rattle.session.specs.Serving.{PutsPart, Replies, RepliesPart, RunsTo, RunsPart}
 
 -- the sink took n bytes more of the rest
@@ -129,6 +132,18 @@ on_err_from (Err e) p = p
 pub on_err_map : {T E P Q : Type 0} (result : Result T E) → (P → Q) → OnErr result P → OnErr result Q
 on_err_map (Ok x) words p = tt
 on_err_map (Err e) words p = words p
+
+-- Two sessions that find matches in one way answer by one step.
+module _ (now first : Matcher) (same : now ≡ first) where
+  -- lines that were answered whole
+  pub RunsTo-by : (from : Machine) (lines : List RawLine) (to : Machine) (ended : Bool) (a b : Option (List ℕ))
+      → RunsTo (answering.step now) from lines to ended a b → RunsTo (answering.step first) from lines to ended a b
+  RunsTo-by from lines to ended a b runs = subst (λ m. RunsTo (answering.step m) from lines to ended a b) same runs
+
+  -- lines of which one broke off
+  pub RunsPart-by : (from : Machine) (lines : List RawLine) (a b : Option (List ℕ))
+      → RunsPart (answering.step now) from lines a b → RunsPart (answering.step first) from lines a b
+  RunsPart-by from lines a b runs = subst (λ m. RunsPart (answering.step m) from lines a b) same runs
 
 module _ (M : Type 0) (step : M → RawLine → Step M) where
   -- one line, answered whole

@@ -1,14 +1,17 @@
--- What a session keeps, and the machine that it is.
+-- What a session keeps: the machine that it is, and how it finds matches.
 use Rattle.std.specs.Prelude.{ℕ, ◌<◌, List, [], length, codes, Contains}
 use Rattle.go_rules.specs.declared.Move.{Move}
 use Rattle.go_rules.specs.Board.{largest_size}
 use Rattle.pat_types.specs.declared.pattern.Pattern.{Pattern}
 use Rattle.dfa_core.specs.Automata.{Row, accepted}
 use Rattle.dfa_core.specs.Words.{Word}
-use Rattle.match_engine.specs.MachineMatches.{machine_matches}
+use Rattle.gtp_rules.specs.Lines.{RawLine}
+use Rattle.gtp_rules.specs.Steps.{Step}
 use Rattle.session.specs.Machine.{Machine, first_plies, first_wide}
+use Rattle.session.specs.Matcher.{Matcher, automaton_matcher}
+use Rattle.session.specs.Answering.{step}
 
--- settings and moves, and the automaton by which the matches of the patterns are found
+-- settings and moves, the patterns, and the automaton by which their matches are found
 pub record Kept : Type 0 where
   pub size : ℕ
   pub moves : List Move
@@ -18,17 +21,17 @@ pub record Kept : Type 0 where
   pub patterns : List Pattern
   pub automaton : List Row
 
--- the machine that a session is: for the matches of its patterns it takes those by its automaton
+-- the machine that a session is
 abbrev pub machine_of : Kept → Machine
-machine_of kept = record {
-  size = kept.size;
-  moves = kept.moves;
-  komi = kept.komi;
-  plies = kept.plies;
-  wide = kept.wide;
-  patterns = kept.patterns;
-  matches = machine_matches kept.automaton kept.patterns;
-}
+machine_of kept = record { size = kept.size; moves = kept.moves; komi = kept.komi; plies = kept.plies; wide = kept.wide }
+
+-- how a session finds matches: by its automaton
+abbrev pub matcher_of : Kept → Matcher
+matcher_of kept = automaton_matcher kept.patterns kept.automaton
+
+-- the step by which a session answers a line
+abbrev pub step_of : Kept → Machine → RawLine → Step Machine
+step_of kept machine line = step (matcher_of kept) machine line
 
 -- what a session with these patterns and this automaton keeps before the first line
 abbrev pub first_kept : List Pattern → List Row → Kept

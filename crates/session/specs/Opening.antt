@@ -8,8 +8,12 @@ use Rattle.pat_types.specs.declared.pattern.Pattern.{Pattern}
 use Rattle.dfa_core.specs.States.{HasStates, HasMoreStates}
 use Rattle.db_grammar.specs.Entries.{entry_of}
 use Rattle.db_grammar.specs.Faults.{first_fault, entries}
-use Rattle.session.specs.declared.outcome.Outcome.{Outcome}
-use Rattle.session.specs.declared.outcome.Outcome.TheVariants.{Done, BadDatabase, Usage, NoMemory, InputFault, OutputFault, FileFault, TooManyStates, InputTooLong}
+use Rattle.db_read.specs.declared.error.DbError.{DbError}
+use Rattle.db_read.specs.declared.error.DbError.TheVariants as db
+use Rattle.dfa_join.specs.declared.error.JoinError.{JoinError}
+use Rattle.dfa_join.specs.declared.error.JoinError.TheVariants as join
+use Rattle.session.specs.declared.outcome.OpenError.{OpenError}
+use Rattle.session.specs.declared.outcome.OpenError.TheVariants.{FileFault, BadDatabase, TooManyStates, NoMemory}
 
 -- the most patterns of a database
 abbrev pub most_patterns : ℕ
@@ -97,89 +101,52 @@ pub record IsFaulty (contents : List ℕ → Option (List ℕ)) (names : List (L
   pub fault : first_fault [] text ≡ Some (record { line = line; kind = kind })
 
 -- the patterns have no more states than there may be
-abbrev pub HasFewStates : List Pattern → Type 0
-HasFewStates patterns = (n : ℕ) × HasStates patterns n × (n ≤ most_states)
+abbrev pub HasFewStates : List Pattern → ℕ → Type 0
+HasFewStates patterns most = (n : ℕ) × HasStates patterns n × (n ≤ most)
 
--- by the outcome of a run, what its files are and which patterns are theirs
-abbrev pub FilesAre : (List ℕ → Option (List ℕ)) → List (List ℕ) → List Pattern → Outcome → Type 0
-FilesAre contents names patterns Done = IsDatabase contents names patterns × HasFewStates patterns
-FilesAre contents names patterns (BadDatabase line kind) = IsFaulty contents names line kind
-FilesAre contents names patterns Usage = Unit {0}
-FilesAre contents names patterns NoMemory = Unit {0}
-FilesAre contents names patterns InputFault = IsDatabase contents names patterns × HasFewStates patterns
-FilesAre contents names patterns OutputFault = IsDatabase contents names patterns × HasFewStates patterns
-FilesAre contents names patterns FileFault = Unit {0}
-FilesAre contents names patterns (TooManyStates limit) = (limit ≡ most_states) × IsDatabase contents names patterns × HasMoreStates patterns most_states
-FilesAre contents names patterns InputTooLong = IsDatabase contents names patterns × HasFewStates patterns
+-- the joined files have no fault, their entries are the patterns, and these have no more states than there may be
+pub record IsOpened (contents : List ℕ → Option (List ℕ)) (names : List (List ℕ)) (most : ℕ) (patterns : List Pattern) : Type 0 where
+  pub database : IsDatabase contents names patterns
+  pub few : HasFewStates patterns most
 
--- by the outcome of a run, which names its loader missed: a fault of a file appended its name, and no other outcome appends one
-abbrev pub MissedAfter : List (List ℕ) → List (List ℕ) → List (List ℕ) → Outcome → Type 0
-MissedAfter names before now Done = now ≡ before
-MissedAfter names before now (BadDatabase line kind) = now ≡ before
-MissedAfter names before now Usage = now ≡ before
-MissedAfter names before now NoMemory = now ≡ before
-MissedAfter names before now InputFault = now ≡ before
-MissedAfter names before now OutputFault = now ≡ before
-MissedAfter names before now FileFault = MissedOne names before now
-MissedAfter names before now (TooManyStates limit) = now ≡ before
-MissedAfter names before now InputTooLong = now ≡ before
+-- the joined files have no fault, and their entries have more states than there may be
+pub record HasTooMany (contents : List ℕ → Option (List ℕ)) (names : List (List ℕ)) (most : ℕ) : Type 0 where
+  pub patterns : List Pattern
+  pub database : IsDatabase contents names patterns
+  pub many : HasMoreStates patterns most
 
--- the loop of lines was entered
-abbrev pub WasEntered : Outcome → Type 0
-WasEntered Done = Unit {0}
-WasEntered (BadDatabase line kind) = ⊥
-WasEntered Usage = ⊥
-WasEntered NoMemory = ⊥
-WasEntered InputFault = Unit {0}
-WasEntered OutputFault = Unit {0}
-WasEntered FileFault = ⊥
-WasEntered (TooManyStates limit) = ⊥
-WasEntered InputTooLong = Unit {0}
+-- the files were not opened, and the error says why
+abbrev pub IsRefused : (List ℕ → Option (List ℕ)) → List (List ℕ) → ℕ → OpenError → Type 0
+IsRefused contents names most FileFault = Unit {0}
+IsRefused contents names most (BadDatabase line kind) = IsFaulty contents names line kind
+IsRefused contents names most (TooManyStates limit) = (limit ≡ most) × HasTooMany contents names most
+IsRefused contents names most NoMemory = Unit {0}
 
--- the files were not opened, and the outcome says why
-abbrev pub IsRefused : (List ℕ → Option (List ℕ)) → List (List ℕ) → Outcome → Type 0
-IsRefused contents names Done = ⊥
-IsRefused contents names (BadDatabase line kind) = IsFaulty contents names line kind
-IsRefused contents names Usage = ⊥
-IsRefused contents names NoMemory = Unit {0}
-IsRefused contents names InputFault = ⊥
-IsRefused contents names OutputFault = ⊥
-IsRefused contents names FileFault = Unit {0}
-IsRefused contents names (TooManyStates limit) = ⊥
-IsRefused contents names InputTooLong = ⊥
+-- the names missed after the files were not opened: a fault of a file appended its name, and no other error appends one
+abbrev pub MissedIn : List (List ℕ) → List (List ℕ) → List (List ℕ) → OpenError → Type 0
+MissedIn names before now FileFault = MissedOne names before now
+MissedIn names before now (BadDatabase line kind) = now ≡ before
+MissedIn names before now (TooManyStates limit) = now ≡ before
+MissedIn names before now NoMemory = now ≡ before
 
--- the text is no database, and the outcome says why: it has this first fault, or there was no memory
-abbrev pub RefusesText : List ℕ → Outcome → Type 0
-RefusesText text Done = ⊥
-RefusesText text (BadDatabase line kind) = first_fault [] text ≡ Some (record { line = line; kind = kind })
-RefusesText text Usage = ⊥
-RefusesText text NoMemory = Unit {0}
-RefusesText text InputFault = ⊥
-RefusesText text OutputFault = ⊥
-RefusesText text FileFault = ⊥
-RefusesText text (TooManyStates limit) = ⊥
-RefusesText text InputTooLong = ⊥
+-- the patterns were refused: they have more states than there may be, or there was no memory
+abbrev pub RefusesStates : List Pattern → ℕ → OpenError → Type 0
+RefusesStates patterns most FileFault = ⊥
+RefusesStates patterns most (BadDatabase line kind) = ⊥
+RefusesStates patterns most (TooManyStates limit) = (limit ≡ most) × HasMoreStates patterns most
+RefusesStates patterns most NoMemory = Unit {0}
 
--- the patterns have no automaton, and the outcome says why: it would have too many states, or there was no memory
-abbrev pub RefusesStates : List Pattern → Outcome → Type 0
-RefusesStates patterns Done = ⊥
-RefusesStates patterns (BadDatabase line kind) = ⊥
-RefusesStates patterns Usage = ⊥
-RefusesStates patterns NoMemory = Unit {0}
-RefusesStates patterns InputFault = ⊥
-RefusesStates patterns OutputFault = ⊥
-RefusesStates patterns FileFault = ⊥
-RefusesStates patterns (TooManyStates limit) = (limit ≡ most_states) × HasMoreStates patterns most_states
-RefusesStates patterns InputTooLong = ⊥
+-- the error that a load's becomes
+abbrev pub unloaded : LoadError → OpenError
+unloaded load.Failed = FileFault
+unloaded load.NoMemory = NoMemory
 
--- by the outcome of a run that has these patterns, how many states they have
-abbrev pub StatesAre : List Pattern → Outcome → Type 0
-StatesAre patterns Done = HasFewStates patterns
-StatesAre patterns (BadDatabase line kind) = ⊥
-StatesAre patterns Usage = ⊥
-StatesAre patterns NoMemory = Unit {0}
-StatesAre patterns InputFault = HasFewStates patterns
-StatesAre patterns OutputFault = HasFewStates patterns
-StatesAre patterns FileFault = ⊥
-StatesAre patterns (TooManyStates limit) = (limit ≡ most_states) × HasMoreStates patterns most_states
-StatesAre patterns InputTooLong = HasFewStates patterns
+-- the error that a database's becomes
+abbrev pub unread : DbError → OpenError
+unread (db.Fault line kind) = BadDatabase line kind
+unread db.NoMemory = NoMemory
+
+-- the error that an automaton's becomes
+abbrev pub uncompiled : JoinError → OpenError
+uncompiled (join.TooManyStates limit) = TooManyStates limit
+uncompiled join.NoMemory = NoMemory

@@ -1,9 +1,9 @@
 -- What a session's reply is.
-use Rattle.std.specs.Prelude.{◌≡◌, ℕ, Bool, true, false, List, [], ◌∷◌, Option}
+use Rattle.std.specs.Prelude.{◌≡◌, ℕ, Bool, true, false, List, [], ◌∷◌}
 use Rattle.gtp_rules.specs.Lines.{RawLine, Line, TooLong}
 use Rattle.gtp_rules.specs.Steps.{Step}
 use Rattle.gtp_cmd.specs.Words.{words_of, cleaned}
-use Rattle.gtp_cmd.specs.Replies.{success_text, refusal_text}
+use Rattle.gtp_cmd.specs.Replies.{refusal_text}
 use Rattle.gtp_cmd.specs.declared.refusals.RefuseText.TheVariants.{OutOfMemory}
 use Rattle.session.specs.declared.reply.Reply.{Reply}
 use Rattle.session.specs.declared.reply.Reply.TheVariants as reply
@@ -36,13 +36,6 @@ IsReplyTo old given reply.Nothing new = ([] ≡ given.reply) × (false ≡ given
 IsReplyTo old given (reply.Short text quit) new = IsReply old given (reply.Short text quit) new
 IsReplyTo old given (reply.Text bytes) new = IsReply old given (reply.Text bytes) new
 IsReplyTo old given (reply.NoMemory id) new = IsReply old given (reply.NoMemory id) new
-
--- the reply is a success with this result, or want of memory in its place
-abbrev pub IsGrowing : Option ℕ → List ℕ → Reply → Type 0
-IsGrowing id text reply.Nothing = ⊥
-IsGrowing id text (reply.Short bytes quit) = ⊥
-IsGrowing id text (reply.Text bytes) = bytes ≡ success_text id text
-IsGrowing id text (reply.NoMemory none) = none ≡ id
 
 -- the line has no words, and is not too long
 abbrev pub IsWithoutWords : RawLine → Type 0

@@ -3,11 +3,16 @@ ghost use Rattle.std.specs.Prelude.{◌≡◌, ◌≤◌, ◌++◌, [], length, 
 ghost use Rattle.gtp_io.specs.Loading.{missed_after};
 ghost use Rattle.db_grammar.specs.Entries.{entry_of};
 ghost use Rattle.db_grammar.specs.Faults.{first_fault, entries};
-ghost use Rattle.session.specs.Opening.{is_option as begins_with_hyphen, has_option as has_one, most_patterns, needs_feed, added_feed, Adds, IsJoined, MissedBy, MissedAfter, IsDatabase, IsRefused, RefusesText};
+ghost use Rattle.db_read.specs.Reading.{BlamesAt};
+ghost use Rattle.session.specs.Opening.{is_option as begins_with_hyphen, has_option as has_one, most_patterns, needs_feed, added_feed, Adds, IsJoined, MissedBy, MissedIn, HasFewStates, RefusesStates, IsRefused};
+ghost use Rattle.session.specs.Opened.{IsPlainWith, Opens};
 
-use crate::outcome::Outcome;
+use crate::outcome::OpenError;
+use crate::session::Session;
 use db_read::{DbError, read};
+use dfa_join::compile;
 use gtp_io::{LoadError, Loader};
+use gtp_lex::Lines;
 use pat_types::Pattern;
 use std::alloc::{AllocError, Global};
 
@@ -76,36 +81,50 @@ fn joined<L: Loader>(alloc: Global, names: &[String], files: &mut L) -> Result<V
     Ok(text)
 }
 
-/// The patterns of a text, or the outcome that its first fault makes.
-fn patterns_in(alloc: Global, text: &[u8]) -> Result<Vec<Pattern>, Outcome>
+/// The patterns of a text without a fault.
+fn patterns_in(alloc: Global, text: &[u8]) -> Result<Vec<Pattern>, DbError>
     ensures ok { IfOk result (λ patterns. (first_fault [] text.now ≡ None) × (map entry_of patterns.items ≡ entries text.now)) }
     ensures few { IfOk result (λ patterns. length patterns.items ≤ most_patterns) }
-    ensures err { IfErr result (RefusesText text.now) }
+    ensures err { IfErr result (λ error. BlamesAt error (first_fault [] text.now)) }
 {
-    match read(alloc, text, &[], Vec::new(alloc)) {
-        Ok(patterns) => Ok(patterns),
-        Err(DbError::NoMemory) => Err(Outcome::NoMemory),
-        Err(DbError::Fault { line, kind }) => Err(Outcome::BadDatabase { line, kind }),
-    }
+    read(alloc, text, &[], Vec::new(alloc))
 }
 
-/// The patterns of the files, or the outcome that refuses them.
-pub(crate) fn open_files<L: Loader>(
+/// The session before its first line, and the lines of which none has come.
+#[derive(Drop)]
+pub(crate) struct Opened {
+    pub(crate) session: Session,
+    pub(crate) lines: Lines,
+}
+
+/// A session with these patterns, by their automaton.
+fn session_with(alloc: Global, patterns: Vec<Pattern>, most: u32) -> Result<Session, OpenError>
+    requires { length patterns.items ≤ most_patterns }
+    ensures ok { IfOk result (λ session. IsPlainWith patterns.items session) }
+    ensures few { OnOk result (HasFewStates patterns.items most) }
+    ensures err { IfErr result (RefusesStates patterns.items most) }
+{
+    let machine = compile(alloc, patterns.as_slice(), most)?;
+    Ok(Session::new(alloc, patterns, machine)?)
+}
+
+/// Opens the files with these names: joins their contents, reads them as one database and makes its patterns one automaton of at
+/// most so many states. Takes all memory that the run asks for before its first line.
+pub(crate) fn open<L: Loader>(
     alloc: Global,
     names: &[String],
     files: &mut L,
-) -> Result<Vec<Pattern>, Outcome>
-    ensures ok { IfOk result (λ patterns. IsDatabase (L.contents files.old) (map string_bytes names.now) patterns.items) }
-    ensures few { IfOk result (λ patterns. length patterns.items ≤ most_patterns) }
-    ensures err { IfErr result (IsRefused (L.contents files.old) (map string_bytes names.now)) }
+    most: u32,
+) -> Result<Opened, OpenError>
+    ensures ok { IfOk result (λ opened. Opens (L.contents files.old) (map string_bytes names.now) most opened.session opened.lines) }
     ensures kept { OnOk result (L.missed files.new ≡ L.missed files.old) }
-    ensures missed { IfErr result (MissedAfter (map string_bytes names.now) (L.missed files.old) (L.missed files.new)) }
+    ensures err { IfErr result (IsRefused (L.contents files.old) (map string_bytes names.now) most) }
+    ensures missed { IfErr result (MissedIn (map string_bytes names.now) (L.missed files.old) (L.missed files.new)) }
     ensures same { L.contents files.new ≡ L.contents files.old }
 {
-    let text = match joined(alloc, names, files) {
-        Ok(text) => text,
-        Err(LoadError::Failed) => return Err(Outcome::FileFault),
-        Err(LoadError::NoMemory) => return Err(Outcome::NoMemory),
-    };
-    patterns_in(alloc, text.as_slice())
+    let text = joined(alloc, names, files)?;
+    let patterns = patterns_in(alloc, text.as_slice())?;
+    let session = session_with(alloc, patterns, most)?;
+    let lines = Lines::new(alloc)?;
+    Ok(Opened { session, lines })
 }

@@ -4,7 +4,7 @@ ghost use Rattle.go_rules.specs.Strings.{cell_at};
 ghost use Rattle.gtp_cmd.specs.Vertices.{vertex_text};
 ghost use Rattle.read_rules.specs.Answer.{answer_of, asked_on};
 ghost use Rattle.read_tree.specs.Steps.{IsOnBoard};
-ghost use Rattle.session.specs.Readings.{spot_text, answer_text};
+ghost use Rattle.session.specs.ReadingCommands.{spot_text, answer_text};
 
 use crate::vertices::column_letter;
 use go_base::{Cell, Point, Position, Size, Watch};

@@ -1,7 +1,9 @@
 //! What a session answers to a line.
+ghost use Rattle.std.specs.Prelude.{◌≡◌, false};
+ghost use Rattle.gtp_cmd.specs.Replies.{refusal_text};
 
 use go_base::Bytes;
-use gtp_cmd::Short;
+use gtp_cmd::{RefuseText, Short, refusal};
 
 /// The answer to one line.
 #[derive(Drop)]
@@ -14,4 +16,16 @@ pub enum Reply {
     Text { bytes: Bytes },
     /// There was no memory for a growing reply: the refusal `out of memory` is put in its place, and the line counts as not sent.
     NoMemory { id: Option<u32> },
+}
+
+impl Reply {
+    /// A refusal.
+    pub(crate) fn refused(id: Option<u32>, text: RefuseText) -> Reply
+        ensures { result ≡ Reply.Short (refusal_text id text) false }
+    {
+        Reply::Short {
+            text: refusal(id, text),
+            quit: false,
+        }
+    }
 }

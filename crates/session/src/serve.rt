@@ -8,13 +8,11 @@ ghost use Rattle.gtp_lex.specs.Held.{lines_from, held_from, held_line};
 ghost use Rattle.gtp_lex.specs.Lines.{no_line};
 ghost use Rattle.gtp_lex.specs.LinesTaken.{taken_of, given_state};
 ghost use Rattle.gtp_lex.specs.Raw.{raw_line};
-ghost use Rattle.session.specs.Answering.{step};
 ghost use Rattle.session.specs.Headline.{Serves, IsCauseOf};
-ghost use Rattle.session.specs.Opening.{WasEntered};
-ghost use Rattle.session.specs.Kept.{machine_of};
+ghost use Rattle.session.specs.Kept.{machine_of, matcher_of, step_of};
 ghost use Rattle.session.specs.Serving.{PutsPart, Replies, RepliesPart, RunsTo, RunsPart};
 
-use crate::outcome::Outcome;
+use crate::outcome::End;
 use crate::reply::Reply;
 use crate::session::Session;
 use gtp_cmd::{RefuseText, refusal};
@@ -53,10 +51,11 @@ pub(crate) fn put_both<K: Sink>(output: &mut K, first: &[u8], second: &[u8]) -> 
 
 // Answers one line, and says whether it ends the session.
 fn answer<K: Sink>(session: &mut Session, raw: Raw<'_>, output: &mut K) -> Result<bool, Failed>
-    ensures ok { IfOk result (λ ends.
-        Replies step (machine_of session.old) (raw_line raw.entry) (machine_of session.new) ends (K.written output.old) (K.written output.new)) }
-    ensures part { OnErr result
-        (RepliesPart step (machine_of session.old) (raw_line raw.entry) (K.written output.old) (K.written output.new)) }
+    ensures ok { IfOk result (λ ends. Replies (step_of session.old) (machine_of session.old) (raw_line raw.entry)
+        (machine_of session.new) ends (K.written output.old) (K.written output.new)) }
+    ensures part { OnErr result (RepliesPart (step_of session.old) (machine_of session.old) (raw_line raw.entry)
+        (K.written output.old) (K.written output.new)) }
+    ensures same { matcher_of session.new ≡ matcher_of session.old }
     ensures cause { IsCounted (K.faults output.old) (K.faults output.new) result }
 {
     match session.line(raw) {
@@ -84,10 +83,11 @@ fn answer_taken<K: Sink>(
     output: &mut K,
 ) -> Result<bool, Failed>
     requires { (held : RawLine) × (lines.now ≡ given_state held) × (taken ≡ taken_of held) }
-    ensures ok { (held : RawLine) → lines.now ≡ given_state held → taken ≡ taken_of held → IfOk result (λ ends.
-        Replies step (machine_of session.old) held (machine_of session.new) ends (K.written output.old) (K.written output.new)) }
-    ensures part { (held : RawLine) → lines.now ≡ given_state held → taken ≡ taken_of held → OnErr result
-        (RepliesPart step (machine_of session.old) held (K.written output.old) (K.written output.new)) }
+    ensures ok { (held : RawLine) → lines.now ≡ given_state held → taken ≡ taken_of held → IfOk result (λ ends. Replies (step_of session.old)
+        (machine_of session.old) held (machine_of session.new) ends (K.written output.old) (K.written output.new)) }
+    ensures part { (held : RawLine) → lines.now ≡ given_state held → taken ≡ taken_of held → OnErr result (RepliesPart (step_of session.old)
+        (machine_of session.old) held (K.written output.old) (K.written output.new)) }
+    ensures same { matcher_of session.new ≡ matcher_of session.old }
     ensures cause { IsCounted (K.faults output.old) (K.faults output.new) result }
 {
     match taken {
@@ -106,11 +106,12 @@ fn answer_next<K: Sink>(
 ) -> Result<(usize, bool), Failed>
     requires { lines.old.waits ≡ false }
     ensures bound { IfOk result (λ turn. (turn.0 ≤ length rest.now) × (0 < length rest.now → 0 < turn.0)) }
-    ensures ok { IfOk result (λ turn. RunsTo step (machine_of session.old) (lines_from lines.old.held (take turn.0 rest.now)) (machine_of session.new) turn.1
-        (K.written output.old) (K.written output.new)) }
+    ensures ok { IfOk result (λ turn. RunsTo (step_of session.old) (machine_of session.old)
+        (lines_from lines.old.held (take turn.0 rest.now)) (machine_of session.new) turn.1 (K.written output.old) (K.written output.new)) }
     ensures held { IfOk result (λ turn. (lines.new.held ≡ held_from lines.old.held (take turn.0 rest.now)) × (lines.new.waits ≡ false)) }
-    ensures part { OnErr result (RunsPart step (machine_of session.old) (lines_from lines.old.held rest.now)
+    ensures part { OnErr result (RunsPart (step_of session.old) (machine_of session.old) (lines_from lines.old.held rest.now)
         (K.written output.old) (K.written output.new)) }
+    ensures same { matcher_of session.new ≡ matcher_of session.old }
     ensures cause { IsCounted (K.faults output.old) (K.faults output.new) result }
 {
     let count = lines.feed(rest);
@@ -131,12 +132,13 @@ fn answer_piece<K: Sink>(
     output: &mut K,
 ) -> Result<bool, Failed>
     requires { lines.old.waits ≡ false }
-    ensures ok { IfOk result (λ ended. RunsTo step (machine_of session.old) (lines_from lines.old.held piece.now) (machine_of session.new) ended
-        (K.written output.old) (K.written output.new)) }
+    ensures ok { IfOk result (λ ended. RunsTo (step_of session.old) (machine_of session.old) (lines_from lines.old.held piece.now)
+        (machine_of session.new) ended (K.written output.old) (K.written output.new)) }
     ensures held { IfOk result (λ ended. ended ≡ false →
         (lines.new.held ≡ held_from lines.old.held piece.now) × (lines.new.waits ≡ false)) }
-    ensures part { OnErr result (RunsPart step (machine_of session.old) (lines_from lines.old.held piece.now)
+    ensures part { OnErr result (RunsPart (step_of session.old) (machine_of session.old) (lines_from lines.old.held piece.now)
         (K.written output.old) (K.written output.new)) }
+    ensures same { matcher_of session.new ≡ matcher_of session.old }
     ensures cause { IsCounted (K.faults output.old) (K.faults output.new) result }
 {
     let mut rest = piece;
@@ -157,9 +159,10 @@ fn answer_rest<K: Sink>(
     output: &mut K,
 ) -> Result<bool, Failed>
     requires { lines.old.waits ≡ false }
-    ensures ok { IfOk result (λ ended. RunsTo step (machine_of session.old) (held_line lines.old.held) (machine_of session.new) ended
+    ensures ok { IfOk result (λ ended. RunsTo (step_of session.old) (machine_of session.old) (held_line lines.old.held)
+        (machine_of session.new) ended (K.written output.old) (K.written output.new)) }
+    ensures part { OnErr result (RunsPart (step_of session.old) (machine_of session.old) (held_line lines.old.held)
         (K.written output.old) (K.written output.new)) }
-    ensures part { OnErr result (RunsPart step (machine_of session.old) (held_line lines.old.held) (K.written output.old) (K.written output.new)) }
     ensures cause { IsCounted (K.faults output.old) (K.faults output.new) result }
 {
     match lines.finish() {
@@ -188,34 +191,46 @@ pub(crate) fn serve<S: Source, K: Sink>(
     lines: &mut Lines,
     input: &mut S,
     output: &mut K,
-) -> Outcome
+) -> End
     requires { lines.old ≡ no_line }
-    ensures ran { WasEntered result }
-    ensures serves { Serves step (machine_of session.old) (S.left input.old) (S.left input.new) (K.written output.old) (K.written output.new)
-        (S.piece input.new) result }
-    ensures input { IsCauseOf (result ≡ Outcome.InputFault) (S.faults input.old) (S.faults input.new) }
-    ensures output { IsCauseOf (result ≡ Outcome.OutputFault) (K.faults output.old) (K.faults output.new) }
+    ensures serves { Serves (step_of session.old) (machine_of session.old)
+        (record {
+          left = S.left input.old;
+          piece = S.piece input.old;
+          input_faults = S.faults input.old;
+          written = K.written output.old;
+          output_faults = K.faults output.old;
+        })
+        (record {
+          left = S.left input.new;
+          piece = S.piece input.new;
+          input_faults = S.faults input.new;
+          written = K.written output.new;
+          output_faults = K.faults output.new;
+        }) result }
+    ensures input { IsCauseOf (result ≡ End.InputFault) (S.faults input.old) (S.faults input.new) }
+    ensures output { IsCauseOf (result ≡ End.OutputFault) (K.faults output.old) (K.faults output.new) }
 {
     let mut buf = [0u8; PIECE];
     let mut room = MOST_TAKEN;
     while room > 0 {
         match next_piece(input, &mut buf, room) {
-            Err(_) => return Outcome::InputFault,
+            Err(_) => return End::InputFault,
             Ok(0) => {
                 return match answer_rest(session, lines, output) {
-                    Ok(_) => Outcome::Done,
-                    Err(_) => Outcome::OutputFault,
+                    Ok(_) => End::Done,
+                    Err(_) => End::OutputFault,
                 };
             }
             Ok(count) => {
                 room -= count;
                 match answer_piece(session, lines, &buf[..count], output) {
                     Ok(false) => {}
-                    Ok(true) => return Outcome::Done,
-                    Err(_) => return Outcome::OutputFault,
+                    Ok(true) => return End::Done,
+                    Err(_) => return End::OutputFault,
                 }
             }
         }
     }
-    Outcome::InputTooLong
+    End::InputTooLong
 }

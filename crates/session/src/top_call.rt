@@ -1,90 +1,21 @@
 //! The top call of the program.
-ghost use Rattle.std.specs.Prelude.{◌≡◌, ◌≤◌, ◌⊎◌, ◌↔◌, IsTrue, IfOk, OnOk, IfErr, length, map, string_bytes};
-ghost use Rattle.dfa_core.specs.States.{IsMachineOf};
-ghost use Rattle.session.specs.Machine.{first_machine};
-ghost use Rattle.session.specs.Answering.{step};
-ghost use Rattle.session.specs.Headline.{Serves, IsCauseOf};
+ghost use Rattle.std.specs.Prelude.{◌≡◌, ◌↔◌, IsTrue, IfErr, IfOk, map, string_bytes};
+ghost use Rattle.session.specs.Headline.{Came, MissedAfter, IsCauseOf, Runs, names_had};
 ghost use Rattle.session.specs.Notes.{IsNoted, notes_text};
-ghost use Rattle.session.specs.Kept.{NumbersPatterns};
-ghost use Rattle.session.specs.Opening.{has_option as has_one, most_patterns, MissedAfter, WasEntered, HasFewStates, RefusesStates, StatesAre};
-ghost use Rattle.session.specs.Running.{Runs, RunsAndNotes};
+ghost use Rattle.session.specs.Opening.{has_option as has_one};
+ghost use Rattle.session.specs.Outcomes.{phase_of, unhad};
 
-use crate::opening::{has_option, open_files};
-use crate::outcome::{Outcome, note};
+use crate::opening::{has_option, open};
+use crate::outcome::{Outcome, WordsError, note};
 use crate::serve::{put_both, serve};
-use crate::session::Session;
-use dfa_core::Automaton;
-use dfa_join::{JoinError, compile};
 use gtp_io::{Loader, Sink, Source};
-use gtp_lex::Lines;
-use pat_types::Pattern;
 use std::alloc::Global;
 
 /// The most states of an automaton.
 const MAX_STATES: u32 = 100_000;
 
-// Serves by a session with these patterns and their automaton.
-fn serve_by<S: Source, K: Sink>(
-    alloc: Global,
-    patterns: Vec<Pattern>,
-    machine: Automaton,
-    input: &mut S,
-    output: &mut K,
-) -> Outcome
-    requires numbers { NumbersPatterns machine patterns.items }
-    requires machine { IsMachineOf patterns.items machine }
-    ensures ran { (result ≡ Outcome.NoMemory) ⊎ WasEntered result }
-    ensures serves { Serves step (first_machine patterns.items) (S.left input.old) (S.left input.new)
-        (K.written output.old) (K.written output.new) (S.piece input.new) result }
-    ensures input { IsCauseOf (result ≡ Outcome.InputFault) (S.faults input.old) (S.faults input.new) }
-    ensures output { IsCauseOf (result ≡ Outcome.OutputFault) (K.faults output.old) (K.faults output.new) }
-{
-    let Ok(mut lines) = Lines::new(alloc) else {
-        return Outcome::NoMemory;
-    };
-    let Ok(mut session) = Session::new(alloc, patterns, machine) else {
-        return Outcome::NoMemory;
-    };
-    serve(&mut session, &mut lines, input, output)
-}
-
-// The automaton of the patterns, or the outcome that refuses them.
-fn automaton_of(alloc: Global, patterns: &[Pattern]) -> Result<Automaton, Outcome>
-    requires { length patterns.now ≤ most_patterns }
-    ensures machine { IfOk result (IsMachineOf patterns.now) }
-    ensures numbers { IfOk result (λ machine. NumbersPatterns machine patterns.now) }
-    ensures few { OnOk result (HasFewStates patterns.now) }
-    ensures err { IfErr result (RefusesStates patterns.now) }
-{
-    match compile(alloc, patterns, MAX_STATES) {
-        Ok(machine) => Ok(machine),
-        Err(JoinError::TooManyStates { limit }) => Err(Outcome::TooManyStates { limit }),
-        Err(JoinError::NoMemory) => Err(Outcome::NoMemory),
-    }
-}
-
-// Serves by a session with these patterns.
-fn serve_patterns<S: Source, K: Sink>(
-    alloc: Global,
-    patterns: Vec<Pattern>,
-    input: &mut S,
-    output: &mut K,
-) -> Outcome
-    requires { length patterns.items ≤ most_patterns }
-    ensures states { StatesAre patterns.items result }
-    ensures serves { Serves step (first_machine patterns.items) (S.left input.old) (S.left input.new)
-        (K.written output.old) (K.written output.new) (S.piece input.new) result }
-    ensures input { IsCauseOf (result ≡ Outcome.InputFault) (S.faults input.old) (S.faults input.new) }
-    ensures output { IsCauseOf (result ≡ Outcome.OutputFault) (K.faults output.old) (K.faults output.new) }
-{
-    match automaton_of(alloc, patterns.as_slice()) {
-        Ok(machine) => serve_by(alloc, patterns, machine, input, output),
-        Err(outcome) => outcome,
-    }
-}
-
 // The run but for its notes.
-fn serve_words<L: Loader, S: Source, K: Sink>(
+fn run_unnoted<L: Loader, S: Source, K: Sink>(
     alloc: Global,
     words: &[String],
     files: &mut L,
@@ -92,9 +23,22 @@ fn serve_words<L: Loader, S: Source, K: Sink>(
     output: &mut K,
 ) -> Outcome
     ensures usage { result ≡ Outcome.Usage ↔ IsTrue (has_one (map string_bytes words.now)) }
-    ensures runs { Runs (L.contents files.old) (map string_bytes words.now) (S.left input.old) (S.left input.new)
-        (K.written output.old) (K.written output.new) (S.piece input.new) result }
-    ensures missed { MissedAfter (map string_bytes words.now) (L.missed files.old) (L.missed files.new) result }
+    ensures came { Came (map string_bytes words.now) (L.contents files.old)
+        (record {
+          left = S.left input.old;
+          piece = S.piece input.old;
+          input_faults = S.faults input.old;
+          written = K.written output.old;
+          output_faults = K.faults output.old;
+        })
+        (record {
+          left = S.left input.new;
+          piece = S.piece input.new;
+          input_faults = S.faults input.new;
+          written = K.written output.new;
+          output_faults = K.faults output.new;
+        }) (phase_of result) }
+    ensures missed { MissedAfter (map string_bytes words.now) (L.missed files.old) (L.missed files.new) (phase_of result) }
     ensures same { L.contents files.new ≡ L.contents files.old }
     ensures input { IsCauseOf (result ≡ Outcome.InputFault) (S.faults input.old) (S.faults input.new) }
     ensures output { IsCauseOf (result ≡ Outcome.OutputFault) (K.faults output.old) (K.faults output.new) }
@@ -102,9 +46,9 @@ fn serve_words<L: Loader, S: Source, K: Sink>(
     if has_option(words) {
         return Outcome::Usage;
     }
-    match open_files(alloc, words, files) {
-        Ok(patterns) => serve_patterns(alloc, patterns, input, output),
-        Err(outcome) => outcome,
+    match open(alloc, words, files, MAX_STATES) {
+        Ok(mut opened) => serve(&mut opened.session, &mut opened.lines, input, output).outcome(),
+        Err(error) => error.outcome(),
     }
 }
 
@@ -135,20 +79,88 @@ pub fn run<L: Loader, S: Source, K: Sink, D: Sink>(
 ) -> Outcome
     ensures usage { result ≡ Outcome.Usage ↔ IsTrue (has_one (map string_bytes words.now)) }
 
-    // By the outcome, what the files are, and what was taken, put and noted.
-    ensures runs { RunsAndNotes (L.contents files.old) (map string_bytes words.now) (S.left input.old) (S.left input.new)
-        (K.written output.old) (K.written output.new) (D.written notes.old) (D.written notes.new)
-        (S.piece input.new) (D.faults notes.old) (D.faults notes.new) result }
-
-    // A file is told to have failed exactly where its name was appended to those missed.
-    ensures missed { MissedAfter (map string_bytes words.now) (L.missed files.old) (L.missed files.new) result }
-    ensures same { L.contents files.new ≡ L.contents files.old }
-
-    // A fault is told exactly where its object's count rose.
-    ensures input { IsCauseOf (result ≡ Outcome.InputFault) (S.faults input.old) (S.faults input.new) }
-    ensures output { IsCauseOf (result ≡ Outcome.OutputFault) (K.faults output.old) (K.faults output.new) }
+    // By the outcome, what the files are, what was taken, put and noted, which files were missed, and whose count of faults rose.
+    ensures runs { Runs (map string_bytes words.now)
+        (record {
+          contents = L.contents files.old;
+          missed = L.missed files.old;
+          streams = record {
+            left = S.left input.old;
+            piece = S.piece input.old;
+            input_faults = S.faults input.old;
+            written = K.written output.old;
+            output_faults = K.faults output.old;
+          };
+          noted = D.written notes.old;
+          notes_faults = D.faults notes.old;
+        })
+        (record {
+          contents = L.contents files.new;
+          missed = L.missed files.new;
+          streams = record {
+            left = S.left input.new;
+            piece = S.piece input.new;
+            input_faults = S.faults input.new;
+            written = K.written output.new;
+            output_faults = K.faults output.new;
+          };
+          noted = D.written notes.new;
+          notes_faults = D.faults notes.new;
+        })
+        result }
 {
-    let outcome = serve_words(alloc, words, files, input, output);
+    let outcome = run_unnoted(alloc, words, files, input, output);
     put_note(notes, outcome);
     outcome
+}
+
+/// The same for words that perhaps could not be had: then nothing is loaded, taken or put, and the notes say why.
+pub fn run_words<L: Loader, S: Source, K: Sink, D: Sink>(
+    alloc: Global,
+    words: Result<Vec<String>, WordsError>,
+    files: &mut L,
+    input: &mut S,
+    output: &mut K,
+    notes: &mut D,
+) -> Outcome
+    ensures usage { IfOk words (λ words. result ≡ Outcome.Usage ↔ IsTrue (has_one (map string_bytes words.items))) }
+    ensures not_had { IfErr words (λ error. result ≡ unhad error) }
+
+    ensures runs { Runs (names_had (λ words. map string_bytes words.items) words)
+        (record {
+          contents = L.contents files.old;
+          missed = L.missed files.old;
+          streams = record {
+            left = S.left input.old;
+            piece = S.piece input.old;
+            input_faults = S.faults input.old;
+            written = K.written output.old;
+            output_faults = K.faults output.old;
+          };
+          noted = D.written notes.old;
+          notes_faults = D.faults notes.old;
+        })
+        (record {
+          contents = L.contents files.new;
+          missed = L.missed files.new;
+          streams = record {
+            left = S.left input.new;
+            piece = S.piece input.new;
+            input_faults = S.faults input.new;
+            written = K.written output.new;
+            output_faults = K.faults output.new;
+          };
+          noted = D.written notes.new;
+          notes_faults = D.faults notes.new;
+        })
+        result }
+{
+    match words {
+        Ok(words) => run(alloc, &words, files, input, output, notes),
+        Err(error) => {
+            let outcome = error.outcome();
+            put_note(notes, outcome);
+            outcome
+        }
+    }
 }

@@ -4,8 +4,7 @@ use Rattle.gtp_lex.specs.Raw.{raw_line}
 use Rattle.gtp_cmd.specs.Replies.{refusal_text}
 use Rattle.gtp_cmd.specs.declared.refusals.RefuseText.TheVariants.{OutOfMemory}
 use Rattle.session.specs.Machine.{Machine}
-use Rattle.session.specs.Answering.{step}
-use Rattle.session.specs.Kept.{machine_of}
+use Rattle.session.specs.Kept.{machine_of, step_of}
 use Rattle.session.specs.declared.reply.Reply.TheVariants.{Short, Text, NoMemory}
 use Rattle.session.proofs.Replied.{MayGive-reply, Replies-part}
 use Rattle.session.proofs.ServeLemmas.{on_err_from}
@@ -15,6 +14,7 @@ use Rattle.session.proofs.serve.answer.Goals as goal
 pub returns-in_err-put_all-in-Short-clause-part : goal.returns-in_err-put_all-in-Short-clause-part
 returns-in_err-put_all-in-Short-clause-part g c =
     let old = machine_of c.args.session.now in
+    let step = step_of c.args.session.now in
     let line = raw_line c.args.raw in
     let new = machine_of c.line.new.self in
     let may = MayGive-reply old (step old line) (Short c.in-Short.text c.in-Short.quit) new c.in-Short.ensures.reply in
@@ -26,6 +26,7 @@ returns-in_err-put_all-in-Short-clause-part g c =
 pub returns-in_err-put_all-in-Text-clause-part : goal.returns-in_err-put_all-in-Text-clause-part
 returns-in_err-put_all-in-Text-clause-part g c =
     let old = machine_of c.args.session.now in
+    let step = step_of c.args.session.now in
     let line = raw_line c.args.raw in
     let new = machine_of c.line.new.self in
     let may = MayGive-reply old (step old line) (Text c.in-Text.bytes) new c.in-Text.ensures.reply in
@@ -37,6 +38,7 @@ returns-in_err-put_all-in-Text-clause-part g c =
 pub returns-in_err-put_all-in-NoMemory-clause-part : goal.returns-in_err-put_all-in-NoMemory-clause-part
 returns-in_err-put_all-in-NoMemory-clause-part g c =
     let old = machine_of c.args.session.now in
+    let step = step_of c.args.session.now in
     let line = raw_line c.args.raw in
     let new = machine_of c.line.new.self in
     let may = MayGive-reply old (step old line) (NoMemory c.in-NoMemory.id) new c.in-NoMemory.ensures.reply in

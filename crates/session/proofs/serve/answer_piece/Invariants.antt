@@ -1,8 +1,7 @@
 use Rattle.std.proofs.Common.{◌≡◌, List, ◌++◌, length, false}
 use Rattle.gtp_rules.specs.Lines.{RawLine}
 use Rattle.gtp_lex.specs.Held.{lines_from, held_from}
-use Rattle.session.specs.Answering.{step}
-use Rattle.session.specs.Kept.{machine_of}
+use Rattle.session.specs.Kept.{machine_of, matcher_of, step_of}
 use Rattle.session.specs.Serving.{RunsTo}
 use Rattle.session.proofs.serve.answer_piece.Given as goal
 
@@ -10,8 +9,9 @@ use Rattle.session.proofs.serve.answer_piece.Given as goal
 abbrev pub invariant-loop-rest : goal.invariant-loop-rest
 invariant-loop-rest g l = record {
   answered : (lines : List RawLine) × (lines_from l.fn.lines.held l.fn.piece ≡ lines ++ lines_from l.lines.held l.rest)
-      × RunsTo step (machine_of l.fn.session) lines (machine_of l.session) false (g.K.Sink.written l.fn.output) (g.K.Sink.written l.output);
+      × RunsTo (step_of l.fn.session) (machine_of l.fn.session) lines (machine_of l.session) false (g.K.Sink.written l.fn.output) (g.K.Sink.written l.output);
   held : held_from l.fn.lines.held l.fn.piece ≡ held_from l.lines.held l.rest;
+  same : matcher_of l.session ≡ matcher_of l.fn.session;
   open_ended : l.lines.waits ≡ false;
   faults : g.K.Sink.faults l.output ≡ g.K.Sink.faults l.fn.output;
 }

@@ -1,14 +1,14 @@
 use Rattle.std.proofs.Common.{◌≡◌, length, false}
-use Rattle.session.specs.Answering.{step}
-use Rattle.session.specs.Kept.{machine_of}
+use Rattle.session.specs.Kept.{machine_of, matcher_of, step_of}
 use Rattle.session.proofs.Served.{Served}
 use Rattle.session.proofs.serve.serve.Given as goal
 
 -- the lines of the bytes taken so far were answered up to the one that is held, and nothing failed
 abbrev pub invariant-loop-room : goal.invariant-loop-room
 invariant-loop-room g l = record {
-  served : Served step (machine_of l.fn.session) (machine_of l.session) (g.S.Source.left l.fn.input) (g.S.Source.left l.input)
+  served : Served (step_of l.fn.session) (machine_of l.fn.session) (machine_of l.session) (g.S.Source.left l.fn.input) (g.S.Source.left l.input)
       (g.K.Sink.written l.fn.output) (g.K.Sink.written l.output) l.lines.held l.room;
+  same : matcher_of l.session ≡ matcher_of l.fn.session;
   open_ended : l.lines.waits ≡ false;
   buffer : length l.buf ≡ 4096;
   input_faults : g.S.Source.faults l.input ≡ g.S.Source.faults l.fn.input;

@@ -1,5 +1,5 @@
 -- One point more: it was put where it is a member.
-use Rattle.std.proofs.Common.{ap, ◌∙◌, sym}
+use Rattle.std.proofs.Common.{◌∙◌, sym}
 use Rattle.std.specs.FinSet as set
 use Rattle.session.proofs.Texts.{vertices-passes, vertices-fails}
 use Rattle.session.proofs.vertices.points_text.Goals as goal

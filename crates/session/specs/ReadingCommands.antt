@@ -1,4 +1,4 @@
--- What a session tells of readings.
+-- What the commands do that read whether a string can be captured.
 use Rattle.std.specs.Prelude.{ℕ, List, [], ◌∷◌, ◌++◌, Option, None, Some, codes, decimal}
 use Rattle.read_rules.specs.declared.question.Kind.{Kind}
 use Rattle.read_rules.specs.declared.question.Spot.{Spot}
@@ -8,6 +8,8 @@ use Rattle.read_rules.specs.Answer.{answer_of, asked_on}
 use Rattle.gtp_cmd.specs.Words.{blank}
 use Rattle.gtp_cmd.specs.Vertices.{vertex_text}
 use Rattle.session.specs.Machine.{Machine, position_of}
+use Rattle.session.specs.Effects.{Effect, Told}
+use Rattle.session.specs.BoardCommands.{of_stone}
 
 -- a move of a board of size s as it is printed; a pass is `PASS`
 abbrev pub spot_text : ℕ → Spot → List ℕ
@@ -26,3 +28,11 @@ answer_text s answer = decimal answer.code ++ move_text s answer.at
 -- the answer to a question about the stone at p, read on the machine's position as deep as the machine says
 abbrev pub reading_of : Machine → Kind → ℕ → Answer
 reading_of machine kind p = answer_of (asked_on (position_of machine) kind p machine.plies machine.wide) (position_of machine)
+
+-- the answer to a question about the string of a point is told
+abbrev pub read : Machine → Kind → ℕ → Effect
+read old kind p = of_stone old p (Told (answer_text old.size (reading_of old kind p)) old)
+
+-- readings go this deep from now on
+abbrev pub deepened : Machine → ℕ → ℕ → Effect
+deepened old plies wide = Told [] (record old { plies = plies; wide = wide })

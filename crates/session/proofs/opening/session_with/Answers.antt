@@ -1,0 +1,19 @@
+-- The automaton accepts the patterns' numbers alone, and by it the session is plain.
+use Rattle.std.proofs.Common.{sym, subst}
+use Rattle.dfa_core.specs.States.{IsMachineOf}
+use Rattle.session.specs.Kept.{NumbersPatterns}
+use Rattle.session.specs.Opened.{IsPlainWith}
+use Rattle.session.proofs.Finding.{plain-first}
+use Rattle.session.proofs.opening.session_with.Goals as goal
+
+pub new-requires : goal.new-requires
+new-requires c =
+    subst (λ patterns. NumbersPatterns c.in_ok-machine.machine patterns) c.as_slice.ensures.value
+    c.in_ok-machine.ensures.numbers
+
+pub returns-clause-ok : goal.returns-clause-ok
+returns-clause-ok c =
+    let patterns = c.args.patterns.items in
+    let rows = c.in_ok-machine.machine in
+    let accepts = subst (λ ps. IsMachineOf ps rows) c.as_slice.ensures.value c.in_ok-machine.ensures.accepts in
+    subst (IsPlainWith patterns) (sym c.in_ok-new.ensures) (plain-first patterns rows accepts)

@@ -1,0 +1,23 @@
+-- How a session finds matches. No line changes it, so it is no part of the machine, and the step of a line is given it.
+use Rattle.std.specs.Prelude.{List}
+use Rattle.go_rules.specs.declared.Colour.{Colour}
+use Rattle.pat_types.specs.declared.pattern.Pattern.{Pattern}
+use Rattle.dfa_core.specs.Automata.{Row}
+use Rattle.match_rules.specs.declared.found.Match.{Match}
+use Rattle.match_rules.specs.Match.{matches_of}
+use Rattle.match_engine.specs.MachineMatches.{machine_matches}
+use Rattle.session.specs.Machine.{Machine, position_of}
+
+-- patterns, and their matches on the position of a machine for a friend
+pub record Matcher : Type 0 where
+  pub patterns : List Pattern
+  pub matches : Machine → Colour → List Match
+
+-- the plain matcher of these patterns: it compares each of their diagrams with the board
+abbrev pub plain_matcher : List Pattern → Matcher
+plain_matcher patterns = record { patterns = patterns; matches = λ machine friend. matches_of patterns (position_of machine) friend }
+
+-- the matcher of these patterns by an automaton, which need not be theirs
+abbrev pub automaton_matcher : List Pattern → List Row → Matcher
+automaton_matcher patterns rows =
+    record { patterns = patterns; matches = λ machine friend. machine_matches rows patterns (position_of machine) friend }

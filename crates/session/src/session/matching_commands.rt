@@ -1,0 +1,33 @@
+//! The commands that tell of patterns and of their matches.
+ghost use Rattle.std.specs.Prelude.{◌≡◌};
+ghost use Rattle.session.specs.Kept.{machine_of, matcher_of};
+ghost use Rattle.session.specs.MatchingCommands.{matches_listed, patterns_listed};
+ghost use Rattle.session.specs.Answers.{IsAnswer};
+
+use crate::answer::{Answer, grown};
+use crate::match_text::matches_text;
+use crate::pattern_text::patterns_text;
+use crate::session::Session;
+use go_base::Colour;
+
+impl Session {
+    pub(crate) fn list_matches(&self, friend: Colour) -> Answer
+        ensures { IsAnswer (machine_of self.now) (matches_listed (matcher_of self.now) (machine_of self.now) friend)
+            result (machine_of self.now) }
+    {
+        let position = self.position();
+        grown(matches_text(
+            self.alloc,
+            &self.patterns,
+            &self.automaton,
+            &position,
+            friend,
+        ))
+    }
+
+    pub(crate) fn list_patterns(&self) -> Answer
+        ensures { IsAnswer (machine_of self.now) (patterns_listed (matcher_of self.now) (machine_of self.now)) result (machine_of self.now) }
+    {
+        grown(patterns_text(self.alloc, &self.patterns))
+    }
+}
