@@ -1,4 +1,3 @@
 pub mod GameLemmas
 pub mod Keeping
-pub mod Presents
 pub mod Stones

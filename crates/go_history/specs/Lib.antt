@@ -1,4 +1,3 @@
 pub mod Games
-pub mod Taken
-pub mod Presents
 pub mod Kept
+pub mod Taken

@@ -2,12 +2,15 @@
 
 ghost use Rattle.std.specs.Prelude.{◌≡◌, ◌-◌, ◌*◌, ◌<◌, ◌≤◌, ◌↔◌, [], ◌∷◌, ◌++◌, take, length, Ok, Err, IsOk, IsErr, IfOk, IfSome, OnOk, OnErr};
 ghost use Rattle.go_rules.specs.declared.Illegal.{Illegal};
-ghost use Rattle.go_rules.specs.Replay.{empty_board, moved, replay, captures, IsLegalGame};
+ghost use Rattle.go_rules.specs.Replay.{empty_board, moved, captures, IsLegalGame};
+ghost use Rattle.go_strings.specs.Games.{reached};
+ghost use Rattle.go_strings.specs.Refused.{refusal_of};
 ghost use Rattle.go_history.specs.Games.{most_moves, new_game, position_of};
 
-use crate::present::Present;
+use crate::captures::Captures;
 use go_base::{Colour, Illegal, NoMemory, Position, Size};
 use go_rules::Move;
+use go_strings::{PlayError, StringBoard};
 use std::alloc::Global;
 use std::marker::Model;
 use thiserror::Error;
@@ -40,10 +43,12 @@ pub struct Nothing;
 /// The moves of a game so far, each legal after those before it, seen as the board's size and the list of the moves.
 #[derive(Drop)]
 pub struct History {
+    /// The board on which they were made, from the empty one.
+    board: StringBoard,
     /// The moves in order.
     moves: Vec<Move>,
-    /// What stands after them; its position tells the size.
-    present: Present,
+    /// The stones that they took.
+    taken: Captures,
 }
 
 impl Model for History {
@@ -63,12 +68,15 @@ impl History {
     pub fn new(alloc: Global, size: Size) -> Result<History, NoMemory>
         ensures { IfOk result (λ history. history ≡ new_game size) }
     {
+        let _ = size.get();
         let Ok(moves) = Vec::with_capacity(alloc, USUAL_MOVES) else {
             return Err(NoMemory);
         };
+        let board = StringBoard::new(alloc, size)?;
         Ok(History {
+            board,
             moves,
-            present: Present::start(size),
+            taken: Captures::none(),
         })
     }
 
@@ -76,7 +84,8 @@ impl History {
     pub fn size(&self) -> Size
         ensures { result ≡ self.now.size }
     {
-        self.present.position.size()
+        let _ = &self.board;
+        self.board.size()
     }
 
     /// The moves so far, the first one first.
@@ -85,7 +94,7 @@ impl History {
         ensures legal { IsLegalGame (empty_board self.now.size) result.now }
         ensures few { length result.now ≤ most_moves }
     {
-        let _ = &self.present;
+        let _ = &self.board;
         self.moves.as_slice()
     }
 
@@ -93,14 +102,40 @@ impl History {
     pub fn position(&self) -> Position
         ensures { result ≡ position_of self.now }
     {
-        self.present.position
+        let _ = &self.board;
+        self.board.position()
+    }
+
+    /// The board after the moves, which may be asked for strings, liberties and legal points without a search.
+    pub fn board(&self) -> &StringBoard
+        ensures { reached result.now ≡ position_of self.now }
+    {
+        let _ = &self.moves;
+        &self.board
     }
 
     /// How many stones the moves of a colour took.
     pub fn captures(&self, c: Colour) -> u32
         ensures { result ≡ captures self.now.size c self.now.moves }
     {
-        self.present.taken(c)
+        let _ = &self.board;
+        self.taken.by(c)
+    }
+
+    /// What is told of a move where the list is full.
+    fn refused_when_full(&self, m: Move) -> HistoryError
+        requires { IfSome m.at (λ p. p < self.now.size * self.now.size) }
+        ensures illegal { (e : Illegal) → (result ≡ HistoryError.Illegal e) ↔ (moved (position_of self.now) m ≡ Err e) }
+        ensures full { (result ≡ HistoryError.Full) ↔ (IsOk (moved (position_of self.now) m)) }
+    {
+        let _ = &self.board;
+        let Some(p) = m.at else {
+            return HistoryError::Full;
+        };
+        match self.board.refusal(m.colour, p) {
+            Some(e) => HistoryError::Illegal(e),
+            None => HistoryError::Full,
+        }
     }
 
     /// Adds a move whose point, if it has one, lies on the board. An illegal move is told before a full list, and both before
@@ -116,34 +151,38 @@ impl History {
         ensures full { (result ≡ Err HistoryError.Full) ↔ (IsOk (moved (position_of self.old) m) × (length self.old.moves ≡ most_moves)) }
         ensures err { OnErr result (self.new ≡ self.old) }
     {
-        let next = match self.present.after(m) {
-            Ok(next) => next,
-            Err(e) => return Err(HistoryError::Illegal(e)),
-        };
         if self.moves.len() >= MAX_MOVES {
-            return Err(HistoryError::Full);
+            return Err(self.refused_when_full(m));
         }
+        let stones = match self.board.make(m) {
+            Ok(stones) => stones,
+            Err(PlayError::Illegal(e)) => return Err(HistoryError::Illegal(e)),
+            Err(PlayError::NoMemory) => return Err(HistoryError::NoMemory),
+        };
         match self.moves.push(m) {
             Ok(()) => {
-                self.present = next;
+                self.taken.add(m.colour, u32::from(stones));
                 Ok(())
             }
-            Err(_) => Err(HistoryError::NoMemory),
+            Err(_) => {
+                self.board.back();
+                Err(HistoryError::NoMemory)
+            }
         }
     }
 
-    /// Takes the last move back. It replays the moves that are left, and takes no memory.
+    /// Takes the last move back. It takes no memory.
     pub fn undo(&mut self) -> Result<(), Nothing>
         ensures ok { OnOk result (self.new ≡ record { size = self.old.size; moves = take (length self.old.moves - 1) self.old.moves }) }
         ensures nothing { IsErr result ↔ (self.old.moves ≡ []) }
         ensures err { OnErr result (self.new ≡ self.old) }
     {
-        if self.moves.pop().is_none() {
+        let Some(m) = self.moves.pop() else {
             return Err(Nothing);
-        }
-        let size = self.present.position.size();
-        let left = Present::replayed(size, &self.moves);
-        self.present = left;
+        };
+        let stones = self.board.last_taken();
+        self.board.back();
+        self.taken.remove(m.colour, u32::from(stones));
         Ok(())
     }
 
@@ -151,16 +190,18 @@ impl History {
     pub fn clear(&mut self)
         ensures { self.new ≡ new_game self.old.size }
     {
-        let size = self.present.position.size();
+        let size = self.size();
         self.resize(size);
     }
 
-    /// Drops all moves and takes a board of this size, also where the size stays.
+    /// Drops all moves and takes a board of this size, also where the size stays. It takes no memory.
     pub fn resize(&mut self, size: Size)
         ensures { self.new ≡ new_game size }
     {
+        let _ = size.get();
         self.moves.clear();
-        self.present = Present::start(size);
+        self.board.reset(&Position::new(size));
+        self.taken = Captures::none();
     }
 }
 

@@ -1,0 +1,15 @@
+use Rattle.std.proofs.Common.{sym, ap, ◌∙◌}
+use Rattle.go_rules.specs.Strings.{liberty_points}
+use Rattle.go_rules.specs.Position.{BoardState}
+use Rattle.go_strings.proofs.Reached.{shown, shown_point}
+use Rattle.go_strings.proofs.board.StringBoard.liberty_points.Goals as goal
+
+-- the point is on the board
+pub liberties_at-requires-clause-on_board : goal.liberties_at-requires-clause-on_board
+liberties_at-requires-clause-on_board c =
+    shown_point c.self.inside c.args.self.now c.args.p c.self.invariant c.self.view_is c.requires
+
+-- the string that stands there is shown
+pub returns : goal.returns
+returns c = c.liberties_at.ensures ∙ sym (ap (λ (pos : BoardState). liberty_points pos.size pos.cells c.args.p)
+    (shown c.self.inside c.args.self.now c.self.invariant c.self.view_is))

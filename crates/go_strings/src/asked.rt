@@ -1,0 +1,40 @@
+//! What is told of a point by the strings that are kept.
+
+ghost use Rattle.std.specs.Prelude.{◌≡◌, ◌*◌, ◌<◌};
+ghost use Rattle.go_rules.specs.Strings.{string_at, liberty_points};
+ghost use Rattle.go_strings.specs.Stands.{cells_of, Stands};
+
+use crate::capture::points_of;
+use crate::gather::cell_on;
+use crate::standing::Standing;
+use crate::strings::KeptString;
+use go_base::points::PointSet;
+use go_base::{Cell, Point};
+
+/// The stones of the string at p, none where p is empty.
+pub fn stones_at(now: &Standing, strings: &[KeptString], p: Point) -> PointSet
+    requires stands { Stands now.now.board now.now.names strings.now }
+    requires on_board { p < now.now.board.size * now.now.board.size }
+    ensures { result ≡ string_at now.now.board.size (cells_of now.now.board) p }
+{
+    let _ = now.board.size.points();
+    if cell_on(&now.board, p) == Cell::Empty {
+        return PointSet::new();
+    }
+    let string = &strings[now.names[p as usize] as usize];
+    points_of(&string.stones)
+}
+
+/// The liberties of the string at p, none where p is empty.
+pub fn liberties_at(now: &Standing, strings: &[KeptString], p: Point) -> PointSet
+    requires stands { Stands now.now.board now.now.names strings.now }
+    requires on_board { p < now.now.board.size * now.now.board.size }
+    ensures { result ≡ liberty_points now.now.board.size (cells_of now.now.board) p }
+{
+    let _ = now.board.size.points();
+    if cell_on(&now.board, p) == Cell::Empty {
+        return PointSet::new();
+    }
+    let string = &strings[now.names[p as usize] as usize];
+    points_of(&string.liberties)
+}
