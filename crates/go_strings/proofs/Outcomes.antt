@@ -1,5 +1,5 @@
 -- What is told of an empty point, and what a play's outcome tells.
-use Rattle.std.proofs.Common.{◌≡◌, Bool, true, false, Option, Some, None, List, Result, Ok, Err, is_ok, refl, sym, ap, ◌∙◌}
+use Rattle.std.proofs.Common.{◌≡◌, true, false, Option, Some, None, List, Result, Ok, Err, is_ok, refl, ap}
 use Rattle.std.proofs.lemmas.Bool.{both_ways}
 use Rattle.std.specs.Ordering.{nat_cmp}
 use Rattle.std.specs.FinSet as sets

@@ -1,5 +1,5 @@
 -- All facts of a position, as they are seen by who looks at the whole of it.
-use Rattle.std.specs.Prelude.{ℕ, ◌==◌, Bool, IsTrue, refl}
+use Rattle.std.specs.Prelude.{◌==◌, Bool, IsTrue, refl}
 use Rattle.std.proofs.Common.{eq-eqb}
 use Rattle.go_rules.specs.Strings.{cell_at, same_cell}
 use Rattle.go_rules.specs.Position.{BoardState, is_banned}
