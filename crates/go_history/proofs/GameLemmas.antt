@@ -15,13 +15,15 @@ use Rattle.go_history.specs.Taken.{stones_taken}
 use Rattle.go_history.proofs.Stones.{played_from}
 
 -- a replay goes on with its last move
-pub replay_from-push : (pos : BoardState) (ms : List Move) (m : Move) → replay_from pos (ms ++ m ∷ []) ≡ led_to (replay_from pos ms) (moved (replay_from pos ms) m)
+pub replay_from-push : (pos : BoardState) (ms : List Move) (m : Move)
+    → replay_from pos (ms ++ m ∷ []) ≡ led_to (replay_from pos ms) (moved (replay_from pos ms) m)
 unfolding replay_from
 replay_from-push pos [] m = refl
 replay_from-push pos (first ∷ ms) m = replay_from-push (led_to pos (moved pos first)) ms m
 
 -- the stones of a game that goes on are those taken before and those that its last move takes
-pub captures_from-push : (pos : BoardState) (c : Colour) (ms : List Move) (m : Move) → captures_from pos c (ms ++ m ∷ []) ≡ captures_from pos c ms + stones_taken (replay_from pos ms) c m
+pub captures_from-push : (pos : BoardState) (c : Colour) (ms : List Move) (m : Move)
+    → captures_from pos c (ms ++ m ∷ []) ≡ captures_from pos c ms + stones_taken (replay_from pos ms) c m
 unfolding replay_from captures_from
 captures_from-push pos c [] m = omega arith
 captures_from-push pos c (first ∷ ms) m =
@@ -39,10 +41,12 @@ unfolding replay_from
 replay_from-nil pos = refl
 
 -- a legal game goes on with a move that is legal after it
-pub IsLegalGame-push : (pos : BoardState) (ms : List Move) (m : Move) → IsLegalGame pos ms → IsLegalMove (replay_from pos ms) m → IsLegalGame pos (ms ++ m ∷ [])
+pub IsLegalGame-push : (pos : BoardState) (ms : List Move) (m : Move) → IsLegalGame pos ms
+    → IsLegalMove (replay_from pos ms) m → IsLegalGame pos (ms ++ m ∷ [])
 unfolding replay_from
 IsLegalGame-push pos [] m legal last = (last, tt)
-IsLegalGame-push pos (first ∷ ms) m legal last = (legal.0, IsLegalGame-push (led_to pos (moved pos first)) ms m legal.1 last)
+IsLegalGame-push pos (first ∷ ms) m legal last =
+    (legal.0, IsLegalGame-push (led_to pos (moved pos first)) ms m legal.1 last)
 
 -- the front of a legal game is one
 pub IsLegalGame-take : (pos : BoardState) (n : ℕ) (ms : List Move) → IsLegalGame pos ms → IsLegalGame pos (take n ms)
@@ -51,26 +55,33 @@ IsLegalGame-take pos (suc n) [] legal = tt
 IsLegalGame-take pos (suc n) (m ∷ ms) legal = (legal.0, IsLegalGame-take (led_to pos (moved pos m)) n ms legal.1)
 
 -- each move of a legal game is legal after those before it
-pub IsLegalMove-at : (pos : BoardState) (ms : List Move) (n : ℕ) (m : Move) → IsLegalGame pos ms → n < length ms → IsLegalMove (replay_from pos (take n ms)) (get_or ms n m)
+pub IsLegalMove-at : (pos : BoardState) (ms : List Move) (n : ℕ) (m : Move) → IsLegalGame pos ms → n < length ms
+    → IsLegalMove (replay_from pos (take n ms)) (get_or ms n m)
 unfolding replay_from
 IsLegalMove-at pos [] n m legal within = absurd (omega arith)
 IsLegalMove-at pos (first ∷ ms) zero m legal within = legal.0
-IsLegalMove-at pos (first ∷ ms) (suc n) m legal within = IsLegalMove-at (led_to pos (moved pos first)) ms n m legal.1 (omega arith)
+IsLegalMove-at pos (first ∷ ms) (suc n) m legal within =
+    IsLegalMove-at (led_to pos (moved pos first)) ms n m legal.1 (omega arith)
 
 -- a play keeps the size of the board
-size-moved_to : (pos : BoardState) (m : Move) (at : Option ℕ) (next : BoardState) → m.at ≡ at → moved pos m ≡ Ok next → next.size ≡ pos.size
-size-moved_to pos m None next is e = sym (ap (λ (r : Result BoardState Illegal). (led_to pos r).size) (sym (pass_is pos m is) ∙ e))
+size-moved_to : (pos : BoardState) (m : Move) (at : Option ℕ) (next : BoardState) → m.at ≡ at → moved pos m ≡ Ok next
+    → next.size ≡ pos.size
+size-moved_to pos m None next is e =
+    sym (ap (λ (r : Result BoardState Illegal). (led_to pos r).size) (sym (pass_is pos m is) ∙ e))
   where
-    pass_is : (pos : BoardState) (m : Move) → m.at ≡ None → moved pos m ≡ Ok (record { size = pos.size; cells = pos.cells; ban = None })
+    pass_is : (pos : BoardState) (m : Move) → m.at ≡ None
+        → moved pos m ≡ Ok (record { size = pos.size; cells = pos.cells; ban = None })
     pass_is pos m is = rw is refl
-size-moved_to pos m (Some p) next is e = ap (λ (b : BoardState). b.size) (sym (played_from pos m.colour p next (rw is at e)).result)
+size-moved_to pos m (Some p) next is e =
+    ap (λ (b : BoardState). b.size) (sym (played_from pos m.colour p next (rw is at e)).result)
 
 -- a move keeps the size of the board
 pub size-moved : (pos : BoardState) (m : Move) (next : BoardState) → moved pos m ≡ Ok next → next.size ≡ pos.size
 size-moved pos m next e = size-moved_to pos m m.at next refl e
 
 -- whatever a move led to, the board has its size
-size-led_to : (pos : BoardState) (m : Move) (r : Result BoardState Illegal) → moved pos m ≡ r → (led_to pos r).size ≡ pos.size
+size-led_to : (pos : BoardState) (m : Move) (r : Result BoardState Illegal) → moved pos m ≡ r
+    → (led_to pos r).size ≡ pos.size
 size-led_to pos m (Ok next) e = size-moved pos m next e
 size-led_to pos m (Err e) is = refl
 
@@ -81,7 +92,8 @@ size-replay_from pos [] = refl
 size-replay_from pos (m ∷ ms) = size-replay_from (led_to pos (moved pos m)) ms ∙ size-led_to pos m (moved pos m) refl
 
 -- a move takes at most the stones of a whole board
-pub taken_by-bound : (pos : BoardState) (c : Colour) (at : Option ℕ) → pos.size ≤ largest_size → taken_by pos c at ≤ largest_points
+pub taken_by-bound : (pos : BoardState) (c : Colour) (at : Option ℕ) → pos.size ≤ largest_size
+    → taken_by pos c at ≤ largest_points
 taken_by-bound pos c None small = omega arith
 taken_by-bound pos c (Some p) small =
     let board : pos.size * pos.size ≤ largest_points = mul-le pos.size pos.size largest_size largest_size small small in
@@ -89,7 +101,8 @@ taken_by-bound pos c (Some p) small =
     omega (arith, board, few)
 
 -- and so for the stones that it takes for a colour
-pub stones_taken-bound : (pos : BoardState) (c : Colour) (m : Move) → pos.size ≤ largest_size → stones_taken pos c m ≤ largest_points
+pub stones_taken-bound : (pos : BoardState) (c : Colour) (m : Move) → pos.size ≤ largest_size
+    → stones_taken pos c m ≤ largest_points
 stones_taken-bound pos c m small =
     elim (cases_Bool (same_colour m.colour c)) [
       | inl same ↦ rw same (taken_by-bound pos m.colour m.at small)
@@ -97,10 +110,12 @@ stones_taken-bound pos c m small =
     ]
 
 -- the moves of a game take at most a whole board each
-pub captures_from-bound : (pos : BoardState) (c : Colour) (ms : List Move) → pos.size ≤ largest_size → captures_from pos c ms ≤ largest_points * length ms
+pub captures_from-bound : (pos : BoardState) (c : Colour) (ms : List Move) → pos.size ≤ largest_size
+    → captures_from pos c ms ≤ largest_points * length ms
 unfolding captures_from
 captures_from-bound pos c [] small = omega arith
 captures_from-bound pos c (m ∷ ms) small =
     let first = stones_taken-bound pos c m small in
-    let rest = captures_from-bound (led_to pos (moved pos m)) c ms (subst (λ n. n ≤ largest_size) (sym (size-led_to pos m (moved pos m) refl)) small) in
+    let rest = captures_from-bound (led_to pos (moved pos m)) c ms (subst (λ n. n ≤ largest_size)
+        (sym (size-led_to pos m (moved pos m) refl)) small) in
     omega (arith, first, rest)

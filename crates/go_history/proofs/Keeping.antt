@@ -1,5 +1,6 @@
 -- What is kept stays a legal game with the board on which it was made.
 use Rattle.std.proofs.Common.{◌≡◌, ℕ, ◌+◌, ◌-◌, ◌*◌, ◌^◌, ◌<◌, ◌≤◌, Bool, true, false, cond, List, [], ◌∷◌, ◌++◌, length, take, Option, Some, None, IfSome, Result, Ok, Err, IsOk, refl, sym, ap, subst, arith, ◌∙◌, length-append}
+use Rattle.std.proofs.lemmas.Bool.{both_ways}
 use Rattle.std.proofs.lemmas.List.{take-append-le, take_all}
 use Rattle.go_rules.specs.declared.Colour.{Colour}
 use Rattle.go_rules.specs.declared.Colour.TheVariants.{Black, White}
@@ -26,16 +27,19 @@ shown_of a game kept view = shown a kept ∙ ap position_of view
 
 -- the board has the size of the game
 pub size_shown : (a : Inside) → IsKept a → (reached a.board).size ≡ a.board.base.size
-size_shown a kept = ap (λ (pos : BoardState). pos.size) (shown a kept) ∙ size-replay_from (empty_board a.board.base.size) a.moves.items
+size_shown a kept = ap (λ (pos : BoardState). pos.size) (shown a kept)
+    ∙ size-replay_from (empty_board a.board.base.size) a.moves.items
 
 -- a move's point on the board of the game is on the board that is shown
-pub point_shown : (a : Inside) (game : Game) (m : Move) → IsKept a → game_of a ≡ game → IfSome m.at (λ p. p < game.size * game.size)
+pub point_shown : (a : Inside) (game : Game) (m : Move) → IsKept a → game_of a ≡ game
+    → IfSome m.at (λ p. p < game.size * game.size)
     → IfSome m.at (λ p. p < (reached a.board).size * (reached a.board).size)
 point_shown a game m kept view on =
     subst (λ s. IfSome m.at (λ p. p < s * s)) (sym (size_shown a kept ∙ ap (λ (g : Game). g.size) view)) on
 
 -- moves of a legal game on a board of size s, with their captures counted, are kept
-pub IsKept-from : (s : ℕ) (ms : List Move) (a : Inside) → a.board.base ≡ empty_board s → a.board.moves ≡ ms → a.moves.items ≡ ms
+pub IsKept-from : (s : ℕ) (ms : List Move) (a : Inside) → a.board.base ≡ empty_board s → a.board.moves ≡ ms
+    → a.moves.items ≡ ms
     → s ≤ largest_size → IsLegalGame (empty_board s) ms → length ms ≤ most_moves
     → ((c : Colour) → taken_of a.taken c ≡ captures s c ms) → IsKept a
 IsKept-from s ms a base moves items small legal few taken =
@@ -44,25 +48,25 @@ IsKept-from s ms a base moves items small legal few taken =
       small = subst (λ n. n ≤ largest_size) size small;
       base = base ∙ ap empty_board size;
       moves = moves ∙ sym items;
-      legal = subst (λ n. IsLegalGame (empty_board n) a.moves.items) size (subst (IsLegalGame (empty_board s)) (sym items) legal);
+      legal = subst (λ n. IsLegalGame (empty_board n) a.moves.items) size (subst (IsLegalGame (empty_board s))
+          (sym items) legal);
       few = subst (λ l. length l ≤ most_moves) (sym items) few;
       taken = λ c. taken c ∙ ap (captures s c) (sym items) ∙ ap (λ n. captures n c a.moves.items) size;
     }
 
 -- no moves are kept
-pub IsKept-none : (s : ℕ) (a : Inside) → a.board ≡ record { base = empty_board s; moves = [] } → a.moves.items ≡ [] → s ≤ largest_size
-    → ((c : Colour) → taken_of a.taken c ≡ 0) → IsKept a
-IsKept-none s a board items small taken =
-    IsKept-from s [] a (ap (λ (g : BoardGame). g.base) board) (ap (λ (g : BoardGame). g.moves) board) items small tt (omega arith)
-    (λ c. taken c ∙ sym (captures_from-nil (empty_board s) c))
+pub IsKept-none : (s : ℕ) (base : BoardState) (a : Inside) → a.board ≡ record { base = base; moves = [] }
+    → base ≡ empty_board s
+    → a.moves.items ≡ [] → s ≤ largest_size → ((c : Colour) → taken_of a.taken c ≡ 0) → IsKept a
+IsKept-none s base a board is items small taken =
+    IsKept-from s [] a (ap (λ (g : BoardGame). g.base) board
+        ∙ is) (ap (λ (g : BoardGame). g.moves) board) items small tt
+    (omega arith) (λ c. taken c ∙ sym (captures_from-nil (empty_board s) c))
 
 -- an outcome that is Ok leads somewhere
 ok_next : (r : Result BoardState Illegal) → IsOk r → (next : BoardState) × (r ≡ Ok next)
 ok_next (Ok next) ok = (next, refl)
-ok_next (Err e) ok = absurd (bad e ok)
-  where
-    bad : (e : Illegal) → IsOk {A = BoardState} (Err e) → ⊥
-    bad e ok = cc
+ok_next (Err e) ok = absurd (both_ways false refl ok)
 
 -- a legal move was made
 pub record Makes (old new : Inside) (m : Move) (n : ℕ) : Type 0 where
@@ -93,13 +97,15 @@ IsKept-push old new m n kept made =
     longer ms m room = omega (arith, length-append ms (m ∷ []))
 
 -- the counts have room for the stones of one more move
-pub room_to_count : (a : Inside) (m : Move) (n : ℕ) (c : Colour) → IsKept a → n ≡ taken_by (reached a.board) m.colour m.at
+pub room_to_count : (a : Inside) (m : Move) (n : ℕ) (c : Colour) → IsKept a
+    → n ≡ taken_by (reached a.board) m.colour m.at
     → taken_of a.taken c + n < 2 ^ 32
 room_to_count a m n c kept is =
     let so_far : captures a.board.base.size c a.moves.items ≤ largest_points * length a.moves.items =
         captures_from-bound (empty_board a.board.base.size) c a.moves.items kept.small in
     let more : taken_by (reached a.board) m.colour m.at ≤ largest_points =
-        taken_by-bound (reached a.board) m.colour m.at (subst (λ s. s ≤ largest_size) (sym (size_shown a kept)) kept.small) in
+        taken_by-bound (reached a.board) m.colour m.at (subst (λ s. s ≤ largest_size)
+            (sym (size_shown a kept)) kept.small) in
     let same = kept.taken c in
     let few = kept.few in
     omega (arith, so_far, more, same, few, is)
@@ -112,11 +118,13 @@ pub record TakesBack (old new : Inside) (m : Move) (n : ℕ) : Type 0 where
   pub taken : (c : Colour) → taken_of new.taken c ≡ taken_of old.taken c - cond (same_colour m.colour c) n 0
 
 -- what the moves but the last took, and what the last took
-captures_split : (old : Inside) (ms : List Move) (m : Move) (n : ℕ) (c : Colour) → IsKept old → old.moves.items ≡ ms ++ m ∷ []
+captures_split : (old : Inside) (ms : List Move) (m : Move) (n : ℕ) (c : Colour) → IsKept old
+    → old.moves.items ≡ ms ++ m ∷ []
     → n ≡ taken_by (replay_from old.board.base ms) m.colour m.at
     → taken_of old.taken c ≡ captures old.board.base.size c ms + cond (same_colour m.colour c) n 0
 captures_split old ms m n c kept moves stones =
-    kept.taken c ∙ ap (captures old.board.base.size c) moves ∙ captures_from-push (empty_board old.board.base.size) c ms m
+    kept.taken c ∙ ap (captures old.board.base.size c) moves
+        ∙ captures_from-push (empty_board old.board.base.size) c ms m
     ∙ ap (λ k. captures old.board.base.size c ms + cond (same_colour m.colour c) k 0)
         (sym (stones ∙ ap (λ b. taken_by (replay_from b ms) m.colour m.at) kept.base))
 
@@ -138,11 +146,14 @@ IsKept-pop old new m n kept back =
     let s = old.board.base.size in
     let ms = new.moves.items in
     IsKept-from s ms new (ap (λ (g : BoardGame). g.base) back.board ∙ kept.base)
-    (ap (λ (g : BoardGame). g.moves) back.board ∙ front_of old.board.moves ms m (kept.moves ∙ back.moves)) refl kept.small
+    (ap (λ (g : BoardGame). g.moves) back.board ∙ front_of old.board.moves ms m (kept.moves
+        ∙ back.moves)) refl kept.small
     (subst (IsLegalGame (empty_board s)) (take_front ms m)
-        (IsLegalGame-take (empty_board s) (length ms) (ms ++ m ∷ []) (subst (IsLegalGame (empty_board s)) back.moves kept.legal)))
+        (IsLegalGame-take (empty_board s) (length ms) (ms
+            ++ m ∷ []) (subst (IsLegalGame (empty_board s)) back.moves kept.legal)))
     (shorter ms m (subst (λ l. length l ≤ most_moves) back.moves kept.few))
-    (λ c. back.taken c ∙ ap (λ k. k - cond (same_colour m.colour c) n 0) (captures_split old ms m n c kept back.moves back.stones)
+    (λ c. back.taken c ∙ ap (λ k. k - cond (same_colour m.colour c) n 0)
+        (captures_split old ms m n c kept back.moves back.stones)
         ∙ add_sub (captures s c ms) (cond (same_colour m.colour c) n 0))
   where
     take_front : (ms : List Move) (m : Move) → take (length ms) (ms ++ m ∷ []) ≡ ms

@@ -1,3 +1,4 @@
 pub mod GameLemmas
 pub mod Keeping
+pub mod Refusing
 pub mod Stones
