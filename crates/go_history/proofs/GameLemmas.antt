@@ -117,5 +117,5 @@ captures_from-bound pos c [] small = omega arith
 captures_from-bound pos c (m ∷ ms) small =
     let first = stones_taken-bound pos c m small in
     let rest = captures_from-bound (led_to pos (moved pos m)) c ms (subst (λ n. n ≤ largest_size)
-        (sym (size-led_to pos m (moved pos m) refl)) small) in
+    (sym (size-led_to pos m (moved pos m) refl)) small) in
     omega (arith, first, rest)

@@ -1,5 +1,5 @@
 -- What is kept stays a legal game with the board on which it was made.
-use Rattle.std.proofs.Common.{◌≡◌, ℕ, ◌+◌, ◌-◌, ◌*◌, ◌^◌, ◌<◌, ◌≤◌, Bool, true, false, cond, List, [], ◌∷◌, ◌++◌, length, take, Option, Some, None, IfSome, Result, Ok, Err, IsOk, refl, sym, ap, subst, arith, ◌∙◌, length-append}
+use Rattle.std.proofs.Common.{◌≡◌, ℕ, ◌+◌, ◌-◌, ◌*◌, ◌^◌, ◌<◌, ◌≤◌, true, false, cond, List, [], ◌∷◌, ◌++◌, length, take, IfSome, Result, Ok, Err, IsOk, refl, sym, ap, subst, arith, ◌∙◌, length-append}
 use Rattle.std.proofs.lemmas.Bool.{both_ways}
 use Rattle.std.proofs.lemmas.List.{take-append-le, take_all}
 use Rattle.go_rules.specs.declared.Colour.{Colour}
@@ -8,12 +8,11 @@ use Rattle.go_rules.specs.declared.Illegal.{Illegal}
 use Rattle.go_rules.specs.declared.Move.{Move}
 use Rattle.go_rules.specs.Board.{largest_size, largest_points}
 use Rattle.go_rules.specs.Position.{BoardState, same_colour}
-use Rattle.go_rules.specs.Replay.{empty_board, moved, replay, replay_from, captures, captures_from, taken_by, IsLegalMove, IsLegalGame}
+use Rattle.go_rules.specs.Replay.{empty_board, moved, replay, replay_from, captures, taken_by, IsLegalMove, IsLegalGame}
 use Rattle.go_strings.specs.Games.{BoardGame, reached, after}
 use Rattle.go_history.specs.Games.{Game, most_moves, position_of}
-use Rattle.go_history.specs.Taken.{stones_taken, taken_of}
+use Rattle.go_history.specs.Taken.{taken_of}
 use Rattle.go_history.specs.Kept.{game_of, IsKept}
-use Rattle.go_history.specs.declared.captures.Captures.{Captures}
 use Rattle.go_history.specs.declared.history.History.TheInside.{Inside}
 use Rattle.go_history.proofs.GameLemmas.{IsLegalGame-push, IsLegalGame-take, captures_from-nil, captures_from-push, captures_from-bound, taken_by-bound, size-replay_from}
 
@@ -60,7 +59,7 @@ pub IsKept-none : (s : ℕ) (base : BoardState) (a : Inside) → a.board ≡ rec
     → a.moves.items ≡ [] → s ≤ largest_size → ((c : Colour) → taken_of a.taken c ≡ 0) → IsKept a
 IsKept-none s base a board is items small taken =
     IsKept-from s [] a (ap (λ (g : BoardGame). g.base) board
-        ∙ is) (ap (λ (g : BoardGame). g.moves) board) items small tt
+    ∙ is) (ap (λ (g : BoardGame). g.moves) board) items small tt
     (omega arith) (λ c. taken c ∙ sym (captures_from-nil (empty_board s) c))
 
 -- an outcome that is Ok leads somewhere
@@ -84,14 +83,14 @@ IsKept-push old new m n kept made =
     let s = old.board.base.size in
     let ms = old.moves.items in
     let legal : IsLegalMove (replay s ms) m = subst (λ pos. IsLegalMove pos m) (shown old kept)
-        (record { on_board = made.on_board; allowed = ok_next (moved (reached old.board) m) made.allowed }) in
+    (record { on_board = made.on_board; allowed = ok_next (moved (reached old.board) m) made.allowed }) in
     IsKept-from s (ms ++ m ∷ []) new (ap (λ (g : BoardGame). g.base) made.board ∙ kept.base)
     (ap (λ (g : BoardGame). g.moves) made.board ∙ ap (λ l. l ++ m ∷ []) kept.moves) made.moves kept.small
     (IsLegalGame-push (empty_board s) ms m kept.legal legal) (longer ms m made.room)
     (λ c. made.taken c ∙ ap (λ k. k + cond (same_colour m.colour c) n 0) (kept.taken c)
-        ∙ ap (λ k. captures s c ms + cond (same_colour m.colour c) k 0)
-            (made.stones ∙ ap (λ pos. taken_by pos m.colour m.at) (shown old kept))
-        ∙ sym (captures_from-push (empty_board s) c ms m))
+    ∙ ap (λ k. captures s c ms + cond (same_colour m.colour c) k 0)
+    (made.stones ∙ ap (λ pos. taken_by pos m.colour m.at) (shown old kept))
+    ∙ sym (captures_from-push (empty_board s) c ms m))
   where
     longer : (ms : List Move) (m : Move) → length ms < most_moves → length (ms ++ m ∷ []) ≤ most_moves
     longer ms m room = omega (arith, length-append ms (m ∷ []))
@@ -102,10 +101,10 @@ pub room_to_count : (a : Inside) (m : Move) (n : ℕ) (c : Colour) → IsKept a
     → taken_of a.taken c + n < 2 ^ 32
 room_to_count a m n c kept is =
     let so_far : captures a.board.base.size c a.moves.items ≤ largest_points * length a.moves.items =
-        captures_from-bound (empty_board a.board.base.size) c a.moves.items kept.small in
+    captures_from-bound (empty_board a.board.base.size) c a.moves.items kept.small in
     let more : taken_by (reached a.board) m.colour m.at ≤ largest_points =
-        taken_by-bound (reached a.board) m.colour m.at (subst (λ s. s ≤ largest_size)
-            (sym (size_shown a kept)) kept.small) in
+    taken_by-bound (reached a.board) m.colour m.at (subst (λ s. s ≤ largest_size)
+    (sym (size_shown a kept)) kept.small) in
     let same = kept.taken c in
     let few = kept.few in
     omega (arith, so_far, more, same, few, is)
@@ -124,9 +123,9 @@ captures_split : (old : Inside) (ms : List Move) (m : Move) (n : ℕ) (c : Colou
     → taken_of old.taken c ≡ captures old.board.base.size c ms + cond (same_colour m.colour c) n 0
 captures_split old ms m n c kept moves stones =
     kept.taken c ∙ ap (captures old.board.base.size c) moves
-        ∙ captures_from-push (empty_board old.board.base.size) c ms m
+    ∙ captures_from-push (empty_board old.board.base.size) c ms m
     ∙ ap (λ k. captures old.board.base.size c ms + cond (same_colour m.colour c) k 0)
-        (sym (stones ∙ ap (λ b. taken_by (replay_from b ms) m.colour m.at) kept.base))
+    (sym (stones ∙ ap (λ b. taken_by (replay_from b ms) m.colour m.at) kept.base))
 
 -- the last move's stones were counted
 pub counted : (old : Inside) (ms : List Move) (m : Move) (n : ℕ) → IsKept old → old.moves.items ≡ ms ++ m ∷ []
@@ -147,14 +146,14 @@ IsKept-pop old new m n kept back =
     let ms = new.moves.items in
     IsKept-from s ms new (ap (λ (g : BoardGame). g.base) back.board ∙ kept.base)
     (ap (λ (g : BoardGame). g.moves) back.board ∙ front_of old.board.moves ms m (kept.moves
-        ∙ back.moves)) refl kept.small
+    ∙ back.moves)) refl kept.small
     (subst (IsLegalGame (empty_board s)) (take_front ms m)
-        (IsLegalGame-take (empty_board s) (length ms) (ms
-            ++ m ∷ []) (subst (IsLegalGame (empty_board s)) back.moves kept.legal)))
+    (IsLegalGame-take (empty_board s) (length ms) (ms
+    ++ m ∷ []) (subst (IsLegalGame (empty_board s)) back.moves kept.legal)))
     (shorter ms m (subst (λ l. length l ≤ most_moves) back.moves kept.few))
     (λ c. back.taken c ∙ ap (λ k. k - cond (same_colour m.colour c) n 0)
-        (captures_split old ms m n c kept back.moves back.stones)
-        ∙ add_sub (captures s c ms) (cond (same_colour m.colour c) n 0))
+    (captures_split old ms m n c kept back.moves back.stones)
+    ∙ add_sub (captures s c ms) (cond (same_colour m.colour c) n 0))
   where
     take_front : (ms : List Move) (m : Move) → take (length ms) (ms ++ m ∷ []) ≡ ms
     take_front ms m = take-append-le (length ms) ms (m ∷ []) (omega arith) ∙ take_all (length ms) ms (omega arith)

@@ -1,5 +1,5 @@
 -- What is told of a move that is refused.
-use Rattle.std.proofs.Common.{◌≡◌, ◌↔◌, ℕ, Result, Ok, Err, sym, ap, ◌∙◌}
+use Rattle.std.proofs.Common.{◌≡◌, ◌↔◌, ℕ, Result, Err, sym, ap, ◌∙◌}
 use Rattle.go_rules.specs.declared.Illegal.{Illegal}
 use Rattle.go_rules.specs.Position.{BoardState}
 use Rattle.go_strings.specs.declared.board.PlayError.{PlayError}

@@ -27,10 +27,10 @@ last_taken_is a game n v moves m kept view long some read is =
     let vs = take (n - 1) a.past.items in
     let trail = last_split a.past.items n v long some read in
     let all : moves_of vs ++ v.made ∷ [] ≡ moves ++ m ∷ [] =
-        sym (moves_push vs v) ∙ ap moves_of (sym trail) ∙ ap (λ (g : BoardGame). g.moves) view ∙ is in
+    sym (moves_push vs v) ∙ ap moves_of (sym trail) ∙ ap (λ (g : BoardGame). g.moves) view ∙ is in
     let same = same_from_push (moves_of vs) moves v.made m all in
     let last = leads_last a.strings.items largest_points a.base a.past.items vs (position_in a.present) a.present.kept v
-        trail kept.leads in
+    trail kept.leads in
     last.taken
     ∙ ap (λ b. taken_by (replay_from b (moves_of vs)) v.made.colour v.made.at) (ap (λ (g : BoardGame). g.base) view)
     ∙ ap (λ ms. taken_by (replay_from game.base ms) v.made.colour v.made.at) same.0

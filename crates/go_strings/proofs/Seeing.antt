@@ -6,12 +6,12 @@ use Rattle.go_rules.specs.declared.Cell.TheVariants.{Empty, Black, White}
 use Rattle.go_rules.specs.Strings.{cell_at, same_cell}
 use Rattle.go_rules.specs.Position.{BoardState, IsPosition, is_banned}
 use Rattle.go_rules.proofs.Paths.{same_cell-true}
-use Rattle.go_base.specs.Facts.{Fact, SizeIs, CellIs, BanIs, Holds, Agrees}
+use Rattle.go_base.specs.Facts.{Fact, SizeIs, CellIs, BanIs, IsFactOf, Agrees}
 use Rattle.go_base.proofs.Seeing.{same_bool-true}
 use Rattle.go_strings.specs.Seen.{is_so}
 
 -- a fact that is so holds
-so_holds : (pos : BoardState) (fact : Fact) → is_so pos fact ≡ true → Holds pos fact
+so_holds : (pos : BoardState) (fact : Fact) → is_so pos fact ≡ true → IsFactOf pos fact
 so_holds pos (SizeIs n) t = eqb-true pos.size n t
 so_holds pos (CellIs p cell) t = same_cell-true (cell_at pos.cells p) cell t
 so_holds pos (BanIs p c forbidden) t = same_bool-true (is_banned pos.ban c p) forbidden t

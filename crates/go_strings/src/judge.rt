@@ -2,7 +2,6 @@
 
 ghost use Rattle.std.specs.Prelude.{◌≡◌, ℕ, ◌*◌, ◌<◌, ◌⊎◌, true, false, IfOk, IfErr, Err};
 ghost use Rattle.std.specs.FinSet as set;
-ghost use Rattle.go_rules.specs.Position.{is_banned};
 ghost use Rattle.go_rules.specs.Play.{play};
 ghost use Rattle.go_base.specs.Positions.{HoldsWith};
 ghost use Rattle.go_strings.specs.Stands.{Stands};
@@ -13,6 +12,7 @@ use crate::bit_set::BitSet;
 use crate::gather::{Met, cell_on, gather};
 use crate::standing::Standing;
 use crate::strings::KeptString;
+use go_base::ban::is_banned;
 use go_base::{Cell, Colour, Illegal, Point};
 
 /// What c meets by a play at p, or the first of Occupied, Ko and Suicide that forbids the play.
@@ -26,7 +26,7 @@ pub fn judge(now: &Standing, strings: &[KeptString], c: Colour, p: Point) -> Res
     if cell_on(&now.board, p) != Cell::Empty {
         return Err(Illegal::Occupied);
     }
-    if bans(now.ban, c, p) {
+    if is_banned(now.ban, c, p) {
         return Err(Illegal::Ko);
     }
     let met = gather(&now.board, &now.names, strings, c, p);
@@ -34,16 +34,6 @@ pub fn judge(now: &Standing, strings: &[KeptString], c: Colour, p: Point) -> Res
         return Err(Illegal::Suicide);
     }
     Ok(met)
-}
-
-/// Whether the ban forbids c to play at p.
-pub fn bans(ban: Option<(Point, Colour)>, c: Colour, p: Point) -> bool
-    ensures { result ≡ is_banned ban c p }
-{
-    match ban {
-        Some((q, colour)) => q == p && colour == c,
-        None => false,
-    }
 }
 
 /// Whether a stone would have no liberty, where it had these and took these stones.

@@ -26,7 +26,7 @@ returns c =
     ] in
     let n = c.requires.stands.named c.args.p c.requires.on_board stone in
     let there = named_there c.args.now.now.board.size cells c.args.strings.now c.args.now.now.names c.args.p
-        c.index-strings-now.result c.requires.stands.named c.requires.on_board stone
-        (get_or_read c.args.strings.now (get_or c.args.now.now.names c.args.p 0) _ n.in_list c.index-strings-now.is
-            no_string) in
+    c.index-strings-now.result c.requires.stands.named c.requires.on_board stone
+    (get_or_read c.args.strings.now (get_or c.args.now.now.names c.args.p 0) _ n.in_list c.index-strings-now.is
+    no_string) in
     c.points_of.ensures ∙ there.liberties

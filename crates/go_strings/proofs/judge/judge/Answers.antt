@@ -19,11 +19,11 @@ returns-then-ne-clause-refused c =
     sym (play_occupied (position_in c.args.now.now) c.args.c c.args.p (sym (stone_was at.After-ne) ∙ c.if-ne.true))
 
 -- the ban is on the play
-pub returns-then-bans-clause-refused : goal.returns-then-bans-clause-refused
-returns-then-bans-clause-refused c =
-    let at = goal.at.returns-then-bans-clause-refused c in
+pub returns-then-is_banned-clause-refused : goal.returns-then-is_banned-clause-refused
+returns-then-is_banned-clause-refused c =
+    let at = goal.at.returns-then-is_banned-clause-refused c in
     sym (play_ko (position_in c.args.now.now) c.args.c c.args.p (sym (stone_was at.After-ne) ∙ c.if-ne.false)
-        (sym c.bans.ensures ∙ c.if-bans.true))
+    (sym c.is_banned.ensures ∙ c.if-is_banned.true))
 
 -- the stone would have no liberty
 pub returns-then-is_suicide-clause-refused : goal.returns-then-is_suicide-clause-refused
@@ -31,13 +31,13 @@ returns-then-is_suicide-clause-refused c =
     let at = goal.at.returns-then-is_suicide-clause-refused c in
     let none = c.is_suicide.ensures.yes c.if-is_suicide.true in
     judged_suicide c.args.now.now c.args.strings.now c.args.c c.args.p c.requires.stands c.requires.holds
-        c.requires.on_board (sym (stone_was at.After-ne) ∙ c.if-ne.false) (sym c.bans.ensures ∙ c.if-bans.false)
-        c.gather-met.result c.gather-met.ensures none.0 none.1
+    c.requires.on_board (sym (stone_was at.After-ne) ∙ c.if-ne.false) (sym c.is_banned.ensures ∙ c.if-is_banned.false)
+    c.gather-met.result c.gather-met.ensures none.0 none.1
 
 -- the play is allowed
 pub returns-clause-allowed : goal.returns-clause-allowed
 returns-clause-allowed c =
     let at = goal.at.returns-clause-allowed c in
     judged_allowed c.args.now.now c.args.strings.now c.args.c c.args.p c.requires.stands c.requires.holds
-        c.requires.on_board (sym (stone_was at.After-ne) ∙ c.if-ne.false) (sym c.bans.ensures ∙ c.if-bans.false)
-        c.gather-met.result c.gather-met.ensures (c.is_suicide.ensures.more c.if-is_suicide.false)
+    c.requires.on_board (sym (stone_was at.After-ne) ∙ c.if-ne.false) (sym c.is_banned.ensures ∙ c.if-is_banned.false)
+    c.gather-met.result c.gather-met.ensures (c.is_suicide.ensures.more c.if-is_suicide.false)

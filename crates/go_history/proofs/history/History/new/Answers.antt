@@ -7,5 +7,5 @@ use Rattle.go_history.proofs.history.History.new.Goals as goal
 pub invariant_of-result : goal.invariant_of-result
 invariant_of-result c =
     IsKept-none c.args.size (empty_board c.args.size)
-        (record { board = c.in_ok-board.board; moves = c.in-Ok.moves; taken = c.none.result })
-        c.in_ok-board.ensures refl c.in-Ok.ensures.items c.get.ensures.at_most c.none.ensures
+    (record { board = c.in_ok-board.board; moves = c.in-Ok.moves; taken = c.none.result })
+    c.in_ok-board.ensures refl c.in-Ok.ensures.items c.get.ensures.at_most c.none.ensures

@@ -16,7 +16,7 @@ here c = shown_of c.self.inside c.args.self.now c.self.invariant c.self.view_is
 pub returns-then-len-ge-MAX_MOVES-clause-illegal : goal.returns-then-len-ge-MAX_MOVES-clause-illegal
 returns-then-len-ge-MAX_MOVES-clause-illegal c = λ e.
     told_is (moved (position_of c.args.self.now) c.args.m) c.refused_when_full.result e
-        (c.refused_when_full.ensures.illegal e)
+    (c.refused_when_full.ensures.illegal e)
 
 -- the move's point is on the board
 pub make-requires : goal.make-requires
@@ -28,16 +28,16 @@ returns-in-Err-Illegal-clause-illegal c =
     let at = goal.at.returns-in-Err-Illegal-clause-illegal c in
     let is = (c.in-Err-Illegal.ensures.illegal c.in-Err-Illegal.e).0 (ap Err c.in-Err-Illegal.field-0-is) in
     rw c.in-Err-Illegal.e-is (illegal_is (moved (position_of c.args.self.now) c.args.m) c.in-Err-Illegal.e
-        (ap (λ pos. moved pos c.args.m) (sym (here at.After-self)) ∙ is))
+    (ap (λ pos. moved pos c.args.m) (sym (here at.After-self)) ∙ is))
 
 -- there is no memory for it
 pub returns-in-Err-NoMemory-clause-illegal : goal.returns-in-Err-NoMemory-clause-illegal
 returns-in-Err-NoMemory-clause-illegal c =
     let at = goal.at.returns-in-Err-NoMemory-clause-illegal c in λ e.
     subst (λ pos. (◌≡◌ {A = Told} (Err no_memory) (Err (illegal e)))
-        ↔ (moved pos c.args.m ≡ Err e)) (here at.After-self)
-        (no_memory_is (moved (reached c.self.inside.board) c.args.m) e c.in-Err-NoMemory.field-0
-        c.in-Err-NoMemory.field-0-is (c.in-Err-NoMemory.ensures.illegal e))
+    ↔ (moved pos c.args.m ≡ Err e)) (here at.After-self)
+    (no_memory_is (moved (reached c.self.inside.board) c.args.m) e c.in-Err-NoMemory.field-0
+    c.in-Err-NoMemory.field-0-is (c.in-Err-NoMemory.ensures.illegal e))
 
 -- there is room to count what it took
 pub add-requires : goal.add-requires
@@ -49,7 +49,7 @@ pub invariant_of-self-in-Ok-push : goal.invariant_of-self-in-Ok-push
 invariant_of-self-in-Ok-push c =
     let room : length c.self.inside.moves.items < most_moves = omega arith in
     IsKept-push c.self.inside (record { board = c.make.new.self; moves = c.push.new.self; taken = c.add.new.self })
-        c.args.m c.from.result c.self.invariant (record {
+    c.args.m c.from.result c.self.invariant (record {
       board = c.in-Ok.ensures.ok;
       allowed = c.in-Ok.ensures.allowed;
       on_board = point_shown c.self.inside c.args.self.now c.args.m c.self.invariant c.self.view_is c.requires;

@@ -7,5 +7,5 @@ use Rattle.go_history.proofs.history.History.refused_when_full.Goals as goal
 pub refusal-requires : goal.refusal-requires
 refusal-requires c =
     subst (λ at. IfSome at (λ p. p < (reached c.self.inside.board).size * (reached c.self.inside.board).size))
-        c.in-Some.is
+    c.in-Some.is
     (point_shown c.self.inside c.args.self.now c.args.m c.self.invariant c.self.view_is c.requires)

@@ -7,13 +7,13 @@ pub remove-requires : goal.remove-requires
 remove-requires c =
     counted c.self.inside c.pop.new.self.items c.in-Some.m c.from.result c.self.invariant c.in-Some.ensures.items
     (c.from.ensures ∙ c.last_taken-stones.ensures.last c.pop.new.self.items c.in-Some.m
-        (c.self.invariant.moves ∙ c.in-Some.ensures.items))
+    (c.self.invariant.moves ∙ c.in-Some.ensures.items))
 
 -- the moves that are left are kept
 pub invariant_of-self-2 : goal.invariant_of-self-2
 invariant_of-self-2 c =
     IsKept-pop c.self.inside (record { board = c.back.new.self; moves = c.pop.new.self; taken = c.remove.new.self })
-        c.in-Some.m c.from.result c.self.invariant (record {
+    c.in-Some.m c.from.result c.self.invariant (record {
       moves = c.in-Some.ensures.items;
       board = c.back.ensures.back;
       stones = c.from.ensures ∙ c.last_taken-stones.ensures.last c.pop.new.self.items c.in-Some.m

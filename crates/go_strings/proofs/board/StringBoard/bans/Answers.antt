@@ -5,5 +5,5 @@ use Rattle.go_strings.proofs.board.StringBoard.bans.Goals as goal
 
 -- the ban is the one that is shown
 pub returns : goal.returns
-returns c = c.bans.ensures ∙ sym (ap (λ (pos : BoardState). is_banned pos.ban c.args.c c.args.p)
+returns c = c.is_banned.ensures ∙ sym (ap (λ (pos : BoardState). is_banned pos.ban c.args.c c.args.p)
     (shown c.self.inside c.args.self.now c.self.invariant c.self.view_is))

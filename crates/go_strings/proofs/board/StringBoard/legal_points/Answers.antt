@@ -27,4 +27,4 @@ returns c =
     let points = c.points-p-end.ensures.value ∙ ap (λ n. n * n) c.size.ensures.value in
     let end : c.loop-p.p ≡ c.points-p-end.result = omega (arith, c.loop-p-test.false, c.loop-p.auto) in
     c.loop-p.invariant ∙ ap (λ n. set_below n (is_legal (reached c.args.self.now) c.args.c)) (end ∙ points)
-        ∙ legal_points-all (reached c.args.self.now) c.args.c
+    ∙ legal_points-all (reached c.args.self.now) c.args.c
