@@ -1,5 +1,7 @@
 -- The vertex that is printed for a point is read as that point.
-use Rattle.std.proofs.Common.{◌≡◌, ℕ, ◌+◌, ◌-◌, ◌*◌, ◌/◌, ◌%◌, ◌<◌, Bool, true, false, cond, eqb, ltb, leb, not, ◌&&◌, [], ◌∷◌, ◌++◌, inl, inr, Option, Some, None, refl, sym, ap, ◌∙◌, arith, decimal, slice_index}
+use Rattle.std.proofs.Common.{◌≡◌, ℕ, ◌+◌, ◌-◌, ◌*◌, ◌/◌, ◌%◌, ◌<◌, Bool, true, false, cond, eqb, ltb, leb, not, ◌&&◌}
+use Rattle.std.proofs.Common.{[], ◌∷◌, ◌++◌, inl, inr, Option, Some, None, refl, sym, ap, ◌∙◌, arith, decimal}
+use Rattle.std.proofs.Common.{slice_index}
 use Rattle.std.proofs.Math.Nat.{div-lt_iff_lt-mul}
 use Rattle.std.proofs.lemmas.Nat.{div-add-mod'}
 use Rattle.std.proofs.lemmas.Bool.{both_ways, eqb-true, cases_lt}
@@ -27,7 +29,8 @@ number_from (Some m) n h = ap Some (eqb-true m n (true_from (eqb m n) h))
 -- each letter of a column names that column
 column_read : (c : ℕ) → c < 25 → column_named (slice_index column_letters c) ≡ Some c
 unfolding is_number
-column_read c h = number_from _ c (any_below_none 25 (λ k. not (is_number (column_named (slice_index column_letters k)) k)) c refl h)
+column_read c h = number_from _ c
+    (any_below_none 25 (λ k. not (is_number (column_named (slice_index column_letters k)) k)) c refl h)
 
 -- one digit writes a number below ten
 one_digit : (n : ℕ) → n < 10 → row_number_of ((48 + n) ∷ []) ≡ Some n
@@ -37,7 +40,8 @@ one_digit n h = number_from _ n (any_below_none 10 (λ k. not (is_number (row_nu
 -- and two digits one below a hundred
 two_digits : (n : ℕ) → n < 100 → row_number_of ((48 + n / 10) ∷ (48 + n % 10) ∷ []) ≡ Some n
 unfolding is_number
-two_digits n h = number_from _ n (any_below_none 100 (λ k. not (is_number (row_number_of ((48 + k / 10) ∷ (48 + k % 10) ∷ [])) k)) n refl h)
+two_digits n h = number_from _ n
+    (any_below_none 100 (λ k. not (is_number (row_number_of ((48 + k / 10) ∷ (48 + k % 10) ∷ [])) k)) n refl h)
 
 -- each printed number of a row is read as that number
 row_read : (n : ℕ) → n < 100 → row_number_of (decimal n) ≡ Some n
@@ -45,7 +49,8 @@ row_read n h = elim (cases_lt n 10) [
   | inl less ↦ ap row_number_of (decimal_digit n less) ∙ one_digit n less
   | inr more ↦
       let tens : n / 10 < 10 = omega arith in
-      ap row_number_of (decimal_step n more (omega arith) ∙ ap (λ ds. ds ++ ((48 + n % 10) ∷ [])) (decimal_digit (n / 10) tens)) ∙ two_digits n h
+      ap row_number_of (decimal_step n more (omega arith)
+      ∙ ap (λ ds. ds ++ ((48 + n % 10) ∷ [])) (decimal_digit (n / 10) tens)) ∙ two_digits n h
 ]
 
 -- the vertex that is printed for a point is read as that point

@@ -1,5 +1,6 @@
 -- How the words of a text are found from its front.
-use Rattle.std.proofs.Common.{◌≡◌, ℕ, suc, ◌-◌, ◌<◌, ◌≤◌, Bool, true, false, cond, eqb, not, List, [], ◌∷◌, length, take, drop, get_or, refl, sym, ap, ◌∙◌, arith, inl, inr, length-drop}
+use Rattle.std.proofs.Common.{◌≡◌, ℕ, suc, ◌-◌, ◌<◌, ◌≤◌, Bool, true, false, cond, eqb, not, List, [], ◌∷◌, length}
+use Rattle.std.proofs.Common.{take, drop, get_or, refl, sym, ap, ◌∙◌, arith, inl, inr, length-drop}
 use Rattle.std.specs.List.{slice_split, onto_first, filter, position_or_len}
 use Rattle.std.proofs.lemmas.List.{take_rest, get_or-drop}
 use Rattle.std.proofs.lemmas.Bool.{cases_Bool, both_ways, or_right, or_parts}
@@ -33,7 +34,8 @@ parts_of-dropped : (b : ℕ) (bs : List ℕ) → is_kept b ≡ false → parts_o
 parts_of-dropped b bs h = rw h refl
 
 -- another byte stands at the front of the first part
-parts_of-other : (b : ℕ) (bs : List ℕ) → is_kept b ≡ true → is_parting b ≡ false → parts_of (b ∷ bs) ≡ onto_first b (parts_of bs)
+parts_of-other : (b : ℕ) (bs : List ℕ) → is_kept b ≡ true → is_parting b ≡ false
+    → parts_of (b ∷ bs) ≡ onto_first b (parts_of bs)
 parts_of-other b bs k h = let facts = other_is b h in rw (k, facts.0, facts.1) refl
 
 -- a byte that is skipped changes no word
@@ -70,17 +72,20 @@ front_parting : (b : ℕ) (bs : List ℕ) → is_parting b ≡ true → Front (b
 front_parting b bs p = record {
   tail = parts_of bs;
   parts = parts_of-parting b bs p ∙ ap (λ n. kept (take n (b ∷ bs)) ∷ parts_of bs) (sym (front_len-parting b bs p));
-  words = sym (words_of-skipped b bs (rw p (or_right (not (is_kept b)) true refl))) ∙ ap (λ n. words_of (plain (drop n (b ∷ bs)))) (sym (front_len-parting b bs p));
+  words = sym (words_of-skipped b bs (rw p (or_right (not (is_kept b)) true refl)))
+      ∙ ap (λ n. words_of (plain (drop n (b ∷ bs)))) (sym (front_len-parting b bs p));
 }
 
 -- the front of a text whose first byte is kept begins with it
-kept_front : (b : ℕ) (bs : List ℕ) → is_kept b ≡ true → is_parting b ≡ false → kept (take (front_len (b ∷ bs)) (b ∷ bs)) ≡ b ∷ kept (take (front_len bs) bs)
+kept_front : (b : ℕ) (bs : List ℕ) → is_kept b ≡ true → is_parting b ≡ false
+    → kept (take (front_len (b ∷ bs)) (b ∷ bs)) ≡ b ∷ kept (take (front_len bs) bs)
 kept_front b bs k n =
     ap (λ m. kept (take m (b ∷ bs))) (front_len-other b bs n)
     ∙ ap (λ t. cond t (b ∷ kept (take (front_len bs) bs)) (kept (take (front_len bs) bs))) k
 
 -- the front of a text whose first byte is dropped is that of what follows it
-dropped_front : (b : ℕ) (bs : List ℕ) → is_kept b ≡ false → is_parting b ≡ false → kept (take (front_len (b ∷ bs)) (b ∷ bs)) ≡ kept (take (front_len bs) bs)
+dropped_front : (b : ℕ) (bs : List ℕ) → is_kept b ≡ false → is_parting b ≡ false
+    → kept (take (front_len (b ∷ bs)) (b ∷ bs)) ≡ kept (take (front_len bs) bs)
 dropped_front b bs d n =
     ap (λ m. kept (take m (b ∷ bs))) (front_len-other b bs n)
     ∙ ap (λ t. cond t (b ∷ kept (take (front_len bs) bs)) (kept (take (front_len bs) bs))) d
@@ -107,12 +112,17 @@ front_of [] = record { tail = []; parts = refl; words = refl }
 front_of (b ∷ bs) =
     elim (cases_Bool (is_parting b)) [
       | inl p ↦ front_parting b bs p
-      | inr n ↦ elim (cases_Bool (is_kept b)) [ inl k ↦ front_kept b bs k n (front_of bs) | inr d ↦ front_dropped b bs d n (front_of bs) ]
+      | inr n ↦ elim (cases_Bool (is_kept b)) [
+        | inl k ↦ front_kept b bs k n
+            (front_of bs)
+        | inr d ↦ front_dropped b bs d n (front_of bs)
+      ]
     ]
 
 -- a byte that isn't skipped is kept and parts no words
 not_skipped : (b : ℕ) → is_skipped b ≡ false → (is_kept b ≡ true) × (is_parting b ≡ false)
-not_skipped b h = let parts = or_parts (not (is_kept b)) (is_parting b) h in (true_from_not (is_kept b) parts.0, parts.1)
+not_skipped b h = let parts = or_parts (not (is_kept b)) (is_parting b) h in
+    (true_from_not (is_kept b) parts.0, parts.1)
   where
     true_from_not : (t : Bool) → not t ≡ false → t ≡ true
     true_from_not true e = refl
@@ -127,27 +137,35 @@ first_word (b ∷ bs) some begins =
     let f = front_of (b ∷ bs) in
     let word = kept (take (front_len (b ∷ bs)) (b ∷ bs)) in
     let bytes : has_bytes word ≡ true = ap has_bytes (kept_front b bs facts.0 facts.1) in
-    ap (filter has_bytes) f.parts ∙ ap (λ t. cond t (word ∷ filter has_bytes f.tail) (filter has_bytes f.tail)) bytes ∙ ap (λ ws. word ∷ ws) f.words
+    ap (filter has_bytes) f.parts ∙ ap (λ t. cond t (word ∷ filter has_bytes f.tail) (filter has_bytes f.tail)) bytes
+    ∙ ap (λ ws. word ∷ ws) f.words
 
 -- the same, where the rest is cut off behind it
-pub next_from : (text : List ℕ) (i n : ℕ) → words_of (plain (drop i text)) ≡ words_of (plain text) → (i < length text → is_skipped (get_or text i 0) ≡ false)
-    → 0 < length (take (length text - i) (drop i text)) → n ≡ position_or_len is_parting (take (length text - i) (drop i text))
+pub next_from : (text : List ℕ) (i n : ℕ) → words_of (plain (drop i text)) ≡ words_of (plain text)
+    → (i < length text → is_skipped (get_or text i 0) ≡ false)
+    → 0 < length (take (length text - i) (drop i text))
+    → n ≡ position_or_len is_parting (take (length text - i) (drop i text))
     → words_of (plain text) ≡ kept (take n (take (length text - i) (drop i text)))
-    ∷ words_of (plain (take (length (take (length text - i) (drop i text)) - n) (drop n (take (length text - i) (drop i text)))))
+    ∷ words_of (plain (take (length (take (length text - i) (drop i text)) - n)
+    (drop n (take (length text - i) (drop i text)))))
 next_from text i n words begins some first =
     let rest = take (length text - i) (drop i text) in
     let same : rest ≡ drop i text = take_rest text i in
     let within : i < length text = (let l = ap length same in let d = length-drop i text in omega (arith, l, d)) in
-    let here : get_or rest 0 0 ≡ get_or text i 0 = ap (λ l. get_or l 0 0) same ∙ get_or-drop i text 0 0 ∙ ap (λ k. get_or text k 0) (omega arith) in
+    let here : get_or rest 0 0 ≡ get_or text i 0 = ap (λ l. get_or l 0 0) same ∙ get_or-drop i text 0 0
+    ∙ ap (λ k. get_or text k 0) (omega arith) in
     sym words ∙ ap (λ l. words_of (plain l)) (sym same)
     ∙ first_word rest some (ap is_skipped here ∙ begins within)
     ∙ ap (λ m. kept (take m rest) ∷ words_of (plain (drop m rest))) (sym first)
     ∙ ap (λ l. kept (take n rest) ∷ words_of (plain l)) (sym (take_rest rest n))
 
 -- the first byte that passes is found where none before it does
-pub found_first : (p : ℕ → Bool) (xs : List ℕ) (i : ℕ) → i < length xs → ((k : ℕ) → k < i → p (get_or xs k 0) ≡ false) → p (get_or xs i 0) ≡ true → i ≡ position_or_len p xs
+pub found_first : (p : ℕ → Bool) (xs : List ℕ) (i : ℕ) → i < length xs → ((k : ℕ) → k < i → p (get_or xs k 0) ≡ false)
+    → p (get_or xs i 0) ≡ true → i ≡ position_or_len p xs
 found_first p xs i within none here = sym (position_or_len_is p xs i 0 (omega arith) none (λ _. here))
 
 -- and none is found where none passes
-pub found_none : (p : ℕ → Bool) (xs : List ℕ) (i : ℕ) → length xs ≤ i → ((k : ℕ) → k < i → p (get_or xs k 0) ≡ false) → length xs ≡ position_or_len p xs
-found_none p xs i past none = sym (position_or_len_is p xs (length xs) 0 (omega arith) (λ k h. none k (omega arith)) (λ h. absurd (omega arith)))
+pub found_none : (p : ℕ → Bool) (xs : List ℕ) (i : ℕ) → length xs ≤ i → ((k : ℕ) → k < i → p (get_or xs k 0) ≡ false)
+    → length xs ≡ position_or_len p xs
+found_none p xs i past none =
+    sym (position_or_len_is p xs (length xs) 0 (omega arith) (λ k h. none k (omega arith)) (λ h. absurd (omega arith)))

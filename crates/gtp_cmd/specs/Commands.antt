@@ -1,5 +1,6 @@
 -- The commands, the words that each takes, and what a line says.
-use Rattle.std.specs.Prelude.{ℕ, ◌&&◌, nat_le, Bool, List, [], ◌∷◌, map, Option, None, Some, is_some, if◌then◌else◌, codes}
+use Rattle.std.specs.Prelude.{ℕ, ◌&&◌, nat_le, Bool, List, [], ◌∷◌, map, Option, None, Some, is_some, if◌then◌else◌}
+use Rattle.std.specs.Prelude.{codes}
 use Rattle.std.specs.List.{find, join_with_byte}
 use Rattle.std.specs.Option.{option_map, option_and_then}
 use Rattle.std.specs.Str.{bytes_eq}
@@ -50,9 +51,13 @@ table =
     ∷ record { command = name.ListPatterns; word = codes "list_patterns" }
     ∷ []
 
+-- the command of the first of these rows whose word this is
+abbrev pub command_in : List Row → List ℕ → Option CommandName
+command_in rows word = option_map (λ r. r.command) (find (λ r. bytes_eq word r.word) rows)
+
 -- the command that a word names
 abbrev pub named : List ℕ → Option CommandName
-named word = option_map (λ r. r.command) (find (λ r. bytes_eq word r.word) table)
+named word = command_in table word
 
 -- the names of the commands, one a line
 abbrev pub names_text : List ℕ
@@ -73,12 +78,14 @@ size_of n = if nat_le smallest_size n && nat_le n largest_size then Some n else 
 
 -- a colour and where it moves on a board of size s, where the first two words say both
 abbrev pub move_of : ℕ → List (List ℕ) → Option (Colour × Option ℕ)
-move_of s (colour ∷ target ∷ more) = option_and_then (λ c. option_map (λ at. (c, at)) (target_of s target)) (colour_of colour)
+move_of s (colour ∷ target ∷ more) =
+    option_and_then (λ c. option_map (λ at. (c, at)) (target_of s target)) (colour_of colour)
 move_of s _ = None
 
 -- the number that a word writes, where it lies between these two
 abbrev pub number_between : ℕ → ℕ → List ℕ → Option ℕ
-number_between low high word = option_and_then (λ n. if nat_le low n && nat_le n high then Some n else None) (number_of word)
+number_between low high word =
+    option_and_then (λ n. if nat_le low n && nat_le n high then Some n else None) (number_of word)
 
 -- the greatest number of plies that a reading may have
 abbrev pub most_plies : ℕ
@@ -90,10 +97,13 @@ most_wide = 12
 
 -- the plies and the wide plies of readings, where the first two words write both
 abbrev pub depths_of : List (List ℕ) → Option (ℕ × ℕ)
-depths_of (plies ∷ wide ∷ more) = option_and_then (λ n. option_map (λ k. (n, k)) (number_between 0 most_wide wide)) (number_between 1 most_plies plies)
+depths_of (plies ∷ wide ∷ more) =
+    option_and_then (λ n. option_map (λ k. (n, k)) (number_between 0 most_wide wide))
+    (number_between 1 most_plies plies)
 depths_of _ = None
 
--- what a command is with these words after its name, on a board of size s; none where an argument is missing or malformed
+-- what a command is with these words after its name, on a board of size s; none where an argument is missing or
+-- malformed
 abbrev pub command_of : CommandName → ℕ → List (List ℕ) → Option Command
 command_of name.ProtocolVersion s words = Some command.ProtocolVersion
 command_of name.Name s words = Some command.Name

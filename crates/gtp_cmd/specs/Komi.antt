@@ -1,5 +1,6 @@
 -- The form of a komi.
-use Rattle.std.specs.Prelude.{ℕ, ◌==◌, ◌&&◌, ◌||◌, nat_le, Bool, List, [], ◌∷◌, length, Option, None, Some, if◌then◌else◌}
+use Rattle.std.specs.Prelude.{ℕ, ◌==◌, ◌&&◌, ◌||◌, nat_le, Bool, List, [], ◌∷◌, length, Option, None, Some}
+use Rattle.std.specs.Prelude.{if◌then◌else◌}
 use Rattle.std.specs.List.{before_first, after_first}
 use Rattle.gtp_cmd.specs.Words.{is_number}
 
@@ -26,7 +27,8 @@ without_sign (b ∷ bs) = if b == plus || b == minus then bs else b ∷ bs
 
 -- the text is digits, or digits, a point and digits
 abbrev pub is_decimal : List ℕ → Bool
-is_decimal text = is_number text || (is_number (before_first (λ b. b == point) text) && is_number (after_first (λ b. b == point) text))
+is_decimal text = is_number text
+    || (is_number (before_first (λ b. b == point) text) && is_number (after_first (λ b. b == point) text))
 
 -- the text has the form of a komi: perhaps a sign, digits, perhaps a point and digits, in at most 32 bytes
 abbrev pub is_komi : List ℕ → Bool

@@ -7,3 +7,5 @@ pub mod KomiKept
 pub mod Replies
 pub mod Rooms
 pub mod Commands
+pub mod CodeRows
+pub mod Within

@@ -1,7 +1,9 @@
 -- The bytes of a reply, after the GTP version 2 draft. An empty result has no blank before it.
 use Rattle.std.specs.Prelude.{ℕ, List, [], ◌∷◌, ◌++◌, Option, None, Some, codes, decimal}
 use Rattle.gtp_cmd.specs.declared.refusals.RefuseText.{RefuseText}
-use Rattle.gtp_cmd.specs.declared.refusals.RefuseText.TheVariants.{UnknownCommand, SyntaxError, LineTooLong, UnacceptableSize, IllegalMove, HistoryFull, CannotUndo, VertexEmpty, OutOfMemory}
+use Rattle.gtp_cmd.specs.declared.refusals.RefuseText.TheVariants.{UnknownCommand, SyntaxError, LineTooLong}
+use Rattle.gtp_cmd.specs.declared.refusals.RefuseText.TheVariants.{UnacceptableSize, IllegalMove, HistoryFull}
+use Rattle.gtp_cmd.specs.declared.refusals.RefuseText.TheVariants.{CannotUndo, VertexEmpty, OutOfMemory}
 
 -- the id, where there is one, as it is printed
 abbrev pub id_text : Option ℕ → List ℕ

@@ -1,5 +1,7 @@
--- Vertices, as the GTP version 2 draft writes the points of a board: a column letter without I, and the row's number from below.
-use Rattle.std.specs.Prelude.{ℕ, ◌-◌, ◌==◌, ◌&&◌, nat_lt, nat_le, List, [], ◌∷◌, length, slice_index, Option, None, Some, if◌then◌else◌, codes, decimal, position}
+-- Vertices, as the GTP version 2 draft writes the points of a board: a column letter without I, and the row's number
+-- from below.
+use Rattle.std.specs.Prelude.{ℕ, ◌-◌, ◌==◌, ◌&&◌, nat_lt, nat_le, List, [], ◌∷◌, length, slice_index, Option, None}
+use Rattle.std.specs.Prelude.{Some, if◌then◌else◌, codes, decimal, position}
 use Rattle.std.specs.Char.{to_ascii_uppercase}
 use Rattle.std.specs.Option.{option_map}
 use Rattle.std.specs.Str.{bytes_eq, str_to_ascii_lowercase}
@@ -31,7 +33,8 @@ vertex_of s (letter ∷ digits) = point_of s (column_named letter) (row_number_o
 
 -- where a move of a board of size s goes, if the word says so: `pass` in either case is no point, a vertex is its point
 abbrev pub target_of : ℕ → List ℕ → Option (Option ℕ)
-target_of s word = if bytes_eq (str_to_ascii_lowercase word) (codes "pass") then Some None else option_map Some (vertex_of s word)
+target_of s word = if bytes_eq (str_to_ascii_lowercase word) (codes "pass") then Some None
+    else option_map Some (vertex_of s word)
 
 -- the vertex of point p of a board of size s, as it is printed
 abbrev pub vertex_text : ℕ → ℕ → List ℕ

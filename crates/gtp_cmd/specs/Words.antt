@@ -1,5 +1,6 @@
 -- The words of a protocol line, after the GTP version 2 draft.
-use Rattle.std.specs.Prelude.{ℕ, ◌==◌, ◌&&◌, ◌||◌, nat_le, Bool, true, false, not, List, [], ◌∷◌, map, filter, Option, None, Some, if◌then◌else◌}
+use Rattle.std.specs.Prelude.{ℕ, ◌==◌, ◌&&◌, ◌||◌, nat_le, Bool, true, false, not, List, [], ◌∷◌, map, filter, Option}
+use Rattle.std.specs.Prelude.{None, Some, if◌then◌else◌}
 use Rattle.std.specs.List.{slice_split, before_first, list_all}
 use Rattle.std.specs.Char.{is_ascii_digit}
 use Rattle.std.specs.Str.Parse.{digits_value}
@@ -40,7 +41,8 @@ blank_for_tab b = if b == tab then blank else b
 abbrev pub plain : List ℕ → List ℕ
 plain text = map blank_for_tab (kept text)
 
--- the line as its words are read: what stands before its first `#`, without the bytes that are dropped, a blank for each tab
+-- the line as its words are read: what stands before its first `#`, without the bytes that are dropped, a blank for
+-- each tab
 abbrev pub cleaned : List ℕ → List ℕ
 cleaned line = plain (before_first (λ b. b == hash) line)
 

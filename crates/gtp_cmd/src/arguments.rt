@@ -1,20 +1,17 @@
 //! What the words after a command's name say: colours, vertices, moves and numbers.
 
-ghost use Rattle.std.specs.Prelude.{◌≡◌, ◌<◌, ◌==◌, IfSome, Some};
-ghost use Rattle.std.specs.List.{position};
+ghost use Rattle.std.specs.Prelude.{◌≡◌, Some};
 ghost use Rattle.gtp_cmd.specs.Words.{kept, plain, words_of, number_of};
 ghost use Rattle.gtp_cmd.specs.RawWords.{capped};
 ghost use Rattle.gtp_cmd.specs.Colours.{colour_of};
-ghost use Rattle.gtp_cmd.specs.Vertices.{column_letters, column_named, row_number_of, point_of, vertex_of, target_of};
+ghost use Rattle.gtp_cmd.specs.Vertices.{row_number_of, point_of, vertex_of, target_of};
 ghost use Rattle.gtp_cmd.specs.Commands.{first_argument, size_of, move_of, number_between, depths_of};
 
 use crate::numbers::number;
+use crate::vertices::column_named;
 use crate::words::{byte_count, first_byte, next_word, spells_in_either_case};
 use go_base::size::MAX_SIZE;
 use go_base::{Colour, Point, Size};
-
-/// The letters of the columns from the left.
-const COLUMN_LETTERS: &[u8] = b"ABCDEFGHJKLMNOPQRSTUVWXYZ";
 
 /// The greatest number of plies that a reading may have.
 const MAX_PLIES: u8 = 200;
@@ -33,21 +30,6 @@ fn colour_named(word: &[u8]) -> Option<Colour>
     } else {
         None
     }
-}
-
-/// The place of a capital letter among the columns.
-fn column_lettered(letter: u8) -> Option<usize>
-    ensures { result ≡ position (λ l. l == letter) column_letters }
-{
-    COLUMN_LETTERS.iter().position(|l| *l == letter)
-}
-
-/// The column that a letter names in either case, counted from 0.
-fn column(letter: u8) -> Option<u8>
-    ensures { result ≡ column_named letter }
-{
-    let place = column_lettered(letter.to_ascii_uppercase())?;
-    Some(place as u8)
 }
 
 /// The number of a row that one or two digits write.
@@ -76,7 +58,7 @@ fn vertex_named(word: &[u8], size: Size) -> Option<Point>
     ensures { result ≡ vertex_of size (kept word.now) }
 {
     let (letter, digits) = first_byte(word)?;
-    let column = column(letter)?;
+    let column = column_named(letter)?;
     let number = row_number(digits)?;
     point(size, column, number)
 }

@@ -1,72 +1,124 @@
 //! The commands of the protocol, and what a line says.
 
-ghost use Rattle.std.specs.Prelude.{◌≡◌};
-ghost use Rattle.gtp_cmd.specs.Words.{kept, plain, words_of};
+ghost use Rattle.std.specs.Prelude.{◌≡◌, ◌∷◌, ◌++◌, map, option_map, find, IfOk, OnOk};
+ghost use Rattle.std.specs.List.{flat_map};
+ghost use Rattle.std.specs.Str.{bytes_eq};
+ghost use Rattle.gtp_cmd.specs.Words.{kept, line_feed, plain, words_of};
 ghost use Rattle.gtp_cmd.specs.Komi.{komi_of};
-ghost use Rattle.gtp_cmd.specs.Commands.{named, names_text, command_of, known_of, first_argument};
+ghost use Rattle.gtp_cmd.specs.CodeRows.{row_seen};
+ghost use Rattle.gtp_cmd.specs.Commands.{command_in, named, names_text, command_of, known_of, first_argument};
 
 use crate::arguments::{colour, colour_and_target, depths, first_number, size_numbered, vertex};
 use crate::komi::KomiText;
 use crate::refusals::RefuseText;
 use crate::words::{next_word, spells};
-use go_base::{Colour, Point, Size};
+use go_base::{Bytes, Colour, NoMemory, Point, Size};
+use std::alloc::Global;
 
 /// Which command a word names, in the order in which the commands are listed.
 #[derive(Clone, Copy, Debug, PartialEq, Eq)]
 pub enum CommandName {
+    /// `protocol_version`
     ProtocolVersion,
+    /// `name`
     Name,
+    /// `version`
     Version,
+    /// `known_command`
     KnownCommand,
+    /// `list_commands`
     ListCommands,
+    /// `quit`
     Quit,
+    /// `boardsize`
     BoardSize,
+    /// `clear_board`
     ClearBoard,
+    /// `komi`
     Komi,
+    /// `get_komi`
     GetKomi,
+    /// `play`
     Play,
+    /// `undo`
     Undo,
+    /// `showboard`
     ShowBoard,
+    /// `is_legal`
     IsLegal,
+    /// `all_legal`
     AllLegal,
+    /// `countlib`
     CountLib,
+    /// `findlib`
     FindLib,
+    /// `captures`
     Captures,
+    /// `attack`
     Attack,
+    /// `defend`
     Defend,
+    /// `depths`
     Depths,
+    /// `match_patterns`
     MatchPatterns,
+    /// `list_patterns`
     ListPatterns,
 }
 
 /// A command with its arguments. Where a point may be missing, a missing one is a pass.
 #[derive(Clone, Copy, Debug, PartialEq, Eq)]
 pub enum Command {
+    /// Asks for the version of the protocol.
     ProtocolVersion,
+    /// Asks for the name of the program.
     Name,
+    /// Asks for the version of the program.
     Version,
     /// Whether the word that was asked for names a command.
     KnownCommand(bool),
+    /// Asks for the names of the commands.
     ListCommands,
+    /// Ends the session.
     Quit,
     /// The size, and none exactly where the number that was given is no size of a board.
     BoardSize(Option<Size>),
+    /// Takes all moves away.
     ClearBoard,
+    /// Sets the komi, a text that is kept as it is.
     Komi(KomiText),
+    /// Asks for the komi.
     GetKomi,
+    /// Makes a move.
     Play(Colour, Option<Point>),
+    /// Takes the last move back.
     Undo,
+    /// Asks for the board.
     ShowBoard,
+    /// Asks whether a move is legal.
     IsLegal(Colour, Option<Point>),
+    /// Asks for the points where a colour may play.
     AllLegal(Colour),
+    /// Asks for the number of liberties of the string at a point.
     CountLib(Point),
+    /// Asks for the liberties of the string at a point.
     FindLib(Point),
+    /// Asks how many stones a colour's moves have taken.
     Captures(Colour),
+    /// Asks whether the string at a point can be captured.
     Attack(Point),
+    /// Asks whether the string at a point can be saved.
     Defend(Point),
-    /// How deep readings go: plies from 1 to 200, and wide plies from 0 to 12.
-    Depths { plies: u8, wide: u8 },
+    /// How deep readings go.
+    Depths {
+        /// The plies, from 1 to 200.
+        plies: u8,
+        /// The wide plies, from 0 to 12.
+        wide: u8,
+    },
+    /// Asks for the matches of the patterns for a colour.
     MatchPatterns(Colour),
+    /// Asks for the patterns.
     ListPatterns,
 }
 
@@ -76,71 +128,165 @@ pub enum Parsed {
     /// The line has no words, so it gets no reply.
     Nothing,
     /// The line names no command, or its arguments are missing or malformed.
-    Refused { id: Option<u32>, text: RefuseText },
+    Refused {
+        /// The id, where the line has one.
+        id: Option<u32>,
+        /// Why it is refused.
+        text: RefuseText,
+    },
     /// The command that the line asks for.
-    Command { id: Option<u32>, command: Command },
+    Command {
+        /// The id, where the line has one.
+        id: Option<u32>,
+        /// The command with its arguments.
+        command: Command,
+    },
 }
 
-/// The names of the commands in the order in which they are listed, one a line.
-pub fn names() -> &'static [u8]
-    ensures { result.now ≡ names_text }
+/// A command and the word that names it.
+#[derive(Clone, Copy)]
+struct Row {
+    command: CommandName,
+    word: &'static [u8],
+}
+
+/// The commands in the order in which they are listed.
+const TABLE: [Row; 23] = [
+    Row {
+        command: CommandName::ProtocolVersion,
+        word: b"protocol_version",
+    },
+    Row {
+        command: CommandName::Name,
+        word: b"name",
+    },
+    Row {
+        command: CommandName::Version,
+        word: b"version",
+    },
+    Row {
+        command: CommandName::KnownCommand,
+        word: b"known_command",
+    },
+    Row {
+        command: CommandName::ListCommands,
+        word: b"list_commands",
+    },
+    Row {
+        command: CommandName::Quit,
+        word: b"quit",
+    },
+    Row {
+        command: CommandName::BoardSize,
+        word: b"boardsize",
+    },
+    Row {
+        command: CommandName::ClearBoard,
+        word: b"clear_board",
+    },
+    Row {
+        command: CommandName::Komi,
+        word: b"komi",
+    },
+    Row {
+        command: CommandName::GetKomi,
+        word: b"get_komi",
+    },
+    Row {
+        command: CommandName::Play,
+        word: b"play",
+    },
+    Row {
+        command: CommandName::Undo,
+        word: b"undo",
+    },
+    Row {
+        command: CommandName::ShowBoard,
+        word: b"showboard",
+    },
+    Row {
+        command: CommandName::IsLegal,
+        word: b"is_legal",
+    },
+    Row {
+        command: CommandName::AllLegal,
+        word: b"all_legal",
+    },
+    Row {
+        command: CommandName::CountLib,
+        word: b"countlib",
+    },
+    Row {
+        command: CommandName::FindLib,
+        word: b"findlib",
+    },
+    Row {
+        command: CommandName::Captures,
+        word: b"captures",
+    },
+    Row {
+        command: CommandName::Attack,
+        word: b"attack",
+    },
+    Row {
+        command: CommandName::Defend,
+        word: b"defend",
+    },
+    Row {
+        command: CommandName::Depths,
+        word: b"depths",
+    },
+    Row {
+        command: CommandName::MatchPatterns,
+        word: b"match_patterns",
+    },
+    Row {
+        command: CommandName::ListPatterns,
+        word: b"list_patterns",
+    },
+];
+
+/// The command of the first of these rows whose word this is.
+fn first_command(rows: &[Row], word: &[u8]) -> Option<CommandName>
+    ensures { result ≡ option_map (λ r. r.command) (find (λ r. bytes_eq (kept word.now) r.word.now) rows.now) }
 {
-    b"protocol_version\nname\nversion\nknown_command\nlist_commands\nquit\nboardsize\nclear_board\nkomi\nget_komi\nplay\nundo\nshowboard\nis_legal\nall_legal\ncountlib\nfindlib\ncaptures\nattack\ndefend\ndepths\nmatch_patterns\nlist_patterns"
+    let row = rows.iter().find(|row| spells(word, row.word))?;
+    Some(row.command)
+}
+
+/// The same, by rows as the definitions have them.
+fn command_in(rows: &[Row], word: &[u8]) -> Option<CommandName>
+    ensures { result ≡ command_in (map row_seen rows.now) (kept word.now) }
+{
+    first_command(rows, word)
 }
 
 /// The command that a word names. Command words are told apart by case.
 pub fn named(word: &[u8]) -> Option<CommandName>
     ensures { result ≡ named (kept word.now) }
 {
-    if spells(word, b"protocol_version") {
-        Some(CommandName::ProtocolVersion)
-    } else if spells(word, b"name") {
-        Some(CommandName::Name)
-    } else if spells(word, b"version") {
-        Some(CommandName::Version)
-    } else if spells(word, b"known_command") {
-        Some(CommandName::KnownCommand)
-    } else if spells(word, b"list_commands") {
-        Some(CommandName::ListCommands)
-    } else if spells(word, b"quit") {
-        Some(CommandName::Quit)
-    } else if spells(word, b"boardsize") {
-        Some(CommandName::BoardSize)
-    } else if spells(word, b"clear_board") {
-        Some(CommandName::ClearBoard)
-    } else if spells(word, b"komi") {
-        Some(CommandName::Komi)
-    } else if spells(word, b"get_komi") {
-        Some(CommandName::GetKomi)
-    } else if spells(word, b"play") {
-        Some(CommandName::Play)
-    } else if spells(word, b"undo") {
-        Some(CommandName::Undo)
-    } else if spells(word, b"showboard") {
-        Some(CommandName::ShowBoard)
-    } else if spells(word, b"is_legal") {
-        Some(CommandName::IsLegal)
-    } else if spells(word, b"all_legal") {
-        Some(CommandName::AllLegal)
-    } else if spells(word, b"countlib") {
-        Some(CommandName::CountLib)
-    } else if spells(word, b"findlib") {
-        Some(CommandName::FindLib)
-    } else if spells(word, b"captures") {
-        Some(CommandName::Captures)
-    } else if spells(word, b"attack") {
-        Some(CommandName::Attack)
-    } else if spells(word, b"defend") {
-        Some(CommandName::Defend)
-    } else if spells(word, b"depths") {
-        Some(CommandName::Depths)
-    } else if spells(word, b"match_patterns") {
-        Some(CommandName::MatchPatterns)
-    } else if spells(word, b"list_patterns") {
-        Some(CommandName::ListPatterns)
-    } else {
-        None
+    command_in(&TABLE, word)
+}
+
+/// Puts the words of these rows, each behind a line feed.
+fn put_words(out: &mut Bytes, rows: &[Row]) -> Result<(), NoMemory>
+    ensures { OnOk result (out.new ≡ out.old ++ flat_map (λ r. line_feed ∷ r.word.now) rows.now) }
+{
+    for row in rows {
+        out.push(b'\n')?;
+        out.extend(row.word)?;
     }
+    Ok(())
+}
+
+/// The names of the commands in the order in which they are listed, one a line. Takes memory.
+pub fn names_text(alloc: Global) -> Result<Bytes, NoMemory>
+    ensures { IfOk result (λ text. text ≡ names_text) }
+{
+    let mut out = Bytes::new(alloc);
+    out.extend(TABLE[0].word)?;
+    put_words(&mut out, &TABLE[1..])?;
+    Ok(out)
 }
 
 /// Whether the first word names a command.

@@ -1,8 +1,8 @@
 //! The protocol's language: what the words of a line say, and the bytes of each reply. After the GTP version 2 draft.
 //!
-//! `parse` answers the id and the command of a line, or the first refusal; `success`, `short` and `refusal` give the reply.
-//! Columns are lettered from the left without I, and row 1 is the bottom row; points are numbered as everywhere in gopat.
-//! Only `success` takes memory.
+//! `parse` answers the id and the command of a line, or the first refusal; `success`, `short` and `refusal` give the
+//! reply. Columns are lettered from the left without I, and row 1 is the bottom row; points are numbered as everywhere
+//! in gopat. Only `success` takes memory.
 #![tactic(auto)]
 
 mod arguments;
@@ -15,11 +15,13 @@ mod parser;
 mod refusals;
 mod replies;
 mod room;
+mod vertices;
 mod words;
 
-pub use commands::{Command, CommandName, Parsed, names};
+pub use commands::{Command, CommandName, Parsed, names_text};
 pub use komi::KomiText;
 pub use parser::parse;
 pub use refusals::RefuseText;
 pub use replies::{refusal, short, success};
 pub use room::Short;
+pub use vertices::{column_letter, vertex_text};

@@ -3,6 +3,7 @@
 ghost use Rattle.std.specs.Prelude.{◌≡◌, ◌∷◌};
 ghost use Rattle.gtp_cmd.specs.Words.{kept, plain, words_of};
 ghost use Rattle.gtp_cmd.specs.Commands.{said, parsed_of};
+ghost use Rattle.gtp_cmd.specs.Within.{SaysWithin};
 
 use crate::commands::{Command, Parsed, arguments, named};
 use crate::numbers::id;
@@ -44,15 +45,17 @@ fn after_id(id: u32, text: &[u8], size: Size) -> Parsed
 
 /// What a line without its line feed says on a board of this size: nothing, an id and a command, or the first refusal.
 ///
-/// Control bytes other than tab and line feed are passed over, a tab counts as a blank, and `#` begins a comment. A first word of
-/// digits alone is the id, if it is at most 2147483647. A command that is not known is refused before its arguments are read,
-/// and words after the last argument are passed over. Colours, vertices and `pass` may be in either case, and a number may have
-/// any length. Takes no memory.
+/// Control bytes other than tab and line feed are passed over, a tab counts as a blank, and `#` begins a comment. A
+/// first word of digits alone is the id, if it is at most 2147483647. A command that is not known is refused before its
+/// arguments are read, and words after the last argument are passed over. Colours, vertices and `pass` may be in either
+/// case, and a number may have any length. Each point of the answer lies on the board, and depths lie in their ranges.
+/// Takes no memory.
 ///
 /// After the GTP version 2 draft, on preprocessing and on the structure of a command.
 #[tactic(auto, unfolding(crate::specs::Commands::parsed_of))]
 pub fn parse(line: &[u8], size: Size) -> Parsed
-    ensures { result ≡ parsed_of line.now size }
+    ensures said { result ≡ parsed_of line.now size }
+    ensures within { SaysWithin size result }
 {
     let text = before_comment(line);
     let Some((first, more)) = next_word(text) else {
@@ -68,6 +71,7 @@ pub fn parse(line: &[u8], size: Size) -> Parsed
 mod tests {
     use super::*;
     use crate::komi::KomiText;
+    use crate::vertices::vertex_text;
     use go_base::Colour;
     use std::test::Fail;
 
@@ -164,6 +168,35 @@ mod tests {
     }
 
     #[test]
+    fn vertices_of_the_largest_board(rt: HostRuntime) -> Result<(), Fail> {
+        let size = Size::new(25).ok_or("the size is one of a board")?;
+        for (row, line, want) in [
+            (
+                "the corner at the top right",
+                "countlib Z25",
+                asked(None, Command::CountLib(24)),
+            ),
+            (
+                "the corner at the bottom right",
+                "countlib z1",
+                asked(None, Command::CountLib(624)),
+            ),
+            (
+                "no column is called I",
+                "countlib J25",
+                asked(None, Command::CountLib(8)),
+            ),
+            ("the column I", "countlib I25", malformed()),
+            ("a row past the board", "countlib A26", malformed()),
+        ] {
+            assert_eq!(rt; parse(line.as_bytes(), size), want, "{row}");
+        }
+        assert_eq!(rt; vertex_text(size, 24).as_slice(), b"Z25".as_slice());
+        assert_eq!(rt; vertex_text(size, 624).as_slice(), b"Z1".as_slice());
+        Ok(())
+    }
+
+    #[test]
     fn sizes_komi_and_known_commands(rt: HostRuntime) -> Result<(), Fail> {
         let size = Size::new(19).ok_or("the size is one of a board")?;
         for (row, line, want) in [
@@ -178,13 +211,18 @@ mod tests {
                 asked(None, Command::BoardSize(Size::new(2))),
             ),
             (
+                "the greatest size",
+                "boardsize 25",
+                asked(None, Command::BoardSize(Size::new(25))),
+            ),
+            (
                 "too small",
                 "boardsize 1",
                 asked(None, Command::BoardSize(None)),
             ),
             (
                 "too large",
-                "boardsize 20",
+                "boardsize 26",
                 asked(None, Command::BoardSize(None)),
             ),
             (

@@ -3,13 +3,22 @@
 /// Why a line is refused, as the reply tells it.
 #[derive(Clone, Copy, Debug, PartialEq, Eq)]
 pub enum RefuseText {
+    /// No word names a command: `unknown command`.
     UnknownCommand,
+    /// An argument is missing or malformed: `syntax error`.
     SyntaxError,
+    /// The line has more than 65,536 bytes: `line too long`.
     LineTooLong,
+    /// The number is no size of a board: `unacceptable size`.
     UnacceptableSize,
+    /// The rules forbid the move: `illegal move`.
     IllegalMove,
+    /// There are as many moves as are kept: `history full`.
     HistoryFull,
+    /// There is no move to take back: `cannot undo`.
     CannotUndo,
+    /// No stone stands at the vertex: `vertex must not be empty`.
     VertexEmpty,
+    /// There is no memory for a growing reply: `out of memory`.
     OutOfMemory,
 }

@@ -1,7 +1,8 @@
-//! The words of a line, read in place: a word is handed out with the bytes that are dropped still in it, and the calls on words
-//! pass over them.
+//! The words of a line, read in place: a word is handed out with the bytes that are dropped still in it, and the calls
+//! on words pass over them.
 
-ghost use Rattle.std.specs.Prelude.{◌≡◌, ℕ, List, ◌<◌, ◌≤◌, ◌==◌, ◌∷◌, [], false, MatchOption, length, drop, map, slice_index};
+ghost use Rattle.std.specs.Prelude.{◌≡◌, ℕ, List, ◌<◌, ◌≤◌, ◌==◌, ◌∷◌, [], false, MatchOption, length, drop, map};
+ghost use Rattle.std.specs.Prelude.{slice_index};
 ghost use Rattle.std.specs.List.{before_first, position_or_len};
 ghost use Rattle.std.specs.Str.{bytes_eq, str_to_ascii_lowercase};
 ghost use Rattle.gtp_cmd.specs.Words.{kept, plain, words_of, hash};
@@ -71,7 +72,8 @@ pub fn next_word(text: &[u8]) -> Option<(&[u8], &[u8])>
 
 /// What is left of a name behind a byte, where the name begins with it.
 fn behind(name: &[u8], b: u8) -> Option<&[u8]>
-    ensures { MatchOption result ((bs : List ℕ) → bytes_eq (b ∷ bs) name.now ≡ false) (λ left. name.now ≡ b ∷ left.now) }
+    ensures { MatchOption result ((bs : List ℕ) → bytes_eq (b ∷ bs) name.now ≡ false)
+        (λ left. name.now ≡ b ∷ left.now) }
 {
     match name.split_first() {
         Some((first, left)) if *first == b => Some(left),
@@ -79,7 +81,8 @@ fn behind(name: &[u8], b: u8) -> Option<&[u8]>
     }
 }
 
-/// Whether a word is the name, where the word may be in either case if the flag says so; the name is then in lower case.
+/// Whether a word is the name, where the word may be in either case if the flag says so; the name is then in lower
+/// case.
 fn spells_in(word: &[u8], name: &[u8], either_case: bool) -> bool
     ensures { result ≡ bytes_eq (map (cased either_case) (kept word.now)) name.now }
 {

@@ -1,17 +1,14 @@
 //! The generated lines, one at a time.
-ghost use Rattle.std.specs.Prelude.{◌≡◌, ◌+◌, ◌*◌, ◌<◌, ◌≤◌, ◌^◌, ◌++◌, codes, length, slice_index};
-ghost use Rattle.gtp_cmd.specs.Vertices.{column_letters, vertex_text};
+ghost use Rattle.std.specs.Prelude.{◌≡◌, ◌+◌, ◌*◌, ◌<◌, ◌≤◌, ◌^◌, ◌++◌, codes, length};
+ghost use Rattle.gtp_cmd.specs.Vertices.{vertex_text};
 ghost use Rattle.workload.specs.GeneratedLines.{colour_of_line, ended, line_with, next_number, opening_lines};
 ghost use Rattle.workload.specs.GeneratedLines.{point_of_number, rows, text_of};
 
-use gtp_cmd::Short;
-use itoa::Buffer;
+use go_base::Size;
+use gtp_cmd::{Short, vertex_text};
 
 /// How many rows the board has.
 const ROWS: u8 = 9;
-
-/// The letters of its columns from the left.
-const COLUMN_LETTERS: [u8; 9] = *b"ABCDEFGHJ";
 
 /// The number that follows a number.
 pub(crate) fn next_number(x: u32) -> u32
@@ -31,12 +28,11 @@ fn text(bytes: &[u8]) -> Short
     text
 }
 
-/// The letter of a column.
-fn column_letter(column: u8) -> u8
-    requires { column < rows }
-    ensures { result ≡ slice_index column_letters column }
+/// The size of the board.
+fn size() -> Size
+    ensures { result ≡ rows }
 {
-    COLUMN_LETTERS[column as usize]
+    Size::new(ROWS).unwrap()
 }
 
 /// The line with the vertex of a point behind it.
@@ -46,9 +42,7 @@ fn with_vertex(mut line: Short, point: u8) -> Short
     ensures text { result ≡ line ++ vertex_text rows point }
     ensures short { length result ≤ 30 }
 {
-    let mut buffer = Buffer::new();
-    line.extend(&[column_letter(point % ROWS)]);
-    line.extend(buffer.format(ROWS - point / ROWS).as_bytes());
+    line.extend(vertex_text(size(), u16::from(point)).as_slice());
     line
 }
 

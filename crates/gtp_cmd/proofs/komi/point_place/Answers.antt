@@ -6,7 +6,8 @@ use Rattle.gtp_cmd.proofs.komi.point_place.Goals as goal
 -- this is the first point
 pub returns-then-b-eq46-clause-first : goal.returns-then-b-eq46-clause-first
 returns-then-b-eq46-clause-first c =
-    found_first (λ b. eqb b point) c.args.text.now c.loop-i.i c.loop-i-test.true c.loop-i.invariant (eq-eqb _ _ c.if-b-eq46.true)
+    found_first (λ b. eqb b point) c.args.text.now c.loop-i.i c.loop-i-test.true c.loop-i.invariant
+    (eq-eqb _ _ c.if-b-eq46.true)
 
 -- there is none
 pub returns-clause-first : goal.returns-clause-first

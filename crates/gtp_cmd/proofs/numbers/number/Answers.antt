@@ -17,5 +17,6 @@ loop-b-preserved c =
       digits = digits_more c.args.word.now c.loop-b.b-index c.loop-b-test.true here digit c.loop-b.invariant.digits;
       value =
           ap Some c.with_digit.ensures
-          ∙ number_more c.args.word.now c.loop-b.b-index c.loop-b.value c.loop-b-test.true here digit c.loop-b.invariant.digits c.loop-b.invariant.value;
+          ∙ number_more c.args.word.now c.loop-b.b-index c.loop-b.value c.loop-b-test.true here digit
+          c.loop-b.invariant.digits c.loop-b.invariant.value;
     }

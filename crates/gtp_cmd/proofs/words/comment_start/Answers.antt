@@ -6,7 +6,8 @@ use Rattle.gtp_cmd.proofs.words.comment_start.Goals as goal
 -- this is the first `#`
 pub returns-then-b-eq35-clause-first : goal.returns-then-b-eq35-clause-first
 returns-then-b-eq35-clause-first c =
-    found_first (λ b. eqb b hash) c.args.line.now c.loop-i.i c.loop-i-test.true c.loop-i.invariant (eq-eqb _ _ c.if-b-eq35.true)
+    found_first (λ b. eqb b hash) c.args.line.now c.loop-i.i c.loop-i-test.true c.loop-i.invariant
+    (eq-eqb _ _ c.if-b-eq35.true)
 
 -- there is none
 pub returns-clause-first : goal.returns-clause-first

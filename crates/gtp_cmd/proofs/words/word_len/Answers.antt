@@ -6,7 +6,8 @@ use Rattle.gtp_cmd.proofs.words.word_len.Goals as goal
 -- this is the first byte that parts words
 pub returns-then-is_separator-clause-first : goal.returns-then-is_separator-clause-first
 returns-then-is_separator-clause-first c =
-    found_first is_parting c.args.text.now c.loop-i.i c.loop-i-test.true c.loop-i.invariant (sym c.is_separator.ensures ∙ c.if-is_separator.true)
+    found_first is_parting c.args.text.now c.loop-i.i c.loop-i-test.true c.loop-i.invariant
+    (sym c.is_separator.ensures ∙ c.if-is_separator.true)
 
 -- there is none
 pub returns-clause-first : goal.returns-clause-first

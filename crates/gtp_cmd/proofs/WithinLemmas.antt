@@ -1,0 +1,182 @@
+-- The points that a line names lie on the board of the machine that reads it, and its depths in their ranges.
+use Rattle.std.proofs.Common.{◌≡◌, ℕ, zero, suc, ◌+◌, ◌-◌, ◌*◌, ◌<◌, ◌≤◌, Bool, true, false, cond, ltb, leb, ◌&&◌, List}
+use Rattle.std.proofs.Common.{[], ◌∷◌, Option, Some, None, IfSome, refl, sym, ap, subst, ◌∙◌, arith}
+use Rattle.std.specs.Option.{option_map, option_and_then}
+use Rattle.std.specs.Str.{bytes_eq, str_to_ascii_lowercase}
+use Rattle.std.specs.Prelude.{codes}
+use Rattle.std.proofs.lemmas.Nat.{mul-add-lt}
+use Rattle.std.proofs.lemmas.Bool.Decides.{nat_tests}
+use Rattle.go_rules.specs.declared.Colour.{Colour}
+use Rattle.go_rules.specs.Board.{point_at}
+use Rattle.gtp_cmd.specs.Words.{words_of, cleaned, id_of, number_of}
+use Rattle.gtp_cmd.specs.Vertices.{vertex_of, point_of, column_named, row_number_of, target_of}
+use Rattle.gtp_cmd.specs.Colours.{colour_of}
+use Rattle.gtp_cmd.specs.Komi.{komi_of}
+use Rattle.gtp_cmd.specs.Commands.{first_argument, known_of, size_of, move_of, number_between, most_plies, most_wide}
+use Rattle.gtp_cmd.specs.Commands.{depths_of, command_of, named, asked, called, said, said_with, parsed_words}
+use Rattle.gtp_cmd.specs.Commands.{parsed_of}
+use Rattle.gtp_cmd.specs.declared.commands.CommandName.{CommandName}
+use Rattle.gtp_cmd.specs.declared.commands.CommandName.TheVariants as name
+use Rattle.gtp_cmd.specs.declared.commands.Command.{Command}
+use Rattle.gtp_cmd.specs.declared.commands.Command.TheVariants as command
+use Rattle.gtp_cmd.specs.Within.{IsPointOf, AreDepths, IsWithin, SaysWithin}
+
+-- where a fact of a value gives one of what is made of it, it does so too where the value may be missing
+if_some-map : {X Y : Type 0} (f : X → Y) (P : X → Type 0) (Q : Y → Type 0) (o : Option X) → ((x : X) → P x → Q (f x))
+    → IfSome o P → IfSome (option_map f o) Q
+if_some-map f P Q None keeps h = tt
+if_some-map f P Q (Some x) keeps h = keeps x h
+
+-- a fact of whatever is made of a value holds where the value may be missing
+if_some-any : {X Y : Type 0} (f : X → Y) (Q : Y → Type 0) (o : Option X) → ((x : X) → Q (f x))
+    → IfSome (option_map f o) Q
+if_some-any f Q None keeps = tt
+if_some-any f Q (Some x) keeps = keeps x
+
+-- a column of the board and the number of a row of it have a point of the board
+point_below : (s number column : ℕ) → 1 ≤ number → number ≤ s → column < s → point_at s (s - number, column) < s * s
+point_below s number column some within on_board = mul-add-lt (s - number) s column s (omega arith) on_board
+
+-- the point of a column and of a row's number, where a test finds both on the board, is on the board
+point_of-tested : (s column number : ℕ) (b : Bool) → (ltb column s && (leb 1 number && leb number s)) ≡ b
+    → IsPointOf s (cond b (Some (point_at s (s - number, column))) None)
+point_of-tested s column number false test = tt
+point_of-tested s column number true test =
+    point_below s number column (grind (arith, nat_tests)) (grind (arith, nat_tests)) (grind (arith, nat_tests))
+
+-- the point of a column and a row number is on the board
+point_of-within : (s : ℕ) (column number : Option ℕ) → IsPointOf s (point_of s column number)
+point_of-within s None number = tt
+point_of-within s (Some column) None = tt
+point_of-within s (Some column) (Some number) =
+    point_of-tested s column number (ltb column s && (leb 1 number && leb number s)) refl
+
+-- a vertex is on the board
+vertex_of-within : (s : ℕ) (word : List ℕ) → IsPointOf s (vertex_of s word)
+vertex_of-within s [] = tt
+vertex_of-within s (letter ∷ digits) = point_of-within s (column_named letter) (row_number_of digits)
+
+-- a first argument that is a vertex is on the board
+first_vertex-within : (s : ℕ) (words : List (List ℕ)) → IsPointOf s (first_argument (vertex_of s) words)
+first_vertex-within s [] = tt
+first_vertex-within s (word ∷ more) = vertex_of-within s word
+
+-- the goal of a move is on the board
+target_of-within : (s : ℕ) (word : List ℕ) → IfSome (target_of s word) (IsPointOf s)
+target_of-within s word =
+    elim (bytes_eq (str_to_ascii_lowercase word) (codes "pass"))
+    as (λ b. IfSome (cond b (Some None) (option_map Some (vertex_of s word))) (IsPointOf s)) [
+      | true ↦ tt
+      | false ↦ if_some-map Some (λ p. p < s * s) (IsPointOf s) (vertex_of s word) (λ p below. below)
+          (vertex_of-within s word)
+    ]
+
+-- a colour with the goal of its move
+abbrev with_colour : Colour → Option ℕ → Colour × Option ℕ
+with_colour c at = (c, at)
+
+-- a move that words say goes to a point of the board, or is a pass
+move_of-within : (s : ℕ) (words : List (List ℕ)) → IfSome (move_of s words) (λ m. IsPointOf s m.1)
+move_of-within s [] = tt
+move_of-within s (colour ∷ []) = tt
+move_of-within s (colour ∷ target ∷ more) =
+    elim (colour_of colour)
+    as (λ o. IfSome {T = Colour × Option ℕ} (option_and_then (λ c. option_map (with_colour c) (target_of s target)) o)
+    (λ m. IsPointOf s m.1)) [
+      | None ↦ tt
+      | Some c ↦ if_some-map (with_colour c) (IsPointOf s) (λ m. IsPointOf s m.1) (target_of s target)
+          (λ at below. below) (target_of-within s target)
+    ]
+
+-- a number that passes the test for two bounds lies between them
+between-tested : (low high n : ℕ) (b : Bool) → (leb low n && leb n high) ≡ b
+    → IfSome (cond b (Some n) None) (λ k. (low ≤ k) × (k ≤ high))
+between-tested low high n false test = tt
+between-tested low high n true test = (grind (arith, nat_tests), grind (arith, nat_tests))
+
+-- a number that a word writes between two lies between them
+between-within : (low high : ℕ) (word : List ℕ) → IfSome (number_between low high word) (λ k. (low ≤ k) × (k ≤ high))
+between-within low high word =
+    elim (number_of word)
+    as (λ o. IfSome (option_and_then (λ n. cond (leb low n && leb n high) (Some n) None) o)
+    (λ k. (low ≤ k) × (k ≤ high))) [
+      | None ↦ tt
+      | Some n ↦ between-tested low high n (leb low n && leb n high) refl
+    ]
+
+-- two numbers in their ranges are depths
+both-within : (plies wide : Option ℕ) → IfSome plies (λ n. (1 ≤ n) × (n ≤ most_plies))
+    → IfSome wide (λ k. (0 ≤ k) × (k ≤ most_wide))
+    → IfSome {T = ℕ × ℕ} (option_and_then (λ n. option_map (λ k. (n, k)) wide) plies) (λ d. AreDepths d.0 d.1)
+both-within None wide some few = tt
+both-within (Some n) None some few = tt
+both-within (Some n) (Some k) some few = (some.0, some.1, few.1)
+
+-- depths lie in their ranges
+depths_of-within : (words : List (List ℕ)) → IfSome (depths_of words) (λ d. AreDepths d.0 d.1)
+depths_of-within [] = tt
+depths_of-within (plies ∷ []) = tt
+depths_of-within (plies ∷ wide ∷ more) =
+    both-within (number_between 1 most_plies plies) (number_between 0 most_wide wide)
+    (between-within 1 most_plies plies) (between-within 0 most_wide wide)
+
+-- the arguments of a command name points of the board, and depths in their ranges
+command_of-within : (n : CommandName) (s : ℕ) (words : List (List ℕ)) → IfSome (command_of n s words) (IsWithin s)
+command_of-within name.ProtocolVersion s words = tt
+command_of-within name.Name s words = tt
+command_of-within name.Version s words = tt
+command_of-within name.KnownCommand s words =
+    if_some-any command.KnownCommand (IsWithin s) (known_of words) (λ known. tt)
+command_of-within name.ListCommands s words = tt
+command_of-within name.Quit s words = tt
+command_of-within name.BoardSize s words =
+    if_some-any (λ n. command.BoardSize (size_of n)) (IsWithin s) (first_argument number_of words) (λ n. tt)
+command_of-within name.ClearBoard s words = tt
+command_of-within name.Komi s words = if_some-any command.Komi (IsWithin s) (first_argument komi_of words) (λ text. tt)
+command_of-within name.GetKomi s words = tt
+command_of-within name.Play s words =
+    if_some-map (λ m. command.Play m.0 m.1) (λ m. IsPointOf s m.1) (IsWithin s) (move_of s words) (λ m below. below)
+    (move_of-within s words)
+command_of-within name.Undo s words = tt
+command_of-within name.ShowBoard s words = tt
+command_of-within name.IsLegal s words =
+    if_some-map (λ m. command.IsLegal m.0 m.1) (λ m. IsPointOf s m.1) (IsWithin s) (move_of s words) (λ m below. below)
+    (move_of-within s words)
+command_of-within name.AllLegal s words =
+    if_some-any command.AllLegal (IsWithin s) (first_argument colour_of words) (λ c. tt)
+command_of-within name.CountLib s words =
+    if_some-map command.CountLib (λ p. p < s * s) (IsWithin s) (first_argument (vertex_of s) words) (λ p below. below)
+    (first_vertex-within s words)
+command_of-within name.FindLib s words =
+    if_some-map command.FindLib (λ p. p < s * s) (IsWithin s) (first_argument (vertex_of s) words) (λ p below. below)
+    (first_vertex-within s words)
+command_of-within name.Captures s words =
+    if_some-any command.Captures (IsWithin s) (first_argument colour_of words) (λ c. tt)
+command_of-within name.Attack s words =
+    if_some-map command.Attack (λ p. p < s * s) (IsWithin s) (first_argument (vertex_of s) words) (λ p below. below)
+    (first_vertex-within s words)
+command_of-within name.Defend s words =
+    if_some-map command.Defend (λ p. p < s * s) (IsWithin s) (first_argument (vertex_of s) words) (λ p below. below)
+    (first_vertex-within s words)
+command_of-within name.Depths s words =
+    if_some-map (λ d. command.Depths d.0 d.1) (λ d. AreDepths d.0 d.1) (IsWithin s) (depths_of words)
+    (λ d within. within) (depths_of-within words)
+command_of-within name.MatchPatterns s words =
+    if_some-any command.MatchPatterns (IsWithin s) (first_argument colour_of words) (λ c. tt)
+command_of-within name.ListPatterns s words = tt
+
+-- a line whose command is within says nothing off the board
+asked-within : (id : Option ℕ) (s : ℕ) (o : Option Command) → IfSome o (IsWithin s) → SaysWithin s (asked id o)
+asked-within id s None h = tt
+asked-within id s (Some c) h = h
+
+-- the words after a name say nothing off the board
+called-within : (id : Option ℕ) (s : ℕ) (n : Option CommandName) (words : List (List ℕ))
+    → SaysWithin s (called id s n words)
+called-within id s None words = tt
+called-within id s (Some n) words = asked-within id s (command_of n s words) (command_of-within n s words)
+
+-- the words behind the id, or of a line without one, say nothing off the board
+pub said-within : (id : Option ℕ) (s : ℕ) (words : List (List ℕ)) → SaysWithin s (said id s words)
+said-within id s [] = tt
+said-within id s (word ∷ words) = called-within id s (named word) words

@@ -1,0 +1,31 @@
+-- Commands whose points lie on the board and whose depths lie in their ranges.
+use Rattle.std.specs.Prelude.{ℕ, ◌*◌, ◌<◌, ◌≤◌, Option, IfSome}
+use Rattle.gtp_cmd.specs.Commands.{most_plies, most_wide}
+use Rattle.gtp_cmd.specs.declared.commands.Command.{Command}
+use Rattle.gtp_cmd.specs.declared.commands.Command.TheVariants as command
+use Rattle.gtp_cmd.specs.declared.commands.Parsed.{Parsed}
+use Rattle.gtp_cmd.specs.declared.commands.Parsed.TheVariants as parsed
+
+-- the point, where there is one, lies on a board of size s
+abbrev pub IsPointOf : ℕ → Option ℕ → Type 0
+IsPointOf s at = IfSome at (λ p. p < s * s)
+
+-- a reading may have this many plies, and this many of them wide
+abbrev pub AreDepths : ℕ → ℕ → Type 0
+AreDepths plies wide = (0 < plies) × (plies ≤ most_plies) × (wide ≤ most_wide)
+
+-- each point of the command lies on a board of size s, and each depth in its range
+abbrev pub IsWithin : ℕ → Command → Type 0
+IsWithin s (command.Play c at) = IsPointOf s at
+IsWithin s (command.IsLegal c at) = IsPointOf s at
+IsWithin s (command.CountLib p) = p < s * s
+IsWithin s (command.FindLib p) = p < s * s
+IsWithin s (command.Attack p) = p < s * s
+IsWithin s (command.Defend p) = p < s * s
+IsWithin s (command.Depths plies wide) = AreDepths plies wide
+IsWithin s _ = Unit {0}
+
+-- the same of a command that a line says
+abbrev pub SaysWithin : ℕ → Parsed → Type 0
+SaysWithin s (parsed.Command id command) = IsWithin s command
+SaysWithin s _ = Unit {0}
