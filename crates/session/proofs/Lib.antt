@@ -1,5 +1,4 @@
 pub mod Texts
-pub mod WithinLemmas
 pub mod Said
 pub mod Playing
 pub mod Replied

@@ -12,7 +12,6 @@ pub mod Answering
 pub mod Kept
 pub mod Answers
 pub mod Replies
-pub mod Within
 pub mod Outcomes
 pub mod Notes
 pub mod Opening

@@ -1,14 +1,12 @@
 //! Readings over a position, and their answers as short texts.
 ghost use Rattle.std.specs.Prelude.{◌≡◌, ◌≢◌, ◌*◌, ◌<◌, ◌≤◌, length, IfSome};
 ghost use Rattle.go_rules.specs.Strings.{cell_at};
-ghost use Rattle.gtp_cmd.specs.Vertices.{vertex_text};
 ghost use Rattle.read_rules.specs.Answer.{answer_of, asked_on};
 ghost use Rattle.read_tree.specs.Steps.{IsOnBoard};
 ghost use Rattle.session.specs.ReadingCommands.{spot_text, answer_text};
 
-use crate::vertices::column_letter;
 use go_base::{Cell, Point, Position, Size, Watch};
-use gtp_cmd::Short;
+use gtp_cmd::{Short, vertex_text};
 use itoa::Buffer;
 use read_moves::Depths;
 use read_tree::{Answer, Kind, Spot, attack, defend};
@@ -27,20 +25,6 @@ pub(crate) fn reading(position: &Position, kind: Kind, target: Point, depths: De
     }
 }
 
-/// The vertex of a point.
-fn vertex(size: Size, p: Point) -> Short
-    requires { p < size * size }
-    ensures text { result ≡ vertex_text size p }
-    ensures short { length result ≤ 4 }
-{
-    let rows = u16::from(size.get());
-    let mut buffer = Buffer::new();
-    let mut text = Short::new();
-    text.extend(&[column_letter((p % rows) as u8)]);
-    text.extend(buffer.format((rows - p / rows) as u8).as_bytes());
-    text
-}
-
 /// A move as it is printed.
 fn spot_text(size: Size, spot: Spot) -> Short
     requires { IsOnBoard size spot }
@@ -48,7 +32,7 @@ fn spot_text(size: Size, spot: Spot) -> Short
     ensures short { length result ≤ 4 }
 {
     match spot {
-        Spot::At(p) => vertex(size, p),
+        Spot::At(p) => vertex_text(size, p),
         Spot::Pass => {
             let mut text = Short::new();
             text.extend(b"PASS");

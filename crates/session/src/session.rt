@@ -1,7 +1,7 @@
 //! A session: what the plain machine keeps, and its answer to each line.
 ghost use Rattle.std.specs.Prelude.{◌≡◌, ◌≤◌, ◌↔◌, List, ℕ, length, IfOk};
 ghost use Rattle.gtp_lex.specs.Raw.{raw_line};
-ghost use Rattle.session.specs.Within.{IsWithin, SaysWithin};
+ghost use Rattle.gtp_cmd.specs.Within.{IsWithin, SaysWithin};
 ghost use Rattle.session.specs.Machine.{position_of};
 ghost use Rattle.session.specs.Kept.{machine_of, matcher_of, first_kept, NumbersPatterns};
 ghost use Rattle.session.specs.Answering.{step, parsed_step, effect_of, word_of};
@@ -18,7 +18,7 @@ use dfa_core::Automaton;
 use go_base::size::MAX_SIZE;
 use go_base::{Bytes, NoMemory, Position, Size};
 use go_history::{History, Move};
-use gtp_cmd::{Command, KomiText, Parsed, RefuseText, names, parse};
+use gtp_cmd::{Command, KomiText, Parsed, RefuseText, names_text, parse};
 use gtp_lex::Raw;
 use pat_types::Pattern;
 use read_moves::Depths;
@@ -71,15 +71,6 @@ fn word(known: bool) -> &'static [u8]
     ensures short { length result.now ≤ 5 }
 {
     if known { b"true" } else { b"false" }
-}
-
-/// A copy of a text.
-fn copied(alloc: Global, text: &[u8]) -> Result<Bytes, NoMemory>
-    ensures { IfOk result (λ bytes. bytes ≡ text.now) }
-{
-    let mut bytes = Bytes::new(alloc);
-    bytes.extend(text)?;
-    Ok(bytes)
 }
 
 impl Session {
@@ -155,7 +146,7 @@ impl Session {
             Command::Name => told(b"gopat"),
             Command::Version => told(b"1"),
             Command::KnownCommand(known) => told(word(known)),
-            Command::ListCommands => grown(copied(self.alloc, names())),
+            Command::ListCommands => grown(names_text(self.alloc)),
             Command::Quit => Answer::Ended,
             Command::BoardSize(size) => self.resize(size),
             Command::ClearBoard => self.clear(),

@@ -4,19 +4,9 @@ ghost use Rattle.gtp_cmd.specs.Vertices.{vertex_text, column_letters};
 ghost use Rattle.session.specs.PointLists.{in_reading_order, legal_list, liberty_list, vertices_text, blank_after};
 
 use go_base::{Bytes, Colour, NoMemory, Point, PointSet, Position, Size};
+use gtp_cmd::{column_letter, vertex_text};
 use itoa::Buffer;
 use std::alloc::Global;
-
-/// The letters of the columns from the left.
-const COLUMN_LETTERS: [u8; 25] = *b"ABCDEFGHJKLMNOPQRSTUVWXYZ";
-
-/// The letter of a column.
-pub(crate) fn column_letter(column: u8) -> u8
-    requires { column < 25 }
-    ensures { result ≡ slice_index column_letters column }
-{
-    COLUMN_LETTERS[column as usize]
-}
 
 /// Puts the letter of a column.
 pub(crate) fn push_letter(out: &mut Bytes, column: u8) -> Result<(), NoMemory>
@@ -39,9 +29,7 @@ pub(crate) fn push_vertex(out: &mut Bytes, size: Size, p: Point) -> Result<(), N
     requires { p < size * size }
     ensures { OnOk result (out.new ≡ out.old ++ vertex_text size p) }
 {
-    let rows = u16::from(size.get());
-    push_letter(out, (p % rows) as u8)?;
-    push_number(out, (rows - p / rows) as u8)
+    out.extend(vertex_text(size, p).as_slice())
 }
 
 /// Puts the vertex of a point of a list, behind a blank where it is not the first.

@@ -2,7 +2,7 @@
 ghost use Rattle.std.specs.Prelude.{◌≡◌, ◌*◌, ◌<◌};
 ghost use Rattle.session.specs.Kept.{machine_of};
 ghost use Rattle.session.specs.ReadingCommands.{read, deepened};
-ghost use Rattle.session.specs.Within.{AreDepths};
+ghost use Rattle.gtp_cmd.specs.Within.{AreDepths};
 ghost use Rattle.session.specs.Answers.{IsAnswer};
 
 use crate::answer::{Answer, told};
