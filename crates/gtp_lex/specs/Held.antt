@@ -1,5 +1,5 @@
--- The lines of a stream from the front, where a part of a line is held. The law `pieces_give_the_lines_of_the_stream` says that
--- they are the lines of the whole stream.
+-- The lines of a stream from the front, where a part of a line is held. The law `pieces_give_the_lines_of_the_stream`
+-- says that they are the lines of the whole stream.
 use Rattle.std.specs.Prelude.{ℕ, ◌+◌, List, [], ◌∷◌, ◌++◌, length, if◌then◌else◌, ◌==◌, nat_lt}
 use Rattle.gtp_rules.specs.Lines.{RawLine, Line, TooLong, line_feed, longest_line}
 

@@ -21,6 +21,8 @@ no_line = record { held = Line []; waits = false; given = None }
 -- count bytes of a piece were fed: up to and with its first line feed, or all of them
 pub record Feeds (old new : LinesState) (piece : List ℕ) (count : ℕ) : Type 0 where
   -- where a line feed came, it ends the line that is held
-  pub ended : new.waits ≡ true → (lines_from old.held (take count piece) ≡ new.held ∷ []) × (held_from old.held (take count piece) ≡ Line [])
+  pub ended : new.waits ≡ true
+      → (lines_from old.held (take count piece) ≡ new.held ∷ []) × (held_from old.held (take count piece) ≡ Line [])
   -- where none came, the piece was taken whole
-  pub open_ended : new.waits ≡ false → (count ≡ length piece) × (lines_from old.held piece ≡ []) × (held_from old.held piece ≡ new.held)
+  pub open_ended : new.waits ≡ false
+      → (count ≡ length piece) × (lines_from old.held piece ≡ []) × (held_from old.held piece ≡ new.held)

@@ -1,7 +1,9 @@
-//! A stream of bytes, in pieces cut anywhere, as protocol lines. The room for a line is taken once, and nothing after it.
+//! A stream of bytes, in pieces cut anywhere, as protocol lines. The room for a line is taken once, and nothing after
+//! it.
 //!
-//! A line is what stands before a line feed. One of more than 65,536 bytes is told as too long, and the line after it is whole
-//! again. For every cutting of the bytes into pieces the lines are those that `gtp_rules` defines for the whole stream.
+//! A line is what stands before a line feed. One of more than 65,536 bytes is told as too long, and the line after it
+//! is whole again. For every cutting of the bytes into pieces the lines are those that `gtp_rules` defines for the
+//! whole stream.
 #![tactic(auto)]
 
 ghost use Rattle.std.specs.Prelude.{◌≡◌, List, ℕ, [], ◌++◌};

@@ -1,5 +1,6 @@
 //! The line that a stream has come to, in a room that is made once.
-ghost use Rattle.std.specs.Prelude.{◌≡◌, ◌≢◌, ◌+◌, ◌≤◌, ◌<◌, true, false, Some, None, All, ◌==◌, [], ◌++◌, length, take, slice_index, vec_len, vec_capacity, IfOk, IsSome};
+ghost use Rattle.std.specs.Prelude.{◌≡◌, ◌≢◌, ◌+◌, ◌≤◌, ◌<◌, true, false, Some, None, All, ◌==◌, [], ◌++◌, length};
+ghost use Rattle.std.specs.Prelude.{take, slice_index, vec_len, vec_capacity, IfOk, IsSome};
 ghost use Rattle.gtp_rules.specs.Lines.{Line, line_of, line_feed, longest_line};
 ghost use Rattle.gtp_lex.specs.Held.{longest_held};
 ghost use Rattle.gtp_lex.specs.LinesTaken.{taken_of, given_state};
@@ -33,7 +34,8 @@ enum Phase {
 
 /// The line that a stream has come to.
 ///
-/// Contracts see the line so far, whether its line feed waits for `take`, and the bytes of the line that was given last.
+/// Contracts see the line so far, whether its line feed waits for `take`, and the bytes of the line that was given
+/// last.
 #[derive(Drop)]
 pub struct Lines {
     // the first bytes of the line, and one byte too many where it is too long
@@ -144,7 +146,8 @@ impl Lines {
     /// The line whose line feed waits. None comes exactly where no line feed was taken since the last `take`.
     pub fn take(&mut self) -> Option<Taken>
         ensures none { self.old.waits ≡ false → (result ≡ None) × (self.new ≡ self.old) }
-        ensures some { self.old.waits ≡ true → (result ≡ Some (taken_of self.old.held)) × (self.new ≡ given_state self.old.held) }
+        ensures some { self.old.waits ≡ true
+            → (result ≡ Some (taken_of self.old.held)) × (self.new ≡ given_state self.old.held) }
     {
         if self.phase == Phase::Full {
             self.phase = Phase::Given;
@@ -158,7 +161,8 @@ impl Lines {
     pub fn finish(&mut self) -> Option<Taken>
         requires { self.old.waits ≡ false }
         ensures none { self.old.held ≡ Line [] → (result ≡ None) × (self.new ≡ self.old) }
-        ensures some { self.old.held ≢ Line [] → (result ≡ Some (taken_of self.old.held)) × (self.new ≡ given_state self.old.held) }
+        ensures some { self.old.held ≢ Line []
+            → (result ≡ Some (taken_of self.old.held)) × (self.new ≡ given_state self.old.held) }
     {
         if self.phase == Phase::Given || self.bytes.is_empty() {
             None

@@ -9,13 +9,15 @@ texts_of-cons [] = ([], [], refl)
 texts_of-cons (b ∷ bs) =
     let later = texts_of-cons bs in
     elim (eqb b line_feed)
-    as (λ t. (text : List ℕ) × (texts : List (List ℕ)) × (cond t ([] ∷ texts_of bs) (onto_first b (texts_of bs)) ≡ text ∷ texts)) [
+    as (λ t. (text : List ℕ) × (texts : List (List ℕ))
+    × (cond t ([] ∷ texts_of bs) (onto_first b (texts_of bs)) ≡ text ∷ texts)) [
       | true ↦ ([], texts_of bs, refl)
       | false ↦ (b ∷ later.0, later.1, ap (onto_first b) later.2)
     ]
 
 -- a list that is not empty is all but its last element, and then that element
-all_but_last-last_text : (text : List ℕ) (texts : List (List ℕ)) → text ∷ texts ≡ all_but_last (text ∷ texts) ++ last_text (text ∷ texts) ∷ []
+all_but_last-last_text : (text : List ℕ) (texts : List (List ℕ))
+    → text ∷ texts ≡ all_but_last (text ∷ texts) ++ last_text (text ∷ texts) ∷ []
 all_but_last-last_text text [] = refl
 all_but_last-last_text text (next ∷ texts) = ap (λ l. text ∷ l) (all_but_last-last_text next texts)
 

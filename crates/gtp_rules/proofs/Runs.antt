@@ -1,31 +1,51 @@
 -- Runs one after another.
-use Rattle.std.proofs.Common.{◌≡◌, ℕ, ◌+◌, ◌<◌, Bool, true, false, List, [], ◌∷◌, ◌++◌, length, refl, sym, ap, subst, ◌∙◌, append_assoc, append-nil, MatchBool, inl, arith, length-append}
+use Rattle.std.proofs.Common.{◌≡◌, ℕ, ◌+◌, ◌<◌, Bool, true, false, List, [], ◌∷◌, ◌++◌, length, refl, sym, ap, subst}
+use Rattle.std.proofs.Common.{◌∙◌, append_assoc, append-nil, MatchBool, inl, arith, length-append}
 use Rattle.gtp_rules.specs.Lines.{RawLine}
 use Rattle.gtp_rules.specs.Steps.{Step}
 use Rattle.gtp_rules.specs.Transcript.{Answers, IsRun, IsTranscript, Cut}
 
 module _ (M : Type 0) (step : M → RawLine → Step M) where
+  -- no lines are answered by nothing
   pub IsRun-nil : (m : M) → IsRun step m [] [] m false
   IsRun-nil m = (refl, refl, refl)
 
-  pub IsRun-one : (old : M) (line : RawLine) (out : List ℕ) (new : M) (ends : Bool) → Answers step old line out new ends → IsRun step old (line ∷ []) out new ends
+  -- one line that is answered is a run
+  pub IsRun-one : (old : M) (line : RawLine) (out : List ℕ) (new : M) (ends : Bool) → Answers step old line out new ends
+      → IsRun step old (line ∷ []) out new ends
   IsRun-one old line out new true a = (out, [], new, true, a, sym (append-nil out), (refl, refl, refl))
   IsRun-one old line out new false a = (out, [], new, false, a, sym (append-nil out), (refl, refl, refl))
 
-  pub IsRun-append : (old : M) (xs ys : List RawLine) (a b : List ℕ) (mid new : M) (ended : Bool) → IsRun step old xs a mid false → IsRun step mid ys b new ended → IsRun step old (xs ++ ys) (a ++ b) new ended
-  IsRun-append old [] ys a b mid new ended p q = subst (λ o. IsRun step old ys (o ++ b) new ended) (sym p.0) (subst (λ m. IsRun step m ys b new ended) p.1 q)
-  IsRun-append old (x ∷ xs) ys a b mid new ended (first, rest, m, true, answers, joined, h) q = absurd (let e = h.2 in cc)
-  IsRun-append old (x ∷ xs) ys a b mid new ended (first, rest, m, false, answers, joined, h) q =
-      (first, rest ++ b, m, false, answers, ap (λ o. o ++ b) joined ∙ append_assoc first rest b, IsRun-append m xs ys rest b mid new ended h q)
+  -- a run that has not ended, and one that goes on from its machine, are a run
+  pub IsRun-append : (old : M) (xs ys : List RawLine) (a b : List ℕ) (mid new : M) (ended : Bool)
+      → IsRun step old xs a mid false → IsRun step mid ys b new ended → IsRun step old (xs ++ ys) (a ++ b) new ended
+  IsRun-append old [] ys a b mid new ended p q =
+      subst (λ o. IsRun step old ys (o ++ b) new ended) (sym p.0) (subst (λ m. IsRun step m ys b new ended) p.1 q)
+  IsRun-append old (x ∷ xs) ys a b mid new ended (first, rest, m, true, answers, joined, h) q =
+      absurd (let e = h.2 in cc)
+  IsRun-append old (x ∷ xs) ys a b mid new ended (first, rest, m, false, answers, joined, h) q = (
+    first,
+    rest ++ b,
+    m,
+    false,
+    answers,
+    ap (λ o. o ++ b) joined
+        ∙ append_assoc first rest b,
+    IsRun-append m xs ys rest b mid new ended h q,
+  )
 
   -- after the line that ends the session nothing is answered
-  pub IsRun-ended : (old : M) (xs ys : List RawLine) (a : List ℕ) (new : M) → IsRun step old xs a new true → IsRun step old (xs ++ ys) a new true
+  pub IsRun-ended : (old : M) (xs ys : List RawLine) (a : List ℕ) (new : M) → IsRun step old xs a new true
+      → IsRun step old (xs ++ ys) a new true
   IsRun-ended old [] ys a new p = absurd (let e = p.2 in cc)
-  IsRun-ended old (x ∷ xs) ys a new (first, rest, m, true, answers, joined, h) = (first, rest, m, true, answers, joined, h)
-  IsRun-ended old (x ∷ xs) ys a new (first, rest, m, false, answers, joined, h) = (first, rest, m, false, answers, joined, IsRun-ended m xs ys rest new h)
+  IsRun-ended old (x ∷ xs) ys a new (first, rest, m, true, answers, joined, h) =
+      (first, rest, m, true, answers, joined, h)
+  IsRun-ended old (x ∷ xs) ys a new (first, rest, m, false, answers, joined, h) =
+      (first, rest, m, false, answers, joined, IsRun-ended m xs ys rest new h)
 
   -- a cut in the later lines, after a run of the earlier ones
-  abbrev pub Cut-after : (old : M) (xs ys : List RawLine) (a b : List ℕ) (mid : M) → IsRun step old xs a mid false → Cut step mid ys b → Cut step old (xs ++ ys) (a ++ b)
+  abbrev pub Cut-after : (old : M) (xs ys : List RawLine) (a b : List ℕ) (mid : M) → IsRun step old xs a mid false
+      → Cut step mid ys b → Cut step old (xs ++ ys) (a ++ b)
   Cut-after old xs ys a b mid run cut = record {
     before = xs ++ cut.before;
     line = cut.line;
@@ -62,7 +82,9 @@ module _ (M : Type 0) (step : M → RawLine → Step M) where
     out = cut.out;
   }
 
-  abbrev pub Cut-is : (first : M) (xs ys : List RawLine) (put : List ℕ) → xs ≡ ys → Cut step first ys put → Cut step first xs put
+  -- a cut of equal lines is one
+  abbrev pub Cut-is : (first : M) (xs ys : List RawLine) (put : List ℕ) → xs ≡ ys → Cut step first ys put
+      → Cut step first xs put
   Cut-is first xs ys put e cut = record {
     before = cut.before;
     line = cut.line;
@@ -80,31 +102,72 @@ module _ (M : Type 0) (step : M → RawLine → Step M) where
     out = cut.out;
   }
 
-  -- Each list of lines has a transcript.
+  -- where the lines behind a line have a transcript, those with it have one
+  total-step : (old : M) (line : RawLine) (lines : List RawLine) (ends : Bool) → (step old line).ends ≡ ends
+      → (out : List ℕ) × IsTranscript step (step old line).next lines out
+      → (out : List ℕ) × IsTranscript step old (line ∷ lines) out
+  total-step old line lines true e rest = (
+    (step old line).reply,
+    (
+      (step old line).next,
+      true,
+      (
+        (step old line).reply,
+        [],
+        (step old line).next,
+        true,
+        inl (refl, refl, sym e),
+        sym (append-nil (step old line).reply),
+        (refl, refl, refl),
+      ),
+    ),
+  )
+  total-step old line lines false e (out, (last, ended, run)) = (
+    (step old line).reply ++ out,
+    (last, ended, ((step old line).reply, out, (step old line).next, false, inl (refl, refl, sym e), refl, run)),
+  )
 
-  total-step : (old : M) (line : RawLine) (lines : List RawLine) (ends : Bool) → (step old line).ends ≡ ends → (out : List ℕ) × IsTranscript step (step old line).next lines out → (out : List ℕ) × IsTranscript step old (line ∷ lines) out
-  total-step old line lines true e rest =
-      ((step old line).reply, ((step old line).next, true, ((step old line).reply, [], (step old line).next, true, inl (refl, refl, sym e), sym (append-nil (step old line).reply), (refl, refl, refl))))
-  total-step old line lines false e (out, (last, ended, run)) =
-      ((step old line).reply ++ out, (last, ended, ((step old line).reply, out, (step old line).next, false, inl (refl, refl, sym e), refl, run)))
-
+  -- each list of lines has a transcript
   IsRun-total : (old : M) (lines : List RawLine) → (out : List ℕ) × IsTranscript step old lines out
   IsRun-total old [] = ([], (old, false, (refl, refl, refl)))
-  IsRun-total old (line ∷ lines) = total-step old line lines (step old line).ends refl (IsRun-total (step old line).next lines)
+  IsRun-total old (line ∷ lines) =
+      total-step old line lines (step old line).ends refl (IsRun-total (step old line).next lines)
 
   -- the line and those after it, from its reply on
-  goes-on : (mid next : M) (line : RawLine) (after : List RawLine) (part missing : List ℕ) (ends : Bool) → 0 < length missing → Answers step mid line (part ++ missing) next ends
+  goes-on : (mid next : M) (line : RawLine) (after : List RawLine) (part missing : List ℕ) (ends : Bool)
+      → 0 < length missing → Answers step mid line (part ++ missing) next ends
       → (more : List ℕ) × (0 < length more) × IsTranscript step mid (line ∷ after) (part ++ more)
-  goes-on mid next line after part missing true proper answers =
-      (missing, proper, (next, true, (part ++ missing, [], next, true, answers, sym (append-nil (part ++ missing)), (refl, refl, refl))))
+  goes-on mid next line after part missing true proper answers = (
+    missing,
+    proper,
+    (
+      next,
+      true,
+      (part ++ missing, [], next, true, answers, sym (append-nil (part ++ missing)), (refl, refl, refl)),
+    ),
+  )
   goes-on mid next line after part missing false proper answers =
-      let t = IsRun-total next after in
-      (missing ++ t.0, (let a = length-append missing t.0 in omega (arith, a)), (t.1.0, t.1.1, (part ++ missing, t.0, next, false, answers, sym (append_assoc part missing t.0), t.1.2)))
+      let t = IsRun-total next after in (
+        missing ++ t.0,
+        (let a = length-append missing t.0 in omega (arith, a)),
+        (t.1.0, t.1.1, (part ++ missing, t.0, next, false, answers, sym (append_assoc part missing t.0), t.1.2)),
+      )
 
   -- what broke off is a proper front of a transcript
-  pub Cut-front : (first : M) (lines : List RawLine) (put : List ℕ) → Cut step first lines put → (more : List ℕ) × (0 < length more) × IsTranscript step first lines (put ++ more)
+  pub Cut-front : (first : M) (lines : List RawLine) (put : List ℕ) → Cut step first lines put
+      → (more : List ℕ) × (0 < length more) × IsTranscript step first lines (put ++ more)
   Cut-front first lines put cut =
       let g = goes-on cut.mid cut.next cut.line cut.after cut.part cut.missing cut.ends cut.proper cut.reply in
-      let run = IsRun-append first cut.before (cut.line ∷ cut.after) cut.whole (cut.part ++ g.0) cut.mid g.2.0 g.2.1 cut.answered g.2.2 in
-      let same : put ++ g.0 ≡ cut.whole ++ (cut.part ++ g.0) = ap (λ l. l ++ g.0) cut.out ∙ append_assoc cut.whole cut.part g.0 in
-      (g.0, g.1, (g.2.0, g.2.1, subst (λ l. IsRun step first l (put ++ g.0) g.2.0 g.2.1) (sym cut.place) (subst (λ o. IsRun step first (cut.before ++ cut.line ∷ cut.after) o g.2.0 g.2.1) (sym same) run)))
+      let run = IsRun-append first cut.before (cut.line ∷ cut.after) cut.whole
+      (cut.part ++ g.0) cut.mid g.2.0 g.2.1 cut.answered g.2.2 in
+      let same : put ++ g.0 ≡ cut.whole ++ (cut.part ++ g.0) = ap (λ l. l ++ g.0) cut.out
+      ∙ append_assoc cut.whole cut.part g.0 in (
+        g.0,
+        g.1,
+        (
+          g.2.0,
+          g.2.1,
+          subst (λ l. IsRun step first l (put ++ g.0) g.2.0 g.2.1) (sym cut.place)
+              (subst (λ o. IsRun step first (cut.before ++ cut.line ∷ cut.after) o g.2.0 g.2.1) (sym same) run),
+        ),
+      )

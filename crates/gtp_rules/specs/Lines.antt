@@ -1,5 +1,5 @@
--- A stream of bytes as protocol lines, after the GTP version 2 draft: the bytes are cut at line feeds. The limit on the length
--- of a line is this project's own.
+-- A stream of bytes as protocol lines, after the GTP version 2 draft: the bytes are cut at line feeds. The limit on the
+-- length of a line is this project's own.
 use Rattle.std.specs.Prelude.{ℕ, List, [], ◌∷◌, ◌++◌, length, map, if◌then◌else◌, ◌==◌, nat_le}
 use Rattle.std.specs.List.{slice_split}
 

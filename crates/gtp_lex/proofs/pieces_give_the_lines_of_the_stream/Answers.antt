@@ -3,7 +3,8 @@ use Rattle.std.proofs.Common.{[], ◌++◌, ap, sym, ◌∙◌}
 use Rattle.std.specs.List.{concat}
 use Rattle.gtp_rules.specs.Lines.{Line}
 use Rattle.gtp_lex.specs.Held.{held_line, held_after, lines_from}
-use Rattle.gtp_lex.proofs.HeldLemmas.{lines_from-append, lines_of-lines_from, lines_with_rest-lines_from, lines_in_turn-concat, held_after-concat}
+use Rattle.gtp_lex.proofs.HeldLemmas.{lines_from-append, lines_of-lines_from, lines_with_rest-lines_from}
+use Rattle.gtp_lex.proofs.HeldLemmas.{lines_in_turn-concat, held_after-concat}
 use Rattle.gtp_lex.proofs.pieces_give_the_lines_of_the_stream.Goals as goal
 
 pub returns-clause-lines : goal.returns-clause-lines

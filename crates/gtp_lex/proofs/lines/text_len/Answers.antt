@@ -7,4 +7,5 @@ use Rattle.gtp_lex.proofs.lines.text_len.Goals as goal
 
 pub loop-i-preserved : goal.loop-i-preserved
 loop-i-preserved c =
-    All-more (λ b. eqb b line_feed ≡ false) c.args.piece.now c.loop-i.i 0 c.loop-i-test.true c.loop-i.invariant (grind (arith, nat_tests, c.if-b-eq10.false))
+    All-more (λ b. eqb b line_feed ≡ false) c.args.piece.now c.loop-i.i 0 c.loop-i-test.true c.loop-i.invariant
+    (grind (arith, nat_tests, c.if-b-eq10.false))

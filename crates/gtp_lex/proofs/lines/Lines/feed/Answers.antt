@@ -8,11 +8,13 @@ use Rattle.gtp_lex.proofs.lines.Lines.feed.Goals as goal
 pub returns-then-len-piece-clause-fed : goal.returns-then-len-piece-clause-fed
 returns-then-len-piece-clause-fed c =
     let held = c.drop_given.ensures.held ∙ ap (λ (s : LinesState). s.held) c.self.view_is in
-    λ _. Feeds-open c.args.self.now c.drop_given.new.bytes.items c.args.piece.now c.keep.new.bytes.items _ held c.text_len-len.ensures.front c.keep.ensures.line c.if-len-piece.true
+    λ _. Feeds-open c.args.self.now c.drop_given.new.bytes.items c.args.piece.now c.keep.new.bytes.items _ held
+    c.text_len-len.ensures.front c.keep.ensures.line c.if-len-piece.true
 
 -- a line feed stands after the front
 pub returns-clause-fed : goal.returns-clause-fed
 returns-clause-fed c =
     let held = c.drop_given.ensures.held ∙ ap (λ (s : LinesState). s.held) c.self.view_is in
     let within = c.text_len-len.ensures.feed (omega arith) in
-    λ _. Feeds-ended c.args.self.now c.drop_given.new.bytes.items c.args.piece.now c.keep.new.bytes.items _ held c.text_len-len.ensures.front c.keep.ensures.line (omega arith) within
+    λ _. Feeds-ended c.args.self.now c.drop_given.new.bytes.items c.args.piece.now c.keep.new.bytes.items _ held
+    c.text_len-len.ensures.front c.keep.ensures.line (omega arith) within
