@@ -1,0 +1,42 @@
+-- What a caller of `eval` owes: a constraint that a pattern keeps may be evaluated, and where each argument that has a
+-- point has one on the board, the arguments of each expression are placed.
+use Rattle.std.proofs.Common.{◌≡◌, Bool, true, false, ◌&&◌, nat_le, IsTrue, List, [], ◌∷◌, Some, refl}
+use Rattle.std.proofs.lemmas.Bool.{leb-true}
+use Rattle.pat_types.specs.declared.pattern.LabelAt.{LabelAt}
+use Rattle.pat_types.specs.declared.expr.Arg.{Arg}
+use Rattle.pat_types.specs.declared.expr.Expr.{Expr, Num, Call, Not', Neg', Bin'}
+use Rattle.pat_types.specs.Kept.{can_evaluate, leaf_count, is_constraint}
+use Rattle.cons_eval.specs.Bounds.{IsConstraint}
+use Rattle.cons_eval.proofs.Parts.{first_of, second_of}
+use Rattle.cons_eval.specs.Meanings.{Meanings, is_on_board, are_on_board, are_placed}
+
+-- two tests that pass, pass together
+both : (a b : Bool) → a ≡ true → b ≡ true → (a && b) ≡ true
+both true b h k = k
+both false b h k = cc
+
+-- arguments that are each placed
+args_on_board : (m : Meanings) (args : List Arg) → ((a : Arg) → is_on_board m.position.size (m.point a) ≡ true)
+    → are_on_board m.position.size m.point args ≡ true
+args_on_board m [] h = refl
+args_on_board m (a ∷ args) h =
+    both (is_on_board m.position.size (m.point a)) (are_on_board m.position.size m.point args) (h a)
+    (args_on_board m args h)
+
+-- the arguments of an expression, where all points are on the board
+pub all_placed : (m : Meanings) (e : Expr) → ((a : Arg) → is_on_board m.position.size (m.point a) ≡ true)
+    → are_placed m e ≡ true
+unfolding are_placed
+all_placed m (Num n) h = refl
+all_placed m (Call f args) h = args_on_board m args h
+all_placed m (Not' p e) h = all_placed m e h
+all_placed m (Neg' p e) h = all_placed m e h
+all_placed m (Bin' op p a q b) h = both (are_placed m a) (are_placed m b) (all_placed m a h) (all_placed m b h)
+
+-- a constraint that a pattern with these labels keeps
+pub constraint_of : (labels : List LabelAt) (e : Expr) → IsTrue (is_constraint labels (Some e)) → IsConstraint e
+constraint_of labels e h = record {
+  labels = labels;
+  can = first_of (can_evaluate labels e) (nat_le (leaf_count e) 4096) h;
+  few = leb-true (leaf_count e) 4096 (second_of (can_evaluate labels e) (nat_le (leaf_count e) 4096) h);
+}

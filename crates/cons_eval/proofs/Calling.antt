@@ -1,0 +1,54 @@
+-- The points of a call's arguments, and its value by how the function takes them.
+use Rattle.std.proofs.Common.{◌≡◌, ℕ, ◌*◌, ◌<◌, true, ◌&&◌, List, [], ◌∷◌, map, Option, Some, None, ap, subst}
+use Rattle.std.proofs.lemmas.Bool.{ltb-true}
+use Rattle.pat_types.specs.declared.expr.Arg.{Arg}
+use Rattle.pat_types.specs.declared.expr.Function.{Function}
+use Rattle.cons_eval.specs.declared.calls.Arguments.{Arguments}
+use Rattle.cons_eval.specs.Meanings.{Meanings, is_on_board, are_on_board}
+use Rattle.cons_eval.specs.Values.{only_point, both_points, two_points, arguments_of, value_by, call_value}
+use Rattle.cons_eval.proofs.Parts.{first_of, second_of}
+
+-- values that are had are the same
+some_same : {X : Type 0} (x y : X) → Some x ≡ Some y → x ≡ y
+some_same x y h = cc
+
+-- a point that an argument has is on the board
+on_board_at : (s : ℕ) (o : Option ℕ) (a : ℕ) → o ≡ Some a → is_on_board s o ≡ true → a < s * s
+on_board_at s None a e h = cc
+on_board_at s (Some p) a e h =
+    subst (λ (x : ℕ). x < s * s) (some_same p a e) (ltb-true p (s * s) h)
+
+-- the only point is on the board
+pub only_on_board : (s : ℕ) (point : Arg → Option ℕ) (args : List Arg) (a : ℕ) → only_point (map point args) ≡ Some a
+    → are_on_board s point args ≡ true → a < s * s
+only_on_board s point [] a e h = cc
+only_on_board s point (x ∷ []) a e h = on_board_at s (point x) a e (first_of (is_on_board s (point x)) true h)
+only_on_board s point (x ∷ y ∷ more) a e h = cc
+
+-- where both points are there, each is
+both_at : (o p : Option ℕ) (a b : ℕ) → both_points o p ≡ Some (a, b) → (o ≡ Some a) × (p ≡ Some b)
+both_at None p a b e = cc
+both_at (Some x) None a b e = cc
+both_at (Some x) (Some y) a b e =
+    let same = some_same (x, y) (a, b) e in
+    (ap (λ (q : ℕ × ℕ). Some q.0) same, ap (λ (q : ℕ × ℕ). Some q.1) same)
+
+-- the two points are on the board
+pub two_on_board : (s : ℕ) (point : Arg → Option ℕ) (args : List Arg) (a b : ℕ)
+    → two_points (map point args) ≡ Some (a, b)
+    → are_on_board s point args ≡ true → (a < s * s) × (b < s * s)
+two_on_board s point [] a b e h = cc
+two_on_board s point (x ∷ []) a b e h = cc
+two_on_board s point (x ∷ y ∷ []) a b e h =
+    let each = both_at (point x) (point y) a b e in
+    let rest = second_of (is_on_board s (point x)) (is_on_board s (point y) && true) h in (
+      on_board_at s (point x) a each.0 (first_of (is_on_board s (point x)) (is_on_board s (point y) && true) h),
+      on_board_at s (point y) b each.1 (first_of (is_on_board s (point y)) true rest),
+    )
+two_on_board s point (x ∷ y ∷ z ∷ more) a b e h = cc
+
+-- the value of a call is that by how its function takes the arguments
+pub call_by : (m : Meanings) (f : Function) (points : List (Option ℕ)) (how : Arguments) → arguments_of f ≡ how
+    → call_value m f points ≡ value_by m f points how
+unfolding call_value
+call_by m f points how h = ap (value_by m f points) h

@@ -1,0 +1,38 @@
+-- The moves and the point behind them.
+use Rattle.std.proofs.Common.{◌≡◌, suc, ◌-◌, ◌∙◌, ap, sym, length, map, take, Option, w64, arith, ℕ}
+use Rattle.std.proofs.lemmas.Int.{to_z-of_z}
+use Rattle.std.specs.Option.{option_map}
+use Rattle.pat_types.specs.declared.expr.Arg.TheVariants.{Label}
+use Rattle.cons_eval.specs.Values.{if_there, play_value}
+use Rattle.cons_eval.proofs.Moves.{none_last, last_point}
+use Rattle.cons_eval.proofs.calls.of_play.Goals as goal
+
+-- no arguments have no last one
+pub returns-in-empty-clause-value : goal.returns-in-empty-clause-value
+returns-in-empty-clause-value g c =
+    sym (ap (if_there (play_value (g.E.Env.view c.args.env.now).meanings c.args.function))
+    (none_last (g.E.Env.view c.args.env.now).meanings.point c.args.args.now c.in-empty.len_below))
+
+-- the last argument has a point
+pub returns-in-Some-clause-value : goal.returns-in-Some-clause-value
+returns-in-Some-clause-value g c =
+    let point = (g.E.Env.view c.args.env.now).meanings.point in
+    let some = c.in-len1-up.len_at_least in
+    let last : length c.args.args.now ≡ suc (length c.args.args.now - 1) = omega arith in
+    to_z-of_z w64 c.of_moves.result (record { sfits = c.of_moves.type_inv })
+    ∙ (c.of_moves.ensures.value
+    ∙ sym (ap (if_there (play_value (g.E.Env.view c.args.env.now).meanings c.args.function))
+    (last_point point c.args.args.now (length c.args.args.now - 1) (Label 0) last
+    ∙ ap (λ (p : Option ℕ). option_map (λ p. (map point (take (length c.args.args.now - 1) c.args.args.now), p)) p)
+    (sym c.point.ensures ∙ c.in-Some.is))))
+
+-- the last argument has none
+pub returns-in-None-clause-value : goal.returns-in-None-clause-value
+returns-in-None-clause-value g c =
+    let point = (g.E.Env.view c.args.env.now).meanings.point in
+    let some = c.in-len1-up.len_at_least in
+    let last : length c.args.args.now ≡ suc (length c.args.args.now - 1) = omega arith in
+    sym (ap (if_there (play_value (g.E.Env.view c.args.env.now).meanings c.args.function))
+    (last_point point c.args.args.now (length c.args.args.now - 1) (Label 0) last
+    ∙ ap (λ (p : Option ℕ). option_map (λ p. (map point (take (length c.args.args.now - 1) c.args.args.now), p)) p)
+    (sym c.point.ensures ∙ c.in-None.is)))

@@ -1,0 +1,6 @@
+pub mod Readings
+pub mod Functions
+pub mod Meanings
+pub mod Values
+pub mod Asking
+pub mod Bounds

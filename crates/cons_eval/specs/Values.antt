@@ -1,0 +1,136 @@
+-- The values of expressions: whole numbers. A comparison, `!`, `&&` and `||` are worth 1 or 0, and any value but 0
+-- counts as true.
+use Rattle.std.specs.Prelude.{ℕ, ◌==◌, Bool, true, false, ◌&&◌, ◌||◌, not, if◌then◌else◌, List, [], ◌∷◌, map, Option, Some, None, ℤ, pos, ◌+ℤ◌, ◌-ℤ◌, neg_ℤ, int_lt, int_le}
+use Rattle.std.specs.Option.{option_map}
+use Rattle.std.specs.Ordering.{int_eq}
+use Rattle.pat_types.specs.declared.expr.Op.{Op}
+use Rattle.pat_types.specs.declared.expr.Op.TheVariants.{Or, And, Eq, Ne, Lt, Le, Gt, Ge, Add, Sub}
+use Rattle.pat_types.specs.declared.expr.Function.{Function}
+use Rattle.pat_types.specs.declared.expr.Function.TheVariants as function
+use Rattle.pat_types.specs.declared.expr.Expr.{Expr, Num, Call, Not', Neg', Bin'}
+use Rattle.pat_types.specs.Kept.{arity_of, is_play}
+use Rattle.cons_eval.specs.declared.calls.Arguments.{Arguments}
+use Rattle.cons_eval.specs.declared.calls.Arguments.TheVariants.{Point, Pair, Points, Play}
+use Rattle.cons_eval.specs.Functions.{lib, xlib, olib, attack, defend, ko, safe_xmove, safe_omove, legal_xmove, legal_omove, o_somewhere, x_somewhere, same_worm, does_attack, does_defend, odefend_against, xdefend_against, oplay_attack, oplay_defend, xplay_attack, xplay_defend}
+use Rattle.cons_eval.specs.Meanings.{Meanings}
+
+-- what a test is worth
+abbrev pub worth : Bool → ℤ
+worth true = pos 1
+worth false = pos 0
+
+-- the value counts as true
+abbrev pub is_so : ℤ → Bool
+is_so x = not (int_eq x (pos 0))
+
+-- the only point, where there is one argument and it has a point
+abbrev pub only_point : List (Option ℕ) → Option ℕ
+only_point [] = None
+only_point (a ∷ []) = a
+only_point (a ∷ b ∷ more) = None
+
+-- two points, if both are there
+abbrev pub both_points : Option ℕ → Option ℕ → Option (ℕ × ℕ)
+both_points None b = None
+both_points (Some a) None = None
+both_points (Some a) (Some b) = Some (a, b)
+
+-- the two points, where there are two arguments and both have points
+abbrev pub two_points : List (Option ℕ) → Option (ℕ × ℕ)
+two_points [] = None
+two_points (a ∷ []) = None
+two_points (a ∷ b ∷ []) = both_points a b
+two_points (a ∷ b ∷ c ∷ more) = None
+
+-- a move in front of moves and the point behind them
+abbrev pub with_move : Option ℕ → Option (List (Option ℕ) × ℕ) → Option (List (Option ℕ) × ℕ)
+with_move m rest = option_map (λ play. (m ∷ play.0, play.1)) rest
+
+-- the moves and the point behind them, where the last argument has a point
+unfoldable pub moves_and_point : List (Option ℕ) → Option (List (Option ℕ) × ℕ)
+moves_and_point [] = None
+moves_and_point (a ∷ []) = option_map (λ p. ([], p)) a
+moves_and_point (m ∷ n ∷ more) = with_move m (moves_and_point (n ∷ more))
+
+-- the value at what is there, and 0 where nothing is
+abbrev pub if_there : {A : Type 0} → (A → ℤ) → Option A → ℤ
+if_there f None = pos 0
+if_there f (Some a) = f a
+
+-- the functions of one point
+abbrev pub point_value : Meanings → Function → ℕ → ℤ
+point_value m function.Lib a = pos (lib m.position a)
+point_value m function.Xlib a = pos (xlib m.position m.friend a)
+point_value m function.Olib a = pos (olib m.position m.friend a)
+point_value m function.Attack a = pos (attack m.code m.position a)
+point_value m function.Defend a = pos (defend m.code m.position a)
+point_value m function.Ko a = worth (ko m.position a)
+point_value m function.SafeXmove a = worth (safe_xmove m.code m.position m.friend a)
+point_value m function.SafeOmove a = worth (safe_omove m.code m.position m.friend a)
+point_value m function.LegalXmove a = worth (legal_xmove m.position m.friend a)
+point_value m function.LegalOmove a = worth (legal_omove m.position m.friend a)
+point_value m _ a = pos 0
+
+-- the functions of one to eight points
+abbrev pub points_value : Meanings → Function → List (Option ℕ) → ℤ
+points_value m function.OSomewhere points = worth (o_somewhere m.position m.friend points)
+points_value m function.XSomewhere points = worth (x_somewhere m.position m.friend points)
+points_value m _ points = pos 0
+
+-- the functions of two points
+abbrev pub pair_value : Meanings → Function → ℕ × ℕ → ℤ
+pair_value m function.SameWorm ab = worth (same_worm m.position ab.0 ab.1)
+pair_value m function.DoesAttack ab = does_attack m.code m.position ab.0 ab.1
+pair_value m function.DoesDefend ab = does_defend m.code m.position ab.0 ab.1
+pair_value m function.OdefendAgainst ab = worth (odefend_against m.code m.position m.friend ab.0 ab.1)
+pair_value m function.XdefendAgainst ab = worth (xdefend_against m.code m.position m.friend ab.0 ab.1)
+pair_value m _ ab = pos 0
+
+-- the functions of one to eight moves and a point
+abbrev pub play_value : Meanings → Function → List (Option ℕ) × ℕ → ℤ
+play_value m function.OplayAttack play = pos (oplay_attack m.code m.position m.friend play.0 play.1)
+play_value m function.OplayDefend play = pos (oplay_defend m.code m.position m.friend play.0 play.1)
+play_value m function.XplayAttack play = pos (xplay_attack m.code m.position m.friend play.0 play.1)
+play_value m function.XplayDefend play = pos (xplay_defend m.code m.position m.friend play.0 play.1)
+play_value m _ play = pos 0
+
+-- how the function takes its arguments
+abbrev pub arguments_of : Function → Arguments
+arguments_of f =
+    if is_play f then Play
+    else if (arity_of f).1 == 1 then Point
+    else if (arity_of f).1 == 2 then Pair
+    else Points
+
+-- the value of a call by how the function takes its arguments
+abbrev pub value_by : Meanings → Function → List (Option ℕ) → Arguments → ℤ
+value_by m f points Point = if_there (point_value m f) (only_point points)
+value_by m f points Pair = if_there (pair_value m f) (two_points points)
+value_by m f points Points = points_value m f points
+value_by m f points Play = if_there (play_value m f) (moves_and_point points)
+
+-- the value of a call at the points of its arguments; 0 where these are not as the function takes them, which no
+-- pattern has
+unfoldable pub call_value : Meanings → Function → List (Option ℕ) → ℤ
+call_value m f points = value_by m f points (arguments_of f)
+
+-- the value of two values with an operator between them
+abbrev pub joined_value : Op → ℤ → ℤ → ℤ
+joined_value Or x y = worth (is_so x || is_so y)
+joined_value And x y = worth (is_so x && is_so y)
+joined_value Eq x y = worth (int_eq x y)
+joined_value Ne x y = worth (not (int_eq x y))
+joined_value Lt x y = worth (int_lt x y)
+joined_value Le x y = worth (int_le x y)
+joined_value Gt x y = worth (int_lt y x)
+joined_value Ge x y = worth (int_le y x)
+joined_value Add x y = x +ℤ y
+joined_value Sub x y = x -ℤ y
+
+-- the value of an expression
+unfoldable pub value_of : Meanings → Expr → ℤ
+value_of m (Num n) = pos n
+value_of m (Call f args) = call_value m f (map m.point args)
+value_of m (Not' p e) = worth (not (is_so (value_of m e)))
+value_of m (Neg' p e) = neg_ℤ (value_of m e)
+value_of m (Bin' op p a q b) = joined_value op (value_of m a) (value_of m b)

@@ -1,0 +1,266 @@
+//! The values of calls.
+
+ghost use Rattle.std.specs.Prelude.{◌≡◌, ◌*◌, ◌<◌, true, false, map};
+ghost use Rattle.std.specs.List.{list_any};
+ghost use Rattle.cons_eval.specs.Bounds.{IsWithin, most};
+ghost use Rattle.cons_eval.specs.Meanings.{Stays, is_on_board, are_on_board};
+ghost use Rattle.cons_eval.specs.Readings.{code_at as code_there};
+ghost use Rattle.cons_eval.specs.Functions.{holds_stone as holds, after_moves as moves_then};
+ghost use Rattle.cons_eval.specs.Values.{worth, only_point as only, two_points as two, point_value, pair_value, points_value, play_value, call_value, if_there, moves_and_point, arguments_of as taken_by};
+ghost use Rattle.cons_eval.specs.Asking.{is_reading};
+
+use crate::env::Env;
+use crate::readings::{code_at, does_attack, does_defend, is_defended_against, is_safe_move};
+use crate::rules::{after_move, is_ko, is_legal, is_same_string, liberties_after};
+use go_base::{Point, Position};
+use go_rules::Colour;
+use pat_types::{Arg, Function};
+use read_rules::Kind;
+
+/// What a test is worth.
+pub fn worth_of(test: bool) -> i64
+    ensures { result ≡ worth test }
+{
+    if test { 1 } else { 0 }
+}
+
+/// The point of the only argument, if there is one with a point.
+fn only_point<E: Env>(env: &E, args: &[Arg]) -> Option<Point>
+    ensures { result ≡ only (map (E.view env.now).meanings.point args.now) }
+{
+    match args {
+        [a] => env.point(*a),
+        _ => None,
+    }
+}
+
+/// The points of two arguments, if there are two with points.
+fn two_points<E: Env>(env: &E, args: &[Arg]) -> Option<(Point, Point)>
+    ensures { result ≡ two (map (E.view env.now).meanings.point args.now) }
+{
+    match args {
+        [a, b] => match (env.point(*a), env.point(*b)) {
+            (Some(a), Some(b)) => Some((a, b)),
+            _ => None,
+        },
+        _ => None,
+    }
+}
+
+/// The value of a function of one point.
+#[tactic(auto, using(crate::proofs::Staying::stays_same))]
+fn of_point<E: Env>(env: &mut E, function: Function, a: Point) -> i64
+    requires { a < (E.view env.old).meanings.position.size * (E.view env.old).meanings.position.size }
+    ensures value { result ≡ point_value (E.view env.old).meanings function a }
+    ensures small { IsWithin most result }
+    ensures stays { Stays (E.view env.old) (E.view env.new) }
+    ensures quiet { is_reading function ≡ false → (E.view env.new).counts ≡ (E.view env.old).counts }
+{
+    let position = env.position();
+    let friend = env.friend();
+    let enemy = friend.other();
+    match function {
+        Function::Lib => i64::from(position.liberties(a)),
+        Function::Xlib => i64::from(liberties_after(&position, enemy, a)),
+        Function::Olib => i64::from(liberties_after(&position, friend, a)),
+        Function::Attack => i64::from(code_at(env, Kind::Attack, &position, a)),
+        Function::Defend => i64::from(code_at(env, Kind::Defend, &position, a)),
+        Function::Ko => worth_of(is_ko(&position, a)),
+        Function::SafeXmove => worth_of(is_safe_move(env, &position, enemy, a)),
+        Function::SafeOmove => worth_of(is_safe_move(env, &position, friend, a)),
+        Function::LegalXmove => worth_of(is_legal(&position, enemy, a)),
+        Function::LegalOmove => worth_of(is_legal(&position, friend, a)),
+        _ => 0,
+    }
+}
+
+/// The value of a function of two points.
+#[tactic(auto, using(crate::proofs::Staying::stays_same))]
+fn of_pair<E: Env>(env: &mut E, function: Function, a: Point, b: Point) -> i64
+    requires a_on_board { a < (E.view env.old).meanings.position.size * (E.view env.old).meanings.position.size }
+    requires b_on_board { b < (E.view env.old).meanings.position.size * (E.view env.old).meanings.position.size }
+    ensures value { result ≡ pair_value (E.view env.old).meanings function (a, b) }
+    ensures small { IsWithin most result }
+    ensures stays { Stays (E.view env.old) (E.view env.new) }
+    ensures quiet { is_reading function ≡ false → (E.view env.new).counts ≡ (E.view env.old).counts }
+{
+    let position = env.position();
+    let friend = env.friend();
+    let enemy = friend.other();
+    match function {
+        Function::SameWorm => worth_of(is_same_string(&position, a, b)),
+        Function::DoesAttack => does_attack(env, &position, a, b),
+        Function::DoesDefend => does_defend(env, &position, a, b),
+        Function::OdefendAgainst => worth_of(is_defended_against(env, &position, friend, a, b)),
+        Function::XdefendAgainst => worth_of(is_defended_against(env, &position, enemy, a, b)),
+        _ => 0,
+    }
+}
+
+/// Whether an argument is a point with a stone of `colour`.
+fn holds_stone<E: Env>(env: &E, position: &Position, colour: Colour, arg: Arg) -> bool
+    requires { is_on_board position.now.size ((E.view env.now).meanings.point arg) ≡ true }
+    ensures { result ≡ holds position.now colour ((E.view env.now).meanings.point arg) }
+{
+    match env.point(arg) {
+        Some(a) => position.cell(a) == colour.cell(),
+        None => false,
+    }
+}
+
+/// Whether one of the arguments is a point with a stone of `colour`.
+fn is_somewhere<E: Env>(env: &E, position: &Position, colour: Colour, args: &[Arg]) -> bool
+    requires { are_on_board position.now.size (E.view env.now).meanings.point args.now ≡ true }
+    ensures { result ≡ list_any (holds position.now colour) (map (E.view env.now).meanings.point args.now) }
+{
+    for arg in args {
+        if holds_stone(env, position, colour, *arg) {
+            return true;
+        }
+    }
+    false
+}
+
+/// The value of a function of one to eight points.
+fn of_points<E: Env>(env: &E, function: Function, args: &[Arg]) -> i64
+    requires { are_on_board (E.view env.now).meanings.position.size (E.view env.now).meanings.point args.now ≡ true }
+    ensures value { result ≡ points_value (E.view env.now).meanings function
+        (map (E.view env.now).meanings.point args.now) }
+    ensures small { IsWithin most result }
+{
+    let position = env.position();
+    let friend = env.friend();
+    let enemy = friend.other();
+    match function {
+        Function::OSomewhere => worth_of(is_somewhere(env, &position, friend, args)),
+        Function::XSomewhere => worth_of(is_somewhere(env, &position, enemy, args)),
+        _ => 0,
+    }
+}
+
+/// The position after moves in turn, of which `first` makes the first.
+fn after_moves<E: Env>(env: &E, position: &Position, first: Colour, moves: &[Arg]) -> Position
+    requires { are_on_board position.now.size (E.view env.now).meanings.point moves.now ≡ true }
+    ensures value { result ≡ moves_then position.now first (map (E.view env.now).meanings.point moves.now) }
+    ensures same_size { result.size ≡ position.now.size }
+{
+    let mut next = *position;
+    let mut colour = first;
+    for arg in moves {
+        next = after_move(&next, colour, env.point(*arg));
+        colour = colour.other();
+    }
+    next
+}
+
+/// The code of a reading at a point after moves in turn, of which `first` makes the first.
+fn code_after<E: Env>(env: &mut E, kind: Kind, first: Colour, moves: &[Arg], at: Point) -> u8
+    requires at_on_board { at < (E.view env.old).meanings.position.size * (E.view env.old).meanings.position.size }
+    requires moves_on_board { are_on_board (E.view env.old).meanings.position.size (E.view env.old).meanings.point
+        moves.now ≡ true }
+    ensures value { result ≡ code_there (E.view env.old).meanings.code kind
+        (moves_then (E.view env.old).meanings.position first (map (E.view env.old).meanings.point moves.now)) at }
+    ensures stays { Stays (E.view env.old) (E.view env.new) }
+{
+    let position = env.position();
+    let after = after_moves(env, &position, first, moves);
+    code_at(env, kind, &after, at)
+}
+
+/// The value of a function of moves and a point, at these.
+#[tactic(auto, using(crate::proofs::Staying::stays_same))]
+fn of_moves<E: Env>(env: &mut E, function: Function, moves: &[Arg], at: Point) -> i64
+    requires at_on_board { at < (E.view env.old).meanings.position.size * (E.view env.old).meanings.position.size }
+    requires moves_on_board { are_on_board (E.view env.old).meanings.position.size (E.view env.old).meanings.point
+        moves.now ≡ true }
+    ensures value { result ≡ play_value (E.view env.old).meanings function
+        (map (E.view env.old).meanings.point moves.now, at) }
+    ensures small { IsWithin most result }
+    ensures stays { Stays (E.view env.old) (E.view env.new) }
+    ensures quiet { is_reading function ≡ false → (E.view env.new).counts ≡ (E.view env.old).counts }
+{
+    let friend = env.friend();
+    let enemy = friend.other();
+    match function {
+        Function::OplayAttack => i64::from(code_after(env, Kind::Attack, friend, moves, at)),
+        Function::OplayDefend => i64::from(code_after(env, Kind::Defend, friend, moves, at)),
+        Function::XplayAttack => i64::from(code_after(env, Kind::Attack, enemy, moves, at)),
+        Function::XplayDefend => i64::from(code_after(env, Kind::Defend, enemy, moves, at)),
+        _ => 0,
+    }
+}
+
+/// The value of a function of moves and a point, 0 where the last argument has no point.
+#[tactic(auto, using(crate::proofs::Staying::stays_same))]
+fn of_play<E: Env>(env: &mut E, function: Function, args: &[Arg]) -> i64
+    requires { are_on_board (E.view env.old).meanings.position.size (E.view env.old).meanings.point args.now ≡ true }
+    ensures value { result ≡ if_there (play_value (E.view env.old).meanings function)
+        (moves_and_point (map (E.view env.old).meanings.point args.now)) }
+    ensures small { IsWithin most result }
+    ensures stays { Stays (E.view env.old) (E.view env.new) }
+    ensures quiet { is_reading function ≡ false → (E.view env.new).counts ≡ (E.view env.old).counts }
+{
+    match args {
+        [moves @ .., last] => match env.point(*last) {
+            Some(at) => of_moves(env, function, moves, at),
+            None => 0,
+        },
+        [] => 0,
+    }
+}
+
+/// How a function takes its arguments.
+#[derive(Clone, Copy)]
+pub enum Arguments {
+    /// One point.
+    Point,
+    /// Two points.
+    Pair,
+    /// One to eight points.
+    Points,
+    /// One to eight moves and a point.
+    Play,
+}
+
+/// How a function takes its arguments.
+fn arguments_of(function: Function) -> Arguments
+    ensures { result ≡ taken_by function }
+{
+    match function {
+        Function::OSomewhere | Function::XSomewhere => Arguments::Points,
+        Function::SameWorm
+        | Function::DoesAttack
+        | Function::DoesDefend
+        | Function::OdefendAgainst
+        | Function::XdefendAgainst => Arguments::Pair,
+        Function::OplayAttack
+        | Function::OplayDefend
+        | Function::XplayAttack
+        | Function::XplayDefend => Arguments::Play,
+        _ => Arguments::Point,
+    }
+}
+
+/// The value of a call, 0 where the arguments are not as the function takes them.
+#[tactic(auto, using(crate::proofs::Staying::stays_same))]
+pub fn call<E: Env>(env: &mut E, function: Function, args: &[Arg]) -> i64
+    requires { are_on_board (E.view env.old).meanings.position.size (E.view env.old).meanings.point args.now ≡ true }
+    ensures value { result ≡ call_value (E.view env.old).meanings function
+        (map (E.view env.old).meanings.point args.now) }
+    ensures small { IsWithin most result }
+    ensures stays { Stays (E.view env.old) (E.view env.new) }
+    ensures quiet { is_reading function ≡ false → (E.view env.new).counts ≡ (E.view env.old).counts }
+{
+    match arguments_of(function) {
+        Arguments::Point => match only_point(env, args) {
+            Some(a) => of_point(env, function, a),
+            None => 0,
+        },
+        Arguments::Pair => match two_points(env, args) {
+            Some((a, b)) => of_pair(env, function, a, b),
+            None => 0,
+        },
+        Arguments::Points => of_points(env, function, args),
+        Arguments::Play => of_play(env, function, args),
+    }
+}
