@@ -1,37 +1,74 @@
 -- What a run says where the source tells what it has left and the output what it holds.
-use Rattle.std.proofs.Common.{◌≡◌, ℕ, List, Option, Some, ap}
-use Rattle.session.specs.Headline.{Streams, Came}
+use Rattle.std.proofs.Common.{◌≡◌, ℕ, Bool, List, Option, Some, None, ap}
+use Rattle.gtp_rules.specs.Lines.{RawLine}
+use Rattle.gtp_rules.specs.Steps.{Step}
+use Rattle.run_notes.specs.declared.notes.Counts.{Counts}
+use Rattle.run_notes.specs.declared.notes.Sent.{Sent}
+use Rattle.session.specs.Tallies.{Tally}
+use Rattle.session.specs.Headline.{Streams, ServesLines, Came}
 use Rattle.session.specs.Outcomes.{Phase, NotTaken, NotOpened, Served}
-use Rattle.memory_runs.specs.Told.{Told}
+use Rattle.session.specs.declared.outcome.End.{End}
+use Rattle.memory_runs.specs.Told.{ServesEither, Told}
 
 -- streams that tell their bytes
 abbrev pub telling : List ℕ → ℕ → ℕ → List ℕ → ℕ → Streams
 telling left piece input_faults written output_faults =
-    record { left = Some left; piece = piece; input_faults = input_faults; written = Some written; output_faults = output_faults }
+    record { left = Some left; piece = piece; input_faults = input_faults; written = Some written;
+        output_faults = output_faults }
 
--- streams that are as before have the same left, and hold the same
-as_before : (rest : List ℕ) (piece fault : ℕ) (new : List ℕ) (cut : ℕ) (input : List ℕ) (last hurt : ℕ) (old : List ℕ) (torn : ℕ)
-    → telling rest piece fault new cut ≡ telling input last hurt old torn
-    → (rest ≡ input) × (new ≡ old)
-as_before rest piece fault new cut input last hurt old torn same =
-    let left = ap (λ (s : Streams). s.left) same in
-    let written = ap (λ (s : Streams). s.written) same in
-    (cc, cc)
+-- the streams before a run, and those after it
+module _ (input : List ℕ) (last hurt : ℕ) (old : List ℕ) (torn : ℕ) (rest : List ℕ) (piece fault : ℕ) (new : List ℕ)
+    (cut : ℕ) where
+  -- streams that are as before have the same left, and hold the same
+  as_before : telling rest piece fault new cut ≡ telling input last hurt old torn → (rest ≡ input) × (new ≡ old)
+  as_before same =
+      let left = ap (λ (s : Streams). s.left) same in
+      let written = ap (λ (s : Streams). s.written) same in
+      (cc, cc)
 
--- a run over them says what was taken and put
-pub told : (contents : List ℕ → Option (List ℕ)) (names : List (List ℕ)) (input : List ℕ) (last hurt : ℕ) (old : List ℕ) (torn : ℕ)
-    (rest : List ℕ) (piece fault : ℕ) (new : List ℕ) (cut : ℕ) (phase : Phase)
-    → Came names contents (telling input last hurt old torn) (telling rest piece fault new cut) phase
-    → Told contents names input rest old new piece phase
-told contents names input last hurt old torn rest piece fault new cut NotTaken same = as_before rest piece fault new cut input last hurt old torn same
-told contents names input last hurt old torn rest piece fault new cut (NotOpened error) came =
-    let same = as_before rest piece fault new cut input last hurt old torn came.1 in (came.0, same.0, same.1)
-told contents names input last hurt old torn rest piece fault new cut (Served end) came = record {
-  patterns = came.patterns;
-  opened = came.opened;
-  taken = came.serves.taken;
-  put = came.serves.put;
-  reads = came.serves.reads;
-  writes = came.serves.writes;
-  right = came.serves.right;
-}
+  -- the lines were served, those of the feed or generated ones
+  either : {M : Type 0} (step : M → RawLine → Step M) (asks : M → RawLine → Bool) (first : M) (generate : Option ℕ)
+      (end : End) (tally : Tally)
+      → ServesLines generate step asks first (telling input last hurt old torn)
+      (telling rest piece fault new cut) end tally
+      → ServesEither generate step first input rest old new piece end
+  either step asks first None end tally serves = record {
+    taken = serves.taken;
+    put = tally.out;
+    reads = serves.reads;
+    writes = serves.writes;
+    right = serves.right;
+  }
+  either step asks first (Some n) end tally serves =
+      let left = serves.left in
+      let lines = serves.generated in
+      (
+        cc,
+        (
+          lines.0,
+          lines.1,
+          record {
+            taken = lines.2.taken;
+            put = tally.out;
+            reads = lines.2.reads;
+            writes = lines.2.writes;
+            right = lines.2.right;
+          },
+        ),
+      )
+
+  -- a run over them says what was taken and put
+  pub told : (words : List (List ℕ)) (contents : List ℕ → Option (List ℕ)) (counts : Option Counts)
+      (sent : Option Sent) (phase : Phase)
+      → Came words contents (telling input last hurt old torn) (telling rest piece fault new cut) counts sent phase
+      → Told words contents input rest old new piece phase
+  told words contents counts sent NotTaken came = let same = as_before came.1.streams in (came.0, same.0, same.1)
+  told words contents counts sent (NotOpened error) came = let same = as_before came.1.streams in
+      (came.0, same.0, same.1)
+  told words contents counts sent (Served end) came = record {
+    options = came.0;
+    given = came.1;
+    patterns = came.2.patterns;
+    opened = came.2.opened;
+    serves = either _ _ _ came.0.generate end came.2.tally came.2.serves;
+  }

@@ -1,27 +1,54 @@
 -- What a run over objects in memory says.
-use Rattle.std.specs.Prelude.{◌≡◌, ℕ, List, ◌++◌, Option, Some}
+use Rattle.std.specs.Prelude.{◌≡◌, ℕ, false, List, ◌++◌, Option, Some, None}
+use Rattle.gtp_rules.specs.Lines.{RawLine}
+use Rattle.gtp_rules.specs.Steps.{Step}
+use Rattle.go_options.specs.CommandLine.{is_taken}
+use Rattle.go_options.specs.declared.options.Options.{Options}
+use Rattle.workload.specs.GeneratedLines.{generated_text}
 use Rattle.pat_types.specs.declared.pattern.Pattern.{Pattern}
 use Rattle.session.specs.Answering.{step}
 use Rattle.session.specs.Machine.{first_machine}
 use Rattle.session.specs.Matcher.{plain_matcher}
-use Rattle.session.specs.Opening.{most_states, IsOpened, IsRefused}
+use Rattle.session.specs.Opening.{IsOpened}
 use Rattle.session.specs.Outcomes.{Phase, NotTaken, NotOpened, Served}
-use Rattle.session.specs.Headline.{IsRight}
+use Rattle.session.specs.Headline.{GiveOptions, IsUnopened, IsRight}
 use Rattle.session.specs.declared.outcome.End.{End}
 
--- the files were opened, a front of the input was taken, and bytes were put behind those that the page held, as the end says; rest
--- is what the feed has left, and piece how many bytes it gave last
-pub record ServesInMemory (contents : List ℕ → Option (List ℕ)) (names : List (List ℕ)) (input rest old new : List ℕ) (piece : ℕ) (end : End) : Type 0 where
-  pub patterns : List Pattern
-  pub opened : IsOpened contents names most_states patterns
+-- a front of the input was taken, so that rest is left and piece bytes came last, and bytes were put behind the old
+-- ones, as the end says
+pub record ServesBytes {M : Type 0} (step : M → RawLine → Step M) (first : M) (input rest old new : List ℕ) (piece : ℕ)
+    (end : End) : Type 0 where
   pub taken : List ℕ
   pub put : List ℕ
   pub reads : input ≡ taken ++ rest
   pub writes : new ≡ old ++ put
-  pub right : IsRight (step (plain_matcher patterns)) first_machine (Some rest) taken put piece end
+  pub right : IsRight step first (Some rest) taken put piece end
+
+-- the bytes of the feed were served, or where so many lines are to be generated, the bytes of these, and the feed was
+-- left alone
+abbrev pub ServesEither : {M : Type 0} → Option ℕ → (M → RawLine → Step M) → M → List ℕ → List ℕ → List ℕ → List ℕ
+    → ℕ → End → Type 0
+ServesEither None step first input rest old new piece end = ServesBytes step first input rest old new piece end
+ServesEither (Some n) step first input rest old new piece end =
+    (rest ≡ input) × ((unread : List ℕ) × (last : ℕ) × ServesBytes step first
+        (generated_text n) unread old new last end)
+
+-- the words gave options, the files were opened, and the lines were served by the plain machine; rest is what the
+-- feed has left, and piece how many bytes it gave last
+pub record ServesInMemory (words : List (List ℕ)) (contents : List ℕ → Option (List ℕ))
+    (input rest old new : List ℕ) (piece : ℕ)
+    (end : End) : Type 0 where
+  pub options : Options
+  pub given : GiveOptions words options
+  pub patterns : List Pattern
+  pub opened : IsOpened contents options.files options.states patterns
+  pub serves : ServesEither options.generate (step (plain_matcher patterns))
+      (first_machine options.depth options.branch)
+      input rest old new piece end
 
 -- by how far a run came: before the lines nothing was taken and nothing put
-abbrev pub Told : (List ℕ → Option (List ℕ)) → List (List ℕ) → List ℕ → List ℕ → List ℕ → List ℕ → ℕ → Phase → Type 0
-Told contents names input rest old new piece NotTaken = (rest ≡ input) × (new ≡ old)
-Told contents names input rest old new piece (NotOpened error) = IsRefused contents names most_states error × (rest ≡ input) × (new ≡ old)
-Told contents names input rest old new piece (Served end) = ServesInMemory contents names input rest old new piece end
+abbrev pub Told : List (List ℕ) → (List ℕ → Option (List ℕ)) → List ℕ → List ℕ → List ℕ → List ℕ → ℕ → Phase → Type 0
+Told words contents input rest old new piece NotTaken = (is_taken words ≡ false) × (rest ≡ input) × (new ≡ old)
+Told words contents input rest old new piece (NotOpened error) = IsUnopened words contents error × (rest ≡ input)
+    × (new ≡ old)
+Told words contents input rest old new piece (Served end) = ServesInMemory words contents input rest old new piece end

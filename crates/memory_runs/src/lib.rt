@@ -1,7 +1,7 @@
 //! Runs over objects in memory: what the contract of the top call says there, and the worked sessions as tests.
 //!
-//! A feed tells the bytes that it has left and a page those that it holds, so over these the contract names the bytes, and a shelf
-//! tells the contents of its files. Over objects that never fail no fault is told.
+//! A feed tells the bytes that it has left and a page those that it holds, so over these the contract names the
+//! bytes, and a shelf tells the contents of its files. Over objects that never fail no fault is told.
 #![tactic(auto)]
 
 ghost use Rattle.std.specs.Prelude.{◌≢◌, map, string_bytes};
@@ -21,7 +21,7 @@ pub fn run_in_memory(
     feed: &mut Feed,
     page: &mut Page,
 ) -> Outcome
-    ensures { Told (named shelf.old.names shelf.old.contents) (map string_bytes words.now) feed.old.left feed.new.left
+    ensures { Told (map string_bytes words.now) (named shelf.old.names shelf.old.contents) feed.old.left feed.new.left
         page.old.written page.new.written feed.new.piece (phase_of result) }
 {
     run(alloc, words, shelf, feed, page, &mut SurePage::new())

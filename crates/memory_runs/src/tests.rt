@@ -3,6 +3,7 @@ use crate::sessions::{File, SESSIONS};
 use crate::{run_in_memory, run_surely};
 use db_read::read;
 use dfa_join::compile;
+use go_options::read_options;
 use gtp_io::{Feed, Page, Shelf, SureFeed, SurePage, SureShelf};
 use gtp_lex::Raw;
 use pat_types::Pattern;
@@ -15,7 +16,7 @@ use std::test::Fail;
 const PIECE: usize = 4096;
 
 /// Room for the replies of every session.
-const ROOM: usize = 4096;
+const ROOM: usize = 65_536;
 
 /// The longest session has fewer calls than this, also where each call moves one byte.
 const MANY_CALLS: u64 = 400;
@@ -56,9 +57,12 @@ fn once(alloc: Global, call: u64) -> Result<Vec<u64>, Fail> {
     Ok(list)
 }
 
-/// The words of a command line that names these files.
-fn words(alloc: Global, files: &[File]) -> Result<Vec<String>, Fail> {
+/// The words of a command line with these options that names these files.
+fn words(alloc: Global, options: &[&str], files: &[File]) -> Result<Vec<String>, Fail> {
     let mut words = Vec::new(alloc);
+    for option in options {
+        words.push(String::from_str(alloc, option)?)?;
+    }
     for file in files {
         words.push(String::from_str(alloc, file.name)?)?;
     }
@@ -67,7 +71,7 @@ fn words(alloc: Global, files: &[File]) -> Result<Vec<String>, Fail> {
 
 /// A shelf that holds these files, and fails at a call, if one is to fail.
 fn shelf(rt: &impl Abort, alloc: Global, files: &[File], fails: u64) -> Result<Shelf, Fail> {
-    let names = words(alloc, files)?;
+    let names = words(alloc, &[], files)?;
     let mut contents = Vec::new(alloc);
     for file in files {
         contents.push(Vec::from_slice(alloc, file.text)?)?;
@@ -77,12 +81,24 @@ fn shelf(rt: &impl Abort, alloc: Global, files: &[File], fails: u64) -> Result<S
 }
 
 fn go(rt: &impl Abort, alloc: Global, files: &[File], input: &[u8], way: Way) -> Result<Ran, Fail> {
+    go_with(rt, alloc, &[], files, input, way)
+}
+
+/// The same with options before the names of the files.
+fn go_with(
+    rt: &impl Abort,
+    alloc: Global,
+    options: &[&str],
+    files: &[File],
+    input: &[u8],
+    way: Way,
+) -> Result<Ran, Fail> {
     assert!(rt; way.piece > 0, "a call moves some bytes");
     let bytes = Vec::from_slice(alloc, input)?;
     let mut feed = Feed::new(bytes, way.piece, once(alloc, way.source_fails)?);
     let mut output = Page::new(alloc, ROOM, way.piece, once(alloc, way.sink_fails)?)?;
     let mut notes = Page::new(alloc, ROOM, way.piece, once(alloc, way.notes_fail)?)?;
-    let words = words(alloc, files)?;
+    let words = words(alloc, options, files)?;
     let mut shelf = shelf(rt, alloc, files, way.loader_fails)?;
     let outcome = run(
         alloc,
@@ -518,6 +534,210 @@ fn refused_files_are_told_before_the_first_line(rt: HostRuntime) -> Result<(), F
     Ok(())
 }
 
+/// The smallest pattern, with seven states.
+const SMALLEST: &[File] = &[File {
+    name: "p",
+    text: b"Pattern P\nO*\n:8,s\n",
+}];
+
+/// A stone in atari at D4, and a question about it.
+const IN_ATARI: &[u8] = b"boardsize 9\nplay b D4\nplay w C4\nplay w E4\nplay w D5\ndefend D4\n";
+
+/// Runs with options: what they show, the files, the input and how the objects go; the exit status, the output, the notes and how
+/// many bytes are left of the input.
+const OPTION_RUNS: [(
+    &str,
+    &[&str],
+    &[File],
+    &[u8],
+    Way,
+    u8,
+    &[u8],
+    &[u8],
+    usize,
+); 13] = [
+    (
+        "one generated line, and the input is left alone",
+        &["--generate", "1"],
+        &[],
+        b"name\n",
+        WHOLE,
+        0,
+        b"=\n\n=\n\n=\n\n",
+        b"lines 3 bytes 9\n",
+        5,
+    ),
+    (
+        "two generated lines, with counts",
+        &["--stats", "--generate", "2"],
+        &[],
+        b"name\n",
+        WHOLE,
+        0,
+        b"=\n\n=\n\n=\n\n=\n\n",
+        b"readings 0 fresh 0 trials 0 refused 0\nlines 4 bytes 12\n",
+        5,
+    ),
+    (
+        "a source that would fail is not called",
+        &["--generate", "1"],
+        &[],
+        b"name\n",
+        Way { source_fails: 1, ..WHOLE },
+        0,
+        b"=\n\n=\n\n=\n\n",
+        b"lines 3 bytes 9\n",
+        5,
+    ),
+    (
+        "a reply that is cut off is no line that was sent",
+        &["--generate", "1"],
+        &[],
+        b"",
+        Way { piece: 1, sink_fails: 8, ..WHOLE },
+        5,
+        b"=\n\n=\n\n=",
+        b"lines 2 bytes 7\noutput failed\n",
+        0,
+    ),
+    (
+        "notes that fail",
+        &["--generate", "1"],
+        &[],
+        b"",
+        Way { notes_fail: 1, ..WHOLE },
+        0,
+        b"=\n\n=\n\n=\n\n",
+        b"",
+        0,
+    ),
+    (
+        "no plies",
+        &["--depth", "0"],
+        &[],
+        b"name\n",
+        WHOLE,
+        2,
+        b"",
+        b"usage: gopat [options] [file ...]\n",
+        5,
+    ),
+    (
+        "a word that begins with a hyphen",
+        &["-h"],
+        &[],
+        b"name\n",
+        WHOLE,
+        2,
+        b"",
+        b"usage: gopat [options] [file ...]\n",
+        5,
+    ),
+    (
+        "as many states as there may be",
+        &["--states", "7"],
+        SMALLEST,
+        b"name\n",
+        WHOLE,
+        0,
+        b"= gopat\n\n",
+        b"",
+        0,
+    ),
+    (
+        "one state too many",
+        &["--states=6"],
+        SMALLEST,
+        b"name\n",
+        WHOLE,
+        7,
+        b"",
+        b"too many states: limit 6\n",
+        5,
+    ),
+    (
+        "twelve states of two patterns",
+        &["--states", "12"],
+        TWO_FILES,
+        b"name\n",
+        WHOLE,
+        0,
+        b"= gopat\n\n",
+        b"",
+        0,
+    ),
+    (
+        "one of twelve too many",
+        &["--states", "11"],
+        TWO_FILES,
+        b"name\n",
+        WHOLE,
+        7,
+        b"",
+        b"too many states: limit 11\n",
+        5,
+    ),
+    (
+        "with three plies the stone runs out",
+        &["--depth", "3", "--branch", "2"],
+        &[],
+        IN_ATARI,
+        WHOLE,
+        0,
+        b"=\n\n=\n\n=\n\n=\n\n=\n\n= 3 D3\n\n",
+        b"",
+        0,
+    ),
+    (
+        "with one ply the pass is enough, however many are wide",
+        &["--depth", "1", "--branch", "3"],
+        &[],
+        IN_ATARI,
+        WHOLE,
+        0,
+        b"=\n\n=\n\n=\n\n=\n\n=\n\n= 3 PASS\n\n",
+        b"",
+        0,
+    ),
+];
+
+// Generated runs, their first lines, the ranges of the options, the limit of states, and what goes out where an object fails.
+#[test]
+fn options_have_their_effect(rt: HostRuntime) -> Result<(), Fail> {
+    for (what, options, files, input, way, status, output, notes, left) in OPTION_RUNS {
+        let ran = go_with(&rt, rt.alloc(), options, files, input, way)?;
+        assert_eq!(rt; ran.outcome.code(), status, "{what}");
+        assert_eq!(rt; ran.output.bytes(), output, "{what}");
+        assert_eq!(rt; ran.notes.bytes(), notes, "{what}");
+        assert_eq!(rt; ran.left, left, "{what}");
+    }
+    Ok(())
+}
+
+// A refused question counts nothing; each that is answered with a code is read afresh, and tries some moves here.
+#[test]
+fn readings_are_counted(rt: HostRuntime) -> Result<(), Fail> {
+    let input = b"boardsize 9\ndepths 3 2\nplay b D4\nplay w C4\nplay w E4\nplay w D5\nattack D4\nattack E5\nattack D4\n";
+    let ran = go_with(&rt, rt.alloc(), &["--stats"], &[], input, WHOLE)?;
+    assert_eq!(rt; ran.outcome, Outcome::Done);
+    assert!(rt; ran.notes.bytes().starts_with(b"readings 2 fresh 2 trials "));
+    assert!(rt; !ran.notes.bytes().starts_with(b"readings 2 fresh 2 trials 0"));
+    assert!(rt; ran.notes.bytes().ends_with(b" refused 0\n"));
+    Ok(())
+}
+
+#[test]
+fn long_generated_run_repeats(rt: HostRuntime) -> Result<(), Fail> {
+    let options = ["--stats", "--generate", "2000"];
+    let first = go_with(&rt, rt.alloc(), &options, &[], b"", WHOLE)?;
+    let second = go_with(&rt, rt.alloc(), &options, &[], b"", WHOLE)?;
+    assert_eq!(rt; first.outcome, Outcome::Done);
+    assert_eq!(rt; second.outcome, Outcome::Done);
+    assert_eq!(rt; first.output.bytes(), second.output.bytes());
+    assert_eq!(rt; first.notes.bytes(), second.notes.bytes());
+    Ok(())
+}
+
 /// The patterns of a text.
 fn patterns_of(alloc: Global, text: &[u8]) -> Result<Vec<Pattern>, Fail> {
     match read(alloc, text, &[], Vec::new(alloc)) {
@@ -537,7 +757,10 @@ fn session_by_another(alloc: Global) -> Result<Session, Fail> {
     let Ok(machine) = compile(alloc, &others, 100) else {
         return Err(Fail::from("the pattern has few states"));
     };
-    Ok(Session::new(alloc, patterns, machine)?)
+    let Ok(options) = read_options(alloc, &[]) else {
+        return Err(Fail::from("no words are options"));
+    };
+    Ok(Session::new(alloc, patterns, machine, &options)?)
 }
 
 // The automaton asks for an enemy's stone where the pattern has a friend's.

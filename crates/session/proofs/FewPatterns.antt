@@ -31,15 +31,18 @@ first-fails false b k l none = refl
 -- a Pattern line without a fault stands behind fewer entries
 pattern_fault-few : (n : ℕ) (line : List ℕ) → pattern_fault n line ≡ None → n < most_patterns
 unfolding pattern_fault
-pattern_fault-few n line none = let test : leb most_patterns n ≡ false = first-fails (leb most_patterns n) _ _ _ none in grind (arith, nat_tests)
+pattern_fault-few n line none = let test : leb most_patterns n ≡ false = first-fails
+    (leb most_patterns n) _ _ _ none in grind (arith, nat_tests)
 
 -- a change of a block makes no other one
-length-changed : (done : List Block) (f : Block → Block) (now : Option Block) → length (done ++ option_to_list (option_map f now)) ≡ length (done ++ option_to_list now)
+length-changed : (done : List Block) (f : Block → Block) (now : Option Block) → length
+    (done ++ option_to_list (option_map f now)) ≡ length (done ++ option_to_list now)
 length-changed done f None = refl
 length-changed done f (Some b) = length-append done (f b ∷ []) ∙ sym (length-append done (b ∷ []))
 
 -- a change of the block that may go on keeps blocks few
-changed-few : (done : List Block) (f : Block → Block) (now : Option Block) → length (done ++ option_to_list now) ≤ most_patterns
+changed-few : (done : List Block) (f : Block → Block) (now : Option Block) → length
+    (done ++ option_to_list now) ≤ most_patterns
     → length (done ++ option_to_list (option_map f now)) ≤ most_patterns
 changed-few done f now few = subst (λ n. n ≤ most_patterns) (sym (length-changed done f now)) few
 
@@ -52,9 +55,11 @@ other-few s line Expression few = few
 other-few s line Actions few = few
 
 -- a line without a fault keeps blocks few, by its kind
-placed-few : (helpers : List (List ℕ)) (s : SoFar) (line : KeptLine) (next : Stage) (kind : LineKind) → Few s → own_fault helpers s line kind ≡ None → Few (placed line next s kind)
+placed-few : (helpers : List (List ℕ)) (s : SoFar) (line : KeptLine) (next : Stage) (kind : LineKind) → Few s
+    → own_fault helpers s line kind ≡ None → Few (placed line next s kind)
 placed-few helpers s line next Pattern few none =
-    let one_more : length (blocks_of s ++ begun_with line ∷ []) ≡ length (blocks_of s) + 1 = length-append (blocks_of s) (begun_with line ∷ []) in
+    let one_more : length (blocks_of s ++ begun_with line ∷ []) ≡ length (blocks_of s) + 1 = length-append
+        (blocks_of s) (begun_with line ∷ []) in
     let room = pattern_fault-few (length (blocks_of s)) line.bytes none in
     omega (arith, one_more, room)
 placed-few helpers s line next Colon few none = changed-few s.done _ s.now few
@@ -71,22 +76,27 @@ at_line-none number (Some k) none = absurd cc
 found-own : (helpers : List (List ℕ)) (s : SoFar) (line : KeptLine) → found helpers s line ≡ None
     → (next : Stage) × (cell_for s.stage line ≡ Next next) × (own_fault helpers s line (kind_of line.bytes) ≡ None)
 unfolding found
-found-own helpers s line none = by_bad line.is_bad (closing_fault line.number (Some (kind_of line.bytes)) s) (cell_for s.stage line) refl none
+found-own helpers s line none = by_bad line.is_bad (closing_fault line.number (Some (kind_of line.bytes)) s)
+    (cell_for s.stage line) refl none
   where
     by_bad : (bad : Bool) (closing : Option Fault) (cell : TableCell) → cell_for s.stage line ≡ cell
-        → cond bad (Some (record { line = line.number; kind = 1 })) (or_else closing (at_line line.number (table_fault helpers s line cell))) ≡ None
+        → cond bad (Some (record { line = line.number; kind = 1 }))
+        (or_else closing (at_line line.number (table_fault helpers s line cell))) ≡ None
         → (next : Stage) × (cell_for s.stage line ≡ Next next) × (own_fault helpers s line (kind_of line.bytes) ≡ None)
     by_bad true closing cell is h = absurd cc
     by_bad false (Some f) cell is h = absurd cc
-    by_bad false None (Next next) is h = (next, is, at_line-none line.number (own_fault helpers s line (kind_of line.bytes)) h)
+    by_bad false None (Next next) is h = (next, is, at_line-none line.number
+        (own_fault helpers s line (kind_of line.bytes)) h)
     by_bad false None (Refused kind) is h = absurd cc
 
 -- a line without a fault keeps blocks few
-after_line-few : (helpers : List (List ℕ)) (s : SoFar) (line : KeptLine) → Few s → found helpers s line ≡ None → Few (after_line s line)
+after_line-few : (helpers : List (List ℕ)) (s : SoFar) (line : KeptLine) → Few s → found helpers s line ≡ None → Few
+    (after_line s line)
 unfolding after_line
 after_line-few helpers s line few none =
     let own = found-own helpers s line none in
-    subst (λ cell. Few (with_cell s line cell)) (sym own.1) (placed-few helpers s line own.0 (kind_of line.bytes) few own.2)
+    subst (λ cell. Few (with_cell s line cell)) (sym own.1)
+        (placed-few helpers s line own.0 (kind_of line.bytes) few own.2)
 
 -- of two faults there is neither
 neither : (a b : Option Fault) → or_else a b ≡ None → (a ≡ None) × (b ≡ None)
@@ -94,7 +104,8 @@ neither None b none = (refl, none)
 neither (Some a) b none = absurd cc
 
 -- lines without a fault keep blocks few
-walk-few : (helpers : List (List ℕ)) (end : ℕ) (s : SoFar) (lines : List KeptLine) → Few s → walk helpers end s lines ≡ None → Few (fold after_line s lines)
+walk-few : (helpers : List (List ℕ)) (end : ℕ) (s : SoFar) (lines : List KeptLine) → Few s
+    → walk helpers end s lines ≡ None → Few (fold after_line s lines)
 unfolding walk
 walk-few helpers end s [] few none = few
 walk-few helpers end s (line ∷ lines) few none =
@@ -102,21 +113,26 @@ walk-few helpers end s (line ∷ lines) few none =
     walk-few helpers end (after_line s line) lines (after_line-few helpers s line few both.0) both.1
 
 -- a text without a fault has few entries
-pub few_entries : (helpers : List (List ℕ)) (text : List ℕ) → first_fault helpers text ≡ None → length (entries text) ≤ most_patterns
+pub few_entries : (helpers : List (List ℕ)) (text : List ℕ) → first_fault helpers text ≡ None → length
+    (entries text) ≤ most_patterns
 unfolding entries so_far
 few_entries helpers text none =
     let start : Few at_start = omega arith in
-    let few = walk-few helpers (end_number text) at_start (kept_lines text) start (sym (first_fault-walk helpers text) ∙ none) in
-    subst (λ n. n ≤ most_patterns) (sym (length-map (blocks_of (fold after_line at_start (kept_lines text))) entry_of_block)) few
+    let few = walk-few helpers (end_number text) at_start (kept_lines text) start
+        (sym (first_fault-walk helpers text) ∙ none) in
+    subst (λ n. n ≤ most_patterns) (sym (length-map
+        (blocks_of (fold after_line at_start (kept_lines text))) entry_of_block)) few
 
 -- so have patterns that are its entries
-pub few_patterns : {A : Type 0} (f : A → Entry) (patterns : List A) (text : List ℕ) → first_fault [] text ≡ None → map f patterns ≡ entries text
+pub few_patterns : {A : Type 0} (f : A → Entry) (patterns : List A) (text : List ℕ) → first_fault [] text ≡ None
+    → map f patterns ≡ entries text
     → length patterns ≤ most_patterns
 few_patterns f patterns text none spelled =
     subst (λ n. n ≤ most_patterns) (ap length (sym spelled) ∙ length-map patterns f) (few_entries [] text none)
 
 -- so has what was read of a text without a fault
 pub few_read : {V A E : Type 0} (items : V → List A) (f : A → Entry) (result : Result V E) (text : List ℕ)
-    → IfOk result (λ v. (first_fault [] text ≡ None) × (map f (items v) ≡ entries text)) → IfOk result (λ v. length (items v) ≤ most_patterns)
+    → IfOk result (λ v. (first_fault [] text ≡ None) × (map f (items v) ≡ entries text)) → IfOk result
+    (λ v. length (items v) ≤ most_patterns)
 few_read items f (Ok v) text read = few_patterns f (items v) text read.0 read.1
 few_read items f (Err e) text read = tt

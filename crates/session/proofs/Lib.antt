@@ -3,9 +3,11 @@ pub mod Said
 pub mod Playing
 pub mod Replied
 pub mod Soundness
+pub mod Tallying
 pub mod ServeLemmas
 pub mod Served
 pub mod LineTexts
 pub mod OpeningLemmas
 pub mod FewPatterns
 pub mod Finding
+pub mod Running

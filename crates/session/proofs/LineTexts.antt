@@ -30,13 +30,15 @@ pattern_starts p =
     )
 
 -- the text of a match begins with some byte
-match_starts : (patterns : List Pattern) (s : ℕ) (z : Match) → (c : ℕ) × (cs : List ℕ) × (match_text patterns s z ≡ c ∷ cs)
+match_starts : (patterns : List Pattern) (s : ℕ) (z : Match) → (c : ℕ) × (cs : List ℕ)
+    × (match_text patterns s z ≡ c ∷ cs)
 match_starts patterns s z =
     let named = some_first (name_of (slice_get patterns z.pattern)) 32 [] in
     (named.0, _, ap (λ l. l ++ decimal z.transform ++ codes " " ++ vertex_text s z.at) named.2)
 
 -- Things whose texts begin with some byte, one a line.
-module _ {A : Type 0} (text_of : A → List ℕ) (text_starts : (x : A) → (c : ℕ) × (cs : List ℕ) × (text_of x ≡ c ∷ cs)) where
+module _ {A : Type 0} (text_of : A → List ℕ)
+    (text_starts : (x : A) → (c : ℕ) × (cs : List ℕ) × (text_of x ≡ c ∷ cs)) where
   -- the lines
   abbrev lines : List A → List ℕ
   lines xs = join_with_byte line_feed (map text_of xs)
@@ -60,19 +62,23 @@ module _ {A : Type 0} (text_of : A → List ℕ) (text_starts : (x : A) → (c :
       ∙ ap (λ b. (text ++ b) ++ text_of x) (sym (feed_after-some text starts.0 starts.1 starts.2))
 
   -- the lines so far, and the next one
-  lines-next : (xs : List A) (i : ℕ) (x : A) (text new : List ℕ) → i < length xs → x ≡ get_or xs i x → text ≡ lines (take i xs)
+  lines-next : (xs : List A) (i : ℕ) (x : A) (text new : List ℕ) → i < length xs → x ≡ get_or xs i x → text ≡ lines
+      (take i xs)
       → new ≡ text ++ feed_after text ++ text_of x → new ≡ lines (take (i + 1) xs)
   lines-next xs i x text new within is so_far put =
       put ∙ ap (λ t. t ++ feed_after t ++ text_of x) so_far ∙ sym (one_line_more (take i xs) x)
       ∙ ap (λ y. lines (take i xs ++ y ∷ [])) is ∙ ap lines (sym (take_more xs i x within))
 
 -- the patterns so far, and the next one
-pub patterns-next : (ps : List Pattern) (i : ℕ) (p : Pattern) (text new : List ℕ) → i < length ps → p ≡ get_or ps i p → text ≡ patterns_text (take i ps)
+pub patterns-next : (ps : List Pattern) (i : ℕ) (p : Pattern) (text new : List ℕ) → i < length ps → p
+    ≡ get_or ps i p → text ≡ patterns_text (take i ps)
     → new ≡ text ++ feed_after text ++ pattern_text p → new ≡ patterns_text (take (i + 1) ps)
 patterns-next ps i p text new within is so_far put = lines-next pattern_text pattern_starts ps i p text new within is so_far put
 
 -- the matches so far, and the next one
-pub matches-next : (patterns : List Pattern) (s : ℕ) (zs : List Match) (i : ℕ) (z : Match) (text new : List ℕ) → i < length zs → z ≡ get_or zs i z
-    → text ≡ matches_text patterns s (take i zs) → new ≡ text ++ feed_after text ++ match_text patterns s z → new ≡ matches_text patterns s (take (i + 1) zs)
+pub matches-next : (patterns : List Pattern) (s : ℕ) (zs : List Match) (i : ℕ) (z : Match) (text new : List ℕ)
+    → i < length zs → z ≡ get_or zs i z
+    → text ≡ matches_text patterns s (take i zs) → new ≡ text ++ feed_after text ++ match_text patterns s z → new
+    ≡ matches_text patterns s (take (i + 1) zs)
 matches-next patterns s zs i z text new within is so_far put =
     lines-next (match_text patterns s) (match_starts patterns s) zs i z text new within is so_far put

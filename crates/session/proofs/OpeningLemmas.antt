@@ -16,12 +16,14 @@ use Rattle.session.specs.declared.outcome.OpenError.{OpenError}
 use Rattle.session.specs.declared.outcome.OpenError.TheVariants as opening
 
 -- what was loaded stands behind the bytes that were handed in
-loaded : (contents : Option (List ℕ)) (into bytes : List ℕ) → IsLoaded contents into bytes → (more : List ℕ) × IsContents contents more × (bytes ≡ into ++ more)
+loaded : (contents : Option (List ℕ)) (into bytes : List ℕ) → IsLoaded contents into bytes → (more : List ℕ)
+    × IsContents contents more × (bytes ≡ into ++ more)
 loaded None into bytes is = (is.0, tt, is.1)
 loaded (Some told) into bytes is = (told, refl, is)
 
 -- the contents of a file were loaded behind a text, and the line feed that they need was put
-pub Adds-loaded : (contents : Option (List ℕ)) (into bytes new : List ℕ) → IsLoaded contents into bytes → new ≡ bytes ++ added_feed (drop (length into) bytes)
+pub Adds-loaded : (contents : Option (List ℕ)) (into bytes new : List ℕ) → IsLoaded contents into bytes → new
+    ≡ bytes ++ added_feed (drop (length into) bytes)
     → Adds contents into new
 Adds-loaded contents into bytes new is fed =
     let more = loaded contents into bytes is in
@@ -29,32 +31,41 @@ Adds-loaded contents into bytes new is fed =
     record {
       text = more.0;
       told = more.1;
-      added = fed ∙ ap (λ l. bytes ++ added_feed l) behind ∙ ap (λ l. l ++ added_feed more.0) more.2 ∙ append_assoc into more.0 (added_feed more.0);
+      added = fed ∙ ap (λ l. bytes ++ added_feed l) behind ∙ ap (λ l. l ++ added_feed more.0) more.2
+          ∙ append_assoc into more.0 (added_feed more.0);
     }
 
 -- one file more
-AreContents-next : (contents : List ℕ → Option (List ℕ)) (names texts : List (List ℕ)) (name text : List ℕ) → AreContents contents names texts
+AreContents-next : (contents : List ℕ → Option (List ℕ)) (names texts : List (List ℕ)) (name text : List ℕ)
+    → AreContents contents names texts
     → IsContents (contents name) text → AreContents contents (names ++ name ∷ []) (texts ++ text ∷ [])
 AreContents-next contents [] [] name text so_far told = (told, tt)
 AreContents-next contents [] (t ∷ texts) name text so_far told = absurd so_far
 AreContents-next contents (n ∷ names) [] name text so_far told = absurd so_far
-AreContents-next contents (n ∷ names) (t ∷ texts) name text so_far told = (so_far.0, AreContents-next contents names texts name text so_far.1 told)
+AreContents-next contents (n ∷ names) (t ∷ texts) name text so_far told =
+    (so_far.0, AreContents-next contents names texts name text so_far.1 told)
 
 -- the text of one file more
-joined_text-next : (texts : List (List ℕ)) (text : List ℕ) → joined_text (texts ++ text ∷ []) ≡ joined_text texts ++ ended text
-joined_text-next texts text = flat_map-append ended texts (text ∷ []) ∙ ap (λ l. joined_text texts ++ l) (append-nil (ended text))
+joined_text-next : (texts : List (List ℕ)) (text : List ℕ) → joined_text (texts ++ text ∷ []) ≡ joined_text texts
+    ++ ended text
+joined_text-next texts text = flat_map-append ended texts (text ∷ []) ∙ ap (λ l. joined_text texts ++ l)
+    (append-nil (ended text))
 
 -- the files so far, and the next one
-pub IsJoined-next : {A : Type 0} (f : A → List ℕ) (contents : List ℕ → Option (List ℕ)) (words : List A) (i : ℕ) (word : A) (text new : List ℕ) → i < length words
-    → word ≡ get_or words i word → IsJoined contents (map f (take i words)) text → Adds (contents (f word)) text new → IsJoined contents (map f (take (i + 1) words)) new
+pub IsJoined-next : {A : Type 0} (f : A → List ℕ) (contents : List ℕ → Option (List ℕ)) (words : List A) (i : ℕ)
+    (word : A) (text new : List ℕ) → i < length words
+    → word ≡ get_or words i word → IsJoined contents (map f (take i words)) text → Adds (contents (f word)) text new
+    → IsJoined contents (map f (take (i + 1) words)) new
 IsJoined-next f contents words i word text new within is so_far adds =
     let names : map f (take (i + 1) words) ≡ map f (take i words) ++ f word ∷ [] =
-    ap (map f) (take_more words i word within) ∙ map-append f (take i words) (get_or words i word ∷ []) ∙ ap (λ w. map f (take i words) ++ f w ∷ []) (sym is) in
+    ap (map f) (take_more words i word within) ∙ map-append f (take i words) (get_or words i word ∷ []) ∙ ap
+        (λ w. map f (take i words) ++ f w ∷ []) (sym is) in
     record {
       texts = so_far.texts ++ adds.text ∷ [];
       told = subst (λ l. AreContents contents l (so_far.texts ++ adds.text ∷ [])) (sym names)
           (AreContents-next contents (map f (take i words)) so_far.texts (f word) adds.text so_far.told adds.told);
-      joined = adds.added ∙ ap (λ l. l ++ ended adds.text) so_far.joined ∙ sym (joined_text-next so_far.texts adds.text);
+      joined = adds.added ∙ ap (λ l. l ++ ended adds.text) so_far.joined ∙ sym
+          (joined_text-next so_far.texts adds.text);
     }
 
 -- Why files were not opened.
@@ -65,13 +76,15 @@ module _ (contents : List ℕ → Option (List ℕ)) (names : List (List ℕ)) (
   refused-unloaded load.NoMemory = tt
 
   -- the joined text is no database
-  pub refused-unread : (text : List ℕ) (cause : DbError) → IsJoined contents names text → BlamesAt cause (first_fault [] text)
+  pub refused-unread : (text : List ℕ) (cause : DbError) → IsJoined contents names text → BlamesAt cause
+      (first_fault [] text)
       → IsRefused contents names most (unread cause)
   refused-unread text (db.Fault line kind) joined blames = record { text = text; joined = joined; fault = blames }
   refused-unread text db.NoMemory joined blames = tt
 
   -- the patterns have too many states, or there was no memory
-  pub refused-states : (patterns : List Pattern) (error : OpenError) → IsDatabase contents names patterns → RefusesStates patterns most error
+  pub refused-states : (patterns : List Pattern) (error : OpenError) → IsDatabase contents names patterns
+      → RefusesStates patterns most error
       → IsRefused contents names most error
   refused-states patterns opening.FileFault database refuses = tt
   refused-states patterns (opening.BadDatabase line kind) database refuses = absurd refuses
@@ -82,7 +95,8 @@ module _ (contents : List ℕ → Option (List ℕ)) (names : List (List ℕ)) (
 -- Which names are missed then.
 module _ (names before now : List (List ℕ)) where
   -- a file could not be loaded
-  pub missed-unloaded : (cause : LoadError) → MissedBy names before now cause → MissedIn names before now (unloaded cause)
+  pub missed-unloaded : (cause : LoadError) → MissedBy names before now cause → MissedIn names before now
+      (unloaded cause)
   missed-unloaded load.Failed missed = missed
   missed-unloaded load.NoMemory missed = missed
 
@@ -92,7 +106,8 @@ module _ (names before now : List (List ℕ)) where
   missed-unread db.NoMemory same = same
 
   -- every file was loaded, and the patterns were refused
-  pub missed-states : (patterns : List Pattern) (most : ℕ) (error : OpenError) → RefusesStates patterns most error → now ≡ before
+  pub missed-states : (patterns : List Pattern) (most : ℕ) (error : OpenError) → RefusesStates patterns most error
+      → now ≡ before
       → MissedIn names before now error
   missed-states patterns most opening.FileFault refuses same = absurd refuses
   missed-states patterns most (opening.BadDatabase line kind) refuses same = same

@@ -1,10 +1,15 @@
 -- A reply as it is put on the output.
-use Rattle.std.proofs.Common.{◌≡◌, ℕ, Bool, List, Option, refl, sym, subst, ◌∙◌, inl, inr}
+use Rattle.std.proofs.Common.{◌≡◌, ℕ, Bool, true, false, List, [], length, Option, refl, sym, ap, subst, ◌∙◌, inl, inr}
 use Rattle.std.specs.Io.KnownBytes.{Appends}
 use Rattle.gtp_rules.specs.Lines.{RawLine}
 use Rattle.gtp_rules.specs.Steps.{Step}
 use Rattle.gtp_rules.specs.Transcript.{MayGive, Answers}
-use Rattle.session.specs.Serving.{PutsPart, RepliesPart, Replies}
+use Rattle.std.proofs.KnownBytes.{Appends-nil}
+use Rattle.run_notes.specs.declared.notes.Sent.{Sent}
+use Rattle.session.specs.Kept.{Kept, machine_of, step_of}
+use Rattle.session.specs.Counting.{counted, is_read_line}
+use Rattle.session.specs.Tallies.{kept_sum, reading_count, reply_count}
+use Rattle.session.specs.Serving.{PutsPart, PutsReply, Replies, RepliesPart, progress_of}
 use Rattle.session.specs.Replies.{IsReply, IsReplyTo, IsRefusal, IsSound, reply_bytes, reply_ends}
 use Rattle.session.specs.declared.reply.Reply.{Reply}
 use Rattle.session.specs.declared.reply.Reply.TheVariants.{Nothing, Short, Text, NoMemory}
@@ -18,44 +23,99 @@ MayGive-reply old given (Text bytes) new is = inl (is.0, is.2, is.1)
 MayGive-reply old given (NoMemory id) new is = inr (is.0, is.1, is.2, refl)
 
 -- a reply to a command is one to a line
-pub IsReplyTo-command : {M : Type 0} (old : M) (given : Step M) (reply : Reply) (new : M) → IsReply old given reply new → IsReplyTo old given reply new
+pub IsReplyTo-command : {M : Type 0} (old : M) (given : Step M) (reply : Reply) (new : M)
+    → IsReply old given reply new → IsReplyTo old given reply new
 IsReplyTo-command old given Nothing new is = absurd is
 IsReplyTo-command old given (Short text quit) new is = is
 IsReplyTo-command old given (Text bytes) new is = is
 IsReplyTo-command old given (NoMemory id) new is = is
 
 -- a command is never passed over
-pub IsReply-some : {M : Type 0} (old : M) (given : Step M) (reply : Reply) (new : M) → IsReply old given reply new → reply ≡ Nothing → ⊥
+pub IsReply-some : {M : Type 0} (old : M) (given : Step M) (reply : Reply) (new : M) → IsReply old given reply new
+    → reply ≡ Nothing → ⊥
 IsReply-some old given Nothing new is none = is
 IsReply-some old given (Short text quit) new is none = cc
 IsReply-some old given (Text bytes) new is none = cc
 IsReply-some old given (NoMemory id) new is none = cc
 
-module _ (M : Type 0) (step : M → RawLine → Step M) (old : M) (line : RawLine) (new : M) (bytes : List ℕ) (ends : Bool) (a b : Option (List ℕ))
-    (answers : Answers step old line bytes new ends) where
+-- what a line counted, as a sum
+counted-sum : (count : ℕ) (more : Bool) → counted count more ≡ kept_sum count (reading_count more)
+counted-sum count true = refl
+counted-sum count false = refl
+
+-- The session answered a line with a reply of some bytes.
+module _ (old new : Kept) (line : RawLine) (reply : Reply)
+    (answers : IsReplyTo (machine_of old) (step_of old (machine_of old) line) reply (machine_of new))
+    (readings : new.counts.readings ≡ counted old.counts.readings (is_read_line (machine_of old) line))
+    (w0 w1 : Option (List ℕ)) (s0 s1 : Sent) where
+  -- how much it counted
+  readings_sum : new.counts.readings ≡ kept_sum old.counts.readings (reading_count (is_read_line (machine_of old) line))
+  readings_sum = readings ∙ counted-sum old.counts.readings (is_read_line (machine_of old) line)
+
   -- the bytes went out whole
-  pub Replies-whole : Appends a b bytes → Replies step old line new ends a b
-  Replies-whole writes = record { reply = bytes; answers = answers; writes = writes }
+  pub Replies-whole : (sent : List ℕ) → sent ≡ reply_bytes reply → reply_count (reply_bytes reply) ≡ 1
+      → PutsReply w0 w1 s0 s1 sent
+      → Replies (step_of old) is_read_line (machine_of old) line (machine_of new) (reply_ends reply)
+      (progress_of w0 old s0) (progress_of w1 new s1)
+  Replies-whole sent same some puts = record {
+    reply = reply_bytes reply;
+    answers = MayGive-reply (machine_of old) (step_of old (machine_of old) line) reply (machine_of new) answers;
+    advances = record {
+      writes = subst (Appends w0 w1) same puts.writes;
+      readings = readings_sum;
+      replies = puts.lines ∙ ap (kept_sum s0.lines) (sym some);
+      bytes = puts.bytes_sent ∙ ap (λ l. kept_sum s0.bytes (length l)) same;
+    };
+  }
 
   -- a front of the bytes went out
-  pub Replies-part : (sent : List ℕ) → sent ≡ bytes → PutsPart a b sent → RepliesPart step old line a b
+  pub Replies-part : (sent : List ℕ) → sent ≡ reply_bytes reply → PutsPart w0 w1 s0 s1 sent
+      → RepliesPart (step_of old) is_read_line (machine_of old) line (progress_of w0 old s0) (progress_of w1 new s1)
   Replies-part sent same put = record {
     part = put.part;
     missing = put.missing;
-    next = new;
-    ends = ends;
-    answers = subst (λ l. Answers step old line l new ends) (sym same ∙ put.whole) answers;
+    next = machine_of new;
+    ends = reply_ends reply;
+    answers = subst (λ l. Answers (step_of old) (machine_of old) line l (machine_of new) (reply_ends reply))
+        (sym same ∙ put.whole)
+        (MayGive-reply (machine_of old) (step_of old (machine_of old) line) reply (machine_of new) answers);
     proper = put.proper;
-    writes = put.writes;
+    advances = record {
+      writes = put.puts.writes;
+      readings = readings_sum;
+      replies = put.puts.lines;
+      bytes = put.puts.bytes_sent;
+    };
   }
 
+-- the session passed the line over, and nothing was put
+pub Replies-nothing : (old new : Kept) (line : RawLine) (w : Option (List ℕ)) (s : Sent)
+    → IsReplyTo (machine_of old) (step_of old (machine_of old) line) Nothing (machine_of new)
+    → new.counts.readings ≡ counted old.counts.readings (is_read_line (machine_of old) line)
+    → Replies (step_of old) is_read_line (machine_of old) line (machine_of new) false (progress_of w old s)
+    (progress_of w new s)
+Replies-nothing old new line w s answers readings = record {
+  reply = [];
+  answers = MayGive-reply (machine_of old) (step_of old (machine_of old) line) Nothing (machine_of new) answers;
+  advances = record {
+    writes = Appends-nil w;
+    readings = readings ∙ counted-sum old.counts.readings (is_read_line (machine_of old) line);
+    replies = refl;
+    bytes = refl;
+  };
+}
+
 -- Where the step keeps its word, a reply that is a refusal leaves the machine as it was.
-reply-refused : {M : Type 0} (old : M) (given : Step M) (bytes : List ℕ) (new : M) (ends : Bool) → IsSound old given → MayGive old given bytes new ends
+reply-refused : {M : Type 0} (old : M) (given : Step M) (bytes : List ℕ) (new : M) (ends : Bool) → IsSound old given
+    → MayGive old given bytes new ends
     → IsRefusal bytes → new ≡ old
-reply-refused old given bytes new ends sound (inl may) refusal = may.1 ∙ sound.refused (refusal.0, sym may.0 ∙ refusal.1)
+reply-refused old given bytes new ends sound (inl may) refusal = may.1 ∙ sound.refused
+    (refusal.0, sym may.0 ∙ refusal.1)
 reply-refused old given bytes new ends sound (inr may) refusal = may.2
 
 -- the same of a reply to a line
-pub IsReplyTo-refused : {M : Type 0} (old : M) (given : Step M) (reply : Reply) (new : M) → IsSound old given → IsReplyTo old given reply new
+pub IsReplyTo-refused : {M : Type 0} (old : M) (given : Step M) (reply : Reply) (new : M) → IsSound old given
+    → IsReplyTo old given reply new
     → IsRefusal (reply_bytes reply) → new ≡ old
-IsReplyTo-refused old given reply new sound is = reply-refused old given (reply_bytes reply) new (reply_ends reply) sound (MayGive-reply old given reply new is)
+IsReplyTo-refused old given reply new sound is = reply-refused old given (reply_bytes reply) new
+    (reply_ends reply) sound (MayGive-reply old given reply new is)

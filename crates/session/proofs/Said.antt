@@ -12,7 +12,8 @@ asked-some id None none = cc
 asked-some id (Some c) none = cc
 
 -- the words after a name say something
-called-some : (id : Option ℕ) (s : ℕ) (n : Option CommandName) (words : List (List ℕ)) → called id s n words ≡ Nothing → ⊥
+called-some : (id : Option ℕ) (s : ℕ) (n : Option CommandName) (words : List (List ℕ)) → called id s n words
+    ≡ Nothing → ⊥
 called-some id s None words none = cc
 called-some id s (Some n) words none = asked-some id (command_of n s words) none
 
@@ -22,7 +23,8 @@ said-some id s [] none = cc
 said-some id s (word ∷ words) none = called-some id s (named word) words none
 
 -- a first word says something, be it an id or not
-said_with-some : (id : Option ℕ) (s : ℕ) (first : List ℕ) (more : List (List ℕ)) → said_with id s first more ≡ Nothing → ⊥
+said_with-some : (id : Option ℕ) (s : ℕ) (first : List ℕ) (more : List (List ℕ)) → said_with id s first more
+    ≡ Nothing → ⊥
 said_with-some None s first more none = said-some None s (first ∷ more) none
 said_with-some (Some id) s first more none = said-some (Some id) s more none
 

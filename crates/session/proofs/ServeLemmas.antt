@@ -1,62 +1,55 @@
 -- The steps of the loops of a run, over plain values.
-use Rattle.std.proofs.Common.{◌≡◌, ◌≢◌, ℕ, ◌-◌, Bool, true, false, List, [], ◌∷◌, ◌++◌, length, take, drop, Option, Some, None, Result, Ok, Err, OnErr, IfOk, refl, sym, ap, subst, ◌∙◌, append_assoc, take-append-drop, length-append, arith}
+use Rattle.std.proofs.Common.{◌≡◌, ◌≢◌, ℕ, ◌+◌, ◌-◌, ◌≤◌, Bool, true, false, List, [], ◌∷◌, ◌++◌, length, take, drop, Option, Some, None, Result, Ok, Err, OnErr, IfOk, refl, sym, ap, subst, ◌∙◌, append_assoc, take-append-drop, length-append, arith}
 use Rattle.std.specs.Io.KnownBytes.{Appends}
-use Rattle.std.proofs.KnownBytes.{Appends-nil, Appends-trans}
-use Rattle.std.proofs.lemmas.List.{take_rest, take_all}
+use Rattle.std.proofs.KnownBytes.{Appends-trans}
+use Rattle.std.proofs.lemmas.List.{take_rest, take_all, length-take-le}
 use Rattle.gtp_rules.specs.Lines.{RawLine, Line, TooLong}
 use Rattle.gtp_rules.specs.Steps.{Step}
-use Rattle.gtp_rules.specs.Transcript.{IsRun}
-use Rattle.gtp_rules.proofs.Runs.{IsRun-nil, IsRun-one, IsRun-append, IsRun-ended, Cut-after, Cut-more}
 use Rattle.gtp_lex.specs.Held.{lines_from, held_from, held_line}
 use Rattle.gtp_lex.specs.Lines.{LinesState, Feeds}
 use Rattle.gtp_lex.specs.LinesTaken.{taken_of, given_state}
 use Rattle.gtp_lex.specs.declared.lines.Taken.{Taken}
 use Rattle.gtp_lex.proofs.HeldLemmas.{lines_from-append, held_from-append}
+use Rattle.run_notes.specs.declared.notes.Sent.{Sent}
 use Rattle.session.specs.Machine.{Machine}
 use Rattle.session.specs.Matcher.{Matcher}
 use Rattle.session.specs.Answering as answering
-use Rattle.session.specs.Serving.{PutsPart, Replies, RepliesPart, RunsTo, RunsPart}
+use Rattle.session.specs.Tallies.{Progress, kept_sum, IsTallied, tally_of, cut_tally, no_tally, together}
+use Rattle.session.specs.Serving.{Puts, Replies, RepliesPart, RunsTo, RunsPart}
+use Rattle.session.proofs.Tallying.{kept_sum-twice, Advances-none, Advances-trans, IsTallied-nil, IsTallied-one, IsTallied-append, IsTallied-ended, BreaksOff-one, BreaksOff-after, BreaksOff-more, BreaksOff-is}
 
--- the sink took n bytes more of the rest
-pub put_more : (a b c : Option (List ℕ)) (bytes done rest : List ℕ) (n : ℕ) → bytes ≡ done ++ rest → Appends a b done → Appends b c (take n rest)
-    → (put : List ℕ) × (bytes ≡ put ++ take (length rest - n) (drop n rest)) × Appends a c put
-put_more a b c bytes done rest n whole before more =
+-- the sink took n bytes more of the rest, and they were counted
+pub put_more : (a b c : Option (List ℕ)) (before now : Sent) (bytes done rest : List ℕ) (n total : ℕ) → bytes ≡ done
+    ++ rest
+    → Puts a b before now done → Appends b c (take n rest) → n ≤ length rest → total ≡ kept_sum now.bytes n
+    → (put : List ℕ) × (bytes ≡ put ++ take (length rest - n) (drop n rest))
+    × Puts a c before (record { lines = now.lines; bytes = total }) put
+put_more a b c before now bytes done rest n total whole puts more within counted =
     let split : rest ≡ take n rest ++ take (length rest - n) (drop n rest) =
-    sym (ap (λ l. take n rest ++ l) (take_rest rest n) ∙ take-append-drop n rest) in (
+    sym (ap (λ l. take n rest ++ l) (take_rest rest n) ∙ take-append-drop n rest) in
+    let lens : length (done ++ take n rest) ≡ length done + n =
+    length-append done (take n rest) ∙ ap (λ k. length done + k) (length-take-le n rest within) in (
       done ++ take n rest,
       whole ∙ ap (λ l. done ++ l) split ∙ sym (append_assoc done (take n rest) (take (length rest - n) (drop n rest))),
-      Appends-trans a b c done (take n rest) before more,
+      record {
+        writes = Appends-trans a b c done (take n rest) puts.writes more;
+        lines = puts.lines;
+        bytes_sent = counted ∙ ap (λ k. kept_sum k n) puts.bytes_sent ∙ kept_sum-twice before.bytes (length done) n
+            ∙ ap (kept_sum before.bytes) (sym lens);
+      },
     )
-
--- a front of the first of two pieces went out
-pub PutsPart-first : (a b : Option (List ℕ)) (first second : List ℕ) → PutsPart a b first → PutsPart a b (first ++ second)
-PutsPart-first a b first second put = record {
-  part = put.part;
-  missing = put.missing ++ second;
-  whole = ap (λ l. l ++ second) put.whole ∙ append_assoc put.part put.missing second;
-  proper = (let len = length-append put.missing second in let some = put.proper in omega arith);
-  writes = put.writes;
-}
-
--- the first of two pieces went out, and a front of the second
-pub PutsPart-second : (a b c : Option (List ℕ)) (first second : List ℕ) → Appends a b first → PutsPart b c second → PutsPart a c (first ++ second)
-PutsPart-second a b c first second whole put = record {
-  part = first ++ put.part;
-  missing = put.missing;
-  whole = ap (λ l. first ++ l) put.whole ∙ sym (append_assoc first put.part put.missing);
-  proper = put.proper;
-  writes = Appends-trans a b c first put.part whole put.writes;
-}
 
 -- The line that `take` or `finish` gives.
 
 -- what `take` says of the line that waits, and of no line
 abbrev Takes : Bool → RawLine → Option Taken → LinesState → LinesState → Type 0
 Takes waits held result new old =
-    (waits ≡ false → (result ≡ None) × (new ≡ old)) × (waits ≡ true → (result ≡ Some (taken_of held)) × (new ≡ given_state held))
+    (waits ≡ false → (result ≡ None) × (new ≡ old))
+        × (waits ≡ true → (result ≡ Some (taken_of held)) × (new ≡ given_state held))
 
 -- a line was taken, so it waited
-by_waits : (waits : Bool) (held : RawLine) (result : Option Taken) (taken : Taken) (new old : LinesState) → result ≡ Some taken
+by_waits : (waits : Bool) (held : RawLine) (result : Option Taken) (taken : Taken) (new old : LinesState) → result
+    ≡ Some taken
     → Takes waits held result new old → (waits ≡ true) × (taken ≡ taken_of held) × (new ≡ given_state held)
 by_waits true held result taken new old is takes = (refl, (let given = (takes.1 refl).0 in cc), (takes.1 refl).1)
 by_waits false held result taken new old is takes = absurd (let none = (takes.0 refl).0 in cc)
@@ -68,8 +61,10 @@ by_none false held result new old is takes = (refl, (takes.0 refl).1)
 by_none true held result new old is takes = absurd (let given = (takes.1 refl).0 in cc)
 
 -- n bytes were fed and a line was taken: it is the one line that ends in them, and nothing is held after it
-pub taken_line : (old mid new : LinesState) (rest : List ℕ) (n : ℕ) (result : Option Taken) (taken : Taken) → Feeds old mid rest n → result ≡ Some taken
-    → (mid.waits ≡ false → (result ≡ None) × (new ≡ mid)) → (mid.waits ≡ true → (result ≡ Some (taken_of mid.held)) × (new ≡ given_state mid.held))
+pub taken_line : (old mid new : LinesState) (rest : List ℕ) (n : ℕ) (result : Option Taken) (taken : Taken)
+    → Feeds old mid rest n → result ≡ Some taken
+    → (mid.waits ≡ false → (result ≡ None) × (new ≡ mid))
+    → (mid.waits ≡ true → (result ≡ Some (taken_of mid.held)) × (new ≡ given_state mid.held))
     → (taken ≡ taken_of mid.held) × (new ≡ given_state mid.held)
     × (lines_from old.held (take n rest) ≡ mid.held ∷ []) × (held_from old.held (take n rest) ≡ Line [])
 taken_line old mid new rest n result taken fed is none some =
@@ -78,8 +73,10 @@ taken_line old mid new rest n result taken fed is none some =
     (given.1, given.2, ended.0, ended.1)
 
 -- n bytes were fed and no line was taken: none ends in them, and what is held goes on
-pub no_line_taken : (old mid new : LinesState) (rest : List ℕ) (n : ℕ) (result : Option Taken) → Feeds old mid rest n → result ≡ None
-    → (mid.waits ≡ false → (result ≡ None) × (new ≡ mid)) → (mid.waits ≡ true → (result ≡ Some (taken_of mid.held)) × (new ≡ given_state mid.held))
+pub no_line_taken : (old mid new : LinesState) (rest : List ℕ) (n : ℕ) (result : Option Taken)
+    → Feeds old mid rest n → result ≡ None
+    → (mid.waits ≡ false → (result ≡ None) × (new ≡ mid))
+    → (mid.waits ≡ true → (result ≡ Some (taken_of mid.held)) × (new ≡ given_state mid.held))
     → (lines_from old.held (take n rest) ≡ []) × (held_from old.held (take n rest) ≡ new.held) × (new.waits ≡ false)
 no_line_taken old mid new rest n result fed is none some =
     let same = by_none mid.waits mid.held result new mid is (none, some) in
@@ -92,15 +89,19 @@ no_line_taken old mid new rest n result fed is none some =
 
 -- a rest was given as a last line
 pub rest_taken : (held : RawLine) (result : Option Taken) (taken : Taken) (old new : LinesState) → result ≡ Some taken
-    → (held ≡ Line [] → (result ≡ None) × (new ≡ old)) → (held ≢ Line [] → (result ≡ Some (taken_of held)) × (new ≡ given_state held))
+    → (held ≡ Line [] → (result ≡ None) × (new ≡ old))
+    → (held ≢ Line [] → (result ≡ Some (taken_of held)) × (new ≡ given_state held))
     → (taken ≡ taken_of held) × (new ≡ given_state held) × (held_line held ≡ held ∷ [])
-rest_taken TooLong result taken old new is none some = let given = some (λ e. cc) in ((let told = given.0 in cc), given.1, refl)
+rest_taken TooLong result taken old new is none some = let given = some (λ e. cc) in
+    ((let told = given.0 in cc), given.1, refl)
 rest_taken (Line []) result taken old new is none some = absurd (let told = (none refl).0 in cc)
-rest_taken (Line (b ∷ bs)) result taken old new is none some = let given = some (λ e. cc) in ((let told = given.0 in cc), given.1, refl)
+rest_taken (Line (b ∷ bs)) result taken old new is none some = let given = some (λ e. cc) in
+    ((let told = given.0 in cc), given.1, refl)
 
 -- no rest was given, so there is none
 pub no_rest : (held : RawLine) (result : Option Taken) (new old : LinesState) → result ≡ None
-    → (held ≡ Line [] → (result ≡ None) × (new ≡ old)) → (held ≢ Line [] → (result ≡ Some (taken_of held)) × (new ≡ given_state held))
+    → (held ≡ Line [] → (result ≡ None) × (new ≡ old))
+    → (held ≢ Line [] → (result ≡ Some (taken_of held)) × (new ≡ given_state held))
     → held_line held ≡ []
 no_rest TooLong result new old is none some = absurd (let told = (some (λ e. cc)).0 in cc)
 no_rest (Line []) result new old is none some = refl
@@ -134,100 +135,99 @@ on_err_map (Ok x) words p = tt
 on_err_map (Err e) words p = words p
 
 -- Two sessions that find matches in one way answer by one step.
-module _ (now first : Matcher) (same : now ≡ first) where
+module _ (asks : Machine → RawLine → Bool) (now first : Matcher) (same : now ≡ first) where
   -- lines that were answered whole
-  pub RunsTo-by : (from : Machine) (lines : List RawLine) (to : Machine) (ended : Bool) (a b : Option (List ℕ))
-      → RunsTo (answering.step now) from lines to ended a b → RunsTo (answering.step first) from lines to ended a b
-  RunsTo-by from lines to ended a b runs = subst (λ m. RunsTo (answering.step m) from lines to ended a b) same runs
+  pub RunsTo-by : (from : Machine) (lines : List RawLine) (to : Machine) (ended : Bool) (a b : Progress)
+      → RunsTo (answering.step now) asks from lines to ended a b → RunsTo
+      (answering.step first) asks from lines to ended a b
+  RunsTo-by from lines to ended a b runs = subst (λ m. RunsTo (answering.step m) asks from lines to ended a b) same runs
 
   -- lines of which one broke off
-  pub RunsPart-by : (from : Machine) (lines : List RawLine) (a b : Option (List ℕ))
-      → RunsPart (answering.step now) from lines a b → RunsPart (answering.step first) from lines a b
-  RunsPart-by from lines a b runs = subst (λ m. RunsPart (answering.step m) from lines a b) same runs
+  pub RunsPart-by : (from : Machine) (lines : List RawLine) (a b : Progress)
+      → RunsPart (answering.step now) asks from lines a b → RunsPart (answering.step first) asks from lines a b
+  RunsPart-by from lines a b runs = subst (λ m. RunsPart (answering.step m) asks from lines a b) same runs
 
-module _ (M : Type 0) (step : M → RawLine → Step M) where
+module _ (M : Type 0) (step : M → RawLine → Step M) (asks : M → RawLine → Bool) where
   -- one line, answered whole
-  pub RunsTo-one : (from : M) (line : RawLine) (to : M) (ends : Bool) (a b : Option (List ℕ)) (lines : List RawLine) → lines ≡ line ∷ []
-      → Replies step from line to ends a b → RunsTo step from lines to ends a b
+  pub RunsTo-one : (from : M) (line : RawLine) (to : M) (ends : Bool) (a b : Progress) (lines : List RawLine)
+      → lines ≡ line ∷ []
+      → Replies step asks from line to ends a b → RunsTo step asks from lines to ends a b
   RunsTo-one from line to ends a b lines one replies = record {
-    out = replies.reply;
-    run = subst (λ l. IsRun step from l replies.reply to ends) (sym one) (IsRun-one M step from line replies.reply to ends replies.answers);
-    writes = replies.writes;
+    tally = tally_of (asks from line) replies.reply;
+    run = subst (λ l. IsTallied step asks from l (tally_of (asks from line) replies.reply) to ends) (sym one)
+        (IsTallied-one M step asks from line replies.reply to ends replies.answers);
+    advances = replies.advances;
   }
 
   -- no line
-  pub RunsTo-nil : (from : M) (a : Option (List ℕ)) → RunsTo step from [] from false a a
-  RunsTo-nil from a = record { out = []; run = IsRun-nil M step from; writes = Appends-nil a }
+  pub RunsTo-nil : (from : M) (a : Progress) → RunsTo step asks from [] from false a a
+  RunsTo-nil from a = record { tally = no_tally; run = IsTallied-nil M step asks from; advances = Advances-none a }
 
   -- one line, whose reply broke off, and lines after it
-  pub RunsPart-one : (from : M) (line : RawLine) (a b : Option (List ℕ)) (lines more : List RawLine) → lines ≡ line ∷ more
-      → RepliesPart step from line a b → RunsPart step from lines a b
+  pub RunsPart-one : (from : M) (line : RawLine) (a b : Progress) (lines more : List RawLine) → lines
+      ≡ line ∷ more
+      → RepliesPart step asks from line a b → RunsPart step asks from lines a b
   RunsPart-one from line a b lines more first replies = record {
-    out = replies.part;
-    cut = record {
-      before = [];
-      line = line;
-      after = more;
-      whole = [];
-      part = replies.part;
-      missing = replies.missing;
-      mid = from;
-      next = replies.next;
-      ends = replies.ends;
-      place = first;
-      answered = IsRun-nil M step from;
-      reply = replies.answers;
-      proper = replies.proper;
-      out = refl;
-    };
-    writes = replies.writes;
+    tally = cut_tally (asks from line) replies.part;
+    cut = BreaksOff-is M step asks from lines (line ∷ more) (cut_tally (asks from line) replies.part) first
+        (BreaksOff-one M step asks from line more replies.part replies.missing replies.next replies.ends replies.answers
+        replies.proper);
+    advances = replies.advances;
   }
 
   -- lines after lines
-  pub RunsTo-append : (from mid to : M) (xs ys : List RawLine) (ended : Bool) (a b c : Option (List ℕ))
-      → RunsTo step from xs mid false a b → RunsTo step mid ys to ended b c → RunsTo step from (xs ++ ys) to ended a c
+  pub RunsTo-append : (from mid to : M) (xs ys : List RawLine) (ended : Bool) (a b c : Progress)
+      → RunsTo step asks from xs mid false a b → RunsTo step asks mid ys to ended b c → RunsTo step asks from
+      (xs ++ ys) to ended a c
   RunsTo-append from mid to xs ys ended a b c earlier later = record {
-    out = earlier.out ++ later.out;
-    run = IsRun-append M step from xs ys earlier.out later.out mid to ended earlier.run later.run;
-    writes = Appends-trans a b c earlier.out later.out earlier.writes later.writes;
+    tally = together earlier.tally later.tally;
+    run = IsTallied-append M step asks from xs ys earlier.tally later.tally mid to ended earlier.run later.run;
+    advances = Advances-trans a b c earlier.tally later.tally earlier.advances later.advances;
   }
 
   -- after a line that ends the session nothing is answered
-  pub RunsTo-ended : (from to : M) (xs ys : List RawLine) (a b : Option (List ℕ)) → RunsTo step from xs to true a b → RunsTo step from (xs ++ ys) to true a b
+  pub RunsTo-ended : (from to : M) (xs ys : List RawLine) (a b : Progress) → RunsTo step asks from xs to true a b
+      → RunsTo step asks from (xs ++ ys) to true a b
   RunsTo-ended from to xs ys a b runs =
-      record { out = runs.out; run = IsRun-ended M step from xs ys runs.out to runs.run; writes = runs.writes }
+      record { tally = runs.tally; run = IsTallied-ended M step asks from xs ys runs.tally to runs.run;
+          advances = runs.advances }
 
   -- lines that broke off, after lines answered whole
-  pub RunsPart-after : (from mid : M) (xs ys : List RawLine) (a b c : Option (List ℕ))
-      → RunsTo step from xs mid false a b → RunsPart step mid ys b c → RunsPart step from (xs ++ ys) a c
+  pub RunsPart-after : (from mid : M) (xs ys : List RawLine) (a b c : Progress)
+      → RunsTo step asks from xs mid false a b → RunsPart step asks mid ys b c → RunsPart step asks from (xs ++ ys) a c
   RunsPart-after from mid xs ys a b c earlier later = record {
-    out = earlier.out ++ later.out;
-    cut = Cut-after M step from xs ys earlier.out later.out mid earlier.run later.cut;
-    writes = Appends-trans a b c earlier.out later.out earlier.writes later.writes;
+    tally = together earlier.tally later.tally;
+    cut = BreaksOff-after M step asks from xs ys earlier.tally later.tally mid earlier.run later.cut;
+    advances = Advances-trans a b c earlier.tally later.tally earlier.advances later.advances;
   }
 
   -- lines that broke off, before other lines
-  pub RunsPart-more : (from : M) (xs ys : List RawLine) (a b : Option (List ℕ)) → RunsPart step from xs a b → RunsPart step from (xs ++ ys) a b
-  RunsPart-more from xs ys a b runs = record { out = runs.out; cut = Cut-more M step from xs ys runs.out runs.cut; writes = runs.writes }
+  pub RunsPart-more : (from : M) (xs ys : List RawLine) (a b : Progress) → RunsPart step asks from xs a b
+      → RunsPart step asks from (xs ++ ys) a b
+  RunsPart-more from xs ys a b runs = record { tally = runs.tally;
+      cut = BreaksOff-more M step asks from xs ys runs.tally runs.cut;
+      advances = runs.advances }
 
   -- the same lines
-  pub RunsTo-is : (from to : M) (xs ys : List RawLine) (ended : Bool) (a b : Option (List ℕ)) → xs ≡ ys
-      → RunsTo step from ys to ended a b → RunsTo step from xs to ended a b
-  RunsTo-is from to xs ys ended a b same runs = subst (λ l. RunsTo step from l to ended a b) (sym same) runs
+  pub RunsTo-is : (from to : M) (xs ys : List RawLine) (ended : Bool) (a b : Progress) → xs ≡ ys
+      → RunsTo step asks from ys to ended a b → RunsTo step asks from xs to ended a b
+  RunsTo-is from to xs ys ended a b same runs = subst (λ l. RunsTo step asks from l to ended a b) (sym same) runs
 
   -- the same lines, of which one broke off
-  pub RunsPart-is : (from : M) (xs ys : List RawLine) (a b : Option (List ℕ)) → xs ≡ ys → RunsPart step from ys a b → RunsPart step from xs a b
-  RunsPart-is from xs ys a b same runs = subst (λ l. RunsPart step from l a b) (sym same) runs
+  pub RunsPart-is : (from : M) (xs ys : List RawLine) (a b : Progress) → xs ≡ ys → RunsPart step asks from ys a b
+      → RunsPart step asks from xs a b
+  RunsPart-is from xs ys a b same runs = subst (λ l. RunsPart step asks from l a b) (sym same) runs
 
   -- a flag that says whether the session ended
-  pub RunsTo-flag : (from to : M) (lines : List RawLine) (ended flag : Bool) (a b : Option (List ℕ)) → ended ≡ flag
-      → RunsTo step from lines to ended a b → RunsTo step from lines to flag a b
-  RunsTo-flag from to lines ended flag a b same runs = subst (λ t. RunsTo step from lines to t a b) same runs
+  pub RunsTo-flag : (from to : M) (lines : List RawLine) (ended flag : Bool) (a b : Progress) → ended ≡ flag
+      → RunsTo step asks from lines to ended a b → RunsTo step asks from lines to flag a b
+  RunsTo-flag from to lines ended flag a b same runs = subst (λ t. RunsTo step asks from lines to t a b) same runs
 
   -- the line that was taken broke off, so the lines of the rest did
-  pub taken_part : (from : M) (held line : RawLine) (rest : List ℕ) (n : ℕ) (a b : Option (List ℕ))
-      → lines_from held (take n rest) ≡ line ∷ [] → held_from held (take n rest) ≡ Line [] → RepliesPart step from line a b
-      → RunsPart step from (lines_from held rest) a b
+  pub taken_part : (from : M) (held line : RawLine) (rest : List ℕ) (n : ℕ) (a b : Progress)
+      → lines_from held (take n rest) ≡ line ∷ [] → held_from held (take n rest) ≡ Line []
+      → RepliesPart step asks from line a b
+      → RunsPart step asks from (lines_from held rest) a b
   taken_part from held line rest n a b one none replies =
       let more = lines_from (Line []) (take (length rest - n) (drop n rest)) in
       RunsPart-one from line a b (lines_from held rest) more
@@ -235,17 +235,21 @@ module _ (M : Type 0) (step : M → RawLine → Step M) where
       replies
 
   -- Of a piece some lines were answered, and those of the rest are left.
-  module _ (from mid : M) (held0 held : RawLine) (piece rest : List ℕ) (lines : List RawLine) (a b c : Option (List ℕ))
-      (whole : lines_from held0 piece ≡ lines ++ lines_from held rest) (answered : RunsTo step from lines mid false a b) where
+  module _ (from mid : M) (held0 held : RawLine) (piece rest : List ℕ) (lines : List RawLine) (a b c : Progress)
+      (whole : lines_from held0 piece ≡ lines ++ lines_from held rest)
+          (answered : RunsTo step asks from lines mid false a b) where
     -- a line of the rest broke off
-    pub piece_part : RunsPart step mid (lines_from held rest) b c → RunsPart step from (lines_from held0 piece) a c
-    piece_part later = RunsPart-is from _ _ a c whole (RunsPart-after from mid lines (lines_from held rest) a b c answered later)
+    pub piece_part : RunsPart step asks mid (lines_from held rest) b c → RunsPart step asks from
+        (lines_from held0 piece) a c
+    piece_part later = RunsPart-is from _ _ a c whole
+        (RunsPart-after from mid lines (lines_from held rest) a b c answered later)
 
     -- n bytes more were taken, and their lines were answered
-    module _ (to : M) (held' : RawLine) (n : ℕ) (ended : Bool) (later : RunsTo step mid (lines_from held (take n rest)) to ended b c)
+    module _ (to : M) (held' : RawLine) (n : ℕ) (ended : Bool)
+        (later : RunsTo step asks mid (lines_from held (take n rest)) to ended b c)
         (after : held' ≡ held_from held (take n rest)) where
       -- one of them ended the session
-      pub piece_ended : ended ≡ true → RunsTo step from (lines_from held0 piece) to true a c
+      pub piece_ended : ended ≡ true → RunsTo step asks from (lines_from held0 piece) to true a c
       piece_ended is =
           let next = lines_from held (take n rest) in
           let more = lines_from held' (take (length rest - n) (drop n rest)) in
@@ -257,24 +261,29 @@ module _ (M : Type 0) (step : M → RawLine → Step M) where
 
       -- none of them did, and the lines of what is left stay
       pub piece_more : ended ≡ false
-          → (done : List RawLine) × (lines_from held0 piece ≡ done ++ lines_from held' (take (length rest - n) (drop n rest)))
-          × RunsTo step from done to false a c
+          → (done : List RawLine) × (lines_from held0 piece ≡ done ++ lines_from held'
+          (take (length rest - n) (drop n rest)))
+          × RunsTo step asks from done to false a c
       piece_more is =
           let next = lines_from held (take n rest) in
           let more = lines_from held' (take (length rest - n) (drop n rest)) in (
             lines ++ next,
             whole ∙ ap (λ l. lines ++ l) (lines_from-take held held' rest n after) ∙ sym (append_assoc lines next more),
-            RunsTo-append from mid to lines next false a b c answered (RunsTo-flag mid to next ended false b c is later),
+            RunsTo-append from mid to lines next false a b c answered
+                (RunsTo-flag mid to next ended false b c is later),
           )
 
   -- the last line was answered whole
-  pub last_whole : {E : Type 0} (from to : M) (line : RawLine) (lines : List RawLine) (a b : Option (List ℕ)) (result : Result Bool E) → lines ≡ line ∷ []
-      → IfOk result (λ ends. Replies step from line to ends a b) → IfOk result (λ ends. RunsTo step from lines to ends a b)
+  pub last_whole : {E : Type 0} (from to : M) (line : RawLine) (lines : List RawLine) (a b : Progress)
+      (result : Result Bool E) → lines ≡ line ∷ []
+      → IfOk result (λ ends. Replies step asks from line to ends a b) → IfOk result
+      (λ ends. RunsTo step asks from lines to ends a b)
   last_whole from to line lines a b (Ok ends) one replies = RunsTo-one from line to ends a b lines one replies
   last_whole from to line lines a b (Err x) one replies = tt
 
   -- the last line broke off
-  pub last_part : {T E : Type 0} (from : M) (line : RawLine) (lines : List RawLine) (a b : Option (List ℕ)) (result : Result T E) → lines ≡ line ∷ []
-      → OnErr result (RepliesPart step from line a b) → OnErr result (RunsPart step from lines a b)
+  pub last_part : {T E : Type 0} (from : M) (line : RawLine) (lines : List RawLine) (a b : Progress)
+      (result : Result T E) → lines ≡ line ∷ []
+      → OnErr result (RepliesPart step asks from line a b) → OnErr result (RunsPart step asks from lines a b)
   last_part from line lines a b (Ok x) one replies = tt
   last_part from line lines a b (Err x) one replies = RunsPart-one from line a b lines [] one replies

@@ -1,32 +1,39 @@
 -- A run so far, and what it says by its outcome when it stops here.
-use Rattle.std.proofs.Common.{◌≡◌, ℕ, ◌+◌, ◌-◌, ◌<◌, ◌≤◌, Bool, true, false, List, [], ◌∷◌, ◌++◌, length, take, Option, refl, sym, ap, subst, ◌∙◌, append-nil, arith, inl, inr, length-append}
+use Rattle.std.proofs.Common.{◌≡◌, ℕ, ◌+◌, ◌-◌, ◌<◌, ◌≤◌, Bool, true, false, List, [], ◌∷◌, ◌++◌, length, take, Option, None, refl, sym, ap, subst, ◌∙◌, append-nil, arith, inl, inr, length-append}
 use Rattle.std.specs.Io.KnownBytes.{Appends, Consumes, IsAtEnd, Keeps}
-use Rattle.std.proofs.KnownBytes.{Appends-nil, Appends-trans, Consumes-nil, Consumes-trans, Consumes-kept}
+use Rattle.std.proofs.KnownBytes.{Consumes-nil, Consumes-trans, Consumes-kept}
 use Rattle.std.proofs.lemmas.List.{take_at, take_all, length-take-le}
 use Rattle.gtp_rules.specs.Lines.{RawLine, Line, lines_of, lines_with_rest, rest_of, rest_line}
 use Rattle.gtp_rules.specs.Steps.{Step}
-use Rattle.gtp_rules.specs.Transcript.{IsRun, GoesOn}
-use Rattle.gtp_rules.proofs.Runs.{IsRun-nil, IsRun-append, Cut-after, Cut-more, Cut-is, Cut-front}
+use Rattle.gtp_rules.specs.Transcript.{GoesOn}
+use Rattle.gtp_rules.proofs.Runs.{Cut-front}
 use Rattle.gtp_lex.specs.Held.{lines_from, held_from, held_line}
 use Rattle.gtp_lex.proofs.HeldLemmas.{lines_from-append, held_from-append, lines_of-lines_from, lines_with_rest-lines_from}
+use Rattle.session.specs.Tallies.{Tally, Progress, Advances, IsTallied, no_tally, together}
 use Rattle.session.specs.Serving.{RunsTo, RunsPart}
-use Rattle.session.specs.Headline.{most_taken, Streams, Serves, earlier}
+use Rattle.session.specs.Headline.{most_taken, Streams, earlier}
+use Rattle.session.specs.Opened.{ServesCounting}
+use Rattle.session.proofs.Tallying.{Advances-none, Advances-trans, IsTallied-nil, IsTallied-append, IsTallied-run, BreaksOff-after, BreaksOff-more, BreaksOff-is, BreaksOff-cut}
 use Rattle.session.specs.declared.outcome.End.TheVariants.{Done, InputFault, OutputFault, InputTooLong}
 
--- some bytes were taken and some put, each line that ended was answered, the rest is held, and room bytes may still be taken
-pub record Served {M : Type 0} (step : M → RawLine → Step M) (first now : M) (left_old left_new written_old written_new : Option (List ℕ)) (held : RawLine) (room : ℕ) : Type 0 where
+-- some bytes were taken and some put, each line that ended was answered, the rest is held, and room bytes may still
+-- be taken
+pub record Served {M : Type 0} (step : M → RawLine → Step M) (asks : M → RawLine → Bool) (first now : M)
+    (left_old left_new : Option (List ℕ)) (old new : Progress) (held : RawLine) (room : ℕ) : Type 0 where
   pub taken : List ℕ
-  pub put : List ℕ
+  pub tally : Tally
   pub reads : Consumes left_old left_new taken
-  pub writes : Appends written_old written_new put
-  pub run : IsRun step first (lines_from (Line []) taken) put now false
+  pub advances : Advances old new tally
+  pub run : IsTallied step asks first (lines_from (Line []) taken) tally now false
   pub held_is : held ≡ held_from (Line []) taken
   pub few : length taken + room ≡ most_taken
 
--- a run over the lines from the front is one over the lines of the bytes
-lines_run : {M : Type 0} (step : M → RawLine → Step M) (taken : List ℕ) (first now : M) (put : List ℕ) (ended : Bool)
-    → IsRun step first (lines_from (Line []) taken) put now ended → IsRun step first (lines_of taken) put now ended
-lines_run step taken first now put ended run = subst (λ l. IsRun step first l put now ended) (sym (lines_of-lines_from taken)) run
+-- what was answered of the lines from the front was answered of the lines of the bytes
+tallied_lines : {M : Type 0} (step : M → RawLine → Step M) (asks : M → RawLine → Bool) (taken : List ℕ) (first now : M)
+    (tally : Tally) (ended : Bool) → IsTallied step asks first (lines_from (Line []) taken) tally now ended
+    → IsTallied step asks first (lines_of taken) tally now ended
+tallied_lines step asks taken first now tally ended run =
+    subst (λ l. IsTallied step asks first l tally now ended) (sym (lines_of-lines_from taken)) run
 
 -- the lines of the bytes taken so far and of a piece more
 lines_of-append : (taken part : List ℕ) (held : RawLine) → held ≡ held_from (Line []) taken
@@ -38,172 +45,244 @@ lines_of-append taken part held is =
 -- the bytes taken before the last piece
 earlier-append : (taken part : List ℕ) (piece : ℕ) → length part ≡ piece → earlier (taken ++ part) piece ≡ taken
 earlier-append taken part piece len =
-    ap (λ n. take n (taken ++ part)) (let whole = length-append taken part in omega (arith, whole)) ∙ take_at taken part (length taken) refl
+    ap (λ n. take n (taken ++ part)) (let whole = length-append taken part in omega (arith, whole))
+        ∙ take_at taken part (length taken) refl
 
 -- before the first byte
-pub served_start : (M : Type 0) (step : M → RawLine → Step M) (m : M) (l w : Option (List ℕ)) → Served step m m l l w w (Line []) most_taken
-served_start M step m l w = record {
+pub served_start : (M : Type 0) (step : M → RawLine → Step M) (asks : M → RawLine → Bool) (m : M) (l : Option (List ℕ))
+    (p : Progress) → Served step asks m m l l p p (Line []) most_taken
+served_start M step asks m l p = record {
   taken = [];
-  put = [];
+  tally = no_tally;
   reads = Consumes-nil l;
-  writes = Appends-nil w;
-  run = IsRun-nil M step m;
+  advances = Advances-none p;
+  run = IsTallied-nil M step asks m;
   held_is = refl;
   few = refl;
 }
 
 -- The source gave a piece, its lines were answered, and none ended the session.
-pub served_more : (M : Type 0) (step : M → RawLine → Step M) (first now : M) (l0 l1 w0 w1 : Option (List ℕ)) (held : RawLine) (room : ℕ)
-    → Served step first now l0 l1 w0 w1 held room → (l2 w2 : Option (List ℕ)) (part : List ℕ) → Consumes l1 l2 part
-    → (n : ℕ) (new : M) (held' : RawLine) → length part ≡ n → n ≤ room → RunsTo step now (lines_from held part) new false w1 w2
-    → held' ≡ held_from held part → Served step first new l0 l2 w0 w2 held' (room - n)
-served_more M step first now l0 l1 w0 w1 held room s l2 w2 part reads n new held' len within runs is = record {
+pub served_more : (M : Type 0) (step : M → RawLine → Step M) (asks : M → RawLine → Bool) (first now : M)
+    (l0 l1 : Option (List ℕ)) (p0 p1 : Progress) (held : RawLine) (room : ℕ)
+    → Served step asks first now l0 l1 p0 p1 held room → (l2 : Option (List ℕ)) (p2 : Progress) (part : List ℕ)
+    → Consumes l1 l2 part → (n : ℕ) (new : M) (held' : RawLine) → length part ≡ n → n ≤ room
+    → RunsTo step asks now (lines_from held part) new false p1 p2
+    → held' ≡ held_from held part → Served step asks first new l0 l2 p0 p2 held' (room - n)
+served_more M step asks first now l0 l1 p0 p1 held room s l2 p2 part reads n new held' len within runs is = record {
   taken = s.taken ++ part;
-  put = s.put ++ runs.out;
+  tally = together s.tally runs.tally;
   reads = Consumes-trans l0 l1 l2 s.taken part s.reads reads;
-  writes = Appends-trans w0 w1 w2 s.put runs.out s.writes runs.writes;
+  advances = Advances-trans p0 p1 p2 s.tally runs.tally s.advances runs.advances;
   run =
-      subst (λ l. IsRun step first l (s.put ++ runs.out) new false)
-      (sym (lines_from-append (Line []) s.taken part ∙ ap (λ h. lines_from (Line []) s.taken ++ lines_from h part) (sym s.held_is)))
-      (IsRun-append M step first _ _ s.put runs.out now new false s.run runs.run);
+      subst (λ l. IsTallied step asks first l (together s.tally runs.tally) new false)
+      (sym (lines_from-append (Line []) s.taken part ∙ ap (λ h. lines_from (Line []) s.taken ++ lines_from h part)
+          (sym s.held_is)))
+      (IsTallied-append M step asks first _ _ s.tally runs.tally now new false s.run runs.run);
   held_is = is ∙ ap (λ h. held_from h part) s.held_is ∙ sym (held_from-append (Line []) s.taken part);
   few = let few = s.few in let both = length-append s.taken part in omega (arith, few, both);
 }
 
-module _ (M : Type 0) (step : M → RawLine → Step M) (first now : M) (before : Streams) (l1 w1 : Option (List ℕ)) (held : RawLine) (room : ℕ)
-    (s : Served step first now before.left l1 before.written w1 held room) where
+module _ (M : Type 0) (step : M → RawLine → Step M) (asks : M → RawLine → Bool) (first now : M) (before : Streams)
+    (l1 : Option (List ℕ)) (p0 p1 : Progress) (held : RawLine) (room : ℕ)
+    (s : Served step asks first now before.left l1 p0 p1 held room) (opened : before.written ≡ p0.written) where
   -- every line of the bytes so far was answered, and none ended the session
-  answered : GoesOn step first (lines_of s.taken) s.put
-  answered = (now, lines_run step s.taken first now s.put false s.run)
+  tallied : IsTallied step asks first (lines_of s.taken) s.tally now false
+  tallied = tallied_lines step asks s.taken first now s.tally false s.run
+
+  -- so they are in a transcript
+  answered : GoesOn step first (lines_of s.taken) s.tally.out
+  answered = (now, IsTallied-run M step asks first (lines_of s.taken) s.tally now false tallied)
+
+  -- bytes that were put since the run began
+  put_since : (after : Streams) (p : Progress) (tally : Tally) → p.written ≡ after.written → Advances p0 p tally
+      → Appends before.written after.written tally.out
+  put_since after p tally is advances =
+      subst (λ w. Appends w after.written tally.out) (sym opened)
+      (subst (λ w. Appends p0.written w tally.out) is advances.writes)
 
   -- the source failed
-  pub served_fault : (after : Streams) → Keeps l1 after.left → w1 ≡ after.written → 0 < room → Serves step first before after InputFault
+  pub served_fault : (after : Streams) → Keeps l1 after.left → p1.written ≡ after.written → 0 < room
+      → ServesCounting None step asks first before after InputFault p0 p1
   served_fault after kept same some = record {
-    taken = s.taken;
-    put = s.put;
-    reads = Consumes-kept before.left l1 after.left s.taken s.reads kept;
-    writes = subst (λ w. Appends before.written w s.put) same s.writes;
-    right = (answered, (let few = s.few in omega arith));
+    tally = s.tally;
+    serves = record {
+      taken = s.taken;
+      reads = Consumes-kept before.left l1 after.left s.taken s.reads kept;
+      writes = put_since after p1 s.tally same s.advances;
+      right = (answered, (let few = s.few in omega arith));
+      tallied = (now, tallied);
+    };
+    advances = s.advances;
   }
 
   -- no byte more may be taken
-  pub served_too_long : (after : Streams) → l1 ≡ after.left → w1 ≡ after.written → room ≡ 0 → Serves step first before after InputTooLong
+  pub served_too_long : (after : Streams) → l1 ≡ after.left → p1.written ≡ after.written → room ≡ 0
+      → ServesCounting None step asks first before after InputTooLong p0 p1
   served_too_long after unread unput none = record {
-    taken = s.taken;
-    put = s.put;
-    reads = subst (λ l. Consumes before.left l s.taken) unread s.reads;
-    writes = subst (λ w. Appends before.written w s.put) unput s.writes;
-    right = (answered, (let few = s.few in omega arith));
+    tally = s.tally;
+    serves = record {
+      taken = s.taken;
+      reads = subst (λ l. Consumes before.left l s.taken) unread s.reads;
+      writes = put_since after p1 s.tally unput s.advances;
+      right = (answered, (let few = s.few in omega arith));
+      tallied = (now, tallied);
+    };
+    advances = s.advances;
   }
 
   -- The source came to its end.
-  module _ (after : Streams) (reads : Consumes l1 after.left []) (at_end : IsAtEnd after.left) (last : after.piece ≡ 0) where
+  module _ (after : Streams) (p2 : Progress) (holds : p2.written ≡ after.written) (reads : Consumes l1 after.left [])
+      (at_end : IsAtEnd after.left) (last : after.piece ≡ 0) where
     -- nothing more was taken
     reads_end : Consumes before.left after.left s.taken
-    reads_end = subst (Consumes before.left after.left) (append-nil s.taken) (Consumes-trans before.left l1 after.left s.taken [] s.reads reads)
+    reads_end = subst (Consumes before.left after.left) (append-nil s.taken)
+        (Consumes-trans before.left l1 after.left s.taken [] s.reads reads)
 
     -- the lines with the rest are those answered so far and what is held
     with_held : lines_with_rest s.taken ≡ lines_from (Line []) s.taken ++ held_line held
-    with_held = lines_with_rest-lines_from s.taken ∙ ap (λ h. lines_from (Line []) s.taken ++ held_line h) (sym s.held_is)
+    with_held = lines_with_rest-lines_from s.taken ∙ ap (λ h. lines_from (Line []) s.taken ++ held_line h)
+        (sym s.held_is)
 
     -- the rest was answered as a last line
-    pub served_end : (new : M) (ended : Bool) → 0 < room → RunsTo step now (held_line held) new ended w1 after.written → Serves step first before after Done
-    served_end new ended some runs = record {
-      taken = s.taken;
-      put = s.put ++ runs.out;
-      reads = reads_end;
-      writes = Appends-trans before.written w1 after.written s.put runs.out s.writes runs.writes;
-      right = inl (record {
-        at_end = at_end;
-        last = last;
-        few = let few = s.few in omega arith;
-        transcript = (
-          new,
-          ended,
-          subst (λ l. IsRun step first l (s.put ++ runs.out) new ended) (sym with_held)
-              (IsRun-append M step first _ _ s.put runs.out now new ended s.run runs.run),
-        );
-        none_ended = (s.put, (runs.out, refl), answered);
-      });
-    }
+    pub served_end : (new : M) (ended : Bool) → 0 < room → RunsTo step asks now (held_line held) new ended p1 p2
+        → ServesCounting None step asks first before after Done p0 p2
+    served_end new ended some runs =
+        let tally = together s.tally runs.tally in
+        let both = Advances-trans p0 p1 p2 s.tally runs.tally s.advances runs.advances in
+        let whole = subst (λ l. IsTallied step asks first l tally new ended) (sym with_held)
+        (IsTallied-append M step asks first _ _ s.tally runs.tally now new ended s.run runs.run) in
+        record {
+          tally = tally;
+          serves = record {
+            taken = s.taken;
+            reads = reads_end;
+            writes = put_since after p2 tally holds both;
+            right = inl (record {
+              at_end = at_end;
+              last = last;
+              few = let few = s.few in omega arith;
+              transcript = (new, ended, IsTallied-run M step asks first
+                  (lines_with_rest s.taken) tally new ended whole);
+              none_ended = (s.tally.out, (runs.tally.out, refl), answered);
+            });
+            tallied = inl (new, ended, whole);
+          };
+          advances = both;
+        }
 
     -- the reply to the rest broke off
-    pub served_cut_end : RunsPart step now (held_line held) w1 after.written → Serves step first before after OutputFault
+    pub served_cut_end : RunsPart step asks now (held_line held) p1 p2
+        → ServesCounting None step asks first before after OutputFault p0 p2
     served_cut_end runs =
-        let put = s.put ++ runs.out in
-        let broken = Cut-is M step first _ _ put with_held
-        (Cut-after M step first (lines_from (Line []) s.taken) (held_line held) s.put runs.out now s.run runs.cut) in
-        let none_later : earlier s.taken after.piece ≡ s.taken = ap (λ n. take n s.taken) (omega arith) ∙ take_all (length s.taken) s.taken (omega arith) in
+        let tally = together s.tally runs.tally in
+        let both = Advances-trans p0 p1 p2 s.tally runs.tally s.advances runs.advances in
+        let off = BreaksOff-is M step asks first _ _ tally with_held
+        (BreaksOff-after M step asks first (lines_from (Line []) s.taken) (held_line held) s.tally runs.tally now s.run
+            runs.cut) in
+        let broken = BreaksOff-cut M step asks first _ tally off in
+        let none_later : earlier s.taken after.piece ≡ s.taken =
+        ap (λ n. take n s.taken) (omega arith) ∙ take_all (length s.taken) s.taken (omega arith) in
         record {
-          taken = s.taken;
-          put = put;
-          reads = reads_end;
-          writes = Appends-trans before.written w1 after.written s.put runs.out s.writes runs.writes;
-          right = record {
-            few = let few = s.few in omega arith;
-            front = Cut-front M step first _ _ broken;
-            cut = broken;
-            in_last =
-                subst (λ t. length (lines_of t) ≤ length (lines_from (Line []) s.taken ++ runs.cut.before)) (sym none_later)
-                (let before = length-append (lines_from (Line []) s.taken) runs.cut.before in
-                let lines = ap length (lines_of-lines_from s.taken) in
-                omega (arith, before, lines));
-            has_feed = inr (at_end, last);
+          tally = tally;
+          serves = record {
+            taken = s.taken;
+            reads = reads_end;
+            writes = put_since after p2 tally holds both;
+            right = record {
+              few = let few = s.few in omega arith;
+              front = Cut-front M step first _ _ broken;
+              cut = broken;
+              in_last =
+                  subst (λ t. length (lines_of t) ≤ length (lines_from (Line []) s.taken ++ runs.cut.before))
+                  (sym none_later)
+                  (let before_it = length-append (lines_from (Line []) s.taken) runs.cut.before in
+                  let lines = ap length (lines_of-lines_from s.taken) in
+                  omega (arith, before_it, lines));
+              has_feed = inr (at_end, last);
+            };
+            tallied = off;
           };
+          advances = both;
         }
 
   -- The source gave a piece.
-  module _ (after : Streams) (part : List ℕ) (reads : Consumes l1 after.left part) where
+  module _ (after : Streams) (p2 : Progress) (holds : p2.written ≡ after.written) (part : List ℕ)
+      (reads : Consumes l1 after.left part) where
     -- the bytes so far and the piece were taken
     reads_more : Consumes before.left after.left (s.taken ++ part)
     reads_more = Consumes-trans before.left l1 after.left s.taken part s.reads reads
 
     -- one of its lines ended the session
-    pub served_ended : (new : M) → length part ≡ after.piece → after.piece ≤ room → RunsTo step now (lines_from held part) new true w1 after.written → Serves step first before after Done
-    served_ended new len within runs = record {
-      taken = s.taken ++ part;
-      put = s.put ++ runs.out;
-      reads = reads_more;
-      writes = Appends-trans before.written w1 after.written s.put runs.out s.writes runs.writes;
-      right = inr (record {
-        few = let few = s.few in let both = length-append s.taken part in omega (arith, few, both);
-        ended = (
-          new,
-          subst (λ l. IsRun step first l (s.put ++ runs.out) new true) (sym (lines_of-append s.taken part held s.held_is))
-              (IsRun-append M step first _ _ s.put runs.out now new true s.run runs.run),
-        );
-        in_last = (s.put, (runs.out, refl), subst (λ t. GoesOn step first (lines_of t) s.put) (sym (earlier-append s.taken part after.piece len)) answered);
-      });
-    }
+    pub served_ended : (new : M) → length part ≡ after.piece → after.piece ≤ room
+        → RunsTo step asks now (lines_from held part) new true p1 p2
+        → ServesCounting None step asks first before after Done p0 p2
+    served_ended new len within runs =
+        let tally = together s.tally runs.tally in
+        let both = Advances-trans p0 p1 p2 s.tally runs.tally s.advances runs.advances in
+        let whole = subst (λ l. IsTallied step asks first l tally new true)
+            (sym (lines_of-append s.taken part held s.held_is))
+        (IsTallied-append M step asks first _ _ s.tally runs.tally now new true s.run runs.run) in
+        record {
+          tally = tally;
+          serves = record {
+            taken = s.taken ++ part;
+            reads = reads_more;
+            writes = put_since after p2 tally holds both;
+            right = inr (record {
+              few = let few = s.few in let lens = length-append s.taken part in omega (arith, few, lens);
+              ended = (new, IsTallied-run M step asks first (lines_of (s.taken ++ part)) tally new true whole);
+              in_last = (
+                s.tally.out,
+                (runs.tally.out, refl),
+                subst (λ t. GoesOn step first (lines_of t) s.tally.out)
+                    (sym (earlier-append s.taken part after.piece len))
+                    answered,
+              );
+            });
+            tallied = inr (new, whole);
+          };
+          advances = both;
+        }
 
     -- the reply to one of its lines broke off
-    pub served_cut : length part ≡ after.piece → after.piece ≤ room → RunsPart step now (lines_from held part) w1 after.written → Serves step first before after OutputFault
+    pub served_cut : length part ≡ after.piece → after.piece ≤ room → RunsPart step asks now
+        (lines_from held part) p1 p2
+        → ServesCounting None step asks first before after OutputFault p0 p2
     served_cut len within runs =
-        let put = s.put ++ runs.out in
+        let tally = together s.tally runs.tally in
+        let both = Advances-trans p0 p1 p2 s.tally runs.tally s.advances runs.advances in
         let answered_lines = lines_from (Line []) s.taken in
         let rest = rest_line (rest_of (s.taken ++ part)) in
         let same = lines_of-append s.taken part held s.held_is in
-        let cut = Cut-after M step first answered_lines (lines_from held part) s.put runs.out now s.run runs.cut in
-        let broken = Cut-is M step first _ _ put (ap (λ l. l ++ rest) same) (Cut-more M step first (answered_lines ++ lines_from held part) rest put cut) in
+        let cut = BreaksOff-after M step asks first answered_lines
+            (lines_from held part) s.tally runs.tally now s.run runs.cut in
+        let off = BreaksOff-is M step asks first _ _ tally (ap (λ l. l ++ rest) same)
+        (BreaksOff-more M step asks first (answered_lines ++ lines_from held part) rest tally cut) in
+        let broken = BreaksOff-cut M step asks first _ tally off in
         record {
-          taken = s.taken ++ part;
-          put = put;
-          reads = reads_more;
-          writes = Appends-trans before.written w1 after.written s.put runs.out s.writes runs.writes;
-          right = record {
-            few = let few = s.few in let both = length-append s.taken part in omega (arith, few, both);
-            front = Cut-front M step first _ _ broken;
-            cut = broken;
-            in_last =
-                subst (λ t. length (lines_of t) ≤ length (answered_lines ++ runs.cut.before)) (sym (earlier-append s.taken part after.piece len))
-                (let both = length-append answered_lines runs.cut.before in
-                let lines = ap length (lines_of-lines_from s.taken) in
-                omega (arith, both, lines));
-            has_feed =
-                inl (let place = ap length (same ∙ cut.place) in
-                let both = length-append cut.before (cut.line ∷ cut.after) in
-                omega (arith, place, both));
+          tally = tally;
+          serves = record {
+            taken = s.taken ++ part;
+            reads = reads_more;
+            writes = put_since after p2 tally holds both;
+            right = record {
+              few = let few = s.few in let lens = length-append s.taken part in omega (arith, few, lens);
+              front = Cut-front M step first _ _ broken;
+              cut = broken;
+              in_last =
+                  subst (λ t. length (lines_of t) ≤ length (answered_lines ++ runs.cut.before))
+                  (sym (earlier-append s.taken part after.piece len))
+                  (let lens = length-append answered_lines runs.cut.before in
+                  let lines = ap length (lines_of-lines_from s.taken) in
+                  omega (arith, lens, lines));
+              has_feed =
+                  inl (let place = ap length (same ∙ cut.place) in
+                  let lens = length-append cut.before (cut.line ∷ cut.after) in
+                  omega (arith, place, lens));
+            };
+            tallied = off;
           };
+          advances = both;
         }
 
 -- Of a piece of n bytes.

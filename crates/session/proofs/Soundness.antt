@@ -1,21 +1,30 @@
--- What every step keeps: a refused line keeps the machine, a growing reply is a success whose refusal stands beside it, and only
--- a success ends the session.
-use Rattle.std.proofs.Common.{◌≡◌, ℕ, true, false, List, [], ◌∷◌, Option, None, get_or, arith, refl, sym, ap, ◌∙◌}
+-- What every step keeps: a refused line keeps the machine, a growing reply is a success whose refusal stands beside
+-- it, and only a success ends the session.
+use Rattle.std.proofs.Common.{◌≡◌, ℕ, Bool, true, false, cond, List, [], ◌∷◌, Option, None, get_or, arith, refl, sym, ap, subst, ◌∙◌}
 use Rattle.gtp_rules.specs.Lines.{RawLine, Line, TooLong}
 use Rattle.gtp_cmd.specs.Commands.{parsed_of}
 use Rattle.gtp_cmd.specs.Replies.{success_text}
 use Rattle.gtp_cmd.specs.declared.commands.Parsed.{Parsed}
 use Rattle.gtp_cmd.specs.declared.commands.Parsed.TheVariants as parsed
-use Rattle.gtp_cmd.specs.declared.refusals.RefuseText.TheVariants.{LineTooLong}
+use Rattle.gtp_cmd.specs.declared.refusals.RefuseText.TheVariants.{LineTooLong, VertexEmpty}
 use Rattle.session.specs.Machine.{Machine}
 use Rattle.session.specs.Matcher.{Matcher}
 use Rattle.session.specs.Effects.{Effect, Refused, Told, Grown, Ended, replied}
 use Rattle.session.specs.Answering.{effect_of, parsed_step, step}
-use Rattle.session.specs.Replies.{IsRefusal, IsSound}
+use Rattle.session.specs.Counting.{is_read, is_parsed_read, is_read_line, counted}
+use Rattle.session.specs.ReadingCommands.{answer_text, reading_of}
+use Rattle.session.specs.Replies.{IsReplyTo, IsRefusal, IsSound, reply_bytes}
+use Rattle.session.specs.declared.reply.Reply.{Reply}
+use Rattle.session.specs.declared.reply.Reply.TheVariants as reply
+use Rattle.gtp_cmd.specs.declared.commands.Command.{Command}
+use Rattle.gtp_cmd.specs.declared.commands.Command.TheVariants as command
+use Rattle.read_rules.specs.declared.question.Kind.TheVariants.{Attack, Defend}
+use Rattle.run_notes.specs.declared.notes.Counts.{Counts}
 
 -- a success is no refusal
 success_apart : (bytes more : List ℕ) → bytes ≡ 61 ∷ more → IsRefusal bytes → ⊥
-success_apart bytes more success refusal = let same : 61 ≡ 63 = ap (λ l. get_or l 0 0) (sym success ∙ refusal.1) in omega (arith, same)
+success_apart bytes more success refusal = let same : 61 ≡ 63 = ap (λ l. get_or l 0 0)
+    (sym success ∙ refusal.1) in omega (arith, same)
 
 -- the reply to a command, by what it does
 replied-sound : (old : Machine) (id : Option ℕ) (effect : Effect) → IsSound old (replied old id effect)
@@ -55,3 +64,53 @@ pub step-sound : (matcher : Matcher) (old : Machine) (line : RawLine) → IsSoun
 unfolding step
 step-sound matcher old TooLong = replied-sound old None (Refused LineTooLong)
 step-sound matcher old (Line text) = parsed_step-sound matcher old (parsed_of text old.size)
+
+-- a reading that is answered with a code tells something, and its reply does not grow
+read-effect : (matcher : Matcher) (old : Machine) (c : Command) → is_read old c ≡ true
+    → (text : List ℕ) × (effect_of matcher old c ≡ Told text old)
+read-effect matcher old (command.Attack p) stone =
+    let text = answer_text old.size (reading_of old Attack p) in
+    (text, ap (λ b. cond b (Told text old) (Refused VertexEmpty)) stone)
+read-effect matcher old (command.Defend p) stone =
+    let text = answer_text old.size (reading_of old Defend p) in
+    (text, ap (λ b. cond b (Told text old) (Refused VertexEmpty)) stone)
+read-effect matcher old _ none = absurd (let same : false ≡ true = none in cc)
+
+-- so does what a line says that asks for it
+read-parsed : (matcher : Matcher) (old : Machine) (p : Parsed) → is_parsed_read old p ≡ true
+    → (id : Option ℕ) × (text : List ℕ) × (parsed_step matcher old p ≡ replied old id (Told text old))
+read-parsed matcher old (parsed.Command id c) reads =
+    let told = read-effect matcher old c reads in (id, told.0, ap (replied old id) told.1)
+read-parsed matcher old _ none = absurd (let same : false ≡ true = none in cc)
+
+-- and the line
+read-line : (matcher : Matcher) (old : Machine) (line : RawLine) → is_read_line old line ≡ true
+    → (id : Option ℕ) × (text : List ℕ) × (step matcher old line ≡ replied old id (Told text old))
+unfolding step is_read_line
+read-line matcher old TooLong none = absurd (let same : false ≡ true = none in cc)
+read-line matcher old (Line text) reads = read-parsed matcher old (parsed_of text old.size) reads
+
+-- the reply to what tells something is no refusal
+told-not_refused : (old new : Machine) (id : Option ℕ) (text : List ℕ) (reply : Reply) → IsReplyTo old
+    (replied old id (Told text old)) reply new
+    → IsRefusal (reply_bytes reply) → ⊥
+told-not_refused old new id text reply.Nothing is refusal = let none = refusal.1 in cc
+told-not_refused old new id text (reply.Short bytes quit) is refusal = success_apart bytes _ is.0 refusal
+told-not_refused old new id text (reply.Text bytes) is refusal = success_apart bytes _ is.0 refusal
+told-not_refused old new id text (reply.NoMemory unanswered) is refusal = absurd (let same : false ≡ true = is.0 in cc)
+
+-- a line that was refused is no reading that was answered with a code
+pub read-not_refused : (old : Machine) (matcher : Matcher) (line : RawLine) (reply : Reply) (new : Machine)
+    → IsReplyTo old (step matcher old line) reply new → IsRefusal (reply_bytes reply) → is_read_line old line ≡ true → ⊥
+read-not_refused old matcher line reply new is refusal reads =
+    let told = read-line matcher old line reads in
+    told-not_refused old new told.0 told.1 reply (subst (λ given. IsReplyTo old given reply new) told.2 is) refusal
+
+-- where no reading was answered, the counts are as before
+pub counts_same : (reads : Bool) (before now : Counts) → (reads ≡ true → ⊥) → now.readings
+    ≡ counted before.readings reads
+    → now.fresh ≡ counted before.fresh reads → (reads ≡ false → now.trials ≡ before.trials) → now.refused
+    ≡ before.refused → now ≡ before
+counts_same true before now never readings fresh trials refused = absurd (never refl)
+counts_same false before now never readings fresh trials refused =
+    λ i. record { readings = readings i; fresh = fresh i; trials = trials refl i; refused = refused i }

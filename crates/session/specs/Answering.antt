@@ -1,5 +1,5 @@
--- What the machine gives for a line: the reply, whether it is a growing one, and the machine after it. A refused line keeps the
--- machine, and so does every line whose reply tells something.
+-- What the machine gives for a line: the reply, whether it is a growing one, and the machine after it. A refused line
+-- keeps the machine, and so does every line whose reply tells something.
 use Rattle.std.specs.Prelude.{ℕ, Bool, false, List, [], None, if◌then◌else◌, codes}
 use Rattle.gtp_rules.specs.Lines.{RawLine, Line, TooLong}
 use Rattle.gtp_rules.specs.Steps.{Step}
@@ -49,7 +49,8 @@ effect_of matcher old command.ListPatterns = patterns_listed matcher old
 
 -- the answer to what a line says
 abbrev pub parsed_step : Matcher → Machine → Parsed → Step Machine
-parsed_step matcher old parsed.Nothing = record { reply = []; grows = false; out_of_memory = []; next = old; ends = false }
+parsed_step matcher old parsed.Nothing = record { reply = []; grows = false; out_of_memory = []; next = old;
+    ends = false }
 parsed_step matcher old (parsed.Refused id text) = replied old id (Refused text)
 parsed_step matcher old (parsed.Command id command) = replied old id (effect_of matcher old command)
 

@@ -19,8 +19,8 @@ Grows (Told text next) = ⊥
 Grows (Grown text next) = Unit {0}
 Grows Ended = ⊥
 
--- The answer is what the command tells, and the machine is new after it. Want of memory stands only in place of a growing reply,
--- and a result that grew keeps the machine, since there may be no memory for its reply.
+-- The answer is what the command tells, and the machine is new after it. Want of memory stands only in place of a
+-- growing reply, and a result that grew keeps the machine, since there may be no memory for its reply.
 abbrev pub IsAnswer : Machine → Effect → Answer → Machine → Type 0
 IsAnswer old effect (answer.Told text) new = Succeeds effect text new
 IsAnswer old effect (answer.Grown text) new = (effect ≡ Grown text old) × (new ≡ old)

@@ -28,7 +28,8 @@ komi_kept old komi = Told [] (record old { komi = komi })
 abbrev pub played : Machine → Move → Effect
 played old move =
     if is_ok (moved (position_of old) move)
-    then (if length old.moves == most_moves then Refused HistoryFull else Grown [] (record old { moves = old.moves ++ move ∷ [] }))
+    then (if length old.moves == most_moves then Refused HistoryFull else Grown []
+        (record old { moves = old.moves ++ move ∷ [] }))
     else Refused IllegalMove
 
 -- the last move is taken from the list
@@ -58,7 +59,8 @@ of_stone old p told = if is_stone (cell_at (position_of old).cells p) then told 
 
 -- how many liberties the string of a point has
 abbrev pub liberties_counted : Machine → ℕ → Effect
-liberties_counted old p = of_stone old p (Told (decimal (liberties (position_of old).size (position_of old).cells p)) old)
+liberties_counted old p = of_stone old p
+    (Told (decimal (liberties (position_of old).size (position_of old).cells p)) old)
 
 -- the liberties of the string of a point
 abbrev pub liberties_found : Machine → ℕ → Effect

@@ -19,8 +19,16 @@ pub data Effect : Type 0 where
 
 -- the reply to a command with this effect, and the machine after it
 abbrev pub replied : Machine → Option ℕ → Effect → Step Machine
-replied old id (Refused text) = record { reply = refusal_text id text; grows = false; out_of_memory = []; next = old; ends = false }
-replied old id (Told text next) = record { reply = success_text id text; grows = false; out_of_memory = []; next = next; ends = false }
-replied old id (Grown text next) =
-    record { reply = success_text id text; grows = true; out_of_memory = refusal_text id OutOfMemory; next = next; ends = false }
-replied old id Ended = record { reply = success_text id []; grows = false; out_of_memory = []; next = old; ends = true }
+replied old id (Refused text) =
+    record { reply = refusal_text id text; grows = false; out_of_memory = []; next = old; ends = false }
+replied old id (Told text next) =
+    record { reply = success_text id text; grows = false; out_of_memory = []; next = next; ends = false }
+replied old id (Grown text next) = record {
+  reply = success_text id text;
+  grows = true;
+  out_of_memory = refusal_text id OutOfMemory;
+  next = next;
+  ends = false;
+}
+replied old id Ended =
+    record { reply = success_text id []; grows = false; out_of_memory = []; next = old; ends = true }

@@ -1,5 +1,5 @@
 -- The claim of `run`: by its outcome, what its files are, what it took from its source, put on its output and noted.
-use Rattle.std.specs.Prelude.{◌≡◌, ◌⊎◌, ℕ, ◌-◌, ◌^◌, ◌<◌, ◌≤◌, true, List, [], ◌++◌, length, take, Option, Result, Ok, Err}
+use Rattle.std.specs.Prelude.{◌≡◌, ◌⊎◌, ℕ, ◌-◌, ◌^◌, ◌<◌, ◌≤◌, Bool, true, false, MatchBool, List, [], ◌++◌, length, take, Option, Some, None, IsSomeAnd, MatchOption, Result, Ok, Err, codes}
 use Rattle.std.specs.Io.KnownBytes.{Consumes, Appends, IsAtEnd}
 use Rattle.gtp_io.specs.Outside.{Rose}
 use Rattle.gtp_rules.specs.Lines.{RawLine, lines_of, lines_with_rest}
@@ -9,15 +9,29 @@ use Rattle.pat_types.specs.declared.pattern.Pattern.{Pattern}
 use Rattle.session.specs.Machine.{first_machine}
 use Rattle.session.specs.Matcher.{plain_matcher}
 use Rattle.session.specs.Answering.{step}
-use Rattle.session.specs.Opening.{most_states, IsOpened, IsRefused, MissedIn}
-use Rattle.session.specs.Notes.{IsNoted, notes_text}
-use Rattle.session.specs.Outcomes.{Phase, NotTaken, NotOpened, Served, phase_of}
+use Rattle.session.specs.Counting.{is_read_line}
+use Rattle.session.specs.Tallies.{Tally, IsTallied, BreaksOff, kept_sum}
+use Rattle.session.specs.Opening.{IsOpened, IsRefused, MissedIn}
+use Rattle.session.specs.Notes.{note_of}
+use Rattle.go_options.specs.CommandLine.{is_taken, rows_in}
+use Rattle.go_options.specs.Found.{AreFound, words_in}
+use Rattle.go_options.specs.declared.options.Options.{Options}
+use Rattle.workload.specs.GeneratedLines.{generated_text}
+use Rattle.run_notes.specs.Notes.{notes_text}
+use Rattle.run_notes.specs.Putting.{IsNoted}
+use Rattle.run_notes.specs.declared.notes.Counts.{Counts}
+use Rattle.run_notes.specs.declared.notes.Sent.{Sent}
+use Rattle.session.specs.declared.outcome.OpenError.{OpenError}
+use Rattle.session.specs.declared.outcome.OpenError.TheVariants as opening
+use Rattle.session.specs.Outcomes.{Phase, NotTaken, NotOpened, Served, phase_of, unhad}
 use Rattle.session.specs.declared.outcome.Outcome.{Outcome}
 use Rattle.session.specs.declared.outcome.Outcome.TheVariants as told
+use Rattle.session.specs.declared.outcome.WordsError.{WordsError}
 use Rattle.session.specs.declared.outcome.End.{End}
 use Rattle.session.specs.declared.outcome.End.TheVariants.{Done, InputFault, OutputFault, InputTooLong}
 
--- what a source and an output tell: the bytes left, how many the last call gave, the bytes written, and how often each failed
+-- what a source and an output tell: the bytes left, how many the last call gave, the bytes written, and how often
+-- each failed
 pub record Streams : Type 0 where
   pub left : Option (List ℕ)
   pub piece : ℕ
@@ -25,7 +39,8 @@ pub record Streams : Type 0 where
   pub written : Option (List ℕ)
   pub output_faults : ℕ
 
--- what stands outside a run: the files by their names, those that failed, the streams, and the notes with how often they failed
+-- what stands outside a run: the files by their names, those that failed, the streams, and the notes with how often
+-- they failed
 pub record Outside : Type 0 where
   pub contents : List ℕ → Option (List ℕ)
   pub missed : List (List ℕ)
@@ -46,7 +61,8 @@ abbrev pub earlier : List ℕ → ℕ → List ℕ
 earlier taken piece = take (length taken - piece) taken
 
 -- The input was read to its end, and every line of it was answered. No line that has its line feed ended the session.
-pub record IsReadToEnd {M : Type 0} (step : M → RawLine → Step M) (first : M) (left : Option (List ℕ)) (taken put : List ℕ) (piece : ℕ) : Type 0 where
+pub record IsReadToEnd {M : Type 0} (step : M → RawLine → Step M) (first : M) (left : Option (List ℕ))
+    (taken put : List ℕ) (piece : ℕ) : Type 0 where
   pub at_end : IsAtEnd left
   pub last : piece ≡ 0
   pub few : length taken < most_taken
@@ -54,14 +70,16 @@ pub record IsReadToEnd {M : Type 0} (step : M → RawLine → Step M) (first : M
   pub none_ended : (front : List ℕ) × IsFront front put × GoesOn step first (lines_of taken) front
 
 -- A line that has its line feed ended the session, and it ends among the bytes of the last piece.
-pub record IsEnded {M : Type 0} (step : M → RawLine → Step M) (first : M) (taken put : List ℕ) (piece : ℕ) : Type 0 where
+pub record IsEnded {M : Type 0} (step : M → RawLine → Step M) (first : M) (taken put : List ℕ)
+    (piece : ℕ) : Type 0 where
   pub few : length taken ≤ most_taken
   pub ended : (last : M) × IsRun step first (lines_of taken) put last true
   pub in_last : (front : List ℕ) × IsFront front put × GoesOn step first (lines_of (earlier taken piece)) front
 
--- The output broke off within a reply. Its line ends among the bytes of the last piece, or it is the rest after the last line
--- feed of an input that was read to its end.
-pub record IsCutOff {M : Type 0} (step : M → RawLine → Step M) (first : M) (left : Option (List ℕ)) (taken put : List ℕ) (piece : ℕ) : Type 0 where
+-- The output broke off within a reply. Its line ends among the bytes of the last piece, or it is the rest after the
+-- last line feed of an input that was read to its end.
+pub record IsCutOff {M : Type 0} (step : M → RawLine → Step M) (first : M) (left : Option (List ℕ))
+    (taken put : List ℕ) (piece : ℕ) : Type 0 where
   pub few : length taken ≤ most_taken
   -- what was put is a proper front of a transcript
   pub front : (more : List ℕ) × (0 < length more) × IsTranscript step first (lines_with_rest taken) (put ++ more)
@@ -72,31 +90,105 @@ pub record IsCutOff {M : Type 0} (step : M → RawLine → Step M) (first : M) (
 
 -- by its end, what a run took and put; left is what the source has left, and piece how many bytes it gave last
 abbrev pub IsRight : {M : Type 0} → (M → RawLine → Step M) → M → Option (List ℕ) → List ℕ → List ℕ → ℕ → End → Type 0
-IsRight step first left taken put piece Done = IsReadToEnd step first left taken put piece ⊎ IsEnded step first taken put piece
-IsRight step first left taken put piece InputFault = GoesOn step first (lines_of taken) put × (length taken < most_taken)
-IsRight step first left taken put piece InputTooLong = GoesOn step first (lines_of taken) put × (length taken ≡ most_taken)
+IsRight step first left taken put piece Done = IsReadToEnd step first left taken put piece
+    ⊎ IsEnded step first taken put piece
+IsRight step first left taken put piece InputFault = GoesOn step first (lines_of taken) put
+    × (length taken < most_taken)
+IsRight step first left taken put piece InputTooLong = GoesOn step first (lines_of taken) put
+    × (length taken ≡ most_taken)
 IsRight step first left taken put piece OutputFault = IsCutOff step first left taken put piece
 
--- A run took some bytes from the source and put some on the output, as its end says. Where the source tells what it has left and
--- the output what it holds, these are those bytes.
-pub record Serves {M : Type 0} (step : M → RawLine → Step M) (first : M) (before after : Streams) (end : End) : Type 0 where
+-- by its end, which lines were answered, with their tally
+abbrev pub AreTallied : {M : Type 0} → (M → RawLine → Step M) → (M → RawLine → Bool) → M → List ℕ → Tally → End → Type 0
+AreTallied {M} step asks first taken tally Done =
+    ((last : M) × (ended : Bool) × IsTallied step asks first (lines_with_rest taken) tally last ended)
+    ⊎ ((last : M) × IsTallied step asks first (lines_of taken) tally last true)
+AreTallied {M} step asks first taken tally InputFault = (last : M) × IsTallied step asks first
+    (lines_of taken) tally last false
+AreTallied {M} step asks first taken tally InputTooLong = (last : M) × IsTallied step asks first
+    (lines_of taken) tally last false
+AreTallied step asks first taken tally OutputFault = BreaksOff step asks first (lines_with_rest taken) tally
+
+-- A run took some bytes from the source and put those of its tally on the output, as its end says. Where the source
+-- tells what it has left and the output what it holds, these are those bytes.
+pub record Serves {M : Type 0} (step : M → RawLine → Step M) (asks : M → RawLine → Bool) (first : M)
+    (before after : Streams)
+    (end : End) (tally : Tally) : Type 0 where
   pub taken : List ℕ
-  pub put : List ℕ
   pub reads : Consumes before.left after.left taken
-  pub writes : Appends before.written after.written put
-  pub right : IsRight step first after.left taken put after.piece end
+  pub writes : Appends before.written after.written tally.out
+  pub right : IsRight step first after.left taken tally.out after.piece end
+  pub tallied : AreTallied step asks first taken tally end
 
--- the files were opened, and the lines were served by the plain machine, which compares each diagram of their patterns with the board
-pub record IsServed (names : List (List ℕ)) (contents : List ℕ → Option (List ℕ)) (before after : Streams) (end : End) : Type 0 where
+-- the words of the command line are taken, and give these options
+pub record GiveOptions (words : List (List ℕ)) (options : Options) : Type 0 where
+  pub taken : is_taken words ≡ true
+  pub found : AreFound (rows_in words) options
+
+-- the files of the options were not opened, and the error says why; want of memory has no other cause
+abbrev pub IsUnopened : List (List ℕ) → (List ℕ → Option (List ℕ)) → OpenError → Type 0
+IsUnopened words contents error =
+    (error ≡ opening.NoMemory) ⊎ ((options : Options) × GiveOptions words options
+        × IsRefused contents options.files options.states error)
+
+-- Generated lines were served in place of the source, which stays as it was.
+pub record ServesGenerated {M : Type 0} (n : ℕ) (step : M → RawLine → Step M) (asks : M → RawLine → Bool) (first : M)
+    (before after : Streams) (end : End) (tally : Tally) : Type 0 where
+  pub left : after.left ≡ before.left
+  pub piece : after.piece ≡ before.piece
+  pub input_faults : after.input_faults ≡ before.input_faults
+  pub generated : (rest : List ℕ) × (last : ℕ) × Serves step asks first
+      (record before { left = Some (generated_text n); piece = 0 })
+      (record after { left = Some rest; piece = last }) end tally
+
+-- the lines of the source were served, or where so many lines are to be generated, these
+abbrev pub ServesLines : {M : Type 0} → Option ℕ → (M → RawLine → Step M) → (M → RawLine → Bool) → M → Streams
+    → Streams → End
+    → Tally → Type 0
+ServesLines None step asks first before after end tally = Serves step asks first before after end tally
+ServesLines (Some n) step asks first before after end tally = ServesGenerated n step asks first before after end tally
+
+-- the counts are told where they are asked for: the readings of the tally, each made afresh and none kept
+abbrev pub AreCounts : Bool → Option Counts → Tally → Type 0
+AreCounts asked counts tally = MatchBool asked (IsSomeAnd counts (λ c. (c.readings ≡ kept_sum 0 tally.readings)
+    × (c.fresh ≡ c.readings) × (c.refused ≡ 0))) (counts ≡ None)
+
+-- what was sent is told where lines are generated: the replies of the tally that went out whole, and its bytes
+abbrev pub IsSent : Option ℕ → Option Sent → Tally → Type 0
+IsSent generate sent tally = MatchOption generate (sent ≡ None) (λ n. IsSomeAnd sent
+    (λ s. (s.lines ≡ kept_sum 0 tally.replies) × (s.bytes ≡ kept_sum 0 (length tally.out))))
+
+-- The files of the options were opened, and the lines were served by the plain machine, which compares each diagram
+-- of their patterns with the board and reads as deep as the options say.
+pub record IsServed (options : Options) (contents : List ℕ → Option (List ℕ)) (before after : Streams) (end : End)
+    (counts : Option Counts) (sent : Option Sent) : Type 0 where
   pub patterns : List Pattern
-  pub opened : IsOpened contents names most_states patterns
-  pub serves : Serves (step (plain_matcher patterns)) first_machine before after end
+  pub opened : IsOpened contents options.files options.states patterns
+  pub tally : Tally
+  pub serves : ServesLines options.generate (step (plain_matcher patterns)) is_read_line
+      (first_machine options.depth options.branch)
+      before after end tally
+  pub counted : AreCounts options.stats counts tally
+  pub told : IsSent options.generate sent tally
 
--- by how far a run came: before the lines nothing was taken and nothing put, and the error says why the files were not opened
-abbrev pub Came : List (List ℕ) → (List ℕ → Option (List ℕ)) → Streams → Streams → Phase → Type 0
-Came names contents before after NotTaken = after ≡ before
-Came names contents before after (NotOpened error) = IsRefused contents names most_states error × (after ≡ before)
-Came names contents before after (Served end) = IsServed names contents before after end
+-- nothing was taken, put or counted
+pub record IsUntouched (before after : Streams) (counts : Option Counts) (sent : Option Sent) : Type 0 where
+  pub streams : after ≡ before
+  pub uncounted : counts ≡ None
+  pub unsent : sent ≡ None
+
+-- by how far a run came, what its words gave, what it did, and what it is to note
+abbrev pub Came : List (List ℕ) → (List ℕ → Option (List ℕ)) → Streams → Streams → Option Counts → Option Sent
+    → Phase → Type 0
+Came words contents before after counts sent NotTaken = (is_taken words ≡ false) × IsUntouched before after counts sent
+Came words contents before after counts sent (NotOpened error) = IsUnopened words contents error
+    × IsUntouched before after counts sent
+Came words contents before after counts sent (Served end) =
+    (options : Options) × GiveOptions words options × IsServed options contents before after end counts sent
+
+-- the file words of a command line
+abbrev pub files_in : List (List ℕ) → List (List ℕ)
+files_in words = words_in (codes "files") (rows_in words)
 
 -- by how far a run came, which names the loader missed
 abbrev pub MissedAfter : List (List ℕ) → List (List ℕ) → List (List ℕ) → Phase → Type 0
@@ -110,16 +202,26 @@ pub record IsCauseOf (fault : Type 0) (before now : ℕ) : Type 0 where
   pub rose : fault → Rose before now
   pub told : before < now → fault
 
--- what a run of these names did, by its outcome
-pub record Runs (names : List (List ℕ)) (before after : Outside) (outcome : Outcome) : Type 0 where
-  pub came : Came names before.contents before.streams after.streams (phase_of outcome)
-  pub missed : MissedAfter names before.missed after.missed (phase_of outcome)
+-- what a run of these words did, by its outcome, and what it counted
+pub record Runs (words : List (List ℕ)) (before after : Outside) (outcome : Outcome) : Type 0 where
+  pub counts : Option Counts
+  pub sent : Option Sent
+  pub came : Came words before.contents before.streams after.streams counts sent (phase_of outcome)
+  pub missed : MissedAfter (files_in words) before.missed after.missed (phase_of outcome)
   pub same : after.contents ≡ before.contents
   pub input : IsCauseOf (outcome ≡ told.InputFault) before.streams.input_faults after.streams.input_faults
   pub output : IsCauseOf (outcome ≡ told.OutputFault) before.streams.output_faults after.streams.output_faults
-  pub notes : IsNoted before.noted after.noted before.notes_faults after.notes_faults (notes_text outcome)
+  pub notes : IsNoted before.noted after.noted before.notes_faults after.notes_faults
+      (notes_text counts sent (note_of outcome))
 
--- the names that some words give, and none where the words could not be had
-abbrev pub names_had : {V E : Type 0} → (V → List (List ℕ)) → Result V E → List (List ℕ)
-names_had names (Ok words) = names words
-names_had names (Err error) = []
+-- A run loaded, took and put nothing, and noted how it ended.
+pub record DoesNothing (before after : Outside) (outcome : Outcome) : Type 0 where
+  pub missed : after.missed ≡ before.missed
+  pub same : after.contents ≡ before.contents
+  pub streams : after.streams ≡ before.streams
+  pub notes : IsNoted before.noted after.noted before.notes_faults after.notes_faults (note_of outcome)
+
+-- what a run did, by its words where they could be had; texts tells these
+abbrev pub RunsHad : {V : Type 0} → (V → List (List ℕ)) → Result V WordsError → Outside → Outside → Outcome → Type 0
+RunsHad texts (Ok words) before after outcome = Runs (texts words) before after outcome
+RunsHad texts (Err error) before after outcome = (outcome ≡ unhad error) × DoesNothing before after outcome

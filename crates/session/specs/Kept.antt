@@ -7,11 +7,12 @@ use Rattle.dfa_core.specs.Automata.{Row, accepted}
 use Rattle.dfa_core.specs.Words.{Word}
 use Rattle.gtp_rules.specs.Lines.{RawLine}
 use Rattle.gtp_rules.specs.Steps.{Step}
-use Rattle.session.specs.Machine.{Machine, first_plies, first_wide}
+use Rattle.run_notes.specs.declared.notes.Counts.{Counts}
+use Rattle.session.specs.Machine.{Machine}
 use Rattle.session.specs.Matcher.{Matcher, automaton_matcher}
 use Rattle.session.specs.Answering.{step}
 
--- settings and moves, the patterns, and the automaton by which their matches are found
+-- settings and moves, the patterns, the automaton by which their matches are found, and what was counted
 pub record Kept : Type 0 where
   pub size : ℕ
   pub moves : List Move
@@ -20,10 +21,12 @@ pub record Kept : Type 0 where
   pub wide : ℕ
   pub patterns : List Pattern
   pub automaton : List Row
+  pub counts : Counts
 
 -- the machine that a session is
 abbrev pub machine_of : Kept → Machine
-machine_of kept = record { size = kept.size; moves = kept.moves; komi = kept.komi; plies = kept.plies; wide = kept.wide }
+machine_of kept = record { size = kept.size; moves = kept.moves; komi = kept.komi; plies = kept.plies;
+    wide = kept.wide }
 
 -- how a session finds matches: by its automaton
 abbrev pub matcher_of : Kept → Matcher
@@ -33,16 +36,22 @@ matcher_of kept = automaton_matcher kept.patterns kept.automaton
 abbrev pub step_of : Kept → Machine → RawLine → Step Machine
 step_of kept machine line = step (matcher_of kept) machine line
 
--- what a session with these patterns and this automaton keeps before the first line
-abbrev pub first_kept : List Pattern → List Row → Kept
-first_kept patterns automaton = record {
+-- nothing was counted
+abbrev pub no_counts : Counts
+no_counts = record { readings = 0; fresh = 0; trials = 0; refused = 0 }
+
+-- what a session with these patterns, this automaton and readings of this many plies and wide plies keeps before the
+-- first line
+abbrev pub first_kept : List Pattern → List Row → ℕ → ℕ → Kept
+first_kept patterns automaton plies wide = record {
   size = largest_size;
   moves = [];
   komi = codes "0.0";
-  plies = first_plies;
-  wide = first_wide;
+  plies = plies;
+  wide = wide;
   patterns = patterns;
   automaton = automaton;
+  counts = no_counts;
 }
 
 -- each number that the automaton accepts is the place of one of the patterns

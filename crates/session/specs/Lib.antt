@@ -9,12 +9,14 @@ pub mod BoardCommands
 pub mod ReadingCommands
 pub mod MatchingCommands
 pub mod Answering
+pub mod Counting
+pub mod Tallies
 pub mod Kept
 pub mod Answers
 pub mod Replies
 pub mod Outcomes
 pub mod Notes
 pub mod Opening
-pub mod Opened
 pub mod Headline
+pub mod Opened
 pub mod Serving

@@ -18,17 +18,9 @@ pub record Machine : Type 0 where
   -- in how many of the first plies more is tried than the liberties of the strings
   pub wide : ℕ
 
--- how many plies a reading may have before the first line that says so
-abbrev pub first_plies : ℕ
-first_plies = 10
-
--- how many of them are wide before that line
-abbrev pub first_wide : ℕ
-first_wide = 2
-
--- the machine before the first line
-abbrev pub first_machine : Machine
-first_machine = record { size = largest_size; moves = []; komi = codes "0.0"; plies = first_plies; wide = first_wide }
+-- the machine before the first line, whose readings have this many plies and wide plies
+abbrev pub first_machine : ℕ → ℕ → Machine
+first_machine plies wide = record { size = largest_size; moves = []; komi = codes "0.0"; plies = plies; wide = wide }
 
 -- the position of the machine: its moves are played from the empty board
 abbrev pub position_of : Machine → BoardState

@@ -11,7 +11,8 @@ abbrev pub name_of : Option Pattern → List ℕ
 name_of None = []
 name_of (Some p) = p.name
 
--- a match of these patterns on a board of size s: the name of its pattern, its transformation and its point, parted by blanks
+-- a match of these patterns on a board of size s: the name of its pattern, its transformation and its point, parted
+-- by blanks
 abbrev pub match_text : List Pattern → ℕ → Match → List ℕ
 match_text patterns s z = name_of (slice_get patterns z.pattern) ++ codes " " ++ decimal z.transform ++ codes " " ++ vertex_text s z.at
 

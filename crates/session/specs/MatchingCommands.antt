@@ -8,7 +8,8 @@ use Rattle.session.specs.PatternTexts.{patterns_text}
 
 -- the matches for a friend are listed
 abbrev pub matches_listed : Matcher → Machine → Colour → Effect
-matches_listed matcher old friend = Grown (matches_text matcher.patterns (position_of old).size (matcher.matches old friend)) old
+matches_listed matcher old friend = Grown
+    (matches_text matcher.patterns (position_of old).size (matcher.matches old friend)) old
 
 -- the patterns are listed
 abbrev pub patterns_listed : Matcher → Machine → Effect

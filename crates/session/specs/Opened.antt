@@ -1,20 +1,48 @@
 -- The session with which a run begins to serve lines.
-use Rattle.std.specs.Prelude.{◌≡◌, ℕ, List, Option}
+use Rattle.std.specs.Prelude.{◌≡◌, ℕ, Bool, List, Option}
 use Rattle.pat_types.specs.declared.pattern.Pattern.{Pattern}
 use Rattle.gtp_lex.specs.Lines.{LinesState, no_line}
+use Rattle.go_options.specs.declared.options.Options.{Options}
 use Rattle.session.specs.Machine.{first_machine}
 use Rattle.session.specs.Matcher.{plain_matcher}
-use Rattle.session.specs.Kept.{Kept, machine_of, matcher_of}
-use Rattle.session.specs.Opening.{IsOpened}
+use Rattle.session.specs.Kept.{Kept, machine_of, matcher_of, no_counts}
+use Rattle.session.specs.Opening.{IsOpened, IsRefused}
+use Rattle.session.specs.Outcomes.{Phase, NotTaken, NotOpened, Served}
+use Rattle.session.specs.Headline.{Streams, ServesLines, IsServed, IsUntouched}
+use Rattle.session.specs.Tallies.{Tally, Progress, Advances}
+use Rattle.gtp_rules.specs.Lines.{RawLine}
+use Rattle.gtp_rules.specs.Steps.{Step}
+use Rattle.session.specs.declared.outcome.End.{End}
+use Rattle.run_notes.specs.declared.notes.Counts.{Counts}
+use Rattle.run_notes.specs.declared.notes.Sent.{Sent}
 
--- the session is the first machine, and finds the matches of these patterns as the plain matcher does
-pub record IsPlainWith (patterns : List Pattern) (session : Kept) : Type 0 where
-  pub machine : machine_of session ≡ first_machine
+-- the session is the first machine with these plies and wide plies, finds the matches of these patterns as the plain
+-- matcher does, and has counted nothing
+pub record IsPlainWith (patterns : List Pattern) (plies wide : ℕ) (session : Kept) : Type 0 where
+  pub machine : machine_of session ≡ first_machine plies wide
+  pub counts : session.counts ≡ no_counts
   pub matcher : matcher_of session ≡ plain_matcher patterns
 
--- the files were opened, the session is plain with their patterns, and no line has come
-pub record Opens (contents : List ℕ → Option (List ℕ)) (names : List (List ℕ)) (most : ℕ) (session : Kept) (lines : LinesState) : Type 0 where
+-- the files of the options were opened, the session is plain with their patterns, and no line has come
+pub record Opens (contents : List ℕ → Option (List ℕ)) (options : Options) (session : Kept)
+    (lines : LinesState) : Type 0 where
   pub patterns : List Pattern
-  pub opened : IsOpened contents names most patterns
-  pub plain : IsPlainWith patterns session
+  pub opened : IsOpened contents options.files options.states patterns
+  pub plain : IsPlainWith patterns options.depth options.branch session
   pub none : lines ≡ no_line
+
+-- how far a run with these options came: its files were not opened, or the lines were served
+abbrev pub CameBy : Options → (List ℕ → Option (List ℕ)) → Streams → Streams → Option Counts → Option Sent → Phase
+    → Type 0
+CameBy options contents before after counts sent NotTaken = ⊥
+CameBy options contents before after counts sent (NotOpened error) =
+    IsRefused contents options.files options.states error × IsUntouched before after counts sent
+CameBy options contents before after counts sent (Served end) = IsServed options contents before after end counts sent
+
+-- the lines were served with a tally, by which the counts rose
+pub record ServesCounting {M : Type 0} (generate : Option ℕ) (step : M → RawLine → Step M)
+    (asks : M → RawLine → Bool) (first : M)
+    (before after : Streams) (end : End) (old new : Progress) : Type 0 where
+  pub tally : Tally
+  pub serves : ServesLines generate step asks first before after end tally
+  pub advances : Advances old new tally

@@ -1,4 +1,5 @@
--- How a run opens the pattern files, which its words name: it joins their contents in their order and reads the joined text.
+-- How a run opens the pattern files, which its words name: it joins their contents in their order and reads the
+-- joined text.
 use Rattle.std.specs.Prelude.{◌≡◌, ◌≤◌, ℕ, ◌-◌, ◌==◌, ◌&&◌, not, Bool, false, List, [], ◌∷◌, ◌++◌, length, map, slice_index, Option, Some, None, Contains, if◌then◌else◌}
 use Rattle.std.specs.List.{flat_map, list_any}
 use Rattle.gtp_io.specs.declared.errors.LoadError.{LoadError}
@@ -18,23 +19,6 @@ use Rattle.session.specs.declared.outcome.OpenError.TheVariants.{FileFault, BadD
 -- the most patterns of a database
 abbrev pub most_patterns : ℕ
 most_patterns = 4096
-
--- the most states of an automaton
-abbrev pub most_states : ℕ
-most_states = 100000
-
--- the byte with which an option begins
-abbrev pub hyphen : ℕ
-hyphen = 45
-
--- the word begins with a hyphen, so it names no file
-abbrev pub is_option : List ℕ → Bool
-is_option [] = false
-is_option (b ∷ bs) = b == hyphen
-
--- one of the words is an option
-abbrev pub has_option : List (List ℕ) → Bool
-has_option words = list_any is_option words
 
 -- the contents of a file are not empty and do not end in a line feed
 abbrev pub needs_feed : List ℕ → Bool
@@ -88,7 +72,8 @@ MissedBy names before now load.Failed = MissedOne names before now
 MissedBy names before now load.NoMemory = now ≡ before
 
 -- the joined files have no fault, and the patterns are their entries
-pub record IsDatabase (contents : List ℕ → Option (List ℕ)) (names : List (List ℕ)) (patterns : List Pattern) : Type 0 where
+pub record IsDatabase (contents : List ℕ → Option (List ℕ)) (names : List (List ℕ))
+    (patterns : List Pattern) : Type 0 where
   pub text : List ℕ
   pub joined : IsJoined contents names text
   pub sound : first_fault [] text ≡ None
@@ -105,7 +90,8 @@ abbrev pub HasFewStates : List Pattern → ℕ → Type 0
 HasFewStates patterns most = (n : ℕ) × HasStates patterns n × (n ≤ most)
 
 -- the joined files have no fault, their entries are the patterns, and these have no more states than there may be
-pub record IsOpened (contents : List ℕ → Option (List ℕ)) (names : List (List ℕ)) (most : ℕ) (patterns : List Pattern) : Type 0 where
+pub record IsOpened (contents : List ℕ → Option (List ℕ)) (names : List (List ℕ)) (most : ℕ)
+    (patterns : List Pattern) : Type 0 where
   pub database : IsDatabase contents names patterns
   pub few : HasFewStates patterns most
 

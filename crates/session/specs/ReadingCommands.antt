@@ -27,7 +27,8 @@ answer_text s answer = decimal answer.code ++ move_text s answer.at
 
 -- the answer to a question about the stone at p, read on the machine's position as deep as the machine says
 abbrev pub reading_of : Machine → Kind → ℕ → Answer
-reading_of machine kind p = answer_of (asked_on (position_of machine) kind p machine.plies machine.wide) (position_of machine)
+reading_of machine kind p = answer_of (asked_on (position_of machine) kind p machine.plies machine.wide)
+    (position_of machine)
 
 -- the answer to a question about the string of a point is told
 abbrev pub read : Machine → Kind → ℕ → Effect

@@ -22,13 +22,14 @@ reply_ends (reply.Short text quit) = quit
 reply_ends (reply.Text bytes) = false
 reply_ends (reply.NoMemory id) = false
 
--- The reply is what the step gave, and the machine is new after it; want of memory stands only in place of a growing reply, and
--- then the machine is as before. The reply has bytes.
+-- The reply is what the step gave, and the machine is new after it; want of memory stands only in place of a growing
+-- reply, and then the machine is as before. The reply has bytes.
 abbrev pub IsReply : {M : Type 0} → M → Step M → Reply → M → Type 0
 IsReply old given reply.Nothing new = ⊥
 IsReply old given (reply.Short text quit) new = (text ≡ given.reply) × (quit ≡ given.ends) × (new ≡ given.next)
 IsReply old given (reply.Text bytes) new = (bytes ≡ given.reply) × (false ≡ given.ends) × (new ≡ given.next)
-IsReply old given (reply.NoMemory id) new = (given.grows ≡ true) × (refusal_text id OutOfMemory ≡ given.out_of_memory) × (new ≡ old)
+IsReply old given (reply.NoMemory id) new = (given.grows ≡ true)
+    × (refusal_text id OutOfMemory ≡ given.out_of_memory) × (new ≡ old)
 
 -- the reply to a line, which is none where the step gave no reply
 abbrev pub IsReplyTo : {M : Type 0} → M → Step M → Reply → M → Type 0
@@ -58,8 +59,8 @@ IsSuccess bytes = (more : List ℕ) × (bytes ≡ equals_sign ∷ more)
 abbrev pub IsRefusal : List ℕ → Type 0
 IsRefusal bytes = (more : List ℕ) × (bytes ≡ question_mark ∷ more)
 
--- The step keeps its word: a refused line keeps the machine, a growing reply is a success with a refusal beside it, and a line
--- that ends the session is a success that keeps the machine.
+-- The step keeps its word: a refused line keeps the machine, a growing reply is a success with a refusal beside it,
+-- and a line that ends the session is a success that keeps the machine.
 pub record IsSound {M : Type 0} (old : M) (given : Step M) : Type 0 where
   pub refused : IsRefusal given.reply → given.next ≡ old
   pub growing : given.grows ≡ true → IsSuccess given.reply × IsRefusal given.out_of_memory

@@ -1,42 +1,74 @@
--- What the loops of a run say of the lines that they answer and of the bytes that they put, by any machine M and any step.
+-- What the loops of a run say of the lines that they answer, of the bytes that they put and of what they count, by any
+-- machine M, any step, and any test of the lines that are counted as readings.
 use Rattle.std.specs.Prelude.{◌≡◌, ℕ, ◌<◌, Bool, List, ◌++◌, length, Option}
 use Rattle.std.specs.Io.KnownBytes.{Appends}
 use Rattle.gtp_rules.specs.Lines.{RawLine}
 use Rattle.gtp_rules.specs.Steps.{Step}
-use Rattle.gtp_rules.specs.Transcript.{Answers, IsRun, Cut}
+use Rattle.gtp_rules.specs.Transcript.{Answers}
+use Rattle.run_notes.specs.declared.notes.Counts.{Counts}
+use Rattle.run_notes.specs.declared.notes.Sent.{Sent}
+use Rattle.session.specs.Kept.{Kept}
+use Rattle.session.specs.Tallies.{Tally, Progress, Advances, IsTallied, BreaksOff, tally_of, cut_tally, kept_sum}
 
--- a front of the bytes was put, and not all of them
-pub record PutsPart (old new : Option (List ℕ)) (bytes : List ℕ) : Type 0 where
+-- each reading that was counted was made afresh, and none was kept
+pub record IsAfresh (counts : Counts) : Type 0 where
+  pub all : counts.fresh ≡ counts.readings
+  pub none : counts.refused ≡ 0
+
+-- how far a run is: what its output holds, what its session counted, and what was sent
+abbrev pub progress_of : Option (List ℕ) → Kept → Sent → Progress
+progress_of written session sent =
+    record { written = written; readings = session.counts.readings; replies = sent.lines; bytes = sent.bytes }
+
+-- the bytes were put and counted
+pub record Puts (old new : Option (List ℕ)) (before now : Sent) (bytes : List ℕ) : Type 0 where
+  pub writes : Appends old new bytes
+  pub lines : now.lines ≡ before.lines
+  pub bytes_sent : now.bytes ≡ kept_sum before.bytes (length bytes)
+
+-- a front of the bytes was put and counted, and not all of them
+pub record PutsPart (old new : Option (List ℕ)) (before now : Sent) (bytes : List ℕ) : Type 0 where
   pub part : List ℕ
   pub missing : List ℕ
   pub whole : bytes ≡ part ++ missing
   pub proper : 0 < length missing
-  pub writes : Appends old new part
+  pub puts : Puts old new before now part
+
+-- the bytes were put and counted, and so was the reply that they are
+pub record PutsReply (old new : Option (List ℕ)) (before now : Sent) (bytes : List ℕ) : Type 0 where
+  pub writes : Appends old new bytes
+  pub lines : now.lines ≡ kept_sum before.lines 1
+  pub bytes_sent : now.bytes ≡ kept_sum before.bytes (length bytes)
 
 -- the line was answered, and its reply was put whole
-pub record Replies {M : Type 0} (step : M → RawLine → Step M) (from : M) (line : RawLine) (to : M) (ends : Bool) (old new : Option (List ℕ)) : Type 0 where
+pub record Replies {M : Type 0} (step : M → RawLine → Step M) (asks : M → RawLine → Bool) (from : M) (line : RawLine)
+    (to : M) (ends : Bool) (old new : Progress) : Type 0 where
   pub reply : List ℕ
   pub answers : Answers step from line reply to ends
-  pub writes : Appends old new reply
+  pub advances : Advances old new (tally_of (asks from line) reply)
 
 -- the line was answered, and its reply was put in part
-pub record RepliesPart {M : Type 0} (step : M → RawLine → Step M) (from : M) (line : RawLine) (old new : Option (List ℕ)) : Type 0 where
+pub record RepliesPart {M : Type 0} (step : M → RawLine → Step M) (asks : M → RawLine → Bool) (from : M)
+    (line : RawLine)
+    (old new : Progress) : Type 0 where
   pub part : List ℕ
   pub missing : List ℕ
   pub next : M
   pub ends : Bool
   pub answers : Answers step from line (part ++ missing) next ends
   pub proper : 0 < length missing
-  pub writes : Appends old new part
+  pub advances : Advances old new (cut_tally (asks from line) part)
 
 -- the lines were answered, and their replies were put whole
-pub record RunsTo {M : Type 0} (step : M → RawLine → Step M) (from : M) (lines : List RawLine) (to : M) (ended : Bool) (old new : Option (List ℕ)) : Type 0 where
-  pub out : List ℕ
-  pub run : IsRun step from lines out to ended
-  pub writes : Appends old new out
+pub record RunsTo {M : Type 0} (step : M → RawLine → Step M) (asks : M → RawLine → Bool) (from : M)
+    (lines : List RawLine) (to : M) (ended : Bool) (old new : Progress) : Type 0 where
+  pub tally : Tally
+  pub run : IsTallied step asks from lines tally to ended
+  pub advances : Advances old new tally
 
 -- the lines were answered up to one, whose reply was put in part
-pub record RunsPart {M : Type 0} (step : M → RawLine → Step M) (from : M) (lines : List RawLine) (old new : Option (List ℕ)) : Type 0 where
-  pub out : List ℕ
-  pub cut : Cut step from lines out
-  pub writes : Appends old new out
+pub record RunsPart {M : Type 0} (step : M → RawLine → Step M) (asks : M → RawLine → Bool) (from : M)
+    (lines : List RawLine) (old new : Progress) : Type 0 where
+  pub tally : Tally
+  pub cut : BreaksOff step asks from lines tally
+  pub advances : Advances old new tally

@@ -4,7 +4,8 @@ ghost use Rattle.gtp_cmd.specs.Rooms.{result_room};
 ghost use Rattle.session.specs.Machine.{Machine};
 ghost use Rattle.session.specs.Effects.{Effect, Grown, replied};
 ghost use Rattle.session.specs.Answers.{IsAnswer};
-ghost use Rattle.session.specs.Replies.{IsReply};
+ghost use Rattle.session.specs.Replies.{IsReply, reply_bytes};
+ghost use Rattle.session.specs.Tallies.{reply_count};
 
 use crate::reply::Reply;
 use go_base::{Bytes, NoMemory};
@@ -90,7 +91,8 @@ pub(crate) fn told_number(n: u32) -> Answer
 
 /// A success with a result that took memory, where it was found.
 pub(crate) fn grown(text: Result<Bytes, NoMemory>) -> Answer
-    ensures { (old : Machine) (told : List ℕ) → IfOk text (λ bytes. bytes ≡ told) → IsAnswer old (Grown told old) result old }
+    ensures { (old : Machine) (told : List ℕ) → IfOk text (λ bytes. bytes ≡ told) → IsAnswer old
+        (Grown told old) result old }
 {
     match text {
         Ok(text) => Answer::Grown(text),
@@ -101,7 +103,9 @@ pub(crate) fn grown(text: Result<Bytes, NoMemory>) -> Answer
 impl Answer {
     /// The reply that this answer is behind an id. Takes memory for a result that did.
     pub(crate) fn reply(self, alloc: Global, id: Option<u32>) -> Reply
-        ensures { (old new : Machine) (effect : Effect) → IsAnswer old effect self new → IsReply old (replied old id effect) result new }
+        ensures reply { (old new : Machine) (effect : Effect) → IsAnswer old effect self new
+            → IsReply old (replied old id effect) result new }
+        ensures bytes { reply_count (reply_bytes result) ≡ 1 }
     {
         match self {
             Answer::Told(text) => Reply::Short {

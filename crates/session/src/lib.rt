@@ -1,8 +1,9 @@
 //! A session of the protocol, and the top call of the program.
 //!
-//! The machine of a session keeps a size, a list of moves, a komi and how deep it reads, and its position is the replay of the
-//! moves. What it gives for a line, by a way of finding the matches of its patterns, is the definition `step`; `Session::line`
-//! gives exactly this, and `run` writes for a stream of lines a transcript of this machine, by an outcome that tells why it ended.
+//! The machine of a session keeps a size, a list of moves, a komi and how deep it reads, and its position is the
+//! replay of the moves. What it gives for a line, by a way of finding the matches of its patterns, is the definition
+//! `step`; `Session::line` gives exactly this, and `run` writes for a stream of lines a transcript of this machine,
+//! by an outcome that tells why it ended.
 #![tactic(auto)]
 
 mod answer;

@@ -72,7 +72,8 @@ pub(crate) fn matches_text(
     friend: Colour,
 ) -> Result<Bytes, NoMemory>
     requires { NumbersPatterns machine.now patterns.now }
-    ensures { IfOk result (λ text. text ≡ matches_text patterns.now position.now.size (machine_matches machine.now patterns.now position.now friend)) }
+    ensures { IfOk result (λ text. text ≡ matches_text patterns.now position.now.size
+        (machine_matches machine.now patterns.now position.now friend)) }
 {
     let found = matches(alloc, patterns, machine, position, friend)?;
     list_text(alloc, patterns, position.size(), found.as_slice())

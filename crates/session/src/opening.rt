@@ -4,39 +4,19 @@ ghost use Rattle.gtp_io.specs.Loading.{missed_after};
 ghost use Rattle.db_grammar.specs.Entries.{entry_of};
 ghost use Rattle.db_grammar.specs.Faults.{first_fault, entries};
 ghost use Rattle.db_read.specs.Reading.{BlamesAt};
-ghost use Rattle.session.specs.Opening.{is_option as begins_with_hyphen, has_option as has_one, most_patterns, needs_feed, added_feed, Adds, IsJoined, MissedBy, MissedIn, HasFewStates, RefusesStates, IsRefused};
+ghost use Rattle.go_options.specs.Found.{AreInRange};
+ghost use Rattle.session.specs.Opening.{most_patterns, needs_feed, added_feed, Adds, IsJoined, MissedBy, MissedIn, HasFewStates, RefusesStates, IsRefused};
 ghost use Rattle.session.specs.Opened.{IsPlainWith, Opens};
 
 use crate::outcome::OpenError;
 use crate::session::Session;
 use db_read::{DbError, read};
 use dfa_join::compile;
+use go_options::Options;
 use gtp_io::{LoadError, Loader};
 use gtp_lex::Lines;
 use pat_types::Pattern;
 use std::alloc::{AllocError, Global};
-
-/// Whether a word begins with a hyphen, so that it names no file.
-fn is_option(word: &str) -> bool
-    ensures { result ≡ begins_with_hyphen word.now }
-{
-    match word.as_bytes().first() {
-        Some(b) => *b == b'-',
-        None => false,
-    }
-}
-
-/// Whether one of the words begins with a hyphen.
-pub(crate) fn has_option(words: &[String]) -> bool
-    ensures { result ≡ has_one (map string_bytes words.now) }
-{
-    for word in words {
-        if is_option(word.as_str()) {
-            return true;
-        }
-    }
-    false
-}
 
 /// Whether the contents of a file are not empty and do not end in a line feed.
 fn needs_feed(text: &[u8]) -> bool
@@ -83,7 +63,8 @@ fn joined<L: Loader>(alloc: Global, names: &[String], files: &mut L) -> Result<V
 
 /// The patterns of a text without a fault.
 fn patterns_in(alloc: Global, text: &[u8]) -> Result<Vec<Pattern>, DbError>
-    ensures ok { IfOk result (λ patterns. (first_fault [] text.now ≡ None) × (map entry_of patterns.items ≡ entries text.now)) }
+    ensures ok { IfOk result (λ patterns. (first_fault [] text.now ≡ None)
+        × (map entry_of patterns.items ≡ entries text.now)) }
     ensures few { IfOk result (λ patterns. length patterns.items ≤ most_patterns) }
     ensures err { IfErr result (λ error. BlamesAt error (first_fault [] text.now)) }
 {
@@ -97,34 +78,39 @@ pub(crate) struct Opened {
     pub(crate) lines: Lines,
 }
 
-/// A session with these patterns, by their automaton.
-fn session_with(alloc: Global, patterns: Vec<Pattern>, most: u32) -> Result<Session, OpenError>
-    requires { length patterns.items ≤ most_patterns }
-    ensures ok { IfOk result (λ session. IsPlainWith patterns.items session) }
-    ensures few { OnOk result (HasFewStates patterns.items most) }
-    ensures err { IfErr result (RefusesStates patterns.items most) }
+/// A session with these patterns, by their automaton, with the depths and at most the states of the options.
+fn session_with(
+    alloc: Global,
+    patterns: Vec<Pattern>,
+    options: &Options,
+) -> Result<Session, OpenError>
+    requires few { length patterns.items ≤ most_patterns }
+    requires ranges { AreInRange options.now }
+    ensures ok { IfOk result (λ session. IsPlainWith patterns.items options.now.depth options.now.branch session) }
+    ensures few { OnOk result (HasFewStates patterns.items options.now.states) }
+    ensures err { IfErr result (RefusesStates patterns.items options.now.states) }
 {
-    let machine = compile(alloc, patterns.as_slice(), most)?;
-    Ok(Session::new(alloc, patterns, machine)?)
+    let machine = compile(alloc, patterns.as_slice(), options.states)?;
+    Ok(Session::new(alloc, patterns, machine, options)?)
 }
 
-/// Opens the files with these names: joins their contents, reads them as one database and makes its patterns one automaton of at
-/// most so many states. Takes all memory that the run asks for before its first line.
+/// Opens the files of the options: joins their contents, reads them as one database and makes its patterns one
+/// automaton. Takes all memory that the run asks for before its first line.
 pub(crate) fn open<L: Loader>(
     alloc: Global,
-    names: &[String],
+    options: &Options,
     files: &mut L,
-    most: u32,
 ) -> Result<Opened, OpenError>
-    ensures ok { IfOk result (λ opened. Opens (L.contents files.old) (map string_bytes names.now) most opened.session opened.lines) }
+    requires { AreInRange options.now }
+    ensures ok { IfOk result (λ opened. Opens (L.contents files.old) options.now opened.session opened.lines) }
     ensures kept { OnOk result (L.missed files.new ≡ L.missed files.old) }
-    ensures err { IfErr result (IsRefused (L.contents files.old) (map string_bytes names.now) most) }
-    ensures missed { IfErr result (MissedIn (map string_bytes names.now) (L.missed files.old) (L.missed files.new)) }
+    ensures err { IfErr result (IsRefused (L.contents files.old) options.now.files options.now.states) }
+    ensures missed { IfErr result (MissedIn options.now.files (L.missed files.old) (L.missed files.new)) }
     ensures same { L.contents files.new ≡ L.contents files.old }
 {
-    let text = joined(alloc, names, files)?;
+    let text = joined(alloc, options.files.as_slice(), files)?;
     let patterns = patterns_in(alloc, text.as_slice())?;
-    let session = session_with(alloc, patterns, most)?;
+    let session = session_with(alloc, patterns, options)?;
     let lines = Lines::new(alloc)?;
     Ok(Opened { session, lines })
 }

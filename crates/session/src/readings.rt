@@ -11,17 +11,28 @@ use itoa::Buffer;
 use read_moves::Depths;
 use read_tree::{Answer, Kind, Spot, attack, defend};
 
-/// The answer to a question about a stone of the position, read afresh.
-pub(crate) fn reading(position: &Position, kind: Kind, target: Point, depths: Depths) -> Answer
+/// The answer to a question about a stone of the position, read afresh, and how many moves were tried.
+pub(crate) fn reading(
+    position: &Position,
+    kind: Kind,
+    target: Point,
+    depths: Depths,
+) -> (Answer, u64)
     requires on_board { target < position.now.size * position.now.size }
     requires stone { cell_at position.now.cells target ≢ Cell.Empty }
-    ensures answer { result ≡ answer_of (asked_on position.now kind target depths.plies depths.wide) position.now }
-    ensures on_board { IfSome result.at (IsOnBoard position.now.size) }
+    ensures answer { result.0 ≡ answer_of (asked_on position.now kind target depths.plies depths.wide) position.now }
+    ensures on_board { IfSome result.0.at (IsOnBoard position.now.size) }
 {
     let watch = Watch::new(position);
     match kind {
-        Kind::Attack => attack(watch, target, depths).answer,
-        Kind::Defend => defend(watch, target, depths).answer,
+        Kind::Attack => {
+            let told = attack(watch, target, depths);
+            (told.answer, told.trials)
+        }
+        Kind::Defend => {
+            let told = defend(watch, target, depths);
+            (told.answer, told.trials)
+        }
     }
 }
 

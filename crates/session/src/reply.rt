@@ -14,7 +14,8 @@ pub enum Reply {
     Short { text: Short, quit: bool },
     /// A text that took memory.
     Text { bytes: Bytes },
-    /// There was no memory for a growing reply: the refusal `out of memory` is put in its place, and the line counts as not sent.
+    /// There was no memory for a growing reply: the refusal `out of memory` is put in its place, and the line counts
+    /// as not sent.
     NoMemory { id: Option<u32> },
 }
 

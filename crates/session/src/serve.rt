@@ -8,9 +8,12 @@ ghost use Rattle.gtp_lex.specs.Held.{lines_from, held_from, held_line};
 ghost use Rattle.gtp_lex.specs.Lines.{no_line};
 ghost use Rattle.gtp_lex.specs.LinesTaken.{taken_of, given_state};
 ghost use Rattle.gtp_lex.specs.Raw.{raw_line};
-ghost use Rattle.session.specs.Headline.{Serves, IsCauseOf};
+ghost use Rattle.session.specs.Counting.{is_read_line};
+ghost use Rattle.session.specs.Headline.{IsCauseOf};
+ghost use Rattle.session.specs.Opened.{ServesCounting};
 ghost use Rattle.session.specs.Kept.{machine_of, matcher_of, step_of};
-ghost use Rattle.session.specs.Serving.{PutsPart, Replies, RepliesPart, RunsTo, RunsPart};
+ghost use Rattle.session.specs.Tallies.{kept_sum};
+ghost use Rattle.session.specs.Serving.{IsAfresh, Puts, PutsPart, PutsReply, progress_of, Replies, RepliesPart, RunsTo, RunsPart};
 
 use crate::outcome::End;
 use crate::reply::Reply;
@@ -18,6 +21,7 @@ use crate::session::Session;
 use gtp_cmd::{RefuseText, refusal};
 use gtp_io::{Failed, Sink, Source};
 use gtp_lex::{Lines, Raw, Taken};
+use run_notes::Sent;
 
 /// The most bytes that are asked of a source at once.
 const PIECE: usize = 4096;
@@ -25,51 +29,70 @@ const PIECE: usize = 4096;
 /// How many bytes are too many to take.
 const MOST_TAKEN: usize = 1 << 32;
 
-/// Puts all the bytes, or fails where the sink does.
-pub(crate) fn put_all<K: Sink>(output: &mut K, bytes: &[u8]) -> Result<(), Failed>
-    ensures ok { OnOk result (Appends (K.written output.old) (K.written output.new) bytes.now) }
-    ensures part { OnErr result (PutsPart (K.written output.old) (K.written output.new) bytes.now) }
+/// A count after n more; it stands still at the greatest value of a u64.
+fn added(count: u64, n: u64) -> u64
+    ensures { result ≡ kept_sum count n }
+{
+    count.saturating_add(n)
+}
+
+/// Puts all the bytes, and counts them, or fails where the sink does.
+fn put_all<K: Sink>(output: &mut K, bytes: &[u8], sent: &mut Sent) -> Result<(), Failed>
+    ensures ok { OnOk result (Puts (K.written output.old) (K.written output.new) sent.old sent.new bytes.now) }
+    ensures part { OnErr result (PutsPart (K.written output.old) (K.written output.new) sent.old sent.new bytes.now) }
     ensures cause { IsCounted (K.faults output.old) (K.faults output.new) result }
 {
     let mut rest = bytes;
     while !rest.is_empty() {
         let count = output.put(rest)?;
+        sent.bytes = added(sent.bytes, count as u64);
         rest = &rest[count..];
     }
     Ok(())
 }
 
-/// Puts two pieces, the second where the first went out whole.
-pub(crate) fn put_both<K: Sink>(output: &mut K, first: &[u8], second: &[u8]) -> Result<(), Failed>
-    ensures ok { OnOk result (Appends (K.written output.old) (K.written output.new) (first.now ++ second.now)) }
-    ensures part { OnErr result (PutsPart (K.written output.old) (K.written output.new) (first.now ++ second.now)) }
+/// Puts a reply, and counts it where it went out whole.
+fn put_reply<K: Sink>(output: &mut K, reply: &[u8], sent: &mut Sent) -> Result<(), Failed>
+    ensures ok { OnOk result (PutsReply (K.written output.old) (K.written output.new) sent.old sent.new reply.now) }
+    ensures part { OnErr result (PutsPart (K.written output.old) (K.written output.new) sent.old sent.new reply.now) }
     ensures cause { IsCounted (K.faults output.old) (K.faults output.new) result }
 {
-    put_all(output, first)?;
-    put_all(output, second)
+    put_all(output, reply, sent)?;
+    sent.lines = added(sent.lines, 1);
+    Ok(())
 }
 
 // Answers one line, and says whether it ends the session.
-fn answer<K: Sink>(session: &mut Session, raw: Raw<'_>, output: &mut K) -> Result<bool, Failed>
-    ensures ok { IfOk result (λ ends. Replies (step_of session.old) (machine_of session.old) (raw_line raw.entry)
-        (machine_of session.new) ends (K.written output.old) (K.written output.new)) }
-    ensures part { OnErr result (RepliesPart (step_of session.old) (machine_of session.old) (raw_line raw.entry)
-        (K.written output.old) (K.written output.new)) }
+fn answer<K: Sink>(
+    session: &mut Session,
+    raw: Raw<'_>,
+    output: &mut K,
+    sent: &mut Sent,
+) -> Result<bool, Failed>
+    ensures ok { IfOk result (λ ends. Replies (step_of session.old) is_read_line (machine_of session.old)
+        (raw_line raw.entry)
+        (machine_of session.new) ends (progress_of (K.written output.old) session.old sent.old)
+            (progress_of (K.written output.new) session.new sent.new)) }
+    ensures part { OnErr result (RepliesPart (step_of session.old) is_read_line (machine_of session.old)
+        (raw_line raw.entry)
+        (progress_of (K.written output.old) session.old sent.old)
+            (progress_of (K.written output.new) session.new sent.new)) }
     ensures same { matcher_of session.new ≡ matcher_of session.old }
+    ensures afresh { IsAfresh session.old.counts → IsAfresh session.new.counts }
     ensures cause { IsCounted (K.faults output.old) (K.faults output.new) result }
 {
     match session.line(raw) {
         Reply::Nothing => Ok(false),
         Reply::Short { text, quit } => {
-            put_all(output, text.as_slice())?;
+            put_reply(output, text.as_slice(), sent)?;
             Ok(quit)
         }
         Reply::Text { bytes } => {
-            put_all(output, bytes.as_slice())?;
+            put_reply(output, bytes.as_slice(), sent)?;
             Ok(false)
         }
         Reply::NoMemory { id } => {
-            put_all(output, refusal(id, RefuseText::OutOfMemory).as_slice())?;
+            put_reply(output, refusal(id, RefuseText::OutOfMemory).as_slice(), sent)?;
             Ok(false)
         }
     }
@@ -81,18 +104,24 @@ fn answer_taken<K: Sink>(
     lines: &Lines,
     taken: Taken,
     output: &mut K,
+    sent: &mut Sent,
 ) -> Result<bool, Failed>
     requires { (held : RawLine) × (lines.now ≡ given_state held) × (taken ≡ taken_of held) }
-    ensures ok { (held : RawLine) → lines.now ≡ given_state held → taken ≡ taken_of held → IfOk result (λ ends. Replies (step_of session.old)
-        (machine_of session.old) held (machine_of session.new) ends (K.written output.old) (K.written output.new)) }
-    ensures part { (held : RawLine) → lines.now ≡ given_state held → taken ≡ taken_of held → OnErr result (RepliesPart (step_of session.old)
-        (machine_of session.old) held (K.written output.old) (K.written output.new)) }
+    ensures ok { (held : RawLine) → lines.now ≡ given_state held → taken ≡ taken_of held → IfOk result
+        (λ ends. Replies (step_of session.old) is_read_line (machine_of session.old) held
+            (machine_of session.new) ends (progress_of (K.written output.old) session.old sent.old)
+                (progress_of (K.written output.new) session.new sent.new)) }
+    ensures part { (held : RawLine) → lines.now ≡ given_state held → taken ≡ taken_of held → OnErr result
+        (RepliesPart (step_of session.old) is_read_line (machine_of session.old) held
+            (progress_of (K.written output.old) session.old sent.old)
+                (progress_of (K.written output.new) session.new sent.new)) }
     ensures same { matcher_of session.new ≡ matcher_of session.old }
+    ensures afresh { IsAfresh session.old.counts → IsAfresh session.new.counts }
     ensures cause { IsCounted (K.faults output.old) (K.faults output.new) result }
 {
     match taken {
-        Taken::Line => answer(session, Raw::Line(lines.bytes()), output),
-        Taken::TooLong => answer(session, Raw::TooLong, output),
+        Taken::Line => answer(session, Raw::Line(lines.bytes()), output, sent),
+        Taken::TooLong => answer(session, Raw::TooLong, output, sent),
     }
 }
 
@@ -103,21 +132,28 @@ fn answer_next<K: Sink>(
     lines: &mut Lines,
     rest: &[u8],
     output: &mut K,
+    sent: &mut Sent,
 ) -> Result<(usize, bool), Failed>
     requires { lines.old.waits ≡ false }
     ensures bound { IfOk result (λ turn. (turn.0 ≤ length rest.now) × (0 < length rest.now → 0 < turn.0)) }
-    ensures ok { IfOk result (λ turn. RunsTo (step_of session.old) (machine_of session.old)
-        (lines_from lines.old.held (take turn.0 rest.now)) (machine_of session.new) turn.1 (K.written output.old) (K.written output.new)) }
-    ensures held { IfOk result (λ turn. (lines.new.held ≡ held_from lines.old.held (take turn.0 rest.now)) × (lines.new.waits ≡ false)) }
-    ensures part { OnErr result (RunsPart (step_of session.old) (machine_of session.old) (lines_from lines.old.held rest.now)
-        (K.written output.old) (K.written output.new)) }
+    ensures ok { IfOk result (λ turn. RunsTo (step_of session.old) is_read_line (machine_of session.old)
+        (lines_from lines.old.held (take turn.0 rest.now)) (machine_of session.new) turn.1
+            (progress_of (K.written output.old) session.old sent.old)
+                (progress_of (K.written output.new) session.new sent.new)) }
+    ensures held { IfOk result (λ turn. (lines.new.held ≡ held_from lines.old.held (take turn.0 rest.now))
+        × (lines.new.waits ≡ false)) }
+    ensures part { OnErr result (RunsPart (step_of session.old) is_read_line (machine_of session.old)
+        (lines_from lines.old.held rest.now)
+        (progress_of (K.written output.old) session.old sent.old)
+            (progress_of (K.written output.new) session.new sent.new)) }
     ensures same { matcher_of session.new ≡ matcher_of session.old }
+    ensures afresh { IsAfresh session.old.counts → IsAfresh session.new.counts }
     ensures cause { IsCounted (K.faults output.old) (K.faults output.new) result }
 {
     let count = lines.feed(rest);
     match lines.take() {
         Some(taken) => {
-            let ended = answer_taken(session, lines, taken, output)?;
+            let ended = answer_taken(session, lines, taken, output, sent)?;
             Ok((count, ended))
         }
         None => Ok((count, false)),
@@ -130,20 +166,26 @@ fn answer_piece<K: Sink>(
     lines: &mut Lines,
     piece: &[u8],
     output: &mut K,
+    sent: &mut Sent,
 ) -> Result<bool, Failed>
     requires { lines.old.waits ≡ false }
-    ensures ok { IfOk result (λ ended. RunsTo (step_of session.old) (machine_of session.old) (lines_from lines.old.held piece.now)
-        (machine_of session.new) ended (K.written output.old) (K.written output.new)) }
+    ensures ok { IfOk result (λ ended. RunsTo (step_of session.old) is_read_line (machine_of session.old)
+        (lines_from lines.old.held piece.now)
+        (machine_of session.new) ended (progress_of (K.written output.old) session.old sent.old)
+            (progress_of (K.written output.new) session.new sent.new)) }
     ensures held { IfOk result (λ ended. ended ≡ false →
         (lines.new.held ≡ held_from lines.old.held piece.now) × (lines.new.waits ≡ false)) }
-    ensures part { OnErr result (RunsPart (step_of session.old) (machine_of session.old) (lines_from lines.old.held piece.now)
-        (K.written output.old) (K.written output.new)) }
+    ensures part { OnErr result (RunsPart (step_of session.old) is_read_line (machine_of session.old)
+        (lines_from lines.old.held piece.now)
+        (progress_of (K.written output.old) session.old sent.old)
+            (progress_of (K.written output.new) session.new sent.new)) }
     ensures same { matcher_of session.new ≡ matcher_of session.old }
+    ensures afresh { IsAfresh session.old.counts → IsAfresh session.new.counts }
     ensures cause { IsCounted (K.faults output.old) (K.faults output.new) result }
 {
     let mut rest = piece;
     while !rest.is_empty() {
-        let (count, ended) = answer_next(session, lines, rest, output)?;
+        let (count, ended) = answer_next(session, lines, rest, output, sent)?;
         if ended {
             return Ok(true);
         }
@@ -157,16 +199,22 @@ fn answer_rest<K: Sink>(
     session: &mut Session,
     lines: &mut Lines,
     output: &mut K,
+    sent: &mut Sent,
 ) -> Result<bool, Failed>
     requires { lines.old.waits ≡ false }
-    ensures ok { IfOk result (λ ended. RunsTo (step_of session.old) (machine_of session.old) (held_line lines.old.held)
-        (machine_of session.new) ended (K.written output.old) (K.written output.new)) }
-    ensures part { OnErr result (RunsPart (step_of session.old) (machine_of session.old) (held_line lines.old.held)
-        (K.written output.old) (K.written output.new)) }
+    ensures ok { IfOk result (λ ended. RunsTo (step_of session.old) is_read_line (machine_of session.old)
+        (held_line lines.old.held)
+        (machine_of session.new) ended (progress_of (K.written output.old) session.old sent.old)
+            (progress_of (K.written output.new) session.new sent.new)) }
+    ensures part { OnErr result (RunsPart (step_of session.old) is_read_line (machine_of session.old)
+        (held_line lines.old.held)
+        (progress_of (K.written output.old) session.old sent.old)
+            (progress_of (K.written output.new) session.new sent.new)) }
+    ensures afresh { IsAfresh session.old.counts → IsAfresh session.new.counts }
     ensures cause { IsCounted (K.faults output.old) (K.faults output.new) result }
 {
     match lines.finish() {
-        Some(taken) => answer_taken(session, lines, taken, output),
+        Some(taken) => answer_taken(session, lines, taken, output, sent),
         None => Ok(false),
     }
 }
@@ -191,23 +239,17 @@ pub(crate) fn serve<S: Source, K: Sink>(
     lines: &mut Lines,
     input: &mut S,
     output: &mut K,
+    sent: &mut Sent,
 ) -> End
     requires { lines.old ≡ no_line }
-    ensures serves { Serves (step_of session.old) (machine_of session.old)
-        (record {
-          left = S.left input.old;
-          piece = S.piece input.old;
-          input_faults = S.faults input.old;
-          written = K.written output.old;
-          output_faults = K.faults output.old;
-        })
-        (record {
-          left = S.left input.new;
-          piece = S.piece input.new;
-          input_faults = S.faults input.new;
-          written = K.written output.new;
-          output_faults = K.faults output.new;
-        }) result }
+    ensures serves { ServesCounting None (step_of session.old) is_read_line (machine_of session.old)
+        (record { left = S.left input.old; piece = S.piece input.old; input_faults = S.faults input.old;
+            written = K.written output.old; output_faults = K.faults output.old })
+        (record { left = S.left input.new; piece = S.piece input.new; input_faults = S.faults input.new;
+            written = K.written output.new; output_faults = K.faults output.new }) result
+        (progress_of (K.written output.old) session.old sent.old)
+            (progress_of (K.written output.new) session.new sent.new) }
+    ensures afresh { IsAfresh session.old.counts → IsAfresh session.new.counts }
     ensures input { IsCauseOf (result ≡ End.InputFault) (S.faults input.old) (S.faults input.new) }
     ensures output { IsCauseOf (result ≡ End.OutputFault) (K.faults output.old) (K.faults output.new) }
 {
@@ -217,14 +259,14 @@ pub(crate) fn serve<S: Source, K: Sink>(
         match next_piece(input, &mut buf, room) {
             Err(_) => return End::InputFault,
             Ok(0) => {
-                return match answer_rest(session, lines, output) {
+                return match answer_rest(session, lines, output, sent) {
                     Ok(_) => End::Done,
                     Err(_) => End::OutputFault,
                 };
             }
             Ok(count) => {
                 room -= count;
-                match answer_piece(session, lines, &buf[..count], output) {
+                match answer_piece(session, lines, &buf[..count], output, sent) {
                     Ok(false) => {}
                     Ok(true) => return End::Done,
                     Err(_) => return End::OutputFault,

@@ -1,11 +1,14 @@
 //! A session: what the plain machine keeps, and its answer to each line.
-ghost use Rattle.std.specs.Prelude.{◌≡◌, ◌≤◌, ◌↔◌, List, ℕ, length, IfOk};
+ghost use Rattle.std.specs.Prelude.{◌≡◌, ◌≢◌, ◌≤◌, ◌↔◌, List, ℕ, false, length, IfOk};
 ghost use Rattle.gtp_lex.specs.Raw.{raw_line};
+ghost use Rattle.go_options.specs.Found.{AreInRange};
 ghost use Rattle.gtp_cmd.specs.Within.{IsWithin, SaysWithin};
 ghost use Rattle.session.specs.Machine.{position_of};
 ghost use Rattle.session.specs.Kept.{machine_of, matcher_of, first_kept, NumbersPatterns};
 ghost use Rattle.session.specs.Answering.{step, parsed_step, effect_of, word_of};
 ghost use Rattle.session.specs.Answers.{IsAnswer};
+ghost use Rattle.session.specs.Tallies.{reply_count};
+ghost use Rattle.session.specs.Counting.{counted, is_read, is_parsed_read, is_read_line};
 ghost use Rattle.session.specs.Replies.{IsReplyTo, IsWithoutWords, IsRefusal, reply_bytes};
 
 mod board_commands;
@@ -18,19 +21,23 @@ use dfa_core::Automaton;
 use go_base::size::MAX_SIZE;
 use go_base::{Bytes, NoMemory, Position, Size};
 use go_history::{History, Move};
+use go_options::Options;
 use gtp_cmd::{Command, KomiText, Parsed, RefuseText, names_text, parse};
 use gtp_lex::Raw;
 use pat_types::Pattern;
 use read_moves::Depths;
 use read_tree::Kind;
+use run_notes::Counts;
 use std::alloc::Global;
 use std::marker::Model;
 
-/// How many plies a reading may have before the first line that says so.
-const FIRST_PLIES: u8 = 10;
-
-/// How many of them are wide before that line.
-const FIRST_WIDE: u8 = 2;
+/// Nothing was counted.
+const NO_COUNTS: Counts = Counts {
+    readings: 0,
+    fresh: 0,
+    trials: 0,
+    refused: 0,
+};
 
 /// A session of the protocol, seen as what it keeps; `machine_of` is the machine that this is.
 #[derive(Drop)]
@@ -41,6 +48,7 @@ pub struct Session {
     depths: Depths,
     patterns: Vec<Pattern>,
     automaton: Automaton,
+    counts: Counts,
 }
 
 impl Model for Session {
@@ -60,6 +68,7 @@ impl Model for Session {
       wide = s.depths.wide;
       patterns = s.patterns.items;
       automaton = s.automaton;
+      counts = s.counts;
     } };
 
     ghost invariant = { λ s. NumbersPatterns s.automaton s.patterns.items };
@@ -74,38 +83,61 @@ fn word(known: bool) -> &'static [u8]
 }
 
 impl Session {
-    /// A session with these patterns, whose matches it finds by this automaton, before its first line: the largest board, no
-    /// moves, the komi 0.0, readings of 10 plies, of which 2 are wide. Takes memory.
+    /// A session with these patterns, whose matches it finds by this automaton, before its first line: the largest
+    /// board, no moves, the komi 0.0, readings as deep as the options say, nothing counted. Takes memory.
     pub fn new(
         alloc: Global,
         patterns: Vec<Pattern>,
         machine: Automaton,
+        options: &Options,
     ) -> Result<Session, NoMemory>
-        requires { NumbersPatterns machine patterns.items }
-        ensures { IfOk result (λ session. session ≡ first_kept patterns.items machine) }
+        requires numbers { NumbersPatterns machine patterns.items }
+        requires ranges { AreInRange options.now }
+        ensures { IfOk result (λ session. session
+            ≡ first_kept patterns.items machine options.now.depth options.now.branch) }
     {
         let size = Size::new(MAX_SIZE).unwrap();
         Ok(Session {
             alloc,
             history: History::new(alloc, size)?,
             komi: KomiText::zero(),
-            depths: Depths::new(FIRST_PLIES, FIRST_WIDE).unwrap(),
+            depths: Depths::new(options.depth, options.branch).unwrap(),
             patterns,
             automaton: machine,
+            counts: NO_COUNTS,
         })
     }
 
-    /// Answers one line, by the step of the machine that the session is: for the matches of its patterns this takes those by its
-    /// automaton. With the automaton of the patterns it is the plain machine.
+    /// What the session counted: its lines that asked for a reading and were answered with a code, those of them that
+    /// were read afresh, and the moves that these tried. No reading is kept, so none is refused.
+    pub fn stats(&self) -> Counts
+        ensures { result ≡ self.now.counts }
+    {
+        self.counts
+    }
+
+    /// Answers one line, by the step of the machine that the session is: for the matches of its patterns this takes
+    /// those by its automaton. With the automaton of the patterns it is the plain machine.
     ///
-    /// Nothing comes exactly for a line without words. NoMemory comes only in place of a growing reply, and leaves the session as
-    /// it was. A refused line leaves it as it was, too.
+    /// Nothing comes exactly for a line without words. NoMemory comes only in place of a growing reply, and leaves
+    /// the session as it was. A refused line leaves it as it was, too.
     pub fn line(&mut self, raw: Raw<'_>) -> Reply
-        ensures reply { IsReplyTo (machine_of self.old) (step (matcher_of self.old) (machine_of self.old) (raw_line raw.entry))
+        ensures reply { IsReplyTo (machine_of self.old)
+            (step (matcher_of self.old) (machine_of self.old) (raw_line raw.entry))
             result (machine_of self.new) }
         ensures nothing { result ≡ Reply.Nothing ↔ IsWithoutWords (raw_line raw.entry) }
+        ensures bytes { result ≢ Reply.Nothing → reply_count (reply_bytes result) ≡ 1 }
         ensures patterns { self.new.patterns ≡ self.old.patterns }
         ensures same { self.new.automaton ≡ self.old.automaton }
+
+        // A line that asks for a reading and is answered with a code is counted, and each such reading is made afresh.
+        ensures readings { self.new.counts.readings ≡ counted self.old.counts.readings
+            (is_read_line (machine_of self.old) (raw_line raw.entry)) }
+        ensures fresh { self.new.counts.fresh ≡ counted self.old.counts.fresh
+            (is_read_line (machine_of self.old) (raw_line raw.entry)) }
+        ensures trials { is_read_line (machine_of self.old) (raw_line raw.entry) ≡ false → self.new.counts.trials
+            ≡ self.old.counts.trials }
+        ensures none_kept { self.new.counts.refused ≡ self.old.counts.refused }
         ensures refused { IsRefusal (reply_bytes result) → self.new ≡ self.old }
     {
         match raw {
@@ -123,8 +155,16 @@ impl Session {
         ensures reply { IsReplyTo (machine_of self.old) (parsed_step (matcher_of self.old) (machine_of self.old) parsed)
             result (machine_of self.new) }
         ensures nothing { result ≡ Reply.Nothing ↔ (parsed ≡ Parsed.Nothing) }
+        ensures bytes { result ≢ Reply.Nothing → reply_count (reply_bytes result) ≡ 1 }
         ensures patterns { self.new.patterns ≡ self.old.patterns }
         ensures same { self.new.automaton ≡ self.old.automaton }
+        ensures readings { self.new.counts.readings ≡ counted self.old.counts.readings
+            (is_parsed_read (machine_of self.old) parsed) }
+        ensures fresh { self.new.counts.fresh ≡ counted self.old.counts.fresh
+            (is_parsed_read (machine_of self.old) parsed) }
+        ensures trials { is_parsed_read (machine_of self.old) parsed ≡ false → self.new.counts.trials
+            ≡ self.old.counts.trials }
+        ensures none_kept { self.new.counts.refused ≡ self.old.counts.refused }
     {
         match parsed {
             Parsed::Nothing => Reply::Nothing,
@@ -140,6 +180,12 @@ impl Session {
             result (machine_of self.new) }
         ensures patterns { self.new.patterns ≡ self.old.patterns }
         ensures same { self.new.automaton ≡ self.old.automaton }
+        ensures readings { self.new.counts.readings ≡ counted self.old.counts.readings
+            (is_read (machine_of self.old) command) }
+        ensures fresh { self.new.counts.fresh ≡ counted self.old.counts.fresh (is_read (machine_of self.old) command) }
+        ensures trials { is_read (machine_of self.old) command ≡ false → self.new.counts.trials
+            ≡ self.old.counts.trials }
+        ensures none_kept { self.new.counts.refused ≡ self.old.counts.refused }
     {
         match command {
             Command::ProtocolVersion => told(b"2"),

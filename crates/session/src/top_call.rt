@@ -1,18 +1,118 @@
 //! The top call of the program.
-ghost use Rattle.std.specs.Prelude.{◌≡◌, ◌↔◌, IsTrue, IfErr, IfOk, map, string_bytes};
-ghost use Rattle.session.specs.Headline.{Came, MissedAfter, IsCauseOf, Runs, names_had};
-ghost use Rattle.session.specs.Notes.{IsNoted, notes_text};
-ghost use Rattle.session.specs.Opening.{has_option as has_one};
-ghost use Rattle.session.specs.Outcomes.{phase_of, unhad};
+ghost use Rattle.std.specs.Prelude.{◌≡◌, ◌↔◌, Option, None, Some, ℕ, if◌then◌else◌, option_map, map, string_bytes};
+ghost use Rattle.session.specs.Headline.{Came, IsCauseOf, MissedAfter, Runs, RunsHad, files_in};
+ghost use Rattle.session.specs.Opened.{CameBy, ServesCounting};
+ghost use Rattle.session.specs.Serving.{IsAfresh, progress_of};
+ghost use Rattle.go_options.specs.Found.{AreInRange};
+ghost use Rattle.session.specs.Counting.{is_read_line};
+ghost use Rattle.session.specs.Kept.{machine_of, step_of};
+ghost use Rattle.session.specs.Notes.{note_of};
+ghost use Rattle.session.specs.Outcomes.{Served, phase_of};
+ghost use Rattle.gtp_lex.specs.Lines.{no_line};
+ghost use Rattle.run_notes.specs.Notes.{notes_text};
+ghost use Rattle.run_notes.specs.Putting.{IsNoted};
 
-use crate::opening::{has_option, open};
-use crate::outcome::{Outcome, WordsError, note};
-use crate::serve::{put_both, serve};
+use crate::opening::{Opened, open};
+use crate::outcome::{End, Outcome, WordsError, note};
+use crate::serve::serve;
+use go_options::{Options, OptionsError, read_options};
 use gtp_io::{Loader, Sink, Source};
+use run_notes::{Counts, Sent, put_notes};
 use std::alloc::Global;
+use workload::Workload;
 
-/// The most states of an automaton.
-const MAX_STATES: u32 = 100_000;
+// How a run ended, and what it is to note of it.
+#[derive(Clone, Copy)]
+struct Ran {
+    outcome: Outcome,
+    counts: Option<Counts>,
+    sent: Option<Sent>,
+}
+
+// A run that read no line.
+fn unserved(outcome: Outcome) -> Ran
+    ensures { result ≡ record { outcome = outcome; counts = None; sent = None } }
+{
+    Ran {
+        outcome,
+        counts: None,
+        sent: None,
+    }
+}
+
+// A run that served the lines until this end, with its counts and what it sent where the options ask for them.
+fn served(end: End, options: &Options, counts: Counts, sent: Sent) -> Ran
+    ensures phase { phase_of result.outcome ≡ Served end }
+    ensures input { (result.outcome ≡ Outcome.InputFault) ↔ (end ≡ End.InputFault) }
+    ensures output { (result.outcome ≡ Outcome.OutputFault) ↔ (end ≡ End.OutputFault) }
+    ensures counts { result.counts ≡ (if options.now.stats then Some counts else None) }
+    ensures sent { result.sent ≡ option_map (λ _. sent) options.now.generate }
+{
+    Ran {
+        outcome: end.outcome(),
+        counts: if options.stats { Some(counts) } else { None },
+        sent: match options.generate {
+            Some(_) => Some(sent),
+            None => None,
+        },
+    }
+}
+
+// Serves the lines of the input, or the generated lines in their place.
+fn serve_lines<S: Source, K: Sink>(
+    generate: Option<u32>,
+    opened: &mut Opened,
+    input: &mut S,
+    output: &mut K,
+    sent: &mut Sent,
+) -> End
+    requires { opened.old.lines ≡ no_line }
+    ensures serves { ServesCounting generate (step_of opened.old.session) is_read_line (machine_of opened.old.session)
+        (record { left = S.left input.old; piece = S.piece input.old; input_faults = S.faults input.old;
+            written = K.written output.old; output_faults = K.faults output.old })
+        (record { left = S.left input.new; piece = S.piece input.new; input_faults = S.faults input.new;
+            written = K.written output.new; output_faults = K.faults output.new }) result
+        (progress_of (K.written output.old) opened.old.session sent.old)
+        (progress_of (K.written output.new) opened.new.session sent.new) }
+    ensures afresh { IsAfresh opened.old.session.counts → IsAfresh opened.new.session.counts }
+    ensures input { IsCauseOf (result ≡ End.InputFault) (S.faults input.old) (S.faults input.new) }
+    ensures output { IsCauseOf (result ≡ End.OutputFault) (K.faults output.old) (K.faults output.new) }
+{
+    let Opened { session, lines } = opened;
+    match generate {
+        Some(n) => serve(session, lines, &mut Workload::new(n), output, sent),
+        None => serve(session, lines, input, output, sent),
+    }
+}
+
+// Opens the files of the options and serves the lines.
+fn run_options<L: Loader, S: Source, K: Sink>(
+    alloc: Global,
+    options: &Options,
+    files: &mut L,
+    input: &mut S,
+    output: &mut K,
+) -> Ran
+    requires { AreInRange options.now }
+    ensures came { CameBy options.now (L.contents files.old)
+        (record { left = S.left input.old; piece = S.piece input.old; input_faults = S.faults input.old;
+            written = K.written output.old; output_faults = K.faults output.old })
+        (record { left = S.left input.new; piece = S.piece input.new; input_faults = S.faults input.new;
+            written = K.written output.new; output_faults = K.faults output.new })
+        result.counts result.sent (phase_of result.outcome) }
+    ensures missed { MissedAfter options.now.files (L.missed files.old) (L.missed files.new) (phase_of result.outcome) }
+    ensures same { L.contents files.new ≡ L.contents files.old }
+    ensures input { IsCauseOf (result.outcome ≡ Outcome.InputFault) (S.faults input.old) (S.faults input.new) }
+    ensures output { IsCauseOf (result.outcome ≡ Outcome.OutputFault) (K.faults output.old) (K.faults output.new) }
+{
+    let mut opened = match open(alloc, options, files) {
+        Ok(opened) => opened,
+        Err(error) => return unserved(error.outcome()),
+    };
+    let mut sent = Sent { lines: 0, bytes: 0 };
+    let end = serve_lines(options.generate, &mut opened, input, output, &mut sent);
+    served(end, options, opened.session.stats(), sent)
+}
 
 // The run but for its notes.
 fn run_unnoted<L: Loader, S: Source, K: Sink>(
@@ -21,54 +121,45 @@ fn run_unnoted<L: Loader, S: Source, K: Sink>(
     files: &mut L,
     input: &mut S,
     output: &mut K,
-) -> Outcome
-    ensures usage { result ≡ Outcome.Usage ↔ IsTrue (has_one (map string_bytes words.now)) }
+) -> Ran
     ensures came { Came (map string_bytes words.now) (L.contents files.old)
-        (record {
-          left = S.left input.old;
-          piece = S.piece input.old;
-          input_faults = S.faults input.old;
-          written = K.written output.old;
-          output_faults = K.faults output.old;
-        })
-        (record {
-          left = S.left input.new;
-          piece = S.piece input.new;
-          input_faults = S.faults input.new;
-          written = K.written output.new;
-          output_faults = K.faults output.new;
-        }) (phase_of result) }
-    ensures missed { MissedAfter (map string_bytes words.now) (L.missed files.old) (L.missed files.new) (phase_of result) }
+        (record { left = S.left input.old; piece = S.piece input.old; input_faults = S.faults input.old;
+            written = K.written output.old; output_faults = K.faults output.old })
+        (record { left = S.left input.new; piece = S.piece input.new; input_faults = S.faults input.new;
+            written = K.written output.new; output_faults = K.faults output.new })
+        result.counts result.sent (phase_of result.outcome) }
+    ensures missed { MissedAfter (files_in (map string_bytes words.now)) (L.missed files.old) (L.missed files.new)
+        (phase_of result.outcome) }
     ensures same { L.contents files.new ≡ L.contents files.old }
-    ensures input { IsCauseOf (result ≡ Outcome.InputFault) (S.faults input.old) (S.faults input.new) }
-    ensures output { IsCauseOf (result ≡ Outcome.OutputFault) (K.faults output.old) (K.faults output.new) }
+    ensures input { IsCauseOf (result.outcome ≡ Outcome.InputFault) (S.faults input.old) (S.faults input.new) }
+    ensures output { IsCauseOf (result.outcome ≡ Outcome.OutputFault) (K.faults output.old) (K.faults output.new) }
 {
-    if has_option(words) {
-        return Outcome::Usage;
-    }
-    match open(alloc, words, files, MAX_STATES) {
-        Ok(mut opened) => serve(&mut opened.session, &mut opened.lines, input, output).outcome(),
-        Err(error) => error.outcome(),
+    match read_options(alloc, words) {
+        Ok(options) => run_options(alloc, &options, files, input, output),
+        Err(OptionsError::Usage) => unserved(Outcome::Usage),
+        Err(OptionsError::NoMemory) => unserved(Outcome::NoMemory),
     }
 }
 
-// Puts the note of an outcome.
-fn put_note<D: Sink>(notes: &mut D, outcome: Outcome)
-    ensures { IsNoted (D.written notes.old) (D.written notes.new) (D.faults notes.old) (D.faults notes.new) (notes_text outcome) }
+// Puts the notes of a run.
+fn put_ran<D: Sink>(notes: &mut D, ran: Ran)
+    ensures { IsNoted (D.written notes.old) (D.written notes.new) (D.faults notes.old) (D.faults notes.new)
+        (notes_text ran.counts ran.sent (note_of ran.outcome)) }
 {
-    let (front, rest) = note(outcome);
-    let _ = put_both(notes, front.as_slice(), rest.as_slice());
+    let (front, rest) = note(ran.outcome);
+    put_notes(notes, ran.counts, ran.sent, &[front, rest]);
 }
 
 /// Answers the lines of the input on the output by the patterns of some files, and says on the notes how that ended.
 ///
-/// `words` are the words of the command line without the program's name: the names of the pattern files, whose contents are
-/// joined in their order; a word that begins with a hyphen is refused. The files are loaded, their patterns are made one
-/// automaton of at most 100,000 states, and memory is sought, before the first line is read; the first file that fails, the
-/// first fault of the joined files, or a further state ends the run there. Replies go out as
-/// they are made, and no read is made before every line that has ended is answered. Nothing more is read or answered after the
-/// first failure of the input or the output, after a line that ends the session, and after 2^32 bytes. A failure of the notes
-/// changes no outcome.
+/// `words` are the words of the command line without the program's name: options, as `read_options` takes them, and
+/// the names of the pattern files. The files are loaded in their order and joined, their patterns are made one
+/// automaton of at most the options' states, and memory is sought, before the first line is read; the first file that
+/// fails, the first fault of the joined files, or a further state ends the run there. Where lines are to be generated
+/// the input is not called, and these lines go through the same loop. Replies go out as they are made, and no read is
+/// made before every line that has ended is answered. Nothing more is read or answered after the first failure of the
+/// input or the output, after a line that ends the session, and after 2^32 bytes. The notes get the counts and what
+/// was sent, where these are asked for, and how the run ended; a failure of the notes changes no outcome.
 pub fn run<L: Loader, S: Source, K: Sink, D: Sink>(
     alloc: Global,
     words: &[String],
@@ -77,41 +168,22 @@ pub fn run<L: Loader, S: Source, K: Sink, D: Sink>(
     output: &mut K,
     notes: &mut D,
 ) -> Outcome
-    ensures usage { result ≡ Outcome.Usage ↔ IsTrue (has_one (map string_bytes words.now)) }
-
-    // By the outcome, what the files are, what was taken, put and noted, which files were missed, and whose count of faults rose.
+    // By the outcome, what the files are, what was taken, put and noted, which files were missed, and whose count of
+    // faults rose.
     ensures runs { Runs (map string_bytes words.now)
-        (record {
-          contents = L.contents files.old;
-          missed = L.missed files.old;
-          streams = record {
-            left = S.left input.old;
-            piece = S.piece input.old;
-            input_faults = S.faults input.old;
-            written = K.written output.old;
-            output_faults = K.faults output.old;
-          };
-          noted = D.written notes.old;
-          notes_faults = D.faults notes.old;
-        })
-        (record {
-          contents = L.contents files.new;
-          missed = L.missed files.new;
-          streams = record {
-            left = S.left input.new;
-            piece = S.piece input.new;
-            input_faults = S.faults input.new;
-            written = K.written output.new;
-            output_faults = K.faults output.new;
-          };
-          noted = D.written notes.new;
-          notes_faults = D.faults notes.new;
-        })
+        (record { contents = L.contents files.old; missed = L.missed files.old;
+            streams = record { left = S.left input.old; piece = S.piece input.old; input_faults = S.faults input.old;
+                written = K.written output.old; output_faults = K.faults output.old };
+            noted = D.written notes.old; notes_faults = D.faults notes.old })
+        (record { contents = L.contents files.new; missed = L.missed files.new;
+            streams = record { left = S.left input.new; piece = S.piece input.new; input_faults = S.faults input.new;
+                written = K.written output.new; output_faults = K.faults output.new };
+            noted = D.written notes.new; notes_faults = D.faults notes.new })
         result }
 {
-    let outcome = run_unnoted(alloc, words, files, input, output);
-    put_note(notes, outcome);
-    outcome
+    let ran = run_unnoted(alloc, words, files, input, output);
+    put_ran(notes, ran);
+    ran.outcome
 }
 
 /// The same for words that perhaps could not be had: then nothing is loaded, taken or put, and the notes say why.
@@ -123,44 +195,23 @@ pub fn run_words<L: Loader, S: Source, K: Sink, D: Sink>(
     output: &mut K,
     notes: &mut D,
 ) -> Outcome
-    ensures usage { IfOk words (λ words. result ≡ Outcome.Usage ↔ IsTrue (has_one (map string_bytes words.items))) }
-    ensures not_had { IfErr words (λ error. result ≡ unhad error) }
-
-    ensures runs { Runs (names_had (λ words. map string_bytes words.items) words)
-        (record {
-          contents = L.contents files.old;
-          missed = L.missed files.old;
-          streams = record {
-            left = S.left input.old;
-            piece = S.piece input.old;
-            input_faults = S.faults input.old;
-            written = K.written output.old;
-            output_faults = K.faults output.old;
-          };
-          noted = D.written notes.old;
-          notes_faults = D.faults notes.old;
-        })
-        (record {
-          contents = L.contents files.new;
-          missed = L.missed files.new;
-          streams = record {
-            left = S.left input.new;
-            piece = S.piece input.new;
-            input_faults = S.faults input.new;
-            written = K.written output.new;
-            output_faults = K.faults output.new;
-          };
-          noted = D.written notes.new;
-          notes_faults = D.faults notes.new;
-        })
+    ensures runs { RunsHad (λ words. map string_bytes words.items) words
+        (record { contents = L.contents files.old; missed = L.missed files.old;
+            streams = record { left = S.left input.old; piece = S.piece input.old; input_faults = S.faults input.old;
+                written = K.written output.old; output_faults = K.faults output.old };
+            noted = D.written notes.old; notes_faults = D.faults notes.old })
+        (record { contents = L.contents files.new; missed = L.missed files.new;
+            streams = record { left = S.left input.new; piece = S.piece input.new; input_faults = S.faults input.new;
+                written = K.written output.new; output_faults = K.faults output.new };
+            noted = D.written notes.new; notes_faults = D.faults notes.new })
         result }
 {
     match words {
         Ok(words) => run(alloc, &words, files, input, output, notes),
         Err(error) => {
-            let outcome = error.outcome();
-            put_note(notes, outcome);
-            outcome
+            let ran = unserved(error.outcome());
+            put_ran(notes, ran);
+            ran.outcome
         }
     }
 }

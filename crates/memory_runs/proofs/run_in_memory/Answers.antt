@@ -4,4 +4,6 @@ use Rattle.memory_runs.proofs.Telling.{told}
 use Rattle.memory_runs.proofs.run_in_memory.Goals as goal
 
 pub returns : goal.returns
-returns c = told _ _ _ _ _ _ _ _ _ _ _ _ (phase_of c.run.result) c.run.ensures.runs.came
+returns c =
+    let runs = c.run.ensures.runs in
+    told _ _ _ _ _ _ _ _ _ _ _ _ runs.counts runs.sent (phase_of c.run.result) runs.came

@@ -37,9 +37,11 @@ pub(crate) fn has_stone(position: &Position, p: Point) -> bool
 
 impl Session {
     pub(crate) fn resize(&mut self, size: Option<Size>) -> Answer
-        ensures answer { IsAnswer (machine_of self.old) (resized (machine_of self.old) size) result (machine_of self.new) }
+        ensures answer { IsAnswer (machine_of self.old) (resized (machine_of self.old) size) result
+            (machine_of self.new) }
         ensures patterns { self.new.patterns ≡ self.old.patterns }
         ensures same { self.new.automaton ≡ self.old.automaton }
+        ensures counts { self.new.counts ≡ self.old.counts }
     {
         let Some(size) = size else {
             return Answer::Refused(RefuseText::UnacceptableSize);
@@ -52,15 +54,18 @@ impl Session {
         ensures answer { IsAnswer (machine_of self.old) (cleared (machine_of self.old)) result (machine_of self.new) }
         ensures patterns { self.new.patterns ≡ self.old.patterns }
         ensures same { self.new.automaton ≡ self.old.automaton }
+        ensures counts { self.new.counts ≡ self.old.counts }
     {
         self.history.clear();
         told(b"")
     }
 
     pub(crate) fn keep_komi(&mut self, komi: KomiText) -> Answer
-        ensures answer { IsAnswer (machine_of self.old) (komi_kept (machine_of self.old) komi) result (machine_of self.new) }
+        ensures answer { IsAnswer (machine_of self.old) (komi_kept (machine_of self.old) komi) result
+            (machine_of self.new) }
         ensures patterns { self.new.patterns ≡ self.old.patterns }
         ensures same { self.new.automaton ≡ self.old.automaton }
+        ensures counts { self.new.counts ≡ self.old.counts }
     {
         self.komi = komi;
         told(b"")
@@ -71,6 +76,7 @@ impl Session {
         ensures answer { IsAnswer (machine_of self.old) (played (machine_of self.old) m) result (machine_of self.new) }
         ensures patterns { self.new.patterns ≡ self.old.patterns }
         ensures same { self.new.automaton ≡ self.old.automaton }
+        ensures counts { self.new.counts ≡ self.old.counts }
     {
         match self.history.play(m) {
             Ok(()) => told(b""),
@@ -81,9 +87,11 @@ impl Session {
     }
 
     pub(crate) fn undo(&mut self) -> Answer
-        ensures answer { IsAnswer (machine_of self.old) (taken_back (machine_of self.old) self.old.moves) result (machine_of self.new) }
+        ensures answer { IsAnswer (machine_of self.old) (taken_back (machine_of self.old) self.old.moves) result
+            (machine_of self.new) }
         ensures patterns { self.new.patterns ≡ self.old.patterns }
         ensures same { self.new.automaton ≡ self.old.automaton }
+        ensures counts { self.new.counts ≡ self.old.counts }
     {
         match self.history.undo() {
             Ok(()) => told(b""),
@@ -116,7 +124,8 @@ impl Session {
     }
 
     pub(crate) fn list_legal(&self, colour: Colour) -> Answer
-        ensures { IsAnswer (machine_of self.now) (all_allowed (machine_of self.now) colour) result (machine_of self.now) }
+        ensures { IsAnswer (machine_of self.now) (all_allowed (machine_of self.now) colour) result
+            (machine_of self.now) }
     {
         let position = self.position();
         grown(legal_text(self.alloc, &position, colour))
@@ -124,7 +133,8 @@ impl Session {
 
     pub(crate) fn count_liberties(&self, p: Point) -> Answer
         requires { p < self.now.size * self.now.size }
-        ensures { IsAnswer (machine_of self.now) (liberties_counted (machine_of self.now) p) result (machine_of self.now) }
+        ensures { IsAnswer (machine_of self.now) (liberties_counted (machine_of self.now) p) result
+            (machine_of self.now) }
     {
         let position = self.position();
         if !has_stone(&position, p) {
@@ -135,7 +145,8 @@ impl Session {
 
     pub(crate) fn find_liberties(&self, p: Point) -> Answer
         requires { p < self.now.size * self.now.size }
-        ensures { IsAnswer (machine_of self.now) (liberties_found (machine_of self.now) p) result (machine_of self.now) }
+        ensures { IsAnswer (machine_of self.now) (liberties_found (machine_of self.now) p) result
+            (machine_of self.now) }
     {
         let position = self.position();
         if !has_stone(&position, p) {
@@ -145,7 +156,8 @@ impl Session {
     }
 
     pub(crate) fn count_captures(&self, colour: Colour) -> Answer
-        ensures { IsAnswer (machine_of self.now) (captures_counted (machine_of self.now) colour) result (machine_of self.now) }
+        ensures { IsAnswer (machine_of self.now) (captures_counted (machine_of self.now) colour) result
+            (machine_of self.now) }
     {
         told_number(self.history.captures(colour))
     }

@@ -26,7 +26,8 @@ impl Session {
     }
 
     pub(crate) fn list_patterns(&self) -> Answer
-        ensures { IsAnswer (machine_of self.now) (patterns_listed (matcher_of self.now) (machine_of self.now)) result (machine_of self.now) }
+        ensures { IsAnswer (machine_of self.now)
+            (patterns_listed (matcher_of self.now) (machine_of self.now)) result (machine_of self.now) }
     {
         grown(patterns_text(self.alloc, &self.patterns))
     }

@@ -10,4 +10,5 @@ list_text-requires c =
     let patterns = c.args.patterns.now in
     let found = machine_matches c.args.machine.now patterns c.args.position.now c.args.friend in
     subst (λ zs. AreAmong patterns c.size.result zs) (sym (c.as_slice.ensures.value ∙ c.in_ok-found.ensures.machine))
-    (subst (λ s. AreAmong patterns s found) (sym c.size.ensures.value) (AreAmong-found c.args.machine.now patterns c.args.position.now c.args.friend))
+    (subst (λ s. AreAmong patterns s found) (sym c.size.ensures.value)
+        (AreAmong-found c.args.machine.now patterns c.args.position.now c.args.friend))

@@ -6,8 +6,8 @@ use Rattle.session.specs.Opened.{IsPlainWith}
 use Rattle.session.proofs.Finding.{plain-first}
 use Rattle.session.proofs.opening.session_with.Goals as goal
 
-pub new-requires : goal.new-requires
-new-requires c =
+pub new-requires-clause-numbers : goal.new-requires-clause-numbers
+new-requires-clause-numbers c =
     subst (λ patterns. NumbersPatterns c.in_ok-machine.machine patterns) c.as_slice.ensures.value
     c.in_ok-machine.ensures.numbers
 
@@ -16,4 +16,6 @@ returns-clause-ok c =
     let patterns = c.args.patterns.items in
     let rows = c.in_ok-machine.machine in
     let accepts = subst (λ ps. IsMachineOf ps rows) c.as_slice.ensures.value c.in_ok-machine.ensures.accepts in
-    subst (IsPlainWith patterns) (sym c.in_ok-new.ensures) (plain-first patterns rows accepts)
+    let plies = c.args.options.now.depth in
+    let wide = c.args.options.now.branch in
+    subst (IsPlainWith patterns plies wide) (sym c.in_ok-new.ensures) (plain-first patterns rows plies wide accepts)

@@ -1,17 +1,21 @@
 use Rattle.std.proofs.Common.{◌≡◌, List, ◌++◌, length, false}
 use Rattle.gtp_rules.specs.Lines.{RawLine}
 use Rattle.gtp_lex.specs.Held.{lines_from, held_from}
+use Rattle.session.specs.Counting.{is_read_line}
 use Rattle.session.specs.Kept.{machine_of, matcher_of, step_of}
-use Rattle.session.specs.Serving.{RunsTo}
+use Rattle.session.specs.Serving.{IsAfresh, RunsTo, progress_of}
 use Rattle.session.proofs.serve.answer_piece.Given as goal
 
 -- some of the piece's lines were answered, and those of the rest are left
 abbrev pub invariant-loop-rest : goal.invariant-loop-rest
 invariant-loop-rest g l = record {
   answered : (lines : List RawLine) × (lines_from l.fn.lines.held l.fn.piece ≡ lines ++ lines_from l.lines.held l.rest)
-      × RunsTo (step_of l.fn.session) (machine_of l.fn.session) lines (machine_of l.session) false (g.K.Sink.written l.fn.output) (g.K.Sink.written l.output);
+      × RunsTo (step_of l.fn.session) is_read_line (machine_of l.fn.session) lines (machine_of l.session) false
+      (progress_of (g.K.Sink.written l.fn.output) l.fn.session l.fn.sent)
+      (progress_of (g.K.Sink.written l.output) l.session l.sent);
   held : held_from l.fn.lines.held l.fn.piece ≡ held_from l.lines.held l.rest;
   same : matcher_of l.session ≡ matcher_of l.fn.session;
+  afresh : IsAfresh l.fn.session.counts → IsAfresh l.session.counts;
   open_ended : l.lines.waits ≡ false;
   faults : g.K.Sink.faults l.output ≡ g.K.Sink.faults l.fn.output;
 }

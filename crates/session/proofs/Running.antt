@@ -1,0 +1,146 @@
+-- How a run of a command line came to its end, by how it read its options, opened its files and served its lines.
+use Rattle.std.proofs.Common.{◌≡◌, ℕ, Bool, true, false, cond, List, length, Option, Some, None, refl, sym, ap, subst, ◌∙◌, inr, ◌≤◌, arith}
+use Rattle.std.specs.Prelude.{option_map}
+use Rattle.gtp_io.specs.Outside.{Rose}
+use Rattle.pat_types.specs.declared.pattern.Pattern.{Pattern}
+use Rattle.gtp_lex.specs.Lines.{LinesState}
+use Rattle.go_options.specs.CommandLine.{is_taken, rows_in}
+use Rattle.go_options.specs.Found.{AreFound}
+use Rattle.go_options.specs.declared.options.Options.{Options}
+use Rattle.run_notes.specs.declared.notes.Counts.{Counts}
+use Rattle.run_notes.specs.declared.notes.Sent.{Sent}
+use Rattle.session.specs.Counting.{is_read_line}
+use Rattle.session.specs.Tallies.{Tally, Progress, kept_sum}
+use Rattle.gtp_rules.specs.Lines.{RawLine}
+use Rattle.gtp_rules.specs.Steps.{Step}
+use Rattle.workload.specs.GeneratedLines.{generated_text}
+use Rattle.session.specs.Kept.{Kept, machine_of, step_of}
+use Rattle.session.specs.Opening.{IsRefused, MissedIn}
+use Rattle.session.specs.Opened.{Opens, CameBy, ServesCounting}
+use Rattle.session.specs.Outcomes.{Phase, NotTaken, NotOpened, Served}
+use Rattle.session.specs.Headline.{Streams, Came, AreCounts, IsSent, IsServed, IsUntouched, IsCauseOf, GiveOptions, MissedAfter, files_in}
+use Rattle.session.specs.Serving.{IsAfresh, progress_of}
+use Rattle.session.specs.declared.outcome.End.{End}
+use Rattle.session.specs.declared.outcome.OpenError.{OpenError}
+use Rattle.session.proofs.Finding.{ServesLines-plain}
+
+-- the counts of a session that read all afresh are told where they are asked for
+counts-told : (asked : Bool) (counts : Counts) (tally : Tally) → counts.readings ≡ kept_sum 0 tally.readings
+    → IsAfresh counts
+    → AreCounts asked (cond asked (Some counts) None) tally
+counts-told true counts tally readings afresh = (readings, afresh.all, afresh.none)
+counts-told false counts tally readings afresh = refl
+
+-- what was sent is told where lines were generated
+sent-told : (generate : Option ℕ) (sent : Sent) (tally : Tally) → sent.lines ≡ kept_sum 0 tally.replies
+    → sent.bytes ≡ kept_sum 0 (length tally.out) → IsSent generate (option_map (λ _. sent) generate) tally
+sent-told None sent tally lines bytes = refl
+sent-told (Some n) sent tally lines bytes = (lines, bytes)
+
+-- the files were opened, and the session served the lines
+pub came-served : (contents : List ℕ → Option (List ℕ)) (options : Options) (session now : Kept) (lines : LinesState)
+    (before after : Streams) (end : End) (w0 w1 : Option (List ℕ)) (sent : Sent) (told : Option Counts)
+        (noted : Option Sent)
+    (phase : Phase) → Opens contents options session lines
+    → ServesCounting options.generate (step_of session) is_read_line (machine_of session) before after end
+    (progress_of w0 session (record { lines = 0; bytes = 0 })) (progress_of w1 now sent)
+    → (IsAfresh session.counts → IsAfresh now.counts)
+    → told ≡ cond options.stats (Some now.counts) None → noted ≡ option_map (λ _. sent) options.generate
+    → phase ≡ Served end → CameBy options contents before after told noted phase
+came-served contents options session now lines before after end w0 w1 sent told noted phase opens counting afresh tells notes is =
+    let none = opens.plain.counts in
+    let start : IsAfresh session.counts = subst IsAfresh (sym none) (record { all = refl; none = refl }) in
+    let readings = counting.advances.readings ∙ ap (λ (k : Counts). kept_sum k.readings counting.tally.readings) none in
+    subst (CameBy options contents before after told noted) (sym is) (record {
+      patterns = opens.patterns;
+      opened = opens.opened;
+      tally = counting.tally;
+      serves = ServesLines-plain opens.patterns options.depth options.branch session options.generate before after end
+          counting.tally opens.plain counting.serves;
+      counted = subst (λ o. AreCounts options.stats o counting.tally) (sym tells)
+          (counts-told options.stats now.counts counting.tally readings (afresh start));
+      told = subst (λ o. IsSent options.generate o counting.tally) (sym notes)
+          (sent-told options.generate sent counting.tally counting.advances.replies counting.advances.bytes);
+    })
+
+-- the words gave the options of the run
+pub came-given : (words : List (List ℕ)) (options : Options) (contents : List ℕ → Option (List ℕ))
+    (before after : Streams) (counts : Option Counts)
+    (sent : Option Sent) (phase : Phase) → is_taken words ≡ true → AreFound (rows_in words) options
+    → CameBy options contents before after counts sent phase → Came words contents before after counts sent phase
+came-given words options contents before after counts sent NotTaken taken found came = absurd came
+came-given words options contents before after counts sent (NotOpened error) taken found came =
+    (inr (options, record { taken = taken; found = found }, came.0), came.1)
+came-given words options contents before after counts sent (Served end) taken found came =
+    (options, record { taken = taken; found = found }, came)
+
+-- the names missed are among the file words
+pub missed-given : (words : List (List ℕ)) (options : Options) (before now : List (List ℕ)) (phase : Phase)
+    → AreFound (rows_in words) options
+    → MissedAfter options.files before now phase → MissedAfter (files_in words) before now phase
+missed-given words options before now phase found missed = subst (λ files. MissedAfter files before now phase)
+    (sym found.files) missed
+
+-- a source that never fails causes no fault
+pub uncaused : (fault : Type 0) (count : ℕ) → IsCauseOf fault 0 0 → IsCauseOf fault count count
+uncaused fault count cause = record {
+  later = omega arith;
+  rose = λ f. absurd (let risen : 1 ≤ 0 = cause.rose f in omega (arith, risen));
+  told = λ less. absurd (omega (arith, less));
+}
+
+-- generated lines were served in place of the source
+pub serves-generated : {M : Type 0} (n : ℕ) (step : M → RawLine → Step M) (asks : M → RawLine → Bool) (first : M)
+    (left : Option (List ℕ)) (piece faults : ℕ) (w0 w1 : Option (List ℕ)) (c0 c1 f0 f1 p : ℕ) (text rest : List ℕ)
+        (last : ℕ)
+    (end : End) (old new : Progress) (generate : Option ℕ) → generate ≡ Some n → text ≡ generated_text n
+    → ServesCounting None step asks first
+    (record { left = Some text; piece = p; input_faults = f0; written = w0; output_faults = c0 })
+    (record { left = Some rest; piece = last; input_faults = f1; written = w1; output_faults = c1 }) end old new
+    → ServesCounting generate step asks first
+    (record { left = left; piece = piece; input_faults = faults; written = w0; output_faults = c0 })
+    (record { left = left; piece = piece; input_faults = faults; written = w1; output_faults = c1 }) end old new
+serves-generated n step asks first left piece faults w0 w1 c0 c1 f0 f1 p text rest last end old new generate some is counting =
+    let before : Streams = record { left = left; piece = piece; input_faults = faults; written = w0; output_faults = c0 } in
+    let after : Streams = record { left = left; piece = piece; input_faults = faults; written = w1; output_faults = c1 } in
+    subst (λ o. ServesCounting o step asks first before after end old new) (sym some) (record {
+      tally = counting.tally;
+      serves = record {
+        left = refl;
+        piece = refl;
+        input_faults = refl;
+        generated = (
+          rest,
+          last,
+          record {
+            taken = counting.serves.taken;
+            reads = sym is ∙ counting.serves.reads;
+            writes = counting.serves.writes;
+            right = counting.serves.right;
+            tallied = counting.serves.tallied;
+          },
+        );
+      };
+      advances = counting.advances;
+    })
+
+-- the files were not opened
+module _ (options : Options) (error : OpenError) (phase : Phase) (is : phase ≡ NotOpened error) where
+  -- nothing was taken, put or counted, and the error says why
+  pub came-unopened : (contents : List ℕ → Option (List ℕ)) (before : Streams) (counts : Option Counts)
+      (sent : Option Sent)
+      → IsRefused contents options.files options.states error → counts ≡ None → sent ≡ None
+      → CameBy options contents before before counts sent phase
+  came-unopened contents before counts sent refused uncounted unsent =
+      subst (CameBy options contents before before counts sent) (sym is)
+      (refused, record { streams = refl; uncounted = uncounted; unsent = unsent })
+
+  -- the names missed are as the error says
+  pub missed-unopened : (before now : List (List ℕ)) → MissedIn options.files before now error
+      → MissedAfter options.files before now phase
+  missed-unopened before now missed = subst (MissedAfter options.files before now) (sym is) missed
+
+-- the lines were served, and no name was missed
+pub missed-served : (names before now : List (List ℕ)) (end : End) (phase : Phase) → phase ≡ Served end → now ≡ before
+    → MissedAfter names before now phase
+missed-served names before now end phase is same = subst (MissedAfter names before now) (sym is) same

@@ -1,0 +1,231 @@
+-- Tallies one after another, and the runs and cuts of a transcript that they are.
+use Rattle.std.specs.Prelude.{min}
+use Rattle.std.specs.Io.KnownBytes.{Appends}
+use Rattle.std.proofs.KnownBytes.{Appends-nil, Appends-trans}
+use Rattle.std.proofs.Math.Nat.{min-eq_left, min-eq_right}
+use Rattle.std.proofs.lemmas.Bool.{cases_lt}
+use Rattle.std.proofs.Common.{◌≡◌, ◌⊎◌, ⊎_elim, ℕ, zero, suc, ◌+◌, ◌-◌, ◌^◌, ◌<◌, ◌≤◌, Bool, true, false, List, [], ◌∷◌, ◌++◌, length, refl, sym, ap, subst, ◌∙◌, append_assoc, append-nil, arith, length-append}
+use Rattle.gtp_rules.specs.Lines.{RawLine}
+use Rattle.gtp_rules.specs.Steps.{Step}
+use Rattle.gtp_rules.specs.Transcript.{Answers, IsRun, Cut}
+use Rattle.session.specs.Tallies.{Tally, no_tally, together, tally_of, cut_tally, kept_sum, Progress, Advances, IsTallied, BreaksOff}
+
+-- three tallies, in either grouping
+pub together-assoc : (a b c : Tally) → together (together a b) c ≡ together a (together b c)
+together-assoc a b c = λ i. record {
+  out = append_assoc a.out b.out c.out i;
+  replies = (let same : (a.replies + b.replies) + c.replies ≡ a.replies +
+      (b.replies + c.replies) = omega arith in same i);
+  readings = (let same : (a.readings + b.readings) + c.readings ≡ a.readings +
+      (b.readings + c.readings) = omega arith in same i);
+}
+
+-- a tally and nothing
+pub together-none : (a : Tally) → together a no_tally ≡ a
+together-none a = λ i. record {
+  out = append-nil a.out i;
+  replies = (let same : a.replies + 0 ≡ a.replies = omega arith in same i);
+  readings = (let same : a.readings + 0 ≡ a.readings = omega arith in same i);
+}
+
+-- nothing and a tally
+pub none-together : (a : Tally) → together no_tally a ≡ a
+none-together a = λ i. record {
+  out = a.out;
+  replies = (let same : 0 + a.replies ≡ a.replies = omega arith in same i);
+  readings = (let same : 0 + a.readings ≡ a.readings = omega arith in same i);
+}
+
+-- adding to a number that stands still at k, and once more
+min-again : (x y k : ℕ) → min (min x k + y) k ≡ min (x + y) k
+min-again x y k =
+    ⊎_elim (λ (low : x < k). ap (λ m. min (m + y) k) (min-eq_left (let h : x ≤ k = omega arith in h)))
+    (λ (high : k ≤ x). ap (λ m. min (m + y) k) (min-eq_right high) ∙ min-eq_right (let h : k ≤ k + y = omega arith in h)
+    ∙ sym (min-eq_right (let h : k ≤ x + y = omega arith in h))) (cases_lt x k)
+
+-- a count after m more and then n more
+pub kept_sum-twice : (count m n : ℕ) → kept_sum (kept_sum count m) n ≡ kept_sum count (m + n)
+kept_sum-twice count zero n = ap (kept_sum count) (let same : n ≡ 0 + n = omega arith in same)
+kept_sum-twice count (suc m) zero = ap (kept_sum count) (let same : suc m ≡ suc m + 0 = omega arith in same)
+kept_sum-twice count (suc m) (suc n) =
+    let one : suc (m + suc n) ≡ suc m + suc n = omega arith in
+    let both : (count + suc m) + suc n ≡ count + suc (m + suc n) = omega arith in
+    min-again (count + suc m) (suc n) (2 ^ 64 - 1) ∙ ap (λ k. min k (2 ^ 64 - 1)) both ∙ ap (kept_sum count) one
+
+-- a count that a program adds a number to
+pub kept_sum-is : (count n : ℕ) → count < 2 ^ 64 → min (count + n) (2 ^ 64 - 1) ≡ kept_sum count n
+kept_sum-is count zero small =
+    ap (λ k. min k (2 ^ 64 - 1)) (let same : count + 0 ≡ count = omega arith in same)
+    ∙ min-eq_left (let h : count ≤ 2 ^ 64 - 1 = omega (arith, small) in h)
+kept_sum-is count (suc n) small = refl
+
+-- nothing was put
+pub Advances-none : (a : Progress) → Advances a a no_tally
+Advances-none a = record { writes = Appends-nil a.written; readings = refl; replies = refl; bytes = refl }
+
+-- one tally was put and then another
+pub Advances-trans : (a b c : Progress) (s t : Tally) → Advances a b s → Advances b c t → Advances a c (together s t)
+Advances-trans a b c s t earlier later = record {
+  writes = Appends-trans a.written b.written c.written s.out t.out earlier.writes later.writes;
+  readings = later.readings ∙ ap (λ n. kept_sum n t.readings) earlier.readings
+      ∙ kept_sum-twice a.readings s.readings t.readings;
+  replies = later.replies ∙ ap (λ n. kept_sum n t.replies) earlier.replies
+      ∙ kept_sum-twice a.replies s.replies t.replies;
+  bytes = later.bytes ∙ ap (λ n. kept_sum n (length t.out)) earlier.bytes ∙ kept_sum-twice a.bytes (length s.out)
+      (length t.out)
+      ∙ ap (kept_sum a.bytes) (sym (length-append s.out t.out));
+}
+
+module _ (M : Type 0) (step : M → RawLine → Step M) (asks : M → RawLine → Bool) where
+  -- no line
+  pub IsTallied-nil : (m : M) → IsTallied step asks m [] no_tally m false
+  IsTallied-nil m = (refl, refl, refl)
+
+  -- one line
+  pub IsTallied-one : (old : M) (line : RawLine) (out : List ℕ) (new : M) (ends : Bool)
+      → Answers step old line out new ends
+      → IsTallied step asks old (line ∷ []) (tally_of (asks old line) out) new ends
+  IsTallied-one old line out new true a =
+      (out, no_tally, new, true, a, sym (together-none (tally_of (asks old line) out)), (refl, refl, refl))
+  IsTallied-one old line out new false a =
+      (out, no_tally, new, false, a, sym (together-none (tally_of (asks old line) out)), (refl, refl, refl))
+
+  -- lines after lines
+  pub IsTallied-append : (old : M) (xs ys : List RawLine) (a b : Tally) (mid new : M) (ended : Bool)
+      → IsTallied step asks old xs a mid false → IsTallied step asks mid ys b new ended
+      → IsTallied step asks old (xs ++ ys) (together a b) new ended
+  IsTallied-append old [] ys a b mid new ended p q =
+      let same : together a b ≡ b = ap (λ t. together t b) p.0 ∙ none-together b in
+      subst (λ t. IsTallied step asks old ys t new ended) (sym same)
+      (subst (λ m. IsTallied step asks m ys b new ended) p.1 q)
+  IsTallied-append old (x ∷ xs) ys a b mid new ended (first, rest, m, true, answers, joined, h) q =
+      absurd (let e = h.2 in cc)
+  IsTallied-append old (x ∷ xs) ys a b mid new ended (first, rest, m, false, answers, joined, h) q = (
+    first,
+    together rest b,
+    m,
+    false,
+    answers,
+    ap (λ t. together t b) joined ∙ together-assoc (tally_of (asks old x) first) rest b,
+    IsTallied-append m xs ys rest b mid new ended h q,
+  )
+
+  -- after the line that ends the session nothing is answered
+  pub IsTallied-ended : (old : M) (xs ys : List RawLine) (a : Tally) (new : M) → IsTallied step asks old xs a new true
+      → IsTallied step asks old (xs ++ ys) a new true
+  IsTallied-ended old [] ys a new p = absurd (let e = p.2 in cc)
+  IsTallied-ended old (x ∷ xs) ys a new (first, rest, m, true, answers, joined, h) =
+      (first, rest, m, true, answers, joined, h)
+  IsTallied-ended old (x ∷ xs) ys a new (first, rest, m, false, answers, joined, h) =
+      (first, rest, m, false, answers, joined, IsTallied-ended m xs ys rest new h)
+
+  -- the lines were answered as in a transcript
+  pub IsTallied-run : (old : M) (lines : List RawLine) (tally : Tally) (new : M) (ended : Bool)
+      → IsTallied step asks old lines tally new ended → IsRun step old lines tally.out new ended
+  IsTallied-run old [] tally new ended p = (ap (λ (t : Tally). t.out) p.0, p.1, p.2)
+  IsTallied-run old (x ∷ xs) tally new ended (first, rest, m, true, answers, joined, h) =
+      (first, rest.out, m, true, answers, ap (λ (t : Tally). t.out) joined, (ap (λ (t : Tally). t.out) h.0, h.1, h.2))
+  IsTallied-run old (x ∷ xs) tally new ended (first, rest, m, false, answers, joined, h) =
+      (first, rest.out, m, false, answers, ap (λ (t : Tally). t.out) joined, IsTallied-run m xs rest new ended h)
+
+  -- the first of some lines broke off
+  abbrev pub BreaksOff-one : (from : M) (line : RawLine) (more : List RawLine) (part missing : List ℕ) (next : M) (ends : Bool)
+      → Answers step from line (part ++ missing) next ends → 0 < length missing
+      → BreaksOff step asks from (line ∷ more) (cut_tally (asks from line) part)
+  BreaksOff-one from line more part missing next ends answers proper = record {
+    before = [];
+    line = line;
+    after = more;
+    whole = no_tally;
+    part = part;
+    missing = missing;
+    mid = from;
+    next = next;
+    ends = ends;
+    place = refl;
+    answered = IsTallied-nil from;
+    reply = answers;
+    proper = proper;
+    tallied = sym (none-together (cut_tally (asks from line) part));
+  }
+
+  -- a line broke off in the later lines, after the earlier ones were answered
+  abbrev pub BreaksOff-after : (old : M) (xs ys : List RawLine) (a b : Tally) (mid : M)
+      → IsTallied step asks old xs a mid false
+      → BreaksOff step asks mid ys b → BreaksOff step asks old (xs ++ ys) (together a b)
+  BreaksOff-after old xs ys a b mid run cut = record {
+    before = xs ++ cut.before;
+    line = cut.line;
+    after = cut.after;
+    whole = together a cut.whole;
+    part = cut.part;
+    missing = cut.missing;
+    mid = cut.mid;
+    next = cut.next;
+    ends = cut.ends;
+    place = ap (λ l. xs ++ l) cut.place ∙ sym (append_assoc xs cut.before (cut.line ∷ cut.after));
+    answered = IsTallied-append old xs cut.before a cut.whole mid cut.mid false run cut.answered;
+    reply = cut.reply;
+    proper = cut.proper;
+    tallied = ap (together a) cut.tallied ∙ sym (together-assoc a cut.whole _);
+  }
+
+  -- a line broke off in the earlier of some lines
+  abbrev pub BreaksOff-more : (old : M) (xs ys : List RawLine) (a : Tally) → BreaksOff step asks old xs a
+      → BreaksOff step asks old (xs ++ ys) a
+  BreaksOff-more old xs ys a cut = record {
+    before = cut.before;
+    line = cut.line;
+    after = cut.after ++ ys;
+    whole = cut.whole;
+    part = cut.part;
+    missing = cut.missing;
+    mid = cut.mid;
+    next = cut.next;
+    ends = cut.ends;
+    place = ap (λ l. l ++ ys) cut.place ∙ append_assoc cut.before (cut.line ∷ cut.after) ys;
+    answered = cut.answered;
+    reply = cut.reply;
+    proper = cut.proper;
+    tallied = cut.tallied;
+  }
+
+  -- the same lines
+  abbrev pub BreaksOff-is : (first : M) (xs ys : List RawLine) (a : Tally) → xs ≡ ys → BreaksOff step asks first ys a
+      → BreaksOff step asks first xs a
+  BreaksOff-is first xs ys a same cut = record {
+    before = cut.before;
+    line = cut.line;
+    after = cut.after;
+    whole = cut.whole;
+    part = cut.part;
+    missing = cut.missing;
+    mid = cut.mid;
+    next = cut.next;
+    ends = cut.ends;
+    place = same ∙ cut.place;
+    answered = cut.answered;
+    reply = cut.reply;
+    proper = cut.proper;
+    tallied = cut.tallied;
+  }
+
+  -- what broke off is a cut
+  abbrev pub BreaksOff-cut : (first : M) (lines : List RawLine) (tally : Tally) → BreaksOff step asks first lines tally
+      → Cut step first lines tally.out
+  BreaksOff-cut first lines tally cut = record {
+    before = cut.before;
+    line = cut.line;
+    after = cut.after;
+    whole = cut.whole.out;
+    part = cut.part;
+    missing = cut.missing;
+    mid = cut.mid;
+    next = cut.next;
+    ends = cut.ends;
+    place = cut.place;
+    answered = IsTallied-run first cut.before cut.whole cut.mid false cut.answered;
+    reply = cut.reply;
+    proper = cut.proper;
+    out = ap (λ (t : Tally). t.out) cut.tallied;
+  }

@@ -1,0 +1,13 @@
+-- Generated lines were served in place of the source, which is as it was.
+use Rattle.std.proofs.Common.{ap}
+use Rattle.workload.specs.Remaining.{WorkloadState}
+use Rattle.session.proofs.Running.{serves-generated, uncaused}
+use Rattle.session.proofs.top_call.serve_lines.Goals as goal
+
+pub returns-in-Some-clause-serves : goal.returns-in-Some-clause-serves
+returns-in-Some-clause-serves g c =
+    serves-generated c.in-Some.n _ _ _ _ _ _ _ _ _ _ _ _ _ c.new.result.left _ _ _ _ _ c.args.generate c.in-Some.is
+    (ap (λ (w : WorkloadState). w.left) c.new.ensures) c.serve.ensures.serves
+
+pub returns-in-Some-clause-input : goal.returns-in-Some-clause-input
+returns-in-Some-clause-input g c = uncaused _ _ c.serve.ensures.input
