@@ -5,7 +5,8 @@ use Rattle.gtp_rules.specs.Steps.{Step}
 use Rattle.run_notes.specs.declared.notes.Counts.{Counts}
 use Rattle.run_notes.specs.declared.notes.Sent.{Sent}
 use Rattle.session.specs.Tallies.{Tally}
-use Rattle.session.specs.Headline.{Streams, ServesLines, Came}
+use Rattle.session.specs.Ends.{Streams}
+use Rattle.session.specs.Headline.{ServesLines, Came}
 use Rattle.session.specs.Outcomes.{Phase, NotTaken, NotOpened, Served}
 use Rattle.session.specs.declared.outcome.End.{End}
 use Rattle.memory_runs.specs.Told.{ServesEither, Told}

@@ -11,7 +11,8 @@ use Rattle.session.specs.Machine.{first_machine}
 use Rattle.session.specs.Matcher.{plain_matcher}
 use Rattle.session.specs.Opening.{IsOpened}
 use Rattle.session.specs.Outcomes.{Phase, NotTaken, NotOpened, Served}
-use Rattle.session.specs.Headline.{GiveOptions, IsUnopened, IsRight}
+use Rattle.session.specs.Ends.{IsRight}
+use Rattle.session.specs.Headline.{GiveOptions, IsUnopened}
 use Rattle.session.specs.declared.outcome.End.{End}
 
 -- a front of the input was taken, so that rest is left and piece bytes came last, and bytes were put behind the old

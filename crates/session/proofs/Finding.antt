@@ -16,7 +16,8 @@ use Rattle.session.specs.Counting.{is_read_line}
 use Rattle.session.specs.Tallies.{Tally}
 use Rattle.session.specs.Kept.{Kept, machine_of, matcher_of, step_of, first_kept}
 use Rattle.session.specs.Opened.{IsPlainWith}
-use Rattle.session.specs.Headline.{Streams, ServesLines}
+use Rattle.session.specs.Ends.{Streams}
+use Rattle.session.specs.Headline.{ServesLines}
 use Rattle.session.specs.declared.outcome.End.{End}
 use Rattle.session.specs.MatchTexts.{AreAmong}
 

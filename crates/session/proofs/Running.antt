@@ -18,7 +18,8 @@ use Rattle.session.specs.Kept.{Kept, machine_of, step_of}
 use Rattle.session.specs.Opening.{IsRefused, MissedIn}
 use Rattle.session.specs.Opened.{Opens, CameBy, ServesCounting}
 use Rattle.session.specs.Outcomes.{Phase, NotTaken, NotOpened, Served}
-use Rattle.session.specs.Headline.{Streams, Came, AreCounts, IsSent, IsServed, IsUntouched, IsCauseOf, GiveOptions, MissedAfter, files_in}
+use Rattle.session.specs.Ends.{Streams}
+use Rattle.session.specs.Headline.{Came, AreCounts, IsSent, IsServed, IsUntouched, IsCauseOf, GiveOptions, MissedAfter, files_in}
 use Rattle.session.specs.Serving.{IsAfresh, progress_of}
 use Rattle.session.specs.declared.outcome.End.{End}
 use Rattle.session.specs.declared.outcome.OpenError.{OpenError}

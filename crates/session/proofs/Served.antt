@@ -11,7 +11,7 @@ use Rattle.gtp_lex.specs.Held.{lines_from, held_from, held_line}
 use Rattle.gtp_lex.proofs.HeldLemmas.{lines_from-append, held_from-append, lines_of-lines_from, lines_with_rest-lines_from}
 use Rattle.session.specs.Tallies.{Tally, Progress, Advances, IsTallied, no_tally, together}
 use Rattle.session.specs.Serving.{RunsTo, RunsPart}
-use Rattle.session.specs.Headline.{most_taken, Streams, earlier}
+use Rattle.session.specs.Ends.{most_taken, Streams, earlier}
 use Rattle.session.specs.Opened.{ServesCounting}
 use Rattle.session.proofs.Tallying.{Advances-none, Advances-trans, IsTallied-nil, IsTallied-append, IsTallied-run, BreaksOff-after, BreaksOff-more, BreaksOff-is, BreaksOff-cut}
 use Rattle.session.specs.declared.outcome.End.TheVariants.{Done, InputFault, OutputFault, InputTooLong}

@@ -1,16 +1,15 @@
 -- The claim of `run`: by its outcome, what its files are, what it took from its source, put on its output and noted.
-use Rattle.std.specs.Prelude.{◌≡◌, ◌⊎◌, ℕ, ◌-◌, ◌^◌, ◌<◌, ◌≤◌, Bool, true, false, MatchBool, List, [], ◌++◌, length, take, Option, Some, None, IsSomeAnd, MatchOption, Result, Ok, Err, codes}
-use Rattle.std.specs.Io.KnownBytes.{Consumes, Appends, IsAtEnd}
+use Rattle.std.specs.Prelude.{◌≡◌, ◌⊎◌, ℕ, ◌<◌, ◌≤◌, Bool, true, false, MatchBool, List, length, Option, Some, None, IsSomeAnd, MatchOption, Result, Ok, Err, codes}
 use Rattle.gtp_io.specs.Outside.{Rose}
-use Rattle.gtp_rules.specs.Lines.{RawLine, lines_of, lines_with_rest}
+use Rattle.gtp_rules.specs.Lines.{RawLine}
 use Rattle.gtp_rules.specs.Steps.{Step}
-use Rattle.gtp_rules.specs.Transcript.{IsRun, IsTranscript, GoesOn, Cut}
 use Rattle.pat_types.specs.declared.pattern.Pattern.{Pattern}
 use Rattle.session.specs.Machine.{first_machine}
 use Rattle.session.specs.Matcher.{plain_matcher}
 use Rattle.session.specs.Answering.{step}
 use Rattle.session.specs.Counting.{is_read_line}
-use Rattle.session.specs.Tallies.{Tally, IsTallied, BreaksOff, kept_sum}
+use Rattle.session.specs.Tallies.{Tally, kept_sum}
+use Rattle.session.specs.Ends.{Streams, Serves}
 use Rattle.session.specs.Opening.{IsOpened, IsRefused, MissedIn}
 use Rattle.session.specs.Notes.{note_of}
 use Rattle.go_options.specs.CommandLine.{is_taken, rows_in}
@@ -28,16 +27,6 @@ use Rattle.session.specs.declared.outcome.Outcome.{Outcome}
 use Rattle.session.specs.declared.outcome.Outcome.TheVariants as told
 use Rattle.session.specs.declared.outcome.WordsError.{WordsError}
 use Rattle.session.specs.declared.outcome.End.{End}
-use Rattle.session.specs.declared.outcome.End.TheVariants.{Done, InputFault, OutputFault, InputTooLong}
-
--- what a source and an output tell: the bytes left, how many the last call gave, the bytes written, and how often
--- each failed
-pub record Streams : Type 0 where
-  pub left : Option (List ℕ)
-  pub piece : ℕ
-  pub input_faults : ℕ
-  pub written : Option (List ℕ)
-  pub output_faults : ℕ
 
 -- what stands outside a run: the files by their names, those that failed, the streams, and the notes with how often
 -- they failed
@@ -47,78 +36,6 @@ pub record Outside : Type 0 where
   pub streams : Streams
   pub noted : Option (List ℕ)
   pub notes_faults : ℕ
-
--- how many bytes are too many to take
-abbrev pub most_taken : ℕ
-most_taken = 2 ^ 32
-
--- front is a front of all
-abbrev pub IsFront : List ℕ → List ℕ → Type 0
-IsFront front all = (more : List ℕ) × (all ≡ front ++ more)
-
--- the bytes that were taken before the last piece, of this many bytes
-abbrev pub earlier : List ℕ → ℕ → List ℕ
-earlier taken piece = take (length taken - piece) taken
-
--- The input was read to its end, and every line of it was answered. No line that has its line feed ended the session.
-pub record IsReadToEnd {M : Type 0} (step : M → RawLine → Step M) (first : M) (left : Option (List ℕ))
-    (taken put : List ℕ) (piece : ℕ) : Type 0 where
-  pub at_end : IsAtEnd left
-  pub last : piece ≡ 0
-  pub few : length taken < most_taken
-  pub transcript : IsTranscript step first (lines_with_rest taken) put
-  pub none_ended : (front : List ℕ) × IsFront front put × GoesOn step first (lines_of taken) front
-
--- A line that has its line feed ended the session, and it ends among the bytes of the last piece.
-pub record IsEnded {M : Type 0} (step : M → RawLine → Step M) (first : M) (taken put : List ℕ)
-    (piece : ℕ) : Type 0 where
-  pub few : length taken ≤ most_taken
-  pub ended : (last : M) × IsRun step first (lines_of taken) put last true
-  pub in_last : (front : List ℕ) × IsFront front put × GoesOn step first (lines_of (earlier taken piece)) front
-
--- The output broke off within a reply. Its line ends among the bytes of the last piece, or it is the rest after the
--- last line feed of an input that was read to its end.
-pub record IsCutOff {M : Type 0} (step : M → RawLine → Step M) (first : M) (left : Option (List ℕ))
-    (taken put : List ℕ) (piece : ℕ) : Type 0 where
-  pub few : length taken ≤ most_taken
-  -- what was put is a proper front of a transcript
-  pub front : (more : List ℕ) × (0 < length more) × IsTranscript step first (lines_with_rest taken) (put ++ more)
-  -- and it breaks off within the reply to one line
-  pub cut : Cut step first (lines_with_rest taken) put
-  pub in_last : length (lines_of (earlier taken piece)) ≤ length cut.before
-  pub has_feed : (length cut.before < length (lines_of taken)) ⊎ (IsAtEnd left × (piece ≡ 0))
-
--- by its end, what a run took and put; left is what the source has left, and piece how many bytes it gave last
-abbrev pub IsRight : {M : Type 0} → (M → RawLine → Step M) → M → Option (List ℕ) → List ℕ → List ℕ → ℕ → End → Type 0
-IsRight step first left taken put piece Done = IsReadToEnd step first left taken put piece
-    ⊎ IsEnded step first taken put piece
-IsRight step first left taken put piece InputFault = GoesOn step first (lines_of taken) put
-    × (length taken < most_taken)
-IsRight step first left taken put piece InputTooLong = GoesOn step first (lines_of taken) put
-    × (length taken ≡ most_taken)
-IsRight step first left taken put piece OutputFault = IsCutOff step first left taken put piece
-
--- by its end, which lines were answered, with their tally
-abbrev pub AreTallied : {M : Type 0} → (M → RawLine → Step M) → (M → RawLine → Bool) → M → List ℕ → Tally → End → Type 0
-AreTallied {M} step asks first taken tally Done =
-    ((last : M) × (ended : Bool) × IsTallied step asks first (lines_with_rest taken) tally last ended)
-    ⊎ ((last : M) × IsTallied step asks first (lines_of taken) tally last true)
-AreTallied {M} step asks first taken tally InputFault = (last : M) × IsTallied step asks first
-    (lines_of taken) tally last false
-AreTallied {M} step asks first taken tally InputTooLong = (last : M) × IsTallied step asks first
-    (lines_of taken) tally last false
-AreTallied step asks first taken tally OutputFault = BreaksOff step asks first (lines_with_rest taken) tally
-
--- A run took some bytes from the source and put those of its tally on the output, as its end says. Where the source
--- tells what it has left and the output what it holds, these are those bytes.
-pub record Serves {M : Type 0} (step : M → RawLine → Step M) (asks : M → RawLine → Bool) (first : M)
-    (before after : Streams)
-    (end : End) (tally : Tally) : Type 0 where
-  pub taken : List ℕ
-  pub reads : Consumes before.left after.left taken
-  pub writes : Appends before.written after.written tally.out
-  pub right : IsRight step first after.left taken tally.out after.piece end
-  pub tallied : AreTallied step asks first taken tally end
 
 -- the words of the command line are taken, and give these options
 pub record GiveOptions (words : List (List ℕ)) (options : Options) : Type 0 where

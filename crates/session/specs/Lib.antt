@@ -17,6 +17,7 @@ pub mod Replies
 pub mod Outcomes
 pub mod Notes
 pub mod Opening
+pub mod Ends
 pub mod Headline
 pub mod Opened
 pub mod Serving

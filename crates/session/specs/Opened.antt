@@ -8,7 +8,8 @@ use Rattle.session.specs.Matcher.{plain_matcher}
 use Rattle.session.specs.Kept.{Kept, machine_of, matcher_of, no_counts}
 use Rattle.session.specs.Opening.{IsOpened, IsRefused}
 use Rattle.session.specs.Outcomes.{Phase, NotTaken, NotOpened, Served}
-use Rattle.session.specs.Headline.{Streams, ServesLines, IsServed, IsUntouched}
+use Rattle.session.specs.Ends.{Streams}
+use Rattle.session.specs.Headline.{ServesLines, IsServed, IsUntouched}
 use Rattle.session.specs.Tallies.{Tally, Progress, Advances}
 use Rattle.gtp_rules.specs.Lines.{RawLine}
 use Rattle.gtp_rules.specs.Steps.{Step}
