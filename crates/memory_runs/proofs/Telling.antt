@@ -14,8 +14,13 @@ use Rattle.memory_runs.specs.Told.{ServesEither, Told}
 -- streams that tell their bytes
 abbrev pub telling : List ℕ → ℕ → ℕ → List ℕ → ℕ → Streams
 telling left piece input_faults written output_faults =
-    record { left = Some left; piece = piece; input_faults = input_faults; written = Some written;
-        output_faults = output_faults }
+    record {
+      left = Some left;
+      piece = piece;
+      input_faults = input_faults;
+      written = Some written;
+      output_faults = output_faults;
+    }
 
 -- the streams before a run, and those after it
 module _ (input : List ℕ) (last hurt : ℕ) (old : List ℕ) (torn : ℕ) (rest : List ℕ) (piece fault : ℕ) (new : List ℕ)
@@ -42,8 +47,7 @@ module _ (input : List ℕ) (last hurt : ℕ) (old : List ℕ) (torn : ℕ) (res
   }
   either step asks first (Some n) end tally serves =
       let left = serves.left in
-      let lines = serves.generated in
-      (
+      let lines = serves.generated in (
         cc,
         (
           lines.0,

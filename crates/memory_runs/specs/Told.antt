@@ -32,7 +32,7 @@ abbrev pub ServesEither : {M : Type 0} → Option ℕ → (M → RawLine → Ste
 ServesEither None step first input rest old new piece end = ServesBytes step first input rest old new piece end
 ServesEither (Some n) step first input rest old new piece end =
     (rest ≡ input) × ((unread : List ℕ) × (last : ℕ) × ServesBytes step first
-        (generated_text n) unread old new last end)
+    (generated_text n) unread old new last end)
 
 -- the words gave options, the files were opened, and the lines were served by the plain machine; rest is what the
 -- feed has left, and piece how many bytes it gave last

@@ -545,17 +545,7 @@ const IN_ATARI: &[u8] = b"boardsize 9\nplay b D4\nplay w C4\nplay w E4\nplay w D
 
 /// Runs with options: what they show, the files, the input and how the objects go; the exit status, the output, the notes and how
 /// many bytes are left of the input.
-const OPTION_RUNS: [(
-    &str,
-    &[&str],
-    &[File],
-    &[u8],
-    Way,
-    u8,
-    &[u8],
-    &[u8],
-    usize,
-); 13] = [
+const OPTION_RUNS: [(&str, &[&str], &[File], &[u8], Way, u8, &[u8], &[u8], usize); 13] = [
     (
         "one generated line, and the input is left alone",
         &["--generate", "1"],
@@ -583,7 +573,10 @@ const OPTION_RUNS: [(
         &["--generate", "1"],
         &[],
         b"name\n",
-        Way { source_fails: 1, ..WHOLE },
+        Way {
+            source_fails: 1,
+            ..WHOLE
+        },
         0,
         b"=\n\n=\n\n=\n\n",
         b"lines 3 bytes 9\n",
@@ -594,7 +587,11 @@ const OPTION_RUNS: [(
         &["--generate", "1"],
         &[],
         b"",
-        Way { piece: 1, sink_fails: 8, ..WHOLE },
+        Way {
+            piece: 1,
+            sink_fails: 8,
+            ..WHOLE
+        },
         5,
         b"=\n\n=\n\n=",
         b"lines 2 bytes 7\noutput failed\n",
@@ -605,7 +602,10 @@ const OPTION_RUNS: [(
         &["--generate", "1"],
         &[],
         b"",
-        Way { notes_fail: 1, ..WHOLE },
+        Way {
+            notes_fail: 1,
+            ..WHOLE
+        },
         0,
         b"=\n\n=\n\n=\n\n",
         b"",
@@ -717,11 +717,16 @@ fn options_have_their_effect(rt: HostRuntime) -> Result<(), Fail> {
 // A refused question counts nothing; each that is answered with a code is read afresh, and tries some moves here.
 #[test]
 fn readings_are_counted(rt: HostRuntime) -> Result<(), Fail> {
-    let input = b"boardsize 9\ndepths 3 2\nplay b D4\nplay w C4\nplay w E4\nplay w D5\nattack D4\nattack E5\nattack D4\n";
+    let input =
+        b"boardsize 9\ndepths 3 2\nplay b D4\nplay w C4\nplay w E4\nplay w D5\nattack D4\nattack E5\nattack D4\n";
     let ran = go_with(&rt, rt.alloc(), &["--stats"], &[], input, WHOLE)?;
     assert_eq!(rt; ran.outcome, Outcome::Done);
     assert!(rt; ran.notes.bytes().starts_with(b"readings 2 fresh 2 trials "));
-    assert!(rt; !ran.notes.bytes().starts_with(b"readings 2 fresh 2 trials 0"));
+    assert!(rt;
+        !ran.notes
+            .bytes()
+            .starts_with(b"readings 2 fresh 2 trials 0")
+    );
     assert!(rt; ran.notes.bytes().ends_with(b" refused 0\n"));
     Ok(())
 }

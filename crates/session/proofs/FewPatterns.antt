@@ -59,7 +59,7 @@ placed-few : (helpers : List (List ℕ)) (s : SoFar) (line : KeptLine) (next : S
     → own_fault helpers s line kind ≡ None → Few (placed line next s kind)
 placed-few helpers s line next Pattern few none =
     let one_more : length (blocks_of s ++ begun_with line ∷ []) ≡ length (blocks_of s) + 1 = length-append
-        (blocks_of s) (begun_with line ∷ []) in
+    (blocks_of s) (begun_with line ∷ []) in
     let room = pattern_fault-few (length (blocks_of s)) line.bytes none in
     omega (arith, one_more, room)
 placed-few helpers s line next Colon few none = changed-few s.done _ s.now few
@@ -85,8 +85,12 @@ found-own helpers s line none = by_bad line.is_bad (closing_fault line.number (S
         → (next : Stage) × (cell_for s.stage line ≡ Next next) × (own_fault helpers s line (kind_of line.bytes) ≡ None)
     by_bad true closing cell is h = absurd cc
     by_bad false (Some f) cell is h = absurd cc
-    by_bad false None (Next next) is h = (next, is, at_line-none line.number
-        (own_fault helpers s line (kind_of line.bytes)) h)
+    by_bad false None (Next next) is h = (
+      next,
+      is,
+      at_line-none line.number
+          (own_fault helpers s line (kind_of line.bytes)) h,
+    )
     by_bad false None (Refused kind) is h = absurd cc
 
 -- a line without a fault keeps blocks few
@@ -96,7 +100,7 @@ unfolding after_line
 after_line-few helpers s line few none =
     let own = found-own helpers s line none in
     subst (λ cell. Few (with_cell s line cell)) (sym own.1)
-        (placed-few helpers s line own.0 (kind_of line.bytes) few own.2)
+    (placed-few helpers s line own.0 (kind_of line.bytes) few own.2)
 
 -- of two faults there is neither
 neither : (a b : Option Fault) → or_else a b ≡ None → (a ≡ None) × (b ≡ None)
@@ -119,9 +123,9 @@ unfolding entries so_far
 few_entries helpers text none =
     let start : Few at_start = omega arith in
     let few = walk-few helpers (end_number text) at_start (kept_lines text) start
-        (sym (first_fault-walk helpers text) ∙ none) in
+    (sym (first_fault-walk helpers text) ∙ none) in
     subst (λ n. n ≤ most_patterns) (sym (length-map
-        (blocks_of (fold after_line at_start (kept_lines text))) entry_of_block)) few
+    (blocks_of (fold after_line at_start (kept_lines text))) entry_of_block)) few
 
 -- so have patterns that are its entries
 pub few_patterns : {A : Type 0} (f : A → Entry) (patterns : List A) (text : List ℕ) → first_fault [] text ≡ None

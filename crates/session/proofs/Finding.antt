@@ -1,5 +1,5 @@
 -- Sessions that find matches by an automaton, and the plain machine.
-use Rattle.std.proofs.Common.{◌≡◌, ℕ, List, Option, refl, sym, subst}
+use Rattle.std.proofs.Common.{◌≡◌, ℕ, List, Option, refl, subst}
 use Rattle.std.proofs.lemmas.Option.{slice_get_within}
 use Rattle.go_rules.specs.declared.Colour.{Colour}
 use Rattle.go_rules.specs.Position.{BoardState}
@@ -10,11 +10,11 @@ use Rattle.match_engine.specs.MachineMatches.{machine_matches, is_machine_match}
 use Rattle.match_rules.proofs.Orders.{by-has}
 use Rattle.match_engine.proofs.Patterns.{same_by_machine}
 use Rattle.session.specs.Machine.{first_machine, position_of}
-use Rattle.session.specs.Matcher.{automaton_matcher, plain_matcher}
+use Rattle.session.specs.Matcher.{plain_matcher}
 use Rattle.session.specs.Answering.{step}
 use Rattle.session.specs.Counting.{is_read_line}
 use Rattle.session.specs.Tallies.{Tally}
-use Rattle.session.specs.Kept.{Kept, machine_of, matcher_of, step_of, first_kept}
+use Rattle.session.specs.Kept.{Kept, machine_of, step_of, first_kept}
 use Rattle.session.specs.Opened.{IsPlainWith}
 use Rattle.session.specs.Ends.{Streams}
 use Rattle.session.specs.Headline.{ServesLines}
@@ -64,4 +64,4 @@ pub ServesLines-plain : (patterns : List Pattern) (plies wide : ℕ) (session : 
 ServesLines-plain patterns plies wide session generate before after end tally plain serves =
     subst (λ m. ServesLines generate (step (plain_matcher patterns)) is_read_line m before after end tally) plain.machine
     (subst (λ k. ServesLines generate (step k) is_read_line
-        (machine_of session) before after end tally) plain.matcher serves)
+    (machine_of session) before after end tally) plain.matcher serves)

@@ -59,7 +59,7 @@ pub IsJoined-next : {A : Type 0} (f : A → List ℕ) (contents : List ℕ → O
 IsJoined-next f contents words i word text new within is so_far adds =
     let names : map f (take (i + 1) words) ≡ map f (take i words) ++ f word ∷ [] =
     ap (map f) (take_more words i word within) ∙ map-append f (take i words) (get_or words i word ∷ []) ∙ ap
-        (λ w. map f (take i words) ++ f w ∷ []) (sym is) in
+    (λ w. map f (take i words) ++ f w ∷ []) (sym is) in
     record {
       texts = so_far.texts ++ adds.text ∷ [];
       told = subst (λ l. AreContents contents l (so_far.texts ++ adds.text ∷ [])) (sym names)

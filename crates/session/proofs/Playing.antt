@@ -45,21 +45,21 @@ module _ (game : Game) (kept : Machine) (m : Move) where
       ≡ Grown [] with_move
   played-legal legal room =
       ap (λ t. cond t (cond (eqb (length game.moves) most_moves) (Refused HistoryFull) (Grown [] with_move))
-          (Refused IllegalMove)) legal
+      (Refused IllegalMove)) legal
       ∙ ap (λ t. cond t (Refused HistoryFull) (Grown [] with_move)) (not_equal (length game.moves) most_moves room)
 
   -- the move is legal, and the list is full
   played-full : IsOk (moved (position_of old) m) → length game.moves ≡ most_moves → played old m ≡ Refused HistoryFull
   played-full legal full =
       ap (λ t. cond t (cond (eqb (length game.moves) most_moves) (Refused HistoryFull) (Grown [] with_move))
-          (Refused IllegalMove)) legal
+      (Refused IllegalMove)) legal
       ∙ ap (λ t. cond t (Refused HistoryFull) (Grown [] with_move)) (equal (length game.moves) most_moves full)
 
   -- the move is illegal
   played-illegal : (e : Illegal) → moved (position_of old) m ≡ Err e → played old m ≡ Refused IllegalMove
   played-illegal e forbidden =
       ap (λ r. cond (is_ok r) (cond (eqb (length game.moves) most_moves) (Refused HistoryFull) (Grown [] with_move))
-          (Refused IllegalMove)) forbidden
+      (Refused IllegalMove)) forbidden
 
   -- the answer says what the game answered, and new is the game after it
   module _ (new : Game) (said : Answer) where
@@ -70,7 +70,7 @@ module _ (game : Game) (kept : Machine) (m : Move) where
     move_added added legal room says =
         subst (λ effect. IsAnswer old effect said (with_game new kept)) (sym (played-legal legal (λ full. omega arith)))
         (subst (λ a. IsAnswer old (Grown [] with_move) a (with_game new kept)) (sym says)
-            (refl, ap (λ g. with_game g kept) added))
+        (refl, ap (λ g. with_game g kept) added))
 
     -- the move was refused as illegal
     pub move_illegal : (e : Illegal) → new ≡ game → moved (position_of old) m ≡ Err e → said
@@ -78,7 +78,7 @@ module _ (game : Game) (kept : Machine) (m : Move) where
         → IsAnswer old (played old m) said (with_game new kept)
     move_illegal e same forbidden says =
         subst (λ a. IsAnswer old (played old m) a (with_game new kept)) (sym says)
-            (played-illegal e forbidden, ap (λ g. with_game g kept) same)
+        (played-illegal e forbidden, ap (λ g. with_game g kept) same)
 
     -- the move was refused since the list is full
     pub move_past_full : new ≡ game → IsOk (moved (position_of old) m) → length game.moves ≡ most_moves → said
@@ -86,7 +86,7 @@ module _ (game : Game) (kept : Machine) (m : Move) where
         → IsAnswer old (played old m) said (with_game new kept)
     move_past_full same legal full says =
         subst (λ a. IsAnswer old (played old m) a (with_game new kept)) (sym says)
-            (played-full legal full, ap (λ g. with_game g kept) same)
+        (played-full legal full, ap (λ g. with_game g kept) same)
 
     -- there was no memory for the move
     pub move_without_memory : new ≡ game → ((e : Illegal) → moved (position_of old) m ≡ Err e → ⊥)
@@ -95,6 +95,6 @@ module _ (game : Game) (kept : Machine) (m : Move) where
     move_without_memory same legal room says =
         let ok = ok_unless (moved (position_of old) m) legal in
         subst (λ effect. IsAnswer old effect said (with_game new kept))
-            (sym (played-legal ok (λ full. room (ok, full))))
+        (sym (played-legal ok (λ full. room (ok, full))))
         (subst (λ a. IsAnswer old (Grown [] with_move) a (with_game new kept)) (sym says)
-            (tt, ap (λ g. with_game g kept) same))
+        (tt, ap (λ g. with_game g kept) same))

@@ -1,8 +1,6 @@
 -- How a run of a command line came to its end, by how it read its options, opened its files and served its lines.
 use Rattle.std.proofs.Common.{◌≡◌, ℕ, Bool, true, false, cond, List, length, Option, Some, None, refl, sym, ap, subst, ◌∙◌, inr, ◌≤◌, arith}
 use Rattle.std.specs.Prelude.{option_map}
-use Rattle.gtp_io.specs.Outside.{Rose}
-use Rattle.pat_types.specs.declared.pattern.Pattern.{Pattern}
 use Rattle.gtp_lex.specs.Lines.{LinesState}
 use Rattle.go_options.specs.CommandLine.{is_taken, rows_in}
 use Rattle.go_options.specs.Found.{AreFound}
@@ -19,7 +17,7 @@ use Rattle.session.specs.Opening.{IsRefused, MissedIn}
 use Rattle.session.specs.Opened.{Opens, CameBy, ServesCounting}
 use Rattle.session.specs.Outcomes.{Phase, NotTaken, NotOpened, Served}
 use Rattle.session.specs.Ends.{Streams}
-use Rattle.session.specs.Headline.{Came, AreCounts, IsSent, IsServed, IsUntouched, IsCauseOf, GiveOptions, MissedAfter, files_in}
+use Rattle.session.specs.Headline.{Came, AreCounts, IsSent, IsCauseOf, MissedAfter, files_in}
 use Rattle.session.specs.Serving.{IsAfresh, progress_of}
 use Rattle.session.specs.declared.outcome.End.{End}
 use Rattle.session.specs.declared.outcome.OpenError.{OpenError}
@@ -41,7 +39,7 @@ sent-told (Some n) sent tally lines bytes = (lines, bytes)
 -- the files were opened, and the session served the lines
 pub came-served : (contents : List ℕ → Option (List ℕ)) (options : Options) (session now : Kept) (lines : LinesState)
     (before after : Streams) (end : End) (w0 w1 : Option (List ℕ)) (sent : Sent) (told : Option Counts)
-        (noted : Option Sent)
+    (noted : Option Sent)
     (phase : Phase) → Opens contents options session lines
     → ServesCounting options.generate (step_of session) is_read_line (machine_of session) before after end
     (progress_of w0 session (record { lines = 0; bytes = 0 })) (progress_of w1 now sent)
@@ -93,7 +91,7 @@ uncaused fault count cause = record {
 -- generated lines were served in place of the source
 pub serves-generated : {M : Type 0} (n : ℕ) (step : M → RawLine → Step M) (asks : M → RawLine → Bool) (first : M)
     (left : Option (List ℕ)) (piece faults : ℕ) (w0 w1 : Option (List ℕ)) (c0 c1 f0 f1 p : ℕ) (text rest : List ℕ)
-        (last : ℕ)
+    (last : ℕ)
     (end : End) (old new : Progress) (generate : Option ℕ) → generate ≡ Some n → text ≡ generated_text n
     → ServesCounting None step asks first
     (record { left = Some text; piece = p; input_faults = f0; written = w0; output_faults = c0 })

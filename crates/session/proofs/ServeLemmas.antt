@@ -45,7 +45,7 @@ put_more a b c before now bytes done rest n total whole puts more within counted
 abbrev Takes : Bool → RawLine → Option Taken → LinesState → LinesState → Type 0
 Takes waits held result new old =
     (waits ≡ false → (result ≡ None) × (new ≡ old))
-        × (waits ≡ true → (result ≡ Some (taken_of held)) × (new ≡ given_state held))
+    × (waits ≡ true → (result ≡ Some (taken_of held)) × (new ≡ given_state held))
 
 -- a line was taken, so it waited
 by_waits : (waits : Bool) (held : RawLine) (result : Option Taken) (taken : Taken) (new old : LinesState) → result
@@ -189,8 +189,11 @@ module _ (M : Type 0) (step : M → RawLine → Step M) (asks : M → RawLine �
   pub RunsTo-ended : (from to : M) (xs ys : List RawLine) (a b : Progress) → RunsTo step asks from xs to true a b
       → RunsTo step asks from (xs ++ ys) to true a b
   RunsTo-ended from to xs ys a b runs =
-      record { tally = runs.tally; run = IsTallied-ended M step asks from xs ys runs.tally to runs.run;
-          advances = runs.advances }
+      record {
+        tally = runs.tally;
+        run = IsTallied-ended M step asks from xs ys runs.tally to runs.run;
+        advances = runs.advances;
+      }
 
   -- lines that broke off, after lines answered whole
   pub RunsPart-after : (from mid : M) (xs ys : List RawLine) (a b c : Progress)
@@ -204,9 +207,11 @@ module _ (M : Type 0) (step : M → RawLine → Step M) (asks : M → RawLine �
   -- lines that broke off, before other lines
   pub RunsPart-more : (from : M) (xs ys : List RawLine) (a b : Progress) → RunsPart step asks from xs a b
       → RunsPart step asks from (xs ++ ys) a b
-  RunsPart-more from xs ys a b runs = record { tally = runs.tally;
-      cut = BreaksOff-more M step asks from xs ys runs.tally runs.cut;
-      advances = runs.advances }
+  RunsPart-more from xs ys a b runs = record {
+    tally = runs.tally;
+    cut = BreaksOff-more M step asks from xs ys runs.tally runs.cut;
+    advances = runs.advances;
+  }
 
   -- the same lines
   pub RunsTo-is : (from to : M) (xs ys : List RawLine) (ended : Bool) (a b : Progress) → xs ≡ ys
@@ -237,7 +242,7 @@ module _ (M : Type 0) (step : M → RawLine → Step M) (asks : M → RawLine �
   -- Of a piece some lines were answered, and those of the rest are left.
   module _ (from mid : M) (held0 held : RawLine) (piece rest : List ℕ) (lines : List RawLine) (a b c : Progress)
       (whole : lines_from held0 piece ≡ lines ++ lines_from held rest)
-          (answered : RunsTo step asks from lines mid false a b) where
+      (answered : RunsTo step asks from lines mid false a b) where
     -- a line of the rest broke off
     pub piece_part : RunsPart step asks mid (lines_from held rest) b c → RunsPart step asks from
         (lines_from held0 piece) a c

@@ -46,7 +46,7 @@ lines_of-append taken part held is =
 earlier-append : (taken part : List ℕ) (piece : ℕ) → length part ≡ piece → earlier (taken ++ part) piece ≡ taken
 earlier-append taken part piece len =
     ap (λ n. take n (taken ++ part)) (let whole = length-append taken part in omega (arith, whole))
-        ∙ take_at taken part (length taken) refl
+    ∙ take_at taken part (length taken) refl
 
 -- before the first byte
 pub served_start : (M : Type 0) (step : M → RawLine → Step M) (asks : M → RawLine → Bool) (m : M) (l : Option (List ℕ))
@@ -76,7 +76,7 @@ served_more M step asks first now l0 l1 p0 p1 held room s l2 p2 part reads n new
   run =
       subst (λ l. IsTallied step asks first l (together s.tally runs.tally) new false)
       (sym (lines_from-append (Line []) s.taken part ∙ ap (λ h. lines_from (Line []) s.taken ++ lines_from h part)
-          (sym s.held_is)))
+      (sym s.held_is)))
       (IsTallied-append M step asks first _ _ s.tally runs.tally now new false s.run runs.run);
   held_is = is ∙ ap (λ h. held_from h part) s.held_is ∙ sym (held_from-append (Line []) s.taken part);
   few = let few = s.few in let both = length-append s.taken part in omega (arith, few, both);
@@ -161,8 +161,12 @@ module _ (M : Type 0) (step : M → RawLine → Step M) (asks : M → RawLine �
               at_end = at_end;
               last = last;
               few = let few = s.few in omega arith;
-              transcript = (new, ended, IsTallied-run M step asks first
-                  (lines_with_rest s.taken) tally new ended whole);
+              transcript = (
+                new,
+                ended,
+                IsTallied-run M step asks first
+                    (lines_with_rest s.taken) tally new ended whole,
+              );
               none_ended = (s.tally.out, (runs.tally.out, refl), answered);
             });
             tallied = inl (new, ended, whole);
@@ -178,7 +182,7 @@ module _ (M : Type 0) (step : M → RawLine → Step M) (asks : M → RawLine �
         let both = Advances-trans p0 p1 p2 s.tally runs.tally s.advances runs.advances in
         let off = BreaksOff-is M step asks first _ _ tally with_held
         (BreaksOff-after M step asks first (lines_from (Line []) s.taken) (held_line held) s.tally runs.tally now s.run
-            runs.cut) in
+        runs.cut) in
         let broken = BreaksOff-cut M step asks first _ tally off in
         let none_later : earlier s.taken after.piece ≡ s.taken =
         ap (λ n. take n s.taken) (omega arith) ∙ take_all (length s.taken) s.taken (omega arith) in
@@ -220,7 +224,7 @@ module _ (M : Type 0) (step : M → RawLine → Step M) (asks : M → RawLine �
         let tally = together s.tally runs.tally in
         let both = Advances-trans p0 p1 p2 s.tally runs.tally s.advances runs.advances in
         let whole = subst (λ l. IsTallied step asks first l tally new true)
-            (sym (lines_of-append s.taken part held s.held_is))
+        (sym (lines_of-append s.taken part held s.held_is))
         (IsTallied-append M step asks first _ _ s.tally runs.tally now new true s.run runs.run) in
         record {
           tally = tally;
@@ -255,7 +259,7 @@ module _ (M : Type 0) (step : M → RawLine → Step M) (asks : M → RawLine �
         let rest = rest_line (rest_of (s.taken ++ part)) in
         let same = lines_of-append s.taken part held s.held_is in
         let cut = BreaksOff-after M step asks first answered_lines
-            (lines_from held part) s.tally runs.tally now s.run runs.cut in
+        (lines_from held part) s.tally runs.tally now s.run runs.cut in
         let off = BreaksOff-is M step asks first _ _ tally (ap (λ l. l ++ rest) same)
         (BreaksOff-more M step asks first (answered_lines ++ lines_from held part) rest tally cut) in
         let broken = BreaksOff-cut M step asks first _ tally off in

@@ -27,7 +27,7 @@ pub flat_map-next : {A : Type 0} (f : ℕ → List A) (n : ℕ) → flat_map f (
     (range_with_len 0 n) ++ f n
 flat_map-next f n =
     ap (flat_map f) (range_with_len-next n) ∙ flat_map-append f (range_with_len 0 n) (n ∷ []) ∙ ap
-        (λ l. flat_map f (range_with_len 0 n) ++ l) (append-nil (f n))
+    (λ l. flat_map f (range_with_len 0 n) ++ l) (append-nil (f n))
 
 -- a text grows by what stands for the next number
 pub text-next : (f : ℕ → List ℕ) (first text new : List ℕ) (n : ℕ) → text ≡ first ++ flat_map f (range_with_len 0 n)
@@ -35,7 +35,7 @@ pub text-next : (f : ℕ → List ℕ) (first text new : List ℕ) (n : ℕ) →
     → new ≡ first ++ flat_map f (range_with_len 0 (n + 1))
 text-next f first text new n so_far grows =
     grows ∙ ap (λ t. t ++ f n) so_far ∙ append_assoc first (flat_map f (range_with_len 0 n)) (f n) ∙ ap
-        (λ t. first ++ t) (sym (flat_map-next f n))
+    (λ t. first ++ t) (sym (flat_map-next f n))
 
 -- two pieces that are put one after the other
 pub put_twice : (text mid new a b : List ℕ) → mid ≡ text ++ a → new ≡ mid ++ b → new ≡ text ++ (a ++ b)
@@ -49,7 +49,7 @@ pub join_with_byte-next : (b : ℕ) (text : List ℕ) (texts : List (List ℕ)) 
 join_with_byte-next b text [] new = refl
 join_with_byte-next b text (next ∷ texts) new =
     ap (λ t. text ++ b ∷ t) (join_with_byte-next b next texts new) ∙ sym
-        (append_assoc text (b ∷ join_with_byte b (next ∷ texts)) (b ∷ new))
+    (append_assoc text (b ∷ join_with_byte b (next ∷ texts)) (b ∷ new))
 
 -- texts that are joined begin with the first of them
 pub starts_with_text : (b c : ℕ) (cs : List ℕ) (texts : List (List ℕ)) → (more : List ℕ)
@@ -66,7 +66,7 @@ vertices_text-next s (q ∷ points) p =
     let text = vertices_text s (q ∷ points) in
     let vertex = vertex_text s p in
     let starts = starts_with_text blank (slice_index column_letters (column_of s q)) (decimal (s - row_of s q))
-        (map (vertex_text s) points) in
+    (map (vertex_text s) points) in
     ap (join_with_byte blank) (map-append (vertex_text s) (q ∷ points) (p ∷ []))
     ∙ join_with_byte-next blank (vertex_text s q) (map (vertex_text s) points) vertex
     ∙ sym (append_assoc text (blank ∷ []) vertex)
@@ -95,4 +95,4 @@ module _ (s n : ℕ) (test : ℕ → Bool) (text : List ℕ)
       same ∙ so_far
       ∙ ap (vertices_text s) (sym (filter-next ∙ ap
       (λ b. filter test (range_with_len 0 n) ++ cond b (n ∷ []) []) fails ∙ append-nil
-          (filter test (range_with_len 0 n))))
+      (filter test (range_with_len 0 n))))

@@ -49,8 +49,13 @@ effect_of matcher old command.ListPatterns = patterns_listed matcher old
 
 -- the answer to what a line says
 abbrev pub parsed_step : Matcher → Machine → Parsed → Step Machine
-parsed_step matcher old parsed.Nothing = record { reply = []; grows = false; out_of_memory = []; next = old;
-    ends = false }
+parsed_step matcher old parsed.Nothing = record {
+  reply = [];
+  grows = false;
+  out_of_memory = [];
+  next = old;
+  ends = false;
+}
 parsed_step matcher old (parsed.Refused id text) = replied old id (Refused text)
 parsed_step matcher old (parsed.Command id command) = replied old id (effect_of matcher old command)
 

@@ -29,7 +29,7 @@ abbrev pub played : Machine → Move → Effect
 played old move =
     if is_ok (moved (position_of old) move)
     then (if length old.moves == most_moves then Refused HistoryFull else Grown []
-        (record old { moves = old.moves ++ move ∷ [] }))
+    (record old { moves = old.moves ++ move ∷ [] }))
     else Refused IllegalMove
 
 -- the last move is taken from the list

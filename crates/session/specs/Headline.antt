@@ -46,7 +46,7 @@ pub record GiveOptions (words : List (List ℕ)) (options : Options) : Type 0 wh
 abbrev pub IsUnopened : List (List ℕ) → (List ℕ → Option (List ℕ)) → OpenError → Type 0
 IsUnopened words contents error =
     (error ≡ opening.NoMemory) ⊎ ((options : Options) × GiveOptions words options
-        × IsRefused contents options.files options.states error)
+    × IsRefused contents options.files options.states error)
 
 -- Generated lines were served in place of the source, which stays as it was.
 pub record ServesGenerated {M : Type 0} (n : ℕ) (step : M → RawLine → Step M) (asks : M → RawLine → Bool) (first : M)

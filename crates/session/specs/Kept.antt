@@ -25,8 +25,13 @@ pub record Kept : Type 0 where
 
 -- the machine that a session is
 abbrev pub machine_of : Kept → Machine
-machine_of kept = record { size = kept.size; moves = kept.moves; komi = kept.komi; plies = kept.plies;
-    wide = kept.wide }
+machine_of kept = record {
+  size = kept.size;
+  moves = kept.moves;
+  komi = kept.komi;
+  plies = kept.plies;
+  wide = kept.wide;
+}
 
 -- how a session finds matches: by its automaton
 abbrev pub matcher_of : Kept → Matcher

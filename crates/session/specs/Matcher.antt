@@ -15,11 +15,17 @@ pub record Matcher : Type 0 where
 
 -- the plain matcher of these patterns: it compares each of their diagrams with the board
 abbrev pub plain_matcher : List Pattern → Matcher
-plain_matcher patterns = record { patterns = patterns; matches = λ machine friend. matches_of patterns
-    (position_of machine) friend }
+plain_matcher patterns = record {
+  patterns = patterns;
+  matches = λ machine friend. matches_of patterns
+      (position_of machine) friend;
+}
 
 -- the matcher of these patterns by an automaton, which need not be theirs
 abbrev pub automaton_matcher : List Pattern → List Row → Matcher
 automaton_matcher patterns rows =
-    record { patterns = patterns; matches = λ machine friend. machine_matches rows patterns
-        (position_of machine) friend }
+    record {
+      patterns = patterns;
+      matches = λ machine friend. machine_matches rows patterns
+          (position_of machine) friend;
+    }

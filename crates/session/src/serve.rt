@@ -72,11 +72,11 @@ fn answer<K: Sink>(
     ensures ok { IfOk result (λ ends. Replies (step_of session.old) is_read_line (machine_of session.old)
         (raw_line raw.entry)
         (machine_of session.new) ends (progress_of (K.written output.old) session.old sent.old)
-            (progress_of (K.written output.new) session.new sent.new)) }
+        (progress_of (K.written output.new) session.new sent.new)) }
     ensures part { OnErr result (RepliesPart (step_of session.old) is_read_line (machine_of session.old)
         (raw_line raw.entry)
         (progress_of (K.written output.old) session.old sent.old)
-            (progress_of (K.written output.new) session.new sent.new)) }
+        (progress_of (K.written output.new) session.new sent.new)) }
     ensures same { matcher_of session.new ≡ matcher_of session.old }
     ensures afresh { IsAfresh session.old.counts → IsAfresh session.new.counts }
     ensures cause { IsCounted (K.faults output.old) (K.faults output.new) result }
@@ -92,7 +92,11 @@ fn answer<K: Sink>(
             Ok(false)
         }
         Reply::NoMemory { id } => {
-            put_reply(output, refusal(id, RefuseText::OutOfMemory).as_slice(), sent)?;
+            put_reply(
+                output,
+                refusal(id, RefuseText::OutOfMemory).as_slice(),
+                sent,
+            )?;
             Ok(false)
         }
     }
@@ -109,12 +113,12 @@ fn answer_taken<K: Sink>(
     requires { (held : RawLine) × (lines.now ≡ given_state held) × (taken ≡ taken_of held) }
     ensures ok { (held : RawLine) → lines.now ≡ given_state held → taken ≡ taken_of held → IfOk result
         (λ ends. Replies (step_of session.old) is_read_line (machine_of session.old) held
-            (machine_of session.new) ends (progress_of (K.written output.old) session.old sent.old)
-                (progress_of (K.written output.new) session.new sent.new)) }
+        (machine_of session.new) ends (progress_of (K.written output.old) session.old sent.old)
+        (progress_of (K.written output.new) session.new sent.new)) }
     ensures part { (held : RawLine) → lines.now ≡ given_state held → taken ≡ taken_of held → OnErr result
         (RepliesPart (step_of session.old) is_read_line (machine_of session.old) held
-            (progress_of (K.written output.old) session.old sent.old)
-                (progress_of (K.written output.new) session.new sent.new)) }
+        (progress_of (K.written output.old) session.old sent.old)
+        (progress_of (K.written output.new) session.new sent.new)) }
     ensures same { matcher_of session.new ≡ matcher_of session.old }
     ensures afresh { IsAfresh session.old.counts → IsAfresh session.new.counts }
     ensures cause { IsCounted (K.faults output.old) (K.faults output.new) result }
@@ -138,14 +142,14 @@ fn answer_next<K: Sink>(
     ensures bound { IfOk result (λ turn. (turn.0 ≤ length rest.now) × (0 < length rest.now → 0 < turn.0)) }
     ensures ok { IfOk result (λ turn. RunsTo (step_of session.old) is_read_line (machine_of session.old)
         (lines_from lines.old.held (take turn.0 rest.now)) (machine_of session.new) turn.1
-            (progress_of (K.written output.old) session.old sent.old)
-                (progress_of (K.written output.new) session.new sent.new)) }
+        (progress_of (K.written output.old) session.old sent.old)
+        (progress_of (K.written output.new) session.new sent.new)) }
     ensures held { IfOk result (λ turn. (lines.new.held ≡ held_from lines.old.held (take turn.0 rest.now))
         × (lines.new.waits ≡ false)) }
     ensures part { OnErr result (RunsPart (step_of session.old) is_read_line (machine_of session.old)
         (lines_from lines.old.held rest.now)
         (progress_of (K.written output.old) session.old sent.old)
-            (progress_of (K.written output.new) session.new sent.new)) }
+        (progress_of (K.written output.new) session.new sent.new)) }
     ensures same { matcher_of session.new ≡ matcher_of session.old }
     ensures afresh { IsAfresh session.old.counts → IsAfresh session.new.counts }
     ensures cause { IsCounted (K.faults output.old) (K.faults output.new) result }
@@ -172,13 +176,13 @@ fn answer_piece<K: Sink>(
     ensures ok { IfOk result (λ ended. RunsTo (step_of session.old) is_read_line (machine_of session.old)
         (lines_from lines.old.held piece.now)
         (machine_of session.new) ended (progress_of (K.written output.old) session.old sent.old)
-            (progress_of (K.written output.new) session.new sent.new)) }
+        (progress_of (K.written output.new) session.new sent.new)) }
     ensures held { IfOk result (λ ended. ended ≡ false →
         (lines.new.held ≡ held_from lines.old.held piece.now) × (lines.new.waits ≡ false)) }
     ensures part { OnErr result (RunsPart (step_of session.old) is_read_line (machine_of session.old)
         (lines_from lines.old.held piece.now)
         (progress_of (K.written output.old) session.old sent.old)
-            (progress_of (K.written output.new) session.new sent.new)) }
+        (progress_of (K.written output.new) session.new sent.new)) }
     ensures same { matcher_of session.new ≡ matcher_of session.old }
     ensures afresh { IsAfresh session.old.counts → IsAfresh session.new.counts }
     ensures cause { IsCounted (K.faults output.old) (K.faults output.new) result }
@@ -205,11 +209,11 @@ fn answer_rest<K: Sink>(
     ensures ok { IfOk result (λ ended. RunsTo (step_of session.old) is_read_line (machine_of session.old)
         (held_line lines.old.held)
         (machine_of session.new) ended (progress_of (K.written output.old) session.old sent.old)
-            (progress_of (K.written output.new) session.new sent.new)) }
+        (progress_of (K.written output.new) session.new sent.new)) }
     ensures part { OnErr result (RunsPart (step_of session.old) is_read_line (machine_of session.old)
         (held_line lines.old.held)
         (progress_of (K.written output.old) session.old sent.old)
-            (progress_of (K.written output.new) session.new sent.new)) }
+        (progress_of (K.written output.new) session.new sent.new)) }
     ensures afresh { IsAfresh session.old.counts → IsAfresh session.new.counts }
     ensures cause { IsCounted (K.faults output.old) (K.faults output.new) result }
 {
@@ -243,12 +247,22 @@ pub(crate) fn serve<S: Source, K: Sink>(
 ) -> End
     requires { lines.old ≡ no_line }
     ensures serves { ServesCounting None (step_of session.old) is_read_line (machine_of session.old)
-        (record { left = S.left input.old; piece = S.piece input.old; input_faults = S.faults input.old;
-            written = K.written output.old; output_faults = K.faults output.old })
-        (record { left = S.left input.new; piece = S.piece input.new; input_faults = S.faults input.new;
-            written = K.written output.new; output_faults = K.faults output.new }) result
+        (record {
+          left = S.left input.old;
+          piece = S.piece input.old;
+          input_faults = S.faults input.old;
+          written = K.written output.old;
+          output_faults = K.faults output.old;
+        })
+        (record {
+          left = S.left input.new;
+          piece = S.piece input.new;
+          input_faults = S.faults input.new;
+          written = K.written output.new;
+          output_faults = K.faults output.new;
+        }) result
         (progress_of (K.written output.old) session.old sent.old)
-            (progress_of (K.written output.new) session.new sent.new) }
+        (progress_of (K.written output.new) session.new sent.new) }
     ensures afresh { IsAfresh session.old.counts → IsAfresh session.new.counts }
     ensures input { IsCauseOf (result ≡ End.InputFault) (S.faults input.old) (S.faults input.new) }
     ensures output { IsCauseOf (result ≡ End.OutputFault) (K.faults output.old) (K.faults output.new) }

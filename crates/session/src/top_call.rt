@@ -68,10 +68,20 @@ fn serve_lines<S: Source, K: Sink>(
 ) -> End
     requires { opened.old.lines ≡ no_line }
     ensures serves { ServesCounting generate (step_of opened.old.session) is_read_line (machine_of opened.old.session)
-        (record { left = S.left input.old; piece = S.piece input.old; input_faults = S.faults input.old;
-            written = K.written output.old; output_faults = K.faults output.old })
-        (record { left = S.left input.new; piece = S.piece input.new; input_faults = S.faults input.new;
-            written = K.written output.new; output_faults = K.faults output.new }) result
+        (record {
+          left = S.left input.old;
+          piece = S.piece input.old;
+          input_faults = S.faults input.old;
+          written = K.written output.old;
+          output_faults = K.faults output.old;
+        })
+        (record {
+          left = S.left input.new;
+          piece = S.piece input.new;
+          input_faults = S.faults input.new;
+          written = K.written output.new;
+          output_faults = K.faults output.new;
+        }) result
         (progress_of (K.written output.old) opened.old.session sent.old)
         (progress_of (K.written output.new) opened.new.session sent.new) }
     ensures afresh { IsAfresh opened.old.session.counts → IsAfresh opened.new.session.counts }
@@ -95,10 +105,20 @@ fn run_options<L: Loader, S: Source, K: Sink>(
 ) -> Ran
     requires { AreInRange options.now }
     ensures came { CameBy options.now (L.contents files.old)
-        (record { left = S.left input.old; piece = S.piece input.old; input_faults = S.faults input.old;
-            written = K.written output.old; output_faults = K.faults output.old })
-        (record { left = S.left input.new; piece = S.piece input.new; input_faults = S.faults input.new;
-            written = K.written output.new; output_faults = K.faults output.new })
+        (record {
+          left = S.left input.old;
+          piece = S.piece input.old;
+          input_faults = S.faults input.old;
+          written = K.written output.old;
+          output_faults = K.faults output.old;
+        })
+        (record {
+          left = S.left input.new;
+          piece = S.piece input.new;
+          input_faults = S.faults input.new;
+          written = K.written output.new;
+          output_faults = K.faults output.new;
+        })
         result.counts result.sent (phase_of result.outcome) }
     ensures missed { MissedAfter options.now.files (L.missed files.old) (L.missed files.new) (phase_of result.outcome) }
     ensures same { L.contents files.new ≡ L.contents files.old }
@@ -123,10 +143,20 @@ fn run_unnoted<L: Loader, S: Source, K: Sink>(
     output: &mut K,
 ) -> Ran
     ensures came { Came (map string_bytes words.now) (L.contents files.old)
-        (record { left = S.left input.old; piece = S.piece input.old; input_faults = S.faults input.old;
-            written = K.written output.old; output_faults = K.faults output.old })
-        (record { left = S.left input.new; piece = S.piece input.new; input_faults = S.faults input.new;
-            written = K.written output.new; output_faults = K.faults output.new })
+        (record {
+          left = S.left input.old;
+          piece = S.piece input.old;
+          input_faults = S.faults input.old;
+          written = K.written output.old;
+          output_faults = K.faults output.old;
+        })
+        (record {
+          left = S.left input.new;
+          piece = S.piece input.new;
+          input_faults = S.faults input.new;
+          written = K.written output.new;
+          output_faults = K.faults output.new;
+        })
         result.counts result.sent (phase_of result.outcome) }
     ensures missed { MissedAfter (files_in (map string_bytes words.now)) (L.missed files.old) (L.missed files.new)
         (phase_of result.outcome) }
@@ -171,14 +201,32 @@ pub fn run<L: Loader, S: Source, K: Sink, D: Sink>(
     // By the outcome, what the files are, what was taken, put and noted, which files were missed, and whose count of
     // faults rose.
     ensures runs { Runs (map string_bytes words.now)
-        (record { contents = L.contents files.old; missed = L.missed files.old;
-            streams = record { left = S.left input.old; piece = S.piece input.old; input_faults = S.faults input.old;
-                written = K.written output.old; output_faults = K.faults output.old };
-            noted = D.written notes.old; notes_faults = D.faults notes.old })
-        (record { contents = L.contents files.new; missed = L.missed files.new;
-            streams = record { left = S.left input.new; piece = S.piece input.new; input_faults = S.faults input.new;
-                written = K.written output.new; output_faults = K.faults output.new };
-            noted = D.written notes.new; notes_faults = D.faults notes.new })
+        (record {
+          contents = L.contents files.old;
+          missed = L.missed files.old;
+          streams = record {
+            left = S.left input.old;
+            piece = S.piece input.old;
+            input_faults = S.faults input.old;
+            written = K.written output.old;
+            output_faults = K.faults output.old;
+          };
+          noted = D.written notes.old;
+          notes_faults = D.faults notes.old;
+        })
+        (record {
+          contents = L.contents files.new;
+          missed = L.missed files.new;
+          streams = record {
+            left = S.left input.new;
+            piece = S.piece input.new;
+            input_faults = S.faults input.new;
+            written = K.written output.new;
+            output_faults = K.faults output.new;
+          };
+          noted = D.written notes.new;
+          notes_faults = D.faults notes.new;
+        })
         result }
 {
     let ran = run_unnoted(alloc, words, files, input, output);
@@ -196,14 +244,32 @@ pub fn run_words<L: Loader, S: Source, K: Sink, D: Sink>(
     notes: &mut D,
 ) -> Outcome
     ensures runs { RunsHad (λ words. map string_bytes words.items) words
-        (record { contents = L.contents files.old; missed = L.missed files.old;
-            streams = record { left = S.left input.old; piece = S.piece input.old; input_faults = S.faults input.old;
-                written = K.written output.old; output_faults = K.faults output.old };
-            noted = D.written notes.old; notes_faults = D.faults notes.old })
-        (record { contents = L.contents files.new; missed = L.missed files.new;
-            streams = record { left = S.left input.new; piece = S.piece input.new; input_faults = S.faults input.new;
-                written = K.written output.new; output_faults = K.faults output.new };
-            noted = D.written notes.new; notes_faults = D.faults notes.new })
+        (record {
+          contents = L.contents files.old;
+          missed = L.missed files.old;
+          streams = record {
+            left = S.left input.old;
+            piece = S.piece input.old;
+            input_faults = S.faults input.old;
+            written = K.written output.old;
+            output_faults = K.faults output.old;
+          };
+          noted = D.written notes.old;
+          notes_faults = D.faults notes.old;
+        })
+        (record {
+          contents = L.contents files.new;
+          missed = L.missed files.new;
+          streams = record {
+            left = S.left input.new;
+            piece = S.piece input.new;
+            input_faults = S.faults input.new;
+            written = K.written output.new;
+            output_faults = K.faults output.new;
+          };
+          noted = D.written notes.new;
+          notes_faults = D.faults notes.new;
+        })
         result }
 {
     match words {

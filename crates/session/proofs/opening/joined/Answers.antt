@@ -10,7 +10,7 @@ loop-name-preserved g c =
     let contents = g.L.Loader.contents c.args.files.now in
     let so_far = c.loop-name.invariant in
     let told = ap (λ (k : List ℕ → Option (List ℕ)). k c.as_str.result.now) so_far.same
-        ∙ ap contents c.as_str.ensures.value in
+    ∙ ap contents c.as_str.ensures.value in
     record {
       joined = IsJoined-next string_bytes contents c.args.names.now c.loop-name.name-index c.name-item.result c.loop-name.text.items c.in_ok-text.text.items
           (omega arith) c.name-item.is so_far.joined

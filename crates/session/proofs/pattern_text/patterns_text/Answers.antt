@@ -6,5 +6,5 @@ use Rattle.session.proofs.pattern_text.patterns_text.Goals as goal
 pub loop-p-preserved : goal.loop-p-preserved
 loop-p-preserved c =
     patterns-next c.args.patterns.now c.loop-p.p-index c.p-item.result c.loop-p.text c.push_next.new.text
-        (omega arith) c.p-item.is
+    (omega arith) c.p-item.is
     c.loop-p.invariant c.in_ok-push_next.ensures

@@ -1,8 +1,8 @@
 -- The reply is one that the machine may give, and it went out whole, or a front of it did.
 use Rattle.std.proofs.Common.{◌∙◌}
 use Rattle.gtp_lex.specs.Raw.{raw_line}
-use Rattle.session.specs.declared.reply.Reply.TheVariants.{Nothing, Short, Text, NoMemory}
-use Rattle.session.proofs.Replied.{Replies-nothing, Replies-whole, Replies-part}
+use Rattle.session.specs.declared.reply.Reply.TheVariants.{Short, Text, NoMemory}
+use Rattle.session.proofs.Replied.{Replies-nothing, Replies-part}
 use Rattle.session.proofs.ServeLemmas.{on_err_from}
 use Rattle.session.proofs.serve.answer.Goals as goal
 
@@ -12,7 +12,7 @@ returns-in_err-put_reply-in-Short-clause-part g c =
     let reply = Short c.in-Short.text c.in-Short.quit in
     on_err_from _
     (Replies-part c.args.session.now c.line.new.self
-        (raw_line c.args.raw) reply c.in-Short.ensures.reply c.in-Short.ensures.readings
+    (raw_line c.args.raw) reply c.in-Short.ensures.reply c.in-Short.ensures.readings
     _ _ _ _ c.as_slice.result.now c.as_slice.ensures c.in_err-put_reply-in-Short.ensures.part)
 
 -- a front of a reply that took memory
@@ -21,7 +21,7 @@ returns-in_err-put_reply-in-Text-clause-part g c =
     let reply = Text c.in-Text.bytes in
     on_err_from _
     (Replies-part c.args.session.now c.line.new.self
-        (raw_line c.args.raw) reply c.in-Text.ensures.reply c.in-Text.ensures.readings
+    (raw_line c.args.raw) reply c.in-Text.ensures.reply c.in-Text.ensures.readings
     _ _ _ _ c.as_slice-in-Text.result.now c.as_slice-in-Text.ensures c.in_err-put_reply-in-Text.ensures.part)
 
 -- a front of the refusal in place of a growing reply

@@ -22,9 +22,9 @@ returns-clause-answer c =
     }) in
     let new = c.play.new.self in
     let family : Kept → Type 0 = λ old. IsAnswer (machine_of old)
-        (played (machine_of old) c.args.m) c.match-play.result (with_game new kept) in
+    (played (machine_of old) c.args.m) c.match-play.result (with_game new kept) in
     subst family c.self.view_is (elim c.match-play.branch as
-        (λ _. IsAnswer kept (played kept c.args.m) c.match-play.result (with_game new kept)) [
+    (λ _. IsAnswer kept (played kept c.args.m) c.match-play.result (with_game new kept)) [
       | in-Ok w ↦
           move_added game kept c.args.m new c.match-play.result w.in-Ok.ensures.ok w.in-Ok.ensures.allowed w.in-Ok.ensures.room
           (w.result-is ∙ w.told.ensures)
