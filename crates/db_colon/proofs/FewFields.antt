@@ -8,7 +8,7 @@ use Rattle.std.proofs.lemmas.List.{length-append, length-take, length-drop, take
 use Rattle.db_lex.specs.Lines.{trimmed}
 use Rattle.db_grammar.specs.Kinds.{first_of, no_diagram, move_count, bad_mark, bad_class, bad_item, unknown_helper}
 use Rattle.db_grammar.specs.Diagram.{has_row, letters_of, star_count}
-use Rattle.db_grammar.specs.Colon.{mark_of, class_field, further, are_classes, asks_for_readings, is_item, names_nothing, fields_fault}
+use Rattle.db_grammar.specs.Colon.{mark_of, class_field, further, are_classes, is_item, names_nothing, fields_fault}
 use Rattle.db_colon.specs.Says.{most_fields}
 
 -- the first field alone decides the mark

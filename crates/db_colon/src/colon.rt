@@ -7,7 +7,7 @@ ghost use Rattle.db_lex.specs.Lines.{trimmed};
 ghost use Rattle.pat_types.specs.Diagrams.{is_star};
 ghost use Rattle.db_grammar.specs.Diagram.{star_count as stars};
 ghost use Rattle.db_grammar.specs.Kinds.{first_of, no_diagram, move_count, bad_mark, bad_class, bad_item, unknown_helper};
-ghost use Rattle.db_grammar.specs.Colon.{fields_of as all_fields, mark_of as mark_in, class_field as second_field, further as others, is_item as item, item_of as item_from, names_nothing as nothing_named, asks_for_readings as readings_asked_for, class_letters as letters_in, null, are_classes as classes, fields_fault as first_fields_fault, colon_fault};
+ghost use Rattle.db_grammar.specs.Colon.{fields_of as all_fields, mark_of as mark_in, class_field as second_field, further as others, is_item as item, item_of as item_from, names_nothing as nothing_named, class_letters as letters_in, null, are_classes as classes, fields_fault as first_fields_fault, colon_fault};
 ghost use Rattle.db_grammar.specs.Faults.{Blames};
 ghost use Rattle.db_colon.specs.Says.{Says, most_fields};
 ghost use Rattle.db_diagram.specs.Reads.{Draws};
@@ -121,18 +121,6 @@ fn some_names_nothing(helpers: &[Bytes], fields: &[&[u8]]) -> bool
     false
 }
 
-fn has_byte(bytes: &[u8], b: u8) -> bool
-    ensures { result ≡ list_any (λ x. x == b) bytes.now }
-{
-    bytes.iter().any(|x| *x == b)
-}
-
-fn asks_for_readings(field: &[u8]) -> bool
-    ensures { result ≡ readings_asked_for field.now }
-{
-    !has_byte(field, b's') || has_byte(field, b'n')
-}
-
 fn star_count(letters: &[Letter]) -> usize
     ensures { result ≡ stars letters.now }
 {
@@ -149,14 +137,14 @@ fn is_no_mark(fields: &[&[u8]]) -> bool
 }
 
 fn are_bad_classes(fields: &[&[u8]]) -> bool
-    ensures { result ≡ (not (classes (second_field (map (λ f. f.now) fields.now))) || readings_asked_for (second_field (map (λ f. f.now) fields.now))) }
+    ensures { result ≡ not (classes (second_field (map (λ f. f.now) fields.now))) }
 {
-    let field = class_field(fields);
-    !are_classes(field) || asks_for_readings(field)
+    !are_classes(class_field(fields))
 }
 
 fn are_bad_items(fields: &[&[u8]]) -> bool
-    ensures { result ≡ (nat_lt 16 (length (others (map (λ f. f.now) fields.now))) || not (list_all item (others (map (λ f. f.now) fields.now)))) }
+    ensures { result ≡ (nat_lt 16 (length (others (map (λ f. f.now) fields.now)))
+        || not (list_all item (others (map (λ f. f.now) fields.now)))) }
 {
     let rest = further(fields);
     rest.len() > 16 || !are_items(rest)
@@ -189,7 +177,9 @@ fn first_kind(
     items: bool,
     helper: bool,
 ) -> Option<u8>
-    ensures { result ≡ first_of ((no_row, no_diagram) ∷ (stars, move_count) ∷ (mark, bad_mark) ∷ (class, bad_class) ∷ (items, bad_item) ∷ (helper, unknown_helper) ∷ []) }
+    ensures { result ≡ first_of
+        ((no_row, no_diagram) ∷ (stars, move_count) ∷ (mark, bad_mark) ∷ (class, bad_class) ∷ (items, bad_item) ∷
+        (helper, unknown_helper) ∷ []) }
 {
     if no_row {
         Some(NO_DIAGRAM)

@@ -19,7 +19,9 @@ by_parts lines rows top bottom shape word = first_of (
     ∷ (nat_lt largest_size (length word) || nat_le largest_size lines, too_large)
     ∷ [])
 
-by_parts-is : (words : List (List ℕ)) (word : List ℕ) → by_parts (length words) (length (rows_of words)) (has_top words) (has_bottom words) (wanted words) word ≡ diagram_fault words word
+by_parts-is : (words : List (List ℕ)) (word : List ℕ)
+    → by_parts (length words) (length (rows_of words)) (has_top words) (has_bottom words)
+    (wanted words) word ≡ diagram_fault words word
 unfolding diagram_fault is_misplaced by_parts
 by_parts-is words word = refl
 
@@ -28,7 +30,8 @@ unfolding by_parts
 kept-by_parts d word = refl
 
 -- what is kept is enough
-pub fault_is : (d : Diagram) (words : List (List ℕ)) (word : List ℕ) → Draws d words → kept_fault d word ≡ diagram_fault words word
+pub fault_is : (d : Diagram) (words : List (List ℕ)) (word : List ℕ) → Draws d words
+    → kept_fault d word ≡ diagram_fault words word
 fault_is d words word s =
     kept-by_parts d word
     ∙ ap (λ n. by_parts n d.rows d.top d.bottom d.shape word) s.lines
@@ -49,13 +52,17 @@ pub Draws-push : (d n : Diagram) (words : List (List ℕ)) (word : List ℕ) →
     → Draws n (words ++ word ∷ [])
 Draws-push d n words word s none lines rows top bottom shape letters =
     let tests = none_of_four _ _ _ _ bad_letter edge_place ragged too_large none in
-    let now_rows : n.rows ≡ length (rows_of (words ++ word ∷ [])) = rows ∙ ap (λ m. m + drawn_line (is_row word)) s.rows ∙ sym (length-rows_of-push words word) in
+    let now_rows : n.rows ≡ length (rows_of (words ++ word ∷ [])) =
+    rows ∙ ap (λ m. m + drawn_line (is_row word)) s.rows ∙ sym (length-rows_of-push words word) in
     record {
       lines = omega (arith, s.lines, length-append words (word ∷ []));
       rows = now_rows;
       top = top ∙ rw (s.lines, s.top) (sym (has_top-push words word));
-      bottom = bottom ∙ ap (λ m. nat_lt 0 m && is_edge_line word) now_rows ∙ ap (λ b. nat_lt 0 (length (rows_of (words ++ word ∷ []))) && b) (sym (ends_in_edge-push words word));
+      bottom = bottom ∙ ap (λ m. nat_lt 0 m && is_edge_line word) now_rows
+          ∙ ap (λ b. nat_lt 0 (length (rows_of (words ++ word ∷ []))) && b) (sym (ends_in_edge-push words word));
       shape = shape ∙ rw (s.lines, s.rows, s.shape) (sym (wanted-push words word));
-      letters = letters ∙ ap (λ l. l ++ cond (is_row word) (letters_of_row word) []) s.letters ∙ sym (letters_of-push words word);
+      letters =
+          letters ∙ ap (λ l. l ++ cond (is_row word) (letters_of_row word) []) s.letters
+          ∙ sym (letters_of-push words word);
       whole = whole-push words word s.whole (ap (other_width (line_shape word)) (sym s.shape) ∙ tests.third);
     }

@@ -11,7 +11,11 @@ use Rattle.db_grammar.specs.Diagram.{is_edge_line, is_row, line_shape, other_sid
 abbrev pub kept_fault : Diagram → List ℕ → Option ℕ
 kept_fault d word = first_of (
     (not (is_edge_line word || is_row word), bad_letter)
-    ∷ (is_edge_line word && not (nat_lt 0 d.rows) && d.top || d.bottom || other_sides (line_shape word) d.shape, edge_place)
+    ∷ (
+      is_edge_line word && not (nat_lt 0 d.rows) && d.top || d.bottom
+          || other_sides (line_shape word) d.shape,
+      edge_place,
+    )
     ∷ (other_width (line_shape word) d.shape, ragged)
     ∷ (nat_lt largest_size (length word) || nat_le largest_size d.lines, too_large)
     ∷ [])

@@ -113,7 +113,8 @@ impl Marks {
         ensures ok { OnOk result ((words : List (List ℕ)) → IsMarked self.old (map (λ f. f.now) mains.now) words →
             (constraint_fault (map (λ f. f.now) mains.now) words word.now ≡ None)
             × IsMarked self.new (map (λ f. f.now) mains.now) (words ++ word.now ∷ [])) }
-        ensures err { IfErr result (λ e. (words : List (List ℕ)) → IsMarked self.old (map (λ f. f.now) mains.now) words →
+        ensures err { IfErr result (λ e. (words : List (List ℕ))
+            → IsMarked self.old (map (λ f. f.now) mains.now) words →
             Blames e (constraint_fault (map (λ f. f.now) mains.now) words word.now)) }
     {
         if self.lines >= mains.len() {

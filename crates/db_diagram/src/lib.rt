@@ -1,7 +1,7 @@
 //! Reading the diagrams of a database entry, line by line: the main diagram and the labels of the constraint diagram.
 //!
-//! A diagram line is given by its word. What is kept after some lines is what `db_grammar` defines for their words, and a line
-//! is refused with the first fault in the list of its kind.
+//! A diagram line is given by its word. What is kept after some lines is what `db_grammar` defines for their words, and
+//! a line is refused with the first fault in the list of its kind.
 #![tactic(auto)]
 
 mod diagram;

@@ -15,7 +15,8 @@ use db_grammar::{BAD_LETTER, EDGE_PLACE, LineError, RAGGED, Shape, TOO_LARGE};
 use go_base::size::MAX_SIZE;
 use pat_types::{Letters, NoMemory};
 
-/// The greatest number of bytes of a diagram line, and of lines of a diagram: with its edges it lies within the largest board.
+/// The greatest number of bytes of a diagram line, and of lines of a diagram: with its edges it lies within the largest
+/// board.
 const LONGEST: usize = MAX_SIZE as usize;
 
 fn differs(a: Option<Shape>, s: Shape) -> bool
@@ -63,7 +64,8 @@ fn is_too_large(bytes: usize, lines: usize) -> bool
 
 /// The kind of the first fault that a diagram line has, by what was tested.
 fn first_kind(no_line: bool, misplaced: bool, ragged: bool, large: bool) -> Option<u8>
-    ensures { result ≡ first_of ((no_line, bad_letter) ∷ (misplaced, edge_place) ∷ (ragged, uneven) ∷ (large, too_large) ∷ []) }
+    ensures { result ≡ first_of
+        ((no_line, bad_letter) ∷ (misplaced, edge_place) ∷ (ragged, uneven) ∷ (large, too_large) ∷ []) }
 {
     if no_line {
         Some(BAD_LETTER)
@@ -165,7 +167,8 @@ impl Diagram {
             (diagram_fault words word.now ≡ None) × Draws self.new (words ++ word.now ∷ [])) }
         ensures err { IfErr result (λ e. (words : List (List ℕ)) → Draws self.old words →
             Blames e (diagram_fault words word.now)) }
-        ensures few { OnOk result ((length word.now ≤ largest_size) × (self.new.lines ≤ largest_size) × (self.new.lines ≡ self.old.lines + 1)) }
+        ensures few { OnOk result ((length word.now ≤ largest_size) × (self.new.lines ≤ largest_size)
+            × (self.new.lines ≡ self.old.lines + 1)) }
         ensures same { OnErr result (self.new.lines ≡ self.old.lines) }
     {
         if let Some(kind) = self.fault(word) {

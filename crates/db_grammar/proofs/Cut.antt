@@ -17,12 +17,13 @@ use Rattle.db_grammar.specs.declared.stage.Stage.{Stage}
 use Rattle.db_grammar.specs.declared.stage.Stage.TheVariants.{Start, Diagram, Labels, Expression, Actions}
 use Rattle.db_grammar.specs.Kinds.{bad_byte, stray_line, no_name, too_many_patterns, first_of}
 use Rattle.db_grammar.specs.Diagram.{diagram_fault}
-use Rattle.db_grammar.specs.Labels.{constraint_fault, labels_closing_fault}
+use Rattle.db_grammar.specs.Labels.{constraint_fault, labels_closing_fault, labels_of}
+use Rattle.db_grammar.specs.Expressions.{kind_of_expression}
 use Rattle.db_grammar.specs.Colon.{is_ascii_letter, colon_fault}
 use Rattle.db_grammar.specs.Accepted.{IsDrawn, IsLabelled}
 use Rattle.db_grammar.specs.Accepted as accepted
 use Rattle.db_grammar.specs.Blocks.{Block, SoFar, blocks_of, lines_in, words_in, begun_with, placed, table, cell_for, with_cell, after_line, end_refused, at_start}
-use Rattle.db_grammar.specs.Faults.{or_else, at_line, first_number, most_entries, is_unnamed, kind_of_expression, expression_kind, pattern_fault, own_fault, table_fault, gathered_fault, closing_fault, found, found_at_end, first_fault, end_number}
+use Rattle.db_grammar.specs.Faults.{or_else, at_line, first_number, most_entries, is_unnamed, expression_kind, pattern_fault, own_fault, table_fault, gathered_fault, closing_fault, found, found_at_end, first_fault, end_number}
 use Rattle.db_grammar.specs.Database.{IsLineOf, IsInFront, IsColonLine, IsBlock, IsDatabase}
 use Rattle.db_grammar.proofs.Walk.{walk, first_fault-walk}
 
@@ -273,7 +274,8 @@ module _ (helpers : List (List ℕ)) where
   whole_block number Start b begun fits none left = absurd fits
   whole_block number Diagram b begun fits none left = absurd (left refl)
   whole_block number Labels b begun fits none left =
-      whole b begun fits.0 (no_kind number _ none) (ap (λ l. kind_of_expression b.diagram b.constraint l) fits.1.0)
+      whole b begun fits.0 (no_kind number _ none)
+      (ap (kind_of_expression (labels_of (words_in b.diagram) (words_in b.constraint))) fits.1.0)
   whole_block number Expression b begun fits none left =
       whole b begun fits.0 fits.1 (no_kind (first_number b.expression) (expression_kind b) none)
   whole_block number Actions b begun fits none left = whole b begun fits.0 fits.1 fits.2

@@ -39,12 +39,16 @@ factors (suc a) (suc b) n lt = (omega arith, omega arith)
 
 -- the diagram of an entry with one star is one that a pattern may have
 pub diagram_of_entry : (diagram : List (List ℕ)) → IsDrawn diagram → star_count (letters_of diagram) ≡ 1
-    → IsDiagram (length (rows_of diagram)) (shape_in diagram).width (letters_of diagram) (has_top diagram) (has_bottom diagram) (shape_in diagram).left (shape_in diagram).right (star_place (shape_in diagram).width (letters_of diagram))
+    → IsDiagram (length (rows_of diagram)) (shape_in diagram).width (letters_of diagram) (has_top diagram)
+    (has_bottom diagram) (shape_in diagram).left (shape_in diagram).right
+    (star_place (shape_in diagram).width (letters_of diagram))
 diagram_of_entry diagram drawn one =
     let star = position_or_len is_star (letters_of diagram) in
     let cols = (shape_in diagram).width in
-    let whole : length (letters_of diagram) ≡ length (rows_of diagram) * cols = drawn_whole diagram drawn ∙ ap (λ n. length (rows_of diagram) * n) (width_of-shape_in diagram) in
-    let within : star < length (rows_of diagram) * cols = subst (λ n. star < n) whole (star_within (letters_of diagram) one) in
+    let whole : length (letters_of diagram) ≡ length (rows_of diagram) * cols =
+    drawn_whole diagram drawn ∙ ap (λ n. length (rows_of diagram) * n) (width_of-shape_in diagram) in
+    let within : star < length (rows_of diagram) * cols =
+    subst (λ n. star < n) whole (star_within (letters_of diagram) one) in
     let some = factors (length (rows_of diagram)) cols star within in
     let again : star ≡ star / cols * cols + star % cols = omega (arith, mod-add-div' star cols) in
     let fit = fit_shape diagram drawn (subst (λ n. 0 < n) (sym (width_of-shape_in diagram)) some.1) in
@@ -56,5 +60,6 @@ diagram_of_entry diagram drawn one =
       size = whole;
       star_row = (div-lt_iff_lt-mul {x = star} {y = length (rows_of diagram)} some.1).1 within;
       star_column = mod-lt star some.1;
-      one_star = λ i lt. one_star_at (letters_of diagram) one i (subst (λ n. i < n) (sym whole) lt) ∙ ap (λ n. i == n) again;
+      one_star =
+          λ i lt. one_star_at (letters_of diagram) one i (subst (λ n. i < n) (sym whole) lt) ∙ ap (λ n. i == n) again;
     }

@@ -2,7 +2,7 @@ pub mod OneMoreLine
 pub mod TableLemmas
 pub mod Walk
 pub mod Cut
-mod Whole
+pub mod Whole
 pub mod Drawn
 pub mod Starred
 pub mod Labelled

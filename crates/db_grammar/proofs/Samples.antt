@@ -1,76 +1,82 @@
--- The definitions computed on small texts.
-use Rattle.std.proofs.Common.{◌≡◌, [], ◌∷◌, Some, None, refl}
+-- The definitions computed on small texts: a table of texts, given by their lines, with the line and the kind of the
+-- first fault of each.
+use Rattle.std.proofs.Common.{◌≡◌, ℕ, List, [], ◌∷◌, ◌++◌, map, Option, Some, None, refl}
+use Rattle.std.specs.Prelude.{codes}
+use Rattle.cons_parse.specs.Tokens.{token_at, tokens_after}
+use Rattle.cons_parse.specs.Calls.{listed_at, arguments_at, items_after}
+use Rattle.cons_parse.specs.Faults.{fault_of}
+use Rattle.cons_parse.specs.Scan.{scanned_from}
+use Rattle.cons_parse.specs.Building.{run}
+use Rattle.cons_parse.specs.Reading.{expression_in, fault_in}
 use Rattle.db_lex.specs.Lines.{lines_of, kept_if, kept_from, kind_of}
+use Rattle.db_grammar.specs.declared.fault.Fault.{Fault}
 use Rattle.db_grammar.specs.Diagram.{is_edge_line, is_row, shape_of, wanted, is_misplaced, diagram_fault}
 use Rattle.db_grammar.specs.Colon.{split_at_commas, fields_fault}
 use Rattle.db_grammar.specs.Labels.{labels_under, constraint_fault, labels_closing_fault}
 use Rattle.db_grammar.specs.Blocks.{after_line, so_far}
-use Rattle.db_grammar.specs.Faults.{pattern_fault, found, found_at_end, least_fault, first_fault, entries}
+use Rattle.db_grammar.specs.Faults.{pattern_fault, found, found_at_end, least_fault, first_fault}
 
-stray : first_fault [] (58 ∷ 56 ∷ 10 ∷ []) ≡ Some (record { line = 1; kind = 2 })
-unfolding lines_of kept_if kept_from kind_of is_edge_line is_row shape_of wanted is_misplaced diagram_fault split_at_commas fields_fault labels_under constraint_fault labels_closing_fault after_line so_far pattern_fault found found_at_end least_fault first_fault entries
-stray = refl
+-- the text of some lines, each with its line feed
+abbrev text_of : List (List ℕ) → List ℕ
+text_of [] = []
+text_of (line ∷ lines) = line ++ 10 ∷ text_of lines
 
-no_name : first_fault [] (80 ∷ 97 ∷ 116 ∷ 116 ∷ 101 ∷ 114 ∷ 110 ∷ 10 ∷ []) ≡ Some (record { line = 1; kind = 3 })
-unfolding lines_of kept_if kept_from kind_of is_edge_line is_row shape_of wanted is_misplaced diagram_fault split_at_commas fields_fault labels_under constraint_fault labels_closing_fault after_line so_far pattern_fault found found_at_end least_fault first_fault entries
-no_name = refl
+-- the first faults of these texts, where no helper is handed in
+abbrev faults_in : List (List (List ℕ)) → List (Option Fault)
+faults_in texts = map (λ lines. first_fault [] (text_of lines)) texts
 
-no_diag : first_fault [] (80 ∷ 97 ∷ 116 ∷ 116 ∷ 101 ∷ 114 ∷ 110 ∷ 32 ∷ 65 ∷ 10 ∷ 58 ∷ 56 ∷ 10 ∷ []) ≡ Some (record { line = 2; kind = 4 })
-unfolding lines_of kept_if kept_from kind_of is_edge_line is_row shape_of wanted is_misplaced diagram_fault split_at_commas fields_fault labels_under constraint_fault labels_closing_fault after_line so_far pattern_fault found found_at_end least_fault first_fault entries
-no_diag = refl
+-- a fault of this kind at this line
+abbrev fault : ℕ → ℕ → Option Fault
+fault line kind = Some (record { line = line; kind = kind })
 
-ragged_row : first_fault [] (80 ∷ 97 ∷ 116 ∷ 116 ∷ 101 ∷ 114 ∷ 110 ∷ 32 ∷ 65 ∷ 10 ∷ 79 ∷ 42 ∷ 10 ∷ 79 ∷ 10 ∷ []) ≡ Some (record { line = 3; kind = 5 })
-unfolding lines_of kept_if kept_from kind_of is_edge_line is_row shape_of wanted is_misplaced diagram_fault split_at_commas fields_fault labels_under constraint_fault labels_closing_fault after_line so_far pattern_fault found found_at_end least_fault first_fault entries
-ragged_row = refl
+-- one text for each kind of fault of lines, Pattern lines and diagrams
+faults_of_diagrams : faults_in (
+    (codes ":8" ∷ [])
+    ∷ (codes "Pattern" ∷ [])
+    ∷ (codes "Pattern A" ∷ codes ":8" ∷ [])
+    ∷ (codes "Pattern A" ∷ codes "O*" ∷ codes "O" ∷ [])
+    ∷ (codes "Pattern A" ∷ codes "O!*" ∷ [])
+    ∷ (codes "Pattern A" ∷ codes "|O*" ∷ codes "O*" ∷ [])
+    ∷ (codes "Pattern A" ∷ codes ".........................." ∷ [])
+    ∷ (codes "Pattern A" ∷ codes "O*" ∷ [])
+    ∷ [])
+    ≡ fault 1 2 ∷ fault 1 3 ∷ fault 2 4 ∷ fault 3 5 ∷ fault 2 6 ∷ fault 3 8 ∷ fault 2 9 ∷ fault 3 10 ∷ []
+unfolding lines_of kept_if kept_from kind_of is_edge_line is_row shape_of wanted is_misplaced diagram_fault split_at_commas fields_fault labels_under constraint_fault labels_closing_fault after_line so_far pattern_fault found found_at_end least_fault first_fault
+faults_of_diagrams = refl
 
-bad_let : first_fault [] (80 ∷ 97 ∷ 116 ∷ 116 ∷ 101 ∷ 114 ∷ 110 ∷ 32 ∷ 65 ∷ 10 ∷ 79 ∷ 33 ∷ 42 ∷ 10 ∷ []) ≡ Some (record { line = 2; kind = 6 })
-unfolding lines_of kept_if kept_from kind_of is_edge_line is_row shape_of wanted is_misplaced diagram_fault split_at_commas fields_fault labels_under constraint_fault labels_closing_fault after_line so_far pattern_fault found found_at_end least_fault first_fault entries
-bad_let = refl
+-- one text for each kind of fault of colon lines
+faults_of_colon_lines : faults_in (
+    (codes "Pattern A" ∷ codes "OX" ∷ codes ":8" ∷ [])
+    ∷ (codes "Pattern A" ∷ codes "O*" ∷ codes ":7" ∷ [])
+    ∷ (codes "Pattern A" ∷ codes "O*" ∷ codes ":8,s1" ∷ [])
+    ∷ (codes "Pattern A" ∷ codes "O*" ∷ codes ":8,s,value(" ∷ [])
+    ∷ (codes "Pattern A" ∷ codes "O*" ∷ codes ":8,s,NULL,far" ∷ [])
+    ∷ [])
+    ≡ fault 3 7 ∷ fault 3 11 ∷ fault 3 12 ∷ fault 3 13 ∷ fault 3 17 ∷ []
+unfolding lines_of kept_if kept_from kind_of is_edge_line is_row shape_of wanted is_misplaced diagram_fault split_at_commas fields_fault labels_under constraint_fault labels_closing_fault after_line so_far pattern_fault found found_at_end least_fault first_fault
+faults_of_colon_lines = refl
 
-edge_pl : first_fault [] (80 ∷ 97 ∷ 116 ∷ 116 ∷ 101 ∷ 114 ∷ 110 ∷ 32 ∷ 65 ∷ 10 ∷ 124 ∷ 79 ∷ 42 ∷ 10 ∷ 79 ∷ 42 ∷ 10 ∷ []) ≡ Some (record { line = 3; kind = 8 })
-unfolding lines_of kept_if kept_from kind_of is_edge_line is_row shape_of wanted is_misplaced diagram_fault split_at_commas fields_fault labels_under constraint_fault labels_closing_fault after_line so_far pattern_fault found found_at_end least_fault first_fault entries
-edge_pl = refl
+-- constraint diagrams and expressions: what a line leaves is at fault before the line itself, an expression at its
+-- first line
+faults_of_constraints : faults_in (
+    (codes "Pattern A" ∷ codes "O*" ∷ codes ":8,s" ∷ codes "AA" ∷ [])
+    ∷ (codes "Pattern A" ∷ codes "O*" ∷ codes ".." ∷ codes ":8,s" ∷ codes "A*" ∷ [])
+    ∷ (codes "Pattern A" ∷ codes "O*" ∷ codes ".." ∷ codes ":8,s" ∷ codes "A*" ∷ codes ":8" ∷ [])
+    ∷ (codes "Pattern A" ∷ codes "O*" ∷ codes ":8" ∷ codes ";1" ∷ codes ";2" ∷ codes ">x" ∷ [])
+    ∷ (codes "Pattern A" ∷ codes "O*" ∷ codes ":8" ∷ codes "A*" ∷ codes ";lib(B)" ∷ [])
+    ∷ (codes "Pattern A" ∷ codes "O*" ∷ codes ":8" ∷ codes "A*" ∷ codes ";lib(A)" ∷ codes ";>0" ∷ codes ":8" ∷ [])
+    ∷ [])
+    ≡ fault 4 14 ∷ fault 6 14 ∷ fault 6 14 ∷ fault 4 15 ∷ fault 5 16 ∷ fault 7 2 ∷ []
+unfolding lines_of kept_if kept_from kind_of is_edge_line is_row shape_of wanted is_misplaced diagram_fault split_at_commas fields_fault labels_under constraint_fault labels_closing_fault fault_in expression_in items_after tokens_after token_at listed_at arguments_at scanned_from run fault_of after_line so_far pattern_fault found found_at_end least_fault first_fault
+faults_of_constraints = refl
 
-large : first_fault [] (80 ∷ 97 ∷ 116 ∷ 116 ∷ 101 ∷ 114 ∷ 110 ∷ 32 ∷ 65 ∷ 10 ∷ 46 ∷ 46 ∷ 46 ∷ 46 ∷ 46 ∷ 46 ∷ 46 ∷ 46 ∷ 46 ∷ 46 ∷ 46 ∷ 46 ∷ 46 ∷ 46 ∷ 46 ∷ 46 ∷ 46 ∷ 46 ∷ 46 ∷ 46 ∷ 46 ∷ 46 ∷ 46 ∷ 46 ∷ 46 ∷ 46 ∷ 10 ∷ []) ≡ Some (record { line = 2; kind = 9 })
-unfolding lines_of kept_if kept_from kind_of is_edge_line is_row shape_of wanted is_misplaced diagram_fault split_at_commas fields_fault labels_under constraint_fault labels_closing_fault after_line so_far pattern_fault found found_at_end least_fault first_fault entries
-large = refl
-
-no_colon : first_fault [] (80 ∷ 97 ∷ 116 ∷ 116 ∷ 101 ∷ 114 ∷ 110 ∷ 32 ∷ 65 ∷ 10 ∷ 79 ∷ 42 ∷ 10 ∷ []) ≡ Some (record { line = 3; kind = 10 })
-unfolding lines_of kept_if kept_from kind_of is_edge_line is_row shape_of wanted is_misplaced diagram_fault split_at_commas fields_fault labels_under constraint_fault labels_closing_fault after_line so_far pattern_fault found found_at_end least_fault first_fault entries
-no_colon = refl
-
-mark : first_fault [] (80 ∷ 97 ∷ 116 ∷ 116 ∷ 101 ∷ 114 ∷ 110 ∷ 32 ∷ 65 ∷ 10 ∷ 79 ∷ 42 ∷ 10 ∷ 58 ∷ 55 ∷ 10 ∷ []) ≡ Some (record { line = 3; kind = 11 })
-unfolding lines_of kept_if kept_from kind_of is_edge_line is_row shape_of wanted is_misplaced diagram_fault split_at_commas fields_fault labels_under constraint_fault labels_closing_fault after_line so_far pattern_fault found found_at_end least_fault first_fault entries
-mark = refl
-
-clas : first_fault [] (80 ∷ 97 ∷ 116 ∷ 116 ∷ 101 ∷ 114 ∷ 110 ∷ 32 ∷ 65 ∷ 10 ∷ 79 ∷ 42 ∷ 10 ∷ 58 ∷ 56 ∷ 44 ∷ 115 ∷ 49 ∷ 10 ∷ []) ≡ Some (record { line = 3; kind = 12 })
-unfolding lines_of kept_if kept_from kind_of is_edge_line is_row shape_of wanted is_misplaced diagram_fault split_at_commas fields_fault labels_under constraint_fault labels_closing_fault after_line so_far pattern_fault found found_at_end least_fault first_fault entries
-clas = refl
-
-item : first_fault [] (80 ∷ 97 ∷ 116 ∷ 116 ∷ 101 ∷ 114 ∷ 110 ∷ 32 ∷ 65 ∷ 10 ∷ 79 ∷ 42 ∷ 10 ∷ 58 ∷ 56 ∷ 44 ∷ 115 ∷ 44 ∷ 118 ∷ 97 ∷ 108 ∷ 117 ∷ 101 ∷ 40 ∷ 10 ∷ []) ≡ Some (record { line = 3; kind = 13 })
-unfolding lines_of kept_if kept_from kind_of is_edge_line is_row shape_of wanted is_misplaced diagram_fault split_at_commas fields_fault labels_under constraint_fault labels_closing_fault after_line so_far pattern_fault found found_at_end least_fault first_fault entries
-item = refl
-
-shape : first_fault [] (80 ∷ 97 ∷ 116 ∷ 116 ∷ 101 ∷ 114 ∷ 110 ∷ 32 ∷ 65 ∷ 10 ∷ 79 ∷ 42 ∷ 10 ∷ 58 ∷ 56 ∷ 44 ∷ 115 ∷ 10 ∷ 65 ∷ 65 ∷ 10 ∷ []) ≡ Some (record { line = 4; kind = 14 })
-unfolding lines_of kept_if kept_from kind_of is_edge_line is_row shape_of wanted is_misplaced diagram_fault split_at_commas fields_fault labels_under constraint_fault labels_closing_fault after_line so_far pattern_fault found found_at_end least_fault first_fault entries
-shape = refl
-
-closing : first_fault [] (80 ∷ 97 ∷ 116 ∷ 116 ∷ 101 ∷ 114 ∷ 110 ∷ 32 ∷ 65 ∷ 10 ∷ 79 ∷ 42 ∷ 10 ∷ 46 ∷ 46 ∷ 10 ∷ 58 ∷ 56 ∷ 44 ∷ 115 ∷ 10 ∷ 65 ∷ 42 ∷ 10 ∷ []) ≡ Some (record { line = 6; kind = 14 })
-unfolding lines_of kept_if kept_from kind_of is_edge_line is_row shape_of wanted is_misplaced diagram_fault split_at_commas fields_fault labels_under constraint_fault labels_closing_fault after_line so_far pattern_fault found found_at_end least_fault first_fault entries
-closing = refl
-
-closing_stray : first_fault [] (80 ∷ 97 ∷ 116 ∷ 116 ∷ 101 ∷ 114 ∷ 110 ∷ 32 ∷ 65 ∷ 10 ∷ 79 ∷ 42 ∷ 10 ∷ 46 ∷ 46 ∷ 10 ∷ 58 ∷ 56 ∷ 44 ∷ 115 ∷ 10 ∷ 65 ∷ 42 ∷ 10 ∷ 58 ∷ 56 ∷ 10 ∷ []) ≡ Some (record { line = 6; kind = 14 })
-unfolding lines_of kept_if kept_from kind_of is_edge_line is_row shape_of wanted is_misplaced diagram_fault split_at_commas fields_fault labels_under constraint_fault labels_closing_fault after_line so_far pattern_fault found found_at_end least_fault first_fault entries
-closing_stray = refl
-
-expr : first_fault [] (80 ∷ 97 ∷ 116 ∷ 116 ∷ 101 ∷ 114 ∷ 110 ∷ 32 ∷ 65 ∷ 10 ∷ 79 ∷ 42 ∷ 10 ∷ 58 ∷ 56 ∷ 44 ∷ 115 ∷ 10 ∷ 59 ∷ 49 ∷ 10 ∷ 59 ∷ 50 ∷ 10 ∷ 62 ∷ 120 ∷ 10 ∷ []) ≡ Some (record { line = 4; kind = 15 })
-unfolding lines_of kept_if kept_from kind_of is_edge_line is_row shape_of wanted is_misplaced diagram_fault split_at_commas fields_fault labels_under constraint_fault labels_closing_fault after_line so_far pattern_fault found found_at_end least_fault first_fault entries
-expr = refl
-
-helper : first_fault [] (80 ∷ 97 ∷ 116 ∷ 116 ∷ 101 ∷ 114 ∷ 110 ∷ 32 ∷ 65 ∷ 10 ∷ 79 ∷ 42 ∷ 10 ∷ 58 ∷ 56 ∷ 44 ∷ 115 ∷ 44 ∷ 78 ∷ 85 ∷ 76 ∷ 76 ∷ 44 ∷ 102 ∷ 97 ∷ 114 ∷ 10 ∷ []) ≡ Some (record { line = 3; kind = 17 })
-unfolding lines_of kept_if kept_from kind_of is_edge_line is_row shape_of wanted is_misplaced diagram_fault split_at_commas fields_fault labels_under constraint_fault labels_closing_fault after_line so_far pattern_fault found found_at_end least_fault first_fault entries
-helper = refl
-
-fine : first_fault [] (35 ∷ 32 ∷ 99 ∷ 10 ∷ 97 ∷ 116 ∷ 116 ∷ 114 ∷ 32 ∷ 120 ∷ 10 ∷ 10 ∷ 80 ∷ 97 ∷ 116 ∷ 116 ∷ 101 ∷ 114 ∷ 110 ∷ 32 ∷ 65 ∷ 32 ∷ 32 ∷ 120 ∷ 10 ∷ 10 ∷ 63 ∷ 79 ∷ 63 ∷ 32 ∷ 32 ∷ 115 ∷ 105 ∷ 100 ∷ 101 ∷ 10 ∷ 79 ∷ 88 ∷ 42 ∷ 10 ∷ 63 ∷ 46 ∷ 63 ∷ 10 ∷ 10 ∷ 58 ∷ 56 ∷ 44 ∷ 115 ∷ 45 ∷ 88 ∷ 44 ∷ 118 ∷ 97 ∷ 108 ∷ 117 ∷ 101 ∷ 40 ∷ 50 ∷ 48 ∷ 44 ∷ 32 ∷ 51 ∷ 41 ∷ 10 ∷ 10 ∷ 63 ∷ 79 ∷ 63 ∷ 10 ∷ 79 ∷ 65 ∷ 42 ∷ 10 ∷ 63 ∷ 46 ∷ 63 ∷ 10 ∷ 62 ∷ 32 ∷ 116 ∷ 101 ∷ 115 ∷ 116 ∷ 10 ∷ 80 ∷ 97 ∷ 116 ∷ 116 ∷ 101 ∷ 114 ∷ 110 ∷ 32 ∷ 66 ∷ 10 ∷ 43 ∷ 45 ∷ 45 ∷ 43 ∷ 10 ∷ 124 ∷ 79 ∷ 42 ∷ 124 ∷ 10 ∷ 43 ∷ 45 ∷ 45 ∷ 43 ∷ 10 ∷ 58 ∷ 79 ∷ 44 ∷ 115 ∷ 10 ∷ []) ≡ None
-unfolding lines_of kept_if kept_from kind_of is_edge_line is_row shape_of wanted is_misplaced diagram_fault split_at_commas fields_fault labels_under constraint_fault labels_closing_fault after_line so_far pattern_fault found found_at_end least_fault first_fault entries
-fine = refl
+-- a text with passed lines, side text, edges, labels, an expression and actions has no fault
+no_fault : faults_in (
+    (codes "# c" ∷ codes "attr x" ∷ [] ∷ codes "Pattern A  x" ∷ [] ∷ codes "?O?  side" ∷ codes "OX*" ∷ codes "?.?" ∷ []
+    ∷ codes ":8,s-X,value(20, 3)" ∷ [] ∷ codes "?O?" ∷ codes "OA*" ∷ codes "?.?" ∷ codes ";lib(A)==2"
+    ∷ codes "> test" ∷ [])
+    ∷ (codes "Pattern B" ∷ codes "+--+" ∷ codes "|O*|" ∷ codes "+--+" ∷ codes ":O" ∷ [])
+    ∷ [])
+    ≡ None ∷ None ∷ []
+unfolding lines_of kept_if kept_from kind_of is_edge_line is_row shape_of wanted is_misplaced diagram_fault split_at_commas fields_fault labels_under constraint_fault labels_closing_fault fault_in expression_in items_after tokens_after token_at listed_at arguments_at scanned_from run fault_of after_line so_far pattern_fault found found_at_end least_fault first_fault
+no_fault = refl

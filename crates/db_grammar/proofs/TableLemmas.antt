@@ -21,7 +21,8 @@ pattern_next Expression next b e = cc
 pattern_next Actions next b e = cc
 
 -- another line that is taken at the start leaves the reader there
-pub at_start_only : (letter : Bool) (next : Stage) → cond letter (Next Start) (Refused stray_line) ≡ Next next → next ≡ Start
+pub at_start_only : (letter : Bool) (next : Stage) → cond letter (Next Start) (Refused stray_line) ≡ Next next
+    → next ≡ Start
 at_start_only true next e = cc
 at_start_only false next e = absurd cc
 
@@ -42,16 +43,21 @@ other_labels Expression b e = absurd cc
 other_labels Actions b e = absurd cc
 
 -- what a line closes is at fault before the line itself
-pub found_closing : (helpers : List (List ℕ)) (s : SoFar) (k : KeptLine) (kind : LineKind) (f : Fault) → k.is_bad ≡ false → kind ≡ kind_of k.bytes → closing_fault k.number (Some kind) s ≡ Some f → found helpers s k ≡ Some f
+pub found_closing : (helpers : List (List ℕ)) (s : SoFar) (k : KeptLine) (kind : LineKind) (f : Fault)
+    → k.is_bad ≡ false → kind ≡ kind_of k.bytes → closing_fault k.number (Some kind) s ≡ Some f
+    → found helpers s k ≡ Some f
 unfolding found
 found_closing helpers s k kind f fine kind_is closing =
-    let here : closing_fault k.number (Some (kind_of k.bytes)) s ≡ Some f = ap (λ t. closing_fault k.number (Some t) s) (sym kind_is) ∙ closing in
+    let here : closing_fault k.number (Some (kind_of k.bytes)) s ≡ Some f =
+    ap (λ t. closing_fault k.number (Some t) s) (sym kind_is) ∙ closing in
     rw (fine, here) refl
 
 -- where a line closes nothing that is at fault, what is found at it is what the table and its own list have
-pub found_table : (helpers : List (List ℕ)) (s : SoFar) (k : KeptLine) (kind : LineKind) → k.is_bad ≡ false → kind ≡ kind_of k.bytes → closing_fault k.number (Some kind) s ≡ None
+pub found_table : (helpers : List (List ℕ)) (s : SoFar) (k : KeptLine) (kind : LineKind) → k.is_bad ≡ false
+    → kind ≡ kind_of k.bytes → closing_fault k.number (Some kind) s ≡ None
     → found helpers s k ≡ at_line k.number (table_fault helpers s k (cell_for s.stage k))
 unfolding found
 found_table helpers s k kind fine kind_is closing =
-    let here : closing_fault k.number (Some (kind_of k.bytes)) s ≡ None = ap (λ t. closing_fault k.number (Some t) s) (sym kind_is) ∙ closing in
+    let here : closing_fault k.number (Some (kind_of k.bytes)) s ≡ None =
+    ap (λ t. closing_fault k.number (Some t) s) (sym kind_is) ∙ closing in
     rw (fine, here) refl

@@ -24,24 +24,35 @@ or_else-none : (a : Option Fault) → or_else a None ≡ a
 or_else-none None = refl
 or_else-none (Some a) = refl
 
-least-shift : (at : ℕ → Option Fault) (n : ℕ) → least_fault at (suc n) ≡ or_else (at 0) (least_fault (λ k. at (suc k)) n)
+least-shift : (at : ℕ → Option Fault) (n : ℕ)
+    → least_fault at (suc n) ≡ or_else (at 0) (least_fault (λ k. at (suc k)) n)
 unfolding least_fault
 least-shift at zero = sym (or_else-none (at 0))
-least-shift at (suc n) = ap (λ f. or_else f (at (suc n))) (least-shift at n) ∙ or_else-assoc (at 0) (least_fault (λ k. at (suc k)) n) (at (suc n))
+least-shift at (suc n) =
+    ap (λ f. or_else f (at (suc n))) (least-shift at n)
+    ∙ or_else-assoc (at 0) (least_fault (λ k. at (suc k)) n) (at (suc n))
 
 least-zero : (at : ℕ → Option Fault) → least_fault at 0 ≡ None
 unfolding least_fault
 least-zero at = refl
 
-least-walk : (helpers : List (List ℕ)) (end : ℕ) (s : SoFar) (lines : List KeptLine) → least_fault (at_from helpers end s lines) (suc (length lines)) ≡ walk helpers end s lines
+least-walk : (helpers : List (List ℕ)) (end : ℕ) (s : SoFar) (lines : List KeptLine)
+    → least_fault (at_from helpers end s lines) (suc (length lines)) ≡ walk helpers end s lines
 unfolding at_from walk
-least-walk helpers end s [] = least-shift (at_from helpers end s []) 0 ∙ ap (or_else (found_at_end end s)) (least-zero (λ k. at_from helpers end s [] (suc k))) ∙ or_else-none (found_at_end end s)
-least-walk helpers end s (line ∷ lines) = least-shift (at_from helpers end s (line ∷ lines)) (suc (length lines)) ∙ ap (or_else (found helpers s line)) (least-walk helpers end (after_line s line) lines)
+least-walk helpers end s [] =
+    least-shift (at_from helpers end s []) 0
+    ∙ ap (or_else (found_at_end end s)) (least-zero (λ k. at_from helpers end s [] (suc k)))
+    ∙ or_else-none (found_at_end end s)
+least-walk helpers end s (line ∷ lines) =
+    least-shift (at_from helpers end s (line ∷ lines)) (suc (length lines))
+    ∙ ap (or_else (found helpers s line)) (least-walk helpers end (after_line s line) lines)
 
 -- going over the lines finds the first fault
-pub first_fault-walk : (helpers : List (List ℕ)) (text : List ℕ) → first_fault helpers text ≡ walk helpers (end_number text) at_start (kept_lines text)
+pub first_fault-walk : (helpers : List (List ℕ)) (text : List ℕ)
+    → first_fault helpers text ≡ walk helpers (end_number text) at_start (kept_lines text)
 unfolding first_fault so_far at_from
-first_fault-walk helpers text = rw (add-one (length (kept_lines text))) (least-walk helpers (end_number text) at_start (kept_lines text))
+first_fault-walk helpers text =
+    rw (add-one (length (kept_lines text))) (least-walk helpers (end_number text) at_start (kept_lines text))
 
 -- what is left of a text after what its lines so far come to
 pub record Reaches (helpers : List (List ℕ)) (text : List ℕ) (s : SoFar) (left : List KeptLine) : Type 0 where
@@ -53,24 +64,30 @@ unfolding so_far
 Reaches-start helpers text = record { fault = sym (first_fault-walk helpers text); all = refl }
 
 -- a line without a fault
-pub Reaches-step : (helpers : List (List ℕ)) (text : List ℕ) (s : SoFar) (line : KeptLine) (left : List KeptLine) → Reaches helpers text s (line ∷ left) → found helpers s line ≡ None → Reaches helpers text (after_line s line) left
+pub Reaches-step : (helpers : List (List ℕ)) (text : List ℕ) (s : SoFar) (line : KeptLine) (left : List KeptLine)
+    → Reaches helpers text s (line ∷ left) → found helpers s line ≡ None → Reaches helpers text (after_line s line) left
 unfolding walk
 Reaches-step helpers text s line left r none =
-    let one : walk helpers (end_number text) s (line ∷ left) ≡ walk helpers (end_number text) (after_line s line) left = rw none refl in
+    let one : walk helpers (end_number text) s (line ∷ left) ≡ walk helpers (end_number text) (after_line s line) left =
+    rw none refl in
     record { fault = sym one ∙ r.fault; all = r.all }
 
 -- a line with a fault is the first that has one
-pub Reaches-fault : (helpers : List (List ℕ)) (text : List ℕ) (s : SoFar) (line : KeptLine) (left : List KeptLine) (f : Fault) → Reaches helpers text s (line ∷ left) → found helpers s line ≡ Some f → first_fault helpers text ≡ Some f
+pub Reaches-fault : (helpers : List (List ℕ)) (text : List ℕ) (s : SoFar) (line : KeptLine) (left : List KeptLine)
+    (f : Fault) → Reaches helpers text s (line ∷ left) → found helpers s line ≡ Some f
+    → first_fault helpers text ≡ Some f
 unfolding walk
 Reaches-fault helpers text s line left f r some =
     let one : walk helpers (end_number text) s (line ∷ left) ≡ Some f = rw some refl in
     sym r.fault ∙ one
 
 -- the end decides
-pub Reaches-end : (helpers : List (List ℕ)) (text : List ℕ) (s : SoFar) → Reaches helpers text s [] → first_fault helpers text ≡ found_at_end (end_number text) s
+pub Reaches-end : (helpers : List (List ℕ)) (text : List ℕ) (s : SoFar) → Reaches helpers text s []
+    → first_fault helpers text ≡ found_at_end (end_number text) s
 unfolding walk
 Reaches-end helpers text s r = sym r.fault
 
-pub Reaches-entries : (helpers : List (List ℕ)) (text : List ℕ) (s : SoFar) → Reaches helpers text s [] → entries text ≡ map entry_of_block (blocks_of s)
+pub Reaches-entries : (helpers : List (List ℕ)) (text : List ℕ) (s : SoFar) → Reaches helpers text s []
+    → entries text ≡ map entry_of_block (blocks_of s)
 unfolding entries
 Reaches-entries helpers text s r = ap (λ t. map entry_of_block (blocks_of t)) (sym r.all)

@@ -4,7 +4,7 @@ use Rattle.std.specs.Prelude.{fold, slice_index, nat_le}
 use Rattle.std.specs.List.{All, flat_map}
 use Rattle.std.specs.Option.{option_to_list}
 use Rattle.std.proofs.lemmas.Bool.{lt-leb}
-use Rattle.std.proofs.lemmas.List.{append-nil, length-append, map-append}
+use Rattle.std.proofs.lemmas.List.{append-nil, length-append, map-append, length-map}
 use Rattle.std.proofs.lemmas.List.Elements.{All-head, All-tail}
 use Rattle.db_lex.specs.declared.line.LineKind.{LineKind}
 use Rattle.db_lex.specs.declared.line.LineKind.TheVariants.{Pattern, Colon, Semicolon, Action, Other}
@@ -20,8 +20,10 @@ use Rattle.db_grammar.specs.Colon.{is_ascii_letter, colon_fault}
 use Rattle.db_grammar.specs.Accepted.{IsDrawn, IsLabelled}
 use Rattle.db_grammar.specs.Accepted as accepted
 use Rattle.db_grammar.specs.Blocks.{Block, SoFar, blocks_of, lines_in, words_in, begun_with, placed, table, cell_for, with_cell, after_line, end_refused, at_start, so_far}
-use Rattle.db_grammar.specs.Faults.{or_else, at_line, first_number, most_entries, is_unnamed, expression_kind, pattern_fault, own_fault, table_fault, closes, gathered_fault, closing_fault, found, found_at_end, first_fault, end_number}
+use Rattle.db_grammar.specs.Faults.{or_else, at_line, first_number, most_entries, is_unnamed, expression_kind, pattern_fault, own_fault, table_fault, closes, gathered_fault, closing_fault, found, found_at_end, first_fault, end_number, entries}
 use Rattle.db_grammar.specs.Database.{IsLineOf, IsInFront, IsColonLine, IsBlock, IsDatabase}
+use Rattle.db_grammar.specs.Entries.{entry_of_block}
+use Rattle.db_grammar.proofs.Cut.{faultless_is_database}
 use Rattle.db_grammar.proofs.TableLemmas.{found_table}
 use Rattle.db_grammar.proofs.Walk.{walk, first_fault-walk}
 
@@ -444,3 +446,14 @@ database_is_read helpers text d =
       front_is = ap (λ (s : SoFar). s.front) leads.there ∙ blocks.front;
       blocks_are = ap blocks_of leads.there ∙ blocks.all;
     }
+
+-- a text without a fault has no more entries than it may have
+pub few_entries : (helpers : List (List ℕ)) (text : List ℕ) → first_fault helpers text ≡ None
+    → length (entries text) ≤ most_entries
+unfolding entries
+few_entries helpers text none =
+    let d = faultless_is_database helpers text none in
+    let blocks = blocks_of (so_far (kept_lines text)) in
+    let as_many : length (map entry_of_block blocks) ≡ length d.blocks =
+        length-map blocks entry_of_block ∙ ap length (database_is_read helpers text d).blocks_are in
+    subst (λ n. n ≤ most_entries) (sym as_many) d.few

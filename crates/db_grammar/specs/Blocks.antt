@@ -61,7 +61,8 @@ lines_in b = b.head ∷ (b.diagram ++ b.colon ++ b.constraint ++ b.expression ++
 abbrev pub words_in : List KeptLine → List (List ℕ)
 words_in lines = map (λ l. word_of l.bytes) lines
 
--- what some lines of a text come to: the stage after them, the lines before the first Pattern line, the blocks that another follows, and the block that may go on
+-- what some lines of a text come to: the stage after them, the lines before the first Pattern line, the blocks that
+-- another follows, and the block that may go on
 pub record SoFar : Type 0 where
   pub stage : Stage
   pub front : List KeptLine
@@ -82,7 +83,8 @@ with_now stage s f = record { stage = stage; front = s.front; done = s.done; now
 
 -- where a line of each kind goes
 abbrev pub placed : KeptLine → Stage → SoFar → LineKind → SoFar
-placed line stage s Pattern = record { stage = stage; front = s.front; done = blocks_of s; now = Some (begun_with line) }
+placed line stage s Pattern =
+    record { stage = stage; front = s.front; done = blocks_of s; now = Some (begun_with line) }
 placed line stage s Colon = with_now stage s (λ b. record b { colon = b.colon ++ line ∷ [] })
 placed line stage s Semicolon = with_now stage s (λ b. record b { expression = b.expression ++ line ∷ [] })
 placed line stage s Action = with_now stage s (λ b. record b { actions = b.actions ++ line ∷ [] })

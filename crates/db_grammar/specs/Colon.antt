@@ -45,7 +45,9 @@ depth_after depth b = if b == open_paren then depth + 1 else if b == close_paren
 -- the parts between the commas that stand outside parentheses, where so many are open at the front
 unfoldable pub split_at_commas : ℕ → List ℕ → List (List ℕ)
 split_at_commas depth [] = [] ∷ []
-split_at_commas depth (b ∷ bs) = if b == comma && depth == 0 then [] ∷ split_at_commas 0 bs else with_front b (split_at_commas (depth_after depth b) bs)
+split_at_commas depth (b ∷ bs) =
+    if b == comma
+    && depth == 0 then [] ∷ split_at_commas 0 bs else with_front b (split_at_commas (depth_after depth b) bs)
 
 -- the fields of a colon line: the parts of the text after `:`, without the blanks at their ends
 abbrev pub fields_of : List ℕ → List (List ℕ)
@@ -53,7 +55,10 @@ fields_of line = map trimmed (split_at_commas 0 (drop 1 line))
 
 -- `8 | - / \ + X O`
 abbrev pub mark_by_byte : ℕ → Option Mark
-mark_by_byte b = if b == 56 then Some Eight else if b == 124 then Some Bar else if b == 45 then Some Dash else if b == 47 then Some Slash else if b == 92 then Some Backslash else if b == 43 then Some Plus else if b == 88 then Some Ex else if b == 79 then Some Oh else None
+mark_by_byte b =
+    if b == 56 then Some Eight else if b == 124 then Some Bar else if b == 45 then Some Dash else if b == 47 then Some
+    Slash else if b == 92 then Some Backslash else if b == 43 then Some Plus else if b == 88 then Some Ex else if b ==
+    79 then Some Oh else None
 
 -- the mark that the first field is
 abbrev pub mark_of : List (List ℕ) → Option Mark
@@ -105,7 +110,8 @@ is_text_byte b = nat_lt b 128 && not (b == open_paren) && not (b == close_paren)
 
 -- a text without parentheses, and a closing one that ends the field
 abbrev pub is_closed_text : List ℕ → Bool
-is_closed_text rest = slice_index rest (length rest - 1) == close_paren && list_all is_text_byte (take (length rest - 1) rest)
+is_closed_text rest =
+    slice_index rest (length rest - 1) == close_paren && list_all is_text_byte (take (length rest - 1) rest)
 
 -- a name, or a name with a text in parentheses that ends the field
 abbrev pub is_item : List ℕ → Bool
@@ -113,7 +119,12 @@ is_item field = is_name field || is_name (name_part field) && is_closed_text (af
 
 -- the item that a field is, by its name or by its name and text
 abbrev pub item_of : List ℕ → Item
-item_of field = if is_name field then record { name = field; text = None } else record { name = name_part field; text = Some (take (length (after_open field) - 1) (after_open field)) }
+item_of field =
+    if is_name field then record { name = field; text = None } else record {
+      name = name_part field;
+      text =
+          Some (take (length (after_open field) - 1) (after_open field));
+    }
 
 -- the name of no helper, which tests nothing
 abbrev pub null : List ℕ
@@ -123,17 +134,13 @@ null = codes "NULL"
 abbrev pub names_nothing : List (List ℕ) → List ℕ → Bool
 names_nothing helpers field = is_name field && not (bytes_eq field null || list_any (bytes_eq field) helpers)
 
--- the class letters ask for a reading after the move, which no match makes yet: `s` is missing, or `n` is there
-abbrev pub asks_for_readings : List ℕ → Bool
-asks_for_readings field = not (list_any (λ b. b == 115) field) || list_any (λ b. b == 110) field
-
 -- the first fault of a colon line with these fields that stands after this diagram
 unfoldable pub fields_fault : List (List ℕ) → List (List ℕ) → List (List ℕ) → Option ℕ
 fields_fault helpers diagram fields = first_of (
     (not (has_row diagram), no_diagram)
     ∷ (not (star_count (letters_of diagram) == 1), move_count)
     ∷ (is_none (mark_of fields), bad_mark)
-    ∷ (not (are_classes (class_field fields)) || asks_for_readings (class_field fields), bad_class)
+    ∷ (not (are_classes (class_field fields)), bad_class)
     ∷ (nat_lt 16 (length (further fields)) || not (list_all is_item (further fields)), bad_item)
     ∷ (list_any (names_nothing helpers) (further fields), unknown_helper)
     ∷ [])

@@ -28,8 +28,7 @@ pub record IsColonLine (helpers diagram : List (List ℕ)) (lines : List KeptLin
   pub faultless : colon_fault helpers diagram line.bytes ≡ None
 
 -- the block is whole: a Pattern line with a name, the lines of a main diagram, one colon line, and then, as far as
--- there
--- are any, the lines of a whole constraint diagram, of an expression and of actions; none of them has a fault
+-- there are any, the lines of a whole constraint diagram, of an expression and of actions; none of them has a fault
 pub record IsBlock (helpers : List (List ℕ)) (b : Block) : Type 0 where
   pub head : IsLineOf Pattern b.head
   pub named : is_unnamed b.head.bytes ≡ false

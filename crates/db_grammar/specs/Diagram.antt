@@ -11,7 +11,10 @@ use Rattle.db_grammar.specs.Kinds.{bad_letter, edge_place, ragged, too_large, fi
 
 -- `O X . o x ? *`
 abbrev pub letter_of : ℕ → Option Letter
-letter_of b = if b == 79 then Some Friend else if b == 88 then Some Enemy else if b == 46 then Some Empty else if b == 111 then Some FriendOrEmpty else if b == 120 then Some EnemyOrEmpty else if b == 63 then Some Any else if b == 42 then Some Star else None
+letter_of b =
+    if b == 79 then Some Friend else if b == 88 then Some Enemy else if b == 46 then Some Empty else if b == 111 then
+    Some FriendOrEmpty else if b == 120 then Some EnemyOrEmpty else if b == 63 then Some Any else if b == 42 then Some
+    Star else None
 
 -- the byte is one of the seven letters
 abbrev pub is_letter : ℕ → Bool

@@ -1,19 +1,21 @@
 -- The entries of a database: the pattern of each block.
-use Rattle.std.specs.Prelude.{ℕ, ◌/◌, ◌%◌, Bool, false, List, [], ◌∷◌, length, map, Option, None, unwrap_or}
+use Rattle.std.specs.Prelude.{ℕ, ◌/◌, ◌%◌, Bool, false, List, [], ◌∷◌, length, map, Option, unwrap_or}
 use Rattle.std.specs.List.{position_or_len}
+use Rattle.std.specs.Option.{option_map}
 use Rattle.pat_types.specs.declared.letter.Letter.{Letter}
 use Rattle.pat_types.specs.declared.mark.Mark.{Mark}
 use Rattle.pat_types.specs.declared.mark.Mark.TheVariants.{Oh}
 use Rattle.pat_types.specs.declared.pattern.Item.{Item}
 use Rattle.pat_types.specs.declared.pattern.LabelAt.{LabelAt}
 use Rattle.pat_types.specs.declared.pattern.Pattern.{Pattern}
-use Rattle.pat_types.specs.declared.expr.Expr.{Expr}
+use Rattle.cons_parse.specs.Trees.{Tree, tree_of}
 use Rattle.pat_types.specs.Diagrams.{is_star}
 use Rattle.db_lex.specs.Lines.{KeptLine, word_of, rest_of, trimmed}
 use Rattle.db_grammar.specs.declared.shape.Shape.{Shape}
 use Rattle.db_grammar.specs.Diagram.{rows_of, wanted, has_top, has_bottom, letters_of}
 use Rattle.db_grammar.specs.Colon.{fields_of, mark_of, class_field, class_letters, further, item_of}
 use Rattle.db_grammar.specs.Labels.{labels_of}
+use Rattle.db_grammar.specs.Expressions.{expression_on}
 use Rattle.db_grammar.specs.Blocks.{Block, words_in}
 
 -- an entry of a database: a pattern as its block spells it
@@ -31,7 +33,7 @@ pub record Entry : Type 0 where
   pub classes : List ℕ
   pub items : List Item
   pub labels : List LabelAt
-  pub constraint : Option Expr
+  pub constraint : Option Tree
 
 -- the entry that a pattern is
 abbrev pub entry_of : Pattern → Entry
@@ -49,7 +51,7 @@ entry_of p = record {
   classes = p.classes;
   items = p.items;
   labels = p.labels;
-  constraint = p.constraint;
+  constraint = option_map tree_of p.constraint;
 }
 
 -- the name on a Pattern line: the first word of its rest
@@ -69,9 +71,9 @@ star_place cols letters = (position_or_len is_star letters / cols, position_or_l
 abbrev pub shape_in : List (List ℕ) → Shape
 shape_in diagram = unwrap_or (wanted diagram) (record { left = false; right = false; width = 0 })
 
--- the entry of a block, with this constraint
-abbrev pub entry_with : Option Expr → Block → Entry
-entry_with constraint b =
+-- the entry of a block
+abbrev pub entry_of_block : Block → Entry
+entry_of_block b =
     let diagram = words_in b.diagram in
     let shape = shape_in diagram in
     let fields = fields_of (colon_bytes b.colon) in
@@ -89,9 +91,5 @@ entry_with constraint b =
       classes = class_letters (class_field fields);
       items = map item_of (further fields);
       labels = labels_of diagram (words_in b.constraint);
-      constraint = constraint;
+      constraint = expression_on b.expression;
     }
-
--- the entry of a block; expressions are not read yet, and no block with one is accepted
-abbrev pub entry_of_block : Block → Entry
-entry_of_block b = entry_with None b

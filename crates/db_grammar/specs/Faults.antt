@@ -5,10 +5,11 @@ use Rattle.std.specs.Option.{option_map}
 use Rattle.db_lex.specs.declared.line.LineKind.{LineKind}
 use Rattle.db_lex.specs.declared.line.LineKind.TheVariants.{Pattern, Colon, Semicolon, Action, Other}
 use Rattle.db_lex.specs.Lines.{KeptLine, kept_lines, lines_of, kind_of, word_of}
-use Rattle.db_grammar.specs.Kinds.{bad_byte, no_name, too_many_patterns, expr_fault, first_of}
+use Rattle.db_grammar.specs.Kinds.{bad_byte, no_name, too_many_patterns, first_of}
 use Rattle.db_grammar.specs.Diagram.{diagram_fault}
 use Rattle.db_grammar.specs.Colon.{colon_fault}
-use Rattle.db_grammar.specs.Labels.{constraint_fault, labels_closing_fault}
+use Rattle.db_grammar.specs.Labels.{constraint_fault, labels_closing_fault, labels_of}
+use Rattle.db_grammar.specs.Expressions.{kind_of_expression}
 use Rattle.db_grammar.specs.Blocks.{Block, blocks_of, SoFar, words_in, cell_for, end_refused, so_far}
 use Rattle.db_grammar.specs.Entries.{Entry, name_on, entry_of_block}
 use Rattle.db_grammar.specs.declared.fault.Fault.{Fault}
@@ -53,14 +54,9 @@ abbrev pub first_number : List KeptLine → ℕ
 first_number [] = 0
 first_number (line ∷ more) = line.number
 
--- the kind of the fault of the expression on these lines, under these diagrams: each is refused, since none is read yet
-abbrev pub kind_of_expression : List KeptLine → List KeptLine → List KeptLine → Option ℕ
-kind_of_expression diagram constraint [] = None
-kind_of_expression diagram constraint (line ∷ lines) = Some expr_fault
-
 -- the kind of the fault of a block's expression
 abbrev pub expression_kind : Block → Option ℕ
-expression_kind b = kind_of_expression b.diagram b.constraint b.expression
+expression_kind b = kind_of_expression (labels_of (words_in b.diagram) (words_in b.constraint)) b.expression
 
 -- the fault of a block's expression, which is told at its first line
 abbrev pub expression_fault : Block → Option Fault

@@ -18,11 +18,18 @@ repeats [] (w ∷ ws) = false
 repeats (m ∷ ms) [] = false
 repeats (m ∷ ms) (w ∷ ws) = (w == m || is_label w && is_letter m) && repeats ms ws
 
--- the labels of a line: the bytes in which it differs from the main line; its row is given, and the column of its first byte
+-- the labels of a line: the bytes in which it differs from the main line; its row is given, and the column of its first
+-- byte
 abbrev pub labels_from : ℕ → ℕ → List ℕ → List ℕ → List LabelAt
 labels_from row col [] word = []
 labels_from row col (m ∷ ms) [] = []
-labels_from row col (m ∷ ms) (w ∷ ws) = if w == m then labels_from row (col + 1) ms ws else record { letter = w; row = row; col = col } ∷ labels_from row (col + 1) ms ws
+labels_from row col (m ∷ ms) (w ∷ ws) =
+    if w == m then labels_from row (col + 1) ms ws else record {
+      letter = w;
+      row = row;
+      col =
+          col;
+    } ∷ labels_from row (col + 1) ms ws
 
 -- the labels of the line that repeats this main line, which stands in this row; a `|` at its front is no column
 abbrev pub labels_of_line : ℕ → List ℕ → List ℕ → List LabelAt
@@ -34,7 +41,8 @@ labels_of_line row (m ∷ ms) [] = []
 unfoldable pub labels_under : ℕ → List (List ℕ) → List (List ℕ) → List LabelAt
 labels_under row [] words = []
 labels_under row (main ∷ mains) [] = []
-labels_under row (main ∷ mains) (word ∷ words) = labels_of_line row main word ++ labels_under (row + drawn_line (is_row main)) mains words
+labels_under row (main ∷ mains) (word ∷ words) =
+    labels_of_line row main word ++ labels_under (row + drawn_line (is_row main)) mains words
 
 -- the labels of a constraint diagram
 abbrev pub labels_of : List (List ℕ) → List (List ℕ) → List LabelAt
@@ -47,10 +55,14 @@ repeats_main (Some main) word = repeats main word
 
 -- the first fault of a further line of a constraint diagram with these lines so far
 unfoldable pub constraint_fault : List (List ℕ) → List (List ℕ) → List ℕ → Option ℕ
-constraint_fault diagram words word = first_of (
-    (not (repeats_main (slice_get diagram (length words)) word && are_apart (labels_of diagram (words ++ word ∷ []))), constraint_shape)
+constraint_fault diagram words word = first_of ((
+  not (repeats_main (slice_get diagram (length words)) word
+      && are_apart (labels_of diagram (words ++ word ∷ []))),
+  constraint_shape,
+)
     ∷ [])
 
 -- the fault of a constraint diagram that is closed: it has a line, and fewer than the main diagram
 unfoldable pub labels_closing_fault : List (List ℕ) → List (List ℕ) → Option ℕ
-labels_closing_fault diagram words = first_of ((nat_lt 0 (length words) && nat_lt (length words) (length diagram), constraint_shape) ∷ [])
+labels_closing_fault diagram words =
+    first_of ((nat_lt 0 (length words) && nat_lt (length words) (length diagram), constraint_shape) ∷ [])

@@ -3,6 +3,7 @@ pub mod Diagram
 pub mod Colon
 pub mod Labels
 pub mod Blocks
+pub mod Expressions
 pub mod Entries
 pub mod Faults
 pub mod Accepted

@@ -5,8 +5,8 @@ ghost use Rattle.db_grammar.specs.declared.fault.LineError.TheVariants.{NoMemory
 
 use go_base::NoMemory;
 
-/// The first fault of a text: the number of its line, counted from 1, and its kind. A fault at the end of the text has as its
-/// line the number of lines plus one; a fault of an expression has the line of its first `;`.
+/// The first fault of a text: the number of its line, counted from 1, and its kind. A fault at the end of the text has
+/// as its line the number of lines plus one; a fault of an expression has the line of its first `;`.
 #[derive(Clone, Copy, Debug, PartialEq, Eq)]
 pub struct Fault {
     pub line: u64,
@@ -61,7 +61,7 @@ pub const NO_COLON_LINE: u8 = 10;
 /// A first field that is none of the eight marks.
 pub const BAD_MARK: u8 = 11;
 
-/// A second field that is not at most 32 class letters, or whose letters ask for readings.
+/// A second field that is not at most 32 class letters.
 pub const BAD_CLASS: u8 = 12;
 
 /// More than 16 further fields, or one that is not an item.
@@ -70,8 +70,11 @@ pub const BAD_ITEM: u8 = 13;
 /// A constraint diagram that does not repeat the main diagram.
 pub const CONSTRAINT_SHAPE: u8 = 14;
 
-/// A constraint expression that is refused.
+/// A constraint expression that is not in the grammar, is too deep, or calls no function or calls one as it may not be.
 pub const EXPR_FAULT: u8 = 15;
+
+/// An argument of a constraint expression that is no label of the constraint diagram.
+pub const UNKNOWN_LABEL: u8 = 16;
 
 /// A further field that names no helper.
 pub const UNKNOWN_HELPER: u8 = 17;

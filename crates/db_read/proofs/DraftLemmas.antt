@@ -7,24 +7,38 @@ use Rattle.db_diagram.specs.Reads.{IsMarked}
 use Rattle.db_diagram.proofs.LabelLemmas.{under-nil}
 
 -- short words and one more
-pub shorts-push : (words : List (List ℕ)) (word : List ℕ) → ((k : ℕ) → length (get_or words k []) ≤ largest_size) → length word ≤ largest_size → (k : ℕ) → length (get_or (words ++ word ∷ []) k []) ≤ largest_size
+pub shorts-push : (words : List (List ℕ)) (word : List ℕ) → ((k : ℕ) → length (get_or words k []) ≤ largest_size)
+    → length word ≤ largest_size → (k : ℕ) → length (get_or (words ++ word ∷ []) k []) ≤ largest_size
 shorts-push [] word all short zero = short
 shorts-push [] word all short (suc k) = omega arith
 shorts-push (w ∷ words) word all short zero = all 0
 shorts-push (w ∷ words) word all short (suc k) = shorts-push words word (λ k. all (suc k)) short k
 
 -- the same of references, where a push may fail
-pub shorts-pushed : (b : Bool) (old new : List (Bor (List ℕ))) (word : Bor (List ℕ)) → new ≡ cond b (old ++ word ∷ []) old → ((k : ℕ) → length (get_or (map (λ w. w.now) old) k []) ≤ largest_size) → length word.now ≤ largest_size
+pub shorts-pushed : (b : Bool) (old new : List (Bor (List ℕ))) (word : Bor (List ℕ))
+    → new ≡ cond b (old ++ word ∷ []) old → ((k : ℕ) → length (get_or (map (λ w. w.now) old) k []) ≤ largest_size)
+    → length word.now ≤ largest_size
     → (k : ℕ) → length (get_or (map (λ w. w.now) new) k []) ≤ largest_size
 shorts-pushed true old new word e all short k =
-    let pushed : map (λ w. w.now) new ≡ map (λ w. w.now) old ++ word.now ∷ [] = ap (map (λ w. w.now)) e ∙ map_push (λ w. w.now) old word in
-    subst (λ ws. length (get_or ws k []) ≤ largest_size) (sym pushed) (shorts-push (map (λ w. w.now) old) word.now all short k)
-shorts-pushed false old new word e all short k = subst (λ (ws : List (Bor (List ℕ))). length (get_or (map (λ w. w.now) ws) k []) ≤ largest_size) (sym e) (all k)
+    let pushed : map (λ w. w.now) new ≡ map (λ w. w.now) old ++ word.now ∷ [] =
+    ap (map (λ w. w.now)) e ∙ map_push (λ w. w.now) old word in
+    subst (λ ws. length (get_or ws k []) ≤ largest_size) (sym pushed)
+    (shorts-push (map (λ w. w.now) old) word.now all short k)
+shorts-pushed false old new word e all short k =
+    subst (λ (ws : List (Bor (List ℕ))). length (get_or (map (λ w. w.now) ws) k []) ≤ largest_size) (sym e) (all k)
 
 -- a constraint diagram without lines is one under any main diagram
-pub IsMarked-under : (m : Marks) (mains others words : List (List ℕ)) → words ≡ [] → IsMarked m mains words → IsMarked m others words
+pub IsMarked-under : (m : Marks) (mains others words : List (List ℕ)) → words ≡ [] → IsMarked m mains words
+    → IsMarked m others words
 IsMarked-under m mains others words none s =
     subst (λ ws. IsMarked m others ws) (sym none) (under_none (subst (λ ws. IsMarked m mains ws) none s))
   where
     under_none : IsMarked m mains [] → IsMarked m others []
-    under_none t = record { lines = t.lines; within = omega arith; rows = t.rows; labels = t.labels ∙ under-nil 0 mains ∙ sym (under-nil 0 others) }
+    under_none t =
+        record {
+          lines = t.lines;
+          within = omega arith;
+          rows = t.rows;
+          labels = t.labels ∙ under-nil 0 mains
+              ∙ sym (under-nil 0 others);
+        }

@@ -8,51 +8,78 @@ use Rattle.db_grammar.specs.declared.shape.Shape.{Shape}
 use Rattle.db_grammar.specs.Blocks.{words_in}
 use Rattle.db_grammar.proofs.EntryLemmas.{diagram_of_entry, width_of-shape_in}
 use Rattle.db_grammar.proofs.Labelled.{labels_are_labels}
-use Rattle.db_lex.specs.declared.line.LineKind.TheVariants.{Pattern}
+use Rattle.db_lex.specs.declared.line.LineKind.TheVariants.{Pattern, Semicolon}
 use Rattle.db_grammar.specs.declared.stage.Stage.{Stage}
 use Rattle.db_grammar.specs.declared.stage.Stage.TheVariants.{Start, Diagram, Labels, Expression, Actions}
 use Rattle.db_grammar.specs.declared.stage.TableCell.TheVariants.{Next}
-use Rattle.db_grammar.specs.Blocks.{Block, table}
+use Rattle.db_grammar.specs.Blocks.{Block, SoFar, table}
 use Rattle.db_read.specs.declared.draft.Draft.{Draft}
 use Rattle.db_read.specs.declared.reader.Reader.{Reader}
-use Rattle.db_read.specs.Drafts.{IsComplete, HasOneStar}
-use Rattle.db_read.specs.Reading.{IsAtStage, ReadsNow, IsTaking}
+use Rattle.db_read.specs.Drafts.{Drafts, IsComplete}
+use Rattle.db_read.specs.Reading.{IsAtStage, ReadsNow, Shows, IsTaking}
+use Rattle.db_read.proofs.ReaderLemmas.{judged_without}
 
 -- the shape of no line
 abbrev no_shape : Shape
 no_shape = record { left = false; right = false; width = 0 }
 
 -- its diagram is one that a pattern may have
-pub finished_diagram : (d : Draft) (shape : Shape) (star : ℕ) → IsComplete d → shape ≡ unwrap_or d.diagram.shape no_shape → star ≡ position_or_len is_star d.diagram.letters
-    → IsDiagram d.diagram.rows shape.width d.diagram.letters d.diagram.top d.diagram.bottom shape.left shape.right (star / shape.width, star % shape.width)
+pub finished_diagram : (d : Draft) (shape : Shape) (star : ℕ) → IsComplete d
+    → shape ≡ unwrap_or d.diagram.shape no_shape → star ≡ position_or_len is_star d.diagram.letters
+    → IsDiagram d.diagram.rows shape.width d.diagram.letters d.diagram.top d.diagram.bottom shape.left shape.right
+    (star / shape.width, star % shape.width)
 finished_diagram d shape star whole shape_is star_is =
     let drawn = whole.drafts.diagram in
     rw (shape_is, star_is, drawn.rows, drawn.letters, drawn.top, drawn.bottom, drawn.shape)
     (diagram_of_entry (words_in whole.block.diagram) whole.drafts.drawn whole.one_star)
 
 -- its labels lie in the diagram and have different letters
-pub finished_labels : (d : Draft) (shape : Shape) → IsComplete d → shape ≡ unwrap_or d.diagram.shape no_shape → are_labels d.diagram.rows shape.width d.marks.labels ≡ true
+pub finished_labels : (d : Draft) (shape : Shape) → IsComplete d → shape ≡ unwrap_or d.diagram.shape no_shape
+    → are_labels d.diagram.rows shape.width d.marks.labels ≡ true
 finished_labels d shape whole shape_is =
     let drawn = whole.drafts.diagram in
     let words = words_in whole.block.diagram in
     rw (shape_is, drawn.rows, drawn.shape, whole.drafts.marks.labels, sym (width_of-shape_in words))
     (labels_are_labels words (words_in whole.block.constraint) whole.drafts.drawn whole.drafts.labelled)
 
--- in a stage where the table takes a Pattern line, and which is not the start, the block has one star
-one_star_at : (stage : Stage) (first : ℕ) (b : Block) → table stage Pattern first ≡ Next Diagram → (stage ≡ Start → ⊥) → IsAtStage stage b → HasOneStar b
-one_star_at Start first b next on there = absurd (on refl)
-one_star_at Diagram first b next on there = absurd cc
-one_star_at Labels first b next on there = there
-one_star_at Expression first b next on there = there
-one_star_at Actions first b next on there = there
+-- the draft of a block that is left is complete: it has one star, and no expression is open
+pub complete_at : (stage : Stage) (d : Draft) (b : Block) → (stage ≡ Start → ⊥) → (stage ≡ Diagram → ⊥)
+    → (stage ≡ Expression → ⊥) → Drafts d b → IsAtStage stage d b → IsComplete d
+complete_at Start d b on left closed drafts there = absurd (on refl)
+complete_at Diagram d b on left closed drafts there = absurd (left refl)
+complete_at Labels d b on left closed drafts there =
+    record { block = b; drafts = drafts; one_star = there.0; judged = judged_without d there.1 }
+complete_at Expression d b on left closed drafts there = absurd (closed refl)
+complete_at Actions d b on left closed drafts there =
+    record { block = b; drafts = drafts; one_star = there.0; judged = there.1 }
+
+-- a draft that is left is complete, unless there is none
+pub complete_draft : (r : Reader) (s : SoFar) → Shows r s → (r.stage ≡ Start → ⊥) → (r.stage ≡ Diagram → ⊥)
+    → (r.stage ≡ Expression → ⊥) → IsComplete r.draft
+complete_draft r s shows on left closed = by_now s.now shows.draft
+  where
+    by_now : (now : Option Block) → ReadsNow r.draft s.stage now → IsComplete r.draft
+    by_now None reads = absurd (on (shows.stage ∙ reads))
+    by_now (Some b) reads =
+        complete_at s.stage r.draft b (λ same. on (shows.stage ∙ same)) (λ same. left (shows.stage ∙ same))
+        (λ same. closed (shows.stage ∙ same)) reads.0 reads.1
+
+-- where the table takes a Pattern line no main diagram is open
+no_diagram_before : (stage : Stage) (first : ℕ) → table stage Pattern first ≡ Next Diagram → stage ≡ Diagram → ⊥
+no_diagram_before Start first next same = absurd cc
+no_diagram_before Diagram first next same = absurd cc
+no_diagram_before Labels first next same = absurd cc
+no_diagram_before Expression first next same = absurd cc
+no_diagram_before Actions first next same = absurd cc
+
+-- a Pattern line is no expression line
+pattern_no_semicolon : Pattern ≡ Semicolon → ⊥
+pattern_no_semicolon same = absurd cc
 
 -- a draft that a Pattern line ends is complete, unless there is none
-pub complete_at_pattern_line : (r : Reader) (first : ℕ) → IsTaking r Pattern first Diagram → (r.stage ≡ Start → ⊥) → IsComplete r.draft
-complete_at_pattern_line r first taking on = by_now taking.so_far.now taking.shows.draft
-  where
-    begun : taking.so_far.stage ≡ Start → ⊥
-    begun at_start = on (taking.shows.stage ∙ at_start)
-
-    by_now : (now : Option Block) → ReadsNow r.draft taking.so_far.stage now → IsComplete r.draft
-    by_now None reads = absurd (begun reads)
-    by_now (Some b) reads = record { block = b; drafts = reads.0; one_star = one_star_at taking.so_far.stage first b taking.next begun reads.1 }
+pub complete_at_pattern_line : (r : Reader) (first : ℕ) → IsTaking r Pattern first Diagram → (r.stage ≡ Start → ⊥)
+    → IsComplete r.draft
+complete_at_pattern_line r first taking on =
+    complete_draft r taking.so_far taking.shows on
+    (λ same. no_diagram_before taking.so_far.stage first taking.next (sym taking.shows.stage ∙ same))
+    (λ same. pattern_no_semicolon (taking.settled same))

@@ -35,7 +35,8 @@ pub record IsBadLine (k : KeptLine) (b : BadByte) : Type 0 where
   pub number : k.number ≡ b.number
 
 bad_by_test : (bad : Bool) (k : KeptLine) (b : BadByte) → k.is_bad ≡ bad → by_test bad k ≡ Err b → IsBadLine k b
-bad_by_test true k b t h = let same : bad_of k ≡ b = cc in record { bad = t; number = ap (λ (x : BadByte). x.number) same }
+bad_by_test true k b t h = let same : bad_of k ≡ b =
+    cc in record { bad = t; number = ap (λ (x : BadByte). x.number) same }
 bad_by_test false k b t h = absurd cc
 
 pub bad_line : (k : KeptLine) (b : BadByte) → shown k ≡ Err b → IsBadLine k b
@@ -56,28 +57,41 @@ fine_by_test false k l t h =
 pub fine_line : (k : KeptLine) (l : Line) → shown k ≡ Ok l → IsFineLine k l
 fine_line k l e = fine_by_test k.is_bad k l refl (sym (shown-by_test k) ∙ e)
 
-pub found_bad : (helpers : List (List ℕ)) (s : SoFar) (k : KeptLine) (b : BadByte) → IsBadLine k b → found helpers s k ≡ Some (record { line = b.number; kind = bad_byte })
+pub found_bad : (helpers : List (List ℕ)) (s : SoFar) (k : KeptLine) (b : BadByte) → IsBadLine k b
+    → found helpers s k ≡ Some (record { line = b.number; kind = bad_byte })
 unfolding found
 found_bad helpers s k b h = rw (h.bad, h.number) refl
 
-pub end_closing : (number : ℕ) (s : SoFar) (f : Fault) → closing_fault number None s ≡ Some f → found_at_end number s ≡ Some f
+pub end_closing : (number : ℕ) (s : SoFar) (f : Fault) → closing_fault number None s ≡ Some f
+    → found_at_end number s ≡ Some f
 unfolding found_at_end
 end_closing number s f e = rw e refl
 
-pub end_table : (number : ℕ) (s : SoFar) → closing_fault number None s ≡ None → found_at_end number s ≡ at_line number (end_refused s.stage)
+pub end_table : (number : ℕ) (s : SoFar) → closing_fault number None s ≡ None
+    → found_at_end number s ≡ at_line number (end_refused s.stage)
 unfolding found_at_end
 end_table number s e = rw e refl
 
 -- one line more was read
-pub Walked-step : (helpers : List (List ℕ)) (text : List ℕ) (r n : Reader) (k : KeptLine) (left : List KeptLine) (w : Walked helpers text r (k ∷ left))
+pub Walked-step : (helpers : List (List ℕ)) (text : List ℕ) (r n : Reader) (k : KeptLine) (left : List KeptLine)
+    (w : Walked helpers text r (k ∷ left))
     → (found helpers w.so_far k ≡ None) × Shows n (after_line w.so_far k) → Walked helpers text n left
-Walked-step helpers text r n k left w read = record { so_far = after_line w.so_far k; shown = read.1; reaches = Reaches-step helpers text w.so_far k left w.reaches read.0 }
+Walked-step helpers text r n k left w read =
+    record {
+      so_far = after_line w.so_far k;
+      shown = read.1;
+      reaches =
+          Reaches-step helpers text w.so_far k left w.reaches read.0;
+    }
 
-pub Walked-fault : (helpers : List (List ℕ)) (text : List ℕ) (r : Reader) (k : KeptLine) (left : List KeptLine) (f : Fault) (w : Walked helpers text r (k ∷ left))
+pub Walked-fault : (helpers : List (List ℕ)) (text : List ℕ) (r : Reader) (k : KeptLine) (left : List KeptLine)
+    (f : Fault) (w : Walked helpers text r (k ∷ left))
     → found helpers w.so_far k ≡ Some f → first_fault helpers text ≡ Some f
 Walked-fault helpers text r k left f w some = Reaches-fault helpers text w.so_far k left f w.reaches some
 
-pub Walked-blames : (helpers : List (List ℕ)) (text : List ℕ) (r : Reader) (k : KeptLine) (left : List KeptLine) (e : DbError) (w : Walked helpers text r (k ∷ left))
+pub Walked-blames : (helpers : List (List ℕ)) (text : List ℕ) (r : Reader) (k : KeptLine) (left : List KeptLine)
+    (e : DbError) (w : Walked helpers text r (k ∷ left))
     → BlamesAt e (found helpers w.so_far k) → BlamesAt e (first_fault helpers text)
 Walked-blames helpers text r k left errors.NoMemory w blames = tt
-Walked-blames helpers text r k left (errors.Fault line kind) w blames = Walked-fault helpers text r k left (record { line = line; kind = kind }) w blames
+Walked-blames helpers text r k left (errors.Fault line kind) w blames =
+    Walked-fault helpers text r k left (record { line = line; kind = kind }) w blames

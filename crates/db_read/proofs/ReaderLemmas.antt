@@ -1,25 +1,29 @@
 -- A reader with one line more.
-use Rattle.std.proofs.Common.{◌≡◌, ◌≢◌, ℕ, ◌+◌, List, [], ◌∷◌, ◌++◌, map, Option, Some, None, refl, sym, ap, subst, ◌∙◌, arith}
+use Rattle.std.proofs.Common.{◌≡◌, ◌≢◌, ℕ, ◌+◌, Bool, true, false, List, [], ◌∷◌, ◌++◌, map, Option, Some, None, refl, sym, ap, subst, ◌∙◌, arith}
+use Rattle.std.specs.Prelude.{◌==◌, ◌&&◌, nat_lt}
 use Rattle.std.specs.Option.{option_to_list}
+use Rattle.std.proofs.lemmas.Bool.{eqb-true, not-false}
 use Rattle.std.proofs.lemmas.List.{length-append, map_push, map-append}
-use Rattle.db_lex.specs.declared.line.LineKind.TheVariants.{Pattern, Colon, Other}
-use Rattle.db_lex.specs.Lines.{KeptLine, word_of}
-use Rattle.db_read.specs.declared.draft.Draft.{Draft}
 use Rattle.pat_types.specs.declared.pattern.Pattern.{Pattern as PatternRead}
-use Rattle.db_read.specs.declared.reader.Reader.{Reader}
+use Rattle.pat_types.specs.Kept.{is_constraint}
+use Rattle.db_lex.specs.declared.line.LineKind.{LineKind}
+use Rattle.db_lex.specs.declared.line.LineKind.TheVariants.{Pattern, Colon, Semicolon, Action, Other}
+use Rattle.db_lex.specs.Lines.{KeptLine, word_of}
 use Rattle.db_grammar.specs.declared.stage.Stage.{Stage}
 use Rattle.db_grammar.specs.declared.stage.Stage.TheVariants.{Start, Diagram, Labels, Expression, Actions}
+use Rattle.db_grammar.specs.declared.stage.TableCell.TheVariants.{Next}
+use Rattle.db_grammar.specs.Kinds.{first_of, no_diagram, move_count, bad_mark, bad_class, bad_item, unknown_helper, constraint_shape}
 use Rattle.db_grammar.specs.Diagram.{diagram_fault, letters_of, star_count}
-use Rattle.std.specs.Prelude.{Bool, true, false, ◌==◌, nat_lt, cond, length}
-use Rattle.std.proofs.lemmas.Bool.{eqb-true, not-false, lt-ltb}
-use Rattle.db_grammar.specs.Kinds.{first_of, no_diagram, move_count, bad_mark, bad_class, bad_item, unknown_helper, expr_fault}
 use Rattle.db_grammar.specs.Colon.{colon_fault, fields_fault}
 use Rattle.db_grammar.specs.Labels.{constraint_fault, labels_closing_fault}
-use Rattle.db_grammar.specs.Blocks.{Block, SoFar, words_in, blocks_of, begun_with, placed}
-use Rattle.db_read.specs.Drafts.{Drafts}
+use Rattle.db_grammar.specs.Blocks.{Block, SoFar, words_in, blocks_of, begun_with, placed, table}
 use Rattle.db_grammar.specs.Entries.{entry_of, entry_of_block}
-use Rattle.db_grammar.specs.Faults.{own_fault, at_line, first_number, kind_of_expression, gathered_fault}
-use Rattle.db_read.specs.Reading.{gathered, IsAtStage, ReadsNow, Shows}
+use Rattle.db_grammar.specs.Faults.{own_fault, at_line, first_number, expression_kind, expression_fault, closes, gathered_fault, closing_fault}
+use Rattle.db_read.specs.declared.draft.Draft.{Draft}
+use Rattle.db_read.specs.declared.error.DbError.{DbError}
+use Rattle.db_read.specs.declared.reader.Reader.{Reader}
+use Rattle.db_read.specs.Drafts.{Drafts, HasOneStar, IsUnjudged, IsJudged}
+use Rattle.db_read.specs.Reading.{BlamesAt, IsAtStage, ReadsNow, Shows, settled_stage, settled}
 
 -- what some lines come to, of these parts
 abbrev pub parts : Stage → List KeptLine → List Block → Option Block → SoFar
@@ -27,15 +31,19 @@ parts stage front done now = record { stage = stage; front = front; done = done;
 
 -- the block that goes on has changed
 Shows-now : (r n : Reader) (stage next : Stage) (front : List KeptLine) (done : List Block) (b d : Block)
-    → Shows r (parts stage front done (Some b))
-    → n.stage ≡ next → n.done ≡ r.done → n.begun ≡ r.begun → Drafts n.draft d → IsAtStage next d → next ≢ Start
-    → Shows n (parts next front done (Some d))
+    → Shows r (parts stage front done (Some b)) → n.stage ≡ next → n.done ≡ r.done → n.begun ≡ r.begun
+    → Drafts n.draft d → IsAtStage next n.draft d → next ≢ Start → Shows n (parts next front done (Some d))
 Shows-now r n stage next front done b d s stage_is done_is begun_is drafts fresh on = record {
   stage = stage_is;
   entries = ap (λ v. map entry_of v.items) done_is ∙ s.entries;
   count = begun_is ∙ s.count ∙ length-append done (b ∷ []) ∙ sym (length-append done (d ∷ []));
   draft = (drafts, fresh, on);
 }
+
+-- a draft with the expression and the constraint of another is unjudged where that is
+unjudged-rest : (old new : Draft) → (new.expression ≡ old.expression) × (new.constraint ≡ old.constraint)
+    → IsUnjudged old → IsUnjudged new
+unjudged-rest old new rest h = record { no_line = rest.0 ∙ h.no_line; no_constraint = rest.1 ∙ h.no_constraint }
 
 -- the tests of a list of six faults of which none fits
 none_of_six : (a b c d e f : Bool) (k l m n o p : ℕ)
@@ -53,99 +61,238 @@ colon_one_star helpers diagram line none =
     (not-false (star_count (letters_of diagram) == 1)
     (none_of_six _ _ _ _ _ _ no_diagram move_count bad_mark bad_class bad_item unknown_helper none))
 
--- a colon line is read
-pub colon_ok : (r n : Reader) (helpers : List (List ℕ)) (stage : Stage) (front : List KeptLine) (done : List Block)
-    (now : Option Block) (k : KeptLine) (bytes : List ℕ)
-    → k.bytes ≡ bytes → stage ≡ Diagram → Shows r (parts stage front done now) → n.stage ≡ Labels → n.done ≡ r.done
-    → n.begun ≡ r.begun
-    → ((b : Block) (l : KeptLine) → l.bytes ≡ bytes → b.colon ≡ [] → Drafts r.draft b
-    → (colon_fault helpers (words_in b.diagram) bytes ≡ None)
-    × Drafts n.draft (record b { colon = b.colon ++ l ∷ [] }))
-    → (own_fault helpers (parts stage front done now) k Colon ≡ None)
-    × Shows n (placed k Labels (parts stage front done now) Colon)
-colon_ok r n helpers stage front done None k bytes e stage_is s ns nd nb reads = absurd (cc (s.draft, stage_is))
-colon_ok r n helpers stage front done (Some b) k bytes e stage_is s ns nd nb reads =
-    let fresh : IsAtStage Diagram b = subst (λ t. IsAtStage t b) stage_is s.draft.1 in
-    let read = reads b k e fresh.0 s.draft.0 in (
-      ap (colon_fault helpers (words_in b.diagram)) e
-          ∙ read.0,
-      Shows-now r n stage Labels front done b (record b {
-        colon =
-            b.colon ++ k ∷ [];
-      }) s ns nd nb read.1 (colon_one_star helpers (words_in b.diagram) bytes read.0)
-          (λ h. absurd cc),
-    )
+module _ (r n : Reader) (stage : Stage) (front : List KeptLine) (done : List Block) (k : KeptLine) where
+  -- what the draft has of the expression stays
+  abbrev KeepsRest : Type 0
+  KeepsRest = (n.draft.expression ≡ r.draft.expression) × (n.draft.constraint ≡ r.draft.constraint)
 
-pub diagram_ok : (r n : Reader) (helpers : List (List ℕ)) (stage : Stage) (front : List KeptLine) (done : List Block)
-    (now : Option Block) (k : KeptLine) (word : List ℕ)
-    → word_of k.bytes ≡ word → stage ≡ Diagram → Shows r (parts stage front done now) → n.stage ≡ r.stage
-    → n.done ≡ r.done → n.begun ≡ r.begun
-    → ((b : Block) (l : KeptLine) → word_of l.bytes ≡ word → b.constraint ≡ [] → Drafts r.draft b
-    → (diagram_fault (words_in b.diagram) word ≡ None)
-    × Drafts n.draft (record b { diagram = b.diagram ++ l ∷ [] }))
-    → (own_fault helpers (parts stage front done now) k Other ≡ None)
-    × Shows n (placed k Diagram (parts stage front done now) Other)
-diagram_ok r n helpers stage front done None k word e stage_is s ns nd nb reads = absurd (cc (s.draft, stage_is))
-diagram_ok r n helpers stage front done (Some b) k word e stage_is s ns nd nb reads =
-    let fresh : IsAtStage Diagram b = subst (λ t. IsAtStage t b) stage_is s.draft.1 in
-    let read = reads b k e fresh.1 s.draft.0 in (
-      subst (λ t. own_fault helpers (parts t front done (Some b)) k Other ≡ None) (sym stage_is)
-          (ap (diagram_fault (words_in b.diagram)) e ∙ read.0),
-      Shows-now r n stage Diagram front done b (record b { diagram = b.diagram ++ k ∷ [] }) s (ns ∙ s.stage
-          ∙ stage_is) nd nb read.1 fresh (λ h. absurd cc),
-    )
+  -- a colon line is read
+  pub colon_ok : (helpers : List (List ℕ)) (now : Option Block) (bytes : List ℕ)
+      → k.bytes ≡ bytes → stage ≡ Diagram → Shows r (parts stage front done now)
+      → n.stage ≡ Labels → n.done ≡ r.done → n.begun ≡ r.begun → KeepsRest
+      → ((b : Block) (l : KeptLine) → l.bytes ≡ bytes → b.colon ≡ [] → Drafts r.draft b
+      → (colon_fault helpers (words_in b.diagram) bytes ≡ None)
+      × Drafts n.draft (record b { colon = b.colon ++ l ∷ [] }))
+      → (own_fault helpers (parts stage front done now) k Colon ≡ None)
+      × Shows n (placed k Labels (parts stage front done now) Colon)
+  colon_ok helpers None bytes e stage_is s ns nd nb rest reads = absurd (cc (s.draft, stage_is))
+  colon_ok helpers (Some b) bytes e stage_is s ns nd nb rest reads =
+      let fresh : IsAtStage Diagram r.draft b = subst (λ t. IsAtStage t r.draft b) stage_is s.draft.1 in
+      let read = reads b k e fresh.0 s.draft.0 in
+      let one_star = colon_one_star helpers (words_in b.diagram) bytes read.0 in (
+        ap (colon_fault helpers (words_in b.diagram)) e ∙ read.0,
+        Shows-now r n stage Labels front done b (record b { colon = b.colon ++ k ∷ [] }) s ns nd nb read.1
+            (one_star, unjudged-rest r.draft n.draft rest fresh.2) (λ h. absurd cc),
+      )
 
-pub constraint_ok : (r n : Reader) (helpers : List (List ℕ)) (stage : Stage) (front : List KeptLine) (done : List Block)
-    (now : Option Block) (k : KeptLine) (word : List ℕ)
-    → word_of k.bytes ≡ word → stage ≡ Labels → Shows r (parts stage front done now) → n.stage ≡ r.stage
-    → n.done ≡ r.done → n.begun ≡ r.begun
-    → ((b : Block) (l : KeptLine) → word_of l.bytes ≡ word → Drafts r.draft b
-    → (constraint_fault (words_in b.diagram) (words_in b.constraint) word ≡ None)
-    × Drafts n.draft (record b { constraint = b.constraint ++ l ∷ [] }))
-    → (own_fault helpers (parts stage front done now) k Other ≡ None)
-    × Shows n (placed k Labels (parts stage front done now) Other)
-constraint_ok r n helpers stage front done None k word e stage_is s ns nd nb reads = absurd (cc (s.draft, stage_is))
-constraint_ok r n helpers stage front done (Some b) k word e stage_is s ns nd nb reads =
-    let read = reads b k e s.draft.0 in (
-      subst (λ t. own_fault helpers (parts t front done (Some b)) k Other ≡ None) (sym stage_is)
-          (ap (constraint_fault (words_in b.diagram) (words_in b.constraint)) e ∙ read.0),
-      Shows-now r n stage Labels front done b (record b { constraint = b.constraint ++ k ∷ [] }) s (ns ∙ s.stage
-          ∙ stage_is) nd nb read.1 (subst (λ t. IsAtStage t b) stage_is s.draft.1) (λ h. absurd cc),
-    )
+  -- a line of the main diagram is read
+  pub diagram_ok : (helpers : List (List ℕ)) (now : Option Block) (word : List ℕ)
+      → word_of k.bytes ≡ word → stage ≡ Diagram → Shows r (parts stage front done now)
+      → n.stage ≡ r.stage → n.done ≡ r.done → n.begun ≡ r.begun → KeepsRest
+      → ((b : Block) (l : KeptLine) → word_of l.bytes ≡ word → b.constraint ≡ [] → Drafts r.draft b
+      → (diagram_fault (words_in b.diagram) word ≡ None) × Drafts n.draft (record b { diagram = b.diagram ++ l ∷ [] }))
+      → (own_fault helpers (parts stage front done now) k Other ≡ None)
+      × Shows n (placed k Diagram (parts stage front done now) Other)
+  diagram_ok helpers None word e stage_is s ns nd nb rest reads = absurd (cc (s.draft, stage_is))
+  diagram_ok helpers (Some b) word e stage_is s ns nd nb rest reads =
+      let fresh : IsAtStage Diagram r.draft b = subst (λ t. IsAtStage t r.draft b) stage_is s.draft.1 in
+      let read = reads b k e fresh.1 s.draft.0 in (
+        subst (λ t. own_fault helpers (parts t front done (Some b)) k Other ≡ None) (sym stage_is)
+            (ap (diagram_fault (words_in b.diagram)) e ∙ read.0),
+        Shows-now r n stage Diagram front done b (record b { diagram = b.diagram ++ k ∷ [] }) s
+            (ns ∙ s.stage ∙ stage_is) nd nb read.1
+            (fresh.0, fresh.1, unjudged-rest r.draft n.draft rest fresh.2) (λ h. absurd cc),
+      )
 
--- an expression is at fault where there is one
-expression_by : (diagram constraint lines : List KeptLine)
-    → cond (nat_lt 0 (length lines)) (Some (record { line = first_number lines; kind = expr_fault })) None
-    ≡ at_line (first_number lines) (kind_of_expression diagram constraint lines)
-expression_by diagram constraint [] = refl
-expression_by diagram constraint (line ∷ lines) = rw (lt-ltb 0 (length (line ∷ lines)) (omega arith)) refl
+  -- a line of the constraint diagram is read
+  pub constraint_ok : (helpers : List (List ℕ)) (now : Option Block) (word : List ℕ)
+      → word_of k.bytes ≡ word → stage ≡ Labels → Shows r (parts stage front done now)
+      → n.stage ≡ r.stage → n.done ≡ r.done → n.begun ≡ r.begun → KeepsRest
+      → ((b : Block) (l : KeptLine) → word_of l.bytes ≡ word → Drafts r.draft b
+      → (constraint_fault (words_in b.diagram) (words_in b.constraint) word ≡ None)
+      × Drafts n.draft (record b { constraint = b.constraint ++ l ∷ [] }))
+      → (own_fault helpers (parts stage front done now) k Other ≡ None)
+      × Shows n (placed k Labels (parts stage front done now) Other)
+  constraint_ok helpers None word e stage_is s ns nd nb rest reads = absurd (cc (s.draft, stage_is))
+  constraint_ok helpers (Some b) word e stage_is s ns nd nb rest reads =
+      let fresh : IsAtStage Labels r.draft b = subst (λ t. IsAtStage t r.draft b) stage_is s.draft.1 in
+      let read = reads b k e s.draft.0 in (
+        subst (λ t. own_fault helpers (parts t front done (Some b)) k Other ≡ None) (sym stage_is)
+            (ap (constraint_fault (words_in b.diagram) (words_in b.constraint)) e ∙ read.0),
+        Shows-now r n stage Labels front done b (record b { constraint = b.constraint ++ k ∷ [] }) s
+            (ns ∙ s.stage ∙ stage_is) nd nb read.1
+            (fresh.0, unjudged-rest r.draft n.draft rest fresh.1) (λ h. absurd cc),
+      )
 
--- what is gathered is at fault as the block says
-gathered_by : (number : ℕ) (stage : Stage) (b : Block) (d : Draft) → Drafts d b
-    → gathered number stage d.diagram.lines d.marks.lines d.has_expression d.first_expression
-    ≡ gathered_fault number stage (Some b)
+-- where an expression line is taken the diagram has one star, and there is no constraint
+at_expression_line : (stage : Stage) (byte : ℕ) (d : Draft) (b : Block) → table stage Semicolon byte ≡ Next Expression
+    → IsAtStage stage d b → HasOneStar b × (d.constraint ≡ None)
+at_expression_line Start byte d b next there = absurd cc
+at_expression_line Diagram byte d b next there = absurd cc
+at_expression_line Labels byte d b next there = (there.0, there.1.no_constraint)
+at_expression_line Expression byte d b next there = there
+at_expression_line Actions byte d b next there = absurd cc
+
+-- where an expression line is taken there is a block
+begun_before_expression : (stage : Stage) (byte : ℕ) → table stage Semicolon byte ≡ Next Expression → stage ≡ Start → ⊥
+begun_before_expression Start byte next start = absurd cc
+begun_before_expression Diagram byte next start = absurd cc
+begun_before_expression Labels byte next start = absurd cc
+begun_before_expression Expression byte next start = absurd cc
+begun_before_expression Actions byte next start = absurd cc
+
+-- an expression line is read
+pub expression_ok : (r n : Reader) (stage : Stage) (front : List KeptLine) (done : List Block) (k : KeptLine)
+    (now : Option Block) (number byte : ℕ) (bytes : List ℕ) → k.number ≡ number → k.bytes ≡ bytes
+    → table stage Semicolon byte ≡ Next Expression → Shows r (parts stage front done now)
+    → n.stage ≡ Expression → n.done ≡ r.done → n.begun ≡ r.begun → n.draft.constraint ≡ r.draft.constraint
+    → ((b : Block) (l : KeptLine) → l.number ≡ number → l.bytes ≡ bytes → Drafts r.draft b
+    → Drafts n.draft (record b { expression = b.expression ++ l ∷ [] }))
+    → Shows n (placed k Expression (parts stage front done now) Semicolon)
+expression_ok r n stage front done k None number byte bytes e f next s ns nd nb rest reads =
+    absurd (begun_before_expression stage byte next s.draft)
+expression_ok r n stage front done k (Some b) number byte bytes e f next s ns nd nb rest reads =
+    let there = at_expression_line stage byte r.draft b next s.draft.1 in
+    Shows-now r n stage Expression front done b (record b { expression = b.expression ++ k ∷ [] }) s ns nd nb
+    (reads b k e f s.draft.0) (there.0, rest ∙ there.1) (λ h. absurd cc)
+
+-- a draft without an expression is judged: it has no constraint
+pub judged_without : (d : Draft) → IsUnjudged d → IsJudged d
+judged_without d h = record {
+  says = rw (h.no_line, h.no_constraint) refl;
+  kept = ap (is_constraint d.marks.labels) h.no_constraint;
+}
+
+-- where an action line is taken behind a closed expression the diagram has one star, and the draft is judged
+at_action_line : (stage : Stage) (byte : ℕ) (d : Draft) (b : Block) → table stage Action byte ≡ Next Actions
+    → (stage ≡ Expression → ⊥) → IsAtStage stage d b → HasOneStar b × IsJudged d
+at_action_line Start byte d b next left there = absurd cc
+at_action_line Diagram byte d b next left there = absurd cc
+at_action_line Labels byte d b next left there = (there.0, judged_without d there.1)
+at_action_line Expression byte d b next left there = absurd (left refl)
+at_action_line Actions byte d b next left there = there
+
+-- where an action line is taken there is a block
+begun_before_actions : (stage : Stage) (byte : ℕ) → table stage Action byte ≡ Next Actions → stage ≡ Start → ⊥
+begun_before_actions Start byte next start = absurd cc
+begun_before_actions Diagram byte next start = absurd cc
+begun_before_actions Labels byte next start = absurd cc
+begun_before_actions Expression byte next start = absurd cc
+begun_before_actions Actions byte next start = absurd cc
+
+-- an action line is passed over
+pub action_ok : (r n : Reader) (stage : Stage) (front : List KeptLine) (done : List Block) (k : KeptLine)
+    (now : Option Block) (byte : ℕ) → table stage Action byte ≡ Next Actions → (stage ≡ Expression → ⊥)
+    → Shows r (parts stage front done now)
+    → n.stage ≡ Actions → n.done ≡ r.done → n.begun ≡ r.begun → n.draft ≡ r.draft
+    → Shows n (placed k Actions (parts stage front done now) Action)
+action_ok r n stage front done k None byte next left s ns nd nb same =
+    absurd (begun_before_actions stage byte next s.draft)
+action_ok r n stage front done k (Some b) byte next left s ns nd nb same =
+    let there = at_action_line stage byte r.draft b next left s.draft.1 in
+    let drafts : Drafts r.draft (record b { actions = b.actions ++ k ∷ [] }) = with_actions r.draft b k s.draft.0 in
+    Shows-now r n stage Actions front done b (record b { actions = b.actions ++ k ∷ [] }) s ns nd nb
+    (subst (λ (d : Draft). Drafts d (record b { actions = b.actions ++ k ∷ [] })) (sym same) drafts)
+    (there.0, subst IsJudged (sym same) there.1) (λ h. absurd cc)
+  where
+    with_actions : (d : Draft) (b : Block) (k : KeptLine) → Drafts d b
+        → Drafts d (record b { actions = b.actions ++ k ∷ [] })
+    with_actions d b k h = record {
+      name = h.name;
+      words = h.words;
+      diagram = h.diagram;
+      mark = h.mark;
+      classes = h.classes;
+      items = h.items;
+      marks = h.marks;
+      expression = h.expression;
+      drawn = h.drawn;
+      labelled = h.labelled;
+    }
+
+-- the constraint diagram is at fault by the numbers of its lines
+pub labels_gathered : (r : Reader) (number : ℕ) (stage : Stage) (front : List KeptLine) (done : List Block)
+    (now : Option Block) → stage ≡ Labels → Shows r (parts stage front done now)
+    → gathered_fault number stage now
+    ≡ at_line number (first_of ((
+      nat_lt 0 r.draft.marks.lines
+          && nat_lt r.draft.marks.lines r.draft.diagram.lines,
+      constraint_shape,
+    ) ∷ []))
 unfolding labels_closing_fault
-gathered_by number Start b d s = refl
-gathered_by number Diagram b d s = refl
-gathered_by number Labels b d s = rw (s.diagram.lines, s.marks.lines) refl
-gathered_by number Expression b d s =
-    rw (s.has_expression, s.first) (expression_by b.diagram b.constraint b.expression)
-gathered_by number Actions b d s = refl
+labels_gathered r number stage front done None stage_is s = absurd (cc (s.draft, stage_is))
+labels_gathered r number stage front done (Some b) stage_is s =
+    ap (λ t. gathered_fault number t (Some b)) stage_is ∙ rw (s.draft.0.diagram.lines, s.draft.0.marks.lines) refl
 
--- what a reader has gathered is at fault as the block that goes on says
-pub gathered-is : (r : Reader) (number : ℕ) (stage : Stage) (front : List KeptLine) (done : List Block)
-    (now : Option Block) → Shows r (parts stage front done now)
-    → gathered number r.stage r.draft.diagram.lines r.draft.marks.lines r.draft.has_expression r.draft.first_expression
-    ≡ gathered_fault number stage now
-gathered-is r number stage front done None s =
-    ap (λ t. gathered number t r.draft.diagram.lines r.draft.marks.lines r.draft.has_expression
-    r.draft.first_expression)
-    (s.stage ∙ s.draft)
-gathered-is r number stage front done (Some b) s =
-    ap (λ t. gathered number t r.draft.diagram.lines r.draft.marks.lines r.draft.has_expression
-    r.draft.first_expression)
-    s.stage
-    ∙ gathered_by number stage b r.draft s.draft.0
+-- a line that closes nothing leaves the stage as it is
+pub settled_stays : (stage : Stage) (kind : Option LineKind) → closes stage kind ≡ false
+    → settled_stage stage kind ≡ stage
+settled_stays Start kind stays = refl
+settled_stays Diagram kind stays = refl
+settled_stays Labels kind stays = refl
+settled_stays Expression None stays = absurd cc
+settled_stays Expression (Some Pattern) stays = absurd cc
+settled_stays Expression (Some Colon) stays = absurd cc
+settled_stays Expression (Some Semicolon) stays = refl
+settled_stays Expression (Some Action) stays = absurd cc
+settled_stays Expression (Some Other) stays = absurd cc
+settled_stays Actions kind stays = refl
+
+-- an expression line alone does not close an expression
+pub semicolon_goes_on : (kind : Option LineKind) → closes Expression kind ≡ false → kind ≡ Some Semicolon
+semicolon_goes_on None stays = absurd cc
+semicolon_goes_on (Some Pattern) stays = absurd cc
+semicolon_goes_on (Some Colon) stays = absurd cc
+semicolon_goes_on (Some Semicolon) stays = refl
+semicolon_goes_on (Some Action) stays = absurd cc
+semicolon_goes_on (Some Other) stays = absurd cc
+
+-- what closes an expression leaves it behind
+settled_closed : (kind : Option LineKind) → closes Expression kind ≡ true → settled_stage Expression kind ≡ Actions
+settled_closed None leaves = refl
+settled_closed (Some Pattern) leaves = refl
+settled_closed (Some Colon) leaves = refl
+settled_closed (Some Semicolon) leaves = absurd cc
+settled_closed (Some Action) leaves = refl
+settled_closed (Some Other) leaves = refl
+
+-- what is closed is a constraint diagram or an expression
+pub closed_stage : (stage : Stage) (kind : Option LineKind) → closes stage kind ≡ true → (stage ≡ Labels → ⊥)
+    → stage ≡ Expression
+closed_stage Start kind leaves other = absurd cc
+closed_stage Diagram kind leaves other = absurd cc
+closed_stage Labels kind leaves other = absurd (other refl)
+closed_stage Expression kind leaves other = refl
+closed_stage Actions kind leaves other = absurd cc
+
+-- an expression without a fault is closed
+pub expression_closed : (r n : Reader) (number : ℕ) (kind : Option LineKind) (stage : Stage) (front : List KeptLine)
+    (done : List Block) (now : Option Block) → closes stage kind ≡ true → stage ≡ Expression
+    → Shows r (parts stage front done now) → n.stage ≡ Actions → n.done ≡ r.done → n.begun ≡ r.begun
+    → ((b : Block) → Drafts r.draft b → (expression_kind b ≡ None) × Drafts n.draft b)
+    → (r.draft.constraint ≡ None → IsJudged n.draft)
+    → (gathered_fault number stage now ≡ None) × Shows n (parts (settled_stage stage kind) front done now)
+expression_closed r n number kind stage front done None leaves stage_is s ns nd nb reads judges =
+    absurd (cc (s.draft, stage_is))
+expression_closed r n number kind stage front done (Some b) leaves stage_is s ns nd nb reads judges =
+    let there : IsAtStage Expression r.draft b = subst (λ t. IsAtStage t r.draft b) stage_is s.draft.1 in
+    let closed : closes Expression kind ≡ true = subst (λ t. closes t kind ≡ true) stage_is leaves in
+    let next : settled_stage stage kind ≡ Actions =
+    ap (λ t. settled_stage t kind) stage_is ∙ settled_closed kind closed in
+    let read = reads b s.draft.0 in
+    let shows : Shows n (parts Actions front done (Some b)) =
+    Shows-now r n stage Actions front done b b s ns nd nb read.1 (there.0, judges there.1) (λ h. absurd cc) in (
+      ap (λ t. gathered_fault number t (Some b)) stage_is ∙ ap (at_line (first_number b.expression)) read.0,
+      subst (λ t. Shows n (parts t front done (Some b))) (sym next) shows,
+    )
+
+-- the fault of an expression is that of its block
+pub expression_gathered : (r : Reader) (number : ℕ) (stage : Stage) (front : List KeptLine) (done : List Block)
+    (now : Option Block) (e : DbError) → stage ≡ Expression → Shows r (parts stage front done now)
+    → ((b : Block) → Drafts r.draft b → BlamesAt e (expression_fault b)) → BlamesAt e (gathered_fault number stage now)
+expression_gathered r number stage front done None e stage_is s blames = absurd (cc (s.draft, stage_is))
+expression_gathered r number stage front done (Some b) e stage_is s blames =
+    subst (λ t. BlamesAt e (gathered_fault number t (Some b))) (sym stage_is) (blames b s.draft.0)
 
 -- the entries with that of the block that another follows
 pub entries-closed : (done : List Block) (now : Option Block)
@@ -164,13 +311,29 @@ close_ok d stage old new p (Some b) on pushed finished reads =
 
 -- a block is begun
 pub pattern_ok : (r n : Reader) (s : SoFar) (k : KeptLine) → Shows r s → n.stage ≡ Diagram → n.begun ≡ r.begun + 1
-    → Drafts n.draft (begun_with k)
+    → Drafts n.draft (begun_with k) → IsUnjudged n.draft
     → map entry_of n.done.items ≡ map entry_of r.done.items ++ map entry_of_block (option_to_list s.now)
     → Shows n (placed k Diagram s Pattern)
-pattern_ok r n s k h stage begun drafts entries = record {
+pattern_ok r n s k h stage begun drafts unjudged entries = record {
   stage = stage;
   entries =
       entries ∙ ap (λ e. e ++ map entry_of_block (option_to_list s.now)) h.entries ∙ sym (entries-closed s.done s.now);
   count = omega (arith, h.count, begun, length-append (blocks_of s) (begun_with k ∷ []));
-  draft = (drafts, (refl, refl), λ e. absurd cc);
+  draft = (drafts, (refl, refl, unjudged), λ e. absurd cc);
 }
+
+-- what is closed behind a line of this kind: nothing, a constraint diagram or an expression without a fault
+pub closed_fault : (number : ℕ) (kind : Option LineKind) (s : SoFar) → closes s.stage kind ≡ true
+    → gathered_fault number s.stage s.now ≡ None → closing_fault number kind s ≡ None
+closed_fault number kind s leaves none = rw leaves none
+
+-- a fault of what is closed is the one that the line closes
+pub closed_blames : (number : ℕ) (kind : Option LineKind) (s : SoFar) (e : DbError) → closes s.stage kind ≡ true
+    → BlamesAt e (gathered_fault number s.stage s.now) → BlamesAt e (closing_fault number kind s)
+closed_blames number kind s e leaves blames = rw leaves blames
+
+-- a reader of lines is one of these lines behind which nothing is left
+pub Shows-settled : (r : Reader) (kind : Option LineKind) (s : SoFar) → settled_stage s.stage kind ≡ s.stage → Shows r s
+    → Shows r (settled kind s)
+Shows-settled r kind s same shows =
+    subst (λ t. Shows r (parts t s.front s.done s.now)) (sym same) shows

@@ -1,14 +1,32 @@
 -- What a draft has read of a block, and when it is complete.
-use Rattle.std.specs.Prelude.{◌≡◌, nat_lt, length, map, unwrap_or}
+use Rattle.std.specs.Prelude.{◌≡◌, ◌<◌, IsTrue, List, [], length, map, unwrap_or, Option, Some, None}
+use Rattle.std.specs.Option.{option_map}
+use Rattle.pat_types.specs.Kept.{is_constraint}
+use Rattle.pat_types.specs.declared.mark.Mark.TheVariants.{Oh}
+use Rattle.cons_parse.specs.Trees.{Tree, tree_of, meaning_of}
+use Rattle.cons_parse.specs.Reading.{expression_in}
+use Rattle.db_lex.specs.Lines.{KeptLine}
 use Rattle.db_grammar.specs.Accepted.{IsDrawn, IsLabelled}
 use Rattle.db_grammar.specs.Diagram.{letters_of, star_count}
-use Rattle.pat_types.specs.declared.mark.Mark.TheVariants.{Oh}
-use Rattle.db_read.specs.declared.draft.Draft.{Draft}
 use Rattle.db_grammar.specs.Colon.{fields_of, mark_of, class_field, class_letters, further, item_of}
+use Rattle.db_grammar.specs.Expressions.{expression_text}
 use Rattle.db_grammar.specs.Blocks.{Block, words_in}
 use Rattle.db_grammar.specs.Entries.{name_on, colon_bytes}
 use Rattle.db_grammar.specs.Faults.{first_number}
 use Rattle.db_diagram.specs.Reads.{Draws, IsMarked}
+use Rattle.db_read.specs.declared.draft.Draft.{Draft}
+use Rattle.db_read.specs.declared.draft.ExpressionText.{ExpressionText}
+
+-- this is the text of these expression lines, of which there are some, and the number of the first
+pub record IsTextOf (kept : ExpressionText) (lines : List KeptLine) : Type 0 where
+  pub some : 0 < length lines
+  pub line : kept.line ≡ first_number lines
+  pub text : kept.text ≡ expression_text lines
+
+-- what is kept of these expression lines: nothing where there is none, or else their text
+abbrev pub KeepsText : Option ExpressionText → List KeptLine → Type 0
+KeepsText None lines = lines ≡ []
+KeepsText (Some kept) lines = IsTextOf kept lines
 
 -- the draft has read these lines of a block
 pub record Drafts (d : Draft) (b : Block) : Type 0 where
@@ -19,8 +37,7 @@ pub record Drafts (d : Draft) (b : Block) : Type 0 where
   pub classes : d.classes ≡ class_letters (class_field (fields_of (colon_bytes b.colon)))
   pub items : d.items ≡ map item_of (further (fields_of (colon_bytes b.colon)))
   pub marks : IsMarked d.marks (words_in b.diagram) (words_in b.constraint)
-  pub has_expression : d.has_expression ≡ nat_lt 0 (length b.expression)
-  pub first : d.first_expression ≡ first_number b.expression
+  pub expression : KeepsText d.expression b.expression
   pub drawn : IsDrawn (words_in b.diagram)
   pub labelled : IsLabelled (words_in b.diagram) (words_in b.constraint)
 
@@ -28,8 +45,24 @@ pub record Drafts (d : Draft) (b : Block) : Type 0 where
 abbrev pub HasOneStar : Block → Type 0
 HasOneStar b = star_count (letters_of (words_in b.diagram)) ≡ 1
 
--- the draft has read a block whose colon line has no fault
+-- what the text that is kept says
+abbrev pub said_by : Option ExpressionText → Option Tree
+said_by None = None
+said_by (Some kept) = option_map meaning_of (expression_in kept.text)
+
+-- the draft has no expression line yet, and so no constraint
+pub record IsUnjudged (d : Draft) : Type 0 where
+  pub no_line : d.expression ≡ None
+  pub no_constraint : d.constraint ≡ None
+
+-- the constraint of the draft is what its expression says, and a pattern with its labels may keep it
+pub record IsJudged (d : Draft) : Type 0 where
+  pub says : option_map tree_of d.constraint ≡ said_by d.expression
+  pub kept : IsTrue (is_constraint d.marks.labels d.constraint)
+
+-- the draft has read a block whose colon line has no fault, and whose expression is judged
 pub record IsComplete (d : Draft) : Type 0 where
   pub block : Block
   pub drafts : Drafts d block
   pub one_star : HasOneStar block
+  pub judged : IsJudged d

@@ -1,5 +1,5 @@
 -- What a reader has read of a text.
-use Rattle.std.specs.Prelude.{◌≡◌, ◌≢◌, ℕ, Bool, if◌then◌else◌, ◌&&◌, nat_lt, [], ◌∷◌, length, map, Option, Some, None}
+use Rattle.std.specs.Prelude.{◌≡◌, ◌≢◌, ℕ, [], length, map, Option, Some, None}
 use Rattle.db_read.specs.declared.draft.Draft.{Draft}
 use Rattle.db_read.specs.declared.error.DbError.{DbError}
 use Rattle.db_read.specs.declared.error.DbError.TheVariants as errors
@@ -9,13 +9,15 @@ use Rattle.db_grammar.specs.declared.fault.Fault.{Fault}
 use Rattle.db_read.specs.declared.reader.Reader.{Reader}
 use Rattle.db_grammar.specs.declared.stage.Stage.{Stage}
 use Rattle.db_grammar.specs.declared.stage.Stage.TheVariants.{Start, Diagram, Labels, Expression, Actions}
-use Rattle.db_grammar.specs.Kinds.{first_of, constraint_shape, expr_fault}
+use Rattle.cons_parse.specs.declared.error.ConsError.{ConsError}
+use Rattle.cons_parse.specs.declared.error.ConsError.TheVariants as cons_errors
+use Rattle.db_grammar.specs.Kinds.{expr_fault, unknown_label}
 use Rattle.db_lex.specs.declared.line.LineKind.{LineKind}
+use Rattle.db_lex.specs.declared.line.LineKind.TheVariants.{Semicolon}
 use Rattle.db_grammar.specs.declared.stage.TableCell.TheVariants.{Next}
 use Rattle.db_grammar.specs.Blocks.{Block, SoFar, blocks_of, table}
-use Rattle.db_read.specs.Drafts.{Drafts, HasOneStar}
+use Rattle.db_read.specs.Drafts.{Drafts, HasOneStar, IsUnjudged, IsJudged}
 use Rattle.db_grammar.specs.Entries.{entry_of, entry_of_block}
-use Rattle.db_grammar.specs.Faults.{at_line}
 
 -- the error is want of memory, or this fault
 abbrev pub BlamesAt : DbError → Option Fault → Type 0
@@ -27,28 +29,41 @@ abbrev pub error_at : ℕ → LineError → DbError
 error_at number line_errors.NoMemory = errors.NoMemory
 error_at number (line_errors.Kind kind) = errors.Fault number kind
 
--- what a stage has gathered is at fault, by the numbers of its lines, whether there is an expression, and its first
--- line
-abbrev pub gathered : ℕ → Stage → ℕ → ℕ → Bool → ℕ → Option Fault
-gathered number Labels mains lines has first =
-    at_line number (first_of ((nat_lt 0 lines && nat_lt lines mains, constraint_shape) ∷ []))
-gathered number Expression mains lines has first =
-    if has then Some (record { line = first; kind = expr_fault }) else None
-gathered number _ mains lines has first = None
+-- the error that a fault of an expression is told as, which begins at the line of this number
+abbrev pub expression_error : ℕ → ConsError → DbError
+expression_error line cons_errors.NoMemory = errors.NoMemory
+expression_error line cons_errors.Syntax = errors.Fault line expr_fault
+expression_error line cons_errors.TooDeep = errors.Fault line expr_fault
+expression_error line cons_errors.UnknownFunction = errors.Fault line expr_fault
+expression_error line cons_errors.Arity = errors.Fault line expr_fault
+expression_error line cons_errors.UnknownLabel = errors.Fault line unknown_label
 
--- in the stage Diagram a block has neither a colon line nor a constraint diagram; in a later one its diagram has one
--- star
-abbrev pub IsAtStage : Stage → Block → Type 0
-IsAtStage Start b = Unit {0}
-IsAtStage Diagram b = (b.colon ≡ []) × (b.constraint ≡ [])
-IsAtStage Labels b = HasOneStar b
-IsAtStage Expression b = HasOneStar b
-IsAtStage Actions b = HasOneStar b
+-- the stage behind what a line of this kind, or the end, closes: a closed expression is left behind
+abbrev pub settled_stage : Stage → Option LineKind → Stage
+settled_stage Expression (Some Semicolon) = Expression
+settled_stage Expression _ = Actions
+settled_stage Start _ = Start
+settled_stage Diagram _ = Diagram
+settled_stage Labels _ = Labels
+settled_stage Actions _ = Actions
+
+-- what some lines come to, where what a line of this kind closes is left behind
+abbrev pub settled : Option LineKind → SoFar → SoFar
+settled kind s = record { stage = settled_stage s.stage kind; front = s.front; done = s.done; now = s.now }
+
+-- in the stage Diagram a block has neither a colon line nor a constraint diagram, and in a later one its diagram has
+-- one star; its expression is judged once the stage Expression is left
+abbrev pub IsAtStage : Stage → Draft → Block → Type 0
+IsAtStage Start d b = Unit {0}
+IsAtStage Diagram d b = (b.colon ≡ []) × (b.constraint ≡ []) × IsUnjudged d
+IsAtStage Labels d b = HasOneStar b × IsUnjudged d
+IsAtStage Expression d b = HasOneStar b × (d.constraint ≡ None)
+IsAtStage Actions d b = HasOneStar b × IsJudged d
 
 -- the draft is that of the block that may go on; there is none at the start alone
 abbrev pub ReadsNow : Draft → Stage → Option Block → Type 0
 ReadsNow d stage None = stage ≡ Start
-ReadsNow d stage (Some b) = Drafts d b × IsAtStage stage b × (stage ≢ Start)
+ReadsNow d stage (Some b) = Drafts d b × IsAtStage stage d b × (stage ≢ Start)
 
 -- the reader has read what some lines come to
 pub record Shows (r : Reader) (s : SoFar) : Type 0 where
@@ -62,8 +77,10 @@ pub record IsReading (r : Reader) : Type 0 where
   pub so_far : SoFar
   pub shows : Shows r so_far
 
--- the reader has read some lines, and the table takes a line of this kind and first byte to this stage behind them
+-- the reader has read some lines, behind which the table takes a line of this kind and first byte to this stage; a line
+-- that would leave an expression comes when that is left behind
 pub record IsTaking (r : Reader) (kind : LineKind) (first : ℕ) (stage : Stage) : Type 0 where
   pub so_far : SoFar
   pub shows : Shows r so_far
   pub next : table so_far.stage kind first ≡ Next stage
+  pub settled : r.stage ≡ Expression → kind ≡ Semicolon

@@ -4,7 +4,16 @@ ghost use Rattle.go_rules.specs.Board.{largest_size};
 ghost use Rattle.std.specs.Prelude.{◌≡◌, ◌≤◌, ◌<◌, ℕ, [], length, get_or, map, vec_len};
 
 use db_diagram::{Diagram, Marks};
-use pat_types::{Bytes, Items, Mark};
+use pat_types::{Bytes, Expr, Items, Mark};
+
+/// What is kept of the expression lines of an entry.
+#[derive(Debug, Drop)]
+pub struct ExpressionText {
+    /// The number of the first of these lines.
+    pub line: u64,
+    /// Their text, joined by one blank.
+    pub text: Bytes,
+}
 
 /// An entry so far.
 #[derive(Drop)]
@@ -17,10 +26,10 @@ pub struct Draft<'a> {
     pub classes: Bytes,
     pub items: Items,
     pub marks: Marks,
-    /// Whether there is an expression line.
-    pub has_expression: bool,
-    /// The number of the first of these lines, or 0.
-    pub first_expression: u64,
+    /// What is kept of the expression lines, where there is one.
+    pub expression: Option<ExpressionText>,
+    /// The constraint, once the expression is judged.
+    pub constraint: Option<Expr>,
     ghost short: { (k : ℕ) → length (get_or (map (λ w. w.now) words.items) k []) ≤ largest_size },
     ghost counted: { vec_len words ≤ diagram.lines },
     ghost few: { diagram.lines ≤ largest_size },

@@ -1,21 +1,19 @@
 //! The table of stages, and what leaving a stage closes.
 
-ghost use Rattle.std.specs.Prelude.{◌≡◌, ◌<◌, ◌^◌, ◌+◌, ◌==◌, ◌&&◌, nat_lt, ℕ, Some, None, unwrap_or, false};
+ghost use Rattle.std.specs.Prelude.{[], ◌∷◌, ◌≡◌, ◌<◌, ◌^◌, ◌+◌, ◌==◌, ◌&&◌, nat_lt, ℕ, Some, None, unwrap_or, false};
 ghost use Rattle.std.specs.List.{position_or_len};
 ghost use Rattle.pat_types.specs.Diagrams.{is_star};
 ghost use Rattle.db_grammar.specs.Blocks.{Block, table as next_by_table, end_refused};
 ghost use Rattle.db_grammar.specs.Faults.{closes as leaves};
-ghost use Rattle.db_read.specs.Reading.{error_at, gathered as fault_gathered};
+ghost use Rattle.db_read.specs.Reading.{error_at};
+ghost use Rattle.db_grammar.specs.Kinds.{first_of, constraint_shape};
 ghost use Rattle.db_grammar.specs.Entries.{entry_of, entry_of_block};
 ghost use Rattle.db_read.specs.Drafts.{Drafts, IsComplete};
 
 use crate::draft::Draft;
 use crate::error::DbError;
 use db_diagram::{Diagram, Marks, is_ascii_letter};
-use db_grammar::{
-    CONSTRAINT_SHAPE, EXPR_FAULT, Fault, LineError, NO_COLON_LINE, STRAY_LINE, Shape, Stage,
-    TableCell,
-};
+use db_grammar::{CONSTRAINT_SHAPE, LineError, NO_COLON_LINE, STRAY_LINE, Shape, Stage, TableCell};
 use db_lex::LineKind;
 use pat_types::{Letter, Pattern};
 
@@ -57,39 +55,14 @@ pub fn closes(stage: Stage, kind: Option<LineKind>) -> bool
     }
 }
 
-/// The fault of what a stage has gathered.
-pub fn gathered(
-    number: u64,
-    stage: Stage,
-    mains: usize,
-    lines: usize,
-    has_expression: bool,
-    first: u64,
-) -> Option<Fault>
-    ensures { result ≡ fault_gathered number stage mains lines has_expression first }
+/// The fault of a constraint diagram that is closed, by the numbers of its lines and of the main lines.
+pub fn labels_fault(mains: usize, lines: usize) -> Option<u8>
+    ensures { result ≡ first_of ((nat_lt 0 lines && nat_lt lines mains, constraint_shape) ∷ []) }
 {
-    match stage {
-        Stage::Labels => {
-            if 0 < lines && lines < mains {
-                Some(Fault {
-                    line: number,
-                    kind: CONSTRAINT_SHAPE,
-                })
-            } else {
-                None
-            }
-        }
-        Stage::Expression => {
-            if has_expression {
-                Some(Fault {
-                    line: first,
-                    kind: EXPR_FAULT,
-                })
-            } else {
-                None
-            }
-        }
-        _ => None,
+    if 0 < lines && lines < mains {
+        Some(CONSTRAINT_SHAPE)
+    } else {
+        None
     }
 }
 
@@ -151,8 +124,8 @@ pub fn finish(draft: Draft<'_>) -> Pattern
         classes,
         items,
         marks,
-        has_expression: _,
-        first_expression: _,
+        expression: _,
+        constraint,
     } = draft;
     let Diagram {
         lines: _,
@@ -183,6 +156,6 @@ pub fn finish(draft: Draft<'_>) -> Pattern
         classes,
         items,
         labels,
-        constraint: None,
+        constraint,
     }
 }

@@ -1,7 +1,7 @@
 //! What texts come to: the patterns that they spell, or the line and the kind of their first fault.
 
 use crate::{DbError, read};
-use pat_types::{Letter, Mark, Pattern};
+use pat_types::{Expr, Letter, Mark, Op, Pattern};
 use std::test::Fail;
 
 /// The realistic file of a pattern collection.
@@ -37,7 +37,7 @@ fn fault_of(rt: &HostRuntime, text: &[u8]) -> (u64, u8) {
 
 #[test]
 fn first_fault_of_each_kind(rt: HostRuntime) -> Result<(), Fail> {
-    let rows: [(&str, &[u8], (u64, u8)); 24] = [
+    let rows: [(&str, &[u8], (u64, u8)); 26] = [
         ("no text at all is a database", b"", (0, 0)),
         ("a comment alone is a database", b"# nothing", (0, 0)),
         (
@@ -98,13 +98,44 @@ fn first_fault_of_each_kind(rt: HostRuntime) -> Result<(), Fail> {
             (3, 17),
         ),
         (
-            "an expression, which is told at its first line",
+            "a realistic file, with labels and an expression",
             REALISTIC,
-            (17, 15),
+            (0, 0),
+        ),
+        ("no class letters", b"Pattern P\nO*\n:8", (0, 0)),
+        (
+            "a class that asks for readings",
+            b"Pattern P\nO*\n:8,sn",
+            (0, 0),
         ),
     ];
     for (what, text, want) in rows {
         assert_eq!(rt; fault_of(&rt, text), want, "{what}");
+    }
+    Ok(())
+}
+
+#[test]
+fn faults_of_constraint_expressions(rt: HostRuntime) -> Result<(), Fail> {
+    let rows: [(&str, &[u8], (u64, u8)); 8] = [
+        ("a call without its end", b";lib(A", (5, 15)),
+        ("a function that is none", b";foo(A)", (5, 15)),
+        ("a label that is none", b";lib(B)", (5, 16)),
+        ("no fault", b";lib(A)>0", (0, 0)),
+        ("the lines are joined", b";lib(A)\n;>0\n>x", (0, 0)),
+        ("two lines that do not go on", b";1\n;2", (5, 15)),
+        ("before what the closing line has", b";lib(B)\n:8", (5, 16)),
+        (
+            "behind a bad byte of the closing line",
+            b";lib(B)\n\x07",
+            (6, 1),
+        ),
+    ];
+    for (what, lines, want) in rows {
+        let mut text = Vec::new(rt.alloc());
+        text.extend_from_slice(b"Pattern P\nO*\n:8,s\nA*\n")?;
+        text.extend_from_slice(lines)?;
+        assert_eq!(rt; fault_of(&rt, &text), want, "{what}");
     }
     Ok(())
 }
@@ -168,11 +199,13 @@ fn a_pattern_is_read_as_it_is_written(rt: HostRuntime) -> Result<(), Fail> {
 }
 
 #[test]
-fn labels_and_items_are_read_as_they_are_written(rt: HostRuntime) -> Result<(), Fail> {
+fn labels_items_and_constraint_are_read_as_they_are_written(rt: HostRuntime) -> Result<(), Fail> {
     let p = only_pattern(
         &rt,
-        b"Pattern P\n+--\n|O*\n|..\n:8,s,NULL,value(3, 4)\n+--\n|OA\n|B.",
+        b"Pattern P\n+--\n|O*\n|..\n:8,s,NULL,value(3, 4)\n+--\n|OA\n|B.\n;lib(A)\n;>1",
     )?;
+    let more_than = matches!(&p.constraint, Some(Expr::Bin(Op::Gt, _, _)));
+    assert!(rt; more_than, "the constraint is what the expression says");
     let labels = [(b'A', 0, 1), (b'B', 1, 0)];
     assert_eq!(rt; p.labels.as_slice().len(), labels.len(), "as many labels");
     for (label, want) in p.labels.as_slice().iter().zip(labels) {

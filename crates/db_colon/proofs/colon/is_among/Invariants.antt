@@ -4,4 +4,5 @@ use Rattle.std.specs.Str.{bytes_eq}
 use Rattle.db_colon.proofs.colon.is_among.Given as goal
 
 abbrev pub invariant-loop-helper : goal.invariant-loop-helper
-invariant-loop-helper l = list_any (bytes_eq l.field) (drop l.helper-index l.helpers) ≡ list_any (bytes_eq l.field) l.helpers
+invariant-loop-helper l =
+    list_any (bytes_eq l.field) (drop l.helper-index l.helpers) ≡ list_any (bytes_eq l.field) l.helpers

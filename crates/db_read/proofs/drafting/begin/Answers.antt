@@ -4,9 +4,9 @@ use Rattle.db_grammar.specs.Accepted.{no_line}
 use Rattle.db_grammar.specs.Entries.{name_on}
 use Rattle.db_read.proofs.drafting.begin.Goals as goal
 
-pub returns : goal.returns
+pub returns-clause-begun : goal.returns-clause-begun
 unfolding split_at_commas
-returns c = λ k e. record {
+returns-clause-begun c = λ k e. record {
   name = c.in_ok-name.ensures ∙ c.name_of.ensures.value ∙ ap name_on (sym e);
   words = ap (map (λ w. w.now)) c.new.ensures.items;
   diagram = c.empty_diagram.ensures.drawn;
@@ -14,8 +14,7 @@ returns c = λ k e. record {
   classes = c.new-2.ensures;
   items = c.new-3.ensures;
   marks = c.empty_marks.ensures;
-  has_expression = refl;
-  first = refl;
+  expression = refl;
   drawn = no_line;
   labelled = no_line;
 }

@@ -4,4 +4,14 @@ use Rattle.db_read.proofs.drafting.empty_diagram.Goals as goal
 
 pub returns-clause-drawn : goal.returns-clause-drawn
 unfolding wanted
-returns-clause-drawn c = record { lines = refl; rows = refl; top = refl; bottom = refl; shape = refl; letters = c.new.ensures; whole = omega arith }
+returns-clause-drawn c =
+    record {
+      lines = refl;
+      rows = refl;
+      top = refl;
+      bottom = refl;
+      shape = refl;
+      letters = c.new.ensures;
+      whole =
+          omega arith;
+    }

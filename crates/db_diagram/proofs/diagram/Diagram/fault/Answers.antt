@@ -5,7 +5,16 @@ use Rattle.db_diagram.proofs.diagram.Diagram.fault.Goals as goal
 -- each test is one of the definition, by what is kept
 pub returns-clause-kept : goal.returns-clause-kept
 returns-clause-kept c =
-    rw (c.first_kind.ensures, c.is_none_of_both.ensures, c.is_out_of_place.ensures, c.is_ragged.ensures, c.is_too_large.ensures, c.differs.ensures, c.is_edge_line-edge.ensures, c.is_row-row.ensures)
+    rw (
+      c.first_kind.ensures,
+      c.is_none_of_both.ensures,
+      c.is_out_of_place.ensures,
+      c.is_ragged.ensures,
+      c.is_too_large.ensures,
+      c.differs.ensures,
+      c.is_edge_line-edge.ensures,
+      c.is_row-row.ensures,
+    )
     (rw c.shape_of_line-shape.ensures refl)
 
 pub returns-clause-exact : goal.returns-clause-exact

@@ -29,5 +29,7 @@ pub returns-clause-few : goal.returns-clause-few
 returns-clause-few c =
     let none : kept_fault c.args.self.now c.args.word.now ≡ None = sym c.in_default.ensures.kept in
     let tests = none_of_four _ _ _ _ bad_letter edge_place ragged too_large none in
-    let both = or_parts (nat_lt largest_size (length c.args.word.now)) (nat_le largest_size c.args.self.now.lines) tests.fourth in
+    let both =
+    or_parts (nat_lt largest_size (length c.args.word.now))
+    (nat_le largest_size c.args.self.now.lines) tests.fourth in
     (ltb-false _ _ both.0, omega (arith, leb-false _ _ both.1), refl)

@@ -9,24 +9,29 @@ use Rattle.db_read.proofs.DraftLemmas.{shorts-pushed, IsMarked-under}
 use Rattle.db_read.proofs.draft.Draft.diagram_line.Goals as goal
 
 pub invariant_of-self-2-clause-short : goal.invariant_of-self-2-clause-short
-invariant_of-self-2-clause-short c = shorts-pushed _ c.args.self.now.words.items c.push.new.self.items c.args.word c.push.ensures.items c.args.self.now.short c.in_ok-line.ensures.few.0
+invariant_of-self-2-clause-short c =
+    shorts-pushed _ c.args.self.now.words.items c.push.new.self.items c.args.word c.push.ensures.items
+    c.args.self.now.short c.in_ok-line.ensures.few.0
 
 -- the words and the diagram have one line more
 pub returns-in-Ok-clause-ok : goal.returns-in-Ok-clause-ok
 returns-in-Ok-clause-ok c = λ b k word_is no_labels d.
     let read = c.in_ok-line.ensures.ok (words_in b.diagram) d.diagram in
-    let words : words_in (b.diagram ++ k ∷ []) ≡ words_in b.diagram ++ c.args.word.now ∷ [] = map_push (λ l. word_of l.bytes) b.diagram k ∙ ap (λ w. words_in b.diagram ++ w ∷ []) word_is in (
+    let words : words_in (b.diagram ++ k ∷ []) ≡ words_in b.diagram ++ c.args.word.now ∷ [] =
+    map_push (λ l. word_of l.bytes) b.diagram k ∙ ap (λ w. words_in b.diagram ++ w ∷ []) word_is in (
       read.0,
       record {
         name = d.name;
-        words = ap (map (λ w. w.now)) c.in-Ok.ensures.items ∙ map_push (λ w. w.now) c.args.self.now.words.items c.args.word ∙ ap (λ (ws : List (List ℕ)). ws ++ c.args.word.now ∷ []) d.words ∙ sym words;
+        words = ap (map (λ w. w.now)) c.in-Ok.ensures.items
+            ∙ map_push (λ w. w.now) c.args.self.now.words.items c.args.word
+            ∙ ap (λ (ws : List (List ℕ)). ws ++ c.args.word.now ∷ []) d.words ∙ sym words;
         diagram = subst (λ ws. Draws c.line.new.self ws) (sym words) read.1;
         mark = d.mark;
         classes = d.classes;
         items = d.items;
-        marks = IsMarked-under _ (words_in b.diagram) (words_in (b.diagram ++ k ∷ [])) (words_in b.constraint) (ap words_in no_labels) d.marks;
-        has_expression = d.has_expression;
-        first = d.first;
+        marks = IsMarked-under _ (words_in b.diagram) (words_in (b.diagram ++ k ∷ [])) (words_in b.constraint)
+            (ap words_in no_labels) d.marks;
+        expression = d.expression;
         drawn = subst IsDrawn (sym words) (one_line_more (words_in b.diagram) c.args.word.now d.drawn read.0);
         labelled = subst (λ ws. IsLabelled (words_in (b.diagram ++ k ∷ [])) ws) (sym (ap words_in no_labels)) no_line;
       },

@@ -1,3 +1,4 @@
+-- What the end closes is left behind, and the end meets the same there.
 use Rattle.std.proofs.Common.{◌∙◌, ◌++◌, sym, ap, subst, map}
 use Rattle.db_grammar.specs.Blocks.{end_refused}
 use Rattle.db_grammar.specs.Entries.{entry_of_block}
@@ -5,19 +6,30 @@ use Rattle.db_grammar.specs.Faults.{at_line}
 use Rattle.std.specs.Option.{option_to_list}
 use Rattle.db_read.specs.Reading.{ReadsNow}
 use Rattle.db_read.proofs.ReaderLemmas.{entries-closed}
-use Rattle.db_read.proofs.ReadLemmas.{end_closing, end_table}
+use Rattle.db_read.proofs.ReadLemmas.{end_table}
+use Rattle.db_read.proofs.LineLemmas.{blames_end, same_end}
 use Rattle.db_read.proofs.reader.Reader.end.Goals as goal
 
+-- what the end closes is at fault
+pub returns-in-Err-clause-err : goal.returns-in-Err-clause-err
+returns-in-Err-clause-err c = λ s h. blames_end c.args.number s c.in-Err.e (c.in-Err.ensures.err s h)
+
+-- the text ends in a main diagram
 pub returns-in-Some-clause-err : goal.returns-in-Some-clause-err
-returns-in-Some-clause-err c = λ s h. end_closing c.args.number s c.in-Some.fault (sym (c.closing_fault.ensures s h) ∙ c.in-Some.is)
+returns-in-Some-clause-err c = λ s h.
+    let closed = c.in-Ok.ensures.ok s h in
+    end_table c.args.number s closed.0
+    ∙ ap (at_line c.args.number) (sym (same_end s.stage) ∙ ap end_refused (sym closed.1.stage) ∙ sym c.end_kind.ensures
+    ∙ c.in-Some.is)
 
-pub returns-in-Some-end_kind-clause-err : goal.returns-in-Some-end_kind-clause-err
-returns-in-Some-end_kind-clause-err c = λ s h.
-    end_table c.args.number s (sym (c.in_default.ensures s h)) ∙ ap (at_line c.args.number) (ap end_refused (sym h.stage) ∙ sym c.end_kind.ensures ∙ c.in-Some-end_kind.is)
-
+-- the entries are those that are done and the one that the end closes
 pub returns-clause-ok : goal.returns-clause-ok
-returns-clause-ok c = λ s h. (
-  end_table c.args.number s (sym (c.in_default.ensures s h)) ∙ ap (at_line c.args.number) (ap end_refused (sym h.stage) ∙ sym c.in_default-end_kind.ensures),
-  c.in-Ok.ensures s.now (subst (λ t. ReadsNow c.args.self.draft t s.now) (sym h.stage) h.draft)
-      ∙ ap (λ e. e ++ map entry_of_block (option_to_list s.now)) h.entries ∙ sym (entries-closed s.done s.now),
-)
+returns-clause-ok c = λ s h.
+    let closed = c.in-Ok.ensures.ok s h in
+    let reads = subst (λ t. ReadsNow c.close_stage.new.self.draft t s.now) (sym closed.1.stage) closed.1.draft in (
+      end_table c.args.number s closed.0
+          ∙ ap (at_line c.args.number) (sym (same_end s.stage) ∙ ap end_refused (sym closed.1.stage)
+          ∙ sym c.end_kind.ensures ∙ c.in_default.is),
+      c.in-Ok-close.ensures s.now reads ∙ ap (λ e. e ++ map entry_of_block (option_to_list s.now)) closed.1.entries
+          ∙ sym (entries-closed s.done s.now),
+    )

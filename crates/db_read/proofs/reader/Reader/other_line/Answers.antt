@@ -12,20 +12,38 @@ use Rattle.db_read.proofs.reader.Reader.other_line.Goals as goal
 
 pub returns-in-Diagram-clause-ok : goal.returns-in-Diagram-clause-ok
 returns-in-Diagram-clause-ok c = on_ok_weaker c.diagram_line.result (λ reads helpers s k e cell h.
-    let there : s.stage ≡ Diagram = other_diagram s.stage (slice_index c.args.line.now 0) (cell ∙ ap Next c.in-Diagram.is) in
-    let read = reads helpers s k (ap word_of e ∙ ap (λ (n : ℕ). take n c.args.line.now) (sym c.word_len.ensures.value)) there h in
-    (read.0, subst (λ t. Shows c.diagram_line.new.self (placed k t s Other)) (sym c.in-Diagram.is) read.1)) c.diagram_line.ensures.ok
+    let there : s.stage ≡ Diagram =
+    other_diagram s.stage (slice_index c.args.line.now 0) (cell ∙ ap Next c.in-Diagram.is) in
+    let read =
+    reads helpers s k (ap word_of e
+    ∙ ap (λ (n : ℕ). take n c.args.line.now) (sym c.word_len.ensures.value)) there h in (
+      read.0,
+      subst (λ t. Shows c.diagram_line.new.self (placed k t s Other))
+          (sym c.in-Diagram.is) read.1,
+    )) c.diagram_line.ensures.ok
 
 pub returns-in-Diagram-clause-err : goal.returns-in-Diagram-clause-err
 returns-in-Diagram-clause-err c = IfErr-weaker c.diagram_line.result _ _ (λ err reads helpers s k e cell h.
-    reads helpers s k (ap word_of e ∙ ap (λ (n : ℕ). take n c.args.line.now) (sym c.word_len.ensures.value)) (other_diagram s.stage (slice_index c.args.line.now 0) (cell ∙ ap Next c.in-Diagram.is)) h) c.diagram_line.ensures.err
+    reads helpers s k (ap word_of e
+    ∙ ap (λ (n : ℕ). take n c.args.line.now) (sym c.word_len.ensures.value))
+    (other_diagram s.stage (slice_index c.args.line.now 0) (cell
+    ∙ ap Next c.in-Diagram.is)) h) c.diagram_line.ensures.err
 
 pub returns-in-Labels-clause-ok : goal.returns-in-Labels-clause-ok
 returns-in-Labels-clause-ok c = on_ok_weaker c.constraint_line.result (λ reads helpers s k e cell h.
-    let there : s.stage ≡ Labels = other_labels s.stage (slice_index c.args.line.now 0) (cell ∙ ap Next c.in-Labels.is) in
-    let read = reads helpers s k (ap word_of e ∙ ap (λ (n : ℕ). take n c.args.line.now) (sym c.word_len.ensures.value)) there h in
-    (read.0, subst (λ t. Shows c.constraint_line.new.self (placed k t s Other)) (sym c.in-Labels.is) read.1)) c.constraint_line.ensures.ok
+    let there : s.stage ≡ Labels =
+    other_labels s.stage (slice_index c.args.line.now 0) (cell ∙ ap Next c.in-Labels.is) in
+    let read =
+    reads helpers s k (ap word_of e
+    ∙ ap (λ (n : ℕ). take n c.args.line.now) (sym c.word_len.ensures.value)) there h in (
+      read.0,
+      subst (λ t. Shows c.constraint_line.new.self (placed k t s Other))
+          (sym c.in-Labels.is) read.1,
+    )) c.constraint_line.ensures.ok
 
 pub returns-in-Labels-clause-err : goal.returns-in-Labels-clause-err
 returns-in-Labels-clause-err c = IfErr-weaker c.constraint_line.result _ _ (λ err reads helpers s k e cell h.
-    reads helpers s k (ap word_of e ∙ ap (λ (n : ℕ). take n c.args.line.now) (sym c.word_len.ensures.value)) (other_labels s.stage (slice_index c.args.line.now 0) (cell ∙ ap Next c.in-Labels.is)) h) c.constraint_line.ensures.err
+    reads helpers s k (ap word_of e
+    ∙ ap (λ (n : ℕ). take n c.args.line.now) (sym c.word_len.ensures.value))
+    (other_labels s.stage (slice_index c.args.line.now 0) (cell
+    ∙ ap Next c.in-Labels.is)) h) c.constraint_line.ensures.err

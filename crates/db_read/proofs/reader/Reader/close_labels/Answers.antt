@@ -1,0 +1,15 @@
+-- The draft counts the lines of both diagrams.
+use Rattle.std.proofs.Common.{◌∙◌, ap, sym}
+use Rattle.db_grammar.specs.Faults.{at_line}
+use Rattle.db_read.proofs.ReaderLemmas.{labels_gathered}
+use Rattle.db_read.proofs.reader.Reader.close_labels.Goals as goal
+
+pub returns-in-None-clause-ok : goal.returns-in-None-clause-ok
+returns-in-None-clause-ok c = λ s stage h.
+    labels_gathered c.args.self.now c.args.number s.stage s.front s.done s.now stage h
+    ∙ ap (at_line c.args.number) (sym c.labels_fault.ensures ∙ c.in-None.is)
+
+pub returns-in-Some-clause-err : goal.returns-in-Some-clause-err
+returns-in-Some-clause-err c = λ s stage h.
+    labels_gathered c.args.self.now c.args.number s.stage s.front s.done s.now stage h
+    ∙ ap (at_line c.args.number) (sym c.labels_fault.ensures ∙ c.in-Some.is)
