@@ -3,3 +3,9 @@ pub mod Corners
 pub mod Sorting
 pub mod Machine
 pub mod Patterns
+pub mod Counted
+pub mod Kept
+pub mod Remembering
+pub mod Judged
+pub mod Labels
+pub mod Placed

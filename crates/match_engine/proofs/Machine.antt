@@ -26,7 +26,7 @@ use Rattle.dfa_match.specs.Sights.{word_at}
 use Rattle.dfa_match.specs.Hits.{IsHit, AreHits}
 use Rattle.match_rules.specs.declared.found.Match.{Match}
 use Rattle.go_rules.specs.Play.{is_legal}
-use Rattle.match_engine.specs.MachineMatches.{lies_on_board, accepts_from, has_hit, place_of_anchor, is_machine_match, machine_matches}
+use Rattle.match_engine.specs.MachineMatches.{lies_on_board, accepts_from, has_hit, place_of_anchor, is_found, found_by}
 use Rattle.match_engine.specs.Found.{place_of_star, match_at, match_from}
 use Rattle.match_rules.proofs.Lists.{Contains-filter_map, Contains-filter_map_from}
 use Rattle.match_rules.proofs.Orders.{IsBy, by-has, by-from, by-in_order, same_matches}
@@ -161,11 +161,11 @@ module _ (machine : List Row) (board : BoardState) (friend : Colour) where
 
   module _ (patterns : List Pattern) where
     -- the match of a hit is one by the machine
-    by_of_hit : (hit : Hit) (z : Match) → IsHit machine board friend hit → IsMade patterns board friend hit z → IsBy (is_machine_match machine board friend) patterns board.size z
+    by_of_hit : (hit : Hit) (z : Match) → IsHit machine board friend hit → IsMade patterns board friend hit z → IsBy (is_found machine board friend) patterns board.size z
     by_of_hit hit z is made =
         let low : hit.transform < transformations = is.transform in
         let anchor = anchor_of_star made.pattern board.size hit.transform hit.anchor z.at low is.anchor made.star in
-        let test : is_machine_match machine board friend hit.pattern made.pattern hit.transform z.at ≡ true =
+        let test : is_found machine board friend hit.pattern made.pattern hit.transform z.at ≡ true =
         and_from (has_hit machine board friend hit.pattern hit.transform (place_of_anchor made.pattern board.size hit.transform z.at)) (lies_on_board made.pattern board.size hit.transform z.at && is_legal board friend z.at)
         (ap (has_hit machine board friend hit.pattern hit.transform) anchor ∙ accept_of_hit hit is)
         (and_from (lies_on_board made.pattern board.size hit.transform z.at) (is_legal board friend z.at) made.whole made.legal) in
@@ -174,11 +174,11 @@ module _ (machine : List Row) (board : BoardState) (friend : Colour) where
           number = ap (slice_get patterns) (sym made.same_pattern) ∙ made.number;
           transform = subst (λ t. t < count_of made.pattern.mark) made.same_transform made.transform;
           at = placed_on board.size hit.transform hit.anchor (pos made.pattern.star.0 -ℤ pos (anchor_of made.pattern).0, pos made.pattern.star.1 -ℤ pos (anchor_of made.pattern).1) z.at made.star;
-          passes = subst (λ t. is_machine_match machine board friend z.pattern made.pattern t z.at ≡ true) made.same_transform (subst (λ n. is_machine_match machine board friend n made.pattern hit.transform z.at ≡ true) made.same_pattern test);
+          passes = subst (λ t. is_found machine board friend z.pattern made.pattern t z.at ≡ true) made.same_transform (subst (λ n. is_found machine board friend n made.pattern hit.transform z.at ≡ true) made.same_pattern test);
         }
 
     -- a match by the machine is that of a hit
-    hit_of_by : (z : Match) → IsBy (is_machine_match machine board friend) patterns board.size z → (hit : Hit) × IsHit machine board friend hit × IsMade patterns board friend hit z
+    hit_of_by : (z : Match) → IsBy (is_found machine board friend) patterns board.size z → (hit : Hit) × IsHit machine board friend hit × IsMade patterns board friend hit z
     hit_of_by z by =
         let p : Pattern = by.pattern in
         let parts = and_parts (has_hit machine board friend z.pattern z.transform (place_of_anchor p board.size z.transform z.at)) (lies_on_board p board.size z.transform z.at && is_legal board friend z.at) by.passes in
@@ -219,19 +219,19 @@ module _ (machine : List Row) (board : BoardState) (friend : Colour) where
         AreDistinct-filter_map (made patterns board friend) hits
         (λ g h z in_g in_h e f. one_hit g h z (made-Some patterns board friend g z e) (made-Some patterns board friend h z f) (are.sound g in_g) (are.sound h in_h)) are.once
 
-    -- the matches of the hits, sorted, are the matches by the machine
+    -- the matches of the hits, sorted, are what the machine finds
     pub sorted_matches : (hits : List Hit) (found sorted : List Match) → AreHits machine board friend hits → found ≡ filter_map (made patterns board friend) hits
-        → IsPermutation found sorted → IsSorted match_cmp sorted → sorted ≡ machine_matches machine patterns board friend
-    unfolding machine_matches
+        → IsPermutation found sorted → IsSorted match_cmp sorted → sorted ≡ found_by machine patterns board friend
+    unfolding found_by
     sorted_matches hits found sorted are from moved order =
-        same_matches sorted (machine_matches machine patterns board friend)
+        same_matches sorted (found_by machine patterns board friend)
         (sorted-in_order sorted order (AreDistinct-permutation found sorted moved (subst AreDistinct (sym from) (made-distinct hits are))))
-        (by-in_order (is_machine_match machine board friend) patterns board.size)
+        (by-in_order (is_found machine board friend) patterns board.size)
         (λ z there.
         let here : Contains (filter_map (made patterns board friend) hits) z = subst (λ zs. Contains zs z) from (Contains-permutation sorted found z (IsPermutation-sym found sorted moved) there) in
         let of = Contains-filter_map (made patterns board friend) hits z here in
-        by-from (is_machine_match machine board friend) patterns board.size z (by_of_hit of.0 z (are.sound of.0 of.1) (made-Some patterns board friend of.0 z of.2)))
+        by-from (is_found machine board friend) patterns board.size z (by_of_hit of.0 z (are.sound of.0 of.1) (made-Some patterns board friend of.0 z of.2)))
         (λ z there.
-        let of = hit_of_by z (by-has (is_machine_match machine board friend) patterns board.size z there) in
+        let of = hit_of_by z (by-has (is_found machine board friend) patterns board.size z there) in
         Contains-permutation found sorted z moved
         (subst (λ zs. Contains zs z) (sym from) (Contains-filter_map_from (made patterns board friend) hits of.0 z (are.complete of.0 of.1) (made-from patterns board friend of.0 z of.2))))

@@ -1,5 +1,5 @@
 -- The matches that an automaton says, whichever it is.
-use Rattle.std.specs.Prelude.{ℕ, ◌+◌, ◌&&◌, ◌==◌, Bool, false, pos, List, Option, Some, None, is_some}
+use Rattle.std.specs.Prelude.{◌≡◌, ◌<◌, ◌*◌, true, slice_get, ℕ, ◌+◌, ◌&&◌, ◌==◌, Bool, false, pos, List, Option, Some, None, is_some}
 use Rattle.std.specs.List.{list_all, list_any, range_with_len}
 use Rattle.go_rules.specs.declared.Colour.{Colour}
 use Rattle.go_rules.specs.Below.{any_below}
@@ -12,6 +12,8 @@ use Rattle.dfa_core.specs.Automata.{Row, accepted}
 use Rattle.dfa_match.specs.Sights.{word_at}
 use Rattle.match_rules.specs.declared.found.Match.{Match}
 use Rattle.match_rules.specs.Fits.{place_of_cell}
+use Rattle.cons_eval.specs.Readings.{Codes}
+use Rattle.match_rules.specs.Conditions.{is_allowed}
 use Rattle.match_rules.specs.Match.{matches_by}
 
 -- the machine accepts the number at the end of some front of the word that is read from the anchor a under t
@@ -31,12 +33,31 @@ place_of_anchor p s t m = place_of_cell p s t m (pos (anchor_of p).0) (pos (anch
 abbrev pub lies_on_board : Pattern → ℕ → ℕ → ℕ → Bool
 lies_on_board p s t m = list_all (λ r. list_all (λ c. is_some (place_of_cell p s t m (pos r) (pos c))) (range_with_len 0 p.cols)) (range_with_len 0 p.rows)
 
--- whether the machine says that the pattern with this number matches at m under t: it has a hit whose star stands at m, the whole
--- diagram lies on the board, and the friend's play at m is legal
-abbrev pub is_machine_match : List Row → BoardState → Colour → ℕ → Pattern → ℕ → ℕ → Bool
-is_machine_match machine board friend number p t m =
+-- whether the machine finds the pattern with this number at m under t, and the friend's play there is legal
+abbrev pub is_found : List Row → BoardState → Colour → ℕ → Pattern → ℕ → ℕ → Bool
+is_found machine board friend number p t m =
     has_hit machine board friend number t (place_of_anchor p board.size t m) && (lies_on_board p board.size t m && is_legal board friend m)
 
+-- what the machine finds, sorted, before classes and constraints are looked at
+unfoldable pub found_by : List Row → List Pattern → BoardState → Colour → List Match
+found_by machine patterns board friend = matches_by (is_found machine board friend) patterns board.size
+
+-- whether the machine says that the pattern with this number matches at m under t: it has a hit whose star stands at m, the whole
+-- diagram lies on the board, the friend's play at m is legal, and its classes and its constraint allow it
+abbrev pub is_machine_match : Codes → List Row → BoardState → Colour → ℕ → Pattern → ℕ → ℕ → Bool
+is_machine_match code machine board friend number p t m = is_found machine board friend number p t m && is_allowed code p board friend t m
+
 -- the matches of the patterns by a machine, which need not be theirs
-unfoldable pub machine_matches : List Row → List Pattern → BoardState → Colour → List Match
-machine_matches machine patterns board friend = matches_by (is_machine_match machine board friend) patterns board.size
+unfoldable pub machine_matches : Codes → List Row → List Pattern → BoardState → Colour → List Match
+machine_matches code machine patterns board friend = matches_by (is_machine_match code machine board friend) patterns board.size
+
+-- whether the classes and the constraint of the match's pattern allow it
+abbrev pub is_allowed_at : Codes → BoardState → Colour → Option Pattern → Match → Bool
+is_allowed_at code board friend None z = false
+is_allowed_at code board friend (Some p) z = is_allowed code p board friend z.transform z.at
+
+-- the match is of a pattern of the list, and its point is on the board
+pub record IsFoundThere (patterns : List Pattern) (board : BoardState) (z : Match) : Type 0 where
+  pub pattern : Pattern
+  pub number : slice_get patterns z.pattern ≡ Some pattern
+  pub on_board : z.at < board.size * board.size

@@ -1,5 +1,5 @@
 //! The matches of patterns on a position, by an automaton.
-ghost use Rattle.std.specs.Prelude.{◌≡◌, ℕ, ◌*◌, ◌<◌, length, Some, Contains, IfOk, slice_get};
+ghost use Rattle.std.specs.Prelude.{◌≡◌, ℕ, ◌+◌, ◌*◌, ◌<◌, filter, if◌then◌else◌, length, Some, Contains, IfOk, OnOk, OnErr, slice_get, slice_set as set};
 ghost use Rattle.std.specs.List.{filter_map};
 ghost use Rattle.go_rules.specs.Position.{BoardState};
 ghost use Rattle.dfa_core.specs.Automata.{accepted};
@@ -7,11 +7,16 @@ ghost use Rattle.dfa_core.specs.States.{IsMachineOf};
 ghost use Rattle.dfa_core.specs.Words.{Word};
 ghost use Rattle.dfa_match.specs.declared.Hit.{Hit as HitSeen};
 ghost use Rattle.go_rules.specs.Play.{is_legal as is_legal_on};
+ghost use Rattle.match_rules.specs.declared.found.Match.{Match as MatchSeen};
 ghost use Rattle.match_rules.specs.Match.{matches_of};
-ghost use Rattle.match_engine.specs.MachineMatches.{machine_matches};
+ghost use Rattle.match_engine.specs.MachineMatches.{found_by as is_found_by, machine_matches, is_allowed_at, IsFoundThere};
+ghost use Rattle.match_engine.specs.Readings.{Follows, codes_of};
 ghost use Rattle.match_engine.specs.Found.{match_of as match_made, match_from};
 
+use crate::allowing::is_allowed;
 use crate::placing::{lies_on_board, star_place};
+use crate::plays::Plays;
+use crate::readings::Readings;
 use dfa_core::Automaton;
 use dfa_match::{Hit, scan};
 use go_base::{Colour, NoMemory, Point, Position, Watch};
@@ -70,10 +75,83 @@ fn matches_among(
     Ok(found)
 }
 
+/// What an automaton finds on a position, with a legal move: sorted by the pattern's place in the list, the transformation and the
+/// point.
+fn found_by(
+    alloc: Global,
+    patterns: &[Pattern],
+    machine: &Automaton,
+    position: &Position,
+    friend: Colour,
+) -> Result<Vec<Match>, NoMemory>
+    requires numbers { (w : Word) (n : ℕ) → Contains (accepted machine.now w) n → n < length patterns.now }
+    ensures found { IfOk result (λ v. v.items ≡ is_found_by machine.now patterns.now position.now friend) }
+{
+    let mut watch = Watch::new(position);
+    let hits = scan(machine, &mut watch, friend, Vec::new(alloc))?;
+    let mut found = matches_among(alloc, patterns, position, friend, hits.as_slice())?;
+    found.sort_unstable();
+    Ok(found)
+}
+
+/// The pattern at a place of the list.
+fn pattern_with(patterns: &[Pattern], number: u16) -> &Pattern
+    requires { number < length patterns.now }
+    ensures { slice_get patterns.now number ≡ Some result.now }
+{
+    &patterns[number as usize]
+}
+
+/// Puts a match behind those that are kept, where it is allowed, and says how many are kept then.
+fn keep(found: &mut Vec<Match>, kept: usize, z: Match, allowed: bool) -> usize
+    requires { kept < length found.old.items }
+    ensures found { found.new.items ≡ (if allowed then set found.old.items kept z else found.old.items) }
+    ensures kept { result ≡ (if allowed then kept + 1 else kept) }
+{
+    if allowed {
+        found[kept] = z;
+        return kept + 1;
+    }
+    kept
+}
+
+/// Keeps those matches that the classes and the constraints of their patterns allow, in their order. Takes no memory.
+fn keep_allowed(
+    patterns: &[Pattern],
+    position: &Position,
+    friend: Colour,
+    readings: &mut Readings,
+    found: &mut Vec<Match>,
+)
+    requires there { (z : MatchSeen) → Contains found.old.items z → IsFoundThere patterns.now position.now z }
+    ensures kept { found.new.items ≡ filter (λ z. is_allowed_at (codes_of readings.old) position.now friend (slice_get patterns.now z.pattern) z) found.old.items }
+    ensures follows { Follows readings.old readings.new }
+{
+    let mut friend_plays = Plays::new();
+    let mut enemy_plays = Plays::new();
+    let mut kept = 0;
+    'matches: for next in 0..found.len() {
+        let z = found[next];
+        let p = pattern_with(patterns, z.pattern);
+        let allowed = is_allowed(
+            p,
+            position,
+            friend,
+            &z,
+            readings,
+            &mut friend_plays,
+            &mut enemy_plays,
+        );
+        kept = keep(found, kept, z, allowed);
+    }
+    found.truncate(kept);
+}
+
 /// The matches of all patterns for a friend, sorted by the pattern's place in the list, the transformation and the point.
 ///
-/// They are found by the automaton alone: no diagram is compared with the board again. With the automaton of the patterns they
-/// are exactly where a pattern fits with a legal move. Takes memory, and answers `NoMemory` where there is none.
+/// Diagrams are found by the automaton alone: none is compared with the board again. With the automaton of the patterns the list
+/// is exactly that of the matches. Legality is asked before a reading, class `s` before class `n` and both before the constraint,
+/// and each play is read once. Takes all its memory before its first reading, and answers `NoMemory` where there is none.
 ///
 /// After GNU Go Manual, "The Pattern Code" and "The DFA pattern matcher".
 pub fn matches(
@@ -82,14 +160,19 @@ pub fn matches(
     machine: &Automaton,
     position: &Position,
     friend: Colour,
+    readings: &mut Readings,
 ) -> Result<Vec<Match>, NoMemory>
     requires numbers { (w : Word) (n : ℕ) → Contains (accepted machine.now w) n → n < length patterns.now }
-    ensures machine { IfOk result (λ v. v.items ≡ machine_matches machine.now patterns.now position.now friend) }
-    ensures patterns { IfOk result (λ v. IsMachineOf patterns.now machine.now → v.items ≡ matches_of patterns.now position.now friend) }
+    // For every automaton.
+    ensures machine { IfOk result (λ v. v.items ≡ machine_matches (codes_of readings.old) machine.now patterns.now position.now friend) }
+    // For that of the patterns.
+    ensures patterns { IfOk result (λ v. IsMachineOf patterns.now machine.now → v.items ≡ matches_of (codes_of readings.old) patterns.now position.now friend) }
+    // The depths of the readings are as before, and no count has fallen.
+    ensures follows { OnOk result (Follows readings.old readings.new) }
+    // Without memory nothing was read.
+    ensures unread { OnErr result (readings.new ≡ readings.old) }
 {
-    let mut watch = Watch::new(position);
-    let hits = scan(machine, &mut watch, friend, Vec::new(alloc))?;
-    let mut found = matches_among(alloc, patterns, position, friend, hits.as_slice())?;
-    found.sort_unstable();
+    let mut found = found_by(alloc, patterns, machine, position, friend)?;
+    keep_allowed(patterns, position, friend, readings, &mut found);
     Ok(found)
 }

@@ -1,4 +1,5 @@
-//! Matches: which patterns fit a position, where, and under which transformation, with a legal move.
+//! Matches: which patterns fit a position, where, and under which transformation, with a legal move that their classes and their
+//! constraints allow; and the readings that these ask for.
 //!
 //! A match names a pattern by its place in the list of patterns, counted from 0, a transformation, and the point of the
 //! pattern's move. `matches` finds them by an automaton, and answers for every automaton; with that of the patterns it is the
@@ -7,9 +8,14 @@
 //! After GNU Go Manual, "The Pattern Code" and "The DFA pattern matcher".
 #![tactic(auto)]
 
+mod allowing;
+mod asking;
 mod finder;
 pub mod laws;
 mod placing;
+mod plays;
+mod readings;
 
 pub use finder::matches;
 pub use match_rules::Match;
+pub use readings::Readings;

@@ -21,7 +21,7 @@ pub fn star_place(p: &Pattern, t: Transform, from: Point, size: Size) -> Option<
 }
 
 /// The point of a letter's cell, with the star at a point under a transformation; None exactly off the board.
-fn cell_place(
+pub fn cell_place(
     p: &Pattern,
     t: Transform,
     star: Point,

@@ -2,8 +2,9 @@
 use db_read::{DbError, read};
 use dfa_join::{JoinError, compile};
 use go_base::{Colour, Point, Position, Size};
-use match_engine::{Match, matches};
+use match_engine::{Match, Readings, matches};
 use pat_types::Pattern;
+use read_rules::Depths;
 use spiral::{OFFSETS, offset};
 use std::test::Fail;
 
@@ -62,6 +63,23 @@ fn rows_within(rt: &HostRuntime, text: &[u8], limit: u32) -> Result<Option<u32>,
     }
 }
 
+/// A board with stones of both colours.
+fn with_both(side: u8, black: &[Point], white: &[Point]) -> Result<Position, Fail> {
+    let mut position = with_stones(side, black)?;
+    for p in white {
+        if *p >= position.size().points() {
+            return Err("the stone stands on the board")?;
+        }
+        position = position.play(Colour::White, *p)?;
+    }
+    Ok(position)
+}
+
+/// The matches of the patterns of a text for black, read three plies deep, two of them wide.
+fn matches_read(rt: &HostRuntime, text: &[u8], position: &Position) -> Result<Vec<Match>, Fail> {
+    matches_by(rt, text, text, position, Colour::Black)
+}
+
 /// The matches of the patterns of a text for a friend, by the automaton of another text.
 fn matches_by(
     rt: &HostRuntime,
@@ -76,7 +94,16 @@ fn matches_by(
         return Err("the other list is no longer")?;
     }
     let machine = compile(rt.alloc(), &others, 10_000)?;
-    Ok(matches(rt.alloc(), &patterns, &machine, position, friend)?)
+    let depths = Depths::new(3, 2).ok_or("the depths are in range")?;
+    let mut readings = Readings::new(rt.alloc(), depths, 4096)?;
+    Ok(matches(
+        rt.alloc(),
+        &patterns,
+        &machine,
+        position,
+        friend,
+        &mut readings,
+    )?)
 }
 
 #[test]
@@ -285,6 +312,156 @@ fn the_longest_row_ends_in_the_last_column(rt: HostRuntime) -> Result<(), Fail> 
     for (row, m) in found.iter().enumerate() {
         assert_eq!(rt; m.transform.get(), 0, "row {row}");
         assert_eq!(rt; m.at as usize, row * 25 + 24, "row {row}");
+    }
+    Ok(())
+}
+
+/// A move between two white stones under a third, and what is around it.
+const UNDER_THREE: &[u8] = b"Pattern P\n?X?\nX*X\n:|";
+
+#[test]
+fn each_condition_alone_refuses_a_match(rt: HostRuntime) -> Result<(), Fail> {
+    let rows: [(&str, &[u8], &[Point], &[Point], &[Point]); 10] = [
+        (
+            "a stone that can be captured",
+            UNDER_THREE,
+            &[],
+            &[47, 49, 39],
+            &[],
+        ),
+        (
+            "is no matter with class s",
+            b"Pattern P\n?X?\nX*X\n:|,s",
+            &[],
+            &[47, 49, 39],
+            &[48],
+        ),
+        (
+            "whatever letter comes before it",
+            b"Pattern P\n?X?\nX*X\n:|,Xs",
+            &[],
+            &[47, 49, 39],
+            &[48],
+        ),
+        (
+            "an enemy's stone that lives there",
+            b"Pattern N\nO*\n:O,ns",
+            &[40],
+            &[],
+            &[41],
+        ),
+        (
+            "one that can be captured",
+            b"Pattern N\n*O\n:O,ns",
+            &[73],
+            &[],
+            &[],
+        ),
+        (
+            "one that may not be played",
+            b"Pattern N\n*O\n:O,ns",
+            &[73, 63],
+            &[],
+            &[],
+        ),
+        (
+            "and none that is asked for",
+            b"Pattern N\n*O\n:O,s",
+            &[73, 63],
+            &[],
+            &[72],
+        ),
+        (
+            "a constraint that is true",
+            b"Pattern C\nO*\n:O,s\nA*\n;lib(A)>3",
+            &[40],
+            &[],
+            &[41],
+        ),
+        (
+            "one that is false",
+            b"Pattern C\nO*\n:O,s\nA*\n;lib(A)>3",
+            &[36],
+            &[],
+            &[],
+        ),
+        (
+            "labels that are moved",
+            b"Pattern C\nO*X\n:8,s\nA*B\n;lib(A)<lib(B)",
+            &[0],
+            &[18],
+            &[9, 9],
+        ),
+    ];
+    for (what, text, black, white, want) in rows {
+        let position = with_both(9, black, white)?;
+        let found = matches_read(&rt, text, &position)?;
+        assert_eq!(rt; found.len(), want.len(), "{what}");
+        for (m, at) in found.iter().zip(want) {
+            assert_eq!(rt; m.at, *at, "{what}");
+        }
+    }
+    Ok(())
+}
+
+/// The sample database.
+const SAMPLE: &[u8] = b"# sample patterns
+attribute_map general
+
+Pattern Atari1
+# take away a liberty
+
+?O?       from the side
+OX*
+?.?
+
+:8,sX,value(20)
+
+?O?
+OA*
+?.?
+
+;lib(A)==2 && !xplay_attack(*,A)
+
+> test_attack(A)
+
+Pattern Edge1
+
+O*|       first line
+..|
+
+:8,D
+
+Pattern Block
+
+?o?
+X*X
+...
+
+:|,s,value(5)
+";
+
+#[test]
+fn sample_database_matches(rt: HostRuntime) -> Result<(), Fail> {
+    let position = with_both(9, &[31, 39, 70], &[40, 10, 12])?;
+    let found = matches_read(&rt, SAMPLE, &position)?;
+    let want = [
+        (0, 0, 41),
+        (0, 7, 49),
+        (1, 0, 71),
+        (1, 1, 79),
+        (1, 6, 71),
+        (1, 7, 79),
+        (2, 0, 11),
+        (2, 2, 11),
+    ];
+    assert_eq!(rt; found.len(), want.len(), "all of them");
+    for (m, (pattern, t, at)) in found.iter().zip(want) {
+        assert_eq!(rt;
+            (m.pattern, m.transform.get(), m.at),
+            (pattern, t, at),
+            "in order"
+        );
     }
     Ok(())
 }

@@ -1,4 +1,5 @@
 pub mod Lists
 pub mod Orders
 pub mod InWords
+pub mod Allowed
 pub mod Listed

@@ -1,18 +1,23 @@
 -- The matches of patterns on a position, in order: by the pattern's number, the transformation, and the point of the move.
--- A pattern asks for nothing here but its diagram and a legal move: constraints, classes and helpers are not evaluated.
-use Rattle.std.specs.Prelude.{◌≡◌, ℕ, ◌*◌, ◌<◌, ◌&&◌, ◌⊎◌, Bool, List, map, filter, Some, Ok, slice_get, Contains}
+-- A pattern asks for its diagram, for a legal move, and for what its classes and its constraint say; helpers are not asked.
+use Rattle.std.specs.Prelude.{◌≡◌, ◌≢◌, pos, ℕ, ◌*◌, ◌<◌, ◌&&◌, ◌⊎◌, Bool, List, map, filter, Some, Ok, slice_get, Contains}
 use Rattle.std.specs.List.{flat_map, enumerate_from, range_with_len, AllPairs}
 use Rattle.go_rules.specs.declared.Colour.{Colour}
-use Rattle.go_rules.specs.Position.{BoardState}
+use Rattle.go_rules.specs.Position.{BoardState, other}
 use Rattle.go_rules.specs.Play.{play, is_legal}
 use Rattle.pat_types.specs.declared.pattern.Pattern.{Pattern}
 use Rattle.pat_types.specs.Marks.{count_of}
 use Rattle.match_rules.specs.declared.found.Match.{Match}
+use Rattle.pat_types.specs.declared.expr.Expr.{Expr}
+use Rattle.cons_eval.specs.Readings.{Codes}
+use Rattle.cons_eval.specs.Values.{value_of}
 use Rattle.match_rules.specs.Fits.{fits, Fits}
+use Rattle.match_rules.specs.Conditions.{unsafe_class, enemy_class, IsSafePlay, meanings_at, is_allowed}
 
--- whether the pattern matches at m under t: it fits there, and the friend's play at m is legal
-abbrev pub is_match : Pattern → BoardState → Colour → ℕ → ℕ → Bool
-is_match p board friend t m = fits p board friend t m && is_legal board friend m
+-- whether the pattern matches at m under t: it fits there, the friend's play at m is legal, and its classes and its constraint
+-- allow it
+abbrev pub is_match : Codes → Pattern → BoardState → Colour → ℕ → ℕ → Bool
+is_match code p board friend t m = fits p board friend t m && (is_legal board friend m && is_allowed code p board friend t m)
 
 -- the matches of the pattern with this number under t, by a test of the points of a board of size s
 abbrev pub matches_under : (ℕ → Bool) → ℕ → ℕ → ℕ → List Match
@@ -27,24 +32,30 @@ abbrev pub matches_by : (ℕ → Pattern → ℕ → ℕ → Bool) → List Patt
 matches_by test patterns s = flat_map (λ numbered. matches_of_one (test numbered.0 numbered.1) numbered.0 numbered.1 s) (enumerate_from 0 patterns)
 
 -- the matches of the patterns for a friend: each pattern under each transformation of its mark at each point where it matches
-unfoldable pub matches_of : List Pattern → BoardState → Colour → List Match
-matches_of patterns board friend = matches_by (λ number p t m. is_match p board friend t m) patterns board.size
+unfoldable pub matches_of : Codes → List Pattern → BoardState → Colour → List Match
+matches_of code patterns board friend = matches_by (λ number p t m. is_match code p board friend t m) patterns board.size
 
--- z is a match of the patterns for a friend
-pub record IsMatch (patterns : List Pattern) (board : BoardState) (friend : Colour) (z : Match) : Type 0 where
+-- z is a match of the patterns for a friend, where this is the code of each reading
+pub record IsMatch (code : Codes) (patterns : List Pattern) (board : BoardState) (friend : Colour) (z : Match) : Type 0 where
   pub pattern : Pattern
   pub number : slice_get patterns z.pattern ≡ Some pattern
   pub transform : z.transform < count_of pattern.mark
   pub on_board : z.at < board.size * board.size
   pub fits : Fits pattern board friend z.transform z.at
   pub legal : (next : BoardState) × (play board friend z.at ≡ Ok next)
+  -- unless class s is there, the stone cannot be captured after the play
+  pub safe : Contains pattern.classes unsafe_class ⊎ IsSafePlay code board friend z.at
+  -- with class n the enemy's play at the same point is legal, and that stone cannot be captured either
+  pub enemy_safe : Contains pattern.classes enemy_class → IsSafePlay code board (other friend) z.at
+  -- the constraint, if there is one, has a value other than 0 at the moved labels
+  pub constraint_true : (e : Expr) → pattern.constraint ≡ Some e → value_of (meanings_at code pattern board friend z.transform z.at) e ≢ pos 0
 
 -- y comes before z: by the pattern's number, then by the transformation, then by the point
 abbrev pub ComesBefore : Match → Match → Type 0
 ComesBefore y z = (y.pattern < z.pattern) ⊎ ((y.pattern ≡ z.pattern) × ((y.transform < z.transform) ⊎ ((y.transform ≡ z.transform) × (y.at < z.at))))
 
 -- the list has exactly the matches, each once, in order
-pub record AreMatches (patterns : List Pattern) (board : BoardState) (friend : Colour) (zs : List Match) : Type 0 where
-  pub sound : (z : Match) → Contains zs z → IsMatch patterns board friend z
-  pub complete : (z : Match) → IsMatch patterns board friend z → Contains zs z
+pub record AreMatches (code : Codes) (patterns : List Pattern) (board : BoardState) (friend : Colour) (zs : List Match) : Type 0 where
+  pub sound : (z : Match) → Contains zs z → IsMatch code patterns board friend z
+  pub complete : (z : Match) → IsMatch code patterns board friend z → Contains zs z
   pub in_order : AllPairs ComesBefore zs

@@ -1,34 +1,27 @@
-use Rattle.std.proofs.Common.{◌≡◌, ◌∙◌, ◌*◌, ◌<◌, ap, subst, Contains}
-use Rattle.std.specs.List.{filter_map}
-use Rattle.dfa_match.specs.Hits.{AreHits}
+use Rattle.std.proofs.Common.{◌≡◌, ◌∙◌, ap, subst, filter, Contains}
 use Rattle.match_engine.specs.MachineMatches.{machine_matches}
-use Rattle.match_engine.proofs.Machine.{made, sorted_matches}
-use Rattle.match_engine.proofs.Patterns.{same_by_machine}
+use Rattle.match_engine.specs.Readings.{codes_of}
+use Rattle.match_engine.proofs.Patterns.{allows, filtered, found-there, same_by_machine}
 use Rattle.match_engine.proofs.finder.matches.Goals as goal
 
--- each number of a hit is accepted after some word
-pub matches_among-requires-clause-numbers : goal.matches_among-requires-clause-numbers
-matches_among-requires-clause-numbers c = λ hit there.
-    let is = c.in_ok-hits.ensures.hits.sound hit (subst (λ xs. Contains xs hit) c.as_slice.ensures.value there) in c.requires.numbers _ hit.pattern is.accepts
+-- what was found is of the patterns, and lies on the board
+pub keep_allowed-requires : goal.keep_allowed-requires
+keep_allowed-requires c = record {
+  there = λ z there.
+      found-there (codes_of c.args.readings.now) c.args.patterns.now c.args.machine.now c.args.position.now c.args.friend z (subst (λ zs. Contains zs z) c.in_ok-found.ensures.found there);
+}
 
--- each hit has its anchor on the board
-pub matches_among-requires-clause-anchors : goal.matches_among-requires-clause-anchors
-matches_among-requires-clause-anchors c = λ hit there.
-    let is = c.in_ok-hits.ensures.hits.sound hit (subst (λ xs. Contains xs hit) c.as_slice.ensures.value there) in
-    subst (λ b. hit.anchor < b.size * b.size) c.new-watch.ensures.shows is.anchor
-
--- the sorted matches of the hits are those of the machine
-by_machine : (c : goal.After-drop-hits-2) → c.sort_unstable.new.self.items ≡ machine_matches c.args.machine.now c.args.patterns.now c.args.position.now c.args.friend
+-- those that are allowed are the matches by the machine
+by_machine : (c : goal.After-keep_allowed) → c.keep_allowed.new.found.items ≡ machine_matches (codes_of c.args.readings.now) c.args.machine.now c.args.patterns.now c.args.position.now c.args.friend
 by_machine c =
-    sorted_matches c.args.machine.now c.args.position.now c.args.friend c.args.patterns.now c.in_ok-hits.hits.items c.in_ok-found.found.items c.sort_unstable.new.self.items
-    (subst (λ b. AreHits c.args.machine.now b c.args.friend c.in_ok-hits.hits.items) c.new-watch.ensures.shows c.in_ok-hits.ensures.hits)
-    (c.in_ok-found.ensures ∙ ap (filter_map (made c.args.patterns.now c.args.position.now c.args.friend)) c.as_slice.ensures.value)
-    c.sort_unstable.ensures.permutation c.sort_unstable.ensures.sorted
+    c.keep_allowed.ensures.kept
+    ∙ ap (filter (allows (codes_of c.args.readings.now) c.args.patterns.now c.args.machine.now c.args.position.now c.args.friend)) c.in_ok-found.ensures.found
+    ∙ filtered (codes_of c.args.readings.now) c.args.patterns.now c.args.machine.now c.args.position.now c.args.friend
 
 pub returns-clause-machine : goal.returns-clause-machine
 returns-clause-machine c = by_machine c
 
 -- and those of the patterns, where the machine is theirs
 pub returns-clause-patterns : goal.returns-clause-patterns
-returns-clause-patterns c = λ accepts.
-    by_machine c ∙ same_by_machine c.args.patterns.now c.args.machine.now c.args.position.now c.args.friend accepts
+returns-clause-patterns c = λ theirs.
+    by_machine c ∙ same_by_machine (codes_of c.args.readings.now) c.args.patterns.now c.args.machine.now c.args.position.now c.args.friend theirs

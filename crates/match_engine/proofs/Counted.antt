@@ -1,0 +1,26 @@
+-- Readings after one another.
+use Rattle.std.proofs.Common.{◌≡◌, ℕ, ◌+◌, ◌-◌, ◌^◌, ◌≤◌, min, Option, Some, inl, refl, sym, ap, ◌∙◌, arith}
+use Rattle.cons_eval.specs.Readings.{Codes}
+use Rattle.match_engine.specs.Readings.{ReadingsView, raised, codes_at, codes_of, HasRead, Follows}
+
+-- no reading changes nothing
+pub Follows-refl : (r : ReadingsView) → Follows r r
+Follows-refl r = record { plies = refl; wide = refl; fresh = omega arith; trials = omega arith; refused = omega arith }
+
+-- readings after readings
+pub Follows-trans : (a b c : ReadingsView) → Follows a b → Follows b c → Follows a c
+Follows-trans a b c first next = record {
+  plies = next.plies ∙ first.plies;
+  wide = next.wide ∙ first.wide;
+  fresh = omega (arith, first.fresh, next.fresh);
+  trials = omega (arith, first.trials, next.trials);
+  refused = omega (arith, first.refused, next.refused);
+}
+
+-- the codes are those of before
+pub codes_stay : (a b : ReadingsView) → Follows a b → codes_of b ≡ codes_of a
+codes_stay a b f = ap (λ n. codes_at n b.wide) f.plies ∙ ap (codes_at a.plies) f.wide
+
+-- a count that is raised does not fall
+pub raised-most : (count n : ℕ) → count ≤ 2 ^ 64 - 1 → count ≤ raised count n
+raised-most count n most = omega (arith, most)

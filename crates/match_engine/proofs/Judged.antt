@@ -1,0 +1,26 @@
+-- The conditions of a match, one after another.
+use Rattle.std.proofs.Common.{◌≡◌, ℕ, Bool, true, false, ◌&&◌, sym, ap, ◌∙◌}
+use Rattle.std.proofs.lemmas.Bool.{and_left}
+use Rattle.go_rules.specs.declared.Colour.{Colour}
+use Rattle.go_rules.specs.Position.{BoardState}
+use Rattle.pat_types.specs.declared.pattern.Pattern.{Pattern}
+use Rattle.cons_eval.specs.Readings.{Codes}
+use Rattle.match_rules.specs.Conditions.{is_safe, is_enemy_safe, is_constraint_true, is_allowed}
+
+module _ (code : Codes) (p : Pattern) (board : BoardState) (friend : Colour) (t m : ℕ) where
+  -- a friend's stone that is not safe settles it
+  pub unsafe_refused : is_safe code p board friend m ≡ false → false ≡ is_allowed code p board friend t m
+  unfolding is_allowed
+  unsafe_refused e = sym (ap (λ b. b && (is_enemy_safe code p board friend m && is_constraint_true code p board friend t m)) e)
+
+  -- so does an enemy's
+  pub enemy_refused : is_safe code p board friend m ≡ true → is_enemy_safe code p board friend m ≡ false → false ≡ is_allowed code p board friend t m
+  unfolding is_allowed
+  enemy_refused safe e =
+      sym (ap (λ b. b && (is_enemy_safe code p board friend m && is_constraint_true code p board friend t m)) safe ∙ ap (λ b. b && is_constraint_true code p board friend t m) e)
+
+  -- else the constraint does
+  pub by_constraint : is_safe code p board friend m ≡ true → is_enemy_safe code p board friend m ≡ true → is_constraint_true code p board friend t m ≡ is_allowed code p board friend t m
+  unfolding is_allowed
+  by_constraint safe enemy =
+      sym (ap (λ b. b && (is_enemy_safe code p board friend m && is_constraint_true code p board friend t m)) safe ∙ ap (λ b. b && is_constraint_true code p board friend t m) enemy)

@@ -1,0 +1,30 @@
+-- What a constraint asks, as its evaluation sees it.
+use Rattle.std.specs.Prelude.{◌≡◌, ℕ, ◌∷◌, [], IsSome, Some, None, refl}
+use Rattle.go_rules.specs.declared.Colour.{Colour}
+use Rattle.go_rules.specs.Position.{BoardState}
+use Rattle.pat_types.specs.declared.pattern.Pattern.{Pattern}
+use Rattle.pat_types.specs.declared.expr.Arg.TheVariants.{Star, Nowhere}
+use Rattle.cons_eval.specs.Meanings.{EnvView}
+use Rattle.match_rules.specs.Conditions.{meanings_at}
+use Rattle.match_engine.specs.declared.asking.Asking.{Asking}
+use Rattle.match_engine.specs.Readings.{ReadingsView, codes_of}
+
+-- the meanings of the pattern at m under t, by the codes of the present readings; the depths of these stay, and their counts may rise
+abbrev pub asked : Pattern → BoardState → Colour → ℕ → ℕ → ReadingsView → EnvView
+asked p board friend t m r = record {
+  meanings = meanings_at (codes_of r) p board friend t m;
+  fixed = r.plies ∷ r.wide ∷ [];
+  counts = r.fresh ∷ r.trials ∷ r.refused ∷ [];
+}
+
+-- what is asked of a match, and by which readings
+abbrev pub view_of : Asking → EnvView
+view_of e = asked e.pattern.now e.position.now e.friend e.transform e.star e.readings
+
+-- a pass has no point
+pub nowhere_none : (e : Asking) → (view_of e).meanings.point Nowhere ≡ None
+nowhere_none e = refl
+
+-- the star has one
+pub star_some : (e : Asking) → IsSome ((view_of e).meanings.point Star)
+star_some e = refl

@@ -1,0 +1,95 @@
+//! Whether the classes and the constraint of a pattern allow a move. What costs nothing is asked first.
+ghost use Rattle.std.specs.Prelude.{◌≡◌, ◌*◌, ◌<◌, true};
+ghost use Rattle.go_rules.specs.Position.{other};
+ghost use Rattle.match_rules.specs.Conditions.{has_class, is_safe, is_enemy_safe, is_allowed as is_allowed_by, unsafe_class, enemy_class};
+ghost use Rattle.match_engine.specs.Readings.{Follows, codes_of};
+ghost use Rattle.match_engine.specs.Remembered.{Remembers};
+
+use crate::asking::is_constraint_true;
+use crate::plays::Plays;
+use crate::readings::Readings;
+use go_base::{Colour, Point, Position};
+use match_rules::Match;
+use pat_types::Pattern;
+
+/// The class letter of a move whose stone need not be safe.
+const UNSAFE_CLASS: u8 = b's';
+
+/// The class letter of a move that the enemy could make safely too.
+const ENEMY_CLASS: u8 = b'n';
+
+/// Whether a pattern has a class letter.
+fn has_class(p: &Pattern, letter: u8) -> bool
+    ensures { result ≡ has_class p.now letter }
+{
+    p.classes.as_slice().contains(&letter)
+}
+
+/// Whether the friend's stone is safe at a point, where it has to be.
+fn is_safe(
+    p: &Pattern,
+    position: &Position,
+    friend: Colour,
+    at: Point,
+    readings: &mut Readings,
+    plays: &mut Plays,
+) -> bool
+    requires on_board { at < position.now.size * position.now.size }
+    requires remembers { Remembers (codes_of readings.old) position.now friend plays.old }
+    ensures value { result ≡ is_safe (codes_of readings.old) p.now position.now friend at }
+    ensures remembers { Remembers (codes_of readings.old) position.now friend plays.new }
+    ensures follows { Follows readings.old readings.new }
+{
+    if has_class(p, UNSAFE_CLASS) {
+        return true;
+    }
+    plays.is_safe(readings, position, friend, at)
+}
+
+/// Whether the enemy could play at a point and be safe, where that is asked for.
+fn is_enemy_safe(
+    p: &Pattern,
+    position: &Position,
+    friend: Colour,
+    at: Point,
+    readings: &mut Readings,
+    plays: &mut Plays,
+) -> bool
+    requires on_board { at < position.now.size * position.now.size }
+    requires remembers { Remembers (codes_of readings.old) position.now (other friend) plays.old }
+    ensures value { result ≡ is_enemy_safe (codes_of readings.old) p.now position.now friend at }
+    ensures remembers { Remembers (codes_of readings.old) position.now (other friend) plays.new }
+    ensures follows { Follows readings.old readings.new }
+{
+    if !has_class(p, ENEMY_CLASS) {
+        return true;
+    }
+    plays.is_safe(readings, position, friend.other(), at)
+}
+
+/// Whether the classes and the constraint of a pattern allow the friend's move, which is legal.
+pub fn is_allowed(
+    p: &Pattern,
+    position: &Position,
+    friend: Colour,
+    z: &Match,
+    readings: &mut Readings,
+    friend_plays: &mut Plays,
+    enemy_plays: &mut Plays,
+) -> bool
+    requires on_board { z.now.at < position.now.size * position.now.size }
+    requires friend_plays { Remembers (codes_of readings.old) position.now friend friend_plays.old }
+    requires enemy_plays { Remembers (codes_of readings.old) position.now (other friend) enemy_plays.old }
+    ensures value { result ≡ is_allowed_by (codes_of readings.old) p.now position.now friend z.now.transform z.now.at }
+    ensures friend_plays { Remembers (codes_of readings.old) position.now friend friend_plays.new }
+    ensures enemy_plays { Remembers (codes_of readings.old) position.now (other friend) enemy_plays.new }
+    ensures follows { Follows readings.old readings.new }
+{
+    if !is_safe(p, position, friend, z.at, readings, friend_plays) {
+        return false;
+    }
+    if !is_enemy_safe(p, position, friend, z.at, readings, enemy_plays) {
+        return false;
+    }
+    is_constraint_true(p, position, friend, z, readings)
+}
