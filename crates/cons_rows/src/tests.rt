@@ -29,6 +29,17 @@ const ATARI: &str = ".X...XO....X......OO.....";
 /// A play of Black at 6 takes 7, and White may not retake at once.
 const KO: &str = ".OX..O.OX..OX............";
 
+/// The position after a stone is put, with the ban dropped.
+fn played(position: &Position, colour: Colour, p: usize) -> Result<Position, Fail> {
+    if p >= usize::from(position.size().points()) {
+        return Err("the point is on the board")?;
+    }
+    let next = position
+        .play_free(colour, p as u16)
+        .map_err(|_| "a stone may stand there")?;
+    Ok(next)
+}
+
 /// The position of a drawing.
 fn drawn(drawing: &str) -> Result<Position, Fail> {
     let size = Size::new(5).ok_or("five rows are a size")?;
@@ -39,12 +50,7 @@ fn drawn(drawing: &str) -> Result<Position, Fail> {
             b'O' => Colour::White,
             _ => continue,
         };
-        if p >= usize::from(position.size().points()) {
-            return Err("the drawing has as many points as the board")?;
-        }
-        position = position
-            .play_free(colour, p as u16)
-            .map_err(|_| "a stone may stand there")?;
+        position = played(&position, colour, p)?;
     }
     Ok(position)
 }
@@ -126,9 +132,7 @@ fn functions_on_a_stone_in_atari(rt: HostRuntime) -> Result<(), Fail> {
 #[test]
 fn functions_on_a_ko(rt: HostRuntime) -> Result<(), Fail> {
     let before = drawn(KO)?;
-    let after = before
-        .play_free(Colour::Black, 6)
-        .map_err(|_| "Black may take")?;
+    let after = played(&before, Colour::Black, 6)?;
     for (position, text, a, want) in [
         (before, "ko(A)", 6, 1),
         (before, "ko(A)", 7, 0),
