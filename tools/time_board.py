@@ -2,8 +2,8 @@
 
 usage: python3 tools/time_board.py GOPAT GNUGO RECORD.sgf [REPEATS]
 
-Each group of lines is sent again and again (REPEATS, 2000 unless given) after the moves that it needs. The time of a session
-that only makes these moves is taken off. Each session is run three times, and the shortest counts.
+Each group of lines is sent again and again (REPEATS, 2000 unless given) after the moves that it needs. The time of a
+session that only makes these moves is taken off. Each session is run three times, and the shortest counts.
 """
 
 import sys
