@@ -1,23 +1,13 @@
 -- What the last move took.
-use Rattle.std.proofs.Common.{◌≡◌, ℕ, ◌+◌, ◌-◌, ◌<◌, List, [], ◌∷◌, ◌++◌, length, take, get_or, sym, ap, arith, ◌∙◌}
-use Rattle.std.proofs.lemmas.List.{same_from_push, take_all, take_more}
+use Rattle.std.proofs.Common.{◌≡◌, ℕ, ◌-◌, List, [], ◌∷◌, ◌++◌, length, take, get_or, sym, ap, arith, ◌∙◌}
+use Rattle.std.proofs.lemmas.List.{same_from_push}
 use Rattle.go_rules.specs.declared.Move.{Move}
-use Rattle.go_rules.specs.Board.{largest_points}
 use Rattle.go_rules.specs.Replay.{taken_by, replay_from}
 use Rattle.go_strings.specs.declared.board.StringBoard.TheInside.{Inside}
 use Rattle.go_strings.specs.declared.standing.Past.{Past}
-use Rattle.go_strings.specs.Trails.{position_in}
-use Rattle.go_strings.specs.Games.{BoardGame, game_of, moves_of, IsKept}
-use Rattle.go_strings.proofs.Leading.{leads_last, moves_push}
-
--- a list that is not empty ends with its last
-last_split : (xs : List Past) (n : ℕ) (v : Past) → n ≡ length xs → (n ≡ 0 → ⊥) → v ≡ get_or xs (n - 1) v
-    → xs ≡ take (n - 1) xs ++ v ∷ []
-last_split xs n v long some is =
-    let within : n - 1 < length xs = omega (arith, long, some) in
-    let next : n - 1 + 1 ≡ length xs = omega (arith, long, some) in
-    sym (take_all (length xs) xs (omega arith)) ∙ ap (λ k. take k xs) (sym next) ∙ take_more xs (n - 1) v within
-    ∙ ap (λ w. take (n - 1) xs ++ w ∷ []) (sym is)
+use Rattle.go_strings.specs.Games.{BoardGame, game_of, moves_of, moment_of, IsKept}
+use Rattle.go_strings.proofs.Noting.{last_split}
+use Rattle.go_strings.proofs.Leading.{trail_taken, moves_push}
 
 -- the last move of the trail is the last of the game, and took as many stones as it says
 pub last_taken_is : (a : Inside) (game : BoardGame) (n : ℕ) (v : Past) (moves : List Move) (m : Move) → IsKept a
@@ -29,9 +19,7 @@ last_taken_is a game n v moves m kept view long some read is =
     let all : moves_of vs ++ v.made ∷ [] ≡ moves ++ m ∷ [] =
     sym (moves_push vs v) ∙ ap moves_of (sym trail) ∙ ap (λ (g : BoardGame). g.moves) view ∙ is in
     let same = same_from_push (moves_of vs) moves v.made m all in
-    let last = leads_last a.strings.items largest_points a.base a.past.items vs (position_in a.present) a.present.kept v
-    trail kept.leads in
-    last.taken
+    trail_taken a.base a.past.items vs v (moment_of a) trail kept.leads
     ∙ ap (λ b. taken_by (replay_from b (moves_of vs)) v.made.colour v.made.at) (ap (λ (g : BoardGame). g.base) view)
     ∙ ap (λ ms. taken_by (replay_from game.base ms) v.made.colour v.made.at) same.0
     ∙ ap (λ (k : Move). taken_by (replay_from game.base moves) k.colour k.at) same.1

@@ -21,9 +21,11 @@ string-none s cells p free = same_sets _ _ (λ q t. absurd (in_none q t))
     (λ q t. absurd (both_ways (is_stone (cell_at cells p)) (ap is_stone free) (string_gives s cells p q t).stone))
 
 -- and no liberties
-pub liberties-none : (s : _) (cells : List Cell) (p : _) → cell_at cells p ≡ Empty → sets.empty ≡ liberty_points s cells p
+pub liberties-none : (s : _) (cells : List Cell) (p : _) → cell_at cells p ≡ Empty
+    → sets.empty ≡ liberty_points s cells p
 liberties-none s cells p free = same_sets _ _ (λ q t. absurd (in_none q t))
-    (λ l t. absurd (both_ways (is_stone (cell_at cells p)) (ap is_stone free) (liberty_gives s cells p l t).beside.1.stone))
+    (λ l t. absurd (both_ways (is_stone (cell_at cells p)) (ap is_stone free)
+    (liberty_gives s cells p l t).beside.1.stone))
 
 -- a play that nothing forbids is legal
 pub legal_where_none : (r : Result BoardState Illegal) → refusal_of r ≡ None → true ≡ is_ok r

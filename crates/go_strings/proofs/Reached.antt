@@ -12,7 +12,7 @@ shown a game kept view = ap reached (sym view) ∙ kept_reached a kept
 
 -- it is a position
 pub shown_sound : (a : Inside) (game : BoardGame) → IsKept a → game_of a ≡ game → IsPosition (reached game)
-shown_sound a game kept view = subst IsPosition (sym (shown a game kept view)) kept.holds.position
+shown_sound a game kept view = subst IsPosition (sym (shown a game kept view)) kept.sound.holds.position
 
 -- a point on the board that is shown is on the board that stands
 pub shown_point : (a : Inside) (game : BoardGame) (p : ℕ) → IsKept a → game_of a ≡ game

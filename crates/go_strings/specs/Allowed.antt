@@ -10,7 +10,8 @@ use Rattle.go_strings.specs.Puts.{Puts}
 use Rattle.go_strings.specs.Stands.{cells_of}
 use Rattle.go_strings.specs.Trails.{position_in}
 
--- c may play at the empty point p: its stone will have this string, with these liberties before any stone is taken, and takes these
+-- c may play at the empty point p: its stone will have this string, with these liberties before any stone is taken, and
+-- it takes these
 pub record IsAllowed (now : Standing) (c : Colour) (p : ℕ) (met : Met) : Type 0 where
   pub put : Puts now.board.size (cells_of now.board) c p
   pub own : IsOf now.board.size (slice_set (cells_of now.board) p (stone_of c)) p met.own

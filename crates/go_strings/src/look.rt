@@ -1,4 +1,5 @@
-//! A board that keeps its strings, seen as a view of its position: the answers are the board's own, and no facts are stored.
+//! A board that keeps its strings, seen as a view of its position: the answers are the board's own, and no facts are
+//! stored.
 
 ghost use Rattle.std.specs.Prelude.{◌≡◌};
 ghost use Rattle.go_base.specs.Facts.{Agrees, Agrees-prop};

@@ -1,4 +1,5 @@
-//! What may be asked of a board between its moves. Its strings are kept, so no answer searches for one, and none takes memory.
+//! What may be asked of a board between its moves. Its strings are kept, so no answer searches for one, and none takes
+//! memory.
 
 ghost use Rattle.std.specs.Prelude.{◌≡◌, ◌*◌, ◌<◌};
 ghost use Rattle.go_rules.specs.Play.{is_legal, legal_points};

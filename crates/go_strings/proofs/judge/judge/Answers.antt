@@ -31,7 +31,8 @@ returns-then-is_suicide-clause-refused c =
     let at = goal.at.returns-then-is_suicide-clause-refused c in
     let none = c.is_suicide.ensures.yes c.if-is_suicide.true in
     judged_suicide c.args.now.now c.args.strings.now c.args.c c.args.p c.requires.stands c.requires.holds
-    c.requires.on_board (sym (stone_was at.After-ne) ∙ c.if-ne.false) (sym c.is_banned.ensures ∙ c.if-is_banned.false)
+    c.requires.on_board (sym (stone_was at.After-ne) ∙ c.if-ne.false) (sym c.is_banned.ensures
+    ∙ c.if-is_banned.false)
     c.gather-met.result c.gather-met.ensures none.0 none.1
 
 -- the play is allowed
@@ -39,5 +40,6 @@ pub returns-clause-allowed : goal.returns-clause-allowed
 returns-clause-allowed c =
     let at = goal.at.returns-clause-allowed c in
     judged_allowed c.args.now.now c.args.strings.now c.args.c c.args.p c.requires.stands c.requires.holds
-    c.requires.on_board (sym (stone_was at.After-ne) ∙ c.if-ne.false) (sym c.is_banned.ensures ∙ c.if-is_banned.false)
+    c.requires.on_board (sym (stone_was at.After-ne) ∙ c.if-ne.false) (sym c.is_banned.ensures
+    ∙ c.if-is_banned.false)
     c.gather-met.result c.gather-met.ensures (c.is_suicide.ensures.more c.if-is_suicide.false)
