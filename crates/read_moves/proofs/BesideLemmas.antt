@@ -14,7 +14,8 @@ use Rattle.go_base.specs.Views.{alone, neighbours_of}
 use Rattle.go_base.proofs.Beside.{neighbour_at-all, neighbour_at-near}
 use Rattle.read_rules.specs.Candidates.{is_empty_beside}
 
-same_tests : (a b : Bool) → (a ≡ true → b ≡ true) → (b ≡ true → a ≡ true) → a ≡ b
+-- two tests that follow from each other are the same
+pub same_tests : (a b : Bool) → (a ≡ true → b ≡ true) → (b ≡ true → a ≡ true) → a ≡ b
 same_tests true true f g = refl
 same_tests false false f g = refl
 same_tests true false f g = sym (f refl)

@@ -1,59 +1,148 @@
--- What the candidates are, by the sets that are gathered.
+-- What the candidates are, by the sets that are gathered, and where they are looked for.
 use Rattle.std.proofs.Common.{◌≡◌, ℕ, ◌*◌, ◌<◌, ◌&&◌, ◌||◌, Bool, true, false, ltb, List, refl, sym, ap, ◌∙◌}
-use Rattle.std.proofs.lemmas.Bool.{and_parts, ltb-true}
+use Rattle.std.proofs.lemmas.Bool.{and_parts, and_from, ltb-true, eqb-true}
 use Rattle.std.specs.Ordering.{nat_cmp}
 use Rattle.std.specs.FinSet as sets
 use Rattle.go_rules.specs.declared.Cell.{Cell}
 use Rattle.go_rules.specs.declared.Cell.TheVariants.{Empty}
+use Rattle.go_rules.specs.declared.Colour.{Colour}
 use Rattle.go_rules.specs.Board.{are_neighbours}
 use Rattle.go_rules.specs.Below.{any_below}
-use Rattle.go_rules.specs.Strings.{cell_at, same_cell, is_liberty, liberties, liberty_points}
+use Rattle.go_rules.specs.Strings.{cell_at, same_cell, is_liberty, liberties, liberty_points, IsLiberty}
 use Rattle.go_rules.specs.Neighbourhood.{neighbourhood_of}
 use Rattle.go_rules.specs.Position.{BoardState}
-use Rattle.go_rules.proofs.Counts.{any_below_gives, any_below_same}
+use Rattle.go_rules.specs.Play.{play_free}
+use Rattle.go_rules.proofs.Counts.{any_below_gives, any_below_from, any_below_same}
 use Rattle.go_rules.proofs.Paths.{IsLiberty-from_test, is_is_in_string-from_fact}
 use Rattle.go_base.specs.Surroundings.{is_last_liberty_of_enemy}
 use Rattle.go_base.specs.Views.{alone, neighbours_of}
-use Rattle.go_base.proofs.Closing.{whole_self, whole_string, close_next, alone_self}
+use Rattle.go_base.proofs.Closing.{whole_self, whole_string, close_next, close_again, close_alone, close_mono, alone_self}
 use Rattle.go_base.proofs.LastLiberties.{contains-liberty_points}
+use Rattle.go_base.proofs.Liberties.{len-liberty_points}
 use Rattle.trial_board.specs.Overlays.{neighbourhood_twice}
-use Rattle.read_rules.specs.Candidates.{is_empty_beside, is_candidate}
+use Rattle.read_rules.specs.Candidates.{attacker_of, is_empty_beside, leaves_only, is_backfilling, is_candidate, near_candidates}
+use Rattle.read_moves.specs.Steps.{is_left}
+use Rattle.read_moves.proofs.BesideLemmas.{same_tests}
 
+-- which empty points are beside points of a set depends on the set's members alone
 empty_beside_same : (s : ℕ) (cells : List Cell) (S T : ℕ → Bool) (q : ℕ) → ((l : ℕ) → S l ≡ T l) → is_empty_beside s cells S q ≡ is_empty_beside s cells T q
 unfolding is_empty_beside
 empty_beside_same s cells S T q h = ap (λ b. ltb q (s * s) && same_cell (cell_at cells q) Empty && b) (any_below_same (s * s) _ _ (λ k l. ap (λ b. b && are_neighbours s k q) (h k)))
 
--- the candidates by the parts that were gathered
-pub candidate_is : (here : BoardState) (s target k p : ℕ) (x b : Bool) (libs last : sets.FinSet nat_cmp) → here.size ≡ s → libs ≡ liberty_points s here.cells target
-    → sets.contains last p ≡ is_last_liberty_of_enemy s here.cells target p → b ≡ (ltb 0 k && ltb (liberties s here.cells target) 3)
-    → x ≡ ((sets.contains last p || sets.contains libs p) || (b && is_empty_beside s here.cells (sets.contains libs) p)) → x ≡ is_candidate here target k p
-unfolding is_candidate
-candidate_is here s target k p x b libs last es el et eb ex =
-    let at = λ (l : ℕ). ap (λ t. sets.contains t l) el ∙ contains-liberty_points s here.cells target l in
-    ex ∙ ap (λ y. (y || sets.contains libs p) || (b && is_empty_beside s here.cells (sets.contains libs) p)) et
-    ∙ ap (λ y. (is_last_liberty_of_enemy s here.cells target p || y) || (b && is_empty_beside s here.cells (sets.contains libs) p)) (at p)
-    ∙ ap (λ y. (is_last_liberty_of_enemy s here.cells target p || is_liberty s here.cells target p) || (b && y)) (empty_beside_same s here.cells (sets.contains libs) (is_liberty s here.cells target) p at)
-    ∙ ap (λ y. (is_last_liberty_of_enemy s here.cells target p || is_liberty s here.cells target p) || (y && is_empty_beside s here.cells (is_liberty s here.cells target) p)) eb
-    ∙ or_turned (is_last_liberty_of_enemy s here.cells target p) (is_liberty s here.cells target p) _
-    ∙ ap (λ n. (is_liberty n here.cells target p || ((ltb 0 k && ltb (liberties n here.cells target) 3) && is_empty_beside n here.cells (is_liberty n here.cells target) p)) || is_last_liberty_of_enemy n here.cells target p) (sym es)
-  where
-    or_turned : (a b t : Bool) → ((a || b) || t) ≡ ((b || t) || a)
-    or_turned true true t = refl
-    or_turned true false true = refl
-    or_turned true false false = refl
-    or_turned false true t = refl
-    or_turned false false true = refl
-    or_turned false false false = refl
+-- the set of the liberties has the liberties, and as many
+has_liberty : (s : ℕ) (cells : List Cell) (target l : ℕ) (libs : sets.FinSet nat_cmp) → libs ≡ liberty_points s cells target
+    → sets.contains libs l ≡ is_liberty s cells target l
+has_liberty s cells target l libs el = ap (λ t. sets.contains t l) el ∙ contains-liberty_points s cells target l
 
--- the neighbours of the liberties are close to what is close to the target
-pub near_liberties : (s : ℕ) (cells : List Cell) (t r : ℕ) (libs : sets.FinSet nat_cmp) → t < s * s → libs ≡ liberty_points s cells t
-    → any_below (s * s) (λ l. sets.contains libs l && neighbours_of s l r) ≡ true → neighbourhood_twice s cells t r ≡ true
-near_liberties s cells t r libs on e h =
-    let it = any_below_gives (s * s) _ h in
-    let both = and_parts _ _ it.2 in
-    let lib = IsLiberty-from_test s cells t it.0 (sym (ap (λ x. sets.contains x it.0) e ∙ contains-liberty_points s cells t it.0) ∙ both.0) in
-    let q = lib.beside in
-    let q_in = is_is_in_string-from_fact s cells t q.0 on q.1 in
-    let close = close_next s cells (alone t) q.0 it.0 it.1 (whole_string s cells (alone t) t q.0 on (alone_self t) q_in) q.2 in
-    let near = and_parts _ _ both.1 in
-    close_next s cells (neighbourhood_of s cells (alone t)) it.0 r (ltb-true r (s * s) near.0) (whole_self s cells (neighbourhood_of s cells (alone t)) it.0 it.1 close) near.1
+how_many : (s : ℕ) (cells : List Cell) (target : ℕ) (libs : sets.FinSet nat_cmp) → libs ≡ liberty_points s cells target
+    → sets.len libs ≡ liberties s cells target
+how_many s cells target libs el = ap sets.len el ∙ len-liberty_points s cells target
+
+-- the points that the attacker's plays at the liberties leave are the backfilling moves
+left_is_backfilling : (here : BoardState) (c : Colour) (target p : ℕ) (libs : sets.FinSet nat_cmp) → libs ≡ liberty_points here.size here.cells target
+    → c ≡ attacker_of (cell_at here.cells target)
+    → any_below (here.size * here.size) (λ l. sets.contains libs l && is_left here c l p) ≡ is_backfilling here target p
+unfolding is_backfilling
+left_is_backfilling here c target p libs el ec = same_tests _ _
+    (λ h.
+    let l = any_below_gives (here.size * here.size) _ h in
+    let parts = and_parts _ _ l.2 in
+    let left = and_parts _ _ parts.1 in
+    let its = sym (has_liberty here.size here.cells target l.0 libs el) ∙ parts.0 in
+    and_from _ _ left.0 (any_below_from (here.size * here.size) _ l.0 l.1
+    (and_from _ _ its (ap (λ x. leaves_only l.0 p (play_free here x l.0)) (sym ec) ∙ left.1))))
+    (λ h.
+    let parts = and_parts _ _ h in
+    let l = any_below_gives (here.size * here.size) _ parts.1 in
+    let both = and_parts _ _ l.2 in
+    any_below_from (here.size * here.size) _ l.0 l.1
+    (and_from _ _ (has_liberty here.size here.cells target l.0 libs el ∙ both.0)
+    (and_from _ _ parts.0 (ap (λ x. leaves_only l.0 p (play_free here x l.0)) ec ∙ both.1))))
+
+-- What was gathered for a target on the position here: its liberties, and the last liberties of the enemy strings next to it.
+module _ (here : BoardState) (target k p : ℕ) (libs last : sets.FinSet nat_cmp) (el : libs ≡ liberty_points here.size here.cells target)
+    (et : sets.contains last p ≡ is_last_liberty_of_enemy here.size here.cells target p) where
+  -- where no wide ply is left these are the candidates
+  pub candidate_plain : (x : Bool) → ltb 0 k ≡ false → x ≡ (sets.contains last p || sets.contains libs p) → x ≡ is_candidate here target k p
+  unfolding is_candidate
+  candidate_plain x none ex =
+      ex ∙ ap (λ y. y || sets.contains libs p) et
+      ∙ ap (λ y. is_last_liberty_of_enemy here.size here.cells target p || y) (has_liberty here.size here.cells target p libs el)
+      ∙ turned (is_last_liberty_of_enemy here.size here.cells target p) (is_liberty here.size here.cells target p) _ _ _ _ none
+    where
+      turned : (t l w f e b : Bool) → w ≡ false → (t || l) ≡ (((l || ((w && f) && e)) || t) || (w && b))
+      turned t l true f e b h = absurd (let n = h in cc)
+      turned true true false f e b h = refl
+      turned true false false f e b h = refl
+      turned false true false f e b h = refl
+      turned false false false f e b h = refl
+
+  -- where one is left, these with the empty neighbours of at most two liberties, and what the attacker's plays leave
+  pub candidate_wide : (x : Bool) (c : Colour) → ltb 0 k ≡ true → c ≡ attacker_of (cell_at here.cells target)
+      → x ≡ (((sets.contains last p || sets.contains libs p) || (ltb (sets.len libs) 3 && is_empty_beside here.size here.cells (sets.contains libs) p))
+      || any_below (here.size * here.size) (λ l. sets.contains libs l && is_left here c l p))
+      → x ≡ is_candidate here target k p
+  unfolding is_candidate
+  candidate_wide x c some ec ex =
+      let l = is_liberty here.size here.cells target p in
+      let t = is_last_liberty_of_enemy here.size here.cells target p in
+      let few = ltb (liberties here.size here.cells target) 3 in
+      let side = is_empty_beside here.size here.cells (sets.contains libs) p in
+      let left = any_below (here.size * here.size) (λ l. sets.contains libs l && is_left here c l p) in
+      ex ∙ ap (λ y. ((y || sets.contains libs p) || (ltb (sets.len libs) 3 && side)) || left) et
+      ∙ ap (λ y. ((t || y) || (ltb (sets.len libs) 3 && side)) || left) (has_liberty here.size here.cells target p libs el)
+      ∙ ap (λ n. ((t || l) || (ltb n 3 && side)) || left) (how_many here.size here.cells target libs el)
+      ∙ ap (λ y. ((t || l) || (few && y)) || left) (empty_beside_same here.size here.cells (sets.contains libs) (is_liberty here.size here.cells target) p
+      (λ q. has_liberty here.size here.cells target q libs el))
+      ∙ ap (λ y. ((t || l) || (few && is_empty_beside here.size here.cells (is_liberty here.size here.cells target) p)) || y) (left_is_backfilling here c target p libs el ec)
+      ∙ turned t l _ few _ _ some
+    where
+      turned : (t l w f e b : Bool) → w ≡ true → (((t || l) || (f && e)) || b) ≡ (((l || ((w && f) && e)) || t) || (w && b))
+      turned t l false f e b h = absurd (let n = h in cc)
+      turned true true true f e b h = refl
+      turned true false true true true b h = refl
+      turned true false true true false b h = refl
+      turned true false true false e b h = refl
+      turned false true true f e b h = refl
+      turned false false true true true b h = refl
+      turned false false true true false b h = refl
+      turned false false true false e b h = refl
+
+-- Where the candidates of t are looked for.
+module _ (s : ℕ) (cells : List Cell) (t : ℕ) (on : t < s * s) where
+  -- a liberty is in the first
+  liberty_near : (l : ℕ) → IsLiberty s cells t l → neighbourhood_of s cells (alone t) l ≡ true
+  liberty_near l lib =
+      let q = lib.beside in
+      let q_in = is_is_in_string-from_fact s cells t q.0 on q.1 in
+      close_next s cells (alone t) q.0 l lib.on_board (whole_string s cells (alone t) t q.0 on (alone_self t) q_in) q.2
+
+  -- what is in the second is where candidates are looked for
+  pub near_twice : (r : ℕ) → neighbourhood_twice s cells t r ≡ true → near_candidates s cells t r ≡ true
+  near_twice r h = close_again s cells _ r (close_again s cells _ r h)
+
+  -- and so is the point itself
+  pub near_self : (r : ℕ) → alone t r ≡ true → near_candidates s cells t r ≡ true
+  near_self r h = near_twice r (close_again s cells _ r (close_alone s cells t r on h))
+
+  -- the neighbours of the liberties too
+  pub near_liberties : (libs : sets.FinSet nat_cmp) (r : ℕ) → libs ≡ liberty_points s cells t
+      → any_below (s * s) (λ l. sets.contains libs l && neighbours_of s l r) ≡ true → near_candidates s cells t r ≡ true
+  near_liberties libs r e h =
+      let l = any_below_gives (s * s) _ h in
+      let both = and_parts _ _ l.2 in
+      let lib = IsLiberty-from_test s cells t l.0 (sym (has_liberty s cells t l.0 libs e) ∙ both.0) in
+      let near = and_parts _ _ both.1 in
+      let first = neighbourhood_of s cells (alone t) in
+      near_twice r (close_next s cells first l.0 r (ltb-true r (s * s) near.0) (whole_self s cells first l.0 l.1 (liberty_near l.0 lib)) near.1)
+
+  -- and what a play at a liberty looks at
+  pub near_plays : (libs : sets.FinSet nat_cmp) (r : ℕ) → libs ≡ liberty_points s cells t
+      → any_below (s * s) (λ l. sets.contains libs l && neighbourhood_twice s cells l r) ≡ true → near_candidates s cells t r ≡ true
+  near_plays libs r e h =
+      let l = any_below_gives (s * s) _ h in
+      let both = and_parts _ _ l.2 in
+      let lib = IsLiberty-from_test s cells t l.0 (sym (has_liberty s cells t l.0 libs e) ∙ both.0) in
+      let first = neighbourhood_of s cells (alone t) in
+      let within_first = close_mono s cells (alone l.0) first (λ q same. ap first (eqb-true q l.0 same) ∙ liberty_near l.0 lib) in
+      close_again s cells _ r (close_mono s cells (neighbourhood_of s cells (alone l.0)) (neighbourhood_of s cells first) within_first r both.1)

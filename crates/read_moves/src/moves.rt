@@ -1,6 +1,6 @@
 //! The candidates of a target: the points that a reading tries.
 
-ghost use Rattle.std.specs.Prelude.{◌≡◌, ℕ, ◌*◌, ◌<◌, ◌&&◌, ◌||◌, Bool, IsTrue, if◌then◌else◌};
+ghost use Rattle.std.specs.Prelude.{◌≡◌, ℕ, ◌*◌, ◌<◌, ◌&&◌, ◌||◌, Bool, IsTrue, IfSome, nat_lt, length, if◌then◌else◌};
 ghost use Rattle.std.specs.FinSet as set;
 ghost use Rattle.go_rules.specs.Below.{any_below};
 ghost use Rattle.go_rules.specs.Board.{largest_points};
@@ -8,15 +8,21 @@ ghost use Rattle.go_rules.specs.Strings.{cell_at, same_cell};
 ghost use Rattle.go_rules.specs.Position.{BoardState};
 ghost use Rattle.go_base.specs.Facts.{Agrees, AddsIn};
 ghost use Rattle.go_base.specs.Views.{alone, neighbours_of};
-ghost use Rattle.trial_board.specs.Trials.{Stays, after};
-ghost use Rattle.read_rules.specs.Candidates.{is_empty_beside, is_candidate, near_candidates};
+ghost use Rattle.go_rules.specs.Play.{play_free};
+ghost use Rattle.trial_board.specs.Overlays.{neighbourhood_twice};
+ghost use Rattle.trial_board.specs.Trials.{Stays, most_moves, after};
+ghost use Rattle.read_rules.specs.Candidates.{attacker_of, is_empty_beside, leaves_only, is_candidate, near_candidates};
+ghost use Rattle.read_moves.specs.Steps.{is_at, is_only_member, is_left};
 
 use go_base::points::PointSet;
 use go_base::sides::neighbour;
 use go_base::size::Point;
 use go_base::surroundings::Surroundings;
-use go_base::{Cell, Look};
-use trial_board::Trial;
+use go_base::{Cell, Colour, Look};
+use trial_board::{Trial, Tried};
+
+/// How many liberties a string in atari has.
+const IN_ATARI: u16 = 1;
 
 /// Adds q where it is empty.
 fn add_empty<L: Look>(board: &mut Trial<L>, q: Point, found: &mut PointSet)
@@ -65,18 +71,120 @@ fn add_beside<L: Look>(board: &mut Trial<L>, points: &PointSet, found: &mut Poin
     }
 }
 
-/// The points that a reading tries for the string of the target, with `wide` wide plies left: its liberties; where a wide ply is
-/// left and it has at most two liberties, their empty neighbours too; and the last liberty of each enemy string next to it.
+/// Adds the empty points next to a point of the set, where it has at most two.
+fn add_beside_few<L: Look>(board: &mut Trial<L>, points: &PointSet, found: &mut PointSet)
+    requires { (l : ℕ) → IsTrue (set.contains points.now l)
+        → l < (L.shows board.old.look).size * (L.shows board.old.look).size }
+    ensures stays { Stays L.shows L.seen board.old board.new }
+    ensures over { (pos : BoardState) → Agrees (L.seen board.new.look) pos → (p : ℕ)
+        → set.contains found.new p ≡ (set.contains found.old p
+        || (nat_lt (set.len points.now) 3 && is_empty_beside pos.size (after pos board.old.moves).cells (set.contains points.now) p)) }
+    ensures near { (pos : BoardState) → Agrees (L.seen board.new.look) pos → AddsIn (L.seen board.old.look) (L.seen board.new.look)
+        (λ r. any_below (pos.size * pos.size) (λ l. set.contains points.now l && neighbours_of pos.size l r)) }
+{
+    if points.count() < 3 {
+        add_beside(board, points, found);
+    }
+}
+
+/// The colour that attacks what stands there.
+fn attacker_of(cell: Cell) -> Colour
+    ensures { result ≡ attacker_of cell }
+{
+    match cell {
+        Cell::Black => Colour::White,
+        Cell::White | Cell::Empty => Colour::Black,
+    }
+}
+
+/// The member of a set that has just one.
+fn only_member(points: &PointSet) -> Option<Point>
+    ensures is { (p : ℕ) → is_at result p ≡ is_only_member points.now p }
+    ensures member { IfSome result (λ p. IsTrue (set.contains points.now p)) }
+{
+    if points.count() != IN_ATARI {
+        return None;
+    }
+    points.first_from(0)
+}
+
+/// The one liberty that a stone of this colour at l would have, by a trial play in which the ban is dropped; None where the play
+/// is not legal, or leaves more liberties.
+fn only_liberty_after<L: Look>(board: &mut Trial<L>, c: Colour, l: Point) -> Option<Point>
+    requires room { length board.old.moves < most_moves }
+    requires on_board { l < (L.shows board.old.look).size * (L.shows board.old.look).size }
+    ensures stays { Stays L.shows L.seen board.old board.new }
+    ensures inside { IfSome result (λ p. p < (L.shows board.old.look).size * (L.shows board.old.look).size) }
+    ensures over { (pos : BoardState) → Agrees (L.seen board.new.look) pos → (p : ℕ)
+        → is_at result p ≡ leaves_only l p (play_free (after pos board.old.moves) c l) }
+    ensures near { (pos : BoardState) → Agrees (L.seen board.new.look) pos → AddsIn (L.seen board.old.look) (L.seen board.new.look)
+        (neighbourhood_twice pos.size (after pos board.old.moves).cells l) }
+{
+    match board.play(c, l, true) {
+        Tried::Done => {
+            let liberties = board.liberties(l);
+            board.back();
+            only_member(&liberties)
+        }
+        Tried::Occupied | Tried::Banned | Tried::Suicide => None,
+    }
+}
+
+/// Adds the one liberty that a stone of this colour at l would have, where it is empty now.
+fn add_backfilling_at<L: Look>(board: &mut Trial<L>, c: Colour, l: Point, found: &mut PointSet)
+    requires room { length board.old.moves < most_moves }
+    requires on_board { l < (L.shows board.old.look).size * (L.shows board.old.look).size }
+    ensures stays { Stays L.shows L.seen board.old board.new }
+    ensures over { (pos : BoardState) → Agrees (L.seen board.new.look) pos → (p : ℕ)
+        → set.contains found.new p ≡ (set.contains found.old p || is_left (after pos board.old.moves) c l p) }
+    ensures near { (pos : BoardState) → Agrees (L.seen board.new.look) pos → AddsIn (L.seen board.old.look) (L.seen board.new.look)
+        (neighbourhood_twice pos.size (after pos board.old.moves).cells l) }
+{
+    if let Some(p) = only_liberty_after(board, c, l) {
+        add_empty(board, p, found);
+    }
+}
+
+/// Adds the one liberty that a stone of this colour would have at a point of the set, where it is empty now, for each such point.
+fn add_backfilling<L: Look>(
+    board: &mut Trial<L>,
+    c: Colour,
+    points: &PointSet,
+    found: &mut PointSet,
+)
+    requires room { length board.old.moves < most_moves }
+    requires on_board { (l : ℕ) → IsTrue (set.contains points.now l)
+        → l < (L.shows board.old.look).size * (L.shows board.old.look).size }
+    ensures stays { Stays L.shows L.seen board.old board.new }
+    ensures over { (pos : BoardState) → Agrees (L.seen board.new.look) pos → (p : ℕ)
+        → set.contains found.new p ≡ (set.contains found.old p || any_below (pos.size * pos.size)
+        (λ l. set.contains points.now l && is_left (after pos board.old.moves) c l p)) }
+    ensures near { (pos : BoardState) → Agrees (L.seen board.new.look) pos → AddsIn (L.seen board.old.look) (L.seen board.new.look)
+        (λ r. any_below (pos.size * pos.size)
+        (λ l. set.contains points.now l && neighbourhood_twice pos.size (after pos board.old.moves).cells l r)) }
+{
+    let mut from = 0;
+    while let Some(l) = points.first_from(from) {
+        add_backfilling_at(board, c, l, found);
+        from = l + 1;
+    }
+}
+
+/// The points that a reading tries for the string of the target, with `wide` wide plies left: its liberties, and the last liberty
+/// of each enemy string next to it; where a wide ply is left, also the empty neighbours of its liberties, if there are at most
+/// two of these, and the one liberty that a stone of the attacker on one of its liberties would have.
 ///
-/// The trial moves stay as they were. After GNU Go Manual, "Tactical reading"; the choice of these points is this project's own.
+/// The trial moves stay as they were; the plays that are tried for the last kind count among the trials. After GNU Go Manual,
+/// "Tactical reading"; the choice of these points is this project's own.
 pub fn candidates<L: Look>(board: &mut Trial<L>, target: Point, wide: u8) -> PointSet
-    requires { target < (L.shows board.old.look).size * (L.shows board.old.look).size }
+    requires room { length board.old.moves < most_moves }
+    requires on_board { target < (L.shows board.old.look).size * (L.shows board.old.look).size }
     ensures stays { Stays L.shows L.seen board.old board.new }
     ensures over { (pos : BoardState) → Agrees (L.seen board.new.look) pos → (p : ℕ)
         → set.contains result p ≡ is_candidate (after pos board.old.moves) target wide p }
     ensures answer { (p : ℕ) → set.contains result p ≡ is_candidate (after (L.shows board.old.look) board.old.moves) target wide p }
-    ensures near { (pos : BoardState) → Agrees (L.seen board.new.look) pos
-        → AddsIn (L.seen board.old.look) (L.seen board.new.look) (near_candidates pos.size (after pos board.old.moves).cells target) }
+    ensures near { (pos : BoardState) → Agrees (L.seen board.new.look) pos → AddsIn (L.seen board.old.look) (L.seen board.new.look)
+        (near_candidates pos.size (after pos board.old.moves).cells target) }
 {
     let Surroundings {
         liberties,
@@ -85,9 +193,9 @@ pub fn candidates<L: Look>(board: &mut Trial<L>, target: Point, wide: u8) -> Poi
     let mut found = last_liberties;
     found.join(&liberties);
     if wide > 0 {
-        if liberties.count() < 3 {
-            add_beside(board, &liberties, &mut found);
-        }
+        add_beside_few(board, &liberties, &mut found);
+        let attacker = attacker_of(board.cell(target));
+        add_backfilling(board, attacker, &liberties, &mut found);
     }
     found
 }

@@ -1,15 +1,19 @@
 -- The test for a candidate says what the rules say in terms of strings and liberties.
-use Rattle.std.proofs.Common.{◌≡◌, ℕ, ◌*◌, ◌<◌, ◌&&◌, ◌||◌, true, List, arith, inl, inr, ltb}
+use Rattle.std.proofs.Common.{◌≡◌, ◌∙◌, ℕ, ◌*◌, ◌<◌, ◌&&◌, ◌||◌, Bool, true, List, Result, Ok, Err, arith, ap, refl, subst, sym, inl, inr, ltb}
 use Rattle.std.proofs.lemmas.Bool.{and_parts, and_from, or_cases, or_left, or_right, lt-ltb, ltb-true, eqb-true, eq-eqb}
 use Rattle.go_rules.specs.declared.Cell.{Cell}
-use Rattle.go_rules.specs.Strings.{is_liberty, liberties}
+use Rattle.go_rules.specs.declared.Colour.{Colour}
+use Rattle.go_rules.specs.declared.Illegal.{Illegal}
+use Rattle.go_rules.specs.Strings.{cell_at, is_liberty, liberties}
 use Rattle.go_rules.specs.Boundary.{is_beside_string}
 use Rattle.go_rules.specs.Position.{BoardState}
+use Rattle.go_rules.specs.Play.{play_free}
 use Rattle.go_rules.proofs.Counts.{any_below_gives, any_below_from}
 use Rattle.go_rules.proofs.Paths.{same_cell-true, same_cell-from, IsInString-from_test, is_is_in_string-from_fact, IsLiberty-from_test, is_liberty-from_fact}
 use Rattle.go_rules.proofs.Boundary.{is_in_string_on}
+use Rattle.go_rules.proofs.PlayLaws.{done_state}
 use Rattle.go_base.specs.Surroundings.{is_only_liberty, is_last_liberty_of_enemy}
-use Rattle.read_rules.specs.Candidates.{is_empty_beside, is_candidate, IsEmptyNeighbour, IsTakenAt, IsCandidate, fills, looks_wide, takes}
+use Rattle.read_rules.specs.Candidates.{attacker_of, is_empty_beside, leaves_only, is_backfilling, is_candidate, IsEmptyNeighbour, IsTakenAt, IsBackfilledAt, IsCandidate, fills, looks_wide, takes, backfills}
 
 -- an empty point beside a liberty is an empty neighbour of one, and the other way round
 wide_gives : (s : ℕ) (cells : List Cell) (target p : ℕ) → is_empty_beside s cells (is_liberty s cells target) p ≡ true
@@ -57,30 +61,107 @@ takes_from s cells target q p on taken =
     (any_below_from (s * s) _ taken.beside.0 (is_in_string_on s cells target taken.beside.0 on inside) (and_from _ _ inside taken.beside.2)))
     (and_from _ _ (eq-eqb (liberties s cells q) 1 taken.in_atari) (is_liberty-from_fact s cells q p taken.on_board taken.last)))
 
+-- a legal play keeps the size
+pub size_played : (pos : BoardState) (c : Colour) (l : ℕ) (new : BoardState) → play_free pos c l ≡ Ok new → new.size ≡ pos.size
+size_played pos c l new e = ap (λ (x : BoardState). x.size) (done_state pos c l new e).1
+
+-- what a play that leaves one liberty gives
+pub only_gives : (l p : ℕ) (r : Result BoardState Illegal) → leaves_only l p r ≡ true
+    → (new : BoardState) × (r ≡ Ok new) × (is_only_liberty new.size new.cells l p ≡ true)
+only_gives l p (Ok new) h = (new, refl, h)
+only_gives l p (Err why) h = cc
+
+-- the one liberty of a string by the test
+pub only_parts : (s : ℕ) (cells : List Cell) (l p : ℕ) → is_only_liberty s cells l p ≡ true
+    → (liberties s cells l ≡ 1) × (is_liberty s cells l p ≡ true)
+unfolding is_only_liberty
+only_parts s cells l p h = let both = and_parts _ _ h in (eqb-true (liberties s cells l) 1 both.0, both.1)
+
+only_from : (s : ℕ) (cells : List Cell) (l p : ℕ) → liberties s cells l ≡ 1 → is_liberty s cells l p ≡ true
+    → is_only_liberty s cells l p ≡ true
+unfolding is_only_liberty
+only_from s cells l p one its = and_from _ _ (eq-eqb (liberties s cells l) 1 one) its
+
+-- a backfilling move by the test is one by the rules, and the other way round
+backfills_gives : (pos : BoardState) (target p : ℕ) → is_backfilling pos target p ≡ true → (l : ℕ) × IsBackfilledAt pos target l p
+unfolding is_backfilling
+backfills_gives pos target p h =
+    let parts = and_parts _ _ h in
+    let l = any_below_gives (pos.size * pos.size) _ parts.1 in
+    let both = and_parts _ _ l.2 in
+    let left = only_gives l.0 p (play_free pos (attacker_of (cell_at pos.cells target)) l.0) both.1 in
+    let only = only_parts left.0.size left.0.cells l.0 p left.2 in (
+      l.0,
+      record {
+        liberty = IsLiberty-from_test pos.size pos.cells target l.0 both.0;
+        new = left.0;
+        legal = left.1;
+        in_atari = only.0;
+        last = IsLiberty-from_test left.0.size left.0.cells l.0 p only.1;
+        was_empty = same_cell-true _ _ parts.0;
+      },
+    )
+
+backfills_from : (pos : BoardState) (target l p : ℕ) → target < pos.size * pos.size → IsBackfilledAt pos target l p
+    → is_backfilling pos target p ≡ true
+unfolding is_backfilling
+backfills_from pos target l p on w =
+    let size = size_played pos (attacker_of (cell_at pos.cells target)) l w.new w.legal in
+    let inside = subst (λ n. l < n * n) (sym size) w.liberty.on_board in
+    let its = is_liberty-from_fact w.new.size w.new.cells l p inside w.last in
+    and_from _ _ (same_cell-from _ _ w.was_empty) (any_below_from (pos.size * pos.size) _ l w.liberty.on_board
+    (and_from _ _ (is_liberty-from_fact pos.size pos.cells target l on w.liberty)
+    (ap (leaves_only l p) w.legal ∙ only_from w.new.size w.new.cells l p w.in_atari its)))
+
+-- a backfilling move is a point of the board
+pub backfilled_on : (pos : BoardState) (target l p : ℕ) → IsBackfilledAt pos target l p → p < pos.size * pos.size
+backfilled_on pos target l p w =
+    subst (λ n. p < n * n) (size_played pos (attacker_of (cell_at pos.cells target)) l w.new w.legal) w.last.on_board
+
+-- p is a wide move, by the test
+abbrev by_wide : BoardState → ℕ → ℕ → ℕ → Bool
+by_wide pos target k p =
+    (ltb 0 k && ltb (liberties pos.size pos.cells target) 3) && is_empty_beside pos.size pos.cells (is_liberty pos.size pos.cells target) p
+
+-- p is a backfilling move while a wide ply is left, by the test
+abbrev by_backfilling : BoardState → ℕ → ℕ → ℕ → Bool
+by_backfilling pos target k p = ltb 0 k && is_backfilling pos target p
+
 -- a candidate by the test is one by the rules
 pub candidate_gives : (pos : BoardState) (target k p : ℕ) → is_candidate pos target k p ≡ true → IsCandidate pos target k p
 unfolding is_candidate
-candidate_gives pos target k p h = elim (or_cases (is_liberty pos.size pos.cells target p || ((ltb 0 k && ltb (liberties pos.size pos.cells target) 3) && is_empty_beside pos.size pos.cells (is_liberty pos.size pos.cells target) p)) (is_last_liberty_of_enemy pos.size pos.cells target p) h) [
-  | inr t ↦ let taken = takes_gives pos.size pos.cells target p t in takes taken.0 taken.1
-  | inl e ↦ elim (or_cases (is_liberty pos.size pos.cells target p) ((ltb 0 k && ltb (liberties pos.size pos.cells target) 3) && is_empty_beside pos.size pos.cells (is_liberty pos.size pos.cells target) p) e) [
-    | inl lib ↦ fills (IsLiberty-from_test pos.size pos.cells target p lib)
-    | inr w ↦
-        let parts = and_parts _ _ w in
-        let first = and_parts _ _ parts.0 in
-        let l = wide_gives pos.size pos.cells target p parts.1 in
-        let few = ltb-true (liberties pos.size pos.cells target) 3 first.1 in
-        looks_wide (ltb-true 0 k first.0) (omega arith) l.0 (IsLiberty-from_test pos.size pos.cells target l.0 l.1) l.2
-  ]
-]
+candidate_gives pos target k p h =
+    let lib = is_liberty pos.size pos.cells target p in
+    let wide = by_wide pos target k p in
+    let last = is_last_liberty_of_enemy pos.size pos.cells target p in
+    elim (or_cases (lib || wide || last) (by_backfilling pos target k p) h) [
+      | inr b ↦
+          let parts = and_parts _ _ b in
+          let l = backfills_gives pos target p parts.1 in
+          backfills (ltb-true 0 k parts.0) l.0 l.1
+      | inl f ↦ elim (or_cases (lib || wide) last f) [
+        | inr t ↦ let taken = takes_gives pos.size pos.cells target p t in takes taken.0 taken.1
+        | inl e ↦ elim (or_cases lib wide e) [
+          | inl its ↦ fills (IsLiberty-from_test pos.size pos.cells target p its)
+          | inr w ↦
+              let parts = and_parts _ _ w in
+              let both = and_parts _ _ parts.0 in
+              let l = wide_gives pos.size pos.cells target p parts.1 in
+              let few = ltb-true (liberties pos.size pos.cells target) 3 both.1 in
+              looks_wide (ltb-true 0 k both.0) (omega arith) l.0 (IsLiberty-from_test pos.size pos.cells target l.0 l.1) l.2
+        ]
+      ]
+    ]
 
 -- a candidate by the rules is one by the test
 pub candidate_from : (pos : BoardState) (target k p : ℕ) → target < pos.size * pos.size → IsCandidate pos target k p → is_candidate pos target k p ≡ true
 unfolding is_candidate
-candidate_from pos target k p on (fills lib) = or_left _ _ (or_left _ _ (is_liberty-from_fact pos.size pos.cells target p on lib))
+candidate_from pos target k p on (fills lib) = or_left _ _ (or_left _ _ (or_left _ _ (is_liberty-from_fact pos.size pos.cells target p on lib)))
 candidate_from pos target k p on (looks_wide some few l lib near) =
-    or_left _ _ (or_right _ _ (and_from _ _ (and_from _ _ (lt-ltb 0 k some) (lt-ltb (liberties pos.size pos.cells target) 3 (omega arith)))
-    (wide_from pos.size pos.cells target p l lib.on_board (is_liberty-from_fact pos.size pos.cells target l on lib) near)))
-candidate_from pos target k p on (takes q taken) = or_right _ _ (takes_from pos.size pos.cells target q p on taken)
+    or_left _ _ (or_left _ _ (or_right _ _ (and_from _ _ (and_from _ _ (lt-ltb 0 k some) (lt-ltb (liberties pos.size pos.cells target) 3 (omega arith)))
+    (wide_from pos.size pos.cells target p l lib.on_board (is_liberty-from_fact pos.size pos.cells target l on lib) near))))
+candidate_from pos target k p on (takes q taken) = or_left _ _ (or_right _ _ (takes_from pos.size pos.cells target q p on taken))
+candidate_from pos target k p on (backfills some l w) = or_right _ _ (and_from _ _ (lt-ltb 0 k some) (backfills_from pos target l p on w))
 
 -- a candidate is a point of the board
 pub candidate_on : (pos : BoardState) (target k p : ℕ) → is_candidate pos target k p ≡ true → p < pos.size * pos.size
@@ -88,4 +169,5 @@ candidate_on pos target k p h = elim (candidate_gives pos target k p h) [
   | fills lib ↦ lib.on_board
   | looks_wide some few l lib near ↦ near.on_board
   | takes q taken ↦ taken.last.on_board
+  | backfills some l w ↦ backfilled_on pos target l p w
 ]

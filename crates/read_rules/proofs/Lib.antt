@@ -1,4 +1,5 @@
 pub mod CandidateLaws
+pub mod BackfillLemmas
 pub mod WalkLemmas
 pub mod WinLemmas
 pub mod AnswerLemmas

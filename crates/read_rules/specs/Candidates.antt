@@ -1,38 +1,66 @@
--- The moves that a reading tries.
-use Rattle.std.specs.Prelude.{◌≡◌, ℕ, ◌*◌, ◌<◌, ◌≤◌, ◌&&◌, ◌||◌, Bool, true, nat_lt, List}
+-- The moves that a reading tries: four sets of points, each once as a test that computes and once in terms of strings and
+-- liberties. The law `candidates_are_by_strings` says that the two are the same.
+use Rattle.std.specs.Prelude.{◌≡◌, ℕ, ◌*◌, ◌<◌, ◌≤◌, ◌&&◌, ◌||◌, Bool, true, false, nat_lt, List, Result, Ok, Err}
 use Rattle.std.specs.List.{range_with_len, filter}
 use Rattle.go_rules.specs.declared.Cell.{Cell}
-use Rattle.go_rules.specs.declared.Cell.TheVariants.{Empty}
+use Rattle.go_rules.specs.declared.Cell.TheVariants.{Empty, Black, White}
+use Rattle.go_rules.specs.declared.Colour.{Colour}
+use Rattle.go_rules.specs.declared.Colour.TheVariants.{Black as black, White as white}
+use Rattle.go_rules.specs.declared.Illegal.{Illegal}
 use Rattle.go_rules.specs.Board.{are_neighbours}
 use Rattle.go_rules.specs.Below.{any_below}
 use Rattle.go_rules.specs.Strings.{cell_at, same_cell, is_liberty, liberties, IsInString, IsLiberty}
 use Rattle.go_rules.specs.Boundary.{is_enemy}
 use Rattle.go_rules.specs.Neighbourhood.{neighbourhood_of}
 use Rattle.go_rules.specs.Position.{BoardState}
-use Rattle.go_base.specs.Surroundings.{is_last_liberty_of_enemy}
+use Rattle.go_rules.specs.Play.{play_free}
+use Rattle.go_base.specs.Surroundings.{is_only_liberty, is_last_liberty_of_enemy}
 use Rattle.go_base.specs.Views.{alone}
 
 -- p is empty and next to a point of S
 unfoldable pub is_empty_beside : ℕ → List Cell → (ℕ → Bool) → ℕ → Bool
-is_empty_beside s cells S p = nat_lt p (s * s) && same_cell (cell_at cells p) Empty && any_below (s * s) (λ l. S l && are_neighbours s l p)
+is_empty_beside s cells S p =
+    nat_lt p (s * s) && same_cell (cell_at cells p) Empty && any_below (s * s) (λ l. S l && are_neighbours s l p)
+
+-- the colour that attacks what stands there, which is the other one; black where nothing does
+abbrev pub attacker_of : Cell → Colour
+attacker_of Empty = black
+attacker_of Black = white
+attacker_of White = black
+
+-- the play at l was legal, and the string of its stone has one liberty, which is p
+abbrev pub leaves_only : ℕ → ℕ → Result BoardState Illegal → Bool
+leaves_only l p (Ok new) = is_only_liberty new.size new.cells l p
+leaves_only l p (Err why) = false
+
+-- p is empty, and at some liberty of the target the attacker's play, with the ban dropped, is legal and leaves the string of its
+-- stone one liberty, which is p: an attacker who first plays there does not put himself into atari by filling that liberty
+unfoldable pub is_backfilling : BoardState → ℕ → ℕ → Bool
+is_backfilling pos target p =
+    same_cell (cell_at pos.cells p) Empty
+    && any_below (pos.size * pos.size)
+    (λ l. is_liberty pos.size pos.cells target l && leaves_only l p (play_free pos (attacker_of (cell_at pos.cells target)) l))
 
 -- p is a liberty of the target; or, where k is above 0 and the target has at most two, an empty neighbour of one; or the one
--- liberty of an enemy string next to it
+-- liberty of an enemy string next to it; or, where k is above 0, a backfilling move
 unfoldable pub is_candidate : BoardState → ℕ → ℕ → ℕ → Bool
 is_candidate pos target k p =
     is_liberty pos.size pos.cells target p
-    || ((nat_lt 0 k && nat_lt (liberties pos.size pos.cells target) 3) && is_empty_beside pos.size pos.cells (is_liberty pos.size pos.cells target) p)
+    || ((nat_lt 0 k && nat_lt (liberties pos.size pos.cells target) 3)
+    && is_empty_beside pos.size pos.cells (is_liberty pos.size pos.cells target) p)
     || is_last_liberty_of_enemy pos.size pos.cells target p
+    || (nat_lt 0 k && is_backfilling pos target p)
 
 -- the candidates in reading order
 abbrev pub candidates_of : BoardState → ℕ → ℕ → List ℕ
 candidates_of pos target k = filter (is_candidate pos target k) (range_with_len 0 (pos.size * pos.size))
 
--- the points that a search for the candidates of a target may ask for
+-- the points that a search for the candidates of a target may ask for: the neighbourhood taken four times
 abbrev pub near_candidates : ℕ → List Cell → ℕ → ℕ → Bool
-near_candidates s cells target = neighbourhood_of s cells (neighbourhood_of s cells (alone target))
+near_candidates s cells target =
+    neighbourhood_of s cells (neighbourhood_of s cells (neighbourhood_of s cells (neighbourhood_of s cells (alone target))))
 
--- The same in terms of strings and liberties; the law `candidates_are_by_strings` ties the two.
+-- The same in terms of strings and liberties.
 
 -- p is an empty neighbour of the point l
 pub record IsEmptyNeighbour (s : ℕ) (cells : List Cell) (l p : ℕ) : Type 0 where
@@ -48,8 +76,20 @@ pub record IsTakenAt (s : ℕ) (cells : List Cell) (target q p : ℕ) : Type 0 w
   pub in_atari : liberties s cells q ≡ 1
   pub last : IsLiberty s cells q p
 
+-- l is a liberty of the target, the attacker's play at l, with the ban dropped, is legal and leaves the string of its stone one
+-- liberty, and this is p, which is empty before the play
+pub record IsBackfilledAt (pos : BoardState) (target l p : ℕ) : Type 0 where
+  pub liberty : IsLiberty pos.size pos.cells target l
+  pub new : BoardState
+  pub legal : play_free pos (attacker_of (cell_at pos.cells target)) l ≡ Ok new
+  pub in_atari : liberties new.size new.cells l ≡ 1
+  pub last : IsLiberty new.size new.cells l p
+  pub was_empty : cell_at pos.cells p ≡ Empty
+
 -- p is a candidate for the target with k wide plies left
 pub data IsCandidate (pos : BoardState) (target k p : ℕ) : Type 0 where
   fills : IsLiberty pos.size pos.cells target p → IsCandidate pos target k p
-  looks_wide : 0 < k → liberties pos.size pos.cells target ≤ 2 → (l : ℕ) → IsLiberty pos.size pos.cells target l → IsEmptyNeighbour pos.size pos.cells l p → IsCandidate pos target k p
+  looks_wide : 0 < k → liberties pos.size pos.cells target ≤ 2 → (l : ℕ) → IsLiberty pos.size pos.cells target l
+      → IsEmptyNeighbour pos.size pos.cells l p → IsCandidate pos target k p
   takes : (q : ℕ) → IsTakenAt pos.size pos.cells target q p → IsCandidate pos target k p
+  backfills : 0 < k → (l : ℕ) → IsBackfilledAt pos target l p → IsCandidate pos target k p

@@ -14,8 +14,9 @@ ghost use Rattle.read_rules.specs.Rules.{HasManyLiberties, IsChild, SomeChildWin
 use crate::question::Kind;
 use go_base::Cell;
 
-/// A candidate is a liberty of the target, an empty neighbour of one where the target has few and a wide ply is left, or the
-/// last liberty of an enemy string next to the target.
+/// A candidate is a liberty of the target; an empty neighbour of one, where the target has few and a wide ply is left; the last
+/// liberty of an enemy string next to the target; or, where a wide ply is left, the one liberty that a stone of the attacker on a
+/// liberty of the target would have.
 pub fn candidates_are_by_strings()
     ensures candidate { (pos : BoardState) (target k p : ℕ) → target < pos.size * pos.size →
         IsTrue (is_candidate pos target k p) ↔ IsCandidate pos target k p }

@@ -12,7 +12,7 @@ use Rattle.trial_board.proofs.AfterLemmas.{size-after}
 use Rattle.read_rules.specs.Candidates.{is_candidate}
 use Rattle.read_rules.proofs.CandidateLaws.{candidate_on}
 use Rattle.read_rules.specs.ActiveArea.{by_play, IsUndecided, InActiveArea}
-use Rattle.read_rules.proofs.AreaLemmas.{AddsNear-in, AddsNear-trans, AddsNear-mono, area_target, area_once, area_twice, area_play, pred_tree, undecided_defender, pass_tree, target_on}
+use Rattle.read_rules.proofs.AreaLemmas.{AddsNear-in, AddsNear-trans, AddsNear-mono, area_target, area_once, area_candidates, area_play, pred_tree, undecided_defender, pass_tree, target_on}
 use Rattle.read_rules.proofs.WinLemmas.{wins-captured, wins-no_plies, wins-by_move, none_before, first_success-found, first_success-none}
 use Rattle.read_tree.proofs.tree.+read.Goals as goal
 
@@ -117,7 +117,7 @@ first_success-loop-p-init g t c = record {
       let a0 = agrees_before c.candidates-candidates.ensures.stays.grows a in
       let here = after pos c.args.board.now.moves in
       AddsNear-in (InActiveArea q root) (c.candidates-candidates.ensures.near pos a)
-      (area_twice q root here (suc c.args.plies) c.args.node tree pos.size (size-after pos c.args.board.now.moves) (target_on pos.size (g.L.Look.shows c.args.board.now.look).size c.args.node.target (same_size (g.met.L.Look.sized c.args.board.now.look) a0) c.requires.target) und.stands);
+      (area_candidates q root here (suc c.args.plies) c.args.node tree pos.size (size-after pos c.args.board.now.moves) (target_on pos.size (g.L.Look.shows c.args.board.now.look).size c.args.node.target (same_size (g.met.L.Look.sized c.args.board.now.look) a0) c.requires.target) und.stands);
   none = λ pos a q h. absurd (omega arith);
 }
 
