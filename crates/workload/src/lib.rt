@@ -4,6 +4,7 @@
 //! a recurrence chooses. Its bytes left are `generated_text`, it takes no memory and it never fails.
 #![tactic(auto)]
 
+pub mod laws;
 mod lines;
 mod rest;
 mod source;
