@@ -3,7 +3,7 @@ ghost use Rattle.std.specs.Prelude.{◌≡◌, ◌≢◌, ◌*◌, ◌<◌, ◌�
 ghost use Rattle.go_rules.specs.Strings.{cell_at};
 ghost use Rattle.read_rules.specs.Answer.{answer_of, asked_on};
 ghost use Rattle.read_rules.specs.GoodMoves.{IsOnBoard};
-ghost use Rattle.match_engine.specs.Readings.{HasRead, Follows, first_readings, with_depths};
+ghost use Rattle.match_engine.specs.Readings.{HasRead, WasFresh, Follows, first_readings, with_depths};
 
 use go_base::{Cell, NoMemory, Point, Position, Watch};
 use read_rules::{Answer, Depths, Kind};
@@ -81,6 +81,8 @@ impl Readings {
         ensures answer { result ≡ answer_of (asked_on position.now kind target self.old.plies self.old.wide) position.now }
         ensures code { result.code ≤ 3 }
         ensures on_board { IfSome result.at (IsOnBoard position.now.size) }
+        // Nothing is kept yet, so it was fresh.
+        ensures afresh { WasFresh self.old self.new }
         // It was fresh and is counted, or was kept and nothing is.
         ensures counted { HasRead self.old self.new }
         // The depths are as before, and no count has fallen.

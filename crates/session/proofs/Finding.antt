@@ -10,7 +10,8 @@ use Rattle.match_engine.specs.MachineMatches.{machine_matches, is_machine_match}
 use Rattle.match_rules.proofs.Orders.{by-has}
 use Rattle.match_engine.proofs.Patterns.{same_by_machine}
 use Rattle.session.specs.Machine.{first_machine, position_of}
-use Rattle.session.specs.Matcher.{plain_matcher}
+use Rattle.session.specs.Matcher.{plain_matcher, codes_of}
+use Rattle.cons_eval.specs.Readings.{Codes}
 use Rattle.session.specs.Answering.{step}
 use Rattle.session.specs.Counting.{is_read_line}
 use Rattle.session.specs.Tallies.{Tally}
@@ -22,11 +23,11 @@ use Rattle.session.specs.declared.outcome.End.{End}
 use Rattle.session.specs.MatchTexts.{AreAmong}
 
 -- the matches by an automaton are among the patterns and on the board
-pub AreAmong-found : (rows : List Row) (patterns : List Pattern) (board : BoardState) (friend : Colour)
-    → AreAmong patterns board.size (machine_matches rows patterns board friend)
+pub AreAmong-found : (code : Codes) (rows : List Row) (patterns : List Pattern) (board : BoardState) (friend : Colour)
+    → AreAmong patterns board.size (machine_matches code rows patterns board friend)
 unfolding machine_matches
-AreAmong-found rows patterns board friend = λ z there.
-    let by = by-has (is_machine_match rows board friend) patterns board.size z there in
+AreAmong-found code rows patterns board friend = λ z there.
+    let by = by-has (is_machine_match code rows board friend) patterns board.size z there in
     (slice_get_within patterns z.pattern by.pattern by.number, by.at)
 
 -- with the automaton of its patterns a session is plain before its first line
@@ -37,7 +38,8 @@ plain-first patterns rows plies wide accepts = record {
   counts = refl;
   matcher = λ i. record {
     patterns = patterns;
-    matches = λ machine friend. same_by_machine patterns rows (position_of machine) friend accepts i;
+    matches = λ machine friend. same_by_machine (codes_of machine) patterns rows (position_of machine) friend
+        accepts i;
   };
 }
 

@@ -6,6 +6,8 @@ use Rattle.dfa_core.specs.Automata.{Row}
 use Rattle.match_rules.specs.declared.found.Match.{Match}
 use Rattle.match_rules.specs.Match.{matches_of}
 use Rattle.match_engine.specs.MachineMatches.{machine_matches}
+use Rattle.cons_eval.specs.Readings.{Codes}
+use Rattle.match_engine.specs.Readings.{codes_at}
 use Rattle.session.specs.Machine.{Machine, position_of}
 
 -- patterns, and their matches on the position of a machine for a friend
@@ -13,19 +15,21 @@ pub record Matcher : Type 0 where
   pub patterns : List Pattern
   pub matches : Machine → Colour → List Match
 
--- the plain matcher of these patterns: it compares each of their diagrams with the board
+-- the codes of readings as deep as the machine reads, each read afresh
+abbrev pub codes_of : Machine → Codes
+codes_of machine = codes_at machine.plies machine.wide
+
+-- the plain matcher of these patterns: it compares each of their diagrams with the board, and reads afresh what their
+-- classes and constraints ask
 abbrev pub plain_matcher : List Pattern → Matcher
 plain_matcher patterns = record {
   patterns = patterns;
-  matches = λ machine friend. matches_of patterns
-      (position_of machine) friend;
+  matches = λ machine friend. matches_of (codes_of machine) patterns (position_of machine) friend;
 }
 
 -- the matcher of these patterns by an automaton, which need not be theirs
 abbrev pub automaton_matcher : List Pattern → List Row → Matcher
-automaton_matcher patterns rows =
-    record {
-      patterns = patterns;
-      matches = λ machine friend. machine_matches rows patterns
-          (position_of machine) friend;
-    }
+automaton_matcher patterns rows = record {
+  patterns = patterns;
+  matches = λ machine friend. machine_matches (codes_of machine) rows patterns (position_of machine) friend;
+}

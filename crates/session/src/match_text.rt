@@ -1,14 +1,16 @@
 //! Matches as a growing text, one a line.
 ghost use Rattle.std.specs.Prelude.{◌≡◌, ◌*◌, ◌<◌, ◌++◌, length, slice_get, OnOk, IfOk};
 ghost use Rattle.match_engine.specs.MachineMatches.{machine_matches};
+ghost use Rattle.match_engine.specs.Readings.{codes_of};
 ghost use Rattle.session.specs.Kept.{NumbersPatterns};
-ghost use Rattle.session.specs.MatchTexts.{name_of, match_text, matches_text, AreAmong};
+ghost use Rattle.session.specs.MatchTexts.{name_of, match_text, matches_text, AreAmong, SameDepths};
 ghost use Rattle.session.specs.PatternTexts.{feed_after};
 
 use crate::vertices::{push_number, push_vertex};
 use dfa_core::Automaton;
 use go_base::{Bytes, Colour, NoMemory, Position, Size};
-use match_engine::{Match, matches};
+use match_engine::{Readings, matches};
+use match_rules::Match;
 use pat_types::Pattern;
 use std::alloc::Global;
 
@@ -63,18 +65,21 @@ fn list_text(
     Ok(text)
 }
 
-/// The matches of the patterns by an automaton, one a line.
+/// The matches of the patterns by an automaton, one a line. What their classes and constraints ask is read at the depths
+/// of the readings.
 pub(crate) fn matches_text(
     alloc: Global,
     patterns: &[Pattern],
     machine: &Automaton,
     position: &Position,
     friend: Colour,
+    readings: &mut Readings,
 ) -> Result<Bytes, NoMemory>
     requires { NumbersPatterns machine.now patterns.now }
-    ensures { IfOk result (λ text. text ≡ matches_text patterns.now position.now.size
-        (machine_matches machine.now patterns.now position.now friend)) }
+    ensures text { IfOk result (λ text. text ≡ matches_text patterns.now position.now.size
+        (machine_matches (codes_of readings.old) machine.now patterns.now position.now friend)) }
+    ensures depths { SameDepths readings.old readings.new }
 {
-    let found = matches(alloc, patterns, machine, position, friend)?;
+    let found = matches(alloc, patterns, machine, position, friend, readings)?;
     list_text(alloc, patterns, position.size(), found.as_slice())
 }

@@ -24,6 +24,7 @@ use go_history::{History, Move};
 use go_options::Options;
 use gtp_cmd::{Command, KomiText, Parsed, RefuseText, names_text, parse};
 use gtp_lex::Raw;
+use match_engine::Readings;
 use pat_types::Pattern;
 use read_moves::Depths;
 use read_tree::Kind;
@@ -45,7 +46,7 @@ pub struct Session {
     alloc: Global,
     history: History,
     komi: KomiText,
-    depths: Depths,
+    readings: Readings,
     patterns: Vec<Pattern>,
     automaton: Automaton,
     counts: Counts,
@@ -64,8 +65,8 @@ impl Model for Session {
       size = s.history.size;
       moves = s.history.moves;
       komi = s.komi;
-      plies = s.depths.plies;
-      wide = s.depths.wide;
+      plies = s.readings.plies;
+      wide = s.readings.wide;
       patterns = s.patterns.items;
       automaton = s.automaton;
       counts = s.counts;
@@ -101,7 +102,11 @@ impl Session {
             alloc,
             history: History::new(alloc, size)?,
             komi: KomiText::zero(),
-            depths: Depths::new(options.depth, options.branch).unwrap(),
+            readings: Readings::new(
+                alloc,
+                Depths::new(options.depth, options.branch).unwrap(),
+                options.cache,
+            )?,
             patterns,
             automaton: machine,
             counts: NO_COUNTS,

@@ -11,9 +11,12 @@ use crate::session::Session;
 use go_base::Colour;
 
 impl Session {
-    pub(crate) fn list_matches(&self, friend: Colour) -> Answer
-        ensures { IsAnswer (machine_of self.now) (matches_listed (matcher_of self.now) (machine_of self.now) friend)
-            result (machine_of self.now) }
+    pub(crate) fn list_matches(&mut self, friend: Colour) -> Answer
+        ensures answer { IsAnswer (machine_of self.old)
+            (matches_listed (matcher_of self.old) (machine_of self.old) friend) result (machine_of self.new) }
+        ensures patterns { self.new.patterns ≡ self.old.patterns }
+        ensures same { self.new.automaton ≡ self.old.automaton }
+        ensures counts { self.new.counts ≡ self.old.counts }
     {
         let position = self.position();
         grown(matches_text(
@@ -22,6 +25,7 @@ impl Session {
             &self.automaton,
             &position,
             friend,
+            &mut self.readings,
         ))
     }
 

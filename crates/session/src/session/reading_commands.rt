@@ -1,5 +1,5 @@
 //! The commands that read whether a string can be captured.
-ghost use Rattle.std.specs.Prelude.{◌≡◌, ◌*◌, ◌<◌, true, false};
+ghost use Rattle.std.specs.Prelude.{◌≡◌, ◌*◌, ◌<◌, true, false, is_some};
 ghost use Rattle.session.specs.Kept.{machine_of};
 ghost use Rattle.session.specs.ReadingCommands.{read, deepened};
 ghost use Rattle.gtp_cmd.specs.Within.{AreDepths};
@@ -7,7 +7,7 @@ ghost use Rattle.session.specs.Answers.{IsAnswer};
 ghost use Rattle.session.specs.Counting.{counted, has_stone};
 
 use crate::answer::{Answer, told};
-use crate::readings::{answer_text, reading};
+use crate::readings::answer_text;
 use crate::session::Session;
 use crate::session::board_commands::has_stone;
 use go_base::Point;
@@ -16,18 +16,20 @@ use read_moves::Depths;
 use read_tree::Kind;
 
 impl Session {
-    /// Counts a reading that was made afresh and tried so many moves.
-    fn count_reading(&mut self, trials: u64)
+    /// Counts a reading: the moves that it tried, where it was made afresh.
+    fn count_reading(&mut self, tried: Option<u64>)
         ensures machine { machine_of self.new ≡ machine_of self.old }
         ensures patterns { self.new.patterns ≡ self.old.patterns }
         ensures same { self.new.automaton ≡ self.old.automaton }
         ensures readings { self.new.counts.readings ≡ counted self.old.counts.readings true }
-        ensures fresh { self.new.counts.fresh ≡ counted self.old.counts.fresh true }
+        ensures fresh { self.new.counts.fresh ≡ counted self.old.counts.fresh (is_some tried) }
         ensures none_kept { self.new.counts.refused ≡ self.old.counts.refused }
     {
         self.counts.readings = self.counts.readings.saturating_add(1);
-        self.counts.fresh = self.counts.fresh.saturating_add(1);
-        self.counts.trials = self.counts.trials.saturating_add(trials);
+        if let Some(trials) = tried {
+            self.counts.fresh = self.counts.fresh.saturating_add(1);
+            self.counts.trials = self.counts.trials.saturating_add(trials);
+        }
     }
 
     pub(crate) fn read(&mut self, kind: Kind, p: Point) -> Answer
@@ -46,8 +48,9 @@ impl Session {
         if !has_stone(&position, p) {
             return Answer::Refused(RefuseText::VertexEmpty);
         }
-        let (answer, trials) = reading(&position, kind, p, self.depths);
-        self.count_reading(trials);
+        let answer = self.readings.read(kind, &position, p);
+        let tried = self.readings.last();
+        self.count_reading(tried);
         told(answer_text(position.size(), answer).as_slice())
     }
 
@@ -59,7 +62,7 @@ impl Session {
         ensures same { self.new.automaton ≡ self.old.automaton }
         ensures counts { self.new.counts ≡ self.old.counts }
     {
-        self.depths = Depths::new(plies, wide).unwrap();
+        self.readings.set(Depths::new(plies, wide).unwrap());
         told(b"")
     }
 }
