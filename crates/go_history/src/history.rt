@@ -125,7 +125,8 @@ impl History {
     /// What is told of a move where the list is full.
     fn refused_when_full(&self, m: Move) -> HistoryError
         requires { IfSome m.at (λ p. p < self.now.size * self.now.size) }
-        ensures illegal { (e : Illegal) → (result ≡ HistoryError.Illegal e) ↔ (moved (position_of self.now) m ≡ Err e) }
+        ensures illegal { (e : Illegal)
+            → (result ≡ HistoryError.Illegal e) ↔ (moved (position_of self.now) m ≡ Err e) }
         ensures full { (result ≡ HistoryError.Full) ↔ (IsOk (moved (position_of self.now) m)) }
     {
         let _ = &self.board;
@@ -138,8 +139,8 @@ impl History {
         }
     }
 
-    /// Adds a move whose point, if it has one, lies on the board. An illegal move is told before a full list, and both before
-    /// memory is taken. After a refusal nothing has changed.
+    /// Adds a move whose point, if it has one, lies on the board. An illegal move is told before a full list, and both
+    /// before memory is taken. After a refusal nothing has changed.
     pub fn play(&mut self, m: Move) -> Result<(), HistoryError>
         requires { IfSome m.at (λ p. p < self.old.size * self.old.size) }
         ensures ok { OnOk result (self.new ≡ record { size = self.old.size; moves = self.old.moves ++ m ∷ [] }) }
@@ -147,8 +148,10 @@ impl History {
         ensures room { OnOk result (length self.old.moves < most_moves) }
 
         // Each refusal exactly where it belongs.
-        ensures illegal { (e : Illegal) → (result ≡ Err (HistoryError.Illegal e)) ↔ (moved (position_of self.old) m ≡ Err e) }
-        ensures full { (result ≡ Err HistoryError.Full) ↔ (IsOk (moved (position_of self.old) m) × (length self.old.moves ≡ most_moves)) }
+        ensures illegal { (e : Illegal)
+            → (result ≡ Err (HistoryError.Illegal e)) ↔ (moved (position_of self.old) m ≡ Err e) }
+        ensures full { (result ≡ Err HistoryError.Full)
+            ↔ (IsOk (moved (position_of self.old) m) × (length self.old.moves ≡ most_moves)) }
         ensures err { OnErr result (self.new ≡ self.old) }
     {
         if self.moves.len() >= MAX_MOVES {
@@ -173,7 +176,8 @@ impl History {
 
     /// Takes the last move back. It takes no memory.
     pub fn undo(&mut self) -> Result<(), Nothing>
-        ensures ok { OnOk result (self.new ≡ record { size = self.old.size; moves = take (length self.old.moves - 1) self.old.moves }) }
+        ensures ok { OnOk result (self.new
+            ≡ record { size = self.old.size; moves = take (length self.old.moves - 1) self.old.moves }) }
         ensures nothing { IsErr result ↔ (self.old.moves ≡ []) }
         ensures err { OnErr result (self.new ≡ self.old) }
     {

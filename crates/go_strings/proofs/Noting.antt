@@ -137,6 +137,7 @@ pub record UnwoundAll (cells : List Cell) (names : List ℕ) (notes : List Note)
   pub names_are : named ≡ names_before (drop mark notes) names
   pub notes_are : rest ≡ take mark notes
 
+-- where no more notes are left than the mark says, all past it were taken back
 pub unwound_all : (cells : List Cell) (names : List ℕ) (notes : List Note) (mark : ℕ) (left : List Cell)
     (named : List ℕ) (rest : List Note) → Unwound cells names notes mark left named rest
     → length rest ≤ mark → UnwoundAll cells names notes mark left named rest

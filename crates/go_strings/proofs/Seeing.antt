@@ -20,6 +20,7 @@ so_holds pos (BanIs p c forbidden) t = same_bool-true (is_banned pos.ban c p) fo
 pub all_agree : (pos : BoardState) → IsPosition pos → Agrees (is_so pos) pos
 all_agree pos good = record { sound = good; each = so_holds pos }
 
+-- a cell holds what it holds
 same_cell-itself : (a : Cell) → same_cell a a ≡ true
 same_cell-itself Empty = refl
 same_cell-itself Black = refl
