@@ -1,14 +1,13 @@
 -- What a session keeps: the machine that it is, and how it finds matches.
 use Rattle.std.specs.Prelude.{ℕ, ◌<◌, List, [], length, codes, Contains}
 use Rattle.go_rules.specs.declared.Move.{Move}
-use Rattle.go_rules.specs.Board.{largest_size}
 use Rattle.pat_types.specs.declared.pattern.Pattern.{Pattern}
 use Rattle.dfa_core.specs.Automata.{Row, accepted}
 use Rattle.dfa_core.specs.Words.{Word}
 use Rattle.gtp_rules.specs.Lines.{RawLine}
 use Rattle.gtp_rules.specs.Steps.{Step}
 use Rattle.run_notes.specs.declared.notes.Counts.{Counts}
-use Rattle.session.specs.Machine.{Machine}
+use Rattle.session.specs.Machine.{Machine, first_size}
 use Rattle.session.specs.Matcher.{Matcher, automaton_matcher}
 use Rattle.session.specs.Answering.{step}
 
@@ -49,7 +48,7 @@ no_counts = record { readings = 0; fresh = 0; trials = 0; refused = 0 }
 -- first line
 abbrev pub first_kept : List Pattern → List Row → ℕ → ℕ → Kept
 first_kept patterns automaton plies wide = record {
-  size = largest_size;
+  size = first_size;
   moves = [];
   komi = codes "0.0";
   plies = plies;

@@ -18,7 +18,6 @@ mod reading_commands;
 use crate::answer::{Answer, grown, told};
 use crate::reply::Reply;
 use dfa_core::Automaton;
-use go_base::size::MAX_SIZE;
 use go_base::{Bytes, NoMemory, Position, Size};
 use go_history::{History, Move};
 use go_options::Options;
@@ -39,6 +38,9 @@ const NO_COUNTS: Counts = Counts {
     trials: 0,
     refused: 0,
 };
+
+/// The size of the board before the first line that says one.
+const FIRST_SIZE: u8 = 19;
 
 /// A session of the protocol, seen as what it keeps; `machine_of` is the machine that this is.
 #[derive(Drop)]
@@ -84,8 +86,8 @@ fn word(known: bool) -> &'static [u8]
 }
 
 impl Session {
-    /// A session with these patterns, whose matches it finds by this automaton, before its first line: the largest
-    /// board, no moves, the komi 0.0, readings as deep as the options say, nothing counted. Takes memory.
+    /// A session with these patterns, whose matches it finds by this automaton, before its first line: a board of 19
+    /// by 19, no moves, the komi 0.0, readings as deep as the options say, nothing counted. Takes memory.
     pub fn new(
         alloc: Global,
         patterns: Vec<Pattern>,
@@ -97,7 +99,7 @@ impl Session {
         ensures { IfOk result (λ session. session
             ≡ first_kept patterns.items machine options.now.depth options.now.branch) }
     {
-        let size = Size::new(MAX_SIZE).unwrap();
+        let size = Size::new(FIRST_SIZE).unwrap();
         Ok(Session {
             alloc,
             history: History::new(alloc, size)?,
