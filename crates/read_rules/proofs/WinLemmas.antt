@@ -47,7 +47,7 @@ first-none g t (suc n) a none =
     skip false h rest = rest
 
 -- a move was found exactly where one is there
-any-first : {X : Type 0} (f : X → Bool) (xs : List X) → is_some (find f xs) ≡ list_any f xs
+pub any-first : {X : Type 0} (f : X → Bool) (xs : List X) → is_some (find f xs) ≡ list_any f xs
 any-first f [] = refl
 any-first f (x ∷ xs) = by (f x) (any-first f xs)
   where

@@ -1,1 +1,5 @@
 pub mod ChildLemmas
+pub mod AllowanceLemmas
+pub mod BestLemmas
+pub mod LibertyLemmas
+pub mod TakeLemmas

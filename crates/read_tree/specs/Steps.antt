@@ -1,17 +1,90 @@
 -- What the steps of the reader answer.
-use Rattle.std.specs.Prelude.{Option, Some, None, List}
-use Rattle.go_rules.specs.Position.{BoardState}
+use Rattle.std.specs.Prelude.{◌≡◌, ◌≢◌, ℕ, ◌<◌, ◌≤◌, ◌&&◌, Bool, true, false, not, List, Some, None, if◌then◌else◌}
+use Rattle.go_rules.specs.Strings.{cell_at, is_liberty}
+use Rattle.go_rules.specs.Position.{BoardState, other, stone_of, is_banned}
+use Rattle.read_tree.specs.declared.tree.Outlook.{Outlook}
+use Rattle.read_tree.specs.declared.tree.Outlook.TheVariants.{Safe, Taken, Open}
 use Rattle.trial_board.specs.declared.moves.TrialMove.{TrialMove}
 use Rattle.trial_board.specs.Trials.{tail}
 use Rattle.read_rules.specs.declared.node.Node.{Node}
+use Rattle.read_rules.specs.declared.question.ReadingQuestion.{ReadingQuestion}
+use Rattle.read_rules.specs.declared.question.Spot.{Spot}
+use Rattle.read_rules.specs.declared.question.Spot.TheVariants.{Pass}
+use Rattle.read_rules.specs.declared.question.Answer.{Answer}
+use Rattle.read_tree.specs.declared.turn.Turn.{Turn}
+use Rattle.read_tree.specs.declared.allowances.Allowances.{Allowances}
+use Rattle.read_tree.specs.declared.tree.Made.{Made}
+use Rattle.read_tree.specs.declared.tree.Made.TheVariants.{Not, Legal, Allowed}
+use Rattle.read_rules.specs.GameTree.{child_of, first_move, pass_saves, succeeds}
+use Rattle.read_tree.specs.Allowances.{Ko, neither_may, has, has_some, own_ko, under, next_turn, ko_of, best_code}
+use Rattle.read_rules.specs.ActiveArea.{IsNodeOf}
+use Rattle.read_rules.specs.Answer.{is_attack}
 pub use Rattle.read_rules.specs.GoodMoves.{IsOnBoard}
 
 -- the moves without the newest, where a play was made
-abbrev pub tail_if : Option Node → List TrialMove → List TrialMove
-tail_if None moves = moves
-tail_if (Some node) moves = tail moves
+abbrev pub tail_if : Made → List TrialMove → List TrialMove
+tail_if Not moves = moves
+tail_if Legal moves = tail moves
+tail_if Allowed moves = tail moves
 
--- the node, where there is one, with a position
-abbrev pub with_position : Option Node → BoardState → Option (Node × BoardState)
-with_position None pos = None
-with_position (Some node) pos = Some (node, pos)
+-- where the play at p leads from here, under each allowance: nowhere; to new, and the allowance is kept; or the mover's own
+-- allowance alone lets it be played, is spent, and it leads to new. Where the own allowance is not asked for, nothing is said of it
+abbrev pub Makes : Made → Turn → Bool → BoardState → ℕ → BoardState → Type 0
+Makes Not turn own here p new = (ko : Ko) → (ko ≡ own_ko turn.attacker_to_play → own ≡ true) → child_of (under turn ko) here p ≡ None
+Makes Legal turn own here p new = (ko : Ko) → child_of (under turn ko) here p ≡ Some (under (next_turn turn) ko, new)
+Makes Allowed turn own here p new =
+    (child_of (under turn (own_ko turn.attacker_to_play)) here p ≡ Some (under (next_turn turn) neither_may, new))
+    × ((ko : Ko) → ko ≢ own_ko turn.attacker_to_play → child_of (under turn ko) here p ≡ None)
+
+-- the side that moved, the attacker or not, has its way
+abbrev pub has_way : Bool → Bool → Bool
+has_way attacker won = if attacker then won else not won
+
+-- under each of the asked allowances the node is one of the trees of the question
+pub record AreNodesOf (q : ReadingQuestion) (root : BoardState) (n : ℕ) (turn : Turn) (asked : Allowances) (here : BoardState) : Type 0 where
+  pub each : (ko : Ko) → has asked ko ≡ true → IsNodeOf q root n (under turn ko) here
+
+-- the first turn of a question
+abbrev pub first_turn : ReadingQuestion → Turn
+first_turn q = record { target = q.target; defender = q.colour; attacker_to_play = is_attack q.kind; wide = q.wide }
+
+-- the answer where the target has too many liberties
+abbrev pub unread : Bool → Answer
+unread attack = if attack then record { code = 0; at = None } else record { code = 3; at = Some Pass }
+
+-- the best answer so far, or the move, where it has its way under some of the allowances above the best so far
+abbrev pub better : Answer → Bool → Allowances → Spot → Answer
+better best attack good spot = if has_some good then record { code = best_code good best.code attack; at = Some spot } else best
+
+-- the node under the allowance of a code
+abbrev pub node_of : Turn → ℕ → Node
+node_of turn code = under turn (ko_of turn.attacker_to_play code)
+
+-- the best of the pass and of the candidates that were tried: no greater code is attained by them, and its move is the first
+pub record IsBest (n : ℕ) (turn : Turn) (here : BoardState) (tried : ℕ → Bool) (best : Answer) : Type 0 where
+  pub bounded : best.code ≤ 3
+  pub no_pass : (code : ℕ) → best.code < code → code ≤ 3 → pass_saves n (node_of turn code) here ≡ false
+  pub no_point : (code : ℕ) → best.code < code → code ≤ 3 → (q : ℕ) → (tried q && succeeds n (node_of turn code) here q) ≡ false
+  pub no_move : best.code ≡ 0 → best.at ≡ None
+  pub move : best.code ≢ 0 → (spot : Spot) × (best.at ≡ Some spot) × (Some spot ≡ first_move n (node_of turn best.code) here)
+
+-- what is missing of the asked: no candidate before the next point gives it, and the rest each is given by one
+pub record IsLeft (n : ℕ) (turn : Turn) (here : BoardState) (candidate : ℕ → Bool) (next : ℕ) (asked missing : Allowances) : Type 0 where
+  pub asked_for : (ko : Ko) → has missing ko ≡ true → has asked ko ≡ true
+  pub none : (ko : Ko) → has missing ko ≡ true → (q : ℕ) → q < next → (candidate q && succeeds n (under turn ko) here q) ≡ false
+  pub given : (ko : Ko) → has asked ko ≡ true → has missing ko ≡ false → (q : ℕ) × (candidate q ≡ true) × (succeeds n (under turn ko) here q ≡ true)
+
+-- the outlook is that the target is safe
+abbrev pub is_safe : Outlook → Bool
+is_safe Safe = true
+is_safe Taken = false
+is_safe Open = false
+
+-- it is the attacker's turn, l is the only liberty of the target, which is of the defender's colour, and the ban lets him play there
+pub record IsTaken (turn : Turn) (here : BoardState) : Type 0 where
+  pub attacks : turn.attacker_to_play ≡ true
+  pub enemy : cell_at here.cells turn.target ≡ stone_of turn.defender
+  pub l : ℕ
+  pub liberty : is_liberty here.size here.cells turn.target l ≡ true
+  pub only : (x : ℕ) → is_liberty here.size here.cells turn.target x ≡ true → x ≡ l
+  pub free : is_banned here.ban (other turn.defender) l ≡ false

@@ -7,13 +7,18 @@
 //! After GNU Go Manual, "Tactical reading"; the tree, its bounds and its ko allowances are this project's own.
 #![tactic(auto)]
 
+pub mod allowances;
+pub mod laws;
 pub mod reading;
 pub mod told;
 mod tree;
+pub mod turn;
 
+pub use allowances::Allowances;
 pub use read_rules::{Answer, Depths, Kind, Node, ReadingQuestion, Spot};
 pub use reading::{attack, defend};
 pub use told::Told;
+pub use turn::Turn;
 
 #[cfg(test)]
 mod tests;

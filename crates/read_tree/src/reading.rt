@@ -1,78 +1,105 @@
 //! The two questions: attack and defend.
 
-ghost use Rattle.std.specs.Prelude.{◌≡◌, ◌≢◌, ◌+◌, ◌*◌, ◌<◌, ◌≤◌, ◌↔◌, ℕ, Bool, true, false, length, IsNone, IfSome, IsTrue};
+ghost use Rattle.std.specs.Prelude.{◌≡◌, ◌≢◌, ◌+◌, ◌*◌, ◌<◌, ◌≤◌, ◌↔◌, ℕ, suc, Bool, true, false, length, IsNone, IfSome, IsTrue, None, Some};
 ghost use Rattle.go_rules.specs.Position.{BoardState};
-ghost use Rattle.go_rules.specs.Strings.{cell_at};
-ghost use Rattle.go_base.specs.Facts.{Agrees, Grows, CellIs};
+ghost use Rattle.go_rules.specs.Strings.{cell_at, liberties};
+ghost use Rattle.go_rules.specs.Neighbourhood.{neighbourhood_of};
+ghost use Rattle.go_base.specs.Facts.{Agrees, Grows, AddsIn, CellIs};
 ghost use Rattle.trial_board.specs.Trials.{Stays, most_moves, after};
-ghost use Rattle.read_rules.specs.GameTree.{is_captured};
-ghost use Rattle.read_rules.specs.ActiveArea.{InActiveArea, AddsNear};
-ghost use Rattle.read_rules.specs.Answer.{own_allowance, other_allowance, first_node, is_about, answer_of, asked_on, colour_of};
-ghost use Rattle.read_rules.specs.GoodMoves.{Reads, IsOnBoard};
+ghost use Rattle.go_base.specs.Views.{nowhere, alone};
+ghost use Rattle.read_rules.specs.Candidates.{is_candidate};
+ghost use Rattle.read_rules.specs.ActiveArea.{IsUndecided, InActiveArea, AddsNear};
+ghost use Rattle.read_rules.specs.Answer.{is_attack, is_about, answer_of, asked_on, colour_of};
+ghost use Rattle.read_tree.specs.Allowances.{Ko, under};
+ghost use Rattle.read_tree.specs.Bound.{outlasts};
+ghost use Rattle.read_rules.specs.GoodMoves.{IsOnBoard};
+ghost use Rattle.read_tree.specs.Steps.{first_turn, unread, better, IsBest, AreNodesOf};
 
+use crate::allowances::Allowances;
 use crate::told::Told;
-use crate::tree::good_move;
+use crate::tree::{has_too_many, pass_saves, succeeds};
+use crate::turn::Turn;
 use go_base::{Cell, Colour, Look, Point};
-use read_rules::{Answer, Depths, Kind, Node, ReadingQuestion, Spot};
+use read_moves::candidates;
+use read_rules::{Answer, Depths, Kind, ReadingQuestion, Spot};
 use trial_board::Trial;
 
-/// How often the side that is asked about may ignore the ko ban under a code.
-fn own_allowance(code: u8) -> u8
-    ensures { result ≡ own_allowance code }
+/// The first turn of a question: the side that is asked about is to play.
+fn first_turn(question: &ReadingQuestion) -> Turn
+    ensures { result ≡ first_turn question.now }
 {
-    if code == 1 { 1 } else { 0 }
-}
-
-/// How often the other side may.
-fn other_allowance(code: u8) -> u8
-    ensures { result ≡ other_allowance code }
-{
-    if code == 3 { 1 } else { 0 }
-}
-
-/// The first node of a question under the ko allowances of a code.
-fn first_node(question: &ReadingQuestion, code: u8) -> Node
-    ensures { result ≡ first_node question.now code }
-{
-    let own = own_allowance(code);
-    let other = other_allowance(code);
-    match question.kind {
-        Kind::Attack => Node {
-            target: question.target,
-            defender: question.colour,
-            attacker_to_play: true,
-            wide: question.wide,
-            attacker_ko: own,
-            defender_ko: other,
+    Turn {
+        target: question.target,
+        defender: question.colour,
+        attacker_to_play: match question.kind {
+            Kind::Attack => true,
+            Kind::Defend => false,
         },
-        Kind::Defend => Node {
-            target: question.target,
-            defender: question.colour,
-            attacker_to_play: false,
-            wide: question.wide,
-            attacker_ko: other,
-            defender_ko: own,
-        },
+        wide: question.wide,
     }
 }
 
-/// The first move by which the question attains the code, where it does.
-fn read_code<L: Look>(board: &mut Trial<L>, question: &ReadingQuestion, code: u8) -> Option<Spot>
-    requires plies { 0 < question.now.plies }
-    requires room { length board.old.moves + question.now.plies ≤ most_moves }
-    requires target { question.now.target < (L.shows board.old.look).size * (L.shows board.old.look).size }
-    ensures stays { Stays L.shows L.seen board.old board.new }
-    ensures on_board { IfSome result (IsOnBoard (L.shows board.old.look).size) }
-    ensures over { (pos : BoardState) → Agrees (L.seen board.new.look) pos
-        → is_captured (after pos board.old.moves) question.now.target ≡ false
-        → Reads question.now (after pos board.old.moves) code result }
-    ensures near { (pos : BoardState) → Agrees (L.seen board.new.look) pos → 1 ≤ code → code ≤ 3
-        → is_captured (after pos board.old.moves) question.now.target ≡ false
-        → AddsNear (L.seen board.old.look) (L.seen board.new.look) (InActiveArea question.now (after pos board.old.moves)) }
+/// The best answer so far, or the move, where it has its way under some of the allowances of greater codes.
+fn better(best: Answer, attack: bool, good: Allowances, spot: Spot) -> Answer
+    ensures is { result ≡ better best attack good spot }
+    ensures code { best.code ≤ 3 → result.code ≤ 3 }
+    ensures none { (IsNone best.at ↔ (best.code ≡ 0)) → IsNone result.at ↔ (result.code ≡ 0) }
 {
-    let node = first_node(question, code);
-    let plies = question.plies - 1;
-    good_move(board, node, plies)
+    if !good.has_some() {
+        return best;
+    }
+    Answer {
+        code: good.best_code(best.code, attack),
+        at: Some(spot),
+    }
+}
+
+/// The answer by the candidates in reading order, from the best answer so far: each is asked only for the codes above the best.
+fn best_point<L: Look>(board: &mut Trial<L>, turn: Turn, plies: u8, first: Answer) -> Answer
+    requires room { length board.old.moves + plies < most_moves }
+    requires target { turn.target < (L.shows board.old.look).size * (L.shows board.old.look).size }
+    requires code { first.code < 3 }
+    requires none { IsNone first.at ↔ (first.code ≡ 0) }
+    requires on_board { IfSome first.at (IsOnBoard (L.shows board.old.look).size) }
+    ensures stays { Stays L.shows L.seen board.old board.new }
+    ensures code { result.code ≤ 3 }
+    ensures none { IsNone result.at ↔ (result.code ≡ 0) }
+    ensures on_board { IfSome result.at (IsOnBoard (L.shows board.old.look).size) }
+    ensures over { (pos : BoardState) → Agrees (L.seen board.new.look) pos
+        → IsBest plies turn (after pos board.old.moves) nowhere first
+        → IsBest plies turn (after pos board.old.moves) (is_candidate (after pos board.old.moves) turn.target turn.wide) result }
+    ensures near { (pos : BoardState) → Agrees (L.seen board.new.look) pos → (q : ReadingQuestion) (root : BoardState)
+        → AreNodesOf q root (suc plies) turn (record { defender = true; neither = true; attacker = true }) (after pos board.old.moves)
+        → ((ko : Ko) → IsUndecided (under turn ko) (after pos board.old.moves))
+        → AddsNear (L.seen board.old.look) (L.seen board.new.look) (InActiveArea q root) }
+{
+    let candidates = candidates(board, turn.target, turn.wide);
+    let mut best = first;
+    let mut next = 0;
+    while let Some(p) = candidates.first_from(next) {
+        let asked = Allowances::above(best.code, turn.attacker_to_play);
+        let good = succeeds(board, turn, p, plies, asked);
+        best = better(best, turn.attacker_to_play, good, Spot::At(p));
+        if best.code == 3 {
+            return best;
+        }
+        next = p + 1;
+    }
+    best
+}
+
+/// The answer where the target has too many liberties: an attack fails, and no defence is needed.
+fn unread(attack: bool) -> Answer
+    ensures { result ≡ unread attack }
+{
+    if attack {
+        Answer { code: 0, at: None }
+    } else {
+        Answer {
+            code: 3,
+            at: Some(Spot::Pass),
+        }
+    }
 }
 
 /// The answer to a question that is about the position.
@@ -84,30 +111,30 @@ fn read<L: Look>(board: &mut Trial<L>, question: &ReadingQuestion) -> Answer
     ensures code { result.code ≤ 3 }
     ensures none { IsNone result.at ↔ (result.code ≡ 0) }
     ensures on_board { IfSome result.at (IsOnBoard (L.shows board.old.look).size) }
+    ensures too_many { IsTrue (outlasts (is_attack question.now.kind) question.now.plies question.now.wide
+        (liberties (L.shows board.old.look).size (after (L.shows board.old.look) board.old.moves).cells question.now.target))
+        → (result ≡ unread (is_attack question.now.kind)) × (board.new.count ≡ board.old.count) × AddsIn (L.seen board.old.look) (L.seen board.new.look)
+        (neighbourhood_of (L.shows board.old.look).size (after (L.shows board.old.look) board.old.moves).cells (alone question.now.target)) }
     ensures over { (pos : BoardState) → Agrees (L.seen board.new.look) pos → is_about question.now (after pos board.old.moves) ≡ true
         → result ≡ answer_of question.now (after pos board.old.moves) }
     ensures near { (pos : BoardState) → Agrees (L.seen board.new.look) pos → is_about question.now (after pos board.old.moves) ≡ true
         → AddsNear (L.seen board.old.look) (L.seen board.new.look) (InActiveArea question.now (after pos board.old.moves)) }
 {
-    if let Some(spot) = read_code(board, question, 3) {
-        return Answer {
-            code: 3,
-            at: Some(spot),
-        };
+    let turn = first_turn(question);
+    let plies = question.plies - 1;
+    let nothing = Answer { code: 0, at: None };
+    if has_too_many(board, turn, question.plies) {
+        return unread(turn.attacker_to_play);
     }
-    if let Some(spot) = read_code(board, question, 2) {
-        return Answer {
-            code: 2,
-            at: Some(spot),
-        };
+    if turn.attacker_to_play {
+        return best_point(board, turn, plies, nothing);
     }
-    if let Some(spot) = read_code(board, question, 1) {
-        return Answer {
-            code: 1,
-            at: Some(spot),
-        };
+    let saved = pass_saves(board, turn, plies, Allowances::all());
+    let best = better(nothing, turn.attacker_to_play, saved, Spot::Pass);
+    if best.code == 3 {
+        return best;
     }
-    Answer { code: 0, at: None }
+    best_point(board, turn, plies, best)
 }
 
 /// The colour of a stone.
@@ -134,6 +161,9 @@ fn answered<L: Look>(look: L, kind: Kind, target: Point, depths: Depths) -> Told
     ensures on_board { IfSome result.answer.at (IsOnBoard (L.shows look).size) }
     ensures over { (pos : BoardState) → Agrees (L.seen result.look) pos
         → result.answer ≡ answer_of (asked_on (L.shows look) kind target depths.plies depths.wide) pos }
+    ensures too_many { IsTrue (outlasts (is_attack kind) depths.plies depths.wide (liberties (L.shows look).size (L.shows look).cells target))
+        → (result.answer ≡ unread (is_attack kind)) × (result.trials ≡ 0)
+        × AddsIn (L.seen look) (L.seen result.look) (neighbourhood_of (L.shows look).size (L.shows look).cells (alone target)) }
     ensures near { (pos : BoardState) → Agrees (L.seen result.look) pos
         → AddsNear (L.seen look) (L.seen result.look) (InActiveArea (asked_on (L.shows look) kind target depths.plies depths.wide) pos) }
 {
@@ -178,6 +208,12 @@ pub fn attack<L: Look>(look: L, target: Point, depths: Depths) -> Told<L>
         → result.answer ≡ answer_of (asked_on (L.shows look) Kind.Attack target depths.plies depths.wide) pos }
     ensures answer { result.answer ≡ answer_of (asked_on (L.shows look) Kind.Attack target depths.plies depths.wide) (L.shows look) }
 
+    // With too many liberties for the plies or the wide plies that are left, the attack fails: no play is tried, and what is looked at lies in the
+    // neighbourhood of the target.
+    ensures too_many { IsTrue (outlasts true depths.plies depths.wide (liberties (L.shows look).size (L.shows look).cells target))
+        → (result.answer ≡ record { code = 0; at = None }) × (result.trials ≡ 0)
+        × AddsIn (L.seen look) (L.seen result.look) (neighbourhood_of (L.shows look).size (L.shows look).cells (alone target)) }
+
     // On each of these positions the points looked at lie in the active area of the reading.
     ensures near { (pos : BoardState) → Agrees (L.seen result.look) pos
         → AddsNear (L.seen look) (L.seen result.look) (InActiveArea (asked_on (L.shows look) Kind.Attack target depths.plies depths.wide) pos) }
@@ -206,6 +242,12 @@ pub fn defend<L: Look>(look: L, target: Point, depths: Depths) -> Told<L>
     ensures over { (pos : BoardState) → Agrees (L.seen result.look) pos
         → result.answer ≡ answer_of (asked_on (L.shows look) Kind.Defend target depths.plies depths.wide) pos }
     ensures answer { result.answer ≡ answer_of (asked_on (L.shows look) Kind.Defend target depths.plies depths.wide) (L.shows look) }
+
+    // With too many liberties for the plies or the wide plies that are left, no defence is needed: no play is tried, and what is looked at lies in the
+    // neighbourhood of the target.
+    ensures too_many { IsTrue (outlasts false depths.plies depths.wide (liberties (L.shows look).size (L.shows look).cells target))
+        → (result.answer ≡ record { code = 3; at = Some Spot.Pass }) × (result.trials ≡ 0)
+        × AddsIn (L.seen look) (L.seen result.look) (neighbourhood_of (L.shows look).size (L.shows look).cells (alone target)) }
 
     // On each of these positions the points looked at lie in the active area of the reading.
     ensures near { (pos : BoardState) → Agrees (L.seen result.look) pos

@@ -1,183 +1,349 @@
 //! The walk over the game tree: the plays of a node one after another, each read to its end before the next.
 
-ghost use Rattle.std.specs.Prelude.{◌≡◌, ◌⊎◌, ◌+◌, ◌*◌, ◌<◌, ◌≤◌, ℕ, suc, ◌==◌, ◌||◌, ◌&&◌, nat_lt, true, false, IsTrue, length, IfSome};
+ghost use Rattle.std.specs.Prelude.{◌≡◌, ◌⊎◌, ◌+◌, ◌*◌, ◌<◌, ◌≤◌, ℕ, suc, ◌==◌, ◌||◌, ◌&&◌, nat_lt, true, false, IsTrue, length, is_some, if◌then◌else◌};
 ghost use Rattle.go_rules.specs.Neighbourhood.{neighbourhood_of};
-ghost use Rattle.go_rules.specs.Position.{BoardState};
+ghost use Rattle.go_rules.specs.Strings.{liberties, liberty_points};
+ghost use Rattle.std.specs.FinSet as set;
+ghost use Rattle.go_rules.specs.Position.{BoardState, stone_of};
 ghost use Rattle.go_base.specs.Facts.{Agrees, Grows, AddsIn};
 ghost use Rattle.go_base.specs.Views.{alone};
 ghost use Rattle.trial_board.specs.Overlays.{neighbourhood_twice};
 ghost use Rattle.read_rules.specs.Candidates.{is_candidate};
 ghost use Rattle.trial_board.specs.Trials.{Stays, most_moves, after};
 ghost use Rattle.read_rules.specs.declared.question.ReadingQuestion.{ReadingQuestion};
-ghost use Rattle.read_rules.specs.ActiveArea.{IsNodeOf, IsUndecided, InActiveArea, AddsNear};
-ghost use Rattle.read_rules.specs.GameTree.{is_captured, has_many_liberties, child_of, attacker_wins, succeeds, first_success, at_point};
-ghost use Rattle.read_rules.specs.GoodMoves.{good_move, IsOnBoard};
-ghost use Rattle.read_tree.specs.Steps.{tail_if, with_position};
+ghost use Rattle.read_rules.specs.ActiveArea.{IsUndecided, InActiveArea, AddsNear};
+ghost use Rattle.read_tree.specs.Bound.{most_by_wide, outlasts};
+ghost use Rattle.read_rules.specs.GameTree.{is_captured, attacker_wins, succeeds, first_success, pass_saves};
+ghost use Rattle.read_tree.specs.Allowances.{Ko, under, next_turn, has_some, without, Tells};
+ghost use Rattle.read_rules.specs.GoodMoves.{good_move};
+ghost use Rattle.read_tree.specs.Steps.{IsTaken, is_safe, tail_if, Makes, has_way, AreNodesOf};
 
-use go_base::{Cell, Look, Point};
+use crate::allowances::Allowances;
+use crate::turn::Turn;
+use go_base::points::PointSet;
+use go_base::{Cell, Colour, Look, Point};
 use read_moves::candidates;
-use read_rules::{Node, Spot};
 use trial_board::{Trial, Tried};
 
-/// A target with more liberties is not attacked.
-const MAX_LIBERTIES_WIDE: u16 = 4;
-
-/// A target with more liberties is not attacked where no wide ply is left.
-const MAX_LIBERTIES: u16 = 2;
-
-/// Whether so many liberties are too many for the attacker.
-fn are_many(liberties: u16, wide: u8) -> bool
-    ensures { result ≡ (nat_lt 4 liberties || ((wide == 0) && nat_lt 2 liberties)) }
+/// How many liberties a target may have that is captured with so many wide plies left.
+fn most_by_wide(wide: u8) -> u16
+    ensures { result ≡ most_by_wide wide }
 {
-    liberties > MAX_LIBERTIES_WIDE || (wide == 0 && liberties > MAX_LIBERTIES)
+    if wide == 0 {
+        2
+    } else if wide < 3 {
+        3
+    } else {
+        4
+    }
 }
 
-/// Whether the target has too many liberties for the attacker.
-fn has_many_liberties<L: Look>(board: &mut Trial<L>, target: Point, wide: u8) -> bool
-    requires { target < (L.shows board.old.look).size * (L.shows board.old.look).size }
+/// Whether so many liberties are too many for the plies and the wide plies that are left.
+#[tactic(auto, unfolding(crate::specs::Bound::outlasts))]
+fn outlasts(attacker: bool, plies: u8, wide: u8, liberties: u16) -> bool
+    ensures { result ≡ outlasts attacker plies wide liberties }
+{
+    if attacker {
+        liberties > (u16::from(plies) + 1) / 2 || liberties > most_by_wide(wide)
+    } else {
+        liberties > u16::from(plies) / 2 || liberties > most_by_wide(wide.saturating_sub(1))
+    }
+}
+
+/// The cell of a stone of the colour.
+fn stone_of(colour: Colour) -> Cell
+    ensures { result ≡ stone_of colour }
+{
+    match colour {
+        Colour::Black => Cell::Black,
+        Colour::White => Cell::White,
+    }
+}
+
+/// Whether it is the attacker's turn and he may take the target by its only liberty.
+fn can_take<L: Look>(board: &mut Trial<L>, turn: Turn, liberties: &PointSet) -> bool
+    requires target { turn.target < (L.shows board.old.look).size * (L.shows board.old.look).size }
+    requires liberties { liberties.now ≡ liberty_points (L.shows board.old.look).size (after (L.shows board.old.look) board.old.moves).cells turn.target }
+    ensures stays { Stays L.shows L.seen board.old board.new }
+    ensures count { board.new.count ≡ board.old.count }
+    ensures over { (pos : BoardState) → Agrees (L.seen board.new.look) pos → liberties.now ≡ liberty_points pos.size (after pos board.old.moves).cells turn.target
+        → result ≡ true → IsTaken turn (after pos board.old.moves) }
+    ensures near { AddsIn (L.seen board.old.look) (L.seen board.new.look) (λ p. alone turn.target p || set.contains liberties.now p) }
+{
+    if !turn.attacker_to_play || board.cell(turn.target) != stone_of(turn.defender) {
+        return false;
+    }
+    match liberties.first_from(0) {
+        Some(l) => liberties.first_from(l + 1).is_none() && !board.bans(turn.mover(), l),
+        None => false,
+    }
+}
+
+/// What is known of a node by the target's liberties alone.
+#[derive(Clone, Copy, Debug, PartialEq, Eq)]
+pub enum Outlook {
+    /// The target is not captured: it has too many liberties.
+    Safe,
+    /// The attacker takes it now.
+    Taken,
+    /// It is to be read.
+    Open,
+}
+
+/// What is known of a node by the target's liberties, with `plies` plies left.
+fn outlook_of<L: Look>(board: &mut Trial<L>, turn: Turn, plies: u8) -> Outlook
+    requires { turn.target < (L.shows board.old.look).size * (L.shows board.old.look).size }
     ensures stays { Stays L.shows L.seen board.old board.new }
     ensures over { (pos : BoardState) → Agrees (L.seen board.new.look) pos
-        → result ≡ has_many_liberties (after pos board.old.moves) target wide }
+        → outlasts turn.attacker_to_play plies turn.wide (liberties pos.size (after pos board.old.moves).cells turn.target) ≡ is_safe result }
+    ensures taken { (pos : BoardState) → Agrees (L.seen board.new.look) pos → result ≡ Outlook.Taken → IsTaken turn (after pos board.old.moves) }
     ensures near { (pos : BoardState) → Agrees (L.seen board.new.look) pos → AddsIn (L.seen board.old.look) (L.seen board.new.look)
-        (neighbourhood_of pos.size (after pos board.old.moves).cells (alone target)) }
+        (neighbourhood_of pos.size (after pos board.old.moves).cells (alone turn.target)) }
 {
-    are_many(board.liberties(target).count(), wide)
+    let liberties = board.liberties(turn.target);
+    if outlasts(turn.attacker_to_play, plies, turn.wide, liberties.count()) {
+        return Outlook::Safe;
+    }
+    if can_take(board, turn, &liberties) {
+        return Outlook::Taken;
+    }
+    Outlook::Open
 }
 
-/// Plays for the side to play at p, where the rules or its allowance let it. A play that is made stands afterwards.
-fn child<L: Look>(board: &mut Trial<L>, node: Node, p: Point) -> Option<Node>
+/// Whether the target has too many liberties to be captured, with `plies` plies left.
+pub fn has_too_many<L: Look>(board: &mut Trial<L>, turn: Turn, plies: u8) -> bool
+    requires { turn.target < (L.shows board.old.look).size * (L.shows board.old.look).size }
+    ensures stays { Stays L.shows L.seen board.old board.new }
+    ensures count { board.new.count ≡ board.old.count }
+    ensures over { (pos : BoardState) → Agrees (L.seen board.new.look) pos
+        → result ≡ outlasts turn.attacker_to_play plies turn.wide (liberties pos.size (after pos board.old.moves).cells turn.target) }
+    ensures near { (pos : BoardState) → Agrees (L.seen board.new.look) pos → AddsIn (L.seen board.old.look) (L.seen board.new.look)
+        (neighbourhood_of pos.size (after pos board.old.moves).cells (alone turn.target)) }
+{
+    let liberties = board.liberties(turn.target).count();
+    outlasts(turn.attacker_to_play, plies, turn.wide, liberties)
+}
+
+/// What comes of a play at a node.
+#[derive(Clone, Copy, Debug, PartialEq, Eq)]
+pub enum Made {
+    /// It is not made.
+    Not,
+    /// It is legal, and was made.
+    Legal,
+    /// The ban alone forbids it, and it was made by the mover's own allowance.
+    Allowed,
+}
+
+/// Plays for the side to play at p, where the rules let it, or with `own` its own allowance. A play that is made stands afterwards.
+fn make<L: Look>(board: &mut Trial<L>, turn: Turn, p: Point, own: bool) -> Made
     requires room { length board.old.moves < most_moves }
     requires on_board { p < (L.shows board.old.look).size * (L.shows board.old.look).size }
     ensures shown { L.shows board.new.look ≡ L.shows board.old.look }
     ensures grows { Grows (L.seen board.old.look) (L.seen board.new.look) }
     ensures moves { tail_if result board.new.moves ≡ board.old.moves }
     ensures few { length board.new.moves ≤ length board.old.moves + 1 }
-    ensures target { IfSome result (λ next. next.target ≡ node.target) }
     ensures over { (pos : BoardState) → Agrees (L.seen board.new.look) pos
-        → child_of node (after pos board.old.moves) p ≡ with_position result (after pos board.new.moves) }
+        → Makes result turn own (after pos board.old.moves) p (after pos board.new.moves) }
     ensures near { (pos : BoardState) → Agrees (L.seen board.new.look) pos → AddsIn (L.seen board.old.look) (L.seen board.new.look)
         (neighbourhood_twice pos.size (after pos board.old.moves).cells p) }
+    ensures own { result ≡ Made.Allowed → own ≡ true }
 {
-    let allowance = node.allowance();
-    match board.play(node.mover(), p, false) {
-        Tried::Done => Some(node.next(allowance)),
+    match board.play(turn.mover(), p, false) {
+        Tried::Done => Made::Legal,
         Tried::Banned => {
-            if allowance == 0 {
-                return None;
+            if !own {
+                return Made::Not;
             }
-            match board.play(node.mover(), p, true) {
-                Tried::Done => Some(node.next(allowance - 1)),
-                _ => None,
+            match board.play(turn.mover(), p, true) {
+                Tried::Done => Made::Allowed,
+                _ => Made::Not,
             }
         }
-        Tried::Occupied | Tried::Suicide => None,
+        Tried::Occupied | Tried::Suicide => Made::Not,
     }
 }
 
-/// Whether the play at p gives the side to play its way, with `plies` plies left after it.
+/// Those of the asked under which the attacker wins, by those under which the side to play, the attacker or not, has its way.
+fn attackers(attacker: bool, asked: Allowances, good: Allowances) -> Allowances
+    ensures { result ≡ (if attacker then good else without asked good) }
+{
+    if attacker { good } else { asked.without(good) }
+}
+
+/// Those of the asked under which the side that has moved at `turn` has its way, with `plies` plies left.
 #[cycle(read)]
-fn succeeds<L: Look>(board: &mut Trial<L>, node: Node, p: Point, plies: u8) -> bool
+fn has_way<L: Look>(board: &mut Trial<L>, turn: Turn, plies: u8, asked: Allowances) -> Allowances
+    requires room { length board.old.moves + plies ≤ most_moves }
+    requires target { turn.target < (L.shows board.old.look).size * (L.shows board.old.look).size }
+    requires some { has_some asked ≡ true }
+    ensures stays { Stays L.shows L.seen board.old board.new }
+    ensures over { (pos : BoardState) → Agrees (L.seen board.new.look) pos
+        → Tells asked result (λ ko. has_way turn.attacker_to_play (attacker_wins plies (under (next_turn turn) ko) (after pos board.old.moves))) }
+    ensures near { (pos : BoardState) → Agrees (L.seen board.new.look) pos → (q : ReadingQuestion) (root : BoardState)
+        → AreNodesOf q root plies (next_turn turn) asked (after pos board.old.moves)
+        → AddsNear (L.seen board.old.look) (L.seen board.new.look) (λ p. (p ≡ turn.target) ⊎ InActiveArea q root p) }
+{
+    let won = attacker_wins(board, turn.next(), plies, asked);
+    attackers(turn.attacker_to_play, asked, won)
+}
+
+/// Those of the asked under which the play at p gives the side to play its way, with `plies` plies left after it.
+#[cycle(read)]
+pub fn succeeds<L: Look>(
+    board: &mut Trial<L>,
+    turn: Turn,
+    p: Point,
+    plies: u8,
+    asked: Allowances,
+) -> Allowances
     requires room { length board.old.moves + plies < most_moves }
-    requires target { node.target < (L.shows board.old.look).size * (L.shows board.old.look).size }
+    requires target { turn.target < (L.shows board.old.look).size * (L.shows board.old.look).size }
     requires on_board { p < (L.shows board.old.look).size * (L.shows board.old.look).size }
+    requires some { has_some asked ≡ true }
     ensures stays { Stays L.shows L.seen board.old board.new }
     ensures over { (pos : BoardState) → Agrees (L.seen board.new.look) pos
-        → result ≡ succeeds plies node (after pos board.old.moves) p }
+        → Tells asked result (λ ko. succeeds plies (under turn ko) (after pos board.old.moves) p) }
     ensures near { (pos : BoardState) → Agrees (L.seen board.new.look) pos → (q : ReadingQuestion) (root : BoardState)
-        → IsNodeOf q root (suc plies) node (after pos board.old.moves) → IsUndecided node (after pos board.old.moves)
-        → IsTrue (is_candidate (after pos board.old.moves) node.target node.wide p)
+        → AreNodesOf q root (suc plies) turn asked (after pos board.old.moves)
+        → ((ko : Ko) → IsUndecided (under turn ko) (after pos board.old.moves))
+        → IsTrue (is_candidate (after pos board.old.moves) turn.target turn.wide p)
         → AddsNear (L.seen board.old.look) (L.seen board.new.look) (InActiveArea q root) }
 {
-    match child(board, node, p) {
-        None => false,
-        Some(next) => {
-            let won = attacker_wins(board, next, plies);
+    let own = asked.has_own(turn.attacker_to_play);
+    match make(board, turn, p, own) {
+        Made::Not => Allowances::none(),
+        Made::Legal => {
+            let good = has_way(board, turn, plies, asked);
             board.back();
-            won == node.attacker_to_play
+            good
+        }
+        Made::Allowed => {
+            let good = has_way(board, turn, plies, Allowances::neither_alone());
+            board.back();
+            Allowances::own_where(turn.attacker_to_play, good.neither)
         }
     }
 }
 
-/// The first point in reading order that gives the side to play its way, with `plies` plies left after it.
+/// Those of the asked under which some candidate gives the side to play its way, with `plies` plies left after it. A candidate is
+/// asked only for what those before it left.
 #[cycle(read)]
-fn first_success<L: Look>(board: &mut Trial<L>, node: Node, plies: u8) -> Option<Point>
+fn some_success<L: Look>(
+    board: &mut Trial<L>,
+    turn: Turn,
+    plies: u8,
+    asked: Allowances,
+) -> Allowances
     requires room { length board.old.moves + plies < most_moves }
-    requires target { node.target < (L.shows board.old.look).size * (L.shows board.old.look).size }
+    requires target { turn.target < (L.shows board.old.look).size * (L.shows board.old.look).size }
+    requires some { has_some asked ≡ true }
     ensures stays { Stays L.shows L.seen board.old board.new }
-    ensures on_board { IfSome result (λ p. p < (L.shows board.old.look).size * (L.shows board.old.look).size) }
     ensures over { (pos : BoardState) → Agrees (L.seen board.new.look) pos
-        → result ≡ first_success plies node (after pos board.old.moves) }
+        → Tells asked result (λ ko. is_some (first_success plies (under turn ko) (after pos board.old.moves))) }
     ensures near { (pos : BoardState) → Agrees (L.seen board.new.look) pos → (q : ReadingQuestion) (root : BoardState)
-        → IsNodeOf q root (suc plies) node (after pos board.old.moves) → IsUndecided node (after pos board.old.moves)
+        → AreNodesOf q root (suc plies) turn asked (after pos board.old.moves)
+        → ((ko : Ko) → IsUndecided (under turn ko) (after pos board.old.moves))
         → AddsNear (L.seen board.old.look) (L.seen board.new.look) (InActiveArea q root) }
 {
-    let candidates = candidates(board, node.target, node.wide);
+    let candidates = candidates(board, turn.target, turn.wide);
+    let mut missing = asked;
     let mut next = 0;
     while let Some(p) = candidates.first_from(next) {
-        if succeeds(board, node, p, plies) {
-            return Some(p);
+        let good = succeeds(board, turn, p, plies, missing);
+        missing = missing.without(good);
+        if !missing.has_some() {
+            return asked;
         }
         next = p + 1;
     }
-    None
+    asked.without(missing)
 }
 
-/// The play at a point, where there is one.
-fn at_point(point: Option<Point>) -> Option<Spot>
-    ensures { result ≡ at_point point }
-{
-    match point {
-        Some(p) => Some(Spot::At(p)),
-        None => None,
-    }
-}
-
-/// The first move that gives the side to play its way, with `plies` plies left after it: the defender's pass is tried before
-/// all points, so a defence that needs no move says so.
+/// Those of the asked under which the defender's pass saves the target, with `plies` plies left after it.
 #[cycle(read)]
-pub fn good_move<L: Look>(board: &mut Trial<L>, node: Node, plies: u8) -> Option<Spot>
+pub fn pass_saves<L: Look>(
+    board: &mut Trial<L>,
+    turn: Turn,
+    plies: u8,
+    asked: Allowances,
+) -> Allowances
     requires room { length board.old.moves + plies < most_moves }
-    requires target { node.target < (L.shows board.old.look).size * (L.shows board.old.look).size }
+    requires target { turn.target < (L.shows board.old.look).size * (L.shows board.old.look).size }
+    requires some { has_some asked ≡ true }
+    requires defender { turn.attacker_to_play ≡ false }
     ensures stays { Stays L.shows L.seen board.old board.new }
-    ensures on_board { IfSome result (IsOnBoard (L.shows board.old.look).size) }
     ensures over { (pos : BoardState) → Agrees (L.seen board.new.look) pos
-        → result ≡ good_move plies node (after pos board.old.moves) }
+        → Tells asked result (λ ko. pass_saves plies (under turn ko) (after pos board.old.moves)) }
     ensures near { (pos : BoardState) → Agrees (L.seen board.new.look) pos → (q : ReadingQuestion) (root : BoardState)
-        → IsNodeOf q root (suc plies) node (after pos board.old.moves) → is_captured (after pos board.old.moves) node.target ≡ false
+        → AreNodesOf q root (suc plies) turn asked (after pos board.old.moves) → is_captured (after pos board.old.moves) turn.target ≡ false
         → AddsNear (L.seen board.old.look) (L.seen board.new.look) (InActiveArea q root) }
 {
-    if node.attacker_to_play {
-        if has_many_liberties(board, node.target, node.wide) {
-            return None;
-        }
-        return at_point(first_success(board, node, plies));
-    }
     board.pass();
-    let lost = attacker_wins(board, node.next(node.defender_ko), plies);
+    let good = has_way(board, turn, plies, asked);
     board.back();
-    if !lost {
-        return Some(Spot::Pass);
-    }
-    at_point(first_success(board, node, plies))
+    good
 }
 
-/// Whether the target is captured, with `plies` plies left.
+/// Those of the asked under which the side to play has its way, with `plies` plies left after its move.
 #[cycle(read)]
-fn attacker_wins<L: Look>(board: &mut Trial<L>, node: Node, plies: u8) -> bool
+fn has_good_move<L: Look>(
+    board: &mut Trial<L>,
+    turn: Turn,
+    plies: u8,
+    asked: Allowances,
+) -> Allowances
+    requires room { length board.old.moves + plies < most_moves }
+    requires target { turn.target < (L.shows board.old.look).size * (L.shows board.old.look).size }
+    requires some { has_some asked ≡ true }
+    ensures stays { Stays L.shows L.seen board.old board.new }
+    ensures over { (pos : BoardState) → Agrees (L.seen board.new.look) pos → ((ko : Ko) → IsUndecided (under turn ko) (after pos board.old.moves))
+        → Tells asked result (λ ko. is_some (good_move plies (under turn ko) (after pos board.old.moves))) }
+    ensures near { (pos : BoardState) → Agrees (L.seen board.new.look) pos → (q : ReadingQuestion) (root : BoardState)
+        → AreNodesOf q root (suc plies) turn asked (after pos board.old.moves)
+        → ((ko : Ko) → IsUndecided (under turn ko) (after pos board.old.moves))
+        → AddsNear (L.seen board.old.look) (L.seen board.new.look) (InActiveArea q root) }
+{
+    if turn.attacker_to_play {
+        return some_success(board, turn, plies, asked);
+    }
+    let lost = asked.without(pass_saves(board, turn, plies, asked));
+    if !lost.has_some() {
+        return asked;
+    }
+    asked.without(lost.without(some_success(board, turn, plies, lost)))
+}
+
+/// Those of the asked under which the target is captured, with `plies` plies left.
+#[cycle(read)]
+fn attacker_wins<L: Look>(
+    board: &mut Trial<L>,
+    turn: Turn,
+    plies: u8,
+    asked: Allowances,
+) -> Allowances
     requires room { length board.old.moves + plies ≤ most_moves }
-    requires target { node.target < (L.shows board.old.look).size * (L.shows board.old.look).size }
+    requires target { turn.target < (L.shows board.old.look).size * (L.shows board.old.look).size }
+    requires some { has_some asked ≡ true }
     ensures stays { Stays L.shows L.seen board.old board.new }
     ensures over { (pos : BoardState) → Agrees (L.seen board.new.look) pos
-        → result ≡ attacker_wins plies node (after pos board.old.moves) }
+        → Tells asked result (λ ko. attacker_wins plies (under turn ko) (after pos board.old.moves)) }
     ensures near { (pos : BoardState) → Agrees (L.seen board.new.look) pos → (q : ReadingQuestion) (root : BoardState)
-        → IsNodeOf q root plies node (after pos board.old.moves)
-        → AddsNear (L.seen board.old.look) (L.seen board.new.look) (λ p. (p ≡ node.target) ⊎ InActiveArea q root p) }
+        → AreNodesOf q root plies turn asked (after pos board.old.moves)
+        → AddsNear (L.seen board.old.look) (L.seen board.new.look) (λ p. (p ≡ turn.target) ⊎ InActiveArea q root p) }
 {
-    if board.cell(node.target) == Cell::Empty {
-        return true;
+    if board.cell(turn.target) == Cell::Empty {
+        return asked;
     }
     if plies == 0 {
-        return false;
+        return Allowances::none();
     }
-    good_move(board, node, plies - 1).is_some() == node.attacker_to_play
+    match outlook_of(board, turn, plies) {
+        Outlook::Safe => Allowances::none(),
+        Outlook::Taken => asked,
+        Outlook::Open => {
+            let good = has_good_move(board, turn, plies - 1, asked);
+            attackers(turn.attacker_to_play, asked, good)
+        }
+    }
 }

@@ -175,7 +175,7 @@ impl<L: Look> Trial<L> {
     }
 
     /// Whether the ban is on this play.
-    fn bans(&mut self, c: Colour, p: Point) -> bool
+    pub fn bans(&mut self, c: Colour, p: Point) -> bool
         requires { p < (L.shows self.old.look).size * (L.shows self.old.look).size }
         ensures stays { Stays L.shows L.seen self.old self.new }
         ensures count { self.new.count ≡ self.old.count }

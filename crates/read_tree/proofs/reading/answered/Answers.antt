@@ -3,7 +3,10 @@ use Rattle.std.proofs.Common.{◌≡◌, ◌∙◌, true, refl, ap, sym, subst, 
 use Rattle.std.proofs.lemmas.Bool.{eqb-true}
 use Rattle.go_rules.specs.Strings.{cell_at}
 use Rattle.go_rules.specs.Position.{BoardState}
-use Rattle.go_base.specs.Facts.{Agrees, CellIs, agrees_before, same_size}
+use Rattle.go_base.specs.Facts.{Agrees, AddsIn, AddsIn-trans, AddsIn-mono, CellIs, agrees_before, same_size}
+use Rattle.go_base.specs.Views.{alone}
+use Rattle.go_base.proofs.Closing.{close_alone}
+use Rattle.go_rules.specs.Neighbourhood.{neighbourhood_of}
 use Rattle.trial_board.specs.Trials.{after}
 use Rattle.read_rules.specs.declared.question.ReadingQuestion.{ReadingQuestion}
 use Rattle.read_rules.specs.Answer.{is_about, asked_on, first_node}
@@ -33,3 +36,14 @@ returns-clause-near g c = λ pos a.
     let target = AddsNear-in (InActiveArea asked pos) c.cell.ensures.near (λ p h. area_target asked pos pos c.args.depths.plies (first_node asked 1) (first 1 (omega arith) (omega arith)) pos.size refl inside
     (about_stands asked pos about) p (eqb-true p c.args.target h)) in
     subst (λ look. AddsNear (g.L.Look.seen c.args.look) (g.L.Look.seen look) (InActiveArea asked pos)) (sym c.finish.ensures) (AddsNear-trans target (readings about))
+
+-- with too many liberties no play is tried
+pub returns-clause-too_many : goal.returns-clause-too_many
+returns-clause-too_many g c = λ h.
+    let shown = g.L.Look.shows c.args.look in
+    let w = (rw (c.new-board.ensures, c.cell.ensures.same) at c.read-answer.ensures.too_many) h in
+    let near : AddsIn (g.L.Look.seen c.args.look) (g.L.Look.seen c.cell.new.self) (neighbourhood_of shown.size shown.cells (alone c.args.target)) = AddsIn-mono c.cell.ensures.near (λ p. close_alone shown.size shown.cells c.args.target p c.requires.on_board) in (
+      w.0,
+      c.trials-trials.ensures ∙ w.1,
+      subst (λ look. AddsIn (g.L.Look.seen c.args.look) (g.L.Look.seen look) (neighbourhood_of shown.size shown.cells (alone c.args.target))) (sym c.finish.ensures) (AddsIn-trans near w.2),
+    )

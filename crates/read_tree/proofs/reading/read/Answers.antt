@@ -1,78 +1,157 @@
--- The greatest code that is attained, and its move.
-use Rattle.std.proofs.Common.{◌∙◌, arith}
-use Rattle.go_base.specs.Facts.{agrees_before}
+-- The best of all moves is the answer, and the reading stays in the area.
+use Rattle.std.proofs.Common.{subst, ◌≡◌, ◌≢◌, ◌∙◌, ◌-◌, ◌&&◌, suc, Bool, true, false, refl, ap, sym, arith}
+use Rattle.std.proofs.lemmas.Bool.{both_ways}
+use Rattle.go_rules.specs.Strings.{liberties}
+use Rattle.read_tree.specs.Bound.{outlasts}
+use Rattle.go_base.specs.Facts.{Agrees, agrees_before, same_size}
+use Rattle.go_base.specs.Views.{nowhere}
 use Rattle.trial_board.specs.Trials.{after}
-use Rattle.read_rules.proofs.AnswerLemmas.{about_stands, answer_3, answer_2, answer_1, answer_0}
-use Rattle.read_rules.proofs.AreaLemmas.{AddsNear-trans}
+use Rattle.trial_board.proofs.AfterLemmas.{size-after}
+use Rattle.read_rules.specs.Candidates.{is_candidate}
+use Rattle.read_tree.specs.declared.turn.Turn.{Turn}
+use Rattle.read_rules.specs.ActiveArea.{InActiveArea}
+use Rattle.read_rules.specs.Answer.{is_attack}
+use Rattle.read_tree.specs.Allowances.{neither_may, under}
+use Rattle.read_tree.specs.Steps.{first_turn, unread}
+use Rattle.read_tree.proofs.AllowanceLemmas.{has_all}
+use Rattle.read_rules.proofs.AnswerLemmas.{about_stands}
+use Rattle.read_rules.proofs.AreaLemmas.{AddsNear-in, AddsNear-trans, area_once, undecided_defender, target_on}
+use Rattle.read_tree.proofs.BestLemmas.{best_nothing, best_pass, best_three, best_answer, unread_answer, first_nodes}
+use Rattle.read_tree.proofs.LibertyLemmas.{undecided_at}
 use Rattle.read_tree.proofs.reading.read.Goals as goal
 
-pub returns-in-Some-clause-over : goal.returns-in-Some-clause-over
-returns-in-Some-clause-over g c = λ pos a h.
+and_off : (a b : Bool) → a ≡ false → (a && b) ≡ false
+and_off true b e = cc
+and_off false b e = refl
+
+and_off_right : (a b : Bool) → b ≡ false → (a && b) ≡ false
+and_off_right true b e = e
+and_off_right false b e = refl
+
+-- whose turn the first is
+turn_of : {turn first : Turn} {b : Bool} → turn ≡ first → turn.attacker_to_play ≡ b → first.attacker_to_play ≡ b
+turn_of e h = sym (ap (λ (t : Turn). t.attacker_to_play) e) ∙ h
+
+-- The looks at the target's liberties. The position shown is one that agrees.
+pub returns-then-has_too_many-clause-over : goal.returns-then-has_too_many-clause-over
+returns-then-has_too_many-clause-over g c = λ pos a about.
     let q = c.args.question.now in
     let here = after pos c.args.board.now.moves in
-    answer_3 q here c.read_code.result c.in-Some.spot h (c.read_code.ensures.over pos a (about_stands q here h)) c.in-Some.is
+    let some : q.plies ≢ 0 = omega (arith, c.requires.plies) in
+    let size = size-after pos c.args.board.now.moves in
+    let a0 = agrees_before c.has_too_many.ensures.stays.grows a in
+    let inside = target_on pos.size (g.L.Look.shows c.args.board.now.look).size q.target (same_size (g.met.L.Look.sized c.args.board.now.look) a0) c.requires.target in
+    let many = sym (rw c.first_turn-turn.ensures at (c.has_too_many.ensures.over pos a)) ∙ c.if-has_too_many.true in
+    c.unread.ensures ∙ ap (λ (t : Turn). unread t.attacker_to_play) c.first_turn-turn.ensures
+    ∙ unread_answer q here some about (target_on here.size pos.size q.target size inside) (ap (λ s. outlasts (is_attack q.kind) q.plies q.wide (liberties s here.cells q.target)) size ∙ many)
 
-pub returns-in-Some-read_code-clause-over : goal.returns-in-Some-read_code-clause-over
-returns-in-Some-read_code-clause-over g c = λ pos a h.
+pub returns-then-has_too_many-clause-near : goal.returns-then-has_too_many-clause-near
+returns-then-has_too_many-clause-near g c = λ pos a about.
     let q = c.args.question.now in
     let here = after pos c.args.board.now.moves in
-    let s = about_stands q here h in
-    let a3 = agrees_before c.read_code-2.ensures.stays.grows a in
-    let m3 = c.read_code.ensures.stays.moves in
-    answer_2 q here c.read_code.result c.read_code-2.result c.in-Some-read_code.spot h (c.read_code.ensures.over pos a3 s) c.in_default.is
-    ((rw m3 at (c.read_code-2.ensures.over pos a)) s) c.in-Some-read_code.is
+    let some : q.plies ≢ 0 = omega (arith, c.requires.plies) in
+    let a0 = agrees_before c.has_too_many.ensures.stays.grows a in
+    let inside = target_on pos.size (g.L.Look.shows c.args.board.now.look).size q.target (same_size (g.met.L.Look.sized c.args.board.now.look) a0) c.requires.target in
+    AddsNear-in (InActiveArea q here) (rw c.first_turn-turn.ensures at (c.has_too_many.ensures.near pos a))
+    (area_once q here here (suc (q.plies - 1)) (under (first_turn q) neither_may) ((first_nodes q here some).each neither_may (has_all neither_may)) pos.size (size-after pos c.args.board.now.moves) inside (about_stands q here about))
 
-pub returns-in-Some-read_code-2-clause-over : goal.returns-in-Some-read_code-2-clause-over
-returns-in-Some-read_code-2-clause-over g c = λ pos a h.
+pub returns-then-has_too_many-clause-too_many : goal.returns-then-has_too_many-clause-too_many
+returns-then-has_too_many-clause-too_many g c = λ h.
+    let shown = subst (Agrees (g.L.Look.seen c.has_too_many.new.board.look)) c.has_too_many.ensures.stays.shown (g.met.L.Look.holds c.has_too_many.new.board.look) in (
+      c.unread.ensures ∙ ap (λ (t : Turn). unread t.attacker_to_play) c.first_turn-turn.ensures,
+      c.has_too_many.ensures.count,
+      rw c.first_turn-turn.ensures at (c.has_too_many.ensures.near (g.L.Look.shows c.args.board.now.look) shown),
+    )
+
+pub returns-then-turn-clause-too_many : goal.returns-then-turn-clause-too_many
+returns-then-turn-clause-too_many g c = λ h.
+    let shown = subst (Agrees (g.L.Look.seen c.has_too_many.new.board.look)) c.has_too_many.ensures.stays.shown (g.met.L.Look.holds c.has_too_many.new.board.look) in
+    absurd (both_ways _ (sym (rw c.first_turn-turn.ensures at (c.has_too_many.ensures.over (g.L.Look.shows c.args.board.now.look) shown)) ∙ c.if-has_too_many.false) h)
+
+pub returns-then-best-eq3-clause-too_many : goal.returns-then-best-eq3-clause-too_many
+returns-then-best-eq3-clause-too_many g c = λ h.
+    let shown = subst (Agrees (g.L.Look.seen c.has_too_many.new.board.look)) c.has_too_many.ensures.stays.shown (g.met.L.Look.holds c.has_too_many.new.board.look) in
+    absurd (both_ways _ (sym (rw c.first_turn-turn.ensures at (c.has_too_many.ensures.over (g.L.Look.shows c.args.board.now.look) shown)) ∙ c.if-has_too_many.false) h)
+
+pub returns-clause-too_many : goal.returns-clause-too_many
+returns-clause-too_many g c = λ h.
+    let shown = subst (Agrees (g.L.Look.seen c.has_too_many.new.board.look)) c.has_too_many.ensures.stays.shown (g.met.L.Look.holds c.has_too_many.new.board.look) in
+    absurd (both_ways _ (sym (rw c.first_turn-turn.ensures at (c.has_too_many.ensures.over (g.L.Look.shows c.args.board.now.look) shown)) ∙ c.if-has_too_many.false) h)
+
+-- the attacker's moves
+pub returns-then-turn-clause-over : goal.returns-then-turn-clause-over
+returns-then-turn-clause-over g c = λ pos a about.
     let q = c.args.question.now in
     let here = after pos c.args.board.now.moves in
-    let s = about_stands q here h in
-    let a2 = agrees_before c.read_code-3.ensures.stays.grows a in
-    let a3 = agrees_before c.read_code-2.ensures.stays.grows a2 in
-    let m3 = c.read_code.ensures.stays.moves in
-    let m2 = c.read_code-2.ensures.stays.moves ∙ m3 in
-    answer_1 q here c.read_code.result c.read_code-2.result c.read_code-3.result c.in-Some-read_code-2.spot h (c.read_code.ensures.over pos a3 s) c.in_default.is
-    ((rw m3 at (c.read_code-2.ensures.over pos a2)) s) c.in_default-read_code.is ((rw m2 at (c.read_code-3.ensures.over pos a)) s) c.in-Some-read_code-2.is
+    let some : q.plies ≢ 0 = omega (arith, c.requires.plies) in
+    let a1 = agrees_before c.best_point.ensures.stays.grows a in
+    let few = sym (rw c.first_turn-turn.ensures at (c.has_too_many.ensures.over pos a1)) ∙ c.if-has_too_many.false in
+    let attacks = turn_of c.first_turn-turn.ensures c.if-turn.true in
+    let und = undecided_at q.plies (first_turn q) here pos.size (size-after pos c.args.board.now.moves) (about_stands q here about) few in
+    best_answer q here c.best_point.result some about (and_off_right (is_attack q.kind) _ ((und neither_may).few attacks))
+    ((rw (c.has_too_many.ensures.stays.moves, c.first_turn-turn.ensures) at (c.best_point.ensures.over pos a)) (best_nothing (q.plies - 1) (first_turn q) here attacks))
 
+pub returns-then-turn-clause-near : goal.returns-then-turn-clause-near
+returns-then-turn-clause-near g c = λ pos a about.
+    let q = c.args.question.now in
+    let here = after pos c.args.board.now.moves in
+    let some : q.plies ≢ 0 = omega (arith, c.requires.plies) in
+    let a1 = agrees_before c.best_point.ensures.stays.grows a in
+    let a0 = agrees_before c.has_too_many.ensures.stays.grows a1 in
+    let few = sym (rw c.first_turn-turn.ensures at (c.has_too_many.ensures.over pos a1)) ∙ c.if-has_too_many.false in
+    let inside = target_on pos.size (g.L.Look.shows c.args.board.now.look).size q.target (same_size (g.met.L.Look.sized c.args.board.now.look) a0) c.requires.target in
+    AddsNear-trans
+    (AddsNear-in (InActiveArea q here) (rw c.first_turn-turn.ensures at (c.has_too_many.ensures.near pos a1))
+    (area_once q here here (suc (q.plies - 1)) (under (first_turn q) neither_may) ((first_nodes q here some).each neither_may (has_all neither_may)) pos.size (size-after pos c.args.board.now.moves) inside (about_stands q here about)))
+    ((rw (c.has_too_many.ensures.stays.moves, c.first_turn-turn.ensures) at (c.best_point.ensures.near pos a q here)) (first_nodes q here some)
+    (undecided_at q.plies (first_turn q) here pos.size (size-after pos c.args.board.now.moves) (about_stands q here about) few))
+
+-- the defender's pass saves under each allowance
+pub returns-then-best-eq3-clause-over : goal.returns-then-best-eq3-clause-over
+returns-then-best-eq3-clause-over g c = λ pos a about.
+    let q = c.args.question.now in
+    let here = after pos c.args.board.now.moves in
+    let some : q.plies ≢ 0 = omega (arith, c.requires.plies) in
+    let saved = rw (c.has_too_many.ensures.stays.moves, c.all.ensures, c.first_turn-turn.ensures) at (c.pass_saves-saved.ensures.over pos a) in
+    best_answer q here c.better-best.result some about (and_off (is_attack q.kind) _ (turn_of c.first_turn-turn.ensures c.if-turn.false))
+    (best_three (q.plies - 1) (first_turn q) here nowhere c.better-best.result (rw (c.better-best.ensures.is, c.first_turn-turn.ensures) (best_pass (q.plies - 1) (first_turn q) here c.pass_saves-saved.result saved)) c.if-best-eq3.true (is_candidate here q.target q.wide))
+
+pub returns-then-best-eq3-clause-near : goal.returns-then-best-eq3-clause-near
+returns-then-best-eq3-clause-near g c = λ pos a about.
+    let q = c.args.question.now in
+    let here = after pos c.args.board.now.moves in
+    let some : q.plies ≢ 0 = omega (arith, c.requires.plies) in
+    let a1 = agrees_before c.pass_saves-saved.ensures.stays.grows a in
+    let a0 = agrees_before c.has_too_many.ensures.stays.grows a1 in
+    let inside = target_on pos.size (g.L.Look.shows c.args.board.now.look).size q.target (same_size (g.met.L.Look.sized c.args.board.now.look) a0) c.requires.target in
+    AddsNear-trans
+    (AddsNear-in (InActiveArea q here) (rw c.first_turn-turn.ensures at (c.has_too_many.ensures.near pos a1))
+    (area_once q here here (suc (q.plies - 1)) (under (first_turn q) neither_may) ((first_nodes q here some).each neither_may (has_all neither_may)) pos.size (size-after pos c.args.board.now.moves) inside (about_stands q here about)))
+    ((rw (c.has_too_many.ensures.stays.moves, c.all.ensures, c.first_turn-turn.ensures) at (c.pass_saves-saved.ensures.near pos a q here)) (first_nodes q here some) (about_stands q here about))
+
+-- the pass, and then the defender's plays
 pub returns-clause-over : goal.returns-clause-over
-returns-clause-over g c = λ pos a h.
+returns-clause-over g c = λ pos a about.
     let q = c.args.question.now in
     let here = after pos c.args.board.now.moves in
-    let s = about_stands q here h in
-    let a2 = agrees_before c.read_code-3.ensures.stays.grows a in
-    let a3 = agrees_before c.read_code-2.ensures.stays.grows a2 in
-    let m3 = c.read_code.ensures.stays.moves in
-    let m2 = c.read_code-2.ensures.stays.moves ∙ m3 in
-    answer_0 q here c.read_code.result c.read_code-2.result c.read_code-3.result h (c.read_code.ensures.over pos a3 s) c.in_default.is
-    ((rw m3 at (c.read_code-2.ensures.over pos a2)) s) c.in_default-read_code.is ((rw m2 at (c.read_code-3.ensures.over pos a)) s) c.in_default-read_code-2.is
-
--- each reading stays in the area
-pub returns-in-Some-clause-near : goal.returns-in-Some-clause-near
-returns-in-Some-clause-near g c = λ pos a h. c.read_code.ensures.near pos a (omega arith) (omega arith) (about_stands c.args.question.now (after pos c.args.board.now.moves) h)
-
-pub returns-in-Some-read_code-clause-near : goal.returns-in-Some-read_code-clause-near
-returns-in-Some-read_code-clause-near g c = λ pos a h.
-    let s = about_stands c.args.question.now (after pos c.args.board.now.moves) h in
-    let a3 = agrees_before c.read_code-2.ensures.stays.grows a in
-    let m3 = c.read_code.ensures.stays.moves in
-    AddsNear-trans (c.read_code.ensures.near pos a3 (omega arith) (omega arith) s) ((rw m3 at (c.read_code-2.ensures.near pos a)) (omega arith) (omega arith) s)
-
-pub returns-in-Some-read_code-2-clause-near : goal.returns-in-Some-read_code-2-clause-near
-returns-in-Some-read_code-2-clause-near g c = λ pos a h.
-    let s = about_stands c.args.question.now (after pos c.args.board.now.moves) h in
-    let a2 = agrees_before c.read_code-3.ensures.stays.grows a in
-    let a3 = agrees_before c.read_code-2.ensures.stays.grows a2 in
-    let m3 = c.read_code.ensures.stays.moves in
-    let m2 = c.read_code-2.ensures.stays.moves ∙ m3 in
-    AddsNear-trans (c.read_code.ensures.near pos a3 (omega arith) (omega arith) s)
-    (AddsNear-trans ((rw m3 at (c.read_code-2.ensures.near pos a2)) (omega arith) (omega arith) s) ((rw m2 at (c.read_code-3.ensures.near pos a)) (omega arith) (omega arith) s))
+    let some : q.plies ≢ 0 = omega (arith, c.requires.plies) in
+    let a1 = agrees_before c.best_point-2.ensures.stays.grows a in
+    let saved = rw (c.has_too_many.ensures.stays.moves, c.all.ensures, c.first_turn-turn.ensures) at (c.pass_saves-saved.ensures.over pos a1) in
+    best_answer q here c.best_point-2.result some about (and_off (is_attack q.kind) _ (turn_of c.first_turn-turn.ensures c.if-turn.false))
+    ((rw (c.pass_saves-saved.ensures.stays.moves, c.has_too_many.ensures.stays.moves, c.first_turn-turn.ensures) at (c.best_point-2.ensures.over pos a)) (rw (c.better-best.ensures.is, c.first_turn-turn.ensures) (best_pass (q.plies - 1) (first_turn q) here c.pass_saves-saved.result saved)))
 
 pub returns-clause-near : goal.returns-clause-near
-returns-clause-near g c = λ pos a h.
-    let s = about_stands c.args.question.now (after pos c.args.board.now.moves) h in
-    let a2 = agrees_before c.read_code-3.ensures.stays.grows a in
-    let a3 = agrees_before c.read_code-2.ensures.stays.grows a2 in
-    let m3 = c.read_code.ensures.stays.moves in
-    let m2 = c.read_code-2.ensures.stays.moves ∙ m3 in
-    AddsNear-trans (c.read_code.ensures.near pos a3 (omega arith) (omega arith) s)
-    (AddsNear-trans ((rw m3 at (c.read_code-2.ensures.near pos a2)) (omega arith) (omega arith) s) ((rw m2 at (c.read_code-3.ensures.near pos a)) (omega arith) (omega arith) s))
+returns-clause-near g c = λ pos a about.
+    let q = c.args.question.now in
+    let here = after pos c.args.board.now.moves in
+    let some : q.plies ≢ 0 = omega (arith, c.requires.plies) in
+    let a1 = agrees_before c.best_point-2.ensures.stays.grows a in
+    let a2 = agrees_before c.pass_saves-saved.ensures.stays.grows a1 in
+    let a0 = agrees_before c.has_too_many.ensures.stays.grows a2 in
+    let stands = about_stands q here about in
+    let inside = target_on pos.size (g.L.Look.shows c.args.board.now.look).size q.target (same_size (g.met.L.Look.sized c.args.board.now.look) a0) c.requires.target in
+    AddsNear-trans (AddsNear-trans
+    (AddsNear-in (InActiveArea q here) (rw c.first_turn-turn.ensures at (c.has_too_many.ensures.near pos a2))
+    (area_once q here here (suc (q.plies - 1)) (under (first_turn q) neither_may) ((first_nodes q here some).each neither_may (has_all neither_may)) pos.size (size-after pos c.args.board.now.moves) inside stands))
+    ((rw (c.has_too_many.ensures.stays.moves, c.all.ensures, c.first_turn-turn.ensures) at (c.pass_saves-saved.ensures.near pos a1 q here)) (first_nodes q here some) stands))
+    ((rw (c.pass_saves-saved.ensures.stays.moves, c.has_too_many.ensures.stays.moves, c.first_turn-turn.ensures) at (c.best_point-2.ensures.near pos a q here)) (first_nodes q here some) (λ ko. undecided_defender stands (turn_of c.first_turn-turn.ensures c.if-turn.false)))

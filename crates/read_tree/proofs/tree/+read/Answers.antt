@@ -1,5 +1,6 @@
--- The walk over the game tree answers what the tree says, over every position that agrees with what was seen.
-use Rattle.std.proofs.Common.{◌≡◌, ◌⊎◌, ◌∙◌, ◌*◌, ◌<◌, ℕ, suc, inl, inr, Bool, true, false, ◌&&◌, List, ap, sym, subst, refl, arith, below_more, is_some, rules}
+-- The walk over the game tree answers what the tree says under each of the asked allowances, over every position that agrees with
+-- what was seen.
+use Rattle.std.proofs.Common.{arith, ◌≡◌, ◌⊎◌, ◌∙◌, ◌+◌, ◌-◌, ◌*◌, ◌<◌, ℕ, suc, inl, inr, true, List, ap, sym, subst, refl, is_some, rules}
 use Rattle.std.specs.FinSet as set
 use Rattle.go_base.specs.Facts.{agrees_before, Grows-refl, Grows-trans, same_size}
 use Rattle.go_rules.specs.declared.Cell.TheVariants.{Empty}
@@ -7,192 +8,312 @@ use Rattle.go_rules.proofs.Cells.{eq_is_same_cell}
 use Rattle.std.proofs.lemmas.Bool.{eqb-true}
 use Rattle.go_rules.specs.Position.{BoardState}
 use Rattle.trial_board.specs.declared.moves.TrialMove.{TrialMove}
-use Rattle.trial_board.specs.Trials.{after, tail}
+use Rattle.trial_board.specs.Trials.{after}
 use Rattle.trial_board.proofs.AfterLemmas.{size-after}
 use Rattle.read_rules.specs.Candidates.{is_candidate}
 use Rattle.read_rules.proofs.CandidateLaws.{candidate_on}
-use Rattle.read_rules.specs.ActiveArea.{by_play, IsUndecided, InActiveArea}
-use Rattle.read_rules.proofs.AreaLemmas.{AddsNear-in, AddsNear-trans, AddsNear-mono, area_target, area_once, area_candidates, area_play, pred_tree, undecided_defender, pass_tree, target_on}
-use Rattle.read_rules.proofs.WinLemmas.{wins-captured, wins-no_plies, wins-by_move, none_before, first_success-found, first_success-none}
+use Rattle.read_rules.specs.ActiveArea.{by_play, InActiveArea}
+use Rattle.read_tree.specs.Allowances.{Ko, under, next_turn, own_ko, neither_may, has, has_some, without}
+use Rattle.read_rules.specs.GoodMoves.{good_move}
+use Rattle.read_tree.specs.Steps.{AreNodesOf}
+use Rattle.read_rules.specs.GameTree.{has_many_liberties, attacker_wins, child_of, succeeds, first_success}
+use Rattle.read_tree.proofs.AllowanceLemmas.{some_of, suits_child, suits_none, Tells-same, Tells-own, Tells-good, Tells-attackers, Tells-all, Tells-none, good_attacker, neither_nodes, pass_nodes, fewer_nodes, without_less, left_first, left_next, left_done, left_over}
+use Rattle.read_tree.proofs.LibertyLemmas.{bounded_at, undecided_at}
+use Rattle.read_tree.proofs.TakeLemmas.{whole_after, take_wins}
+use Rattle.read_rules.proofs.AreaLemmas.{AddsNear-in, AddsNear-trans, AddsNear-mono, area_target, area_once, area_candidates, area_play, pred_tree, undecided_defender, target_on}
+use Rattle.read_rules.proofs.WinLemmas.{wins-captured, wins-no_plies, wins-by_move}
 use Rattle.read_tree.proofs.tree.+read.Goals as goal
 
-and_false : (a b : Bool) → b ≡ false → (a && b) ≡ false
-and_false true b e = e
-and_false false b e = refl
+-- a legal play
+pub succeeds-returns-in-Legal-clause-over : goal.succeeds-returns-in-Legal-clause-over
+succeeds-returns-in-Legal-clause-over g t c = λ pos a.
+    let a2 = rw c.back.ensures.moves at a in
+    let a1 = agrees_before c.has_way-good.ensures.stays.grows a2 in
+    let new = after pos c.make.new.board.moves in
+    let made = rw c.in-Legal.is at (c.make.ensures.over pos a1) in
+    Tells-same (c.has_way-good.ensures.over pos a2)
+    (λ ko. suits_child c.args.plies c.args.turn.attacker_to_play (child_of (under c.args.turn ko) (after pos c.args.board.now.moves) c.args.p) (under (next_turn c.args.turn) ko) new (made ko))
+
+-- a play by the own allowance
+pub succeeds-returns-in-Allowed-clause-over : goal.succeeds-returns-in-Allowed-clause-over
+succeeds-returns-in-Allowed-clause-over g t c = λ pos a.
+    let a2 = rw c.back-in-Allowed.ensures.moves at a in
+    let a1 = agrees_before c.has_way-good-in-Allowed.ensures.stays.grows a2 in
+    let here = after pos c.args.board.now.moves in
+    let new = after pos c.make.new.board.moves in
+    let turn = c.args.turn in
+    let own = own_ko turn.attacker_to_play in
+    let made = rw c.in-Allowed.is at (c.make.ensures.over pos a1) in
+    let good = rw c.neither_alone.ensures at (c.has_way-good-in-Allowed.ensures.over pos a2) in
+    let asked = sym c.has_own-own.ensures ∙ c.make.ensures.own c.in-Allowed.is in
+    rw c.own_where.ensures (Tells-own turn.attacker_to_play c.args.asked c.has_way-good-in-Allowed.result.neither (λ ko. succeeds c.args.plies (under turn ko) here c.args.p) asked
+    (good.each neither_may ∙ suits_child c.args.plies turn.attacker_to_play (child_of (under turn own) here c.args.p) (under (next_turn turn) neither_may) new made.0)
+    (λ ko ne. suits_none c.args.plies turn.attacker_to_play (child_of (under turn ko) here c.args.p) (made.1 ko ne)))
+
+-- a refused play looks near its candidate
+pub succeeds-returns-in-Not-clause-near : goal.succeeds-returns-in-Not-clause-near
+succeeds-returns-in-Not-clause-near g t c = λ pos a q root tree und candidate.
+    let a0 = agrees_before c.make.ensures.grows a in
+    let here = after pos c.args.board.now.moves in
+    let one = some_of c.args.asked c.requires.some in
+    let inside = target_on pos.size (g.L.Look.shows c.args.board.now.look).size c.args.turn.target (same_size (g.met.L.Look.sized c.args.board.now.look) a0) c.requires.target in
+    AddsNear-in (InActiveArea q root) (c.make.ensures.near pos a) (λ p h. area_play q root here (suc c.args.plies) (under c.args.turn one.0) (tree.each one.0 one.1) pos.size (size-after pos c.args.board.now.moves) inside
+    (und one.0).stands c.args.p p candidate h)
+
+-- a play that is made leads to nodes of the trees
+pub succeeds-returns-in-Legal-clause-near : goal.succeeds-returns-in-Legal-clause-near
+succeeds-returns-in-Legal-clause-near g t c = λ pos a q root tree und candidate.
+    let a2 = rw c.back.ensures.moves at a in
+    let a1 = agrees_before c.has_way-good.ensures.stays.grows a2 in
+    let a0 = agrees_before c.make.ensures.grows a1 in
+    let here = after pos c.args.board.now.moves in
+    let new = after pos c.make.new.board.moves in
+    let turn = c.args.turn in
+    let one = some_of c.args.asked c.requires.some in
+    let inside = target_on pos.size (g.L.Look.shows c.args.board.now.look).size turn.target (same_size (g.met.L.Look.sized c.args.board.now.look) a0) c.requires.target in
+    let made = rw c.in-Legal.is at (c.make.ensures.over pos a1) in
+    let nodes : AreNodesOf q root c.args.plies (next_turn turn) c.args.asked new = record { each = λ ko h. by_play (tree.each ko h) (und ko) c.args.p candidate (under (next_turn turn) ko) new (made ko) } in
+    let below = c.has_way-good.ensures.near pos a2 q root nodes in
+    rw c.back.ensures.moves (AddsNear-trans
+    (AddsNear-in (InActiveArea q root) (c.make.ensures.near pos a1) (λ p h. area_play q root here (suc c.args.plies) (under turn one.0) (tree.each one.0 one.1) pos.size (size-after pos c.args.board.now.moves) inside
+    (und one.0).stands c.args.p p candidate h))
+    (AddsNear-mono (λ p. (p ≡ turn.target) ⊎ InActiveArea q root p) (InActiveArea q root) below
+    (λ p h. elim h [ inl e ↦ area_target q root here (suc c.args.plies) (under turn one.0) (tree.each one.0 one.1) pos.size (size-after pos c.args.board.now.moves) inside (und one.0).stands p e | inr i ↦ i ])))
+
+-- one by the own allowance leads to a node under none
+pub succeeds-returns-in-Allowed-clause-near : goal.succeeds-returns-in-Allowed-clause-near
+succeeds-returns-in-Allowed-clause-near g t c = λ pos a q root tree und candidate.
+    let a2 = rw c.back-in-Allowed.ensures.moves at a in
+    let a1 = agrees_before c.has_way-good-in-Allowed.ensures.stays.grows a2 in
+    let a0 = agrees_before c.make.ensures.grows a1 in
+    let here = after pos c.args.board.now.moves in
+    let new = after pos c.make.new.board.moves in
+    let turn = c.args.turn in
+    let own = own_ko turn.attacker_to_play in
+    let asked = sym c.has_own-own.ensures ∙ c.make.ensures.own c.in-Allowed.is in
+    let inside = target_on pos.size (g.L.Look.shows c.args.board.now.look).size turn.target (same_size (g.met.L.Look.sized c.args.board.now.look) a0) c.requires.target in
+    let made = rw c.in-Allowed.is at (c.make.ensures.over pos a1) in
+    let node = by_play (tree.each own asked) (und own) c.args.p candidate (under (next_turn turn) neither_may) new made.0 in
+    let below = (rw c.neither_alone.ensures at (c.has_way-good-in-Allowed.ensures.near pos a2 q root)) (neither_nodes node) in
+    rw c.back-in-Allowed.ensures.moves (AddsNear-trans
+    (AddsNear-in (InActiveArea q root) (c.make.ensures.near pos a1) (λ p h. area_play q root here (suc c.args.plies) (under turn own) (tree.each own asked) pos.size (size-after pos c.args.board.now.moves) inside
+    (und own).stands c.args.p p candidate h))
+    (AddsNear-mono (λ p. (p ≡ turn.target) ⊎ InActiveArea q root p) (InActiveArea q root) below
+    (λ p h. elim h [ inl e ↦ area_target q root here (suc c.args.plies) (under turn own) (tree.each own asked) pos.size (size-after pos c.args.board.now.moves) inside (und own).stands p e | inr i ↦ i ])))
+
+-- after the pass
+pub pass_saves-returns-clause-near : goal.pass_saves-returns-clause-near
+pass_saves-returns-clause-near g t c = λ pos a q root tree stands.
+    let a2 = rw c.back.ensures.moves at a in
+    let a0 = rw c.pass.ensures at (agrees_before c.has_way-good.ensures.stays.grows a2) in
+    let here = after pos c.args.board.now.moves in
+    let turn = c.args.turn in
+    let one = some_of c.args.asked c.requires.some in
+    let inside = target_on pos.size (g.L.Look.shows c.args.board.now.look).size turn.target (same_size (g.met.L.Look.sized c.args.board.now.look) a0) c.requires.target in
+    let passed = rw c.pass.ensures at (c.has_way-good.ensures.near pos a2 q root) in
+    rw c.back.ensures.moves (AddsNear-mono (λ p. (p ≡ turn.target) ⊎ InActiveArea q root p) (InActiveArea q root) (passed (pass_nodes tree stands c.requires.defender))
+    (λ p h. elim h [ inl e ↦ area_target q root here (suc c.args.plies) (under turn one.0) (tree.each one.0 one.1) pos.size (size-after pos c.args.board.now.moves) inside stands p e | inr i ↦ i ]))
+
+-- a candidate is on the board
+candidate_inside : (shown : BoardState) (moves : List TrialMove) (target wide p : ℕ) → is_candidate (after shown moves) target wide p ≡ true → p < shown.size * shown.size
+candidate_inside shown moves target wide p h = subst (λ n. p < n * n) (size-after shown moves) (candidate_on (after shown moves) target wide p h)
+
+pub some_success-succeeds-good-requires : goal.some_success-succeeds-good-requires
+some_success-succeeds-good-requires g t c κs within =
+    let inside = candidate_inside (g.L.Look.shows c.args.board.now.look) c.args.board.now.moves c.args.turn.target c.args.turn.wide c.in-Some.p (sym (c.candidates-candidates.ensures.answer c.in-Some.p) ∙ c.in-Some.ensures.some.2) in
+    search rules
+
+-- the candidates are looked for near the target
+pub some_success-loop-p-init : goal.some_success-loop-p-init
+some_success-loop-p-init g t c = record {
+  stays = c.candidates-candidates.ensures.stays;
+  grows = Grows-refl _;
+  some = c.requires.some;
+  near = λ pos a q root tree und.
+      let a0 = agrees_before c.candidates-candidates.ensures.stays.grows a in
+      let here = after pos c.args.board.now.moves in
+      let one = some_of c.args.asked c.requires.some in
+      AddsNear-in (InActiveArea q root) (c.candidates-candidates.ensures.near pos a)
+      (area_candidates q root here (suc c.args.plies) (under c.args.turn one.0) (tree.each one.0 one.1) pos.size (size-after pos c.args.board.now.moves)
+      (target_on pos.size (g.L.Look.shows c.args.board.now.look).size c.args.turn.target (same_size (g.met.L.Look.sized c.args.board.now.look) a0) c.requires.target) (und one.0).stands);
+  left = λ pos a. left_first c.args.plies c.args.turn (after pos c.args.board.now.moves) (set.contains c.candidates-candidates.result) c.args.asked;
+}
+
+-- one more candidate
+pub some_success-loop-p-preserved : goal.some_success-loop-p-preserved
+some_success-loop-p-preserved g t c =
+    let i = c.loop-p.invariant in
+    let first = c.in-Some.ensures.some in
+    record {
+      stays = record {
+        moves = c.succeeds-good.ensures.stays.moves ∙ i.stays.moves;
+        shown = c.succeeds-good.ensures.stays.shown ∙ i.stays.shown;
+        grows = Grows-trans i.stays.grows c.succeeds-good.ensures.stays.grows;
+      };
+      grows = Grows-trans i.grows c.succeeds-good.ensures.stays.grows;
+      some = sym c.has_some.ensures ∙ c.if-not-has_some.false;
+      near = λ pos a q root tree und.
+          let a1 = agrees_before c.succeeds-good.ensures.stays.grows a in
+          let a0 = agrees_before i.grows a1 in
+          let candidate = sym (c.candidates-candidates.ensures.over pos a0 c.in-Some.p) ∙ first.2 in
+          AddsNear-trans (i.near pos a1 q root tree und)
+          ((rw i.stays.moves at (c.succeeds-good.ensures.near pos a q root)) (fewer_nodes c.loop-p.missing tree (i.left pos a1).asked_for) und candidate);
+      left = λ pos a.
+          let a1 = agrees_before c.succeeds-good.ensures.stays.grows a in
+          rw c.without-missing.ensures (left_next c.args.plies c.args.turn (after pos c.args.board.now.moves) (set.contains c.candidates-candidates.result) c.loop-p.next c.in-Some.p c.args.asked c.loop-p.missing c.succeeds-good.result
+          (i.left pos a1) first.2 first.3 (rw i.stays.moves at (c.succeeds-good.ensures.over pos a)));
+    }
+
+-- all that was asked is given
+pub some_success-returns-then-not-has_some-clause-over : goal.some_success-returns-then-not-has_some-clause-over
+some_success-returns-then-not-has_some-clause-over g t c = λ pos a.
+    let i = c.loop-p.invariant in
+    let first = c.in-Some.ensures.some in
+    let a1 = agrees_before c.succeeds-good.ensures.stays.grows a in
+    let a0 = agrees_before i.grows a1 in
+    left_done c.args.plies c.args.turn (after pos c.args.board.now.moves) (set.contains c.candidates-candidates.result) (c.in-Some.p + 1) c.args.asked (without c.loop-p.missing c.succeeds-good.result)
+    (left_next c.args.plies c.args.turn (after pos c.args.board.now.moves) (set.contains c.candidates-candidates.result) c.loop-p.next c.in-Some.p c.args.asked c.loop-p.missing c.succeeds-good.result
+    (i.left pos a1) first.2 first.3 (rw i.stays.moves at (c.succeeds-good.ensures.over pos a)))
+    (c.candidates-candidates.ensures.over pos a0) (sym (c.has_some.ensures ∙ ap has_some c.without-missing.ensures) ∙ c.if-not-has_some.true)
+
+pub some_success-returns-then-not-has_some-clause-near : goal.some_success-returns-then-not-has_some-clause-near
+some_success-returns-then-not-has_some-clause-near g t c = λ pos a q root tree und.
+    let i = c.loop-p.invariant in
+    let a1 = agrees_before c.succeeds-good.ensures.stays.grows a in
+    let a0 = agrees_before i.grows a1 in
+    let candidate = sym (c.candidates-candidates.ensures.over pos a0 c.in-Some.p) ∙ c.in-Some.ensures.some.2 in
+    AddsNear-trans (i.near pos a1 q root tree und)
+    ((rw i.stays.moves at (c.succeeds-good.ensures.near pos a q root)) (fewer_nodes c.loop-p.missing tree (i.left pos a1).asked_for) und candidate)
+
+-- no candidate is left
+pub some_success-returns-clause-over : goal.some_success-returns-clause-over
+some_success-returns-clause-over g t c = λ pos a.
+    let a0 = agrees_before c.loop-p.invariant.grows a in
+    rw c.without.ensures (left_over c.args.plies c.args.turn (after pos c.args.board.now.moves) (set.contains c.candidates-candidates.result) c.loop-p.next c.args.asked c.loop-p.missing
+    (c.loop-p.invariant.left pos a) (c.candidates-candidates.ensures.over pos a0) c.in_default.ensures.none)
+
+-- the attacker's candidates
+pub has_good_move-returns-then-turn-clause-over : goal.has_good_move-returns-then-turn-clause-over
+has_good_move-returns-then-turn-clause-over g t c = λ pos a und.
+    let here = after pos c.args.board.now.moves in
+    Tells-same (c.some_success.ensures.over pos a)
+    (λ ko. good_attacker c.args.turn.attacker_to_play (has_many_liberties here c.args.turn.target c.args.turn.wide) _ (first_success c.args.plies (under c.args.turn ko) here) c.if-turn.true ((und ko).few c.if-turn.true))
+
+pub has_good_move-returns-then-not-has_some-clause-near : goal.has_good_move-returns-then-not-has_some-clause-near
+has_good_move-returns-then-not-has_some-clause-near g t c = λ pos a q root tree und. c.pass_saves.ensures.near pos a q root tree (und neither_may).stands
+
+-- the pass, and then the candidates under what it left
+pub has_good_move-returns-clause-over : goal.has_good_move-returns-clause-over
+has_good_move-returns-clause-over g t c = λ pos a und.
+    let a1 = agrees_before c.some_success-2.ensures.stays.grows a in
+    rw (c.without-2.ensures, c.without.ensures, c.without-lost.ensures)
+    (Tells-good c.args.plies c.args.turn (after pos c.args.board.now.moves) c.args.asked c.pass_saves.result c.some_success-2.result c.if-turn.false
+    (c.pass_saves.ensures.over pos a1) (rw (c.pass_saves.ensures.stays.moves, c.without-lost.ensures) at (c.some_success-2.ensures.over pos a)))
+
+pub has_good_move-returns-clause-near : goal.has_good_move-returns-clause-near
+has_good_move-returns-clause-near g t c = λ pos a q root tree und.
+    let a1 = agrees_before c.some_success-2.ensures.stays.grows a in
+    let lost : (ko : Ko) → has c.without-lost.result ko ≡ true → has c.args.asked ko ≡ true = λ ko h. without_less c.args.asked c.pass_saves.result ko (sym (ap (λ s. has s ko) c.without-lost.ensures) ∙ h) in
+    let stands = (und neither_may).stands in
+    AddsNear-trans (c.pass_saves.ensures.near pos a1 q root tree stands)
+    ((rw c.pass_saves.ensures.stays.moves at (c.some_success-2.ensures.near pos a q root)) (fewer_nodes c.without-lost.result tree lost) (λ ko. undecided_defender stands c.if-turn.false))
 
 -- the target is captured
 pub attacker_wins-returns-then-eq-clause-over : goal.attacker_wins-returns-then-eq-clause-over
 attacker_wins-returns-then-eq-clause-over g t c = λ pos a.
     let cell = c.cell.ensures.over pos a in
     let taken = sym (eq_is_same_cell c.cell.result Empty) ∙ sym c.eq.ensures ∙ c.if-eq.true in
-    sym (wins-captured c.args.plies c.args.node (after pos c.args.board.now.moves) (rw cell at taken))
+    Tells-all c.args.asked _ (λ ko. wins-captured c.args.plies (under c.args.turn ko) (after pos c.args.board.now.moves) (rw cell at taken))
 
 -- it stands, and no ply is left
 pub attacker_wins-returns-then-plies-eq0-clause-over : goal.attacker_wins-returns-then-plies-eq0-clause-over
 attacker_wins-returns-then-plies-eq0-clause-over g t c = λ pos a.
     let cell = c.cell.ensures.over pos a in
     let stands = sym (eq_is_same_cell c.cell.result Empty) ∙ sym c.eq.ensures ∙ c.if-eq.false in
-    sym (wins-no_plies c.args.plies c.args.node (after pos c.args.board.now.moves) (rw cell at stands) c.if-plies-eq0.true)
+    rw c.none.ensures (Tells-none c.args.asked _ (λ ko. wins-no_plies c.args.plies (under c.args.turn ko) (after pos c.args.board.now.moves) (rw cell at stands) c.if-plies-eq0.true))
 
--- it stands, and the side to play has a good move or not
-pub attacker_wins-returns-clause-over : goal.attacker_wins-returns-clause-over
-attacker_wins-returns-clause-over g t c = λ pos a.
-    let a0 = agrees_before c.good_move.ensures.stays.grows a in
-    let cell = c.cell.ensures.over pos a0 in
-    let stands = sym (eq_is_same_cell c.cell.result Empty) ∙ sym c.eq.ensures ∙ c.if-eq.false in
-    wins-by_move c.args.plies c.args.node (after pos c.args.board.now.moves) c.is_some.result (rw cell at stands) c.if-plies-eq0.false
-    (c.is_some.ensures ∙ ap is_some (rw c.cell.ensures.stays.moves at (c.good_move.ensures.over pos a)))
+-- it has too many liberties
+pub attacker_wins-returns-in-Safe-clause-over : goal.attacker_wins-returns-in-Safe-clause-over
+attacker_wins-returns-in-Safe-clause-over g t c = λ pos a.
+    let here = after pos c.args.board.now.moves in
+    let inside = target_on pos.size (g.L.Look.shows c.args.board.now.look).size c.args.turn.target (same_size (g.met.L.Look.sized c.args.board.now.look) (agrees_before c.cell.ensures.stays.grows (agrees_before c.outlook_of.ensures.stays.grows a))) c.requires.target in
+    let many = (rw (c.cell.ensures.stays.moves, c.in-Safe.is) at c.outlook_of.ensures.over) pos a in
+    rw c.none-in-Safe.ensures (Tells-none c.args.asked _ (bounded_at c.args.plies c.args.turn here pos.size (size-after pos c.args.board.now.moves) inside many))
 
--- a candidate is on the board
-candidate_inside : (shown : BoardState) (moves : List TrialMove) (target wide p : ℕ) → is_candidate (after shown moves) target wide p ≡ true → p < shown.size * shown.size
-candidate_inside shown moves target wide p h = subst (λ n. p < n * n) (size-after shown moves) (candidate_on (after shown moves) target wide p h)
-
-pub first_success-succeeds-requires : goal.first_success-succeeds-requires
-first_success-succeeds-requires g t c =
-    let inside = candidate_inside (g.L.Look.shows c.args.board.now.look) c.args.board.now.moves c.args.node.target c.args.node.wide c.in-Some.p (sym (c.candidates-candidates.ensures.answer c.in-Some.p) ∙ c.in-Some.ensures.some.2) in
-    search rules
-
-pub first_success-returns-then-succeeds-clause-on_board : goal.first_success-returns-then-succeeds-clause-on_board
-first_success-returns-then-succeeds-clause-on_board g t c =
-    candidate_inside (g.L.Look.shows c.args.board.now.look) c.args.board.now.moves c.args.node.target c.args.node.wide c.in-Some.p (sym (c.candidates-candidates.ensures.answer c.in-Some.p) ∙ c.in-Some.ensures.some.2)
-
--- a candidate that succeeds, and none before it does
-pub first_success-returns-then-succeeds-clause-over : goal.first_success-returns-then-succeeds-clause-over
-first_success-returns-then-succeeds-clause-over g t c = λ pos a.
-    let a1 = agrees_before c.succeeds.ensures.stays.grows a in
-    let a0 = agrees_before c.loop-p.invariant.grows a1 in
-    let first = c.in-Some.ensures.some in
-    first_success-found c.args.plies c.args.node (after pos c.args.board.now.moves) c.loop-p.next c.in-Some.p (set.contains c.candidates-candidates.result)
-    (c.candidates-candidates.ensures.over pos a0) (c.loop-p.invariant.none pos a1) first.3 first.2
-    (rw (c.loop-p.invariant.stays.moves, c.if-succeeds.true) at (c.succeeds.ensures.over pos a))
-
--- one more candidate does not succeed
-pub first_success-loop-p-preserved : goal.first_success-loop-p-preserved
-first_success-loop-p-preserved g t c =
-    let i = c.loop-p.invariant in
-    let first = c.in-Some.ensures.some in
-    record {
-      stays = record {
-        moves = c.succeeds.ensures.stays.moves ∙ i.stays.moves;
-        shown = c.succeeds.ensures.stays.shown ∙ i.stays.shown;
-        grows = Grows-trans i.stays.grows c.succeeds.ensures.stays.grows;
-      };
-      grows = Grows-trans i.grows c.succeeds.ensures.stays.grows;
-      near = λ pos a q root tree und.
-          let a1 = agrees_before c.succeeds.ensures.stays.grows a in
-          let a0 = agrees_before i.grows a1 in
-          let candidate = sym (c.candidates-candidates.ensures.over pos a0 c.in-Some.p) ∙ first.2 in
-          AddsNear-trans (i.near pos a1 q root tree und)
-          ((rw i.stays.moves at (c.succeeds.ensures.near pos a q root)) tree und candidate);
-      none = λ pos a.
-          let a1 = agrees_before c.succeeds.ensures.stays.grows a in
-          let fails = rw i.stays.moves at (c.succeeds.ensures.over pos a) in
-          below_more _ _ (none_before (set.contains c.candidates-candidates.result) _ c.loop-p.next c.in-Some.p (i.none pos a1) first.3)
-          (and_false (set.contains c.candidates-candidates.result c.in-Some.p) _ (sym fails ∙ c.if-succeeds.false));
-    }
-
--- no candidate succeeds
-pub first_success-returns-clause-over : goal.first_success-returns-clause-over
-first_success-returns-clause-over g t c = λ pos a.
-    let a0 = agrees_before c.loop-p.invariant.grows a in
-    first_success-none c.args.plies c.args.node (after pos c.args.board.now.moves) c.loop-p.next (set.contains c.candidates-candidates.result)
-    (c.candidates-candidates.ensures.over pos a0) (c.loop-p.invariant.none pos a) c.in_default.ensures.none
-
--- the look at the target, and the rest in the area
-pub attacker_wins-returns-clause-near : goal.attacker_wins-returns-clause-near
-attacker_wins-returns-clause-near g t c = λ pos a q root tree.
-    let a1 = agrees_before c.good_move.ensures.stays.grows a in
+-- it is taken by its only liberty
+pub attacker_wins-returns-in-Taken-clause-over : goal.attacker_wins-returns-in-Taken-clause-over
+attacker_wins-returns-in-Taken-clause-over g t c = λ pos a.
+    let here = after pos c.args.board.now.moves in
+    let size = size-after pos c.args.board.now.moves in
+    let a1 = agrees_before c.outlook_of.ensures.stays.grows a in
+    let a0 = agrees_before c.cell.ensures.stays.grows a1 in
+    let inside = target_on pos.size (g.L.Look.shows c.args.board.now.look).size c.args.turn.target (same_size (g.met.L.Look.sized c.args.board.now.look) a0) c.requires.target in
     let cell = c.cell.ensures.over pos a1 in
     let stands = rw cell at (sym (eq_is_same_cell c.cell.result Empty) ∙ sym c.eq.ensures ∙ c.if-eq.false) in
-    let rest = rw c.cell.ensures.stays.moves at (c.good_move.ensures.near pos a q root) in
-    AddsNear-trans (AddsNear-in (λ p. (p ≡ c.args.node.target) ⊎ InActiveArea q root p) c.cell.ensures.near (λ p h. inl (eqb-true p c.args.node.target h)))
-    (AddsNear-mono (InActiveArea q root) (λ p. (p ≡ c.args.node.target) ⊎ InActiveArea q root p) (rest (pred_tree c.args.plies c.if-plies-eq0.false tree) stands) (λ p h. inr h))
+    let few = (rw (c.cell.ensures.stays.moves, c.in-Taken.is) at c.outlook_of.ensures.over) pos a in
+    let taken = (rw c.cell.ensures.stays.moves at c.outlook_of.ensures.taken) pos a c.in-Taken.is in
+    let und = undecided_at c.args.plies c.args.turn here pos.size size stands few in
+    let more : c.args.plies ≡ suc (c.args.plies - 1) = omega (arith, c.if-plies-eq0.false) in
+    Tells-all c.args.asked _ (λ ko. ap (λ m. attacker_wins m (under c.args.turn ko) here) more
+    ∙ take_wins (c.args.plies - 1) c.args.turn here (whole_after pos c.args.board.now.moves a.sound.cells) (target_on here.size pos.size c.args.turn.target size inside) ((und ko).few taken.attacks) taken ko)
 
--- the candidates are looked for near the target
-pub first_success-loop-p-init : goal.first_success-loop-p-init
-first_success-loop-p-init g t c = record {
-  stays = c.candidates-candidates.ensures.stays;
-  grows = Grows-refl _;
-  near = λ pos a q root tree und.
-      let a0 = agrees_before c.candidates-candidates.ensures.stays.grows a in
-      let here = after pos c.args.board.now.moves in
-      AddsNear-in (InActiveArea q root) (c.candidates-candidates.ensures.near pos a)
-      (area_candidates q root here (suc c.args.plies) c.args.node tree pos.size (size-after pos c.args.board.now.moves) (target_on pos.size (g.L.Look.shows c.args.board.now.look).size c.args.node.target (same_size (g.met.L.Look.sized c.args.board.now.look) a0) c.requires.target) und.stands);
-  none = λ pos a q h. absurd (omega arith);
-}
-
-pub first_success-returns-then-succeeds-clause-near : goal.first_success-returns-then-succeeds-clause-near
-first_success-returns-then-succeeds-clause-near g t c = λ pos a q root tree und.
-    let a1 = agrees_before c.succeeds.ensures.stays.grows a in
-    let a0 = agrees_before c.loop-p.invariant.grows a1 in
-    let candidate = sym (c.candidates-candidates.ensures.over pos a0 c.in-Some.p) ∙ c.in-Some.ensures.some.2 in
-    AddsNear-trans (c.loop-p.invariant.near pos a1 q root tree und)
-    ((rw c.loop-p.invariant.stays.moves at (c.succeeds.ensures.near pos a q root)) tree und candidate)
-
--- a refused play looks near its candidate
-pub succeeds-returns-in-None-clause-near : goal.succeeds-returns-in-None-clause-near
-succeeds-returns-in-None-clause-near g t c = λ pos a q root tree und candidate.
-    let a0 = agrees_before c.child.ensures.grows a in
+-- the looks at the target and its liberties
+pub attacker_wins-returns-in-Safe-clause-near : goal.attacker_wins-returns-in-Safe-clause-near
+attacker_wins-returns-in-Safe-clause-near g t c = λ pos a q root tree.
+    let a1 = agrees_before c.outlook_of.ensures.stays.grows a in
+    let a0 = agrees_before c.cell.ensures.stays.grows a1 in
     let here = after pos c.args.board.now.moves in
-    let inside = target_on pos.size (g.L.Look.shows c.args.board.now.look).size c.args.node.target (same_size (g.met.L.Look.sized c.args.board.now.look) a0) c.requires.target in
-    AddsNear-in (InActiveArea q root) (c.child.ensures.near pos a) (λ p h. area_play q root here (suc c.args.plies) c.args.node tree pos.size (size-after pos c.args.board.now.moves) inside und.stands c.args.p p candidate h)
+    let cell = c.cell.ensures.over pos a1 in
+    let stands = rw cell at (sym (eq_is_same_cell c.cell.result Empty) ∙ sym c.eq.ensures ∙ c.if-eq.false) in
+    let one = some_of c.args.asked c.requires.some in
+    let inside = target_on pos.size (g.L.Look.shows c.args.board.now.look).size c.args.turn.target (same_size (g.met.L.Look.sized c.args.board.now.look) a0) c.requires.target in
+    AddsNear-trans (AddsNear-in (λ p. (p ≡ c.args.turn.target) ⊎ InActiveArea q root p) c.cell.ensures.near (λ p h. inl (eqb-true p c.args.turn.target h)))
+    (AddsNear-in (λ p. (p ≡ c.args.turn.target) ⊎ InActiveArea q root p) ((rw c.cell.ensures.stays.moves at c.outlook_of.ensures.near) pos a)
+    (λ p h. inr (area_once q root here c.args.plies (under c.args.turn one.0) (tree.each one.0 one.1) pos.size (size-after pos c.args.board.now.moves) inside stands p h)))
 
--- a play that is made leads to a node of the trees
-pub succeeds-returns-in-Some-clause-near : goal.succeeds-returns-in-Some-clause-near
-succeeds-returns-in-Some-clause-near g t c = λ pos a q root tree und candidate.
-    let a2 = rw c.back.ensures.moves at a in
-    let a1 = agrees_before c.attacker_wins-won.ensures.stays.grows a2 in
-    let a0 = agrees_before c.child.ensures.grows a1 in
+pub attacker_wins-returns-in-Taken-clause-near : goal.attacker_wins-returns-in-Taken-clause-near
+attacker_wins-returns-in-Taken-clause-near g t c = λ pos a q root tree.
+    let a1 = agrees_before c.outlook_of.ensures.stays.grows a in
+    let a0 = agrees_before c.cell.ensures.stays.grows a1 in
     let here = after pos c.args.board.now.moves in
-    let inside = target_on pos.size (g.L.Look.shows c.args.board.now.look).size c.args.node.target (same_size (g.met.L.Look.sized c.args.board.now.look) a0) c.requires.target in
-    let child = rw c.in-Some.is at (c.child.ensures.over pos a1) in
-    let same = rw c.in-Some.is at c.child.ensures.target in
-    let below = c.attacker_wins-won.ensures.near pos a2 q root (by_play tree und c.args.p candidate c.in-Some.next (after pos c.child.new.board.moves) child) in
-    rw c.back.ensures.moves (AddsNear-trans
-    (AddsNear-in (InActiveArea q root) (c.child.ensures.near pos a1) (λ p h. area_play q root here (suc c.args.plies) c.args.node tree pos.size (size-after pos c.args.board.now.moves) inside und.stands c.args.p p candidate h))
-    (AddsNear-mono (λ p. (p ≡ c.in-Some.next.target) ⊎ InActiveArea q root p) (InActiveArea q root) below
-    (λ p h. elim h [ inl e ↦ area_target q root here (suc c.args.plies) c.args.node tree pos.size (size-after pos c.args.board.now.moves) inside und.stands p (e ∙ same) | inr i ↦ i ])))
+    let cell = c.cell.ensures.over pos a1 in
+    let stands = rw cell at (sym (eq_is_same_cell c.cell.result Empty) ∙ sym c.eq.ensures ∙ c.if-eq.false) in
+    let one = some_of c.args.asked c.requires.some in
+    let inside = target_on pos.size (g.L.Look.shows c.args.board.now.look).size c.args.turn.target (same_size (g.met.L.Look.sized c.args.board.now.look) a0) c.requires.target in
+    AddsNear-trans (AddsNear-in (λ p. (p ≡ c.args.turn.target) ⊎ InActiveArea q root p) c.cell.ensures.near (λ p h. inl (eqb-true p c.args.turn.target h)))
+    (AddsNear-in (λ p. (p ≡ c.args.turn.target) ⊎ InActiveArea q root p) ((rw c.cell.ensures.stays.moves at c.outlook_of.ensures.near) pos a)
+    (λ p h. inr (area_once q root here c.args.plies (under c.args.turn one.0) (tree.each one.0 one.1) pos.size (size-after pos c.args.board.now.moves) inside stands p h)))
 
--- too many liberties are counted near the target
-pub good_move-returns-then-has_many_liberties-clause-near : goal.good_move-returns-then-has_many_liberties-clause-near
-good_move-returns-then-has_many_liberties-clause-near g t c = λ pos a q root tree stands.
-    let a0 = agrees_before c.has_many_liberties.ensures.stays.grows a in
+-- the side to play has a good move or not
+pub attacker_wins-returns-in-Open-clause-over : goal.attacker_wins-returns-in-Open-clause-over
+attacker_wins-returns-in-Open-clause-over g t c = λ pos a.
+    let a1 = agrees_before c.has_good_move-good.ensures.stays.grows a in
+    let a0 = agrees_before c.outlook_of.ensures.stays.grows a1 in
     let here = after pos c.args.board.now.moves in
-    let inside = target_on pos.size (g.L.Look.shows c.args.board.now.look).size c.args.node.target (same_size (g.met.L.Look.sized c.args.board.now.look) a0) c.requires.target in
-    AddsNear-in (InActiveArea q root) (c.has_many_liberties.ensures.near pos a) (area_once q root here (suc c.args.plies) c.args.node tree pos.size (size-after pos c.args.board.now.moves) inside stands)
+    let cell = c.cell.ensures.over pos a0 in
+    let stands = rw cell at (sym (eq_is_same_cell c.cell.result Empty) ∙ sym c.eq.ensures ∙ c.if-eq.false) in
+    let few = (rw (c.cell.ensures.stays.moves, c.in-Open.is) at c.outlook_of.ensures.over) pos a1 in
+    let und = undecided_at c.args.plies c.args.turn here pos.size (size-after pos c.args.board.now.moves) stands few in
+    rw c.attackers.ensures (Tells-attackers c.args.turn.attacker_to_play c.args.asked c.has_good_move-good.result (λ ko. is_some (good_move (c.args.plies - 1) (under c.args.turn ko) here)) (λ ko. attacker_wins c.args.plies (under c.args.turn ko) here)
+    ((rw (c.outlook_of.ensures.stays.moves, c.cell.ensures.stays.moves) at (c.has_good_move-good.ensures.over pos a)) und)
+    (λ ko. wins-by_move c.args.plies (under c.args.turn ko) here (is_some (good_move (c.args.plies - 1) (under c.args.turn ko) here)) stands c.if-plies-eq0.false refl))
 
-pub good_move-returns-then-node-clause-near : goal.good_move-returns-then-node-clause-near
-good_move-returns-then-node-clause-near g t c = λ pos a q root tree stands.
-    let a1 = agrees_before c.first_success.ensures.stays.grows a in
-    let a0 = agrees_before c.has_many_liberties.ensures.stays.grows a1 in
+-- the looks at the target, and the rest in the area
+pub attacker_wins-returns-in-Open-clause-near : goal.attacker_wins-returns-in-Open-clause-near
+attacker_wins-returns-in-Open-clause-near g t c = λ pos a q root tree.
+    let a2 = agrees_before c.has_good_move-good.ensures.stays.grows a in
+    let a1 = agrees_before c.outlook_of.ensures.stays.grows a2 in
+    let a0 = agrees_before c.cell.ensures.stays.grows a1 in
     let here = after pos c.args.board.now.moves in
-    let inside = target_on pos.size (g.L.Look.shows c.args.board.now.look).size c.args.node.target (same_size (g.met.L.Look.sized c.args.board.now.look) a0) c.requires.target in
-    let und : IsUndecided c.args.node here = record { stands = stands; few = λ turn. sym (c.has_many_liberties.ensures.over pos a1) ∙ c.if-has_many_liberties.false } in
-    AddsNear-trans
-    (AddsNear-in (InActiveArea q root) (c.has_many_liberties.ensures.near pos a1) (area_once q root here (suc c.args.plies) c.args.node tree pos.size (size-after pos c.args.board.now.moves) inside stands))
-    ((rw c.has_many_liberties.ensures.stays.moves at (c.first_success.ensures.near pos a q root)) tree und)
-
--- after the pass
-pub good_move-returns-then-not-lost-clause-near : goal.good_move-returns-then-not-lost-clause-near
-good_move-returns-then-not-lost-clause-near g t c = λ pos a q root tree stands.
-    let a2 = rw c.back.ensures.moves at a in
-    let a0 = rw c.pass.ensures at (agrees_before c.attacker_wins-lost.ensures.stays.grows a2) in
-    let here = after pos c.args.board.now.moves in
-    let inside = target_on pos.size (g.L.Look.shows c.args.board.now.look).size c.args.node.target (same_size (g.met.L.Look.sized c.args.board.now.look) a0) c.requires.target in
-    let passed = rw (c.next.ensures, c.pass.ensures) at (c.attacker_wins-lost.ensures.near pos a2 q root) in
-    rw c.back.ensures.moves (AddsNear-mono (λ p. (p ≡ c.args.node.target) ⊎ InActiveArea q root p) (InActiveArea q root) (passed (pass_tree tree stands c.if-node.false))
-    (λ p h. elim h [ inl e ↦ area_target q root here (suc c.args.plies) c.args.node tree pos.size (size-after pos c.args.board.now.moves) inside stands p e | inr i ↦ i ]))
-
--- after the pass, the plays
-pub good_move-returns-clause-near : goal.good_move-returns-clause-near
-good_move-returns-clause-near g t c = λ pos a q root tree stands.
-    let a2 = rw c.back.ensures.moves at (agrees_before c.first_success-2.ensures.stays.grows a) in
-    let a0 = rw c.pass.ensures at (agrees_before c.attacker_wins-lost.ensures.stays.grows a2) in
-    let here = after pos c.args.board.now.moves in
-    let inside = target_on pos.size (g.L.Look.shows c.args.board.now.look).size c.args.node.target (same_size (g.met.L.Look.sized c.args.board.now.look) a0) c.requires.target in
-    let passed = rw (c.next.ensures, c.pass.ensures) at (c.attacker_wins-lost.ensures.near pos a2 q root) in
-    let same = ap (λ t. t.moves) c.back.ensures.moves ∙ ap tail c.attacker_wins-lost.ensures.stays.moves ∙ ap (λ t. tail t.moves) c.pass.ensures in
-    let plays = rw (same, ap (λ t. t.look) c.back.ensures.moves) at (c.first_success-2.ensures.near pos a q root) in
-    AddsNear-trans (AddsNear-mono (λ p. (p ≡ c.args.node.target) ⊎ InActiveArea q root p) (InActiveArea q root) (passed (pass_tree tree stands c.if-node.false))
-    (λ p h. elim h [ inl e ↦ area_target q root here (suc c.args.plies) c.args.node tree pos.size (size-after pos c.args.board.now.moves) inside stands p e | inr i ↦ i ]))
-    (plays tree (undecided_defender stands c.if-node.false))
+    let cell = c.cell.ensures.over pos a1 in
+    let stands = rw cell at (sym (eq_is_same_cell c.cell.result Empty) ∙ sym c.eq.ensures ∙ c.if-eq.false) in
+    let one = some_of c.args.asked c.requires.some in
+    let inside = target_on pos.size (g.L.Look.shows c.args.board.now.look).size c.args.turn.target (same_size (g.met.L.Look.sized c.args.board.now.look) a0) c.requires.target in
+    let few = (rw (c.cell.ensures.stays.moves, c.in-Open.is) at c.outlook_of.ensures.over) pos a2 in
+    let und = undecided_at c.args.plies c.args.turn here pos.size (size-after pos c.args.board.now.moves) stands few in
+    let nodes : AreNodesOf q root (suc (c.args.plies - 1)) c.args.turn c.args.asked here = record { each = λ ko h. pred_tree c.args.plies c.if-plies-eq0.false (tree.each ko h) } in
+    let rest = rw (c.outlook_of.ensures.stays.moves, c.cell.ensures.stays.moves) at (c.has_good_move-good.ensures.near pos a q root) in
+    AddsNear-trans (AddsNear-in (λ p. (p ≡ c.args.turn.target) ⊎ InActiveArea q root p) c.cell.ensures.near (λ p h. inl (eqb-true p c.args.turn.target h)))
+    (AddsNear-trans (AddsNear-in (λ p. (p ≡ c.args.turn.target) ⊎ InActiveArea q root p) ((rw c.cell.ensures.stays.moves at c.outlook_of.ensures.near) pos a2)
+    (λ p h. inr (area_once q root here c.args.plies (under c.args.turn one.0) (tree.each one.0 one.1) pos.size (size-after pos c.args.board.now.moves) inside stands p h)))
+    (AddsNear-mono (InActiveArea q root) (λ p. (p ≡ c.args.turn.target) ⊎ InActiveArea q root p) (rest nodes und) (λ p h. inr h)))

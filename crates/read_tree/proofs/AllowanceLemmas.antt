@@ -1,0 +1,293 @@
+-- Sets of ko allowances, and the node under each of them.
+use Rattle.std.proofs.Common.{◌≡◌, ◌≢◌, ℕ, suc, ◌+◌, ◌-◌, ◌*◌, ◌<◌, ◌≤◌, ◌⊎◌, Bool, true, false, not, ◌&&◌, ◌||◌, cond, Option, Some, None, is_some, refl, sym, ap, subst, ◌∙◌, arith, inl, inr}
+use mathlib.Core.Bool.{beq}
+use Rattle.std.proofs.lemmas.Bool.{cases_Bool, cases_eq, cases_lt, both_ways}
+use Rattle.go_rules.specs.declared.Colour.{Colour}
+use Rattle.go_rules.specs.Position.{BoardState}
+use Rattle.read_rules.specs.declared.node.Node.{Node}
+use Rattle.read_tree.specs.declared.turn.Turn.{Turn}
+use Rattle.read_tree.specs.declared.allowances.Allowances.{Allowances}
+use Rattle.go_rules.specs.Play.{pass}
+use Rattle.read_rules.specs.Candidates.{is_candidate, candidates_of}
+use Rattle.read_rules.proofs.CandidateLaws.{candidate_on}
+use Rattle.read_rules.specs.declared.question.Spot.TheVariants.{Pass}
+use Rattle.read_rules.specs.GameTree.{is_captured, has_many_liberties, allowance_of, next_node, attacker_wins, suits, succeeds, pass_saves, first_success, at_point}
+use Rattle.read_tree.specs.Allowances.{Ko, defender_may, neither_may, attacker_may, attacker_ko_of, defender_ko_of, has, has_some, own_ko, own_where, under, next_turn, without, Tells}
+use Rattle.read_rules.specs.declared.question.ReadingQuestion.{ReadingQuestion}
+use Rattle.read_rules.specs.ActiveArea.{IsNodeOf, by_pass}
+use Rattle.read_rules.specs.GoodMoves.{good_move}
+use Rattle.read_tree.specs.Steps.{has_way, IsLeft, AreNodesOf}
+use Rattle.read_rules.proofs.WinLemmas.{any-first, first_success-none}
+use Rattle.read_rules.proofs.WalkLemmas.{any_from}
+
+-- a set that has some has one
+pub some_of : (set : Allowances) → has_some set ≡ true → (ko : Ko) × (has set ko ≡ true)
+some_of set h = by set.defender set.neither set.attacker refl refl refl h
+  where
+    by : (d n a : Bool) → set.defender ≡ d → set.neither ≡ n → set.attacker ≡ a → (d || n || a) ≡ true → (ko : Ko) × (has set ko ≡ true)
+    by true n a ed en ea w = (defender_may, ed)
+    by false true a ed en ea w = (neither_may, en)
+    by false false true ed en ea w = (attacker_may, ea)
+    by false false false ed en ea w = cc
+
+-- a set that has none has not this one
+pub none_of : (set : Allowances) (ko : Ko) → has_some set ≡ false → has set ko ≡ false
+none_of set ko h = by set.defender set.neither set.attacker ko refl refl refl h
+  where
+    by : (d n a : Bool) (ko : Ko) → set.defender ≡ d → set.neither ≡ n → set.attacker ≡ a → (d || n || a) ≡ false → has set ko ≡ false
+    by true n a ko ed en ea w = cc
+    by false true a ko ed en ea w = cc
+    by false false true ko ed en ea w = cc
+    by false false false defender_may ed en ea w = ed
+    by false false false neither_may ed en ea w = en
+    by false false false attacker_may ed en ea w = ea
+
+pub has-without : (a b : Allowances) (ko : Ko) → has (without a b) ko ≡ (has a ko && not (has b ko))
+has-without a b defender_may = refl
+has-without a b neither_may = refl
+has-without a b attacker_may = refl
+
+-- the side to play has nothing left under another's allowance
+pub nothing_left : (attacker : Bool) (ko : Ko) → ko ≢ own_ko attacker → cond attacker (attacker_ko_of ko) (defender_ko_of ko) ≡ 0
+nothing_left true defender_may ne = refl
+nothing_left true neither_may ne = refl
+nothing_left true attacker_may ne = absurd (ne refl)
+nothing_left false defender_may ne = absurd (ne refl)
+nothing_left false neither_may ne = refl
+nothing_left false attacker_may ne = refl
+
+-- and one play under its own
+pub one_left : (attacker : Bool) → cond attacker (attacker_ko_of (own_ko attacker)) (defender_ko_of (own_ko attacker)) ≡ 1
+one_left true = refl
+one_left false = refl
+
+-- a legal play keeps the allowance
+next_by : (target : ℕ) (defender : Colour) (attacker : Bool) (wide : ℕ) (ko : Ko) → let turn : Turn = record { target = target; defender = defender; attacker_to_play = attacker; wide = wide } in
+    next_node (under turn ko) (allowance_of (under turn ko)) ≡ under (next_turn turn) ko
+next_by target defender true wide ko = refl
+next_by target defender false wide ko = refl
+
+pub next_keeps : (turn : Turn) (ko : Ko) → next_node (under turn ko) (allowance_of (under turn ko)) ≡ under (next_turn turn) ko
+next_keeps turn ko = next_by turn.target turn.defender turn.attacker_to_play turn.wide ko
+
+-- a play that the ban alone forbids spends the own one
+spent_by : (target : ℕ) (defender : Colour) (attacker : Bool) (wide : ℕ) → let turn : Turn = record { target = target; defender = defender; attacker_to_play = attacker; wide = wide } in
+    next_node (under turn (own_ko attacker)) 0 ≡ under (next_turn turn) neither_may
+spent_by target defender true wide = refl
+spent_by target defender false wide = refl
+
+pub next_spends : (turn : Turn) → next_node (under turn (own_ko turn.attacker_to_play)) (allowance_of (under turn (own_ko turn.attacker_to_play)) - 1) ≡ under (next_turn turn) neither_may
+next_spends turn =
+    let e : allowance_of (under turn (own_ko turn.attacker_to_play)) - 1 ≡ 0 = (let one = one_left turn.attacker_to_play in omega arith) in
+    ap (next_node (under turn (own_ko turn.attacker_to_play))) e ∙ spent_by turn.target turn.defender turn.attacker_to_play turn.wide
+
+-- the mover's way at a child
+pub suits_child : (n : ℕ) (attacker : Bool) (o : Option (Node × BoardState)) (next : Node) (new : BoardState) → o ≡ Some (next, new) → has_way attacker (attacker_wins n next new) ≡ suits n attacker o
+suits_child n true o next new e = sym (ap (suits n true) e)
+suits_child n false o next new e = sym (ap (suits n false) e)
+
+pub suits_none : (n : ℕ) (attacker : Bool) (o : Option (Node × BoardState)) → o ≡ None → suits n attacker o ≡ false
+suits_none n true o e = ap (suits n true) e
+suits_none n false o e = ap (suits n false) e
+
+-- the same of the asked, by a test that is the same
+pub Tells-same : {asked found : Allowances} {a b : Ko → Bool} → Tells asked found a → ((ko : Ko) → a ko ≡ b ko) → Tells asked found b
+Tells-same {asked} t same = record { each = λ ko. t.each ko ∙ ap (λ x. has asked ko && x) (same ko) }
+
+-- where the own allowance alone passes
+pub Tells-own : (attacker : Bool) (asked : Allowances) (there : Bool) (test : Ko → Bool) → has asked (own_ko attacker) ≡ true → there ≡ test (own_ko attacker)
+    → ((ko : Ko) → ko ≢ own_ko attacker → test ko ≡ false) → Tells asked (own_where attacker there) test
+Tells-own attacker asked there test h e none = record { each = by attacker h e none }
+  where
+    and_no : (a b : Bool) → b ≡ false → false ≡ (a && b)
+    and_no true b e = sym e
+    and_no false b e = refl
+
+    and_yes : (a b y : Bool) → a ≡ true → y ≡ b → y ≡ (a && b)
+    and_yes true b y h e = e
+    and_yes false b y h e = cc
+
+    by : (attacker : Bool) → has asked (own_ko attacker) ≡ true → there ≡ test (own_ko attacker) → ((ko : Ko) → ko ≢ own_ko attacker → test ko ≡ false)
+        → (ko : Ko) → has (own_where attacker there) ko ≡ (has asked ko && test ko)
+    by true h e none defender_may = and_no asked.defender (test defender_may) (none defender_may (λ w. cc))
+    by true h e none neither_may = and_no asked.neither (test neither_may) (none neither_may (λ w. cc))
+    by true h e none attacker_may = and_yes asked.attacker (test attacker_may) there h e
+    by false h e none defender_may = and_yes asked.defender (test defender_may) there h e
+    by false h e none neither_may = and_no asked.neither (test neither_may) (none neither_may (λ w. cc))
+    by false h e none attacker_may = and_no asked.attacker (test attacker_may) (none attacker_may (λ w. cc))
+
+-- Each pass of the walk over the candidates.
+pub left_first : (n : ℕ) (turn : Turn) (here : BoardState) (candidate : ℕ → Bool) (asked : Allowances) → IsLeft n turn here candidate 0 asked asked
+left_first n turn here candidate asked = record { asked_for = λ ko h. h; none = λ ko h q l. absurd (omega arith); given = λ ko h m. absurd (both_ways (has asked ko) m h) }
+
+and_parts_not : (a b : Bool) → (a && not b) ≡ true → (a ≡ true) × (b ≡ false)
+and_parts_not true true h = cc
+and_parts_not true false h = (refl, refl)
+and_parts_not false b h = cc
+
+and_false_right : (a b : Bool) → b ≡ false → (a && b) ≡ false
+and_false_right true b e = e
+and_false_right false b e = refl
+
+pub left_next : (n : ℕ) (turn : Turn) (here : BoardState) (candidate : ℕ → Bool) (next p : ℕ) (asked missing good : Allowances) → IsLeft n turn here candidate next asked missing
+    → candidate p ≡ true → ((q : ℕ) → next ≤ q → q < p → candidate q ≡ false) → Tells missing good (λ ko. succeeds n (under turn ko) here p)
+    → IsLeft n turn here candidate (p + 1) asked (without missing good)
+left_next n turn here candidate next p asked missing good left cand between tells = record {
+  asked_for = λ ko h. left.asked_for ko (and_parts_not _ _ (sym (has-without missing good ko) ∙ h)).0;
+  none = λ ko h q l.
+      let parts = and_parts_not _ _ (sym (has-without missing good ko) ∙ h) in
+      let fails : succeeds n (under turn ko) here p ≡ false = fails_by (has missing ko) _ (has good ko) (tells.each ko) parts.0 parts.1 in
+      elim (cases_lt_eq q next p (omega arith)) [
+        | inl before ↦ left.none ko parts.0 q before
+        | inr rest ↦ elim rest [
+          | inl mid ↦ ap (λ b. b && succeeds n (under turn ko) here q) (between q mid.0 mid.1)
+          | inr e ↦ and_false_right (candidate q) _ (ap (succeeds n (under turn ko) here) e ∙ fails)
+        ]
+      ];
+  given = λ ko a m. elim (cases_Bool (has missing ko)) [
+    | inr f ↦ left.given ko a f
+    | inl t ↦ (p, cand, passes_by (has missing ko) _ (has good ko) (tells.each ko) t (sym (has-without missing good ko) ∙ m))
+  ];
+}
+  where
+    fails_by : (a b g : Bool) → g ≡ (a && b) → a ≡ true → g ≡ false → b ≡ false
+    fails_by true b g e h f = sym e ∙ f
+    fails_by false b g e h f = cc
+
+    passes_by : (a b g : Bool) → g ≡ (a && b) → a ≡ true → (a && not g) ≡ false → b ≡ true
+    passes_by true b true e h f = sym e
+    passes_by true b false e h f = cc
+    passes_by false b g e h f = cc
+
+    cases_lt_eq : (q next p : ℕ) → q < p + 1 → (q < next) ⊎ (((next ≤ q) × (q < p)) ⊎ (q ≡ p))
+    cases_lt_eq q next p l = elim (cases_lt q next) [
+      | inl b ↦ inl b
+      | inr g ↦ elim (cases_eq q p) [ inl e ↦ inr (inr e) | inr ne ↦ inr (inl (omega arith, omega arith)) ]
+    ]
+
+-- a node under no allowance is one of the trees
+pub neither_nodes : {q : ReadingQuestion} {root here : BoardState} {n : ℕ} {turn : Turn} → IsNodeOf q root n (under turn neither_may) here
+    → AreNodesOf q root n turn (record { defender = false; neither = true; attacker = false }) here
+neither_nodes {q} {root} {here} {n} {turn} node = record { each = by }
+  where
+    by : (ko : Ko) → has (record { defender = false; neither = true; attacker = false }) ko ≡ true → IsNodeOf q root n (under turn ko) here
+    by defender_may h = cc
+    by neither_may h = node
+    by attacker_may h = cc
+
+-- after the pass the node under each allowance is one of the trees
+pub pass_nodes : {q : ReadingQuestion} {root here : BoardState} {n : ℕ} {turn : Turn} {asked : Allowances} → AreNodesOf q root (suc n) turn asked here → is_captured here turn.target ≡ false → turn.attacker_to_play ≡ false
+    → AreNodesOf q root n (next_turn turn) asked (pass here)
+pass_nodes {q} {root} {here} {n} {turn} tree stands defends = record {
+  each = λ ko h. subst (λ node. IsNodeOf q root n node (pass here)) (next_keeps turn ko) (by_pass (tree.each ko h) (record { stands = stands; few = λ t. absurd (both_ways turn.attacker_to_play defends t) }) defends);
+}
+
+-- a node of fewer allowances
+pub fewer_nodes : {q : ReadingQuestion} {root here : BoardState} {n : ℕ} {turn : Turn} {asked : Allowances} (fewer : Allowances) → AreNodesOf q root n turn asked here → ((ko : Ko) → has fewer ko ≡ true → has asked ko ≡ true)
+    → AreNodesOf q root n turn fewer here
+fewer_nodes fewer tree h = record { each = λ ko a. tree.each ko (h ko a) }
+
+pub without_less : (a b : Allowances) (ko : Ko) → has (without a b) ko ≡ true → has a ko ≡ true
+without_less a b ko h = (and_parts_not _ _ (sym (has-without a b ko) ∙ h)).0
+
+and_true : (a b : Bool) → (a ≡ true → b ≡ true) → a ≡ (a && b)
+and_true true b h = sym (h refl)
+and_true false b h = refl
+
+-- a candidate that succeeds makes the first
+success_some : (n : ℕ) (node : Node) (here : BoardState) (p : ℕ) → is_candidate here node.target node.wide p ≡ true → succeeds n node here p ≡ true → is_some (first_success n node here) ≡ true
+success_some n node here p c t =
+    let on = candidate_on here node.target node.wide p c in
+    any-first (succeeds n node here) (candidates_of here node.target node.wide)
+    ∙ any_from (is_candidate here node.target node.wide) (succeeds n node here) (here.size * here.size) 0 p (omega arith) (omega (arith, on)) c t
+
+-- nothing is missing any more
+pub left_done : (n : ℕ) (turn : Turn) (here : BoardState) (candidate : ℕ → Bool) (next : ℕ) (asked missing : Allowances) → IsLeft n turn here candidate next asked missing
+    → ((q : ℕ) → candidate q ≡ is_candidate here turn.target turn.wide q) → has_some missing ≡ false → Tells asked asked (λ ko. is_some (first_success n (under turn ko) here))
+left_done n turn here candidate next asked missing left same none = record {
+  each = λ ko. and_true _ _ (λ a. let w = left.given ko a (none_of missing ko none) in success_some n (under turn ko) here w.0 (sym (same w.0) ∙ w.1) w.2);
+}
+
+-- no candidate is left
+pub left_over : (n : ℕ) (turn : Turn) (here : BoardState) (candidate : ℕ → Bool) (next : ℕ) (asked missing : Allowances) → IsLeft n turn here candidate next asked missing
+    → ((q : ℕ) → candidate q ≡ is_candidate here turn.target turn.wide q) → ((q : ℕ) → next ≤ q → candidate q ≡ false)
+    → Tells asked (without asked missing) (λ ko. is_some (first_success n (under turn ko) here))
+left_over n turn here candidate next asked missing left same rest = record {
+  each = λ ko. has-without asked missing ko ∙ and_same (has asked ko) _ _ (λ a. elim (cases_Bool (has missing ko)) [
+    | inl t ↦ ap not t ∙ ap is_some (first_success-none n (under turn ko) here next candidate same (left.none ko t) rest)
+    | inr f ↦ ap not f ∙ sym (let w = left.given ko a f in success_some n (under turn ko) here w.0 (sym (same w.0) ∙ w.1) w.2)
+  ]);
+}
+  where
+    and_same : (a b c : Bool) → (a ≡ true → b ≡ c) → (a && b) ≡ (a && c)
+    and_same true b c h = h refl
+    and_same false b c h = refl
+
+-- the defender's way is by the pass or by a candidate
+good_by : (turn many saved : Bool) (first : Option ℕ) → turn ≡ false → is_some (cond (turn && many) None (cond saved (Some Pass) (at_point first))) ≡ (saved || is_some first)
+good_by true many saved first e = cc
+good_by false many true first e = refl
+good_by false many false None e = refl
+good_by false many false (Some p) e = refl
+
+-- those that the pass saves, and of the rest those that a candidate saves
+pub Tells-good : (n : ℕ) (turn : Turn) (here : BoardState) (asked saved some : Allowances) → turn.attacker_to_play ≡ false → Tells asked saved (λ ko. pass_saves n (under turn ko) here)
+    → Tells (without asked saved) some (λ ko. is_some (first_success n (under turn ko) here))
+    → Tells asked (without asked (without (without asked saved) some)) (λ ko. is_some (good_move n (under turn ko) here))
+Tells-good n turn here asked saved some defends s m = record {
+  each = λ ko.
+      has-without asked (without (without asked saved) some) ko
+      ∙ ap (λ x. has asked ko && not x) (has-without (without asked saved) some ko ∙ ap (λ x. x && not (has some ko)) (has-without asked saved ko))
+      ∙ count (has asked ko) (pass_saves n (under turn ko) here) (is_some (first_success n (under turn ko) here)) (has saved ko) (has some ko) (s.each ko)
+      (m.each ko ∙ ap (λ x. x && is_some (first_success n (under turn ko) here)) (has-without asked saved ko))
+      ∙ ap (λ x. has asked ko && x) (sym (good_by turn.attacker_to_play (has_many_liberties here turn.target turn.wide) (pass_saves n (under turn ko) here) (first_success n (under turn ko) here) defends));
+}
+  where
+    count : (a p f s m : Bool) → s ≡ (a && p) → m ≡ ((a && not s) && f) → (a && not ((a && not s) && not m)) ≡ (a && (p || f))
+    count true true f s m e g = rw e refl
+    count true false true s m e g = rw (g, e) refl
+    count true false false s m e g = rw (g, e) refl
+    count false p f s m e g = refl
+
+-- under which the attacker wins
+pub Tells-attackers : (attacker : Bool) (asked good : Allowances) (way won : Ko → Bool) → Tells asked good way → ((ko : Ko) → beq (way ko) attacker ≡ won ko)
+    → Tells asked (cond attacker good (without asked good)) won
+Tells-attackers attacker asked good way won t same = record { each = by attacker same }
+  where
+    beq_true : (b : Bool) → b ≡ beq b true
+    beq_true true = refl
+    beq_true false = refl
+
+    minus : (a b g : Bool) → g ≡ (a && b) → (a && not g) ≡ (a && beq b false)
+    minus true true g e = ap not e
+    minus true false g e = ap not e
+    minus false b g e = refl
+
+    by : (attacker : Bool) → ((ko : Ko) → beq (way ko) attacker ≡ won ko) → (ko : Ko) → has (cond attacker good (without asked good)) ko ≡ (has asked ko && won ko)
+    by true same ko = t.each ko ∙ ap (λ x. has asked ko && x) (beq_true (way ko) ∙ same ko)
+    by false same ko = has-without asked good ko ∙ minus (has asked ko) (way ko) (has good ko) (t.each ko) ∙ ap (λ x. has asked ko && x) (same ko)
+
+-- where all pass, and where none does
+pub Tells-all : (asked : Allowances) (test : Ko → Bool) → ((ko : Ko) → test ko ≡ true) → Tells asked asked test
+Tells-all asked test h = record { each = λ ko. and_true _ _ (λ _. h ko) }
+
+pub Tells-none : (asked : Allowances) (test : Ko → Bool) → ((ko : Ko) → test ko ≡ false) → Tells asked (record { defender = false; neither = false; attacker = false }) test
+Tells-none asked test h = record { each = λ ko. has_none ko ∙ sym (and_false_right (has asked ko) (test ko) (h ko)) }
+  where
+    has_none : (ko : Ko) → has (record { defender = false; neither = false; attacker = false }) ko ≡ false
+    has_none defender_may = refl
+    has_none neither_may = refl
+    has_none attacker_may = refl
+
+-- all are there
+pub has_all : (ko : Ko) → has (record { defender = true; neither = true; attacker = true }) ko ≡ true
+has_all defender_may = refl
+has_all neither_may = refl
+has_all attacker_may = refl
+
+-- the attacker's way is by a candidate, where the target has not too many liberties
+pub good_attacker : (turn many saved : Bool) (first : Option ℕ) → turn ≡ true → many ≡ false → is_some first ≡ is_some (cond (turn && many) None (cond (not turn && saved) (Some Pass) (at_point first)))
+good_attacker true false saved None t m = refl
+good_attacker true false saved (Some p) t m = refl
+good_attacker true true saved first t m = cc
+good_attacker false many saved first t m = cc

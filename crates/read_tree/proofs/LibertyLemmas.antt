@@ -1,0 +1,296 @@
+-- A play takes away one liberty of a string at most, and none where it is not on one; so a target with many liberties is not captured.
+use Rattle.std.proofs.Common.{◌≡◌, ◌≢◌, ℕ, zero, suc, ◌+◌, ◌-◌, ◌*◌, ◌/◌, ◌<◌, ◌≤◌, ◌⊎◌, Bool, true, false, not, ◌||◌, cond, List, Ok, refl, sym, ap, subst, ◌∙◌, arith, inl, inr, ltb, eqb, set, add-one}
+use Rattle.std.proofs.lemmas.Bool.{cases_Bool, cases_eq, or_cases, lt-ltb, ltb-true, both_ways, eq-eqb, eqb-true, or_left, or_right}
+use Rattle.go_rules.specs.declared.Cell.{Cell}
+use Rattle.go_rules.specs.declared.Cell.TheVariants.{Empty, Black, White}
+use Rattle.go_rules.specs.declared.Colour.{Colour}
+use Rattle.go_rules.specs.Below.{count_below}
+use Rattle.go_rules.specs.Strings.{cell_at, is_stone, same_cell, Path, start, IsInString, IsLiberty, is_liberty, liberties}
+use Rattle.go_rules.specs.Position.{BoardState, stone_of, is_banned}
+use Rattle.go_rules.specs.Play.{play, play_free, pass, cells_after, is_taken}
+use Rattle.go_rules.proofs.Counts.{count_below_mono}
+use Rattle.go_rules.proofs.Links.{path_same, path_on, path_back, path_keeps, liberties_some, liberties_from}
+use Rattle.go_rules.proofs.Paths.{path_on_board, IsLiberty-from_test, is_liberty-from_fact}
+use Rattle.go_rules.proofs.Plays.{at_put_other, at_after, alive_not_taken}
+use Rattle.go_rules.proofs.Results.{after_on, play_occupied, play_ko, play_else}
+use Rattle.go_rules.proofs.PlayLaws.{done_state}
+use Rattle.read_rules.specs.declared.node.Node.{Node}
+use Rattle.read_tree.specs.declared.turn.Turn.{Turn}
+use Rattle.read_rules.specs.ActiveArea.{IsUndecided}
+use Rattle.read_tree.specs.Allowances.{Ko, under}
+use Rattle.read_rules.specs.GameTree.{is_captured, has_many_liberties, mover_of, allowance_of, next_node, attacker_wins}
+use Rattle.read_rules.specs.Rules.{IsChild, HasManyLiberties}
+use Rattle.read_tree.specs.Bound.{most_by_wide, outlasts}
+use Rattle.read_rules.proofs.WinLemmas.{wins-no_plies}
+use Rattle.read_rules.proofs.RuleLemmas.{many_from, many_gives, attacker_gives, defender_gives}
+
+-- what half of the plies is
+pub half_more : (n l : ℕ) → (suc n + 1) / 2 < l → n / 2 + 1 < l
+half_more n l h = omega arith
+
+-- A string with a liberty that is not the point of the play. The board is of size s; c plays at p.
+module _ (s : ℕ) (cells : List Cell) (c : Colour) (p : ℕ) (was_empty : cell_at cells p ≡ Empty) (t : ℕ) (on : t < s * s) where
+  abbrev put : List Cell
+  put = set cells p (stone_of c)
+
+  apart : (q : ℕ) → IsInString s cells t q → q ≢ p
+  apart q inside e = stone_not_empty (cell_at cells t) inside.stone (sym (path_same s cells t inside.path) ∙ ap (cell_at cells) e ∙ was_empty)
+    where
+      stone_not_empty : (k : Cell) → is_stone k ≡ true → k ≡ Empty → ⊥
+      stone_not_empty Empty h e = cc
+      stone_not_empty Black h e = cc
+      stone_not_empty White h e = cc
+
+  -- the string and its liberty stand after the stone was put
+  put_liberty : (l : ℕ) → IsLiberty s cells t l → l ≢ p → IsLiberty s put t l
+  put_liberty l lib ne = record {
+    on_board = lib.on_board;
+    is_empty = at_put_other cells p l (stone_of c) ne ∙ lib.is_empty;
+    beside = (
+      lib.beside.0,
+      record {
+        stone = ap is_stone (at_put_other cells p t (stone_of c) (apart t (record { stone = lib.beside.1.stone; path = start }))) ∙ lib.beside.1.stone;
+        path = path_keeps s cells put t (λ x path. at_put_other cells p x (stone_of c) (apart x (record { stone = lib.beside.1.stone; path = path }))) lib.beside.1.path;
+      },
+      lib.beside.2,
+    );
+  }
+
+  -- no stone of the string is taken
+  after_liberty : (l : ℕ) → IsLiberty s cells t l → l ≢ p → IsLiberty s (cells_after s put c) t l
+  after_liberty l lib ne =
+      let after = cells_after s put c in
+      let there = put_liberty l lib ne in
+      let stays : (x : ℕ) → Path s put t x → cell_at after x ≡ cell_at put x = λ x path.
+      let x_on = path_on_board s put t on path in
+      let alive = liberties_from s put x l x_on (record {
+        on_board = there.on_board;
+        is_empty = there.is_empty;
+        beside = (
+          there.beside.0,
+          record { stone = ap is_stone (path_same s put t path) ∙ there.beside.1.stone; path = path_on s put x t (path_back s put t on path) there.beside.1.path },
+          there.beside.2,
+        );
+      }) in
+      at_after s put c x x_on ∙ ap (λ b. cond b Empty (cell_at put x)) (alive_not_taken s put c x alive) in
+      record {
+        on_board = there.on_board;
+        is_empty = at_after s put c l there.on_board ∙ empty_both (is_taken s put c l) (cell_at put l) there.is_empty;
+        beside = (
+          there.beside.0,
+          record { stone = ap is_stone (stays t start) ∙ there.beside.1.stone; path = path_keeps s put after t stays there.beside.1.path },
+          there.beside.2,
+        );
+      }
+    where
+      empty_both : (b : Bool) (k : Cell) → k ≡ Empty → cond b Empty k ≡ Empty
+      empty_both true k e = refl
+      empty_both false k e = e
+
+-- all but one pass the other test
+count_but_one : (n : ℕ) (a b : ℕ → Bool) (p : ℕ) → ((k : ℕ) → k < n → k ≢ p → a k ≡ true → b k ≡ true) → count_below n a ≤ count_below n b + 1
+count_but_one zero a b p h = omega arith
+count_but_one (suc n) a b p h = elim (cases_eq n p) [
+  | inl e ↦
+      let rest : count_below n a ≤ count_below n b = count_below_mono n a b (λ k l. h k (omega arith) (λ w. omega arith)) in
+      at_most_one (a n) (b n) (count_below n a) (count_below n b) rest
+  | inr ne ↦ step (a n) (b n) (count_below n a) (count_below n b) (h n (omega arith) ne) (count_but_one n a b p (λ k l. h k (omega arith)))
+]
+  where
+    at_most_one : (x y : Bool) (i j : ℕ) → i ≤ j → cond x 1 0 + i ≤ cond y 1 0 + j + 1
+    at_most_one true true i j h = omega arith
+    at_most_one true false i j h = omega arith
+    at_most_one false true i j h = omega arith
+    at_most_one false false i j h = omega arith
+
+    step : (x y : Bool) (i j : ℕ) → (x ≡ true → y ≡ true) → i ≤ j + 1 → cond x 1 0 + i ≤ cond y 1 0 + j + 1
+    step true true i j m h = omega arith
+    step true false i j m h = let w = m refl in cc
+    step false true i j m h = omega arith
+    step false false i j m h = omega arith
+
+-- liberties that stay but for one, and that all stay
+counts_but_one : (s : ℕ) (cells after : List Cell) (t p : ℕ) → t < s * s → ((l : ℕ) → IsLiberty s cells t l → l ≢ p → IsLiberty s after t l) → liberties s cells t ≤ liberties s after t + 1
+unfolding liberties
+counts_but_one s cells after t p on h =
+    count_but_one (s * s) (is_liberty s cells t) (is_liberty s after t) p (λ l lo ne x. is_liberty-from_fact s after t l on (h l (IsLiberty-from_test s cells t l x) ne))
+
+counts_all : (s : ℕ) (cells after : List Cell) (t p : ℕ) → t < s * s → is_liberty s cells t p ≡ false → ((l : ℕ) → IsLiberty s cells t l → l ≢ p → IsLiberty s after t l) → liberties s cells t ≤ liberties s after t
+unfolding liberties
+counts_all s cells after t p on off h =
+    count_below_mono (s * s) (is_liberty s cells t) (is_liberty s after t)
+    (λ l lo x. is_liberty-from_fact s after t l on (h l (IsLiberty-from_test s cells t l x) (λ e. both_ways (is_liberty s cells t l) (ap (is_liberty s cells t) e ∙ off) x)))
+
+-- a play takes away one liberty at most
+pub play_takes_one : (pos : BoardState) (c : Colour) (p : ℕ) (new : BoardState) (t : ℕ) → t < pos.size * pos.size → play_free pos c p ≡ Ok new
+    → liberties pos.size pos.cells t ≤ liberties new.size new.cells t + 1
+play_takes_one pos c p new t on e =
+    let state = done_state pos c p new e in
+    subst (λ (n : BoardState). liberties pos.size pos.cells t ≤ liberties n.size n.cells t + 1) (sym state.1)
+    (counts_but_one pos.size pos.cells (after_on pos c p) t p on (λ l lib ne. after_liberty pos.size pos.cells c p state.0 t on l lib ne))
+
+-- and none where it is on none
+pub play_takes_none : (pos : BoardState) (c : Colour) (p : ℕ) (new : BoardState) (t : ℕ) → t < pos.size * pos.size → play_free pos c p ≡ Ok new → is_liberty pos.size pos.cells t p ≡ false
+    → liberties pos.size pos.cells t ≤ liberties new.size new.cells t
+play_takes_none pos c p new t on e off =
+    let state = done_state pos c p new e in
+    subst (λ (n : BoardState). liberties pos.size pos.cells t ≤ liberties n.size n.cells t) (sym state.1)
+    (counts_all pos.size pos.cells (after_on pos c p) t p on off (λ l lib ne. after_liberty pos.size pos.cells c p state.0 t on l lib ne))
+
+-- the size stays
+pub play_size : (pos : BoardState) (c : Colour) (p : ℕ) (new : BoardState) → play_free pos c p ≡ Ok new → new.size ≡ pos.size
+play_size pos c p new e = ap (λ (n : BoardState). n.size) (done_state pos c p new e).1
+
+-- a legal play is one with no regard to the ban
+pub legal_free : (pos : BoardState) (c : Colour) (p : ℕ) (new : BoardState) → play pos c p ≡ Ok new → play_free pos c p ≡ Ok new
+legal_free pos c p new e = elim (cases_Bool (is_stone (cell_at pos.cells p))) [
+  | inl t ↦ absurd (let w = play_occupied pos c p t ∙ e in cc)
+  | inr f ↦ elim (cases_Bool (is_banned pos.ban c p)) [
+    | inl b ↦ absurd (let w = play_ko pos c p f b ∙ e in cc)
+    | inr n ↦ play_else pos c p f n ∙ e
+  ]
+]
+
+-- a child comes of a play by the side whose turn it is
+pub child_free : (node : Node) (pos : BoardState) (p : ℕ) (next : Node) (new : BoardState) → IsChild node pos p next new → (left : ℕ) × (play_free pos (mover_of node) p ≡ Ok new) × (next ≡ next_node node left)
+child_free node pos p next new (inl w) = (allowance_of node, legal_free pos (mover_of node) p new w.legal, w.next_is)
+child_free node pos p next new (inr w) = (allowance_of node - 1, w.free, w.next_is)
+
+-- a target with a liberty stands
+pub stands_by_liberties : (pos : BoardState) (t : ℕ) → 0 < liberties pos.size pos.cells t → is_captured pos t ≡ false
+stands_by_liberties pos t h = stone_stands (cell_at pos.cells t) (liberties_some pos.size pos.cells t h).1.beside.1.stone
+  where
+    stone_stands : (k : Cell) → is_stone k ≡ true → same_cell k Empty ≡ false
+    stone_stands Empty h = cc
+    stone_stands Black h = refl
+    stone_stands White h = refl
+
+-- what outlasts, in numbers
+Outlasts : Bool → ℕ → ℕ → ℕ → Type 0
+Outlasts attacker n k l = cond attacker (((n + 1) / 2 < l) ⊎ (most_by_wide k < l)) ((n / 2 < l) ⊎ (most_by_wide (k - 1) < l))
+
+lt_cases : (a b c d : ℕ) → (ltb a b || ltb c d) ≡ true → (a < b) ⊎ (c < d)
+lt_cases a b c d h = elim (or_cases (ltb a b) (ltb c d) h) [ inl x ↦ inl (ltb-true a b x) | inr y ↦ inr (ltb-true c d y) ]
+
+outlasts_attacker : (n k l : ℕ) → outlasts true n k l ≡ true → ((n + 1) / 2 < l) ⊎ (most_by_wide k < l)
+unfolding outlasts
+outlasts_attacker n k l h = lt_cases ((n + 1) / 2) l (most_by_wide k) l h
+
+outlasts_defender : (n k l : ℕ) → outlasts false n k l ≡ true → (n / 2 < l) ⊎ (most_by_wide (k - 1) < l)
+unfolding outlasts
+outlasts_defender n k l h = lt_cases (n / 2) l (most_by_wide (k - 1)) l h
+
+pub to_attacker : (n k l : ℕ) → ((n + 1) / 2 < l) ⊎ (most_by_wide k < l) → outlasts true n k l ≡ true
+unfolding outlasts
+to_attacker n k l (inl h) = or_left (ltb ((n + 1) / 2) l) _ (lt-ltb _ _ h)
+to_attacker n k l (inr h) = or_right (ltb ((n + 1) / 2) l) _ (lt-ltb _ _ h)
+
+pub to_defender : (n k l : ℕ) → (n / 2 < l) ⊎ (most_by_wide (k - 1) < l) → outlasts false n k l ≡ true
+unfolding outlasts
+to_defender n k l (inl h) = or_left (ltb (n / 2) l) _ (lt-ltb _ _ h)
+to_defender n k l (inr h) = or_right (ltb (n / 2) l) _ (lt-ltb _ _ h)
+
+-- some liberties are there
+some_liberty : (attacker : Bool) (n k l : ℕ) → outlasts attacker n k l ≡ true → 0 < l
+some_liberty true n k l h = elim (outlasts_attacker n k l h) [ inl x ↦ omega arith | inr x ↦ omega arith ]
+some_liberty false n k l h = elim (outlasts_defender n k l h) [ inl x ↦ omega arith | inr x ↦ omega arith ]
+
+-- the bound after the defender's pass
+pub pass_outlasts : (n k l : ℕ) → outlasts false (suc n) k l ≡ true → outlasts true n (k - 1) l ≡ true
+pass_outlasts n k l h = elim (outlasts_defender (suc n) k l h) [
+  | inl x ↦ to_attacker n (k - 1) l (inl (omega arith))
+  | inr x ↦ to_attacker n (k - 1) l (inr x)
+]
+
+-- and after an attacker's play, which leaves one less at least
+play_outlasts : (n k l m : ℕ) → outlasts true (suc n) k l ≡ true → (4 < l → ⊥) → (k ≡ 0 → 2 < l → ⊥) → l ≤ m + 1 → outlasts false n (k - 1) m ≡ true
+play_outlasts n k l m h few few_narrow le = elim (outlasts_attacker (suc n) k l h) [
+  | inl x ↦ to_defender n (k - 1) m (inl (let y = half_more n l x in omega arith))
+  | inr x ↦ to_defender n (k - 1) m (inr (by (eqb k 0) (ltb k 3) refl refl x))
+]
+  where
+    by : (z w : Bool) → eqb k 0 ≡ z → ltb k 3 ≡ w → cond z 2 (cond w 3 4) < l → most_by_wide (k - 1 - 1) < m
+    by true w ez ew x = absurd (few_narrow (eqb-true k 0 ez) x)
+    by false true ez ew x =
+        let small = ltb-true k 3 ew in
+        let none : k - 1 - 1 ≡ 0 = omega (arith, small) in
+        subst (λ j. most_by_wide j < m) (sym none) (omega arith)
+    by false false ez ew x = absurd (few x)
+
+-- The target outlasts at a node where it does at each child that an attacker's play, or the defender's pass, leads to.
+abbrev Hypothesis : ℕ → Type 0
+Hypothesis n = (next : Node) (new : BoardState) → next.target < new.size * new.size → outlasts next.attacker_to_play n next.wide (liberties new.size new.cells next.target) ≡ true → attacker_wins n next new ≡ false
+
+bounded_attacker : (n : ℕ) (node : Node) (pos : BoardState) → Hypothesis n → node.target < pos.size * pos.size → is_captured pos node.target ≡ false → node.attacker_to_play ≡ true
+    → outlasts true (suc n) node.wide (liberties pos.size pos.cells node.target) ≡ true → attacker_wins (suc n) node pos ≡ false
+bounded_attacker n node pos ih on stands turn h = elim (cases_Bool (attacker_wins (suc n) node pos)) [
+  | inr f ↦ f
+  | inl t ↦
+      let w = attacker_gives n node pos stands turn (ap (λ m. attacker_wins m node pos) (add-one n) ∙ t) in
+      let child = child_free node pos w.1.point w.1.next w.1.new w.1.child in
+      let few : HasManyLiberties pos node.target node.wide → ⊥ = λ many. both_ways (has_many_liberties pos node.target node.wide) w.0 (many_from pos node.target node.wide many) in
+      let size = play_size pos (mover_of node) w.1.point w.1.new child.1 in
+      let less = play_takes_one pos (mover_of node) w.1.point w.1.new node.target on child.1 in
+      let bound = play_outlasts n node.wide (liberties pos.size pos.cells node.target) (liberties w.1.new.size w.1.new.cells node.target) h (λ l. few (inl l)) (λ e l. few (inr (e, l))) less in
+      let lost = ih (next_node node child.0) w.1.new (subst (λ m. node.target < m * m) (sym size) on) (ap (λ b. outlasts (not b) n (node.wide - 1) (liberties w.1.new.size w.1.new.cells node.target)) turn ∙ bound) in
+      absurd (both_ways (attacker_wins n w.1.next w.1.new) (ap (λ (m : Node). attacker_wins n m w.1.new) child.2 ∙ lost) w.1.wins)
+]
+
+bounded_defender : (n : ℕ) (node : Node) (pos : BoardState) → Hypothesis n → node.target < pos.size * pos.size → is_captured pos node.target ≡ false → node.attacker_to_play ≡ false
+    → outlasts false (suc n) node.wide (liberties pos.size pos.cells node.target) ≡ true → attacker_wins (suc n) node pos ≡ false
+bounded_defender n node pos ih on stands turn h = elim (cases_Bool (attacker_wins (suc n) node pos)) [
+  | inr f ↦ f
+  | inl t ↦
+      let w = defender_gives n node pos stands turn (ap (λ m. attacker_wins m node pos) (add-one n) ∙ t) in
+      let bound = pass_outlasts n node.wide (liberties pos.size pos.cells node.target) h in
+      let lost = ih (next_node node (allowance_of node)) (pass pos) on (ap (λ b. outlasts (not b) n (node.wide - 1) (liberties pos.size pos.cells node.target)) turn ∙ bound) in
+      absurd (both_ways (attacker_wins n (next_node node (allowance_of node)) (pass pos)) lost w.passed)
+]
+
+-- with n plies left, a target with too many liberties is not captured
+pub bounded : (n : ℕ) (node : Node) (pos : BoardState) → node.target < pos.size * pos.size → outlasts node.attacker_to_play n node.wide (liberties pos.size pos.cells node.target) ≡ true → attacker_wins n node pos ≡ false
+bounded zero node pos on h =
+    wins-no_plies zero node pos (stands_by_liberties pos node.target (some_liberty node.attacker_to_play zero node.wide (liberties pos.size pos.cells node.target) h)) refl
+bounded (suc n) node pos on h =
+    let stands = stands_by_liberties pos node.target (some_liberty node.attacker_to_play (suc n) node.wide (liberties pos.size pos.cells node.target) h) in
+    elim (cases_Bool node.attacker_to_play) [
+      | inl t ↦ bounded_attacker n node pos (bounded n) on stands t (ap (λ b. outlasts b (suc n) node.wide (liberties pos.size pos.cells node.target)) (sym t) ∙ h)
+      | inr f ↦ bounded_defender n node pos (bounded n) on stands f (ap (λ b. outlasts b (suc n) node.wide (liberties pos.size pos.cells node.target)) (sym f) ∙ h)
+    ]
+
+-- a target that the attacker may not play at has too many liberties
+pub many_outlasts : (n : ℕ) (pos : BoardState) (t k : ℕ) → outlasts true n k (liberties pos.size pos.cells t) ≡ false → has_many_liberties pos t k ≡ false
+many_outlasts n pos t k h = elim (cases_Bool (has_many_liberties pos t k)) [
+  | inr f ↦ f
+  | inl m ↦ absurd (both_ways (outlasts true n k (liberties pos.size pos.cells t)) h (to_attacker n k (liberties pos.size pos.cells t) (inr (by (eqb k 0) (ltb k 3) refl (many_gives pos t k m)))))
+]
+  where
+    by : (z w : Bool) → eqb k 0 ≡ z → HasManyLiberties pos t k → cond z 2 (cond w 3 4) < liberties pos.size pos.cells t
+    by true w e (inl x) = omega arith
+    by true w e (inr x) = x.1
+    by false true e (inl x) = omega arith
+    by false false e (inl x) = x
+    by false w e (inr x) = absurd (both_ways (eqb k 0) e (eq-eqb k 0 x.0))
+
+-- The same at a turn, on a board of size s.
+module _ (n : ℕ) (turn : Turn) (here : BoardState) (s : ℕ) (size : here.size ≡ s) where
+  counted : (b : Bool) → outlasts turn.attacker_to_play n turn.wide (liberties s here.cells turn.target) ≡ b → outlasts turn.attacker_to_play n turn.wide (liberties here.size here.cells turn.target) ≡ b
+  counted b h = ap (λ m. outlasts turn.attacker_to_play n turn.wide (liberties m here.cells turn.target)) size ∙ h
+
+  -- with too many liberties the attacker does not win under any allowance
+  pub bounded_at : turn.target < s * s → outlasts turn.attacker_to_play n turn.wide (liberties s here.cells turn.target) ≡ true → (ko : Ko) → attacker_wins n (under turn ko) here ≡ false
+  bounded_at on h ko = bounded n (under turn ko) here (subst (λ m. turn.target < m * m) (sym size) on) (counted true h)
+
+  -- with fewer the node is undecided
+  pub undecided_at : is_captured here turn.target ≡ false → outlasts turn.attacker_to_play n turn.wide (liberties s here.cells turn.target) ≡ false → (ko : Ko) → IsUndecided (under turn ko) here
+  undecided_at stands h ko = record {
+    stands = stands;
+    few = λ t. many_outlasts n here turn.target turn.wide (ap (λ b. outlasts b n turn.wide (liberties here.size here.cells turn.target)) (sym t) ∙ counted false h);
+  }
+
+-- where the attacker may not play at the target, it has too many liberties
+pub many_outlast : (n k : ℕ) (pos : BoardState) (t : ℕ) → HasManyLiberties pos t k → outlasts true n k (liberties pos.size pos.cells t) ≡ true
+many_outlast n k pos t many = elim (cases_Bool (outlasts true n k (liberties pos.size pos.cells t))) [
+  | inl h ↦ h
+  | inr f ↦ absurd (both_ways (has_many_liberties pos t k) (many_outlasts n pos t k f) (many_from pos t k many))
+]

@@ -1,0 +1,159 @@
+-- The attacker takes a target by its only liberty, where the ban lets him play there.
+use Rattle.std.proofs.Common.{◌≡◌, ◌≢◌, ℕ, suc, ◌*◌, ◌<◌, Bool, true, false, cond, List, [], ◌∷◌, length, Result, Ok, Err, refl, sym, ap, subst, ◌∙◌, arith, add-one, set, inl, inr, ◌||◌, eqb}
+use Rattle.std.proofs.lemmas.Bool.{or_cases, or_right, and_parts, and_from, lt-ltb}
+use Rattle.std.specs.FinSet as sets
+use Rattle.std.specs.Ordering.{nat_cmp}
+use Rattle.go_rules.specs.Board.{are_neighbours}
+use Rattle.go_rules.specs.Neighbourhood.{neighbourhood_of}
+use Rattle.go_rules.proofs.Sets.{contains-set_below}
+use Rattle.go_base.specs.Views.{alone}
+use Rattle.go_base.proofs.Closing.{close_alone, close_around}
+use Rattle.go_rules.specs.declared.Cell.{Cell}
+use Rattle.go_rules.specs.declared.Cell.TheVariants.{Empty}
+use Rattle.go_rules.specs.declared.Colour.{Colour}
+use Rattle.go_rules.specs.declared.Colour.TheVariants.{Black as black, White as white}
+use Rattle.go_rules.specs.declared.Illegal.{Illegal}
+use Rattle.go_rules.specs.Strings.{cell_at, is_stone, same_cell, Path, start, IsLiberty, is_liberty, liberties, liberty_points}
+use Rattle.go_rules.specs.Position.{BoardState, other, stone_of}
+use Rattle.go_rules.specs.Play.{play, play_free, cells_after, is_taken}
+use Rattle.go_rules.proofs.Links.{path_same, path_keeps, liberties_from, are_neighbours_comm}
+use Rattle.go_rules.proofs.Paths.{path_on_board, same_cell-from, IsLiberty-from_test, is_liberty-from_fact}
+use Rattle.go_rules.proofs.Plays.{at_put_same, at_put_other, at_after, enemy_differs, own_not_taken, taken_whole, stone_is, length_after}
+use Rattle.go_rules.proofs.Results.{put_on, result_of, free_done, play_else}
+use Rattle.go_rules.proofs.PlayLaws.{taken_by_words, done_state}
+use Rattle.trial_board.specs.declared.moves.TrialMove.{TrialMove}
+use Rattle.trial_board.specs.declared.moves.TrialMove.TheVariants.{Pass, Play}
+use Rattle.trial_board.specs.Trials.{given, after}
+use Rattle.read_rules.specs.Candidates.{fills}
+use Rattle.read_rules.proofs.CandidateLaws.{candidate_from}
+use Rattle.read_tree.specs.declared.turn.Turn.{Turn}
+use Rattle.read_rules.specs.GameTree.{has_many_liberties, attacker_wins, next_node, allowance_of}
+use Rattle.read_tree.specs.Allowances.{Ko, under}
+use Rattle.read_tree.specs.Steps.{IsTaken}
+use Rattle.read_tree.proofs.LibertyLemmas.{legal_free}
+use Rattle.read_rules.proofs.RuleLemmas.{attacker_from}
+use Rattle.read_rules.proofs.WinLemmas.{wins-captured}
+
+-- the cells after trial moves are those of the whole board
+abbrev IsWhole : BoardState → Type 0
+IsWhole pos = length pos.cells ≡ pos.size * pos.size
+
+whole_given : (pos : BoardState) (r : Result BoardState Illegal) → ((new : BoardState) → r ≡ Ok new → IsWhole new) → IsWhole pos → IsWhole (given pos r)
+whole_given pos (Ok new) h w = h new refl
+whole_given pos (Err e) h w = w
+
+whole_free : (pos : BoardState) (c : Colour) (p : ℕ) (new : BoardState) → play_free pos c p ≡ Ok new → IsWhole new
+whole_free pos c p new e = subst IsWhole (sym (done_state pos c p new e).1) (length_after pos.size (put_on pos c p) c)
+
+whole_play : (pos : BoardState) (c : Colour) (p : ℕ) (dropped : Bool) → IsWhole pos → IsWhole (given pos (cond dropped (play_free pos c p) (play pos c p)))
+whole_play pos c p true w = whole_given pos (play_free pos c p) (whole_free pos c p) w
+whole_play pos c p false w = whole_given pos (play pos c p) (λ new e. whole_free pos c p new (legal_free pos c p new e)) w
+
+pub whole_after : (pos : BoardState) (ms : List TrialMove) → IsWhole pos → IsWhole (after pos ms)
+whole_after pos [] w = w
+whole_after pos (Pass ∷ ms) w = whole_after pos ms w
+whole_after pos (Play m ∷ ms) w = whole_play (after pos ms) m.colour m.at m.dropped (whole_after pos ms w)
+
+not_empty : (c : Colour) → stone_of c ≡ Empty → ⊥
+not_empty black e = cc
+not_empty white e = cc
+
+-- The string of t, an enemy of c, has the only liberty l.
+module _ (s : ℕ) (cells : List Cell) (c : Colour) (l t : ℕ) (whole : length cells ≡ s * s) (on : t < s * s) (enemy : cell_at cells t ≡ stone_of (other c))
+    (lib : IsLiberty s cells t l) (only : (x : ℕ) → IsLiberty s cells t x → x ≡ l) where
+  abbrev put : List Cell
+  put = set cells l (stone_of c)
+
+  put_at : cell_at put l ≡ stone_of c
+  put_at = at_put_same cells l (stone_of c) (subst (λ n. l < n) (sym whole) lib.on_board)
+
+  -- a stone of the enemy is not at l
+  apart : (q : ℕ) → cell_at cells q ≡ stone_of (other c) → q ≢ l
+  apart q h e = not_empty (other c) (sym h ∙ ap (cell_at cells) e ∙ lib.is_empty)
+
+  put_target : cell_at put t ≡ stone_of (other c)
+  put_target = at_put_other cells l t (stone_of c) (apart t enemy) ∙ enemy
+
+  -- its string has no liberty once the stone is put
+  dead : (x : ℕ) → IsLiberty s put t x → ⊥
+  dead x h =
+      let back : (y : ℕ) → Path s put t y → y ≢ l = λ y path e. enemy_differs c (sym put_target ∙ sym (path_same s put t path) ∙ ap (cell_at put) e ∙ put_at) in
+      let same : (y : ℕ) → Path s put t y → cell_at cells y ≡ cell_at put y = λ y path. sym (at_put_other cells l y (stone_of c) (back y path)) in
+      let off : x ≢ l = λ e. not_empty c (sym put_at ∙ ap (cell_at put) (sym e) ∙ h.is_empty) in
+      off (only x (record {
+        on_board = h.on_board;
+        is_empty = sym (at_put_other cells l x (stone_of c) off) ∙ h.is_empty;
+        beside = (h.beside.0, record { stone = ap is_stone (same t start) ∙ h.beside.1.stone; path = path_keeps s put cells t same h.beside.1.path }, h.beside.2);
+      }))
+
+  taken : is_taken s put c t ≡ true
+  taken = taken_by_words s put c t (record { enemy = put_target; dead = dead })
+
+  -- what is taken is empty
+  gone : (q : ℕ) → q < s * s → is_taken s put c q ≡ true → cell_at (cells_after s put c) q ≡ Empty
+  gone q q_on h = at_after s put c q q_on ∙ ap (λ b. cond b Empty (cell_at put q)) h
+
+  pub target_gone : cell_at (cells_after s put c) t ≡ Empty
+  target_gone = gone t on taken
+
+  -- so the stone at l has a liberty where the string was
+  pub stone_lives : liberties s (cells_after s put c) l ≢ 0
+  stone_lives z =
+      let q = lib.beside.0 in
+      let inside = lib.beside.1 in
+      let path = path_keeps s cells put t (λ y path. at_put_other cells l y (stone_of c) (apart y (path_same s cells t path ∙ enemy))) inside.path in
+      let stands = at_after s put c l lib.on_board ∙ ap (λ b. cond b Empty (cell_at put l)) (own_not_taken s put c l put_at) ∙ put_at in
+      let some = liberties_from s (cells_after s put c) l q lib.on_board (record {
+        on_board = path_on_board s put t on path;
+        is_empty = gone q (path_on_board s put t on path) (taken_whole s put c t q on taken path);
+        beside = (l, record { stone = ap is_stone stands ∙ stone_is c; path = start }, are_neighbours_comm s l q ∙ lib.beside.2);
+      }) in
+      omega arith
+
+-- the play at the only liberty takes the target
+other_twice : (c : Colour) → other (other c) ≡ c
+other_twice black = refl
+other_twice white = refl
+
+pub take_wins : (n : ℕ) (turn : Turn) (here : BoardState) → IsWhole here → turn.target < here.size * here.size → has_many_liberties here turn.target turn.wide ≡ false → IsTaken turn here → (ko : Ko)
+    → attacker_wins (suc n) (under turn ko) here ≡ true
+take_wins n turn here whole on few t ko =
+    let s = here.size in
+    let c = other turn.defender in
+    let enemy = t.enemy ∙ ap stone_of (sym (other_twice turn.defender)) in
+    let lib = IsLiberty-from_test s here.cells turn.target t.l t.liberty in
+    let only : (x : ℕ) → IsLiberty s here.cells turn.target x → x ≡ t.l = λ x h. t.only x (is_liberty-from_fact s here.cells turn.target x on h) in
+    let vacant = ap is_stone lib.is_empty in
+    let free = sym (free_done here c t.l vacant (stone_lives s here.cells c t.l turn.target whole on enemy lib only)) in
+    let legal = sym (play_else here c t.l vacant t.free) ∙ free in
+    let new = result_of here c t.l in
+    let gone = same_cell-from _ _ (target_gone s here.cells c t.l turn.target whole on enemy lib only) in
+    let stands = stands_by (cell_at here.cells turn.target) turn.defender t.enemy in
+    let mover = ap (λ b. cond b (other turn.defender) turn.defender) t.attacks in
+    sym (ap (λ m. attacker_wins m (under turn ko) here) (add-one n)) ∙ attacker_from n (under turn ko) here stands t.attacks (
+      few,
+      record {
+        point = t.l;
+        next = next_node (under turn ko) (allowance_of (under turn ko));
+        new = new;
+        candidate = candidate_from here turn.target turn.wide t.l on (fills lib);
+        child = inl (record { legal = ap (λ k. play here k t.l) mover ∙ legal; next_is = refl });
+        wins = wins-captured n (next_node (under turn ko) (allowance_of (under turn ko))) new gone;
+      },
+    )
+  where
+    stands_by : (cell : Cell) (d : Colour) → cell ≡ stone_of d → same_cell cell Empty ≡ false
+    stands_by cell black e = ap (λ k. same_cell k Empty) e
+    stands_by cell white e = ap (λ k. same_cell k Empty) e
+
+-- a set of liberties of the target, and the target, are near it
+pub near_liberty : (s : ℕ) (cells : List Cell) (t p : ℕ) (found : sets.FinSet nat_cmp) → t < s * s → found ≡ liberty_points s cells t → (alone t p || sets.contains found p) ≡ true → neighbourhood_of s cells (alone t) p ≡ true
+unfolding liberty_points
+near_liberty s cells t p found on e h = elim (or_cases (alone t p) (sets.contains found p) h) [
+  | inl self ↦ close_alone s cells t p on self
+  | inr there ↦
+      let test = (and_parts _ _ (sym (contains-set_below (s * s) (is_liberty s cells t) p) ∙ ap (λ x. sets.contains x p) (sym e) ∙ there)).1 in
+      let lib = IsLiberty-from_test s cells t p test in
+      close_around s cells t lib.beside.0 p on lib.beside.1.stone lib.beside.1.path
+      (and_from _ _ (lt-ltb p (s * s) lib.on_board) (or_right (eqb p lib.beside.0) (are_neighbours s lib.beside.0 p) lib.beside.2))
+]

@@ -1,0 +1,88 @@
+-- Ko allowances: who may play once where the ban alone forbids it, sets of these, and a node under one of them.
+use Rattle.std.specs.Prelude.{◌≡◌, ℕ, ◌-◌, Bool, true, false, not, ◌&&◌, ◌||◌, nat_lt, if◌then◌else◌}
+use Rattle.go_rules.specs.declared.Colour.{Colour}
+use Rattle.go_rules.specs.Position.{other}
+use Rattle.read_rules.specs.declared.node.Node.{Node}
+use Rattle.read_tree.specs.declared.turn.Turn.{Turn}
+use Rattle.read_tree.specs.declared.allowances.Allowances.{Allowances}
+
+-- a ko allowance: which side may play once where the ban alone forbids it
+pub data Ko : Type 0 where
+  defender_may : Ko
+  neither_may : Ko
+  attacker_may : Ko
+
+-- the allowance is in the set
+abbrev pub has : Allowances → Ko → Bool
+has set defender_may = set.defender
+has set neither_may = set.neither
+has set attacker_may = set.attacker
+
+-- how often the attacker may
+abbrev pub attacker_ko_of : Ko → ℕ
+attacker_ko_of defender_may = 0
+attacker_ko_of neither_may = 0
+attacker_ko_of attacker_may = 1
+
+-- how often the defender may
+abbrev pub defender_ko_of : Ko → ℕ
+defender_ko_of defender_may = 1
+defender_ko_of neither_may = 0
+defender_ko_of attacker_may = 0
+
+-- the allowance of the attacker, or else of the defender
+abbrev pub own_ko : Bool → Ko
+own_ko true = attacker_may
+own_ko false = defender_may
+
+-- the node whose turn this is, under an allowance
+abbrev pub under : Turn → Ko → Node
+under turn ko = record {
+  target = turn.target;
+  defender = turn.defender;
+  attacker_to_play = turn.attacker_to_play;
+  wide = turn.wide;
+  attacker_ko = attacker_ko_of ko;
+  defender_ko = defender_ko_of ko;
+}
+
+-- the colour whose turn it is
+abbrev pub mover_on : Turn → Colour
+mover_on turn = if turn.attacker_to_play then other turn.defender else turn.defender
+
+-- the turn after a move
+abbrev pub next_turn : Turn → Turn
+next_turn turn = record { target = turn.target; defender = turn.defender; attacker_to_play = not turn.attacker_to_play; wide = turn.wide - 1 }
+
+-- there are some
+abbrev pub has_some : Allowances → Bool
+has_some set = set.defender || set.neither || set.attacker
+
+-- those that are not in the other set
+abbrev pub without : Allowances → Allowances → Allowances
+without a b = record { defender = a.defender && not b.defender; neither = a.neither && not b.neither; attacker = a.attacker && not b.attacker }
+
+-- the allowance of the attacker, or else of the defender, where it is to be there
+abbrev pub own_where : Bool → Bool → Allowances
+own_where attacker there = record { defender = not attacker && there; neither = false; attacker = attacker && there }
+
+-- the allowance of a code from 1 to 3, for a question of this kind: under code 3 the other side may ignore the ban, under
+-- code 1 the side that is asked about
+abbrev pub ko_of : Bool → ℕ → Ko
+ko_of attack code = if nat_lt 2 code then own_ko (not attack) else if nat_lt 1 code then neither_may else own_ko attack
+
+-- those of the codes above this one
+abbrev pub codes_above : ℕ → Bool → Allowances
+codes_above code attack = record {
+  defender = if attack then nat_lt code 3 else nat_lt code 1;
+  neither = nat_lt code 2;
+  attacker = if attack then nat_lt code 1 else nat_lt code 3;
+}
+
+-- the greatest code whose allowance is in the set, or else this one
+abbrev pub best_code : Allowances → ℕ → Bool → ℕ
+best_code set code attack = if has set (own_ko (not attack)) then 3 else if set.neither then 2 else if has set (own_ko attack) then 1 else code
+
+-- found has exactly those of the asked that pass the test
+pub record Tells (asked found : Allowances) (test : Ko → Bool) : Type 0 where
+  pub each : (ko : Ko) → has found ko ≡ (has asked ko && test ko)
