@@ -475,7 +475,7 @@ const REFUSED: [(&str, &[File], u64, u8, &[u8]); 6] = [
         b"bad database: line 3 kind 17\n",
     ),
     (
-        "an expression in the second file",
+        "a faulty expression in the second file",
         &[
             File {
                 name: "p",
@@ -483,7 +483,7 @@ const REFUSED: [(&str, &[File], u64, u8, &[u8]); 6] = [
             },
             File {
                 name: "q",
-                text: b"Pattern Q\nO*\n:8,s\n;lib(*)\n",
+                text: b"Pattern Q\nO*\n:8,s\n;lib(*\n",
             },
         ],
         0,
