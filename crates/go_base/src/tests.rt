@@ -305,13 +305,13 @@ fn bytes_and_sets_grow(rt: HostRuntime) -> Result<(), Fail> {
     assert_eq!(rt; bytes.extend(b"4 E5"), Ok(()));
     assert_eq!(rt; bytes.as_slice(), b"D4 E5".as_slice());
     let mut points = PointSet::new();
-    points.add(360);
+    points.add(624);
     points.add(64);
     points.add(64);
     assert_eq!(rt; points.count(), 2);
     assert_eq!(rt; points.has(63), false);
     assert_eq!(rt; points.first_from(0), Some(64));
-    assert_eq!(rt; points.first_from(65), Some(360));
+    assert_eq!(rt; points.first_from(65), Some(624));
     Ok(())
 }
 
