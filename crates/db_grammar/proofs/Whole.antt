@@ -455,5 +455,5 @@ few_entries helpers text none =
     let d = faultless_is_database helpers text none in
     let blocks = blocks_of (so_far (kept_lines text)) in
     let as_many : length (map entry_of_block blocks) ≡ length d.blocks =
-        length-map blocks entry_of_block ∙ ap length (database_is_read helpers text d).blocks_are in
+    length-map blocks entry_of_block ∙ ap length (database_is_read helpers text d).blocks_are in
     subst (λ n. n ≤ most_entries) (sym as_many) d.few

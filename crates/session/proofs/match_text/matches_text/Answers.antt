@@ -13,4 +13,4 @@ list_text-requires c =
     let found = machine_matches code c.args.machine.now patterns c.args.position.now c.args.friend in
     subst (λ zs. AreAmong patterns c.size.result zs) (sym (c.as_slice.ensures.value ∙ c.in_ok-found.ensures.machine))
     (subst (λ s. AreAmong patterns s found) (sym c.size.ensures.value)
-        (AreAmong-found code c.args.machine.now patterns c.args.position.now c.args.friend))
+    (AreAmong-found code c.args.machine.now patterns c.args.position.now c.args.friend))
