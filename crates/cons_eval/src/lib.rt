@@ -18,6 +18,3 @@ mod value;
 pub use env::Env;
 pub use read_rules::Kind;
 pub use value::eval;
-
-#[cfg(test)]
-mod tests;
