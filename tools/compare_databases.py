@@ -1,9 +1,9 @@
 """Writes random pattern databases, faulty and whole, and compares gopat's first fault with a second reading of the grammar.
 
-usage: python3 tools/compare_databases.py GOPAT COUNT [SEED] [--before-readings]
+usage: python3 tools/compare_databases.py GOPAT COUNT [SEED] [--with-helpers]
 
-Prints how many texts had which first fault, and each text on which the two differ. With --before-readings expressions and class
-letters that need readings count as refused.
+Prints how many texts had which first fault, and each text on which the two differ. With --with-helpers the program has the helpers
+`near_edge` and `no_ban`.
 """
 
 import collections
@@ -138,8 +138,7 @@ def text_of(rng: random.Random) -> bytes:
 
 def answer_of(gopat: str, path: pathlib.Path) -> tuple[int, int] | list[str]:
     """What gopat says of the file: the line and kind of its first fault, or its list."""
-    command = [gopat, "--states", "1000000", str(path)] if "--states" in sys.argv else [gopat, str(path)]
-    done = subprocess.run(command, input=b"list_patterns\n", capture_output=True, check=False)
+    done = subprocess.run([gopat, str(path)], input=b"list_patterns\n", capture_output=True, check=False)
     if done.returncode == 1:
         words = done.stderr.split()
         return int(words[3]), int(words[5])
@@ -150,7 +149,7 @@ def answer_of(gopat: str, path: pathlib.Path) -> tuple[int, int] | list[str]:
 
 def main(gopat: str, count: str, seed: str = "1"):
     rng = random.Random(int(seed))
-    built = "--before-readings" not in sys.argv
+    helpers = HELPERS if "--with-helpers" in sys.argv else set()
     kinds: collections.Counter[int] = collections.Counter()
     different = 0
     with tempfile.TemporaryDirectory(dir="/dev/shm") as folder:
@@ -158,7 +157,7 @@ def main(gopat: str, count: str, seed: str = "1"):
         for _ in range(int(count)):
             text = text_of(rng)
             path.write_bytes(text)
-            want, got = database.read(text, HELPERS if built else set(), built), answer_of(gopat, path)
+            want, got = database.read(text, helpers), answer_of(gopat, path)
             kinds[want[1] if isinstance(want, tuple) else 0] += 1
             same = want == got if isinstance(want, tuple) else got in ([], want)
             if not same:

@@ -116,7 +116,7 @@ def fields_of(text: bytes) -> list[bytes]:
     return [bytes(field).strip(BLANKS) for field in fields]
 
 
-def colon_line(entry: Entry, text: bytes, helpers: set[bytes], built: bool):
+def colon_line(entry: Entry, text: bytes, helpers: set[bytes]):
     """Takes the text after the colon."""
     if not entry.rows:
         raise Fault(4)
@@ -129,8 +129,6 @@ def colon_line(entry: Entry, text: bytes, helpers: set[bytes], built: bool):
     if len(classes) > 32 or not re.fullmatch(rb"[A-Za-z-]*", classes):
         raise Fault(12)
     entry.mark, entry.classes = mark, classes.replace(b"-", b"")
-    if not built and (b"s" not in entry.classes or b"n" in entry.classes):
-        raise Fault(12)
     matched = [ITEM.fullmatch(item) for item in items]
     if len(items) > 16 or not all(matched):
         raise Fault(13)
@@ -262,8 +260,8 @@ def judge(text: bytes, labels: set[int]):
 class Reader:
     """Reads the lines of a text, with the stage in which the last one left it."""
 
-    def __init__(self, helpers: set[bytes], built: bool):
-        self.helpers, self.built = helpers, built
+    def __init__(self, helpers: set[bytes]):
+        self.helpers = helpers
         self.stage = "Start"
         self.entries: list[Entry] = []
 
@@ -276,8 +274,6 @@ class Reader:
         if self.stage == "Expression" and kind != ";":
             entry = self.entries[-1]
             try:
-                if not self.built:
-                    raise Fault(15)
                 judge(b" ".join(entry.expression), entry.labels)
             except Fault as fault:
                 raise Fault(fault.kind, entry.expression_line) from None
@@ -296,7 +292,7 @@ class Reader:
                 if not LETTER.match(line):
                     raise Fault(2)
             case ("Diagram", ":"):
-                colon_line(self.entries[-1], line[1:], self.helpers, self.built)
+                colon_line(self.entries[-1], line[1:], self.helpers)
                 self.stage = "Labels"
             case ("Diagram", "other"):
                 diagram_line(self.entries[-1], word)
@@ -325,16 +321,13 @@ class Reader:
             raise Fault(10)
 
 
-def read(text: bytes, helpers: set[bytes], built: bool = True) -> tuple[int, int] | list[str]:
-    """The first fault of the text, its line and kind, or the lines of `list_patterns`.
-
-    Without `built`, expressions and class letters that need readings are refused, as gopat did before it had them.
-    """
+def read(text: bytes, helpers: set[bytes]) -> tuple[int, int] | list[str]:
+    """The first fault of the text, its line and kind, or the lines of `list_patterns`."""
     sys.setrecursionlimit(200_000)
     lines = text.split(b"\n")
     if lines[-1] == b"":
         lines.pop()
-    reader = Reader(helpers, built)
+    reader = Reader(helpers)
     number = 0
     try:
         for number, line in enumerate(lines, 1):
