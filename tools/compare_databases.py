@@ -144,7 +144,7 @@ def answer_of(gopat: str, path: pathlib.Path) -> tuple[int, int] | list[str]:
         return int(words[3]), int(words[5])
     if done.returncode not in (0, 7):
         raise RuntimeError(f"status {done.returncode}: {done.stderr!r}")
-    return done.stdout.decode()[1:].strip().split("\n") if done.returncode == 0 else []
+    return done.stdout.decode()[1:].split("\n\n")[0].strip().splitlines() if done.returncode == 0 else []
 
 
 def main(gopat: str, count: str, seed: str = "1"):
