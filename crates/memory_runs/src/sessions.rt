@@ -15,7 +15,7 @@ pub struct Session {
 }
 
 /// The sessions of the protocol's frame, of the board, of readings and of patterns.
-pub const SESSIONS: [Session; 25] = [
+pub const SESSIONS: [Session; 26] = [
     Session {
         name: "reply_repeats_the_id",
         files: &[],
@@ -51,6 +51,12 @@ pub const SESSIONS: [Session; 25] = [
         files: &[],
         input: b"boardsize 1\nboardsize 26\nboardsize x\nboardsize 2\nplay b A1\nplay b B2\nis_legal w B1\nall_legal w\nall_legal b\ncountlib A1\nshowboard\n",
         output: b"? unacceptable size\n\n? unacceptable size\n\n? syntax error\n\n=\n\n=\n\n=\n\n= 0\n\n=\n\n= A2 B1\n\n= 2\n\n= \n 2 . X\n 1 X .\n   A B\n\n",
+    },
+    Session {
+        name: "first_board_has_19_rows",
+        files: &[],
+        input: b"play b T19\nplay w U1\nplay w A20\nfindlib T19\n",
+        output: b"=\n\n? syntax error\n\n? syntax error\n\n= S19 T18\n\n",
     },
     Session {
         name: "komi_is_kept_as_text",
