@@ -96,6 +96,7 @@ fn matches_by(
     let machine = compile(rt.alloc(), &others, 10_000)?;
     let depths = Depths::new(3, 2).ok_or("the depths are in range")?;
     let mut readings = Readings::new(rt.alloc(), depths, 4096)?;
+    let mut helpers = Helpers::new(rt.alloc(), Vec::new(rt.alloc()))?;
     Ok(matches(
         rt.alloc(),
         &patterns,
@@ -103,6 +104,7 @@ fn matches_by(
         position,
         friend,
         &mut readings,
+        &mut helpers,
     )?)
 }
 
