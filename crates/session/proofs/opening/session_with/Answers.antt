@@ -7,12 +7,12 @@ use Rattle.session.proofs.Finding.{plain-first}
 use Rattle.session.proofs.opening.session_with.Goals as goal
 
 pub new-requires-clause-numbers : goal.new-requires-clause-numbers
-new-requires-clause-numbers c =
+new-requires-clause-numbers g c =
     subst (λ patterns. NumbersPatterns c.in_ok-machine.machine patterns) c.as_slice.ensures.value
     c.in_ok-machine.ensures.numbers
 
 pub returns-clause-ok : goal.returns-clause-ok
-returns-clause-ok c =
+returns-clause-ok g c =
     let patterns = c.args.patterns.items in
     let rows = c.in_ok-machine.machine in
     let accepts = subst (λ ps. IsMachineOf ps rows) c.as_slice.ensures.value c.in_ok-machine.ensures.accepts in
