@@ -152,6 +152,18 @@ module _ (code : Codes) (patterns : List Pattern) (machine : List Row) (board : 
       (do_helpers_agree advice p board friend z.at) (all_agreed (helper_names p.items))
       ∙ sym (ap (λ o. is_machine_match code all_yes machine board friend z.pattern p z.transform z.at && is_agreed_at advice board friend o z) number))
 
+  -- what was found and is allowed is what matches if every helper says yes
+  pub if_yes : (found now : List Match) → found ≡ found_by machine patterns board friend → now ≡ filter allows found
+      → now ≡ machine_matches code all_yes machine patterns board friend
+  if_yes found now is kept = kept ∙ ap (filter allows) is ∙ filtered
+
+  -- and what is agreed of it are the matches
+  pub if_agreed : (advice : Advice) (now last : List Match) → now ≡ machine_matches code all_yes machine patterns board friend
+      → last ≡ filter (λ z. is_agreed_at advice board friend (slice_get patterns z.pattern) z) now
+      → last ≡ machine_matches code advice machine patterns board friend
+  if_agreed advice now last is kept =
+      kept ∙ ap (filter (λ z. is_agreed_at advice board friend (slice_get patterns z.pattern) z)) is ∙ agreed advice
+
   -- what was found is of a pattern of the list, at a point of the board
   pub found-there : (z : Match) → Contains (found_by machine patterns board friend) z → IsFoundThere patterns board z
   unfolding found_by

@@ -7,15 +7,11 @@ use Rattle.go_rules.specs.Position.{BoardState}
 use Rattle.helpers.specs.Asking.{HelperState, SlotState, has_name, slot_says, says_yes}
 use Rattle.helper_asking.specs.Rule.{asked_often, slot_asked_often, raised_from, raised}
 use Rattle.match_rules.specs.Conditions.{Advice}
-use Rattle.session.specs.Handed.{without_calls}
+use Rattle.session.specs.Handed.{without_its_calls, without_calls}
 
 -- a helper without its calls
 abbrev quiet_helper : HelperState → HelperState
 quiet_helper h = record h { calls = 0 }
-
--- a place of a list without the calls of its helper
-abbrev quiet : SlotState → SlotState
-quiet s = record s { helper = quiet_helper s.helper }
 
 -- however often a helper was asked, it keeps the rest
 often-quiet : (n : ℕ) (h : HelperState) → quiet_helper (asked_often n h) ≡ quiet_helper h
@@ -23,7 +19,7 @@ often-quiet zero h = refl
 often-quiet (suc n) h = often-quiet n h
 
 -- so does the place of one that was asked or was not
-place-quiet : (b : Bool) (n : ℕ) (s : SlotState) → quiet (cond b s (slot_asked_often n s)) ≡ quiet s
+place-quiet : (b : Bool) (n : ℕ) (s : SlotState) → without_its_calls (cond b s (slot_asked_often n s)) ≡ without_its_calls s
 place-quiet true n s = refl
 place-quiet false n s = λ i. record { helper = often-quiet n s.helper i; on = s.on }
 
@@ -42,7 +38,7 @@ raised-quiet times slots = from-quiet times [] slots
 -- what a place or another one says, where it says the same without its calls
 first-quiet : (b : Bool) (s : SlotState) (x y : Option SlotState) (board : BoardState) (at : ℕ) (friend : Colour)
     → slot_says x board at friend ≡ slot_says y board at friend
-    → slot_says (cond b (Some (quiet s)) x) board at friend ≡ slot_says (cond b (Some s) y) board at friend
+    → slot_says (cond b (Some (without_its_calls s)) x) board at friend ≡ slot_says (cond b (Some s) y) board at friend
 first-quiet true s x y board at friend rest = refl
 first-quiet false s x y board at friend rest = rest
 
