@@ -2,10 +2,11 @@
 ghost use Rattle.std.specs.Prelude.{◌≡◌};
 ghost use Rattle.helpers.specs.Asking.{says_yes};
 ghost use Rattle.helpers.specs.Slots.{states_of};
-ghost use Rattle.match_rules.specs.Conditions.{Advice};
 ghost use Rattle.session.specs.Handed.{without_calls};
 ghost use Rattle.session.specs.Kept.{machine_of, matcher_with};
-ghost use Rattle.session.specs.MatchingCommands.{matches_listed, patterns_listed};
+ghost use Rattle.session.specs.Effects.{Grown};
+ghost use Rattle.session.specs.MatchingCommands.{matches_listed};
+ghost use Rattle.session.specs.PatternTexts.{patterns_text};
 ghost use Rattle.session.specs.Answers.{IsAnswer};
 
 use crate::answer::{Answer, grown};
@@ -38,8 +39,8 @@ impl Engine {
     }
 
     pub(crate) fn list_patterns(&self) -> Answer
-        ensures { (advice : Advice) → IsAnswer (machine_of self.now)
-            (patterns_listed (matcher_with advice self.now) (machine_of self.now)) result (machine_of self.now) }
+        ensures { IsAnswer (machine_of self.now) (Grown (patterns_text self.now.patterns) (machine_of self.now)) result
+            (machine_of self.now) }
     {
         grown(patterns_text(self.alloc, &self.patterns))
     }
