@@ -66,45 +66,40 @@ def agrees(wanted: list[str], got: list[str]) -> bool:
     return re.fullmatch(pattern.rstrip("\n") + "\n*", "".join(line.rstrip() + "\n" for line in got)) is not None
 
 
-def check_block(block: Block) -> list[str]:
-    """What is wrong with a block."""
+def check_block(block: Block) -> Iterator[str | None]:
+    """For each command of a block, or for what it quotes, None or what is wrong."""
     source = re.fullmatch(r"rust (\S+)", block.name)
     if source:
         text = pathlib.Path(source[1]).read_text(encoding="utf-8").splitlines()
-        return [] if agrees(["..", *block.lines, ".."], text) else [f"{block.place}: not so in {source[1]}"]
-    wrong = []
+        yield None if agrees(["..", *block.lines, ".."], text) else f"{block.place}: not so in {source[1]}"
     for command, wanted in commands(block) if block.lines and block.lines[0].startswith("$ ") else []:
         done = subprocess.run(["bash", "-c", command], capture_output=True, text=True, check=False)
-        if not agrees(wanted, done.stdout.splitlines()):
-            wrong.append(f"{block.place}: $ {command}\n{done.stdout}{done.stderr}")
-    return wrong
+        is_so = agrees(wanted, done.stdout.splitlines())
+        yield None if is_so else f"{block.place}: $ {command}\n{done.stdout}{done.stderr}"
 
 
-def check_kinds(document: str) -> list[str]:
-    """What is wrong with the table of kinds."""
+def check_kinds(document: str) -> Iterator[str | None]:
+    """For each row of the table of kinds None or what is wrong."""
     rows = filter(None, map(KIND.fullmatch, pathlib.Path(document).read_text(encoding="utf-8").splitlines()))
-    wrong = []
     for number, text, note in (row.groups() for row in rows):
         with tempfile.NamedTemporaryFile(suffix=".db") as file:
             file.write(subprocess.run(["printf", text.replace("\\|", "|")], capture_output=True, check=True).stdout)
             file.flush()
             done = subprocess.run([GOPAT, file.name], input="", capture_output=True, text=True, check=False)
-        if done.stderr != f"bad database: {note}\n":
-            wrong.append(f"{document}: kind {number}: {done.stderr}")
-    return wrong
+        yield None if done.stderr == f"bad database: {note}\n" else f"{document}: kind {number}: {done.stderr}"
 
 
 def main(documents: list[str]):
-    run, wrong = 0, []
+    found: list[str | None] = []
     for document in documents:
         for block in blocks(document):
-            if block.not_run is not None:
+            if block.not_run is None:
+                found += check_block(block)
+            else:
                 print(f"{block.place}: not run: {block.not_run}")
-                continue
-            run += 1
-            wrong += check_block(block)
-        wrong += check_kinds(document)
-    print("\n".join(wrong + [f"{run} blocks, {len(wrong)} differ"]))
+        found += check_kinds(document)
+    wrong = [one for one in found if one]
+    print("\n".join([*wrong, f"{len(found)} commands, quotes and examples, {len(wrong)} of them differ"]))
     sys.exit(1 if wrong else 0)
 
 

@@ -60,7 +60,12 @@ fn main(rt: HostRuntime) -> io::Result<()> {
     match found(alloc, &patterns, &position, Colour::Black, &mut readings) {
         Ok(list) => {
             for m in &list {
-                println!(rt; "pattern {} transformation {} point {}", m.pattern, m.transform.get(), m.at)?;
+                println!(rt;
+                    "pattern {} transformation {} point {}",
+                    m.pattern,
+                    m.transform.get(),
+                    m.at
+                )?;
             }
             println!(rt; "readings {}", readings.fresh())
         }
