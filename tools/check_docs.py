@@ -2,14 +2,16 @@
 
 usage: python3 tools/check_docs.py [FILE ...]
 
-Without files these are README.md and docs/FORMATS.md, docs/USING.md and docs/LIBRARY.md. It runs at the top of a fresh clone, in which
-`(cd crates/gopat && rt run)` has made the proved program; a command that needs more says so in the text above it.
+Without files these are README.md and docs/FORMATS.md, docs/USING.md and docs/LIBRARY.md, in this order. It runs at the
+top of a fresh clone: README's commands prove and build the program, and docs/USING.md says what has to stand beside
+the clone.
 
-A command is a line `$ ..` of a block that is set off by three backticks; it goes on over lines that end in a backslash. The lines below it,
-up to the next command or the end of the block, are its standard output, where blank lines at the end do not count. A line `..` alone stands for
-lines that are left out. A block that is named `rust PATH` is a part of the file of this path, with the same use of `..`. In the table of kinds
-of docs/FORMATS.md each example is a text as printf takes it, and the program's note has to be the one beside it.
-A block under a line `<!-- not run: WHY -->` is passed over and told.
+A command is a line `$ ..` of a block that is set off by three backticks; it goes on over lines that end in a
+backslash. The lines below it, up to the next command or the end of the block, are its standard output, where blank
+lines at the end do not count. A line `..` alone stands for lines that are left out. A block that is named `rust PATH`
+is a part of the file of this path, with the same use of `..`. In the table of kinds of docs/FORMATS.md each example
+is a text as printf takes it, and the program's note has to be the one beside it. A block under a line `<!-- not run:
+WHY -->` is passed over and told.
 """
 
 import pathlib

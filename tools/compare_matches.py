@@ -1,12 +1,14 @@
-"""Compares the matches of a folder of pattern files with those of GNU Go's own matcher, over the positions of its game records.
+"""Compares the matches of a folder of pattern files with those of GNU Go's own matcher, over the positions of its game
+records.
 
 usage: python3 tools/compare_matches.py GOPAT BUILD PATTERNS RECORDS [POSITIONS [SEED]]
 
-BUILD is GNU Go's source after ./configure and make; PATTERNS a folder that tools/cut_patterns.py made; RECORDS a folder that is searched
-for *.sgf. A file's entries are compared as diagrams alone: an entry with a constraint diagram is left out, and so is one with the mark O,
-which GNU Go takes in another sense, and one without a stone, which its matcher cannot anchor. The class letters become `s`, so that
-neither program asks for a reading. On each position the two lists of (name, move) are compared as multisets, for both colours. Before that
-each file is loaded as it is, listed, and matched on the same positions by gopat alone, with its classes and constraints.
+BUILD is GNU Go's source after ./configure and make; PATTERNS a folder that tools/cut_patterns.py made; RECORDS a
+folder that is searched for *.sgf. A file's entries are compared as diagrams alone: an entry with a constraint diagram
+is left out, and so is one with the mark O, which GNU Go takes in another sense, and one without a stone, which its
+matcher cannot anchor. The class letters become `s`, so that neither program asks for a reading. On each position the
+two lists of (name, move) are compared as multisets, for both colours. Before that each file is loaded as it is,
+listed, and matched on the same positions by gopat alone, with its classes and constraints.
 """
 
 import collections
@@ -22,7 +24,7 @@ import gtp
 import sgf
 from cut_patterns import entries_of
 
-# Answers lines `size N`, `put b D4` and `match b`; the matches come one a line as a name and a vertex, and then a line `.`.
+# Answers lines `size N`, `put b D4` and `match b`: the matches, one a line as a name and a vertex, and then a line `.`.
 DRIVER = r"""
 #include <stdio.h>
 #include <string.h>
@@ -102,7 +104,8 @@ def stones_left(gopat: str, position: Position) -> list[sgf.Move]:
         number, *cells = row.split() or [""]
         if number.isdigit():
             marks = zip(sgf.COLUMNS, cells)
-            left += [sgf.Move("b" if cell == "X" else "w", f"{column}{number}") for column, cell in marks if cell != "."]
+            stones = ((f"{column}{number}", cell) for column, cell in marks if cell != ".")
+            left += [sgf.Move("b" if cell == "X" else "w", vertex) for vertex, cell in stones]
     return left
 
 
@@ -122,7 +125,7 @@ def build(folder: pathlib.Path, room: pathlib.Path, database: pathlib.Path) -> p
 
 
 class Matched(NamedTuple):
-    """What gopat answers for a file: how many patterns it lists, the matches on each position, for black and then white, and the seconds."""
+    """What gopat answers for a file: how many patterns it lists, and the matches on each position, black's and white's."""
 
     listed: int
     lists: list[collections.Counter[str]]
@@ -180,10 +183,13 @@ def main(gopat: str, folder: str, patterns: str, records: str, wanted: str = "10
             differ = [(our, their) for our, their in zip(ours, theirs) if our != their]
             print(f"; {len(entries)} compared, {count(ours)} matches, {len(differ)} of {len(ours)} lists differ")
             for our, their in differ[:1]:
-                print(f"  gopat alone {sorted((our - their).elements())[:3]}, GNU Go alone {sorted((their - our).elements())[:3]}")
+                alone, missed = (sorted(some.elements())[:3] for some in (our - their, their - our))
+                print(f"  gopat alone {alone}, GNU Go alone {missed}")
             totals += collections.Counter(compared=len(entries), matches=count(ours), differ=len(differ))
-    print("{files} files, {listed} patterns listed, {whole} matches on {} positions".format(len(asked), **totals))
-    print("{compared} patterns compared as diagrams, {matches} matches, {} lists differ".format(totals["differ"], **totals))
+    patterns_and_matches = f"{totals['listed']} patterns listed, {totals['whole']} matches"
+    print(f"{totals['files']} files, {patterns_and_matches} on {len(asked)} positions")
+    compared, matches, differ = (totals[key] for key in ("compared", "matches", "differ"))
+    print(f"{compared} patterns compared as diagrams, {matches} matches, {differ} lists differ")
 
 
 if __name__ == "__main__":

@@ -2,9 +2,10 @@
 
 usage: python3 tools/cut_patterns.py GOPAT FOLDER OUT
 
-Each entry of each *.db file is given to gopat alone. Prints a line for each file, with the states that the accepted entries take together, then
-the reasons of refusal with their counts, as the number of gopat's note and a name. OUT gets a file of the accepted entries for each
-file, and all.db with the first 4,096 of all of them. An option of GNU Go's own before the first pattern is left out.
+Each entry of each *.db file is given to gopat alone. Prints a line for each file, with the states that the accepted
+entries take together, then the reasons of refusal with their counts, as the number of gopat's note and a name. OUT
+gets a file of the accepted entries for each file, and all.db with the first 4,096 of all of them. An option of GNU
+Go's own before the first pattern is left out.
 """
 
 import collections

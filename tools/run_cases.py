@@ -1,12 +1,13 @@
-"""Cuts GNU Go's regression suites to the `attack` and `defend` cases that gopat can answer, and runs GNU Go's own driver over them.
+"""Cuts GNU Go's regression suites to the `attack` and `defend` cases that gopat can answer, and runs GNU Go's own
+driver over them.
 
 usage: python3 tools/run_cases.py GOPAT REGRESSION OUT PLIES WIDE
 
-REGRESSION is the folder regression/ of GNU Go's source. OUT gets a file *.tst for each suite that has such cases: each record is set up by
-boardsize and play lines in place of its loadsgf line, trymove and popgo are play and undo, and the cases stand with their expected answers
-as they are. Then `sh eval.sh SUITE.tst` runs as GNU Go's authors run it, with gopat behind tools/as_gnugo.py, and what it printed is
-left in SUITE.out. Prints a line for each suite: the cases, how many pass by the driver, how many have the expected code, and how many the
-expected yes or no.
+REGRESSION is the folder regression/ of GNU Go's source. OUT gets a file *.tst for each suite that has such cases:
+each record is set up by boardsize and play lines in place of its loadsgf line, trymove and popgo are play and undo,
+and the cases stand with their expected answers as they are. Then `sh eval.sh SUITE.tst` runs as GNU Go's authors run
+it, with gopat behind tools/as_gnugo.py, and what it printed is left in SUITE.out. Prints a line for each suite: the
+cases, how many pass by the driver, how many have the expected code, and how many the expected yes or no.
 """
 
 import pathlib
@@ -31,7 +32,7 @@ class Case(NamedTuple):
 
 
 def plays(path: pathlib.Path, until: str | None) -> list[str]:
-    """The lines that set up a record as loadsgf does: before the move of a number, or before the first move at a vertex."""
+    """The lines that set up a record as loadsgf does: before the move of a number, or the first at a vertex."""
     record = sgf.read(str(path))
     moves = record.moves
     if until and until.isdigit():

@@ -1,4 +1,4 @@
-//! A program that uses the matcher as a library: patterns from a text, a position, and the matches by the patterns' automaton.
+//! A program that uses the matcher as a library: patterns from a text, their automaton, a position, and the matches.
 #![tactic(auto)]
 
 ghost use Rattle.std.specs.Prelude.{◌≡◌, ◌≤◌, IfOk, length};

@@ -1,4 +1,5 @@
-//! A program that uses the reader as a library: whether a stone in a ladder can be captured, and whether it can be saved.
+//! A program that uses the reader as a library: whether a stone in a ladder can be captured, and whether it can be
+//! saved.
 #![tactic(auto)]
 
 ghost use Rattle.std.specs.Prelude.{◌≡◌, ◌≢◌, ◌*◌, ◌<◌, ◌↔◌, IsSome, IfSome};
@@ -30,8 +31,10 @@ fn with_stones(mut position: Position, colour: Colour, names: &str) -> Option<Po
 
 /// The answer to a question about the stone at a point, None exactly where none stands there.
 fn asked(position: &Position, kind: Kind, target: Point, depths: Depths) -> Option<Answer>
-    ensures stone { IsSome result ↔ ((target < position.now.size * position.now.size) × (cell_at position.now.cells target ≢ Cell.Empty)) }
-    ensures answer { IfSome result (λ a. a ≡ answer_of (asked_on position.now kind target depths.plies depths.wide) position.now) }
+    ensures stone { IsSome result
+        ↔ ((target < position.now.size * position.now.size) × (cell_at position.now.cells target ≢ Cell.Empty)) }
+    ensures answer { IfSome result
+        (λ a. a ≡ answer_of (asked_on position.now kind target depths.plies depths.wide) position.now) }
 {
     if target >= position.size().points() || position.cell(target) == Cell::Empty {
         return None;
