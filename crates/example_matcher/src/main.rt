@@ -37,7 +37,9 @@ fn found(
         patterns.now position.now friend) }
 {
     let machine = compile(alloc, patterns, 100_000)?;
-    Ok(matches(alloc, patterns, &machine, position, friend, readings, helpers)?)
+    Ok(matches(
+        alloc, patterns, &machine, position, friend, readings, helpers,
+    )?)
 }
 
 /// A board of 9 rows with a black stone in the second column from the right.
@@ -65,7 +67,14 @@ fn main(rt: HostRuntime) -> io::Result<()> {
     let Ok(mut helpers) = Helpers::new(alloc, Vec::new(alloc)) else {
         return println!(rt; "out of memory");
     };
-    match found(alloc, &patterns, &position, Colour::Black, &mut readings, &mut helpers) {
+    match found(
+        alloc,
+        &patterns,
+        &position,
+        Colour::Black,
+        &mut readings,
+        &mut helpers,
+    ) {
         Ok(list) => {
             for m in &list {
                 println!(rt;

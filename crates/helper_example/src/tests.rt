@@ -7,6 +7,9 @@ use std::test::Fail;
 /// A pattern that asks the helper.
 const PATTERNS: &[u8] = b"Pattern P\nO*\n:O,s,two_liberties\n";
 
+/// The replies to the lines below.
+const REPLIES: &[u8] = b"=\n\n=\n\n=\n\n=\n\n=\n\n= P 0 C5\n\n";
+
 /// Beside B5 black's string has room; beside D1 it has its last liberty at E2.
 const LINES: &[u8] = b"boardsize 5\nplay b B5\nplay w D2\nplay b D1\nplay w C1\nmatch_patterns b\n";
 
@@ -25,6 +28,6 @@ fn helper_of_the_caller_is_asked(rt: HostRuntime) -> Result<(), Fail> {
     let mut page = Page::new(alloc, 4096, 4096, Vec::new(alloc))?;
     let outcome = run_with_two_liberties(alloc, &words, &mut shelf, &mut feed, &mut page)?;
     assert_eq!(rt; outcome, Outcome::Done);
-    assert_eq!(rt; page.bytes(), b"=\n\n=\n\n=\n\n=\n\n=\n\n= P 0 C5\n\n");
+    assert_eq!(rt; page.bytes(), REPLIES);
     Ok(())
 }

@@ -496,7 +496,10 @@ fn matches_asking(
         &mut readings,
         &mut helpers,
     )?;
-    Ok((found, [helpers.calls(b"near_edge"), helpers.calls(b"no_ban")]))
+    Ok((
+        found,
+        [helpers.calls(b"near_edge"), helpers.calls(b"no_ban")],
+    ))
 }
 
 // Black stands on C5 of a board of 9: of the eight placements those at B5 are near the edge.

@@ -87,6 +87,8 @@ pub(crate) fn matches_text(
     ensures depths { SameDepths readings.old readings.new }
     ensures helpers { without_calls (states_of state helpers.new) ≡ without_calls (states_of state helpers.old) }
 {
-    let found = matches(alloc, patterns, machine, position, friend, readings, helpers)?;
+    let found = matches(
+        alloc, patterns, machine, position, friend, readings, helpers,
+    )?;
     list_text(alloc, patterns, position.size(), found.as_slice())
 }

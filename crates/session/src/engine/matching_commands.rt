@@ -10,9 +10,9 @@ ghost use Rattle.session.specs.PatternTexts.{patterns_text};
 ghost use Rattle.session.specs.Answers.{IsAnswer};
 
 use crate::answer::{Answer, grown};
+use crate::engine::Engine;
 use crate::match_text::matches_text;
 use crate::pattern_text::patterns_text;
-use crate::engine::Engine;
 use go_base::Colour;
 use helpers::Helpers;
 
