@@ -61,10 +61,8 @@ fn main(rt: HostRuntime) -> io::Result<()> {
     if patterns.len() > MOST_PATTERNS {
         return println!(rt; "too many patterns");
     }
-    let Ok(mut readings) = Readings::new(alloc, depths, 4096) else {
-        return println!(rt; "out of memory");
-    };
-    let Ok(mut helpers) = Helpers::new(alloc, Vec::new(alloc)) else {
+    let none = Helpers::new(alloc, Vec::new(alloc));
+    let (Ok(mut readings), Ok(mut helpers)) = (Readings::new(alloc, depths, 4096), none) else {
         return println!(rt; "out of memory");
     };
     match found(
