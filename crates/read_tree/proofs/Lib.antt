@@ -3,3 +3,4 @@ pub mod AllowanceLemmas
 pub mod BestLemmas
 pub mod LibertyLemmas
 pub mod TakeLemmas
+pub mod StageLemmas

@@ -190,6 +190,16 @@ unfolding outlasts
 to_defender n k l (inl h) = or_left (ltb (n / 2) l) _ (lt-ltb _ _ h)
 to_defender n k l (inr h) = or_right (ltb (n / 2) l) _ (lt-ltb _ _ h)
 
+-- with more liberties than too many there are too many
+pub more_outlasts : (n k l m : ℕ) → outlasts false n k l ≡ true → l ≤ m → outlasts false n k m ≡ true
+more_outlasts n k l m h le = elim (outlasts_defender n k l h) [
+  | inl x ↦ to_defender n k m (inl (omega (arith, x, le)))
+  | inr x ↦ to_defender n k m (inr (wider (most_by_wide (k - 1)) x))
+]
+  where
+    wider : (b : ℕ) → b < l → b < m
+    wider b x = omega (arith, x, le)
+
 -- some liberties are there
 some_liberty : (attacker : Bool) (n k l : ℕ) → outlasts attacker n k l ≡ true → 0 < l
 some_liberty true n k l h = elim (outlasts_attacker n k l h) [ inl x ↦ omega arith | inr x ↦ omega arith ]

@@ -7,6 +7,7 @@ use Rattle.read_tree.specs.declared.tree.Outlook.TheVariants.{Safe, Taken, Open}
 use Rattle.trial_board.specs.declared.moves.TrialMove.{TrialMove}
 use Rattle.trial_board.specs.Trials.{tail}
 use Rattle.read_rules.specs.declared.node.Node.{Node}
+use Rattle.read_rules.specs.Candidates.{is_candidate}
 use Rattle.read_rules.specs.declared.question.ReadingQuestion.{ReadingQuestion}
 use Rattle.read_rules.specs.declared.question.Spot.{Spot}
 use Rattle.read_rules.specs.declared.question.Spot.TheVariants.{Pass}
@@ -88,3 +89,14 @@ pub record IsTaken (turn : Turn) (here : BoardState) : Type 0 where
   pub liberty : is_liberty here.size here.cells turn.target l ≡ true
   pub only : (x : ℕ) → is_liberty here.size here.cells turn.target x ≡ true → x ≡ l
   pub free : is_banned here.ban (other turn.defender) l ≡ false
+
+-- found has those of the asked under which some point that passes the test gives the side to play its way: each is given by one,
+-- and under the others none does
+pub record TellsBy (n : ℕ) (turn : Turn) (here : BoardState) (points : ℕ → Bool) (asked found : Allowances) : Type 0 where
+  pub asked_for : (ko : Ko) → has found ko ≡ true → has asked ko ≡ true
+  pub given : (ko : Ko) → has found ko ≡ true → (q : ℕ) × (points q ≡ true) × (succeeds n (under turn ko) here q ≡ true)
+  pub none : (ko : Ko) → has asked ko ≡ true → has found ko ≡ false → (q : ℕ) → (points q && succeeds n (under turn ko) here q) ≡ false
+
+-- p is a candidate at the turn's node, but no liberty of the target
+abbrev pub is_off_liberties : Turn → BoardState → ℕ → Bool
+is_off_liberties turn here p = is_candidate here turn.target turn.wide p && not (is_liberty here.size here.cells turn.target p)
