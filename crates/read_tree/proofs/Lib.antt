@@ -4,3 +4,4 @@ pub mod BestLemmas
 pub mod LibertyLemmas
 pub mod TakeLemmas
 pub mod StageLemmas
+pub mod CarryLemmas

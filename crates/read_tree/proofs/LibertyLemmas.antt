@@ -57,7 +57,7 @@ module _ (s : ℕ) (cells : List Cell) (c : Colour) (p : ℕ) (was_empty : cell_
   }
 
   -- no stone of the string is taken
-  after_liberty : (l : ℕ) → IsLiberty s cells t l → l ≢ p → IsLiberty s (cells_after s put c) t l
+  pub after_liberty : (l : ℕ) → IsLiberty s cells t l → l ≢ p → IsLiberty s (cells_after s put c) t l
   after_liberty l lib ne =
       let after = cells_after s put c in
       let there = put_liberty l lib ne in

@@ -1,5 +1,7 @@
 -- What the steps of the reader answer.
-use Rattle.std.specs.Prelude.{◌≡◌, ◌≢◌, ℕ, ◌<◌, ◌≤◌, ◌&&◌, Bool, true, false, not, List, Some, None, if◌then◌else◌}
+use Rattle.std.specs.Prelude.{◌≡◌, ◌≢◌, ℕ, ◌<◌, ◌≤◌, ◌==◌, ◌&&◌, Bool, true, false, not, List, Some, None, if◌then◌else◌}
+use Rattle.std.specs.Ordering.{nat_cmp}
+use Rattle.std.specs.FinSet as set
 use Rattle.go_rules.specs.Strings.{cell_at, is_liberty}
 use Rattle.go_rules.specs.Position.{BoardState, other, stone_of, is_banned}
 use Rattle.read_tree.specs.declared.tree.Outlook.{Outlook}
@@ -100,3 +102,9 @@ pub record TellsBy (n : ℕ) (turn : Turn) (here : BoardState) (points : ℕ →
 -- p is a candidate at the turn's node, but no liberty of the target
 abbrev pub is_off_liberties : Turn → BoardState → ℕ → Bool
 is_off_liberties turn here p = is_candidate here turn.target turn.wide p && not (is_liberty here.size here.cells turn.target p)
+
+-- the attacker is to play, the target holds a defender's stone after the play at p, and next is what was known but for p
+pub record IsCarried (turn : Turn) (new : BoardState) (p : ℕ) (known next : set.FinSet nat_cmp) : Type 0 where
+  pub attacks : turn.attacker_to_play ≡ true
+  pub enemy : cell_at new.cells turn.target ≡ stone_of turn.defender
+  pub next_is : (q : ℕ) → set.contains next q ≡ (set.contains known q && not (q == p))

@@ -1,6 +1,6 @@
 //! The walk over the game tree: the plays of a node one after another, each read to its end before the next.
 
-ghost use Rattle.std.specs.Prelude.{◌≡◌, ◌⊎◌, ◌+◌, ◌*◌, ◌<◌, ◌≤◌, ℕ, suc, ◌-◌, ◌==◌, ◌||◌, ◌&&◌, nat_lt, true, false, IsTrue, length, is_some, if◌then◌else◌};
+ghost use Rattle.std.specs.Prelude.{◌≡◌, ◌⊎◌, ◌+◌, ◌*◌, ◌<◌, ◌≤◌, ℕ, suc, ◌-◌, ◌==◌, ◌||◌, ◌&&◌, nat_lt, true, false, IsTrue, IfSome, length, is_some, if◌then◌else◌};
 ghost use Rattle.go_rules.specs.Neighbourhood.{neighbourhood_of};
 ghost use Rattle.go_rules.specs.Strings.{liberties, liberty_points};
 ghost use Rattle.std.specs.FinSet as set;
@@ -16,10 +16,10 @@ ghost use Rattle.read_tree.specs.Bound.{most_by_wide, outlasts};
 ghost use Rattle.read_rules.specs.GameTree.{is_captured, attacker_wins, succeeds, first_success, pass_saves};
 ghost use Rattle.read_tree.specs.Allowances.{Ko, under, next_turn, has_some, without, Tells};
 ghost use Rattle.read_rules.specs.GoodMoves.{good_move};
-ghost use Rattle.read_tree.specs.Steps.{IsTaken, is_safe, tail_if, Makes, has_way, AreNodesOf, TellsBy, is_off_liberties};
+ghost use Rattle.read_tree.specs.Steps.{IsTaken, is_safe, tail_if, Makes, has_way, AreNodesOf, TellsBy, is_off_liberties, IsCarried};
 
 use crate::allowances::Allowances;
-use crate::apart::apart_from;
+use crate::apart::{all_but, apart_from, copy_of};
 use crate::turn::Turn;
 use go_base::points::PointSet;
 use go_base::{Cell, Colour, Look, Point};
@@ -166,6 +166,49 @@ fn make<L: Look>(board: &mut Trial<L>, turn: Turn, p: Point, own: bool) -> Made
     }
 }
 
+/// The liberties of the target after the play at p, by those before it: an attacker's play that does not take the target takes no
+/// liberty but its own point. None where they are to be found on the board.
+fn liberties_after<L: Look>(
+    board: &mut Trial<L>,
+    turn: Turn,
+    p: Point,
+    known: &PointSet,
+) -> Option<PointSet>
+    requires target { turn.target < (L.shows board.old.look).size * (L.shows board.old.look).size }
+    requires on_board { p < (L.shows board.old.look).size * (L.shows board.old.look).size }
+    ensures stays { Stays L.shows L.seen board.old board.new }
+    ensures over { (pos : BoardState) → Agrees (L.seen board.new.look) pos
+        → IfSome result (IsCarried turn (after pos board.old.moves) p known.now) }
+    ensures near { AddsIn (L.seen board.old.look) (L.seen board.new.look) (alone turn.target) }
+{
+    if !turn.attacker_to_play || board.cell(turn.target) != stone_of(turn.defender) {
+        return None;
+    }
+    let _ = board.size().points();
+    Some(all_but(known, p))
+}
+
+/// The liberties of the target: those that are known, or else those that are found.
+fn liberties_known<L: Look>(
+    board: &mut Trial<L>,
+    target: Point,
+    known: Option<PointSet>,
+) -> PointSet
+    requires target { target < (L.shows board.old.look).size * (L.shows board.old.look).size }
+    requires liberties { IfSome known (λ found. (pos : BoardState) → Agrees (L.seen board.old.look) pos
+        → found ≡ liberty_points pos.size (after pos board.old.moves).cells target) }
+    ensures stays { Stays L.shows L.seen board.old board.new }
+    ensures over { (pos : BoardState) → Agrees (L.seen board.new.look) pos
+        → result ≡ liberty_points pos.size (after pos board.old.moves).cells target }
+    ensures near { (pos : BoardState) → Agrees (L.seen board.new.look) pos → AddsIn (L.seen board.old.look) (L.seen board.new.look)
+        (neighbourhood_of pos.size (after pos board.old.moves).cells (alone target)) }
+{
+    match known {
+        Some(found) => found,
+        None => board.liberties(target),
+    }
+}
+
 /// Those of the asked under which the attacker wins, by those under which the side to play, the attacker or not, has its way.
 fn attackers(attacker: bool, asked: Allowances, good: Allowances) -> Allowances
     ensures { result ≡ (if attacker then good else without asked good) }
@@ -175,10 +218,18 @@ fn attackers(attacker: bool, asked: Allowances, good: Allowances) -> Allowances
 
 /// Those of the asked under which the side that has moved at `turn` has its way, with `plies` plies left.
 #[cycle(read)]
-fn has_way<L: Look>(board: &mut Trial<L>, turn: Turn, plies: u8, asked: Allowances) -> Allowances
+fn has_way<L: Look>(
+    board: &mut Trial<L>,
+    turn: Turn,
+    plies: u8,
+    asked: Allowances,
+    known: Option<PointSet>,
+) -> Allowances
     requires room { length board.old.moves + plies ≤ most_moves }
     requires target { turn.target < (L.shows board.old.look).size * (L.shows board.old.look).size }
     requires some { has_some asked ≡ true }
+    requires liberties { IfSome known (λ found. (pos : BoardState) → Agrees (L.seen board.old.look) pos
+        → found ≡ liberty_points pos.size (after pos board.old.moves).cells turn.target) }
     ensures stays { Stays L.shows L.seen board.old board.new }
     ensures over { (pos : BoardState) → Agrees (L.seen board.new.look) pos
         → Tells asked result (λ ko. has_way turn.attacker_to_play (attacker_wins plies (under (next_turn turn) ko) (after pos board.old.moves))) }
@@ -186,7 +237,7 @@ fn has_way<L: Look>(board: &mut Trial<L>, turn: Turn, plies: u8, asked: Allowanc
         → AreNodesOf q root plies (next_turn turn) asked (after pos board.old.moves)
         → AddsNear (L.seen board.old.look) (L.seen board.new.look) (λ p. (p ≡ turn.target) ⊎ InActiveArea q root p) }
 {
-    let won = attacker_wins(board, turn.next(), plies, asked);
+    let won = attacker_wins(board, turn.next(), plies, asked, known);
     attackers(turn.attacker_to_play, asked, won)
 }
 
@@ -198,11 +249,14 @@ pub fn succeeds<L: Look>(
     p: Point,
     plies: u8,
     asked: Allowances,
+    known: &PointSet,
 ) -> Allowances
     requires room { length board.old.moves + plies < most_moves }
     requires target { turn.target < (L.shows board.old.look).size * (L.shows board.old.look).size }
     requires on_board { p < (L.shows board.old.look).size * (L.shows board.old.look).size }
     requires some { has_some asked ≡ true }
+    requires liberties { (pos : BoardState) → Agrees (L.seen board.old.look) pos
+        → known.now ≡ liberty_points pos.size (after pos board.old.moves).cells turn.target }
     ensures stays { Stays L.shows L.seen board.old board.new }
     ensures over { (pos : BoardState) → Agrees (L.seen board.new.look) pos
         → Tells asked result (λ ko. succeeds plies (under turn ko) (after pos board.old.moves) p) }
@@ -216,12 +270,14 @@ pub fn succeeds<L: Look>(
     match make(board, turn, p, own) {
         Made::Not => Allowances::none(),
         Made::Legal => {
-            let good = has_way(board, turn, plies, asked);
+            let next = liberties_after(board, turn, p, known);
+            let good = has_way(board, turn, plies, asked, next);
             board.back();
             good
         }
         Made::Allowed => {
-            let good = has_way(board, turn, plies, Allowances::neither_alone());
+            let next = liberties_after(board, turn, p, known);
+            let good = has_way(board, turn, plies, Allowances::neither_alone(), next);
             board.back();
             Allowances::own_where(turn.attacker_to_play, good.neither)
         }
@@ -237,10 +293,13 @@ fn some_of<L: Look>(
     plies: u8,
     asked: Allowances,
     points: &PointSet,
+    known: &PointSet,
 ) -> Allowances
     requires room { length board.old.moves + plies < most_moves }
     requires target { turn.target < (L.shows board.old.look).size * (L.shows board.old.look).size }
     requires some { has_some asked ≡ true }
+    requires liberties { (pos : BoardState) → Agrees (L.seen board.old.look) pos
+        → known.now ≡ liberty_points pos.size (after pos board.old.moves).cells turn.target }
     requires on_board { (p : ℕ) → IsTrue (set.contains points.now p) → p < (L.shows board.old.look).size * (L.shows board.old.look).size }
     ensures stays { Stays L.shows L.seen board.old board.new }
     ensures over { (pos : BoardState) → Agrees (L.seen board.new.look) pos
@@ -254,7 +313,7 @@ fn some_of<L: Look>(
     let mut missing = asked;
     let mut next = 0;
     while let Some(p) = points.first_from(next) {
-        let good = succeeds(board, turn, p, plies, missing);
+        let good = succeeds(board, turn, p, plies, missing, known);
         missing = missing.without(good);
         if !missing.has_some() {
             return asked;
@@ -299,7 +358,7 @@ fn some_other<L: Look>(
     }
     let candidates = candidates(board, turn.target, turn.wide);
     let others = apart_from(&candidates, known);
-    some_of(board, turn, plies, asked, &others)
+    some_of(board, turn, plies, asked, &others, known)
 }
 
 /// Those of the asked under which some candidate gives the side to play its way, with `plies` plies left after it. The liberties of the
@@ -325,7 +384,7 @@ fn some_success<L: Look>(
         → ((ko : Ko) → IsUndecided (under turn ko) (after pos board.old.moves))
         → AddsNear (L.seen board.old.look) (L.seen board.new.look) (InActiveArea q root) }
 {
-    let good = some_of(board, turn, plies, asked, known);
+    let good = some_of(board, turn, plies, asked, known, known);
     let missing = asked.without(good);
     if !missing.has_some() {
         return asked;
@@ -341,10 +400,13 @@ pub fn pass_saves<L: Look>(
     turn: Turn,
     plies: u8,
     asked: Allowances,
+    known: &PointSet,
 ) -> Allowances
     requires room { length board.old.moves + plies < most_moves }
     requires target { turn.target < (L.shows board.old.look).size * (L.shows board.old.look).size }
     requires some { has_some asked ≡ true }
+    requires liberties { (pos : BoardState) → Agrees (L.seen board.old.look) pos
+        → known.now ≡ liberty_points pos.size (after pos board.old.moves).cells turn.target }
     requires defender { turn.attacker_to_play ≡ false }
     ensures stays { Stays L.shows L.seen board.old board.new }
     ensures over { (pos : BoardState) → Agrees (L.seen board.new.look) pos
@@ -354,7 +416,7 @@ pub fn pass_saves<L: Look>(
         → AddsNear (L.seen board.old.look) (L.seen board.new.look) (InActiveArea q root) }
 {
     board.pass();
-    let good = has_way(board, turn, plies, asked);
+    let good = has_way(board, turn, plies, asked, Some(copy_of(known)));
     board.back();
     good
 }
@@ -384,7 +446,7 @@ fn has_good_move<L: Look>(
     if turn.attacker_to_play {
         return some_success(board, turn, plies, asked, known);
     }
-    let lost = asked.without(pass_saves(board, turn, plies, asked));
+    let lost = asked.without(pass_saves(board, turn, plies, asked, known));
     if !lost.has_some() {
         return asked;
     }
@@ -398,10 +460,13 @@ fn attacker_wins<L: Look>(
     turn: Turn,
     plies: u8,
     asked: Allowances,
+    known: Option<PointSet>,
 ) -> Allowances
     requires room { length board.old.moves + plies ≤ most_moves }
     requires target { turn.target < (L.shows board.old.look).size * (L.shows board.old.look).size }
     requires some { has_some asked ≡ true }
+    requires liberties { IfSome known (λ found. (pos : BoardState) → Agrees (L.seen board.old.look) pos
+        → found ≡ liberty_points pos.size (after pos board.old.moves).cells turn.target) }
     ensures stays { Stays L.shows L.seen board.old board.new }
     ensures over { (pos : BoardState) → Agrees (L.seen board.new.look) pos
         → Tells asked result (λ ko. attacker_wins plies (under turn ko) (after pos board.old.moves)) }
@@ -415,7 +480,7 @@ fn attacker_wins<L: Look>(
     if plies == 0 {
         return Allowances::none();
     }
-    let known = board.liberties(turn.target);
+    let known = liberties_known(board, turn.target, known);
     match outlook_of(board, turn, plies, &known) {
         Outlook::Safe => Allowances::none(),
         Outlook::Taken => asked,
