@@ -8,14 +8,14 @@ ghost use Rattle.session.specs.Counting.{counted, has_stone};
 
 use crate::answer::{Answer, told};
 use crate::readings::answer_text;
-use crate::session::Session;
-use crate::session::board_commands::has_stone;
+use crate::engine::Engine;
+use crate::engine::board_commands::has_stone;
 use go_base::Point;
 use gtp_cmd::RefuseText;
 use read_moves::Depths;
 use read_tree::Kind;
 
-impl Session {
+impl Engine {
     /// Counts a reading: the moves that it tried, where it was made afresh.
     fn count_reading(&mut self, tried: Option<u64>)
         ensures machine { machine_of self.new ≡ machine_of self.old }
@@ -44,10 +44,10 @@ impl Session {
         ensures trials { has_stone (machine_of self.old) p ≡ false → self.new.counts.trials ≡ self.old.counts.trials }
         ensures none_kept { self.new.counts.refused ≡ self.old.counts.refused }
     {
-        let position = self.position();
-        if !has_stone(&position, p) {
+        if !has_stone(self.board(), p) {
             return Answer::Refused(RefuseText::VertexEmpty);
         }
+        let position = self.position();
         let answer = self.readings.read(kind, &position, p);
         let tried = self.readings.last();
         self.count_reading(tried);
