@@ -1,12 +1,12 @@
 -- The points that plays leave, and how they are gathered.
-use Rattle.std.proofs.Common.{◌≡◌, ◌≢◌, ◌⊎◌, Option, Some, None, IfSome, IfNone, List, length, ℕ, zero, suc, ◌+◌, ◌-◌, ◌*◌, ◌<◌, ◌≤◌, ◌&&◌, ◌||◌, Bool, true, false, not, cond, eqb, ltb, Result, Ok, Err, refl, sym, ap, subst, arith, inl, inr, ◌∙◌, add-one}
-use Rattle.std.proofs.lemmas.Bool.{cases_Bool, cases_eq, cases_lt, or_cases, or_left, or_right, eqb-true, eq-eqb, ne_eqb, both_ways, and_parts, and_from}
+use Rattle.std.proofs.Common.{◌≡◌, ◌≢◌, ◌⊎◌, Option, Some, None, IfSome, IfNone, List, ℕ, ◌+◌, ◌-◌, ◌*◌, ◌<◌, ◌≤◌, ◌&&◌, ◌||◌, Bool, true, false, not, cond, eqb, Result, Ok, Err, refl, sym, ap, subst, arith, inl, inr, ◌∙◌, add-one}
+use Rattle.std.proofs.lemmas.Bool.{cases_Bool, cases_eq, cases_lt, eqb-true, eq-eqb, ne_eqb, both_ways, and_parts, and_from}
 use Rattle.std.specs.Ordering.{nat_cmp, eq_by_cmp}
 use Rattle.std.specs.Cmp.{nat_cmp_total}
 use Rattle.std.specs.FinSet as sets
 use Rattle.go_rules.specs.declared.Colour.{Colour}
 use Rattle.go_rules.specs.declared.Illegal.{Illegal}
-use Rattle.go_rules.specs.declared.Illegal.TheVariants.{Occupied, Ko, Suicide}
+use Rattle.go_rules.specs.declared.Illegal.TheVariants.{Occupied, Ko}
 use Rattle.go_rules.specs.Below.{any_below}
 use Rattle.go_rules.specs.Board.{largest_points}
 use Rattle.go_rules.specs.Position.{BoardState, is_banned}
@@ -41,7 +41,7 @@ emptied points q one has = sets.empty_of_len (sets.remove points q)
     (sets.len-remove nat_cmp_total points q ∙ ap (λ b. cond b (sets.len points - 1) (sets.len points)) has ∙ ap (λ n. n - 1) one)
 
 -- a set of one member has no other
-one_member : (points : sets.FinSet nat_cmp) (q p : ℕ) → sets.len points ≡ 1 → sets.contains points q ≡ true → sets.contains points p ≡ true → p ≡ q
+pub one_member : (points : sets.FinSet nat_cmp) (q p : ℕ) → sets.len points ≡ 1 → sets.contains points q ≡ true → sets.contains points p ≡ true → p ≡ q
 one_member points q p one has also = elim (cases_eq p q) [
   | inl e ↦ e
   | inr ne ↦

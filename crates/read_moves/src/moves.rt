@@ -1,6 +1,6 @@
 //! The candidates of a target: the points that a reading tries.
 
-ghost use Rattle.std.specs.Prelude.{◌≡◌, ℕ, ◌*◌, ◌<◌, ◌&&◌, ◌||◌, Bool, IsTrue, IfSome, nat_lt, length, if◌then◌else◌};
+ghost use Rattle.std.specs.Prelude.{◌≡◌, ℕ, ◌*◌, ◌<◌, ◌&&◌, ◌||◌, Bool, true, IsTrue, IfSome, nat_lt, length, if◌then◌else◌};
 ghost use Rattle.std.specs.FinSet as set;
 ghost use Rattle.go_rules.specs.Below.{any_below};
 ghost use Rattle.go_rules.specs.Board.{largest_points};
@@ -12,7 +12,7 @@ ghost use Rattle.go_rules.specs.Play.{play_free};
 ghost use Rattle.trial_board.specs.Overlays.{neighbourhood_twice};
 ghost use Rattle.trial_board.specs.Trials.{Stays, most_moves, after};
 ghost use Rattle.read_rules.specs.Candidates.{attacker_of, is_empty_beside, leaves_only, is_candidate, near_candidates};
-ghost use Rattle.read_moves.specs.Steps.{is_at, is_only_member, is_left};
+ghost use Rattle.read_moves.specs.Steps.{is_at, is_only_member, is_left, HasOther, HasOtherSide};
 
 use go_base::points::PointSet;
 use go_base::sides::neighbour;
@@ -130,7 +130,32 @@ fn only_liberty_after<L: Look>(board: &mut Trial<L>, c: Colour, l: Point) -> Opt
     }
 }
 
-/// Adds the one liberty that a stone of this colour at l would have, where it is empty now.
+/// Whether a set has two members at least.
+fn has_two(points: &PointSet) -> bool
+    ensures { result ≡ true → (p : ℕ) → HasOther points.now p }
+{
+    match points.first_from(0) {
+        Some(first) => points.first_from(first + 1).is_some(),
+        None => false,
+    }
+}
+
+/// Whether two sides of l are empty at least.
+fn has_two_empty_sides<L: Look>(board: &mut Trial<L>, l: Point) -> bool
+    requires { l < (L.shows board.old.look).size * (L.shows board.old.look).size }
+    ensures stays { Stays L.shows L.seen board.old board.new }
+    ensures over { (pos : BoardState) → Agrees (L.seen board.new.look) pos → result ≡ true → (p : ℕ)
+        → HasOtherSide pos.size (after pos board.old.moves).cells l p }
+    ensures near { (pos : BoardState) → Agrees (L.seen board.new.look) pos
+        → AddsIn (L.seen board.old.look) (L.seen board.new.look) (neighbours_of pos.size l) }
+{
+    let mut sides = PointSet::new();
+    add_sides(board, l, &mut sides);
+    has_two(&sides)
+}
+
+/// Adds the one liberty that a stone of this colour at l would have, where it is empty now. With two empty sides the stone has two
+/// liberties at least, so no play is tried.
 fn add_backfilling_at<L: Look>(board: &mut Trial<L>, c: Colour, l: Point, found: &mut PointSet)
     requires room { length board.old.moves < most_moves }
     requires on_board { l < (L.shows board.old.look).size * (L.shows board.old.look).size }
@@ -140,6 +165,9 @@ fn add_backfilling_at<L: Look>(board: &mut Trial<L>, c: Colour, l: Point, found:
     ensures near { (pos : BoardState) → Agrees (L.seen board.new.look) pos → AddsIn (L.seen board.old.look) (L.seen board.new.look)
         (neighbourhood_twice pos.size (after pos board.old.moves).cells l) }
 {
+    if has_two_empty_sides(board, l) {
+        return;
+    }
     if let Some(p) = only_liberty_after(board, c, l) {
         add_empty(board, p, found);
     }
@@ -174,7 +202,8 @@ fn add_backfilling<L: Look>(
 /// of each enemy string next to it; where a wide ply is left, also the empty neighbours of its liberties, if there are at most
 /// two of these, and the one liberty that a stone of the attacker on one of its liberties would have.
 ///
-/// The trial moves stay as they were; the plays that are tried for the last kind count among the trials. After GNU Go Manual,
+/// The trial moves stay as they were; the plays that are tried for the last kind, at liberties with one empty side at most, count
+/// among the trials. After GNU Go Manual,
 /// "Tactical reading"; the choice of these points is this project's own.
 pub fn candidates<L: Look>(board: &mut Trial<L>, target: Point, wide: u8) -> PointSet
     requires room { length board.old.moves < most_moves }

@@ -5,3 +5,4 @@ pub mod WinLemmas
 pub mod AnswerLemmas
 pub mod RuleLemmas
 pub mod AreaLemmas
+pub mod PlyLaws

@@ -4,3 +4,4 @@ pub mod Answer
 pub mod GoodMoves
 pub mod Rules
 pub mod ActiveArea
+pub mod BanFree

@@ -8,6 +8,7 @@ ghost use Rattle.read_rules.specs.declared.node.Node.{Node};
 ghost use Rattle.read_rules.specs.declared.question.ReadingQuestion.{ReadingQuestion};
 ghost use Rattle.read_rules.specs.declared.question.Spot.{Spot};
 ghost use Rattle.read_rules.specs.GameTree.{is_captured, has_many_liberties, child_of, can_play, attacker_wins, succeeds};
+ghost use Rattle.read_rules.specs.BanFree.{with_allowances, IsBanFree};
 ghost use Rattle.read_rules.specs.Answer.{attains_code, is_about, code_of, first_node, answer_of};
 ghost use Rattle.read_rules.specs.Rules.{HasManyLiberties, IsChild, SomeChildWins, EachChildWins, Succeeds, IsFirstMove, node_under, IsGreatestCode};
 
@@ -41,6 +42,17 @@ pub fn the_tree_is_by_four_rules()
         IsTrue (attacker_wins (n + 1) node pos) ↔ ((has_many_liberties pos node.target node.wide ≡ false) × SomeChildWins n node pos) }
     ensures defender_to_play { (n : ℕ) (node : Node) (pos : BoardState) → is_captured pos node.target ≡ false → node.attacker_to_play ≡ false →
         IsTrue (attacker_wins (n + 1) node pos) ↔ EachChildWins n node pos }
+{}
+
+/// With more plies the attacker wins wherever he won with fewer.
+pub fn winning_is_monotone_in_the_plies()
+    ensures one_more { (n : ℕ) (node : Node) (pos : BoardState) → IsTrue (attacker_wins n node pos) → IsTrue (attacker_wins (n + 1) node pos) }
+{}
+
+/// A tree in which the ban forbids no candidate has the same winner under every pair of ko allowances.
+pub fn trees_without_a_ban_have_one_winner()
+    ensures allowances { (n : ℕ) (node : Node) (pos : BoardState) (a d : ℕ) → IsBanFree n node pos
+        → attacker_wins n (with_allowances node a d) pos ≡ attacker_wins n node pos }
 {}
 
 /// The codes by their ko allowances of attacker and defender, the greatest of them, and the first move that attains it.

@@ -17,7 +17,7 @@ use Rattle.read_rules.specs.declared.question.ReadingQuestion.{ReadingQuestion}
 use Rattle.read_rules.specs.ActiveArea.{IsNodeOf, by_pass}
 use Rattle.read_rules.specs.GoodMoves.{good_move}
 use Rattle.read_tree.specs.Steps.{has_way, IsLeft, AreNodesOf}
-use Rattle.read_rules.proofs.WinLemmas.{any-first, first_success-none}
+use Rattle.read_rules.proofs.WinLemmas.{any-first}
 use Rattle.read_rules.proofs.WalkLemmas.{any_from}
 
 -- a set that has some has one
@@ -120,12 +120,14 @@ Tells-own attacker asked there test h e none = record { each = by attacker h e n
 pub left_first : (n : ℕ) (turn : Turn) (here : BoardState) (candidate : ℕ → Bool) (asked : Allowances) → IsLeft n turn here candidate 0 asked asked
 left_first n turn here candidate asked = record { asked_for = λ ko h. h; none = λ ko h q l. absurd (omega arith); given = λ ko h m. absurd (both_ways (has asked ko) m h) }
 
-and_parts_not : (a b : Bool) → (a && not b) ≡ true → (a ≡ true) × (b ≡ false)
+-- the parts of a test and the other's opposite
+pub and_parts_not : (a b : Bool) → (a && not b) ≡ true → (a ≡ true) × (b ≡ false)
 and_parts_not true true h = cc
 and_parts_not true false h = (refl, refl)
 and_parts_not false b h = cc
 
-and_false_right : (a b : Bool) → b ≡ false → (a && b) ≡ false
+-- nothing passes where the second test fails
+pub and_false_right : (a b : Bool) → b ≡ false → (a && b) ≡ false
 and_false_right true b e = e
 and_false_right false b e = refl
 
@@ -190,38 +192,17 @@ fewer_nodes fewer tree h = record { each = λ ko a. tree.each ko (h ko a) }
 pub without_less : (a b : Allowances) (ko : Ko) → has (without a b) ko ≡ true → has a ko ≡ true
 without_less a b ko h = (and_parts_not _ _ (sym (has-without a b ko) ∙ h)).0
 
-and_true : (a b : Bool) → (a ≡ true → b ≡ true) → a ≡ (a && b)
+-- where the first test gives the second
+pub and_true : (a b : Bool) → (a ≡ true → b ≡ true) → a ≡ (a && b)
 and_true true b h = sym (h refl)
 and_true false b h = refl
 
 -- a candidate that succeeds makes the first
-success_some : (n : ℕ) (node : Node) (here : BoardState) (p : ℕ) → is_candidate here node.target node.wide p ≡ true → succeeds n node here p ≡ true → is_some (first_success n node here) ≡ true
+pub success_some : (n : ℕ) (node : Node) (here : BoardState) (p : ℕ) → is_candidate here node.target node.wide p ≡ true → succeeds n node here p ≡ true → is_some (first_success n node here) ≡ true
 success_some n node here p c t =
     let on = candidate_on here node.target node.wide p c in
     any-first (succeeds n node here) (candidates_of here node.target node.wide)
     ∙ any_from (is_candidate here node.target node.wide) (succeeds n node here) (here.size * here.size) 0 p (omega arith) (omega (arith, on)) c t
-
--- nothing is missing any more
-pub left_done : (n : ℕ) (turn : Turn) (here : BoardState) (candidate : ℕ → Bool) (next : ℕ) (asked missing : Allowances) → IsLeft n turn here candidate next asked missing
-    → ((q : ℕ) → candidate q ≡ is_candidate here turn.target turn.wide q) → has_some missing ≡ false → Tells asked asked (λ ko. is_some (first_success n (under turn ko) here))
-left_done n turn here candidate next asked missing left same none = record {
-  each = λ ko. and_true _ _ (λ a. let w = left.given ko a (none_of missing ko none) in success_some n (under turn ko) here w.0 (sym (same w.0) ∙ w.1) w.2);
-}
-
--- no candidate is left
-pub left_over : (n : ℕ) (turn : Turn) (here : BoardState) (candidate : ℕ → Bool) (next : ℕ) (asked missing : Allowances) → IsLeft n turn here candidate next asked missing
-    → ((q : ℕ) → candidate q ≡ is_candidate here turn.target turn.wide q) → ((q : ℕ) → next ≤ q → candidate q ≡ false)
-    → Tells asked (without asked missing) (λ ko. is_some (first_success n (under turn ko) here))
-left_over n turn here candidate next asked missing left same rest = record {
-  each = λ ko. has-without asked missing ko ∙ and_same (has asked ko) _ _ (λ a. elim (cases_Bool (has missing ko)) [
-    | inl t ↦ ap not t ∙ ap is_some (first_success-none n (under turn ko) here next candidate same (left.none ko t) rest)
-    | inr f ↦ ap not f ∙ sym (let w = left.given ko a f in success_some n (under turn ko) here w.0 (sym (same w.0) ∙ w.1) w.2)
-  ]);
-}
-  where
-    and_same : (a b c : Bool) → (a ≡ true → b ≡ c) → (a && b) ≡ (a && c)
-    and_same true b c h = h refl
-    and_same false b c h = refl
 
 -- the defender's way is by the pass or by a candidate
 good_by : (turn many saved : Bool) (first : Option ℕ) → turn ≡ false → is_some (cond (turn && many) None (cond saved (Some Pass) (at_point first))) ≡ (saved || is_some first)
@@ -271,13 +252,14 @@ Tells-attackers attacker asked good way won t same = record { each = by attacker
 pub Tells-all : (asked : Allowances) (test : Ko → Bool) → ((ko : Ko) → test ko ≡ true) → Tells asked asked test
 Tells-all asked test h = record { each = λ ko. and_true _ _ (λ _. h ko) }
 
+-- none is there
+pub has_none : (ko : Ko) → has (record { defender = false; neither = false; attacker = false }) ko ≡ false
+has_none defender_may = refl
+has_none neither_may = refl
+has_none attacker_may = refl
+
 pub Tells-none : (asked : Allowances) (test : Ko → Bool) → ((ko : Ko) → test ko ≡ false) → Tells asked (record { defender = false; neither = false; attacker = false }) test
 Tells-none asked test h = record { each = λ ko. has_none ko ∙ sym (and_false_right (has asked ko) (test ko) (h ko)) }
-  where
-    has_none : (ko : Ko) → has (record { defender = false; neither = false; attacker = false }) ko ≡ false
-    has_none defender_may = refl
-    has_none neither_may = refl
-    has_none attacker_may = refl
 
 -- all are there
 pub has_all : (ko : Ko) → has (record { defender = true; neither = true; attacker = true }) ko ≡ true

@@ -3,3 +3,5 @@ pub mod AllowanceLemmas
 pub mod BestLemmas
 pub mod LibertyLemmas
 pub mod TakeLemmas
+pub mod StageLemmas
+pub mod CarryLemmas

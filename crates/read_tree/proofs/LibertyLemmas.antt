@@ -57,7 +57,7 @@ module _ (s : ℕ) (cells : List Cell) (c : Colour) (p : ℕ) (was_empty : cell_
   }
 
   -- no stone of the string is taken
-  after_liberty : (l : ℕ) → IsLiberty s cells t l → l ≢ p → IsLiberty s (cells_after s put c) t l
+  pub after_liberty : (l : ℕ) → IsLiberty s cells t l → l ≢ p → IsLiberty s (cells_after s put c) t l
   after_liberty l lib ne =
       let after = cells_after s put c in
       let there = put_liberty l lib ne in
@@ -189,6 +189,16 @@ pub to_defender : (n k l : ℕ) → (n / 2 < l) ⊎ (most_by_wide (k - 1) < l) �
 unfolding outlasts
 to_defender n k l (inl h) = or_left (ltb (n / 2) l) _ (lt-ltb _ _ h)
 to_defender n k l (inr h) = or_right (ltb (n / 2) l) _ (lt-ltb _ _ h)
+
+-- with more liberties than too many there are too many
+pub more_outlasts : (n k l m : ℕ) → outlasts false n k l ≡ true → l ≤ m → outlasts false n k m ≡ true
+more_outlasts n k l m h le = elim (outlasts_defender n k l h) [
+  | inl x ↦ to_defender n k m (inl (omega (arith, x, le)))
+  | inr x ↦ to_defender n k m (inr (wider (most_by_wide (k - 1)) x))
+]
+  where
+    wider : (b : ℕ) → b < l → b < m
+    wider b x = omega (arith, x, le)
 
 -- some liberties are there
 some_liberty : (attacker : Bool) (n k l : ℕ) → outlasts attacker n k l ≡ true → 0 < l

@@ -1,5 +1,7 @@
 -- What the steps of the reader answer.
-use Rattle.std.specs.Prelude.{◌≡◌, ◌≢◌, ℕ, ◌<◌, ◌≤◌, ◌&&◌, Bool, true, false, not, List, Some, None, if◌then◌else◌}
+use Rattle.std.specs.Prelude.{◌≡◌, ◌≢◌, ℕ, ◌<◌, ◌≤◌, ◌==◌, ◌&&◌, Bool, true, false, not, List, Some, None, if◌then◌else◌}
+use Rattle.std.specs.Ordering.{nat_cmp}
+use Rattle.std.specs.FinSet as set
 use Rattle.go_rules.specs.Strings.{cell_at, is_liberty}
 use Rattle.go_rules.specs.Position.{BoardState, other, stone_of, is_banned}
 use Rattle.read_tree.specs.declared.tree.Outlook.{Outlook}
@@ -7,6 +9,7 @@ use Rattle.read_tree.specs.declared.tree.Outlook.TheVariants.{Safe, Taken, Open}
 use Rattle.trial_board.specs.declared.moves.TrialMove.{TrialMove}
 use Rattle.trial_board.specs.Trials.{tail}
 use Rattle.read_rules.specs.declared.node.Node.{Node}
+use Rattle.read_rules.specs.Candidates.{is_candidate}
 use Rattle.read_rules.specs.declared.question.ReadingQuestion.{ReadingQuestion}
 use Rattle.read_rules.specs.declared.question.Spot.{Spot}
 use Rattle.read_rules.specs.declared.question.Spot.TheVariants.{Pass}
@@ -88,3 +91,20 @@ pub record IsTaken (turn : Turn) (here : BoardState) : Type 0 where
   pub liberty : is_liberty here.size here.cells turn.target l ≡ true
   pub only : (x : ℕ) → is_liberty here.size here.cells turn.target x ≡ true → x ≡ l
   pub free : is_banned here.ban (other turn.defender) l ≡ false
+
+-- found has those of the asked under which some point that passes the test gives the side to play its way: each is given by one,
+-- and under the others none does
+pub record TellsBy (n : ℕ) (turn : Turn) (here : BoardState) (points : ℕ → Bool) (asked found : Allowances) : Type 0 where
+  pub asked_for : (ko : Ko) → has found ko ≡ true → has asked ko ≡ true
+  pub given : (ko : Ko) → has found ko ≡ true → (q : ℕ) × (points q ≡ true) × (succeeds n (under turn ko) here q ≡ true)
+  pub none : (ko : Ko) → has asked ko ≡ true → has found ko ≡ false → (q : ℕ) → (points q && succeeds n (under turn ko) here q) ≡ false
+
+-- p is a candidate at the turn's node, but no liberty of the target
+abbrev pub is_off_liberties : Turn → BoardState → ℕ → Bool
+is_off_liberties turn here p = is_candidate here turn.target turn.wide p && not (is_liberty here.size here.cells turn.target p)
+
+-- the attacker is to play, the target holds a defender's stone after the play at p, and next is what was known but for p
+pub record IsCarried (turn : Turn) (new : BoardState) (p : ℕ) (known next : set.FinSet nat_cmp) : Type 0 where
+  pub attacks : turn.attacker_to_play ≡ true
+  pub enemy : cell_at new.cells turn.target ≡ stone_of turn.defender
+  pub next_is : (q : ℕ) → set.contains next q ≡ (set.contains known q && not (q == p))

@@ -8,6 +8,7 @@
 #![tactic(auto)]
 
 pub mod allowances;
+mod apart;
 pub mod laws;
 pub mod reading;
 pub mod told;

@@ -2,7 +2,7 @@
 
 ghost use Rattle.std.specs.Prelude.{◌≡◌, ◌≢◌, ◌+◌, ◌*◌, ◌<◌, ◌≤◌, ◌↔◌, ℕ, suc, Bool, true, false, length, IsNone, IfSome, IsTrue, None, Some};
 ghost use Rattle.go_rules.specs.Position.{BoardState};
-ghost use Rattle.go_rules.specs.Strings.{cell_at, liberties};
+ghost use Rattle.go_rules.specs.Strings.{cell_at, liberties, liberty_points};
 ghost use Rattle.go_rules.specs.Neighbourhood.{neighbourhood_of};
 ghost use Rattle.go_base.specs.Facts.{Agrees, Grows, AddsIn, CellIs};
 ghost use Rattle.trial_board.specs.Trials.{Stays, most_moves, after};
@@ -19,6 +19,7 @@ use crate::allowances::Allowances;
 use crate::told::Told;
 use crate::tree::{has_too_many, pass_saves, succeeds};
 use crate::turn::Turn;
+use go_base::points::PointSet;
 use go_base::{Cell, Colour, Look, Point};
 use read_moves::candidates;
 use read_rules::{Answer, Depths, Kind, ReadingQuestion, Spot};
@@ -55,9 +56,17 @@ fn better(best: Answer, attack: bool, good: Allowances, spot: Spot) -> Answer
 }
 
 /// The answer by the candidates in reading order, from the best answer so far: each is asked only for the codes above the best.
-fn best_point<L: Look>(board: &mut Trial<L>, turn: Turn, plies: u8, first: Answer) -> Answer
+fn best_point<L: Look>(
+    board: &mut Trial<L>,
+    turn: Turn,
+    plies: u8,
+    first: Answer,
+    known: &PointSet,
+) -> Answer
     requires room { length board.old.moves + plies < most_moves }
     requires target { turn.target < (L.shows board.old.look).size * (L.shows board.old.look).size }
+    requires liberties { (pos : BoardState) → Agrees (L.seen board.old.look) pos
+        → known.now ≡ liberty_points pos.size (after pos board.old.moves).cells turn.target }
     requires code { first.code < 3 }
     requires none { IsNone first.at ↔ (first.code ≡ 0) }
     requires on_board { IfSome first.at (IsOnBoard (L.shows board.old.look).size) }
@@ -78,7 +87,7 @@ fn best_point<L: Look>(board: &mut Trial<L>, turn: Turn, plies: u8, first: Answe
     let mut next = 0;
     while let Some(p) = candidates.first_from(next) {
         let asked = Allowances::above(best.code, turn.attacker_to_play);
-        let good = succeeds(board, turn, p, plies, asked);
+        let good = succeeds(board, turn, p, plies, asked, known);
         best = better(best, turn.attacker_to_play, good, Spot::At(p));
         if best.code == 3 {
             return best;
@@ -126,15 +135,16 @@ fn read<L: Look>(board: &mut Trial<L>, question: &ReadingQuestion) -> Answer
     if has_too_many(board, turn, question.plies) {
         return unread(turn.attacker_to_play);
     }
+    let known = board.liberties(turn.target);
     if turn.attacker_to_play {
-        return best_point(board, turn, plies, nothing);
+        return best_point(board, turn, plies, nothing, &known);
     }
-    let saved = pass_saves(board, turn, plies, Allowances::all());
+    let saved = pass_saves(board, turn, plies, Allowances::all(), &known);
     let best = better(nothing, turn.attacker_to_play, saved, Spot::Pass);
     if best.code == 3 {
         return best;
     }
-    best_point(board, turn, plies, best)
+    best_point(board, turn, plies, best, &known)
 }
 
 /// The colour of a stone.

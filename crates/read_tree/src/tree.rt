@@ -1,6 +1,6 @@
 //! The walk over the game tree: the plays of a node one after another, each read to its end before the next.
 
-ghost use Rattle.std.specs.Prelude.{◌≡◌, ◌⊎◌, ◌+◌, ◌*◌, ◌<◌, ◌≤◌, ℕ, suc, ◌==◌, ◌||◌, ◌&&◌, nat_lt, true, false, IsTrue, length, is_some, if◌then◌else◌};
+ghost use Rattle.std.specs.Prelude.{◌≡◌, ◌⊎◌, ◌+◌, ◌*◌, ◌<◌, ◌≤◌, ℕ, suc, ◌-◌, ◌==◌, ◌||◌, ◌&&◌, nat_lt, true, false, IsTrue, IfSome, length, is_some, if◌then◌else◌};
 ghost use Rattle.go_rules.specs.Neighbourhood.{neighbourhood_of};
 ghost use Rattle.go_rules.specs.Strings.{liberties, liberty_points};
 ghost use Rattle.std.specs.FinSet as set;
@@ -16,9 +16,10 @@ ghost use Rattle.read_tree.specs.Bound.{most_by_wide, outlasts};
 ghost use Rattle.read_rules.specs.GameTree.{is_captured, attacker_wins, succeeds, first_success, pass_saves};
 ghost use Rattle.read_tree.specs.Allowances.{Ko, under, next_turn, has_some, without, Tells};
 ghost use Rattle.read_rules.specs.GoodMoves.{good_move};
-ghost use Rattle.read_tree.specs.Steps.{IsTaken, is_safe, tail_if, Makes, has_way, AreNodesOf};
+ghost use Rattle.read_tree.specs.Steps.{IsTaken, is_safe, tail_if, Makes, has_way, AreNodesOf, TellsBy, is_off_liberties, IsCarried};
 
 use crate::allowances::Allowances;
+use crate::apart::{all_but, apart_from, copy_of};
 use crate::turn::Turn;
 use go_base::points::PointSet;
 use go_base::{Cell, Colour, Look, Point};
@@ -90,9 +91,11 @@ pub enum Outlook {
     Open,
 }
 
-/// What is known of a node by the target's liberties, with `plies` plies left.
-fn outlook_of<L: Look>(board: &mut Trial<L>, turn: Turn, plies: u8) -> Outlook
-    requires { turn.target < (L.shows board.old.look).size * (L.shows board.old.look).size }
+/// What is known of a node by the target's liberties, which are handed in, with `plies` plies left.
+fn outlook_of<L: Look>(board: &mut Trial<L>, turn: Turn, plies: u8, known: &PointSet) -> Outlook
+    requires target { turn.target < (L.shows board.old.look).size * (L.shows board.old.look).size }
+    requires liberties { (pos : BoardState) → Agrees (L.seen board.old.look) pos
+        → known.now ≡ liberty_points pos.size (after pos board.old.moves).cells turn.target }
     ensures stays { Stays L.shows L.seen board.old board.new }
     ensures over { (pos : BoardState) → Agrees (L.seen board.new.look) pos
         → outlasts turn.attacker_to_play plies turn.wide (liberties pos.size (after pos board.old.moves).cells turn.target) ≡ is_safe result }
@@ -100,11 +103,10 @@ fn outlook_of<L: Look>(board: &mut Trial<L>, turn: Turn, plies: u8) -> Outlook
     ensures near { (pos : BoardState) → Agrees (L.seen board.new.look) pos → AddsIn (L.seen board.old.look) (L.seen board.new.look)
         (neighbourhood_of pos.size (after pos board.old.moves).cells (alone turn.target)) }
 {
-    let liberties = board.liberties(turn.target);
-    if outlasts(turn.attacker_to_play, plies, turn.wide, liberties.count()) {
+    if outlasts(turn.attacker_to_play, plies, turn.wide, known.count()) {
         return Outlook::Safe;
     }
-    if can_take(board, turn, &liberties) {
+    if can_take(board, turn, known) {
         return Outlook::Taken;
     }
     Outlook::Open
@@ -164,6 +166,49 @@ fn make<L: Look>(board: &mut Trial<L>, turn: Turn, p: Point, own: bool) -> Made
     }
 }
 
+/// The liberties of the target after the play at p, by those before it: an attacker's play that does not take the target takes no
+/// liberty but its own point. None where they are to be found on the board.
+fn liberties_after<L: Look>(
+    board: &mut Trial<L>,
+    turn: Turn,
+    p: Point,
+    known: &PointSet,
+) -> Option<PointSet>
+    requires target { turn.target < (L.shows board.old.look).size * (L.shows board.old.look).size }
+    requires on_board { p < (L.shows board.old.look).size * (L.shows board.old.look).size }
+    ensures stays { Stays L.shows L.seen board.old board.new }
+    ensures over { (pos : BoardState) → Agrees (L.seen board.new.look) pos
+        → IfSome result (IsCarried turn (after pos board.old.moves) p known.now) }
+    ensures near { AddsIn (L.seen board.old.look) (L.seen board.new.look) (alone turn.target) }
+{
+    if !turn.attacker_to_play || board.cell(turn.target) != stone_of(turn.defender) {
+        return None;
+    }
+    let _ = board.size().points();
+    Some(all_but(known, p))
+}
+
+/// The liberties of the target: those that are known, or else those that are found.
+fn liberties_known<L: Look>(
+    board: &mut Trial<L>,
+    target: Point,
+    known: Option<PointSet>,
+) -> PointSet
+    requires target { target < (L.shows board.old.look).size * (L.shows board.old.look).size }
+    requires liberties { IfSome known (λ found. (pos : BoardState) → Agrees (L.seen board.old.look) pos
+        → found ≡ liberty_points pos.size (after pos board.old.moves).cells target) }
+    ensures stays { Stays L.shows L.seen board.old board.new }
+    ensures over { (pos : BoardState) → Agrees (L.seen board.new.look) pos
+        → result ≡ liberty_points pos.size (after pos board.old.moves).cells target }
+    ensures near { (pos : BoardState) → Agrees (L.seen board.new.look) pos → AddsIn (L.seen board.old.look) (L.seen board.new.look)
+        (neighbourhood_of pos.size (after pos board.old.moves).cells (alone target)) }
+{
+    match known {
+        Some(found) => found,
+        None => board.liberties(target),
+    }
+}
+
 /// Those of the asked under which the attacker wins, by those under which the side to play, the attacker or not, has its way.
 fn attackers(attacker: bool, asked: Allowances, good: Allowances) -> Allowances
     ensures { result ≡ (if attacker then good else without asked good) }
@@ -173,10 +218,18 @@ fn attackers(attacker: bool, asked: Allowances, good: Allowances) -> Allowances
 
 /// Those of the asked under which the side that has moved at `turn` has its way, with `plies` plies left.
 #[cycle(read)]
-fn has_way<L: Look>(board: &mut Trial<L>, turn: Turn, plies: u8, asked: Allowances) -> Allowances
+fn has_way<L: Look>(
+    board: &mut Trial<L>,
+    turn: Turn,
+    plies: u8,
+    asked: Allowances,
+    known: Option<PointSet>,
+) -> Allowances
     requires room { length board.old.moves + plies ≤ most_moves }
     requires target { turn.target < (L.shows board.old.look).size * (L.shows board.old.look).size }
     requires some { has_some asked ≡ true }
+    requires liberties { IfSome known (λ found. (pos : BoardState) → Agrees (L.seen board.old.look) pos
+        → found ≡ liberty_points pos.size (after pos board.old.moves).cells turn.target) }
     ensures stays { Stays L.shows L.seen board.old board.new }
     ensures over { (pos : BoardState) → Agrees (L.seen board.new.look) pos
         → Tells asked result (λ ko. has_way turn.attacker_to_play (attacker_wins plies (under (next_turn turn) ko) (after pos board.old.moves))) }
@@ -184,7 +237,7 @@ fn has_way<L: Look>(board: &mut Trial<L>, turn: Turn, plies: u8, asked: Allowanc
         → AreNodesOf q root plies (next_turn turn) asked (after pos board.old.moves)
         → AddsNear (L.seen board.old.look) (L.seen board.new.look) (λ p. (p ≡ turn.target) ⊎ InActiveArea q root p) }
 {
-    let won = attacker_wins(board, turn.next(), plies, asked);
+    let won = attacker_wins(board, turn.next(), plies, asked, known);
     attackers(turn.attacker_to_play, asked, won)
 }
 
@@ -196,11 +249,14 @@ pub fn succeeds<L: Look>(
     p: Point,
     plies: u8,
     asked: Allowances,
+    known: &PointSet,
 ) -> Allowances
     requires room { length board.old.moves + plies < most_moves }
     requires target { turn.target < (L.shows board.old.look).size * (L.shows board.old.look).size }
     requires on_board { p < (L.shows board.old.look).size * (L.shows board.old.look).size }
     requires some { has_some asked ≡ true }
+    requires liberties { (pos : BoardState) → Agrees (L.seen board.old.look) pos
+        → known.now ≡ liberty_points pos.size (after pos board.old.moves).cells turn.target }
     ensures stays { Stays L.shows L.seen board.old board.new }
     ensures over { (pos : BoardState) → Agrees (L.seen board.new.look) pos
         → Tells asked result (λ ko. succeeds plies (under turn ko) (after pos board.old.moves) p) }
@@ -214,43 +270,50 @@ pub fn succeeds<L: Look>(
     match make(board, turn, p, own) {
         Made::Not => Allowances::none(),
         Made::Legal => {
-            let good = has_way(board, turn, plies, asked);
+            let next = liberties_after(board, turn, p, known);
+            let good = has_way(board, turn, plies, asked, next);
             board.back();
             good
         }
         Made::Allowed => {
-            let good = has_way(board, turn, plies, Allowances::neither_alone());
+            let next = liberties_after(board, turn, p, known);
+            let good = has_way(board, turn, plies, Allowances::neither_alone(), next);
             board.back();
             Allowances::own_where(turn.attacker_to_play, good.neither)
         }
     }
 }
 
-/// Those of the asked under which some candidate gives the side to play its way, with `plies` plies left after it. A candidate is
-/// asked only for what those before it left.
+/// Those of the asked under which a play at some point of the set gives the side to play its way, with `plies` plies left after it.
+/// A point is asked only for what those before it left.
 #[cycle(read)]
-fn some_success<L: Look>(
+fn some_of<L: Look>(
     board: &mut Trial<L>,
     turn: Turn,
     plies: u8,
     asked: Allowances,
+    points: &PointSet,
+    known: &PointSet,
 ) -> Allowances
     requires room { length board.old.moves + plies < most_moves }
     requires target { turn.target < (L.shows board.old.look).size * (L.shows board.old.look).size }
     requires some { has_some asked ≡ true }
+    requires liberties { (pos : BoardState) → Agrees (L.seen board.old.look) pos
+        → known.now ≡ liberty_points pos.size (after pos board.old.moves).cells turn.target }
+    requires on_board { (p : ℕ) → IsTrue (set.contains points.now p) → p < (L.shows board.old.look).size * (L.shows board.old.look).size }
     ensures stays { Stays L.shows L.seen board.old board.new }
     ensures over { (pos : BoardState) → Agrees (L.seen board.new.look) pos
-        → Tells asked result (λ ko. is_some (first_success plies (under turn ko) (after pos board.old.moves))) }
+        → TellsBy plies turn (after pos board.old.moves) (set.contains points.now) asked result }
     ensures near { (pos : BoardState) → Agrees (L.seen board.new.look) pos → (q : ReadingQuestion) (root : BoardState)
         → AreNodesOf q root (suc plies) turn asked (after pos board.old.moves)
         → ((ko : Ko) → IsUndecided (under turn ko) (after pos board.old.moves))
+        → ((p : ℕ) → IsTrue (set.contains points.now p) → IsTrue (is_candidate (after pos board.old.moves) turn.target turn.wide p))
         → AddsNear (L.seen board.old.look) (L.seen board.new.look) (InActiveArea q root) }
 {
-    let candidates = candidates(board, turn.target, turn.wide);
     let mut missing = asked;
     let mut next = 0;
-    while let Some(p) = candidates.first_from(next) {
-        let good = succeeds(board, turn, p, plies, missing);
+    while let Some(p) = points.first_from(next) {
+        let good = succeeds(board, turn, p, plies, missing, known);
         missing = missing.without(good);
         if !missing.has_some() {
             return asked;
@@ -260,6 +323,76 @@ fn some_success<L: Look>(
     asked.without(missing)
 }
 
+/// Whether the attacker is to play, and a play that takes no liberty of the target leaves it too many, with `plies` plies left after it.
+fn leaves_too_many(turn: Turn, plies: u8, liberties: u16) -> bool
+    ensures { result ≡ (turn.attacker_to_play && outlasts false plies (turn.wide - 1) liberties) }
+{
+    turn.attacker_to_play && outlasts(false, plies, turn.wide.saturating_sub(1), liberties)
+}
+
+/// Those of the asked under which a candidate off the liberties of the target gives the side to play its way, with `plies` plies left
+/// after it. The candidates are found only here, and not at all where such an attacker's play leaves too many liberties.
+#[cycle(read)]
+fn some_other<L: Look>(
+    board: &mut Trial<L>,
+    turn: Turn,
+    plies: u8,
+    asked: Allowances,
+    known: &PointSet,
+) -> Allowances
+    requires room { length board.old.moves + plies < most_moves }
+    requires target { turn.target < (L.shows board.old.look).size * (L.shows board.old.look).size }
+    requires some { has_some asked ≡ true }
+    requires liberties { (pos : BoardState) → Agrees (L.seen board.old.look) pos
+        → known.now ≡ liberty_points pos.size (after pos board.old.moves).cells turn.target }
+    ensures stays { Stays L.shows L.seen board.old board.new }
+    ensures over { (pos : BoardState) → Agrees (L.seen board.new.look) pos
+        → TellsBy plies turn (after pos board.old.moves) (is_off_liberties turn (after pos board.old.moves)) asked result }
+    ensures near { (pos : BoardState) → Agrees (L.seen board.new.look) pos → (q : ReadingQuestion) (root : BoardState)
+        → AreNodesOf q root (suc plies) turn asked (after pos board.old.moves)
+        → ((ko : Ko) → IsUndecided (under turn ko) (after pos board.old.moves))
+        → AddsNear (L.seen board.old.look) (L.seen board.new.look) (InActiveArea q root) }
+{
+    if leaves_too_many(turn, plies, known.count()) {
+        return Allowances::none();
+    }
+    let candidates = candidates(board, turn.target, turn.wide);
+    let others = apart_from(&candidates, known);
+    some_of(board, turn, plies, asked, &others, known)
+}
+
+/// Those of the asked under which some candidate gives the side to play its way, with `plies` plies left after it. The liberties of the
+/// target are tried first; the other candidates are found only where these leave something.
+#[cycle(read)]
+fn some_success<L: Look>(
+    board: &mut Trial<L>,
+    turn: Turn,
+    plies: u8,
+    asked: Allowances,
+    known: &PointSet,
+) -> Allowances
+    requires room { length board.old.moves + plies < most_moves }
+    requires target { turn.target < (L.shows board.old.look).size * (L.shows board.old.look).size }
+    requires some { has_some asked ≡ true }
+    requires liberties { (pos : BoardState) → Agrees (L.seen board.old.look) pos
+        → known.now ≡ liberty_points pos.size (after pos board.old.moves).cells turn.target }
+    ensures stays { Stays L.shows L.seen board.old board.new }
+    ensures over { (pos : BoardState) → Agrees (L.seen board.new.look) pos
+        → Tells asked result (λ ko. is_some (first_success plies (under turn ko) (after pos board.old.moves))) }
+    ensures near { (pos : BoardState) → Agrees (L.seen board.new.look) pos → (q : ReadingQuestion) (root : BoardState)
+        → AreNodesOf q root (suc plies) turn asked (after pos board.old.moves)
+        → ((ko : Ko) → IsUndecided (under turn ko) (after pos board.old.moves))
+        → AddsNear (L.seen board.old.look) (L.seen board.new.look) (InActiveArea q root) }
+{
+    let good = some_of(board, turn, plies, asked, known, known);
+    let missing = asked.without(good);
+    if !missing.has_some() {
+        return asked;
+    }
+    let rest = some_other(board, turn, plies, missing, known);
+    asked.without(missing.without(rest))
+}
+
 /// Those of the asked under which the defender's pass saves the target, with `plies` plies left after it.
 #[cycle(read)]
 pub fn pass_saves<L: Look>(
@@ -267,10 +400,13 @@ pub fn pass_saves<L: Look>(
     turn: Turn,
     plies: u8,
     asked: Allowances,
+    known: &PointSet,
 ) -> Allowances
     requires room { length board.old.moves + plies < most_moves }
     requires target { turn.target < (L.shows board.old.look).size * (L.shows board.old.look).size }
     requires some { has_some asked ≡ true }
+    requires liberties { (pos : BoardState) → Agrees (L.seen board.old.look) pos
+        → known.now ≡ liberty_points pos.size (after pos board.old.moves).cells turn.target }
     requires defender { turn.attacker_to_play ≡ false }
     ensures stays { Stays L.shows L.seen board.old board.new }
     ensures over { (pos : BoardState) → Agrees (L.seen board.new.look) pos
@@ -280,7 +416,7 @@ pub fn pass_saves<L: Look>(
         → AddsNear (L.seen board.old.look) (L.seen board.new.look) (InActiveArea q root) }
 {
     board.pass();
-    let good = has_way(board, turn, plies, asked);
+    let good = has_way(board, turn, plies, asked, Some(copy_of(known)));
     board.back();
     good
 }
@@ -292,10 +428,13 @@ fn has_good_move<L: Look>(
     turn: Turn,
     plies: u8,
     asked: Allowances,
+    known: &PointSet,
 ) -> Allowances
     requires room { length board.old.moves + plies < most_moves }
     requires target { turn.target < (L.shows board.old.look).size * (L.shows board.old.look).size }
     requires some { has_some asked ≡ true }
+    requires liberties { (pos : BoardState) → Agrees (L.seen board.old.look) pos
+        → known.now ≡ liberty_points pos.size (after pos board.old.moves).cells turn.target }
     ensures stays { Stays L.shows L.seen board.old board.new }
     ensures over { (pos : BoardState) → Agrees (L.seen board.new.look) pos → ((ko : Ko) → IsUndecided (under turn ko) (after pos board.old.moves))
         → Tells asked result (λ ko. is_some (good_move plies (under turn ko) (after pos board.old.moves))) }
@@ -305,13 +444,13 @@ fn has_good_move<L: Look>(
         → AddsNear (L.seen board.old.look) (L.seen board.new.look) (InActiveArea q root) }
 {
     if turn.attacker_to_play {
-        return some_success(board, turn, plies, asked);
+        return some_success(board, turn, plies, asked, known);
     }
-    let lost = asked.without(pass_saves(board, turn, plies, asked));
+    let lost = asked.without(pass_saves(board, turn, plies, asked, known));
     if !lost.has_some() {
         return asked;
     }
-    asked.without(lost.without(some_success(board, turn, plies, lost)))
+    asked.without(lost.without(some_success(board, turn, plies, lost, known)))
 }
 
 /// Those of the asked under which the target is captured, with `plies` plies left.
@@ -321,10 +460,13 @@ fn attacker_wins<L: Look>(
     turn: Turn,
     plies: u8,
     asked: Allowances,
+    known: Option<PointSet>,
 ) -> Allowances
     requires room { length board.old.moves + plies ≤ most_moves }
     requires target { turn.target < (L.shows board.old.look).size * (L.shows board.old.look).size }
     requires some { has_some asked ≡ true }
+    requires liberties { IfSome known (λ found. (pos : BoardState) → Agrees (L.seen board.old.look) pos
+        → found ≡ liberty_points pos.size (after pos board.old.moves).cells turn.target) }
     ensures stays { Stays L.shows L.seen board.old board.new }
     ensures over { (pos : BoardState) → Agrees (L.seen board.new.look) pos
         → Tells asked result (λ ko. attacker_wins plies (under turn ko) (after pos board.old.moves)) }
@@ -338,11 +480,12 @@ fn attacker_wins<L: Look>(
     if plies == 0 {
         return Allowances::none();
     }
-    match outlook_of(board, turn, plies) {
+    let known = liberties_known(board, turn.target, known);
+    match outlook_of(board, turn, plies, &known) {
         Outlook::Safe => Allowances::none(),
         Outlook::Taken => asked,
         Outlook::Open => {
-            let good = has_good_move(board, turn, plies - 1, asked);
+            let good = has_good_move(board, turn, plies - 1, asked, &known);
             attackers(turn.attacker_to_play, asked, good)
         }
     }

@@ -1,5 +1,5 @@
 -- A play that is done leaves the liberties of its stone; one that is refused leaves none.
-use Rattle.std.proofs.Common.{◌≡◌, ◌*◌, ◌<◌, ap, sym, subst, ◌∙◌}
+use Rattle.std.proofs.Common.{◌*◌, ◌<◌, ap, sym, subst, ◌∙◌}
 use Rattle.go_base.specs.Facts.{agrees_before, AddsIn-trans, AddsIn-mono, same_size}
 use Rattle.trial_board.specs.Trials.{after}
 use Rattle.trial_board.proofs.AfterLemmas.{size-after}

@@ -84,26 +84,29 @@ returns-then-turn-clause-over g c = λ pos a about.
     let q = c.args.question.now in
     let here = after pos c.args.board.now.moves in
     let some : q.plies ≢ 0 = omega (arith, c.requires.plies) in
-    let a1 = agrees_before c.best_point.ensures.stays.grows a in
+    let a1 = agrees_before c.liberties-known.ensures.stays.grows (agrees_before c.best_point.ensures.stays.grows a) in
     let few = sym (rw c.first_turn-turn.ensures at (c.has_too_many.ensures.over pos a1)) ∙ c.if-has_too_many.false in
     let attacks = turn_of c.first_turn-turn.ensures c.if-turn.true in
     let und = undecided_at q.plies (first_turn q) here pos.size (size-after pos c.args.board.now.moves) (about_stands q here about) few in
     best_answer q here c.best_point.result some about (and_off_right (is_attack q.kind) _ ((und neither_may).few attacks))
-    ((rw (c.has_too_many.ensures.stays.moves, c.first_turn-turn.ensures) at (c.best_point.ensures.over pos a)) (best_nothing (q.plies - 1) (first_turn q) here attacks))
+    ((rw (c.liberties-known.ensures.stays.moves, c.has_too_many.ensures.stays.moves, c.first_turn-turn.ensures) at (c.best_point.ensures.over pos a)) (best_nothing (q.plies - 1) (first_turn q) here attacks))
 
 pub returns-then-turn-clause-near : goal.returns-then-turn-clause-near
 returns-then-turn-clause-near g c = λ pos a about.
     let q = c.args.question.now in
     let here = after pos c.args.board.now.moves in
     let some : q.plies ≢ 0 = omega (arith, c.requires.plies) in
-    let a1 = agrees_before c.best_point.ensures.stays.grows a in
+    let ak = agrees_before c.best_point.ensures.stays.grows a in
+    let a1 = agrees_before c.liberties-known.ensures.stays.grows ak in
     let a0 = agrees_before c.has_too_many.ensures.stays.grows a1 in
     let few = sym (rw c.first_turn-turn.ensures at (c.has_too_many.ensures.over pos a1)) ∙ c.if-has_too_many.false in
     let inside = target_on pos.size (g.L.Look.shows c.args.board.now.look).size q.target (same_size (g.met.L.Look.sized c.args.board.now.look) a0) c.requires.target in
     AddsNear-trans
-    (AddsNear-in (InActiveArea q here) (rw c.first_turn-turn.ensures at (c.has_too_many.ensures.near pos a1))
+    (AddsNear-trans (AddsNear-in (InActiveArea q here) (rw c.first_turn-turn.ensures at (c.has_too_many.ensures.near pos a1))
     (area_once q here here (suc (q.plies - 1)) (under (first_turn q) neither_may) ((first_nodes q here some).each neither_may (has_all neither_may)) pos.size (size-after pos c.args.board.now.moves) inside (about_stands q here about)))
-    ((rw (c.has_too_many.ensures.stays.moves, c.first_turn-turn.ensures) at (c.best_point.ensures.near pos a q here)) (first_nodes q here some)
+    (AddsNear-in (InActiveArea q here) (rw (c.has_too_many.ensures.stays.moves, c.first_turn-turn.ensures) at (c.liberties-known.ensures.near pos ak))
+    (area_once q here here (suc (q.plies - 1)) (under (first_turn q) neither_may) ((first_nodes q here some).each neither_may (has_all neither_may)) pos.size (size-after pos c.args.board.now.moves) inside (about_stands q here about))))
+    ((rw (c.liberties-known.ensures.stays.moves, c.has_too_many.ensures.stays.moves, c.first_turn-turn.ensures) at (c.best_point.ensures.near pos a q here)) (first_nodes q here some)
     (undecided_at q.plies (first_turn q) here pos.size (size-after pos c.args.board.now.moves) (about_stands q here about) few))
 
 -- the defender's pass saves under each allowance
@@ -112,7 +115,7 @@ returns-then-best-eq3-clause-over g c = λ pos a about.
     let q = c.args.question.now in
     let here = after pos c.args.board.now.moves in
     let some : q.plies ≢ 0 = omega (arith, c.requires.plies) in
-    let saved = rw (c.has_too_many.ensures.stays.moves, c.all.ensures, c.first_turn-turn.ensures) at (c.pass_saves-saved.ensures.over pos a) in
+    let saved = rw (c.liberties-known.ensures.stays.moves, c.has_too_many.ensures.stays.moves, c.all.ensures, c.first_turn-turn.ensures) at (c.pass_saves-saved.ensures.over pos a) in
     best_answer q here c.better-best.result some about (and_off (is_attack q.kind) _ (turn_of c.first_turn-turn.ensures c.if-turn.false))
     (best_three (q.plies - 1) (first_turn q) here nowhere c.better-best.result (rw (c.better-best.ensures.is, c.first_turn-turn.ensures) (best_pass (q.plies - 1) (first_turn q) here c.pass_saves-saved.result saved)) c.if-best-eq3.true (is_candidate here q.target q.wide))
 
@@ -121,13 +124,16 @@ returns-then-best-eq3-clause-near g c = λ pos a about.
     let q = c.args.question.now in
     let here = after pos c.args.board.now.moves in
     let some : q.plies ≢ 0 = omega (arith, c.requires.plies) in
-    let a1 = agrees_before c.pass_saves-saved.ensures.stays.grows a in
+    let ak = agrees_before c.pass_saves-saved.ensures.stays.grows a in
+    let a1 = agrees_before c.liberties-known.ensures.stays.grows ak in
     let a0 = agrees_before c.has_too_many.ensures.stays.grows a1 in
     let inside = target_on pos.size (g.L.Look.shows c.args.board.now.look).size q.target (same_size (g.met.L.Look.sized c.args.board.now.look) a0) c.requires.target in
     AddsNear-trans
-    (AddsNear-in (InActiveArea q here) (rw c.first_turn-turn.ensures at (c.has_too_many.ensures.near pos a1))
+    (AddsNear-trans (AddsNear-in (InActiveArea q here) (rw c.first_turn-turn.ensures at (c.has_too_many.ensures.near pos a1))
     (area_once q here here (suc (q.plies - 1)) (under (first_turn q) neither_may) ((first_nodes q here some).each neither_may (has_all neither_may)) pos.size (size-after pos c.args.board.now.moves) inside (about_stands q here about)))
-    ((rw (c.has_too_many.ensures.stays.moves, c.all.ensures, c.first_turn-turn.ensures) at (c.pass_saves-saved.ensures.near pos a q here)) (first_nodes q here some) (about_stands q here about))
+    (AddsNear-in (InActiveArea q here) (rw (c.has_too_many.ensures.stays.moves, c.first_turn-turn.ensures) at (c.liberties-known.ensures.near pos ak))
+    (area_once q here here (suc (q.plies - 1)) (under (first_turn q) neither_may) ((first_nodes q here some).each neither_may (has_all neither_may)) pos.size (size-after pos c.args.board.now.moves) inside (about_stands q here about))))
+    ((rw (c.liberties-known.ensures.stays.moves, c.has_too_many.ensures.stays.moves, c.all.ensures, c.first_turn-turn.ensures) at (c.pass_saves-saved.ensures.near pos a q here)) (first_nodes q here some) (about_stands q here about))
 
 -- the pass, and then the defender's plays
 pub returns-clause-over : goal.returns-clause-over
@@ -136,9 +142,9 @@ returns-clause-over g c = λ pos a about.
     let here = after pos c.args.board.now.moves in
     let some : q.plies ≢ 0 = omega (arith, c.requires.plies) in
     let a1 = agrees_before c.best_point-2.ensures.stays.grows a in
-    let saved = rw (c.has_too_many.ensures.stays.moves, c.all.ensures, c.first_turn-turn.ensures) at (c.pass_saves-saved.ensures.over pos a1) in
+    let saved = rw (c.liberties-known.ensures.stays.moves, c.has_too_many.ensures.stays.moves, c.all.ensures, c.first_turn-turn.ensures) at (c.pass_saves-saved.ensures.over pos a1) in
     best_answer q here c.best_point-2.result some about (and_off (is_attack q.kind) _ (turn_of c.first_turn-turn.ensures c.if-turn.false))
-    ((rw (c.pass_saves-saved.ensures.stays.moves, c.has_too_many.ensures.stays.moves, c.first_turn-turn.ensures) at (c.best_point-2.ensures.over pos a)) (rw (c.better-best.ensures.is, c.first_turn-turn.ensures) (best_pass (q.plies - 1) (first_turn q) here c.pass_saves-saved.result saved)))
+    ((rw (c.pass_saves-saved.ensures.stays.moves, c.liberties-known.ensures.stays.moves, c.has_too_many.ensures.stays.moves, c.first_turn-turn.ensures) at (c.best_point-2.ensures.over pos a)) (rw (c.better-best.ensures.is, c.first_turn-turn.ensures) (best_pass (q.plies - 1) (first_turn q) here c.pass_saves-saved.result saved)))
 
 pub returns-clause-near : goal.returns-clause-near
 returns-clause-near g c = λ pos a about.
@@ -146,12 +152,15 @@ returns-clause-near g c = λ pos a about.
     let here = after pos c.args.board.now.moves in
     let some : q.plies ≢ 0 = omega (arith, c.requires.plies) in
     let a1 = agrees_before c.best_point-2.ensures.stays.grows a in
-    let a2 = agrees_before c.pass_saves-saved.ensures.stays.grows a1 in
+    let ak = agrees_before c.pass_saves-saved.ensures.stays.grows a1 in
+    let a2 = agrees_before c.liberties-known.ensures.stays.grows ak in
     let a0 = agrees_before c.has_too_many.ensures.stays.grows a2 in
     let stands = about_stands q here about in
     let inside = target_on pos.size (g.L.Look.shows c.args.board.now.look).size q.target (same_size (g.met.L.Look.sized c.args.board.now.look) a0) c.requires.target in
     AddsNear-trans (AddsNear-trans
-    (AddsNear-in (InActiveArea q here) (rw c.first_turn-turn.ensures at (c.has_too_many.ensures.near pos a2))
+    (AddsNear-trans (AddsNear-in (InActiveArea q here) (rw c.first_turn-turn.ensures at (c.has_too_many.ensures.near pos a2))
     (area_once q here here (suc (q.plies - 1)) (under (first_turn q) neither_may) ((first_nodes q here some).each neither_may (has_all neither_may)) pos.size (size-after pos c.args.board.now.moves) inside stands))
-    ((rw (c.has_too_many.ensures.stays.moves, c.all.ensures, c.first_turn-turn.ensures) at (c.pass_saves-saved.ensures.near pos a1 q here)) (first_nodes q here some) stands))
-    ((rw (c.pass_saves-saved.ensures.stays.moves, c.has_too_many.ensures.stays.moves, c.first_turn-turn.ensures) at (c.best_point-2.ensures.near pos a q here)) (first_nodes q here some) (λ ko. undecided_defender stands (turn_of c.first_turn-turn.ensures c.if-turn.false)))
+    (AddsNear-in (InActiveArea q here) (rw (c.has_too_many.ensures.stays.moves, c.first_turn-turn.ensures) at (c.liberties-known.ensures.near pos ak))
+    (area_once q here here (suc (q.plies - 1)) (under (first_turn q) neither_may) ((first_nodes q here some).each neither_may (has_all neither_may)) pos.size (size-after pos c.args.board.now.moves) inside stands)))
+    ((rw (c.liberties-known.ensures.stays.moves, c.has_too_many.ensures.stays.moves, c.all.ensures, c.first_turn-turn.ensures) at (c.pass_saves-saved.ensures.near pos a1 q here)) (first_nodes q here some) stands))
+    ((rw (c.pass_saves-saved.ensures.stays.moves, c.liberties-known.ensures.stays.moves, c.has_too_many.ensures.stays.moves, c.first_turn-turn.ensures) at (c.best_point-2.ensures.near pos a q here)) (first_nodes q here some) (λ ko. undecided_defender stands (turn_of c.first_turn-turn.ensures c.if-turn.false)))

@@ -1,10 +1,11 @@
-use Rattle.std.proofs.Common.{◌≡◌, ◌+◌, ◌-◌, ◌*◌, suc, true}
+use Rattle.std.proofs.Common.{◌≡◌, ℕ, ◌+◌, ◌-◌, ◌*◌, suc, true}
 use Rattle.std.specs.FinSet as set
 use Rattle.go_rules.specs.Board.{largest_points}
 use Rattle.go_rules.specs.Position.{BoardState}
 use Rattle.go_base.specs.Facts.{Agrees, Grows}
 use Rattle.trial_board.specs.Trials.{Stays, after}
 use Rattle.read_rules.specs.declared.question.ReadingQuestion.{ReadingQuestion}
+use Rattle.read_rules.specs.Candidates.{is_candidate}
 use Rattle.read_rules.specs.ActiveArea.{IsUndecided, InActiveArea, AddsNear}
 use Rattle.read_tree.specs.Allowances.{Ko, has_some, under}
 use Rattle.read_tree.specs.Steps.{AreNodesOf, IsLeft}
@@ -12,36 +13,43 @@ use Rattle.read_tree.proofs.tree.+read.Given as goal
 
 -- each step down the tree spends a ply, and within a node the order of the calls is fixed
 abbrev pub decreases-attacker_wins : goal.decreases-attacker_wins
-decreases-attacker_wins g l = 6 * l.plies
+decreases-attacker_wins g l = 8 * l.plies
 
 abbrev pub decreases-has_way : goal.decreases-has_way
-decreases-has_way g l = 6 * l.plies + 1
+decreases-has_way g l = 8 * l.plies + 1
 
 abbrev pub decreases-succeeds : goal.decreases-succeeds
-decreases-succeeds g l = 6 * l.plies + 2
+decreases-succeeds g l = 8 * l.plies + 2
 
 abbrev pub decreases-pass_saves : goal.decreases-pass_saves
-decreases-pass_saves g l = 6 * l.plies + 2
+decreases-pass_saves g l = 8 * l.plies + 2
+
+abbrev pub decreases-some_of : goal.decreases-some_of
+decreases-some_of g l = 8 * l.plies + 3
+
+abbrev pub decreases-some_other : goal.decreases-some_other
+decreases-some_other g l = 8 * l.plies + 4
 
 abbrev pub decreases-some_success : goal.decreases-some_success
-decreases-some_success g l = 6 * l.plies + 3
+decreases-some_success g l = 8 * l.plies + 5
 
 abbrev pub decreases-has_good_move : goal.decreases-has_good_move
-decreases-has_good_move g l = 6 * l.plies + 4
+decreases-has_good_move g l = 8 * l.plies + 6
 
--- what is missing is what no candidate before the next one gave, on any position that agrees
-abbrev pub invariant-some_success-loop-p : goal.invariant-some_success-loop-p
-invariant-some_success-loop-p g l = record {
+-- what is missing is what no point before the next one gave, on any position that agrees
+abbrev pub invariant-some_of-loop-p : goal.invariant-some_of-loop-p
+invariant-some_of-loop-p g l = record {
   stays : Stays g.L.Look.shows g.L.Look.seen l.fn.board l.board;
   grows : Grows (g.L.Look.seen l.initial.board.look) (g.L.Look.seen l.board.look);
   some : has_some l.missing ≡ true;
   near : (pos : BoardState) → Agrees (g.L.Look.seen l.board.look) pos → (q : ReadingQuestion) (root : BoardState)
       → AreNodesOf q root (suc l.plies) l.turn l.asked (after pos l.fn.board.moves) → ((ko : Ko) → IsUndecided (under l.turn ko) (after pos l.fn.board.moves))
+      → ((p : ℕ) → set.contains l.points p ≡ true → is_candidate (after pos l.fn.board.moves) l.turn.target l.turn.wide p ≡ true)
       → AddsNear (g.L.Look.seen l.fn.board.look) (g.L.Look.seen l.board.look) (InActiveArea q root);
   left : (pos : BoardState) → Agrees (g.L.Look.seen l.board.look) pos
-      → IsLeft l.plies l.turn (after pos l.fn.board.moves) (set.contains l.candidates) l.next l.asked l.missing;
+      → IsLeft l.plies l.turn (after pos l.fn.board.moves) (set.contains l.points) l.next l.asked l.missing;
 }
 
 -- how many points are left
-abbrev pub decreases-some_success-loop-p : goal.decreases-some_success-loop-p
-decreases-some_success-loop-p g l = largest_points - l.next
+abbrev pub decreases-some_of-loop-p : goal.decreases-some_of-loop-p
+decreases-some_of-loop-p g l = largest_points - l.next

@@ -2,7 +2,7 @@
 use Rattle.std.proofs.Common.{◌∙◌, ℕ, ap, sym}
 use Rattle.std.specs.FinSet as set
 use Rattle.go_base.proofs.Liberties.{len-liberty_points}
-use Rattle.go_base.specs.Facts.{agrees_before, AddsIn-trans, AddsIn-mono, same_size}
+use Rattle.go_base.specs.Facts.{agrees_before, AddsIn-mono, same_size}
 use Rattle.trial_board.specs.Trials.{after}
 use Rattle.read_tree.specs.Bound.{outlasts}
 use Rattle.read_tree.proofs.TakeLemmas.{near_liberty}
@@ -12,21 +12,21 @@ use Rattle.read_tree.proofs.tree.outlook_of.Goals as goal
 pub returns-then-outlasts-clause-over : goal.returns-then-outlasts-clause-over
 returns-then-outlasts-clause-over g c = λ pos a.
     ap (λ (n : ℕ). outlasts c.args.turn.attacker_to_play c.args.plies c.args.turn.wide n)
-    (sym (c.count.ensures.value ∙ ap set.len (c.liberties-liberties.ensures.over pos a) ∙ len-liberty_points pos.size (after pos c.args.board.now.moves).cells c.args.turn.target))
+    (sym (c.count.ensures.value ∙ ap set.len (c.requires.liberties pos a) ∙ len-liberty_points pos.size (after pos c.args.board.now.moves).cells c.args.turn.target))
     ∙ sym c.outlasts.ensures ∙ c.if-outlasts.true
 
 pub returns-then-can_take-clause-over : goal.returns-then-can_take-clause-over
 returns-then-can_take-clause-over g c = λ pos a.
     let a0 = agrees_before c.can_take.ensures.stays.grows a in
     ap (λ (n : ℕ). outlasts c.args.turn.attacker_to_play c.args.plies c.args.turn.wide n)
-    (sym (c.count.ensures.value ∙ ap set.len (c.liberties-liberties.ensures.over pos a0) ∙ len-liberty_points pos.size (after pos c.args.board.now.moves).cells c.args.turn.target))
+    (sym (c.count.ensures.value ∙ ap set.len (c.requires.liberties pos a0) ∙ len-liberty_points pos.size (after pos c.args.board.now.moves).cells c.args.turn.target))
     ∙ sym c.outlasts.ensures ∙ c.if-outlasts.false
 
 pub returns-clause-over : goal.returns-clause-over
 returns-clause-over g c = λ pos a.
     let a0 = agrees_before c.can_take.ensures.stays.grows a in
     ap (λ (n : ℕ). outlasts c.args.turn.attacker_to_play c.args.plies c.args.turn.wide n)
-    (sym (c.count.ensures.value ∙ ap set.len (c.liberties-liberties.ensures.over pos a0) ∙ len-liberty_points pos.size (after pos c.args.board.now.moves).cells c.args.turn.target))
+    (sym (c.count.ensures.value ∙ ap set.len (c.requires.liberties pos a0) ∙ len-liberty_points pos.size (after pos c.args.board.now.moves).cells c.args.turn.target))
     ∙ sym c.outlasts.ensures ∙ c.if-outlasts.false
 
 -- the target and its liberties lie in its neighbourhood
@@ -35,15 +35,20 @@ returns-then-can_take-clause-near g c = λ pos a.
     let a0 = agrees_before c.can_take.ensures.stays.grows a in
     let cells = (after pos c.args.board.now.moves).cells in
     let t = c.args.turn.target in
-    let on = target_on pos.size (g.L.Look.shows c.args.board.now.look).size t (same_size (g.met.L.Look.sized c.args.board.now.look) (agrees_before c.liberties-liberties.ensures.stays.grows a0)) c.requires in
-    AddsIn-trans (c.liberties-liberties.ensures.near pos a0)
-    (AddsIn-mono c.can_take.ensures.near (λ p h. near_liberty pos.size cells t p c.liberties-liberties.result on (c.liberties-liberties.ensures.over pos a0) h))
+    let on = target_on pos.size (g.L.Look.shows c.args.board.now.look).size t (same_size (g.met.L.Look.sized c.args.board.now.look) a0) c.requires.target in
+    AddsIn-mono c.can_take.ensures.near (λ p h. near_liberty pos.size cells t p c.args.known.now on (c.requires.liberties pos a0) h)
 
 pub returns-clause-near : goal.returns-clause-near
 returns-clause-near g c = λ pos a.
     let a0 = agrees_before c.can_take.ensures.stays.grows a in
     let cells = (after pos c.args.board.now.moves).cells in
     let t = c.args.turn.target in
-    let on = target_on pos.size (g.L.Look.shows c.args.board.now.look).size t (same_size (g.met.L.Look.sized c.args.board.now.look) (agrees_before c.liberties-liberties.ensures.stays.grows a0)) c.requires in
-    AddsIn-trans (c.liberties-liberties.ensures.near pos a0)
-    (AddsIn-mono c.can_take.ensures.near (λ p h. near_liberty pos.size cells t p c.liberties-liberties.result on (c.liberties-liberties.ensures.over pos a0) h))
+    let on = target_on pos.size (g.L.Look.shows c.args.board.now.look).size t (same_size (g.met.L.Look.sized c.args.board.now.look) a0) c.requires.target in
+    AddsIn-mono c.can_take.ensures.near (λ p h. near_liberty pos.size cells t p c.args.known.now on (c.requires.liberties pos a0) h)
+
+-- the position shown is one that agrees
+pub can_take-requires : goal.can_take-requires
+can_take-requires g c = record {
+  target = c.requires.target;
+  liberties = c.requires.liberties (g.L.Look.shows c.args.board.now.look) (g.met.L.Look.holds c.args.board.now.look);
+}

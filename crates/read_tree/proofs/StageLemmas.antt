@@ -1,0 +1,238 @@
+-- Stages of candidates: the liberties of the target, and then the others.
+use Rattle.std.proofs.Common.{◌≡◌, ℕ, ◌+◌, ◌-◌, ◌*◌, ◌<◌, ◌≤◌, Bool, true, false, not, ◌&&◌, ◌||◌, ltb, List, Option, Some, None, is_some, refl, sym, ap, subst, ◌∙◌, arith, inl, inr}
+use Rattle.std.proofs.lemmas.Bool.{cases_Bool, cases_eq, cases_lt, both_ways, and_parts, and_from, or_left, lt-ltb, le-ltb, eq-eqb, ne_eqb}
+use Rattle.go_rules.proofs.Sets.{contains-insert_nat}
+use Rattle.std.specs.Ordering.{nat_cmp}
+use Rattle.std.specs.FinSet as sets
+use Rattle.go_rules.specs.declared.Cell.{Cell}
+use Rattle.go_rules.specs.Strings.{is_liberty, liberties, liberty_points}
+use Rattle.go_rules.proofs.Paths.{IsLiberty-from_test}
+use Rattle.go_base.proofs.LastLiberties.{contains-liberty_points}
+use Rattle.go_base.proofs.Liberties.{len-liberty_points}
+use Rattle.go_rules.specs.Position.{BoardState}
+use Rattle.read_rules.specs.declared.node.Node.{Node}
+use Rattle.read_rules.specs.Candidates.{is_candidate}
+use Rattle.read_rules.specs.GameTree.{attacker_wins, child_of, mover_of, next_node, some_child, suits, succeeds, first_success}
+use Rattle.go_base.specs.Facts.{Fact}
+use Rattle.read_rules.specs.ActiveArea.{AddsNear}
+use Rattle.read_rules.proofs.CandidateLaws.{candidate_on}
+use Rattle.read_rules.proofs.RuleLemmas.{child_gives}
+use Rattle.read_rules.proofs.WinLemmas.{first_success-none}
+use Rattle.read_tree.specs.declared.turn.Turn.{Turn}
+use Rattle.read_tree.specs.declared.allowances.Allowances.{Allowances}
+use Rattle.read_tree.specs.Allowances.{Ko, has, has_some, under, without, Tells}
+use Rattle.read_tree.specs.Bound.{outlasts}
+use Rattle.read_tree.specs.Steps.{IsLeft, TellsBy, is_off_liberties}
+use Rattle.read_tree.proofs.AllowanceLemmas.{none_of, has-without, success_some, and_parts_not, and_false_right, and_true, has_none}
+use Rattle.read_tree.proofs.LibertyLemmas.{bounded, child_free, play_size, play_takes_none, more_outlasts}
+
+-- a liberty of the target is a candidate
+pub liberty_is_candidate : (here : BoardState) (t k p : ℕ) → is_liberty here.size here.cells t p ≡ true → is_candidate here t k p ≡ true
+unfolding is_candidate
+liberty_is_candidate here t k p h = or_left _ _ (or_left _ _ (or_left _ _ h))
+
+-- nothing came
+pub nothing_near : (seen : Fact → Bool) (S : ℕ → Type 0) → AddsNear seen seen S
+nothing_near seen S = record { added = λ fact i. inl i }
+
+-- The walk over a set of points, at one turn.
+module _ (n : ℕ) (turn : Turn) (here : BoardState) (points : ℕ → Bool) where
+  -- all that was asked is given
+  pub by_done : (next : ℕ) (asked missing : Allowances) → IsLeft n turn here points next asked missing → has_some missing ≡ false → TellsBy n turn here points asked asked
+  by_done next asked missing left none = record {
+    asked_for = λ ko h. h;
+    given = λ ko a. left.given ko a (none_of missing ko none);
+    none = λ ko a f. absurd (both_ways (has asked ko) f a);
+  }
+
+  -- no point is left
+  pub by_over : (next : ℕ) (asked missing : Allowances) → IsLeft n turn here points next asked missing → ((q : ℕ) → next ≤ q → points q ≡ false)
+      → TellsBy n turn here points asked (without asked missing)
+  by_over next asked missing left rest = record {
+    asked_for = λ ko h. (and_parts_not _ _ (sym (has-without asked missing ko) ∙ h)).0;
+    given = λ ko h. let parts = and_parts_not _ _ (sym (has-without asked missing ko) ∙ h) in left.given ko parts.0 parts.1;
+    none = λ ko a f q.
+        let miss = left_of (has asked ko) (has missing ko) a (sym (has-without asked missing ko) ∙ f) in
+        elim (cases_lt q next) [
+          | inl before ↦ left.none ko miss q before
+          | inr past ↦ ap (λ b. b && succeeds n (under turn ko) here q) (rest q past)
+        ];
+  }
+    where
+      left_of : (a m : Bool) → a ≡ true → (a && not m) ≡ false → m ≡ true
+      left_of true true e h = refl
+      left_of true false e h = cc
+      left_of false m e h = cc
+
+  -- none gives it
+  pub by_none : (asked : Allowances) → ((ko : Ko) (q : ℕ) → (points q && succeeds n (under turn ko) here q) ≡ false)
+      → TellsBy n turn here points asked (record { defender = false; neither = false; attacker = false })
+  by_none asked none = record {
+    asked_for = λ ko h. absurd (both_ways _ (has_none ko) h);
+    given = λ ko h. absurd (both_ways _ (has_none ko) h);
+    none = λ ko a f. none ko;
+  }
+
+  -- the same points by another test
+  pub by_same : (others : ℕ → Bool) (asked found : Allowances) → ((q : ℕ) → points q ≡ others q) → TellsBy n turn here points asked found → TellsBy n turn here others asked found
+  by_same others asked found same t = record {
+    asked_for = t.asked_for;
+    given = λ ko h. let w = t.given ko h in (w.0, sym (same w.0) ∙ w.1, w.2);
+    none = λ ko a f q. ap (λ b. b && succeeds n (under turn ko) here q) (sym (same q)) ∙ t.none ko a f q;
+  }
+
+-- The liberties of the target were tried.
+module _ (n : ℕ) (turn : Turn) (here : BoardState) (asked good : Allowances)
+    (first : TellsBy n turn here (is_liberty here.size here.cells turn.target) asked good) where
+  -- what a liberty gives is given by a candidate
+  by_liberty : (ko : Ko) → has good ko ≡ true → is_some (first_success n (under turn ko) here) ≡ true
+  by_liberty ko h = let w = first.given ko h in success_some n (under turn ko) here w.0 (liberty_is_candidate here turn.target turn.wide w.0 w.1) w.2
+
+  -- they left nothing
+  pub stage_done : has_some (without asked good) ≡ false → Tells asked asked (λ ko. is_some (first_success n (under turn ko) here))
+  stage_done none = record {
+    each = λ ko. and_true _ _ (λ a. by_liberty ko (all_good (has asked ko) (has good ko) a (sym (has-without asked good ko) ∙ none_of (without asked good) ko none)));
+  }
+    where
+      all_good : (a g : Bool) → a ≡ true → (a && not g) ≡ false → g ≡ true
+      all_good true true e h = refl
+      all_good true false e h = cc
+      all_good false g e h = cc
+
+  -- and then the other candidates
+  pub stage_over : (rest : Allowances) → TellsBy n turn here (is_off_liberties turn here) (without asked good) rest
+      → Tells asked (without asked (without (without asked good) rest)) (λ ko. is_some (first_success n (under turn ko) here))
+  stage_over rest second = record {
+    each = λ ko.
+        let e = has-without asked good ko in
+        has-without asked (without (without asked good) rest) ko
+        ∙ ap (λ x. has asked ko && not x) (has-without (without asked good) rest ko ∙ ap (λ x. x && not (has rest ko)) e)
+        ∙ sorted (has asked ko) (has good ko) (has rest ko) _ (by_liberty ko) (by_other ko)
+        (λ a g r. none_at ko a g r (e ∙ left_over (has asked ko) (has good ko) a g));
+  }
+    where
+      by_other : (ko : Ko) → has rest ko ≡ true → is_some (first_success n (under turn ko) here) ≡ true
+      by_other ko h = let w = second.given ko h in success_some n (under turn ko) here w.0 (and_parts _ _ w.1).0 w.2
+
+      left_over : (a g : Bool) → a ≡ true → g ≡ false → (a && not g) ≡ true
+      left_over true true ea eg = cc
+      left_over true false ea eg = refl
+      left_over false g ea eg = cc
+
+      -- a candidate is a liberty or another
+      fails : (l c s : Bool) → (l && s) ≡ false → ((c && not l) && s) ≡ false → (c && s) ≡ false
+      fails true true s a b = a
+      fails true false s a b = refl
+      fails false true s a b = b
+      fails false false s a b = refl
+
+      off_board : (q : ℕ) → here.size * here.size ≤ q → is_candidate here turn.target turn.wide q ≡ false
+      off_board q past = elim (cases_Bool (is_candidate here turn.target turn.wide q)) [
+        | inl t ↦ let on = candidate_on here turn.target turn.wide q t in absurd (omega (arith, on, past))
+        | inr f ↦ f
+      ]
+
+      none_at : (ko : Ko) → has asked ko ≡ true → has good ko ≡ false → has rest ko ≡ false → has (without asked good) ko ≡ true → is_some (first_success n (under turn ko) here) ≡ false
+      none_at ko a g r left = sym (ap is_some (first_success-none n (under turn ko) here (here.size * here.size) (is_candidate here turn.target turn.wide) (λ q. refl)
+          (λ q below. fails (is_liberty here.size here.cells turn.target q) (is_candidate here turn.target turn.wide q) (succeeds n (under turn ko) here q)
+          (first.none ko a g q) (second.none ko left r q))
+          (λ q past. off_board q past)))
+
+      sorted : (a g r f : Bool) → (g ≡ true → f ≡ true) → (r ≡ true → f ≡ true) → (a ≡ true → g ≡ false → r ≡ false → f ≡ false)
+          → (a && not ((a && not g) && not r)) ≡ (a && f)
+      sorted false g r f hg hr hn = refl
+      sorted true true r f hg hr hn = sym (hg refl)
+      sorted true false true f hg hr hn = sym (hr refl)
+      sorted true false false f hg hr hn = sym (hn refl refl refl)
+
+-- An attacker's play that takes no liberty leaves all of them, which are too many.
+module _ (n : ℕ) (turn : Turn) (here : BoardState) (ko : Ko) (on : turn.target < here.size * here.size) (attacks : turn.attacker_to_play ≡ true)
+    (many : outlasts false n (turn.wide - 1) (liberties here.size here.cells turn.target) ≡ true) where
+  -- so he does not win there
+  lost_at : (p : ℕ) (next : Node) (new : BoardState) → is_liberty here.size here.cells turn.target p ≡ false → child_of (under turn ko) here p ≡ Some (next, new) → attacker_wins n next new ≡ false
+  lost_at p next new off is =
+      let child = child_free (under turn ko) here p next new (child_gives (under turn ko) here p next new is) in
+      let size = play_size here (mover_of (under turn ko)) p new child.1 in
+      let more = play_takes_none here (mover_of (under turn ko)) p new turn.target on child.1 off in
+      let node = next_node (under turn ko) child.0 in
+      let bound = ap (λ b. outlasts (not b) n (turn.wide - 1) (liberties new.size new.cells turn.target)) attacks ∙ more_outlasts n (turn.wide - 1) _ _ many more in
+      ap (λ (m : Node). attacker_wins n m new) child.2 ∙ bounded n node new (subst (λ m. turn.target < m * m) (sym size) on) bound
+
+  pub off_fails : (p : ℕ) → is_liberty here.size here.cells turn.target p ≡ false → succeeds n (under turn ko) here p ≡ false
+  off_fails p off = ap (λ b. suits n b (child_of (under turn ko) here p)) attacks ∙ by (child_of (under turn ko) here p) refl
+    where
+      by : (o : Option (Node × BoardState)) → child_of (under turn ko) here p ≡ o → some_child (attacker_wins n) o ≡ false
+      by None is = refl
+      by (Some child) is = lost_at p child.0 child.1 off is
+
+-- so none of the other candidates gives him his way
+pub none_other : (n : ℕ) (turn : Turn) (here : BoardState) → turn.target < here.size * here.size → turn.attacker_to_play ≡ true
+    → outlasts false n (turn.wide - 1) (liberties here.size here.cells turn.target) ≡ true
+    → (ko : Ko) (q : ℕ) → (is_off_liberties turn here q && succeeds n (under turn ko) here q) ≡ false
+none_other n turn here on attacks many ko q = elim (cases_Bool (is_liberty here.size here.cells turn.target q)) [
+  | inl t ↦ ap (λ b. b && succeeds n (under turn ko) here q) (and_false_right (is_candidate here turn.target turn.wide q) _ (ap not t))
+  | inr f ↦ and_false_right (is_off_liberties turn here q) _ (off_fails n turn here ko on attacks many q f)
+]
+
+-- the liberties that are known, as a test on the node's position
+pub its_liberty : (s : ℕ) (here : BoardState) (t : ℕ) (known : sets.FinSet nat_cmp) → here.size ≡ s → known ≡ liberty_points s here.cells t
+    → (q : ℕ) → sets.contains known q ≡ is_liberty here.size here.cells t q
+its_liberty s here t known size is q =
+    ap (λ k. sets.contains k q) is ∙ contains-liberty_points s here.cells t q ∙ ap (λ n. is_liberty n here.cells t q) (sym size)
+
+-- as many are known as the target has
+pub its_count : (s : ℕ) (here : BoardState) (t : ℕ) (known : sets.FinSet nat_cmp) → here.size ≡ s → known ≡ liberty_points s here.cells t
+    → sets.len known ≡ liberties here.size here.cells t
+its_count s here t known size is = ap sets.len is ∙ len-liberty_points s here.cells t ∙ ap (λ n. liberties n here.cells t) (sym size)
+
+-- what is known is on the board
+pub known_inside : (s : ℕ) (cells : List Cell) (t p : ℕ) (known : sets.FinSet nat_cmp) → known ≡ liberty_points s cells t → sets.contains known p ≡ true → p < s * s
+known_inside s cells t p known is has =
+    (IsLiberty-from_test s cells t p (sym (ap (λ k. sets.contains k p) is ∙ contains-liberty_points s cells t p) ∙ has)).on_board
+
+-- what is apart from the known liberties is a candidate off the liberties
+pub off_is : (turn : Turn) (here : BoardState) (known : sets.FinSet nat_cmp) (x y : Bool) (q : ℕ) → y ≡ is_candidate here turn.target turn.wide q
+    → sets.contains known q ≡ is_liberty here.size here.cells turn.target q → x ≡ (y && not (sets.contains known q)) → x ≡ is_off_liberties turn here q
+off_is turn here known x y q ey el ex =
+    ex ∙ ap (λ b. b && not (sets.contains known q)) ey ∙ ap (λ b. is_candidate here turn.target turn.wide q && not b) el
+
+-- A set of the numbers below a bound that pass a test, gathered one by one.
+abbrev pub PassedBelow : (ℕ → Bool) → ℕ → sets.FinSet nat_cmp → Type 0
+PassedBelow test n found = (x : ℕ) → sets.contains found x ≡ (ltb x n && test x)
+
+-- none is below 0
+pub none_apart : (found : sets.FinSet nat_cmp) (test : ℕ → Bool) → found ≡ sets.empty → PassedBelow test 0 found
+none_apart found test is x = ap (λ k. sets.contains k x) is ∙ sets.contains-empty nat_cmp x ∙ sym (ap (λ b. b && test x) (le-ltb x 0 (omega arith)))
+
+-- a number below p + 1 is below the bound, between, or p
+below_next : (test : ℕ → Bool) (n p x : ℕ) → n ≤ p → ((k : ℕ) → n ≤ k → k < p → test k ≡ false) → (x ≡ p → ⊥) → (ltb x n && test x) ≡ (ltb x (p + 1) && test x)
+below_next test n p x up none ne = elim (cases_lt x n) [
+  | inl l ↦ ap (λ b. b && test x) (lt-ltb x n l ∙ sym (lt-ltb x (p + 1) (omega (arith, l, up))))
+  | inr g ↦ elim (cases_lt x p) [
+    | inl l ↦ and_false_right (ltb x n) (test x) (none x g l) ∙ sym (and_false_right (ltb x (p + 1)) (test x) (none x g l))
+    | inr h ↦ ap (λ b. b && test x) (le-ltb x n g ∙ sym (le-ltb x (p + 1) (omega (arith, h, ne))))
+  ]
+]
+
+-- p passes and came
+pub added_apart : (test : ℕ → Bool) (n p : ℕ) (found new : sets.FinSet nat_cmp) → PassedBelow test n found → n ≤ p
+    → ((k : ℕ) → n ≤ k → k < p → test k ≡ false) → test p ≡ true → new ≡ sets.insert found p → PassedBelow test (p + 1) new
+added_apart test n p found new h up none passes is x = ap (λ k. sets.contains k x) is ∙ contains-insert_nat found p x ∙ elim (cases_eq x p) [
+  | inl e ↦ or_left _ _ (eq-eqb x p e) ∙ sym (and_from _ _ (lt-ltb x (p + 1) (omega (arith, e))) (ap test e ∙ passes))
+  | inr ne ↦ ap (λ b. b || sets.contains found x) (ne_eqb x p ne) ∙ h x ∙ below_next test n p x up none ne
+]
+
+-- p fails
+pub skipped_apart : (test : ℕ → Bool) (n p : ℕ) (found : sets.FinSet nat_cmp) → PassedBelow test n found → n ≤ p
+    → ((k : ℕ) → n ≤ k → k < p → test k ≡ false) → test p ≡ false → PassedBelow test (p + 1) found
+skipped_apart test n p found h up none fails x = h x ∙ elim (cases_eq x p) [
+  | inl e ↦ and_false_right (ltb x n) (test x) (ap test e ∙ fails) ∙ sym (and_false_right (ltb x (p + 1)) (test x) (ap test e ∙ fails))
+  | inr ne ↦ below_next test n p x up none ne
+]
+
+-- from the bound on none passes
+pub all_apart : (test : ℕ → Bool) (n : ℕ) (found : sets.FinSet nat_cmp) → PassedBelow test n found → ((k : ℕ) → n ≤ k → test k ≡ false) → (x : ℕ) → sets.contains found x ≡ test x
+all_apart test n found h none x = h x ∙ elim (cases_lt x n) [
+  | inl l ↦ ap (λ b. b && test x) (lt-ltb x n l)
+  | inr g ↦ and_false_right (ltb x n) (test x) (none x g) ∙ sym (none x g)
+]

@@ -1,0 +1,73 @@
+"""Asks gopat and a plain reader the same `attack` and `defend` questions on random dense boards, at small depths, and says how many
+answers differ. The plain reader is tools/plain_reader.c, a second program that follows the definitions with no pruning; it is
+compiled here, by `cc`.
+
+usage: python3 tools/compare_plain.py GOPAT QUESTIONS [SEED]
+"""
+
+import pathlib
+import random
+import subprocess
+import sys
+import tempfile
+from typing import Iterator
+
+import gtp
+
+# Plies and wide plies, so small that the whole tree is read in a moment.
+DEPTHS = [(1, 0), (1, 1), (2, 0), (2, 2), (3, 1), (3, 3), (4, 0), (4, 2), (4, 4), (5, 0), (5, 1), (5, 2), (6, 0), (6, 1), (7, 0)]
+
+COLUMNS = "ABCDEFGHJ"
+
+
+def compiled(folder: str) -> str:
+    """The plain reader, made from its source."""
+    source = pathlib.Path(__file__).with_name("plain_reader.c")
+    program = f"{folder}/plain_reader"
+    subprocess.run(["cc", "-O2", "-o", program, str(source)], check=True)
+    return program
+
+
+def board(choose: random.Random) -> Iterator[str]:
+    """A position by random plays, the last of which may leave a ban, and questions on some of its points."""
+    size = choose.choice([3, 4, 4, 5, 5, 6, 7])
+    vertices = [f"{COLUMNS[column]}{row + 1}" for column in range(size) for row in range(size)]
+    yield f"boardsize {size}"
+    yield "clear_board"
+    for _ in range(choose.randint(size * size // 2, size * size * 2)):
+        yield f"play {choose.choice('bw')} {choose.choice(vertices)}"
+    plies, wide = choose.choice(DEPTHS)
+    yield f"depths {plies} {wide}"
+    for vertex in choose.sample(vertices, min(len(vertices), 12)):
+        yield f"attack {vertex}"
+        yield f"defend {vertex}"
+
+
+def is_question(line: str) -> bool:
+    return line.startswith(("attack", "defend"))
+
+
+def main(gopat: str, questions: str, seed: str = "1"):
+    choose = random.Random(int(seed))
+    asked = differ = captured = refused = 0
+    with tempfile.TemporaryDirectory() as folder:
+        plain = compiled(folder)
+        while asked < int(questions):
+            lines = [line for _ in range(100) for line in board(choose)]
+            ours, _ = gtp.session([gopat], lines)
+            theirs, _ = gtp.session([plain], lines)
+            for number, (line, one, other) in enumerate(zip(lines, ours, theirs)):
+                if one.ok != other.ok or (one.ok and one.text != other.text):
+                    differ += 1
+                    print(f"line {number + 1}, {line}: {one.text} and {other.text}")
+                if is_question(line):
+                    asked += one.ok
+                    refused += not one.ok
+                    captured += one.ok and not one.text.startswith("0")
+    print(f"{asked} questions, {captured} with a code above 0, {refused} on empty points; {differ} replies differ")
+
+
+if __name__ == "__main__":
+    if not 3 <= len(sys.argv) <= 4:
+        sys.exit(__doc__)
+    main(*sys.argv[1:])
