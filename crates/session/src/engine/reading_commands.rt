@@ -7,9 +7,9 @@ ghost use Rattle.session.specs.Answers.{IsAnswer};
 ghost use Rattle.session.specs.Counting.{counted, has_stone};
 
 use crate::answer::{Answer, told};
-use crate::readings::answer_text;
 use crate::engine::Engine;
 use crate::engine::board_commands::has_stone;
+use crate::readings::answer_text;
 use go_base::Point;
 use gtp_cmd::RefuseText;
 use read_moves::Depths;
