@@ -71,7 +71,7 @@ fn sight<L: Look>(look: &mut L, friend: Colour, place: Option<Point>) -> Seen
 fn letter<L: Look>(
     look: &mut L,
     friend: Colour,
-    spiral: &TurnedSpiral,
+    spiral: &mut TurnedSpiral,
     row: u8,
     column: u8,
     index: u16,
@@ -79,8 +79,9 @@ fn letter<L: Look>(
     requires index { index < offset_count }
     requires row { row < (L.shows look.old).size }
     requires column { column < (L.shows look.old).size }
-    ensures value { (anchor : ℕ) → row ≡ anchor / (L.shows look.old).size → column ≡ anchor % (L.shows look.old).size → result ≡ seen_at (L.shows look.old) friend spiral.now anchor index }
+    ensures value { (anchor : ℕ) → row ≡ anchor / (L.shows look.old).size → column ≡ anchor % (L.shows look.old).size → result ≡ seen_at (L.shows look.old) friend spiral.old anchor index }
     ensures same { L.shows look.new ≡ L.shows look.old }
+    ensures turned { spiral.new ≡ spiral.old }
 {
     let place = spiral.place(index, row, column, look.size());
     sight(look, friend, place)
@@ -105,13 +106,14 @@ fn walk<L: Look>(
     machine: &Automaton,
     look: &mut L,
     friend: Colour,
-    spiral: &TurnedSpiral,
+    spiral: &mut TurnedSpiral,
     anchor: Point,
     out: &mut Vec<Hit>,
 ) -> Result<(), NoMemory>
     requires { anchor < (L.shows look.old).size * (L.shows look.old).size }
-    ensures ok { OnOk result (out.new.items ≡ out.old.items ++ hits_at spiral.now anchor (numbers_along machine.now 0 (word_at (L.shows look.old) friend spiral.now anchor offset_count))) }
+    ensures ok { OnOk result (out.new.items ≡ out.old.items ++ hits_at spiral.old anchor (numbers_along machine.now 0 (word_at (L.shows look.old) friend spiral.old anchor offset_count))) }
     ensures same { L.shows look.new ≡ L.shows look.old }
+    ensures turned { spiral.new ≡ spiral.old }
 {
     let _ = machine.rows();
     let t = spiral.transform();
@@ -145,9 +147,9 @@ fn sweep<L: Look>(
     ensures same { L.shows look.new ≡ L.shows look.old }
 {
     let _ = machine.rows();
-    let spiral = TurnedSpiral::new(t);
+    let mut spiral = TurnedSpiral::new(t);
     'anchors: for anchor in 0..points {
-        walk(machine, look, friend, &spiral, anchor, out)?;
+        walk(machine, look, friend, &mut spiral, anchor, out)?;
     }
     Ok(())
 }
