@@ -9,3 +9,4 @@ pub mod Remembering
 pub mod Judged
 pub mod Labels
 pub mod Placed
+pub mod Knowing
