@@ -10,3 +10,5 @@ pub mod Judged
 pub mod Labels
 pub mod Placed
 pub mod Knowing
+pub mod Filtered
+pub mod Agreed

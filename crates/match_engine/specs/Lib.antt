@@ -1,5 +1,6 @@
 pub mod MachineMatches
 pub mod Found
+pub mod HelperCalls
 pub mod Readings
 pub mod Remembered
 pub mod Asked

@@ -1,0 +1,68 @@
+//! The commands that read whether a string can be captured.
+ghost use Rattle.std.specs.Prelude.{◌≡◌, ◌*◌, ◌<◌, true, false, is_some};
+ghost use Rattle.session.specs.Kept.{machine_of};
+ghost use Rattle.session.specs.ReadingCommands.{read, deepened};
+ghost use Rattle.gtp_cmd.specs.Within.{AreDepths};
+ghost use Rattle.session.specs.Answers.{IsAnswer};
+ghost use Rattle.session.specs.Counting.{counted, has_stone};
+
+use crate::answer::{Answer, told};
+use crate::engine::Engine;
+use crate::engine::board_commands::has_stone;
+use crate::readings::answer_text;
+use go_base::Point;
+use gtp_cmd::RefuseText;
+use read_moves::Depths;
+use read_tree::Kind;
+
+impl Engine {
+    /// Counts a reading: the moves that it tried, where it was made afresh.
+    fn count_reading(&mut self, tried: Option<u64>)
+        ensures machine { machine_of self.new ≡ machine_of self.old }
+        ensures patterns { self.new.patterns ≡ self.old.patterns }
+        ensures same { self.new.automaton ≡ self.old.automaton }
+        ensures readings { self.new.counts.readings ≡ counted self.old.counts.readings true }
+        ensures fresh { self.new.counts.fresh ≡ counted self.old.counts.fresh (is_some tried) }
+        ensures none_kept { self.new.counts.refused ≡ self.old.counts.refused }
+    {
+        self.counts.readings = self.counts.readings.saturating_add(1);
+        if let Some(trials) = tried {
+            self.counts.fresh = self.counts.fresh.saturating_add(1);
+            self.counts.trials = self.counts.trials.saturating_add(trials);
+        }
+    }
+
+    pub(crate) fn read(&mut self, kind: Kind, p: Point) -> Answer
+        requires { p < self.old.size * self.old.size }
+        ensures answer { IsAnswer (machine_of self.old) (read (machine_of self.old) kind p) result
+            (machine_of self.new) }
+        ensures patterns { self.new.patterns ≡ self.old.patterns }
+        ensures same { self.new.automaton ≡ self.old.automaton }
+        ensures readings { self.new.counts.readings ≡ counted self.old.counts.readings
+            (has_stone (machine_of self.old) p) }
+        ensures fresh { self.new.counts.fresh ≡ counted self.old.counts.fresh (has_stone (machine_of self.old) p) }
+        ensures trials { has_stone (machine_of self.old) p ≡ false → self.new.counts.trials ≡ self.old.counts.trials }
+        ensures none_kept { self.new.counts.refused ≡ self.old.counts.refused }
+    {
+        if !has_stone(self.board(), p) {
+            return Answer::Refused(RefuseText::VertexEmpty);
+        }
+        let position = self.position();
+        let answer = self.readings.read(kind, &position, p);
+        let tried = self.readings.last();
+        self.count_reading(tried);
+        told(answer_text(position.size(), answer).as_slice())
+    }
+
+    pub(crate) fn deepen(&mut self, plies: u8, wide: u8) -> Answer
+        requires { AreDepths plies wide }
+        ensures answer { IsAnswer (machine_of self.old) (deepened (machine_of self.old) plies wide) result
+            (machine_of self.new) }
+        ensures patterns { self.new.patterns ≡ self.old.patterns }
+        ensures same { self.new.automaton ≡ self.old.automaton }
+        ensures counts { self.new.counts ≡ self.old.counts }
+    {
+        self.readings.set(Depths::new(plies, wide).unwrap());
+        told(b"")
+    }
+}
