@@ -1,13 +1,12 @@
 -- Every list of patterns has a number of states: the words that are longer than every pattern reach the sink, and the others are
 -- finitely many.
-use Rattle.std.proofs.Common.{◌≡◌, ℕ, zero, suc, ◌+◌, ◌<◌, ◌≤◌, ◌⊎◌, inl, inr, Bool, true, false, not, cond, eqb, leb, List, [], ◌∷◌, length, map, drop, replicate, get_or, refl, sym, ap, ◌∙◌, arith}
+use Rattle.std.proofs.Common.{◌≡◌, ℕ, zero, suc, ◌+◌, ◌<◌, ◌≤◌, ◌⊎◌, inl, inr, Bool, true, false, not, cond, eqb, List, [], ◌∷◌, length, map, drop, replicate, get_or, refl, sym, ap, ◌∙◌, arith}
 use Rattle.std.proofs.lemmas.Bool.{cases_eq, cases_lt, eq-eqb, ne_eqb, and_left, lt-leb, true≢false, false≢true}
 use Rattle.std.proofs.lemmas.List.{length-replicate}
 use Rattle.spiral.specs.Spiral.{offset_count}
 use Rattle.pat_types.specs.declared.pattern.Pattern.{Pattern}
 use Rattle.dfa_core.specs.declared.automaton.Seen.TheVariants.{Friend, Enemy, Empty, Off}
 use Rattle.dfa_core.specs.Words.{Word}
-use Rattle.dfa_core.specs.Counts.{Takes}
 use Rattle.dfa_core.specs.Fits.{pattern_length, is_refuted}
 use Rattle.dfa_core.specs.States.{State, is_live, state_of, HasStates}
 use Rattle.dfa_core.proofs.Lengths.{pattern_length-most}

@@ -1,13 +1,12 @@
 -- The hits of the automaton of a list of patterns.
-use Rattle.spiral.specs.Spiral.{offset_count}
-use Rattle.std.proofs.Common.{◌≡◌, ℕ, zero, suc, ◌+◌, ◌-◌, ◌≤◌, true, false, not, cond, eqb, List, [], ◌∷◌, length, Contains, Some, slice_get, refl, sym, ap, ◌∙◌, subst, arith, ◌⊎◌, inl, inr}
+use Rattle.std.proofs.Common.{◌≡◌, ℕ, zero, suc, ◌+◌, ◌-◌, ◌≤◌, true, false, not, cond, eqb, List, [], ◌∷◌, length, Contains, Some, slice_get, sym, ap, ◌∙◌, subst, arith, ◌⊎◌, inl, inr}
 use Rattle.std.proofs.lemmas.Bool.{cases_Bool, and_parts, eqb-true}
 use Rattle.std.proofs.lemmas.List.Elements.{Contains-append_cases, Contains-append_left, Contains-append_right}
 use Rattle.go_rules.specs.declared.Colour.{Colour}
 use Rattle.go_rules.specs.Position.{BoardState}
 use Rattle.pat_types.specs.declared.pattern.Pattern.{Pattern}
 use Rattle.dfa_core.specs.Words.{Word}
-use Rattle.dfa_core.specs.Automata.{Row, accepted}
+use Rattle.dfa_core.specs.Automata.{Row}
 use Rattle.dfa_core.specs.Fits.{pattern_length, is_refuted}
 use Rattle.dfa_core.specs.States.{is_matched, matched_from, IsMachineOf}
 use Rattle.dfa_core.proofs.Lengths.{pattern_length-most}

@@ -1,12 +1,13 @@
 -- What is seen along the spiral on a position.
-use Rattle.std.specs.Prelude.{ℕ, zero, suc, [], ◌∷◌, Option, Some, None}
+use Rattle.std.specs.Prelude.{◌≡◌, ℕ, zero, suc, ◌+◌, ◌*◌, ◌<◌, List, [], ◌∷◌, length, slice_index_or, pos as plus, ◌-ℤ◌, nat_lt, Option, Some, None, if◌then◌else◌}
+use Rattle.go_rules.specs.Transform.{largest_offset}
 use Rattle.go_rules.specs.declared.Colour.{Colour}
 use Rattle.go_rules.specs.declared.Colour.TheVariants.{Black as black, White as white}
 use Rattle.go_rules.specs.declared.Cell.{Cell}
 use Rattle.go_rules.specs.declared.Cell.TheVariants.{Empty as empty_cell, Black as black_stone, White as white_stone}
 use Rattle.go_rules.specs.Strings.{cell_at}
 use Rattle.go_rules.specs.Position.{BoardState}
-use Rattle.spiral.specs.Spiral.{offset_at, place_at}
+use Rattle.spiral.specs.Spiral.{offset_at, place_at, line_of, point_of}
 use Rattle.dfa_core.specs.declared.automaton.Seen.{Seen}
 use Rattle.dfa_core.specs.declared.automaton.Seen.TheVariants.{Friend, Enemy, Empty, Off}
 use Rattle.dfa_core.specs.Words.{Word}
@@ -37,3 +38,26 @@ word_from seen i (suc n) = seen i ∷ word_from seen (suc i) n
 -- the word that is read from the anchor m under t, as far as n letters
 abbrev pub word_at : BoardState → Colour → ℕ → ℕ → ℕ → Word
 word_at pos friend t m n = word_from (seen_at pos friend t m) 0 n
+
+-- how many rows and columns the padded board has: those of the largest board, and the largest offset before and behind them
+abbrev pub padded_side : ℕ
+padded_side = 73
+
+-- the point in a row and a column of the padded board of size s, whose board begins behind the largest offset
+abbrev pub padded_point : ℕ → ℕ → ℕ → Option ℕ
+padded_point s r c = point_of s (line_of s (plus r -ℤ plus largest_offset)) (line_of s (plus c -ℤ plus largest_offset))
+
+-- what is seen at a point below n, or off the board
+abbrev pub seen_below : ℕ → BoardState → Colour → Option ℕ → Seen
+seen_below n pos friend None = Off
+seen_below n pos friend (Some q) = if nat_lt q n then seen_of friend (cell_at pos.cells q) else Off
+
+-- the padded board shows what the friend sees at the points below n, and is off the board elsewhere
+pub record AreSightsBelow (n : ℕ) (pos : BoardState) (friend : Colour) (letters : List Seen) : Type 0 where
+  pub length : length letters ≡ padded_side * padded_side
+  pub each : (r c : ℕ) → r < padded_side → c < padded_side → slice_index_or letters (r * padded_side + c) Off ≡ seen_below n pos friend (padded_point pos.size r c)
+
+-- the padded board shows what the friend sees at each point of a board of this size
+pub record AreSights (pos : BoardState) (friend : Colour) (size : ℕ) (letters : List Seen) : Type 0 where
+  pub same_size : size ≡ pos.size
+  pub all : AreSightsBelow (pos.size * pos.size) pos friend letters

@@ -11,7 +11,7 @@ ghost use Rattle.std.specs.Prelude.{◌≡◌, ◌↔◌, true, List, ℕ, ◌+�
 ghost use Rattle.go_rules.specs.Position.{BoardState};
 ghost use Rattle.go_rules.specs.Transform.{transformations};
 ghost use Rattle.dfa_core.specs.Automata.{Row, numbers_along};
-ghost use Rattle.dfa_match.specs.Sights.{seen_of, seen_at_place, seen_at, word_at};
+ghost use Rattle.dfa_match.specs.Sights.{word_at, AreSights};
 ghost use Rattle.go_rules.specs.declared.Colour.{Colour as ColourSeen};
 ghost use Rattle.pat_types.specs.declared.pattern.Pattern.{Pattern};
 ghost use Rattle.spiral.specs.Spiral.{offset_count};
@@ -21,9 +21,12 @@ ghost use Rattle.dfa_match.specs.Fitting.{FitsAt, IsFit};
 ghost use Rattle.dfa_match.specs.declared.Hit.{Hit as HitSeen};
 ghost use Rattle.dfa_match.specs.Hits.{hits_at, IsHit, AreHits, AreHitsWhere, comes_before};
 
-use dfa_core::{Automaton, Seen};
+mod sights;
+
+use crate::sights::Sights;
+use dfa_core::Automaton;
 use go_base::transform::TRANSFORMATIONS;
-use go_base::{Cell, Colour, Look, NoMemory, Point, Transform};
+use go_base::{Colour, Look, NoMemory, Point, Transform};
 use spiral::{OFFSETS, TurnedSpiral};
 
 /// A pattern that an automaton accepts from an anchor under a transformation.
@@ -35,55 +38,6 @@ pub struct Hit {
     pub transform: Transform,
     /// The point from which the word is read.
     pub anchor: Point,
-}
-
-/// What a cell is for a friend of this colour.
-fn seen(friend: Colour, cell: Cell) -> Seen
-    ensures { result ≡ seen_of friend cell }
-{
-    match friend {
-        Colour::Black => match cell {
-            Cell::Black => Seen::Friend,
-            Cell::White => Seen::Enemy,
-            Cell::Empty => Seen::Empty,
-        },
-        Colour::White => match cell {
-            Cell::Black => Seen::Enemy,
-            Cell::White => Seen::Friend,
-            Cell::Empty => Seen::Empty,
-        },
-    }
-}
-
-/// What is seen at a point, or off the board where there is none.
-fn sight<L: Look>(look: &mut L, friend: Colour, place: Option<Point>) -> Seen
-    requires { IfSome place (λ p. p < (L.shows look.old).size * (L.shows look.old).size) }
-    ensures value { result ≡ seen_at_place (L.shows look.old) friend place }
-    ensures same { L.shows look.new ≡ L.shows look.old }
-{
-    match place {
-        Some(p) => seen(friend, look.cell(p)),
-        None => Seen::Off,
-    }
-}
-
-/// What is seen at an index of the spiral around the anchor in a row and a column.
-fn letter<L: Look>(
-    look: &mut L,
-    friend: Colour,
-    spiral: &TurnedSpiral,
-    row: u8,
-    column: u8,
-    index: u16,
-) -> Seen
-    requires index { index < offset_count }
-    requires row { row < (L.shows look.old).size }
-    requires column { column < (L.shows look.old).size }
-    ensures value { (anchor : ℕ) → row ≡ anchor / (L.shows look.old).size → column ≡ anchor % (L.shows look.old).size → result ≡ seen_at (L.shows look.old) friend spiral.now anchor index }
-    ensures same { L.shows look.new ≡ L.shows look.old }
-{
-    let place = spiral.place(index, row, column, look.size());
-    sight(look, friend, place)
 }
 
 /// Adds the hits of these patterns.
@@ -101,21 +55,21 @@ fn add(out: &mut Vec<Hit>, numbers: &[u16], t: Transform, anchor: Point) -> Resu
 }
 
 /// Runs the automaton from one anchor along the moved spiral, as far as it is alive.
-fn walk<L: Look>(
+fn walk(
     machine: &Automaton,
-    look: &mut L,
-    friend: Colour,
-    spiral: &TurnedSpiral,
+    sights: &Sights,
+    spiral: &mut TurnedSpiral,
     anchor: Point,
     out: &mut Vec<Hit>,
 ) -> Result<(), NoMemory>
-    requires { anchor < (L.shows look.old).size * (L.shows look.old).size }
-    ensures ok { OnOk result (out.new.items ≡ out.old.items ++ hits_at spiral.now anchor (numbers_along machine.now 0 (word_at (L.shows look.old) friend spiral.now anchor offset_count))) }
-    ensures same { L.shows look.new ≡ L.shows look.old }
+    requires anchor { anchor < sights.now.size * sights.now.size }
+    requires transform { spiral.old < transformations }
+    ensures ok { (at : BoardState) (friend : ColourSeen) → AreSights at friend sights.now.size sights.now.letters → OnOk result (out.new.items ≡ out.old.items ++ hits_at spiral.old anchor (numbers_along machine.now 0 (word_at at friend spiral.old anchor offset_count))) }
+    ensures turned { spiral.new ≡ spiral.old }
 {
     let _ = machine.rows();
     let t = spiral.transform();
-    let side = look.size().get() as u16;
+    let side = sights.size.get() as u16;
     let line = (anchor / side) as u8;
     let column = (anchor % side) as u8;
     let mut row = 0;
@@ -124,30 +78,25 @@ fn walk<L: Look>(
         if machine.is_dead(row) {
             return Ok(());
         }
-        row = machine.step(row, letter(look, friend, spiral, line, column, index));
+        row = machine.step(row, sights.letter(spiral, line, column, index));
     }
     add(out, machine.accepts(row), t, anchor)
 }
 
 /// Runs the automaton from each anchor under one transformation.
-fn sweep<L: Look>(
+fn sweep(
     machine: &Automaton,
-    look: &mut L,
-    friend: Colour,
+    sights: &Sights,
     t: Transform,
-    points: u16,
     out: &mut Vec<Hit>,
 ) -> Result<(), NoMemory>
-    requires points { points ≡ (L.shows look.old).size * (L.shows look.old).size }
-    requires before { AreHitsWhere machine.now (L.shows look.old) friend (comes_before t 0) out.old.items }
     requires transform { t < transformations }
-    ensures ok { OnOk result (AreHitsWhere machine.now (L.shows look.old) friend (comes_before (t + 1) 0) out.new.items) }
-    ensures same { L.shows look.new ≡ L.shows look.old }
+    ensures ok { (at : BoardState) (friend : ColourSeen) → AreSights at friend sights.now.size sights.now.letters → AreHitsWhere machine.now at friend (comes_before t 0) out.old.items → OnOk result (AreHitsWhere machine.now at friend (comes_before (t + 1) 0) out.new.items) }
 {
     let _ = machine.rows();
-    let spiral = TurnedSpiral::new(t);
-    'anchors: for anchor in 0..points {
-        walk(machine, look, friend, &spiral, anchor, out)?;
+    let mut spiral = TurnedSpiral::new(t);
+    'anchors: for anchor in 0..sights.size.points() {
+        walk(machine, sights, &mut spiral, anchor, out)?;
     }
     Ok(())
 }
@@ -166,10 +115,10 @@ pub fn scan<L: Look>(
 {
     let _ = machine.rows();
     let mut out = out;
-    let points = look.size().points();
+    let sights = Sights::of(look, friend);
     'transforms: for n in 0..TRANSFORMATIONS {
         if let Some(t) = Transform::new(n) {
-            sweep(machine, look, friend, t, points, &mut out)?;
+            sweep(machine, &sights, t, &mut out)?;
         }
     }
     Ok(out)

@@ -1,7 +1,6 @@
 -- Readings after one another.
-use Rattle.std.proofs.Common.{◌≡◌, ℕ, ◌+◌, ◌-◌, ◌^◌, ◌≤◌, min, Option, Some, inl, refl, sym, ap, ◌∙◌, arith}
-use Rattle.cons_eval.specs.Readings.{Codes}
-use Rattle.match_engine.specs.Readings.{ReadingsView, raised, codes_at, codes_of, HasRead, Follows}
+use Rattle.std.proofs.Common.{◌≡◌, ℕ, ◌-◌, ◌^◌, ◌≤◌, refl, ap, ◌∙◌, arith}
+use Rattle.match_engine.specs.Readings.{ReadingsView, raised, codes_at, codes_of, Follows}
 
 -- no reading changes nothing
 pub Follows-refl : (r : ReadingsView) → Follows r r

@@ -9,5 +9,6 @@ pub mod Remembering
 pub mod Judged
 pub mod Labels
 pub mod Placed
+pub mod Knowing
 pub mod Filtered
 pub mod Agreed

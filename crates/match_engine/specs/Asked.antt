@@ -1,5 +1,5 @@
 -- What a constraint asks, as its evaluation sees it.
-use Rattle.std.specs.Prelude.{◌≡◌, ℕ, ◌∷◌, [], IsSome, Some, None, refl}
+use Rattle.std.specs.Prelude.{◌≡◌, ℕ, ◌∷◌, [], IsSome, None, refl}
 use Rattle.go_rules.specs.declared.Colour.{Colour}
 use Rattle.go_rules.specs.Position.{BoardState}
 use Rattle.pat_types.specs.declared.pattern.Pattern.{Pattern}

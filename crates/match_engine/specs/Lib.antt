@@ -6,3 +6,4 @@ pub mod Remembered
 pub mod Asked
 pub use Rattle.match_rules.specs.Fits
 pub use Rattle.match_rules.specs.Match
+pub mod Known

@@ -1,5 +1,5 @@
 -- The matches that an automaton says, whichever it is.
-use Rattle.std.specs.Prelude.{◌≡◌, ◌<◌, ◌*◌, true, slice_get, ℕ, ◌+◌, ◌&&◌, ◌==◌, Bool, false, pos, List, Option, Some, None, is_some}
+use Rattle.std.specs.Prelude.{◌≡◌, ◌<◌, ◌*◌, slice_get, ℕ, ◌+◌, ◌&&◌, ◌==◌, Bool, false, pos, List, Option, Some, None, is_some}
 use Rattle.std.specs.List.{list_all, list_any, range_with_len}
 use Rattle.go_rules.specs.declared.Colour.{Colour}
 use Rattle.go_rules.specs.Below.{any_below}

@@ -1,6 +1,5 @@
 -- What contracts see of readings, and how calls change it.
 use Rattle.std.specs.Prelude.{◌≡◌, ℕ, ◌+◌, ◌-◌, ◌^◌, ◌≤◌, ◌⊎◌, Option, Some, None, min}
-use Rattle.go_rules.specs.Position.{BoardState}
 use Rattle.read_rules.specs.Answer.{code_of, asked_on}
 use Rattle.cons_eval.specs.Readings.{Codes}
 

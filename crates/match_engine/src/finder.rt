@@ -1,5 +1,5 @@
 //! The matches of patterns on a position, by an automaton.
-ghost use Rattle.std.specs.Prelude.{◌≡◌, ℕ, ◌+◌, ◌*◌, ◌<◌, filter, if◌then◌else◌, length, Some, Contains, IfOk, OnOk, OnErr, slice_get, slice_set as set};
+ghost use Rattle.std.specs.Prelude.{◌≡◌, ℕ, ◌+◌, ◌*◌, ◌<◌, ◌&&◌, filter, if◌then◌else◌, length, Some, Contains, IfOk, OnOk, OnErr, slice_get, slice_set as set};
 ghost use Rattle.std.specs.List.{filter_map};
 ghost use Rattle.go_rules.specs.Position.{BoardState};
 ghost use Rattle.dfa_core.specs.Automata.{accepted};
@@ -13,43 +13,64 @@ ghost use Rattle.match_rules.specs.Conditions.{all_yes};
 ghost use Rattle.helpers.specs.Asking.{says_yes};
 ghost use Rattle.helpers.specs.Slots.{states_of};
 ghost use Rattle.match_engine.specs.HelperCalls.{after_matches};
-ghost use Rattle.match_engine.specs.MachineMatches.{found_by as is_found_by, machine_matches, is_allowed_at, IsFoundThere};
+ghost use Rattle.match_engine.specs.MachineMatches.{found_by as is_found_by, machine_matches, is_allowed_at, lies_on_board as does_lie_on_board, IsFoundThere};
+ghost use Rattle.match_engine.specs.Known.{Knows};
 ghost use Rattle.match_engine.specs.Readings.{Follows, codes_of};
 ghost use Rattle.match_engine.specs.Found.{match_of as match_made, match_from};
 
 use crate::agreeing::keep_agreed;
 use crate::allowing::is_allowed;
+use crate::legality::Known;
 use crate::placing::{lies_on_board, star_place};
 use crate::plays::Plays;
 use crate::readings::Readings;
 use dfa_core::Automaton;
 use dfa_match::{Hit, scan};
-use go_base::{Colour, NoMemory, Point, Position, Watch};
+use go_base::{Colour, NoMemory, Point, Position, Transform, Watch};
 use helpers::Helpers;
 use match_rules::Match;
 use pat_types::{Pattern, mark_count};
 use std::alloc::Global;
 
-/// Whether a play is legal.
-fn is_legal(position: &Position, friend: Colour, at: Point) -> bool
-    requires { at < position.now.size * position.now.size }
-    ensures { result ≡ is_legal_on position.now friend at }
+/// Whether every letter lies on the board, with the star at a point under a transformation, and the friend's play there is legal.
+fn is_possible(
+    p: &Pattern,
+    position: &Position,
+    friend: Colour,
+    legal: &mut Known,
+    t: Transform,
+    at: Point,
+) -> bool
+    requires on_board { at < position.now.size * position.now.size }
+    requires knows { Knows (λ q. is_legal_on position.now friend q) legal.old }
+    ensures value { result ≡ does_lie_on_board p.now position.now.size t at && is_legal_on position.now friend at }
+    ensures knows { Knows (λ q. is_legal_on position.now friend q) legal.new }
 {
-    position.play(friend, at).is_ok()
+    if !lies_on_board(p, t, at, position.size()) {
+        return false;
+    }
+    legal.is_legal(position, friend, at)
 }
 
 /// The match that a hit of this pattern is: where its transformation is one of the mark's, the diagram lies on the board, and
 /// the friend's play at the star is legal.
-fn match_of(p: &Pattern, position: &Position, friend: Colour, hit: Hit) -> Option<Match>
-    requires { hit.anchor < position.now.size * position.now.size }
-    ensures { result ≡ match_made p.now position.now friend hit }
+fn match_of(
+    p: &Pattern,
+    position: &Position,
+    friend: Colour,
+    legal: &mut Known,
+    hit: Hit,
+) -> Option<Match>
+    requires anchor { hit.anchor < position.now.size * position.now.size }
+    requires knows { Knows (λ q. is_legal_on position.now friend q) legal.old }
+    ensures value { result ≡ match_made p.now position.now friend hit }
+    ensures knows { Knows (λ q. is_legal_on position.now friend q) legal.new }
 {
     if hit.transform.get() >= mark_count(p.mark) {
         return None;
     }
-    let size = position.size();
-    let at = star_place(p, hit.transform, hit.anchor, size)?;
-    if lies_on_board(p, hit.transform, at, size) && is_legal(position, friend, at) {
+    let at = star_place(p, hit.transform, hit.anchor, position.size())?;
+    if is_possible(p, position, friend, legal, hit.transform, at) {
         Some(Match {
             pattern: hit.pattern,
             transform: hit.transform,
@@ -60,7 +81,7 @@ fn match_of(p: &Pattern, position: &Position, friend: Colour, hit: Hit) -> Optio
     }
 }
 
-/// The matches that these hits are, in the order of the hits.
+/// The matches that these hits are, in the order of the hits. The friend's play at a point is tried once.
 fn matches_among(
     alloc: Global,
     patterns: &[Pattern],
@@ -73,8 +94,10 @@ fn matches_among(
     ensures { IfOk result (λ v. v.items ≡ filter_map (λ hit. match_from (slice_get patterns.now hit.pattern) position.now friend hit) hits.now) }
 {
     let mut found = Vec::new(alloc);
+    let mut legal = Known::new();
     for hit in hits {
-        if let Some(m) = match_of(&patterns[hit.pattern as usize], position, friend, *hit) {
+        let p = &patterns[hit.pattern as usize];
+        if let Some(m) = match_of(p, position, friend, &mut legal, *hit) {
             found.push(m)?;
         }
     }

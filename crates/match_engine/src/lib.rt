@@ -13,6 +13,7 @@ mod allowing;
 mod asking;
 mod finder;
 pub mod laws;
+mod legality;
 mod placing;
 mod plays;
 mod readings;

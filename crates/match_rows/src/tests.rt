@@ -148,6 +148,37 @@ fn state_counts_of_small_lists(rt: HostRuntime) -> Result<(), Fail> {
 }
 
 #[test]
+fn flat_tables_of_small_lists(rt: HostRuntime) -> Result<(), Fail> {
+    let rows: [(&str, &[u8], u32, &[u16]); 3] = [
+        ("the smallest pattern", SMALLEST, 7, &[0]),
+        (
+            "the same entry given twice",
+            b"Pattern P\nO*\n:8,s\nPattern P\nO*\n:8,s",
+            7,
+            &[0, 1],
+        ),
+        ("the empty list", b"", 1, &[]),
+    ];
+    for (what, text, count, numbers) in rows {
+        let patterns = patterns_of(&rt, text)?;
+        if patterns.len() > 4096 {
+            return Err("the list is short")?;
+        }
+        let machine = compile(rt.alloc(), &patterns, 99)?;
+        assert_eq!(rt; machine.rows(), count, "{what}");
+        assert_eq!(rt; machine.numbers(), numbers, "{what}");
+        let mut end = 0;
+        for row in 0..machine.rows() {
+            let (from, to) = machine.range(row);
+            assert_eq!(rt; from, end, "{what}: the ranges follow one another");
+            end = to;
+        }
+        assert_eq!(rt; end, numbers.len(), "{what}: to the last number");
+    }
+    Ok(())
+}
+
+#[test]
 fn first_offsets_of_the_spiral(rt: HostRuntime) -> Result<(), Fail> {
     let rows = [
         (3, (-1, 1)),

@@ -21,13 +21,13 @@ abbrev pub index_at : ℕ → ℕ → ℕ
 index_at row column = ring_start (ring_at row column) + place_in (ring_at row column) (row + ring_at row column - largest_offset) (column + ring_at row column - largest_offset)
 
 -- whether two integers are one
-abbrev same_ℤ : ℤ → ℤ → Bool
+abbrev pub same_ℤ : ℤ → ℤ → Bool
 same_ℤ (pos a) (pos b) = a == b
 same_ℤ (pos a) (negsuc b) = false
 same_ℤ (negsuc a) (pos b) = false
 same_ℤ (negsuc a) (negsuc b) = a == b
 
-same_ℤ-true : (a b : ℤ) → same_ℤ a b ≡ true → a ≡ b
+pub same_ℤ-true : (a b : ℤ) → same_ℤ a b ≡ true → a ≡ b
 same_ℤ-true (pos a) (pos b) e = ap pos (eqb-true a b e)
 same_ℤ-true (pos a) (negsuc b) e = absurd (false≢true e)
 same_ℤ-true (negsuc a) (pos b) e = absurd (false≢true e)

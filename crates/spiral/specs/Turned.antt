@@ -1,5 +1,5 @@
--- Tables of the offsets of the spiral, moved by one transformation.
-use Rattle.std.specs.Prelude.{◌≡◌, ℕ, ◌<◌, pos, List, length, slice_index_or}
+-- Tables of the first offsets of the spiral, moved by one transformation.
+use Rattle.std.specs.Prelude.{◌≡◌, ℕ, ◌<◌, ◌≤◌, pos, List, length, slice_index_or}
 use Rattle.go_rules.specs.Transform.{Offset, transformed}
 use Rattle.spiral.specs.Spiral.{offset_count, offset_at}
 
@@ -7,7 +7,9 @@ use Rattle.spiral.specs.Spiral.{offset_count, offset_at}
 abbrev pub entry_at : List Offset → ℕ → Offset
 entry_at table i = slice_index_or table i (pos 0, pos 0)
 
--- the table has for each index its offset, moved by t
-pub record IsTurned (t : ℕ) (table : List Offset) : Type 0 where
+-- the table has room for every index, and has for each of the first `count` its offset, moved by t; `after` is the offset after those
+pub record IsTurned (t count : ℕ) (after : Offset) (table : List Offset) : Type 0 where
   pub length : length table ≡ offset_count
-  pub each : (i : ℕ) → i < offset_count → entry_at table i ≡ transformed t (offset_at i)
+  pub bound : count ≤ offset_count
+  pub next : count < offset_count → after ≡ offset_at count
+  pub each : (i : ℕ) → i < count → entry_at table i ≡ transformed t (offset_at i)

@@ -1,5 +1,5 @@
 //! The numbers of offsets along the spiral.
-ghost use Rattle.std.specs.Prelude.{◌≡◌, ℕ, ◌<◌};
+ghost use Rattle.std.specs.Prelude.{◌≡◌, ℕ, ◌+◌, ◌<◌};
 ghost use Rattle.go_rules.specs.Transform.{IsNear};
 ghost use Rattle.spiral.specs.Spiral.{offset_count, offset_at};
 
@@ -16,6 +16,24 @@ pub fn offset(index: u16) -> (i8, i8)
 {
     let k = ring_with(index);
     in_ring(k, index - ring_start(k))
+}
+
+/// The offset that comes after this one along the spiral. After the last one it is the first of the ring past it.
+pub fn following(dr: i8, dc: i8) -> (i8, i8)
+    requires { IsNear (dr, dc) }
+    ensures { (i : ℕ) → i + 1 < offset_count → offset_at i ≡ (dr, dc) → result ≡ offset_at (i + 1) }
+{
+    if dr + dc < 0 && dr <= dc {
+        (dr, dc + 1)
+    } else if dr < dc {
+        (dr + 1, dc)
+    } else if dr + dc > 0 {
+        (dr, dc - 1)
+    } else if dr > dc + 1 {
+        (dr - 1, dc)
+    } else {
+        (dc - 1, dc - 1)
+    }
 }
 
 /// The index of the offset of `dr` rows down and `dc` columns to the right, the one whose offset this is.

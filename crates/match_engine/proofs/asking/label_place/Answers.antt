@@ -1,4 +1,4 @@
-use Rattle.std.proofs.Common.{rules, ◌≡◌, ◌∙◌, Some, sym, ap}
+use Rattle.std.proofs.Common.{rules, ◌≡◌, Some}
 use Rattle.match_rules.specs.Conditions.{label_with}
 use Rattle.match_engine.proofs.Labels.{label_row, label_column}
 use Rattle.match_engine.proofs.asking.label_place.Goals as goal

@@ -1,4 +1,4 @@
-use Rattle.std.proofs.Common.{◌≡◌, ◌∙◌, ◌*◌, ◌<◌, ap, subst, Contains}
+use Rattle.std.proofs.Common.{◌∙◌, ◌*◌, ◌<◌, ap, subst, Contains}
 use Rattle.std.specs.List.{filter_map}
 use Rattle.dfa_match.specs.Hits.{AreHits}
 use Rattle.match_engine.proofs.Machine.{made, sorted_matches}

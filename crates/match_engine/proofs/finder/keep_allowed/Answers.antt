@@ -1,4 +1,4 @@
-use Rattle.std.proofs.Common.{rules, ◌≡◌, ◌∙◌, ◌<◌, length, slice_get, sym, ap, subst}
+use Rattle.std.proofs.Common.{rules, ◌∙◌, ◌<◌, length, sym, ap, subst}
 use Rattle.std.proofs.lemmas.Option.{slice_get_within}
 use Rattle.go_rules.specs.Position.{other}
 use Rattle.cons_eval.specs.Readings.{Codes}

@@ -1,4 +1,4 @@
-use Rattle.std.proofs.Common.{◌≡◌, slice_get}
+use Rattle.std.proofs.Common.{slice_get}
 use Rattle.go_rules.specs.Position.{other}
 use Rattle.match_engine.specs.MachineMatches.{is_allowed_at}
 use Rattle.match_engine.specs.Readings.{Follows, codes_of}

@@ -1,0 +1,188 @@
+-- The rows of a flat table, and how it grows.
+use Rattle.std.proofs.Common.{◌≡◌, ℕ, zero, suc, ◌+◌, ◌-◌, ◌*◌, ◌<◌, ◌≤◌, List, [], ◌∷◌, ◌++◌, length, take, drop, get_or, refl, sym, ap, ◌∙◌, subst, arith, inl, inr, length-append, length-drop, add-one}
+use Rattle.std.proofs.lemmas.Bool.{cases_lt}
+use Rattle.std.proofs.lemmas.List.{length_push, get_or_push, get_or_append_left, take-append-le, drop-append-le, take_all, append-nil, append_assoc, length-take-le, get_or-take, get_or-drop}
+use Rattle.std.proofs.lemmas.Grind.{flat_map-append}
+use Rattle.std.proofs.Math.Seq.{drop-append_seam, take-add}
+use Rattle.dfa_core.specs.Automata.{Row, no_row, row_at}
+use Rattle.dfa_core.specs.Tables.{Flat, part_of, start_of, row_in, first_rows, rows_in, IsFlat, numbers_of}
+
+-- the table of four lists
+abbrev pub flat_with : List ℕ → List ℕ → List ℕ → List ℕ → Flat
+flat_with targets starts numbers depths = record { targets = targets; starts = starts; numbers = numbers; depths = depths }
+
+-- there is a row for each depth
+length-first_rows : (t : Flat) (n : ℕ) → length (first_rows t n) ≡ n
+length-first_rows t zero = refl
+length-first_rows t (suc n) = omega (arith, length_push (first_rows t n) (row_in t n), length-first_rows t n)
+
+pub length-rows : (t : Flat) → length (rows_in t) ≡ length t.depths
+unfolding rows_in
+length-rows t = length-first_rows t (length t.depths)
+
+-- each of the first rows is the row with its number
+first_rows-at : (t : Flat) (n r : ℕ) → r < n → row_at (first_rows t n) r ≡ row_in t r
+first_rows-at t zero r low = absurd (omega arith)
+first_rows-at t (suc n) r low =
+    elim (cases_lt r n) [
+      | inl before ↦ get_or_append_left (first_rows t n) (row_in t n ∷ []) no_row r (omega (arith, length-first_rows t n)) ∙ first_rows-at t n r before
+      | inr last ↦
+          let same : n ≡ r = omega arith in
+          get_or_push (first_rows t n) (row_in t n) no_row r (length-first_rows t n ∙ same) ∙ ap (row_in t) same
+    ]
+
+pub row_at-rows : (t : Flat) (r : ℕ) → r < length t.depths → row_at (rows_in t) r ≡ row_in t r
+unfolding rows_in
+row_at-rows t r low = first_rows-at t (length t.depths) r low
+
+-- a part of a list is as before when more comes behind
+part-old : (xs ys : List ℕ) (from to : ℕ) → from ≤ to → to ≤ length xs → part_of (xs ++ ys) from to ≡ part_of xs from to
+part-old xs ys from to order low =
+    ap (take (to - from)) (drop-append-le from xs ys (omega arith)) ∙ take-append-le (to - from) (drop from xs) ys (omega (arith, length-drop from xs))
+
+-- the part that comes behind
+part-new : (xs ys : List ℕ) (from to : ℕ) → length xs ≡ from → from + length ys ≡ to → part_of (xs ++ ys) from to ≡ ys
+part-new xs ys from to first last =
+    ap (λ n. take (to - n) (drop n (xs ++ ys))) (sym first) ∙ ap (take (to - length xs)) (drop-append_seam xs ys) ∙ take_all (to - length xs) ys (omega arith)
+
+module _ (t : Flat) (ts ns : List ℕ) (d : ℕ) (good : IsFlat t) (four : length ts ≡ 4) where
+  -- the lists with one row more
+  abbrev more : Flat
+  more = record { targets = t.targets ++ ts; starts = t.starts ++ length (t.numbers ++ ns) ∷ []; numbers = t.numbers ++ ns; depths = t.depths ++ d ∷ [] }
+
+  old_start : (r : ℕ) → r ≤ length t.depths → start_of more r ≡ start_of t r
+  old_start r low = get_or_append_left t.starts (length (t.numbers ++ ns) ∷ []) 0 r (omega (arith, good.starts))
+
+  new_start : start_of more (length t.depths + 1) ≡ length (t.numbers ++ ns)
+  new_start = get_or_push t.starts (length (t.numbers ++ ns)) 0 (length t.depths + 1) good.starts
+
+  old_row : (r : ℕ) → r < length t.depths → row_in more r ≡ row_in t r
+  old_row r low =
+      let targets : part_of more.targets (4 * r) (4 * r + 4) ≡ part_of t.targets (4 * r) (4 * r + 4) = part-old t.targets ts (4 * r) (4 * r + 4) (omega arith) (omega (arith, good.targets)) in
+      let numbers : part_of more.numbers (start_of more r) (start_of more (r + 1)) ≡ part_of t.numbers (start_of t r) (start_of t (r + 1)) =
+      ap (λ n. part_of more.numbers n (start_of more (r + 1))) (old_start r (omega arith))
+      ∙ ap (part_of more.numbers (start_of t r)) (old_start (r + 1) (omega arith))
+      ∙ part-old t.numbers ns (start_of t r) (start_of t (r + 1)) (good.ordered r low) (good.within (r + 1) (omega arith)) in
+      let depth : get_or more.depths r 0 ≡ get_or t.depths r 0 = get_or_append_left t.depths (d ∷ []) 0 r low in
+      λ i. record { targets = targets i; numbers = numbers i; depth = depth i }
+
+  new_row : row_in more (length t.depths) ≡ record { targets = ts; numbers = ns; depth = d }
+  new_row =
+      let n : ℕ = length t.depths in
+      let targets : part_of more.targets (4 * n) (4 * n + 4) ≡ ts = part-new t.targets ts (4 * n) (4 * n + 4) good.targets (omega (arith, four)) in
+      let numbers : part_of more.numbers (start_of more n) (start_of more (n + 1)) ≡ ns =
+      part-new t.numbers ns (start_of more n) (start_of more (n + 1)) (sym (old_start n (omega arith) ∙ good.last))
+      (omega (arith, old_start n (omega arith), good.last, new_start, length-append t.numbers ns)) in
+      let depth : get_or more.depths n 0 ≡ d = get_or_push t.depths d 0 n refl in
+      λ i. record { targets = targets i; numbers = numbers i; depth = depth i }
+
+  old_rows : (n : ℕ) → n ≤ length t.depths → first_rows more n ≡ first_rows t n
+  old_rows zero low = refl
+  old_rows (suc n) low = ap (λ rows. rows ++ row_in more n ∷ []) (old_rows n (omega arith)) ∙ ap (λ row. first_rows t n ++ row ∷ []) (old_row n (omega arith))
+
+  -- one row more comes behind the others
+  pub rows_in-more : rows_in more ≡ rows_in t ++ (record { targets = ts; numbers = ns; depth = d }) ∷ []
+  unfolding rows_in
+  rows_in-more =
+      let count : length more.depths ≡ suc (length t.depths) = omega (arith, length_push t.depths d) in
+      ap (first_rows more) count ∙ ap (λ rows. rows ++ row_in more (length t.depths) ∷ []) (old_rows (length t.depths) (omega arith)) ∙ ap (λ row. first_rows t (length t.depths) ++ row ∷ []) new_row
+
+  -- and the lists still belong together
+  pub IsFlat-more : IsFlat more
+  IsFlat-more =
+      let count : length more.depths ≡ length t.depths + 1 = length_push t.depths d in
+      record {
+        targets = omega (arith, count, good.targets, four, length-append t.targets ts);
+        starts = omega (arith, count, good.starts, length_push t.starts (length (t.numbers ++ ns)));
+        first = old_start 0 (omega arith) ∙ good.first;
+        last = ap (start_of more) count ∙ new_start;
+        ordered = λ r low. elim (cases_lt r (length t.depths)) [
+          | inl before ↦ omega (arith, old_start r (omega arith), old_start (r + 1) (omega arith), good.ordered r before)
+          | inr at_end ↦
+              let same : r ≡ length t.depths = omega (arith, count, low) in
+              omega (arith, old_start r (omega arith), good.within r (omega arith), ap (λ n. start_of more (n + 1)) same, new_start, length-append t.numbers ns)
+        ];
+        within = λ r low. elim (cases_lt (length t.depths) r) [
+          | inl at_end ↦
+              let same : r ≡ length t.depths + 1 = omega (arith, count, low) in
+              omega (arith, ap (start_of more) same, new_start)
+          | inr before ↦ omega (arith, old_start r before, good.within r before, length-append t.numbers ns)
+        ];
+      }
+
+module _ (old new : Flat) (ts mid first second : List ℕ) (d n : ℕ) (good : IsFlat old) (four : length ts ≡ 4) (targets : new.targets ≡ old.targets ++ ts)
+    (starts : new.starts ≡ old.starts ++ n ∷ []) (count : n ≡ length new.numbers) (front : mid ≡ old.numbers ++ first) (numbers : new.numbers ≡ mid ++ second) (depths : new.depths ≡ old.depths ++ d ∷ []) where
+  all_numbers : old.numbers ++ (first ++ second) ≡ new.numbers
+  all_numbers = sym (append_assoc old.numbers first second) ∙ ap (λ xs. xs ++ second) (sym front) ∙ sym numbers
+
+  grown : more old ts (first ++ second) d good four ≡ new
+  grown =
+      let begins : old.starts ++ length (old.numbers ++ (first ++ second)) ∷ [] ≡ new.starts = ap (λ k. old.starts ++ k ∷ []) (ap length all_numbers ∙ sym count) ∙ sym starts in
+      λ i. record { targets = sym targets i; starts = begins i; numbers = all_numbers i; depths = sym depths i }
+
+  -- where each list has grown by one row, that row comes behind the others
+  pub rows_in-grown : rows_in new ≡ rows_in old ++ (record { targets = ts; numbers = first ++ second; depth = d }) ∷ []
+  rows_in-grown = ap rows_in (sym grown) ∙ rows_in-more old ts (first ++ second) d good four
+
+  pub IsFlat-grown : IsFlat new
+  IsFlat-grown = subst IsFlat grown (IsFlat-more old ts (first ++ second) d good four)
+
+-- a table without rows
+pub rows_in-none : (t : Flat) → t.depths ≡ [] → rows_in t ≡ []
+unfolding rows_in
+rows_in-none t none = ap (λ ds. first_rows t (length ds)) none
+
+pub IsFlat-none : (t : Flat) → t.targets ≡ [] → t.starts ≡ 0 ∷ [] → t.numbers ≡ [] → t.depths ≡ [] → IsFlat t
+IsFlat-none t targets starts numbers depths = rw (targets, starts, numbers, depths) (record {
+  targets = refl;
+  starts = refl;
+  first = refl;
+  last = refl;
+  ordered = λ r low. absurd (omega arith);
+  within = λ r low. at_zero r (omega arith);
+})
+  where
+    at_zero : (r : ℕ) → r ≡ 0 → get_or (0 ∷ []) r 0 ≤ 0
+    at_zero r e = let zeros : List ℕ = 0 ∷ [] in omega (arith, ap {B = ℕ} (λ n. get_or zeros n 0) e)
+
+module _ (t : Flat) (good : IsFlat t) where
+  -- the first n rows are the front of all
+  take-first_rows : (n r : ℕ) → r ≤ n → take r (first_rows t n) ≡ first_rows t r
+  take-first_rows zero r low = let none : r ≡ 0 = omega arith in ap (λ k. take k []) none ∙ sym (ap (first_rows t) none)
+  take-first_rows (suc n) r low =
+      elim (cases_lt r (suc n)) [
+        | inl before ↦ take-append-le r (first_rows t n) (row_in t n ∷ []) (omega (arith, length-first_rows t n)) ∙ take-first_rows n r (omega arith)
+        | inr all ↦ let same : r ≡ suc n = omega arith in take_all r (first_rows t (suc n)) (omega (arith, length-first_rows t (suc n))) ∙ sym (ap (first_rows t) same)
+      ]
+
+  -- the numbers of the first rows are those before the start of the next
+  first_numbers : (r : ℕ) → r ≤ length t.depths → numbers_of (first_rows t r) ≡ take (start_of t r) t.numbers
+  first_numbers zero low = sym (ap (λ n. take n t.numbers) good.first)
+  first_numbers (suc r) low =
+      let here : start_of t r + (start_of t (r + 1) - start_of t r) ≡ start_of t (suc r) = omega (arith, good.ordered r (omega arith), ap (start_of t) (add-one r)) in
+      flat_map-append (λ row. row.numbers) (first_rows t r) (row_in t r ∷ [])
+      ∙ ap (λ ns. numbers_of (first_rows t r) ++ ns) (append-nil (part_of t.numbers (start_of t r) (start_of t (r + 1))))
+      ∙ ap (λ ns. ns ++ part_of t.numbers (start_of t r) (start_of t (r + 1))) (first_numbers r (omega arith))
+      ∙ sym (take-add (start_of t r) (start_of t (r + 1) - start_of t r) t.numbers)
+      ∙ ap (λ n. take n t.numbers) here
+
+  -- the list has the numbers of all rows
+  pub numbers-all : t.numbers ≡ numbers_of (rows_in t)
+  unfolding rows_in
+  numbers-all = sym (first_numbers (length t.depths) (omega arith) ∙ ap (λ n. take n t.numbers) good.last ∙ take_all (length t.numbers) t.numbers (omega arith))
+
+  -- the numbers of a row begin behind those of the rows before
+  pub start-counts : (r : ℕ) → r ≤ length t.depths → start_of t r ≡ length (numbers_of (take r (rows_in t)))
+  unfolding rows_in
+  start-counts r low =
+      sym (ap (λ rows. length (numbers_of rows)) (take-first_rows (length t.depths) r low) ∙ ap length (first_numbers r low) ∙ length-take-le (start_of t r) t.numbers (good.within r low))
+
+  -- a target is found by its row and its letter
+  pub target-at : (r k : ℕ) → r < length t.depths → k < 4 → get_or t.targets (4 * r + k) 0 ≡ get_or (row_at (rows_in t) r).targets k 0
+  target-at r k low letter =
+      let four : k < 4 * r + 4 - 4 * r = omega arith in
+      sym (ap (λ row. get_or row.targets k 0) (row_at-rows t r low) ∙ get_or-take (4 * r + 4 - 4 * r) (drop (4 * r) t.targets) k 0 four ∙ get_or-drop (4 * r) t.targets k 0)
+
+-- a row of the table has a depth
+pub row_below : (t : Flat) (rows : List Row) (r : ℕ) → rows_in t ≡ rows → r < length rows → r < length t.depths
+row_below t rows r same low = omega (arith, ap length same, length-rows t)

@@ -1,0 +1,146 @@
+//! The flat table of an automaton: four vectors for all rows.
+ghost use Rattle.std.specs.Prelude.{◌≡◌, ◌+◌, ◌<◌, ◌≤◌, ◌++◌, ◌∷◌, [], length, take, IfOk};
+ghost use Rattle.dfa_core.specs.Automata.{Row, row_at, step_at};
+ghost use Rattle.dfa_core.specs.Words.{letter_number};
+ghost use Rattle.dfa_core.specs.Tables.{part_of, numbers_of};
+
+use crate::automaton::Seen;
+use go_base::NoMemory;
+use std::alloc::Global;
+use std::marker::Model;
+
+/// A table of rows, seen as the rows. It grows row by row.
+#[derive(Drop)]
+pub struct Table {
+    /// The rows that Friend, Enemy, Empty and Off lead to: four for each row.
+    targets: Vec<u32>,
+    /// Where the numbers of each row begin, and at the end where those of the last row end.
+    starts: Vec<usize>,
+    /// The numbers of all rows, one row after the other.
+    numbers: Vec<u16>,
+    /// The depth of each row.
+    depths: Vec<u16>,
+}
+
+impl Model for Table {
+    ghost use Rattle.std.specs.Prelude.{List};
+    ghost use Rattle.dfa_core.specs.Automata.{Row};
+    ghost use Rattle.dfa_core.specs.Tables.{rows_in, IsFlat};
+
+    ghost Value = { List Row };
+
+    ghost view = { λ t. rows_in (record { targets = t.targets.items; starts = t.starts.items; numbers = t.numbers.items; depths = t.depths.items }) };
+
+    ghost invariant = { λ t. IsFlat (record { targets = t.targets.items; starts = t.starts.items; numbers = t.numbers.items; depths = t.depths.items }) };
+}
+
+/// The place of a letter's target among the four of a row.
+fn column(letter: Seen) -> usize
+    ensures value { result ≡ letter_number letter }
+    ensures bound { result < 4 }
+{
+    letter as usize
+}
+
+/// The numbers from one place to another.
+fn between(numbers: &[u16], from: usize, to: usize) -> &[u16]
+    requires order { from ≤ to }
+    requires within { to ≤ length numbers.now }
+    ensures { result.now ≡ part_of numbers.now from to }
+{
+    &numbers[from..to]
+}
+
+impl Table {
+    /// A table without rows. Takes memory.
+    pub fn new(alloc: Global) -> Result<Table, NoMemory>
+        ensures { IfOk result (λ t. t ≡ []) }
+    {
+        let mut starts = Vec::new(alloc);
+        starts.push(0)?;
+        Ok(Table {
+            targets: Vec::new(alloc),
+            starts,
+            numbers: Vec::new(alloc),
+            depths: Vec::new(alloc),
+        })
+    }
+
+    /// The table with one row more, which accepts the numbers of both lists, one list after the other. Takes memory.
+    pub fn with_row(
+        self,
+        targets_of_row: [u32; 4],
+        first: &[u16],
+        second: &[u16],
+        depth: u16,
+    ) -> Result<Table, NoMemory>
+        ensures { IfOk result (λ t. t ≡ self ++ (record { targets = targets_of_row; numbers = first.now ++ second.now; depth = depth }) ∷ []) }
+    {
+        let Table {
+            mut targets,
+            mut starts,
+            mut numbers,
+            mut depths,
+        } = self;
+        targets.extend_from_slice(&targets_of_row)?;
+        numbers.extend_from_slice(first)?;
+        numbers.extend_from_slice(second)?;
+        starts.push(numbers.len())?;
+        depths.push(depth)?;
+        Ok(Table {
+            targets,
+            starts,
+            numbers,
+            depths,
+        })
+    }
+
+    /// How many rows it has.
+    pub fn rows(&self) -> usize
+        ensures { result ≡ length self.now }
+    {
+        self.depths.len()
+    }
+
+    /// The row that a letter leads to from a row.
+    pub fn target(&self, row: u32, letter: Seen) -> u32
+        requires { row < length self.now }
+        ensures { result ≡ step_at self.now row letter }
+    {
+        self.targets[4 * row as usize + column(letter)]
+    }
+
+    /// How many letters lead to a row.
+    pub fn depth(&self, row: u32) -> u16
+        requires { row < length self.now }
+        ensures { result ≡ (row_at self.now row).depth }
+    {
+        self.depths[row as usize]
+    }
+
+    /// The numbers of all rows, one row after the other.
+    pub fn numbers(&self) -> &[u16]
+        ensures { result.now ≡ numbers_of self.now }
+    {
+        self.numbers.as_slice()
+    }
+
+    /// The first index of a row's numbers among those of all rows, and the index past the last.
+    pub fn range(&self, row: u32) -> (usize, usize)
+        requires { row < length self.now }
+        ensures from { result.0 ≡ length (numbers_of (take row self.now)) }
+        ensures to { result.1 ≡ length (numbers_of (take (row + 1) self.now)) }
+    {
+        (self.starts[row as usize], self.starts[row as usize + 1])
+    }
+
+    /// The numbers of a row.
+    pub fn accepts(&self, row: u32) -> &[u16]
+        requires { row < length self.now }
+        ensures { result.now ≡ (row_at self.now row).numbers }
+    {
+        let from = self.starts[row as usize];
+        let to = self.starts[row as usize + 1];
+        between(&self.numbers, from, to)
+    }
+}

@@ -1,0 +1,5 @@
+use Rattle.dfa_join.proofs.Orders.{numbered_as_met}
+use Rattle.dfa_join.proofs.rows_are_numbered_as_they_are_met.Goals as goal
+
+pub returns : goal.returns
+returns c = numbered_as_met

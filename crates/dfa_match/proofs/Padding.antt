@@ -1,0 +1,138 @@
+-- The padded board, as it is filled and read.
+use Rattle.std.proofs.Common.{◌≡◌, ℕ, ◌+◌, ◌*◌, ◌/◌, ◌%◌, ◌<◌, ◌≤◌, cond, Option, Some, None, ℤ, pos, negsuc, ◌+ℤ◌, ◌-ℤ◌, List, length, replicate, get_or, refl, sym, ap, ◌∙◌, subst, arith, inl, inr, length-set, get_or-set_same, get_or-set_other}
+use Rattle.std.proofs.Math.ListN.{set}
+use Rattle.std.proofs.lemmas.Int.{ints}
+use Rattle.std.proofs.lemmas.Bool.{cases_lt, cases_eq, lt-ltb, le-ltb}
+use Rattle.std.proofs.lemmas.Nat.{div-mul-add, mod-mul-add, div-add-mod', mul-add-lt, div_below, mod_below}
+use Rattle.std.proofs.lemmas.List.{length-replicate, get_or-replicate}
+use Rattle.go_rules.specs.declared.Colour.{Colour}
+use Rattle.go_rules.specs.Position.{BoardState}
+use Rattle.go_rules.specs.Strings.{cell_at}
+use Rattle.go_rules.specs.Board.{largest_size}
+use Rattle.go_rules.specs.Transform.{Offset, transformed, largest_offset}
+use Rattle.spiral.specs.Spiral.{offset_at, place_at, line_of, point_of}
+use Rattle.dfa_core.specs.declared.automaton.Seen.{Seen}
+use Rattle.dfa_core.specs.declared.automaton.Seen.TheVariants.{Off}
+use Rattle.dfa_match.specs.Sights.{seen_of, seen_at, seen_at_place, padded_side, padded_point, seen_below, AreSightsBelow, AreSights}
+
+-- a line of the board is its number
+line_from : (s : ℕ) (z : ℤ) (k : ℕ) → line_of s z ≡ Some k → (z ≡ pos k) × (k < s)
+line_from s (pos n) k e =
+    elim (cases_lt n s) [
+      | inl low ↦
+          let here : Some n ≡ Some k = sym (ap (λ b. cond b (Some n) None) (lt-ltb n s low)) ∙ e in
+          let same : n ≡ k = cc in
+          (ap pos same, omega arith)
+      | inr high ↦ let none : None ≡ Some k = sym (ap (λ b. cond b (Some n) None) (le-ltb n s high)) ∙ e in absurd (let h : ⊥ = cc in h)
+    ]
+line_from s (negsuc n) k e = absurd (let h : ⊥ = cc in h)
+
+line_there : (s k : ℕ) (z : ℤ) → z ≡ pos k → k < s → line_of s z ≡ Some k
+line_there s k z e low = ap (line_of s) e ∙ ap (λ b. cond b (Some k) None) (lt-ltb k s low)
+
+-- a point has a row and a column
+record HasParts (s : ℕ) (a b : Option ℕ) (q : ℕ) : Type 0 where
+  row : ℕ
+  column : ℕ
+  in_row : a ≡ Some row
+  in_column : b ≡ Some column
+  number : row * s + column ≡ q
+
+point_parts : (s : ℕ) (a b : Option ℕ) (q : ℕ) → point_of s a b ≡ Some q → HasParts s a b q
+point_parts s None b q e = absurd (let h : ⊥ = cc in h)
+point_parts s (Some r) None q e = absurd (let h : ⊥ = cc in h)
+point_parts s (Some r) (Some c) q e = record { row = r; column = c; in_row = refl; in_column = refl; number = let same : r * s + c ≡ q = cc in same }
+
+-- a point of the padded board stands in the row and the column of its number
+record IsThere (s r c q : ℕ) : Type 0 where
+  row : r ≡ q / s + largest_offset
+  column : c ≡ q % s + largest_offset
+  below : q < s * s
+
+point_from : (s r c q : ℕ) → padded_point s r c ≡ Some q → IsThere s r c q
+point_from s r c q e =
+    let parts = point_parts s (line_of s (pos r -ℤ pos largest_offset)) (line_of s (pos c -ℤ pos largest_offset)) q e in
+    let row = line_from s (pos r -ℤ pos largest_offset) parts.row parts.in_row in
+    let column = line_from s (pos c -ℤ pos largest_offset) parts.column parts.in_column in
+    let at_row : parts.row ≡ q / s = sym (div-mul-add parts.row s parts.column column.1) ∙ ap (λ n. n / s) parts.number in
+    let at_column : parts.column ≡ q % s = sym (mod-mul-add parts.row s parts.column column.1) ∙ ap (λ n. n % s) parts.number in
+    record {
+      row = omega (arith, ints, row.0, at_row);
+      column = omega (arith, ints, column.0, at_column);
+      below = subst (λ n. n < s * s) parts.number (mul-add-lt parts.row s parts.column s row.1 column.1);
+    }
+
+point_there : (s q : ℕ) → 0 < s → q < s * s → padded_point s (q / s + largest_offset) (q % s + largest_offset) ≡ Some q
+point_there s q some low =
+    let row : line_of s (pos (q / s + largest_offset) -ℤ pos largest_offset) ≡ Some (q / s) = line_there s (q / s) _ (omega (arith, ints)) (div_below q s s some low) in
+    let column : line_of s (pos (q % s + largest_offset) -ℤ pos largest_offset) ≡ Some (q % s) = line_there s (q % s) _ (omega (arith, ints)) (mod_below q s some) in
+    ap (λ o. point_of s o (line_of s (pos (q % s + largest_offset) -ℤ pos largest_offset))) row ∙ ap (point_of s (Some (q / s))) column ∙ ap (λ n. Some n) (div-add-mod' q s)
+
+-- the row and the column of a point lie on the padded board
+pub row_low : (s q : ℕ) → 0 < s → s ≤ largest_size → q < s * s → q / s + largest_offset < padded_side
+row_low s q some few low = omega (arith, div_below q s s some low)
+
+pub column_low : (s q : ℕ) → 0 < s → s ≤ largest_size → q % s + largest_offset < padded_side
+column_low s q some few = omega (arith, mod_below q s some)
+
+module _ (at : BoardState) (friend : Colour) where
+  below_none : (o : Option ℕ) → seen_below 0 at friend o ≡ Off
+  below_none None = refl
+  below_none (Some q) = ap (λ b. cond b (seen_of friend (cell_at at.cells q)) Off) (le-ltb q 0 (omega arith))
+
+  below_more : (n : ℕ) (o : Option ℕ) → (o ≡ Some n → ⊥) → seen_below n at friend o ≡ seen_below (n + 1) at friend o
+  below_more n None other = refl
+  below_more n (Some q) other =
+      elim (cases_eq q n) [
+        | inl same ↦ absurd (other (ap (λ k. Some k) same))
+        | inr apart ↦ elim (cases_lt q n) [
+          | inl low ↦ ap (λ b. cond b (seen_of friend (cell_at at.cells q)) Off) (lt-ltb q n low ∙ sym (lt-ltb q (n + 1) (omega arith)))
+          | inr high ↦ ap (λ b. cond b (seen_of friend (cell_at at.cells q)) Off) (le-ltb q n high ∙ sym (le-ltb q (n + 1) (omega arith)))
+        ]
+      ]
+
+  below_all : (n : ℕ) (o : Option ℕ) → ((q : ℕ) → o ≡ Some q → q < n) → seen_below n at friend o ≡ seen_at_place at friend o
+  below_all n None low = refl
+  below_all n (Some q) low = ap (λ b. cond b (seen_of friend (cell_at at.cells q)) Off) (lt-ltb q n (low q refl))
+
+  -- at first nothing is seen
+  pub sights_none : (letters : List Seen) → letters ≡ replicate (padded_side * padded_side) Off → AreSightsBelow 0 at friend letters
+  sights_none letters e = record {
+    length = ap length e ∙ length-replicate (padded_side * padded_side) Off;
+    each = λ r c low low'. ap (λ xs. get_or xs (r * padded_side + c) Off) e ∙ get_or-replicate (padded_side * padded_side) (r * padded_side + c) Off Off (mul-add-lt r padded_side c padded_side low low') ∙ sym (below_none (padded_point at.size r c));
+  }
+
+  -- one point more is seen
+  pub sights_more : (n w : ℕ) (letters : List Seen) (x : Seen) → AreSightsBelow n at friend letters → 0 < at.size → n < at.size * at.size
+      → w ≡ (n / at.size + largest_offset) * padded_side + (n % at.size + largest_offset) → w < padded_side * padded_side → n / at.size + largest_offset < padded_side → n % at.size + largest_offset < padded_side
+      → x ≡ seen_of friend (cell_at at.cells n) → AreSightsBelow (n + 1) at friend (set letters w x)
+  sights_more n w letters x before some low place within row_low column_low is = record {
+    length = length-set letters w x ∙ before.length;
+    each = λ r c lr lc. elim (cases_eq (r * padded_side + c) w) [
+      | inl same ↦
+          let row : r ≡ n / at.size + largest_offset = sym (div-mul-add r padded_side c lc) ∙ ap (λ k. k / padded_side) (same ∙ place) ∙ div-mul-add (n / at.size + largest_offset) padded_side (n % at.size + largest_offset) column_low in
+          let column : c ≡ n % at.size + largest_offset = sym (mod-mul-add r padded_side c lc) ∙ ap (λ k. k % padded_side) (same ∙ place) ∙ mod-mul-add (n / at.size + largest_offset) padded_side (n % at.size + largest_offset) column_low in
+          ap (λ k. get_or (set letters w x) k Off) same ∙ get_or-set_same letters w x Off (omega (arith, before.length)) ∙ is
+          ∙ sym (ap (λ b. cond b (seen_of friend (cell_at at.cells n)) Off) (lt-ltb n (n + 1) (omega arith)))
+          ∙ ap (seen_below (n + 1) at friend) (sym (ap (λ k. padded_point at.size k c) row ∙ ap (padded_point at.size (n / at.size + largest_offset)) column ∙ point_there at.size n some low))
+      | inr other ↦
+          get_or-set_other letters w (r * padded_side + c) x Off other ∙ before.each r c lr lc
+          ∙ below_more n (padded_point at.size r c)
+          (λ here. let there = point_from at.size r c n here in other (ap (λ k. k * padded_side + c) there.row ∙ ap (λ k. (n / at.size + largest_offset) * padded_side + k) there.column ∙ sym place))
+    ];
+  }
+
+  -- what is read on the padded board is what is seen along the spiral
+  pub letter_seen : (size : ℕ) (letters : List Seen) (t m i : ℕ) (by : Offset) (r c row column : ℕ) (letter : Seen) → AreSights at friend size letters → by ≡ transformed t (offset_at i)
+      → pos r -ℤ pos largest_offset ≡ pos row +ℤ by.0 → pos c -ℤ pos largest_offset ≡ pos column +ℤ by.1 → r < padded_side → c < padded_side → row ≡ m / size → column ≡ m % size
+      → letter ≡ get_or letters (r * padded_side + c) Off → letter ≡ seen_at at friend t m i
+  unfolding seen_at place_at
+  letter_seen size letters t m i by r c row column letter sights moved er ec lr lc rows columns read =
+      let in_row : pos r -ℤ pos largest_offset ≡ pos (m / at.size) +ℤ (transformed t (offset_at i)).0 =
+      er ∙ ap (λ k. pos k +ℤ by.0) (rows ∙ ap (λ n. m / n) sights.same_size) ∙ ap (λ (d : Offset). pos (m / at.size) +ℤ d.0) moved in
+      let in_column : pos c -ℤ pos largest_offset ≡ pos (m % at.size) +ℤ (transformed t (offset_at i)).1 =
+      ec ∙ ap (λ k. pos k +ℤ by.1) (columns ∙ ap (λ n. m % n) sights.same_size) ∙ ap (λ (d : Offset). pos (m % at.size) +ℤ d.1) moved in
+      read ∙ sights.all.each r c lr lc
+      ∙ below_all (at.size * at.size) (padded_point at.size r c) (λ q here. (point_from at.size r c q here).below)
+      ∙ ap (λ z. seen_at_place at friend (point_of at.size (line_of at.size z) (line_of at.size (pos c -ℤ pos largest_offset)))) in_row
+      ∙ ap (λ z. seen_at_place at friend (point_of at.size (line_of at.size (pos (m / at.size) +ℤ (transformed t (offset_at i)).0)) (line_of at.size z))) in_column

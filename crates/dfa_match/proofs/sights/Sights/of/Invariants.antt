@@ -1,0 +1,10 @@
+use Rattle.std.proofs.Common.{◌≡◌}
+use Rattle.dfa_match.specs.Sights.{AreSightsBelow}
+use Rattle.dfa_match.proofs.sights.Sights.of.Given as goal
+
+-- the points before are seen
+abbrev pub invariant-points : goal.invariant-points
+invariant-points g l = record {
+  shows : g.L.Look.shows l.look ≡ g.L.Look.shows l.fn.look;
+  sights : AreSightsBelow l.p (g.L.Look.shows l.fn.look) l.friend l.letters;
+}

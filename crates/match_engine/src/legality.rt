@@ -1,0 +1,66 @@
+//! Where a colour may play on a position, each point asked once.
+ghost use Rattle.std.specs.Prelude.{◌≡◌, ℕ, Bool, ◌*◌, ◌<◌, if◌then◌else◌};
+ghost use Rattle.std.specs.FinSet as set;
+ghost use Rattle.go_rules.specs.Board.{largest_points};
+ghost use Rattle.go_rules.specs.Play.{is_legal as is_legal_on};
+ghost use Rattle.match_engine.specs.Known.{Knows};
+
+use go_base::{Colour, Point, PointSet, Position};
+
+/// The points that a question was asked about, and those of them where the answer is yes.
+#[derive(Drop)]
+pub struct Known {
+    /// Where it was asked.
+    pub asked: PointSet,
+    /// Where the answer is yes.
+    pub holds: PointSet,
+}
+
+impl Known {
+    /// Nothing was asked.
+    pub fn new() -> Known
+        ensures { (test : ℕ → Bool) → Knows test result }
+    {
+        Known {
+            asked: PointSet::new(),
+            holds: PointSet::new(),
+        }
+    }
+
+    /// Whether a colour's play at a point is legal, where these are the answers to that question. A play that was asked about
+    /// before is not tried again.
+    pub fn is_legal(&mut self, position: &Position, colour: Colour, at: Point) -> bool
+        requires on_board { at < position.now.size * position.now.size }
+        requires knows { Knows (λ q. is_legal_on position.now colour q) self.old }
+        ensures value { result ≡ is_legal_on position.now colour at }
+        ensures knows { Knows (λ q. is_legal_on position.now colour q) self.new }
+    {
+        let _ = position.size().points();
+        if self.asked.has(at) {
+            return self.holds.has(at);
+        }
+        let legal = is_legal(position, colour, at);
+        self.note(at, legal);
+        legal
+    }
+
+    /// Keeps the answer for a point.
+    fn note(&mut self, at: Point, holds: bool)
+        requires on_board { at < largest_points }
+        ensures asked { self.new.asked ≡ set.insert self.old.asked at }
+        ensures holds { self.new.holds ≡ (if holds then set.insert self.old.holds at else self.old.holds) }
+    {
+        self.asked.add(at);
+        if holds {
+            self.holds.add(at);
+        }
+    }
+}
+
+/// Whether a play is legal.
+fn is_legal(position: &Position, colour: Colour, at: Point) -> bool
+    requires { at < position.now.size * position.now.size }
+    ensures { result ≡ is_legal_on position.now colour at }
+{
+    position.play(colour, at).is_ok()
+}
