@@ -1,0 +1,4 @@
+pub mod Seen
+pub mod Sizes
+pub mod Sound
+pub mod Standing
