@@ -11,6 +11,8 @@
 mod allowing;
 mod asking;
 mod finder;
+mod keeping;
+mod keys;
 pub mod laws;
 mod placing;
 mod plays;
@@ -18,4 +20,5 @@ mod readings;
 
 pub use finder::matches;
 pub use match_rules::Match;
+pub use keys::Key;
 pub use readings::Readings;

@@ -1,3 +1,4 @@
+pub mod Each
 pub mod Seen
 pub mod Sizes
 pub mod Sound

@@ -75,3 +75,7 @@ module _ {Q A : Type 0} where
     -- no kept variant of the question stands on the position
     pub record IsMissing (pos : BoardState) (old : Kept Q A) : Type 0 where
       pub none : (variants : List (Variant A)) → variants_of old ≡ Some variants → NoneStands pos variants
+
+-- P holds of each kept question with each of its variants
+pub record HoldsOfEach {Q A : Type 0} (P : Q → Variant A → Type 0) (kept : Kept Q A) : Type 0 where
+  pub each : (q : Q) (variants : List (Variant A)) (variant : Variant A) → Contains kept.0 (q, variants) → Contains variants variant → P q variant
