@@ -2,6 +2,7 @@
 ghost use Rattle.std.specs.Prelude.{◌≡◌, ◌≢◌, ◌≤◌, ◌↔◌, List, ℕ, false, length, IfOk};
 ghost use Rattle.gtp_lex.specs.Raw.{raw_line};
 ghost use Rattle.go_options.specs.Found.{AreInRange};
+ghost use Rattle.go_strings.specs.Games.{reached};
 ghost use Rattle.gtp_cmd.specs.Within.{IsWithin, SaysWithin};
 ghost use Rattle.session.specs.Machine.{position_of};
 ghost use Rattle.session.specs.Kept.{machine_of, matcher_of, first_kept, NumbersPatterns};
@@ -21,6 +22,7 @@ use dfa_core::Automaton;
 use go_base::{Bytes, NoMemory, Position, Size};
 use go_history::{History, Move};
 use go_options::Options;
+use go_strings::StringBoard;
 use gtp_cmd::{Command, KomiText, Parsed, RefuseText, names_text, parse};
 use gtp_lex::Raw;
 use match_engine::Readings;
@@ -227,5 +229,13 @@ impl Session {
         ensures size { (position_of (machine_of self.now)).size ≡ self.now.size }
     {
         self.history.position()
+    }
+
+    /// The board after the moves, which tells strings, liberties and legal points without a search.
+    fn board(&self) -> &StringBoard
+        ensures value { reached result.now ≡ position_of (machine_of self.now) }
+        ensures size { (position_of (machine_of self.now)).size ≡ self.now.size }
+    {
+        self.history.board()
     }
 }

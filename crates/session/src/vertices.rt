@@ -1,9 +1,11 @@
 //! Points as vertices, in a growing text.
 ghost use Rattle.std.specs.Prelude.{◌≡◌, ◌-◌, ◌*◌, ◌<◌, ◌++◌, ◌∷◌, [], OnOk, IfOk, decimal, slice_index};
+ghost use Rattle.go_strings.specs.Games.{reached};
 ghost use Rattle.gtp_cmd.specs.Vertices.{vertex_text, column_letters};
 ghost use Rattle.session.specs.PointLists.{in_reading_order, legal_list, liberty_list, vertices_text, blank_after};
 
-use go_base::{Bytes, Colour, NoMemory, Point, PointSet, Position, Size};
+use go_base::{Bytes, Colour, NoMemory, Point, PointSet, Size};
+use go_strings::StringBoard;
 use gtp_cmd::{column_letter, vertex_text};
 use itoa::Buffer;
 use std::alloc::Global;
@@ -57,20 +59,22 @@ fn points_text(alloc: Global, size: Size, points: &PointSet) -> Result<Bytes, No
 }
 
 /// The points where a colour may play, as vertices in reading order.
-pub(crate) fn legal_text(alloc: Global, position: &Position, c: Colour) -> Result<Bytes, NoMemory>
-    ensures { IfOk result (λ text. text ≡ vertices_text position.now.size (legal_list position.now c)) }
+pub(crate) fn legal_text(alloc: Global, board: &StringBoard, c: Colour) -> Result<Bytes, NoMemory>
+    ensures { IfOk result
+        (λ text. text ≡ vertices_text (reached board.now).size (legal_list (reached board.now) c)) }
 {
-    points_text(alloc, position.size(), &position.legal_points(c))
+    points_text(alloc, board.size(), &board.legal_points(c))
 }
 
 /// The liberties of the string of p, as vertices in reading order.
 pub(crate) fn liberties_text(
     alloc: Global,
-    position: &Position,
+    board: &StringBoard,
     p: Point,
 ) -> Result<Bytes, NoMemory>
-    requires { p < position.now.size * position.now.size }
-    ensures { IfOk result (λ text. text ≡ vertices_text position.now.size (liberty_list position.now p)) }
+    requires { p < (reached board.now).size * (reached board.now).size }
+    ensures { IfOk result
+        (λ text. text ≡ vertices_text (reached board.now).size (liberty_list (reached board.now) p)) }
 {
-    points_text(alloc, position.size(), &position.liberty_points(p))
+    points_text(alloc, board.size(), &board.liberty_points(p))
 }

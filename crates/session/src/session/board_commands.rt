@@ -3,6 +3,7 @@ ghost use Rattle.std.specs.Prelude.{◌≡◌, ◌*◌, ◌<◌, ◌≤◌, leng
 ghost use Rattle.go_rules.specs.declared.Move.{Move};
 ghost use Rattle.go_rules.specs.Replay.{moved};
 ghost use Rattle.go_rules.specs.Strings.{cell_at, is_stone};
+ghost use Rattle.go_strings.specs.Games.{reached};
 ghost use Rattle.session.specs.Machine.{position_of};
 ghost use Rattle.session.specs.Kept.{machine_of};
 ghost use Rattle.session.specs.BoardCommands.{digit_of, resized, cleared, komi_kept, played, taken_back, shown, allowed, all_allowed, liberties_counted, liberties_found, captures_counted};
@@ -12,8 +13,9 @@ use crate::answer::{Answer, grown, told, told_number};
 use crate::board_text::board_text;
 use crate::session::Session;
 use crate::vertices::{legal_text, liberties_text};
-use go_base::{Cell, Colour, Point, Position, Size};
+use go_base::{Cell, Colour, Point, Size};
 use go_history::{HistoryError, Move};
+use go_strings::StringBoard;
 use gtp_cmd::{KomiText, RefuseText};
 
 /// `1` or `0`.
@@ -25,11 +27,11 @@ fn digit(holds: bool) -> &'static [u8]
 }
 
 /// Whether a stone stands at p.
-pub(crate) fn has_stone(position: &Position, p: Point) -> bool
-    requires { p < position.now.size * position.now.size }
-    ensures { result ≡ is_stone (cell_at position.now.cells p) }
+pub(crate) fn has_stone(board: &StringBoard, p: Point) -> bool
+    requires { p < (reached board.now).size * (reached board.now).size }
+    ensures { result ≡ is_stone (cell_at (reached board.now).cells p) }
 {
-    match position.cell(p) {
+    match board.cell(p) {
         Cell::Empty => false,
         Cell::Black | Cell::White => true,
     }
@@ -105,7 +107,7 @@ impl Session {
         ensures { result ≡ is_ok (moved (position_of (machine_of self.now)) m) }
     {
         match m.at {
-            Some(p) => self.position().play(m.colour, p).is_ok(),
+            Some(p) => self.board().is_legal(m.colour, p),
             None => true,
         }
     }
@@ -127,8 +129,7 @@ impl Session {
         ensures { IsAnswer (machine_of self.now) (all_allowed (machine_of self.now) colour) result
             (machine_of self.now) }
     {
-        let position = self.position();
-        grown(legal_text(self.alloc, &position, colour))
+        grown(legal_text(self.alloc, self.board(), colour))
     }
 
     pub(crate) fn count_liberties(&self, p: Point) -> Answer
@@ -136,11 +137,11 @@ impl Session {
         ensures { IsAnswer (machine_of self.now) (liberties_counted (machine_of self.now) p) result
             (machine_of self.now) }
     {
-        let position = self.position();
-        if !has_stone(&position, p) {
+        let board = self.board();
+        if !has_stone(board, p) {
             return Answer::Refused(RefuseText::VertexEmpty);
         }
-        told_number(u32::from(position.liberties(p)))
+        told_number(u32::from(board.liberties(p)))
     }
 
     pub(crate) fn find_liberties(&self, p: Point) -> Answer
@@ -148,11 +149,11 @@ impl Session {
         ensures { IsAnswer (machine_of self.now) (liberties_found (machine_of self.now) p) result
             (machine_of self.now) }
     {
-        let position = self.position();
-        if !has_stone(&position, p) {
+        let board = self.board();
+        if !has_stone(board, p) {
             return Answer::Refused(RefuseText::VertexEmpty);
         }
-        grown(liberties_text(self.alloc, &position, p))
+        grown(liberties_text(self.alloc, board, p))
     }
 
     pub(crate) fn count_captures(&self, colour: Colour) -> Answer

@@ -44,10 +44,10 @@ impl Session {
         ensures trials { has_stone (machine_of self.old) p ≡ false → self.new.counts.trials ≡ self.old.counts.trials }
         ensures none_kept { self.new.counts.refused ≡ self.old.counts.refused }
     {
-        let position = self.position();
-        if !has_stone(&position, p) {
+        if !has_stone(self.board(), p) {
             return Answer::Refused(RefuseText::VertexEmpty);
         }
+        let position = self.position();
         let answer = self.readings.read(kind, &position, p);
         let tried = self.readings.last();
         self.count_reading(tried);
