@@ -1,5 +1,5 @@
 //! Matches as a growing text, one a line.
-ghost use Rattle.std.specs.Prelude.{◌≡◌, ◌*◌, ◌<◌, ◌++◌, length, slice_get, OnOk, IfOk};
+ghost use Rattle.std.specs.Prelude.{◌≡◌, ◌*◌, ◌<◌, ◌≤◌, ◌++◌, length, slice_get, OnOk, IfOk};
 ghost use Rattle.match_engine.specs.MachineMatches.{machine_matches};
 ghost use Rattle.match_engine.specs.Readings.{codes_of};
 ghost use Rattle.session.specs.Kept.{NumbersPatterns};
@@ -79,6 +79,7 @@ pub(crate) fn matches_text(
     ensures text { IfOk result (λ text. text ≡ matches_text patterns.now position.now.size
         (machine_matches (codes_of readings.old) machine.now patterns.now position.now friend)) }
     ensures depths { SameDepths readings.old readings.new }
+    ensures refused { readings.old.refused ≤ readings.new.refused }
 {
     let found = matches(alloc, patterns, machine, position, friend, readings)?;
     list_text(alloc, patterns, position.size(), found.as_slice())

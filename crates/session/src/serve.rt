@@ -13,7 +13,7 @@ ghost use Rattle.session.specs.Headline.{IsCauseOf};
 ghost use Rattle.session.specs.Opened.{ServesCounting};
 ghost use Rattle.session.specs.Kept.{machine_of, matcher_of, step_of};
 ghost use Rattle.session.specs.Tallies.{kept_sum};
-ghost use Rattle.session.specs.Serving.{IsAfresh, Puts, PutsPart, PutsReply, progress_of, Replies, RepliesPart, RunsTo, RunsPart};
+ghost use Rattle.session.specs.Serving.{HasFewFresh, Puts, PutsPart, PutsReply, progress_of, Replies, RepliesPart, RunsTo, RunsPart};
 
 use crate::outcome::End;
 use crate::reply::Reply;
@@ -78,7 +78,7 @@ fn answer<K: Sink>(
         (progress_of (K.written output.old) session.old sent.old)
         (progress_of (K.written output.new) session.new sent.new)) }
     ensures same { matcher_of session.new ≡ matcher_of session.old }
-    ensures afresh { IsAfresh session.old.counts → IsAfresh session.new.counts }
+    ensures few_fresh { HasFewFresh session.old.counts → HasFewFresh session.new.counts }
     ensures cause { IsCounted (K.faults output.old) (K.faults output.new) result }
 {
     match session.line(raw) {
@@ -120,7 +120,7 @@ fn answer_taken<K: Sink>(
         (progress_of (K.written output.old) session.old sent.old)
         (progress_of (K.written output.new) session.new sent.new)) }
     ensures same { matcher_of session.new ≡ matcher_of session.old }
-    ensures afresh { IsAfresh session.old.counts → IsAfresh session.new.counts }
+    ensures few_fresh { HasFewFresh session.old.counts → HasFewFresh session.new.counts }
     ensures cause { IsCounted (K.faults output.old) (K.faults output.new) result }
 {
     match taken {
@@ -151,7 +151,7 @@ fn answer_next<K: Sink>(
         (progress_of (K.written output.old) session.old sent.old)
         (progress_of (K.written output.new) session.new sent.new)) }
     ensures same { matcher_of session.new ≡ matcher_of session.old }
-    ensures afresh { IsAfresh session.old.counts → IsAfresh session.new.counts }
+    ensures few_fresh { HasFewFresh session.old.counts → HasFewFresh session.new.counts }
     ensures cause { IsCounted (K.faults output.old) (K.faults output.new) result }
 {
     let count = lines.feed(rest);
@@ -184,7 +184,7 @@ fn answer_piece<K: Sink>(
         (progress_of (K.written output.old) session.old sent.old)
         (progress_of (K.written output.new) session.new sent.new)) }
     ensures same { matcher_of session.new ≡ matcher_of session.old }
-    ensures afresh { IsAfresh session.old.counts → IsAfresh session.new.counts }
+    ensures few_fresh { HasFewFresh session.old.counts → HasFewFresh session.new.counts }
     ensures cause { IsCounted (K.faults output.old) (K.faults output.new) result }
 {
     let mut rest = piece;
@@ -214,7 +214,7 @@ fn answer_rest<K: Sink>(
         (held_line lines.old.held)
         (progress_of (K.written output.old) session.old sent.old)
         (progress_of (K.written output.new) session.new sent.new)) }
-    ensures afresh { IsAfresh session.old.counts → IsAfresh session.new.counts }
+    ensures few_fresh { HasFewFresh session.old.counts → HasFewFresh session.new.counts }
     ensures cause { IsCounted (K.faults output.old) (K.faults output.new) result }
 {
     match lines.finish() {
@@ -263,7 +263,7 @@ pub(crate) fn serve<S: Source, K: Sink>(
         }) result
         (progress_of (K.written output.old) session.old sent.old)
         (progress_of (K.written output.new) session.new sent.new) }
-    ensures afresh { IsAfresh session.old.counts → IsAfresh session.new.counts }
+    ensures few_fresh { HasFewFresh session.old.counts → HasFewFresh session.new.counts }
     ensures input { IsCauseOf (result ≡ End.InputFault) (S.faults input.old) (S.faults input.new) }
     ensures output { IsCauseOf (result ≡ End.OutputFault) (K.faults output.old) (K.faults output.new) }
 {

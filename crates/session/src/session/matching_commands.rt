@@ -3,6 +3,7 @@ ghost use Rattle.std.specs.Prelude.{◌≡◌};
 ghost use Rattle.session.specs.Kept.{machine_of, matcher_of};
 ghost use Rattle.session.specs.MatchingCommands.{matches_listed, patterns_listed};
 ghost use Rattle.session.specs.Answers.{IsAnswer};
+ghost use Rattle.session.specs.Asking.{KeepsCounts};
 
 use crate::answer::{Answer, grown};
 use crate::match_text::matches_text;
@@ -16,7 +17,7 @@ impl Session {
             (matches_listed (matcher_of self.old) (machine_of self.old) friend) result (machine_of self.new) }
         ensures patterns { self.new.patterns ≡ self.old.patterns }
         ensures same { self.new.automaton ≡ self.old.automaton }
-        ensures counts { self.new.counts ≡ self.old.counts }
+        ensures counts { KeepsCounts self.old self.new }
     {
         let position = self.position();
         grown(matches_text(

@@ -18,4 +18,4 @@ returns-clause-ok c =
     let accepts = subst (λ ps. IsMachineOf ps rows) c.as_slice.ensures.value c.in_ok-machine.ensures.accepts in
     let plies = c.args.options.now.depth in
     let wide = c.args.options.now.branch in
-    subst (IsPlainWith patterns plies wide) (sym c.in_ok-new.ensures) (plain-first patterns rows plies wide accepts)
+    subst (IsPlainWith patterns plies wide) (sym c.in_ok-new.ensures) (plain-first patterns rows plies wide c.args.options.now.cache accepts)

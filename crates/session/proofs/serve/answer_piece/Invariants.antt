@@ -3,7 +3,7 @@ use Rattle.gtp_rules.specs.Lines.{RawLine}
 use Rattle.gtp_lex.specs.Held.{lines_from, held_from}
 use Rattle.session.specs.Counting.{is_read_line}
 use Rattle.session.specs.Kept.{machine_of, matcher_of, step_of}
-use Rattle.session.specs.Serving.{IsAfresh, RunsTo, progress_of}
+use Rattle.session.specs.Serving.{HasFewFresh, RunsTo, progress_of}
 use Rattle.session.proofs.serve.answer_piece.Given as goal
 
 -- some of the piece's lines were answered, and those of the rest are left
@@ -15,7 +15,7 @@ invariant-loop-rest g l = record {
       (progress_of (g.K.Sink.written l.output) l.session l.sent);
   held : held_from l.fn.lines.held l.fn.piece ≡ held_from l.lines.held l.rest;
   same : matcher_of l.session ≡ matcher_of l.fn.session;
-  afresh : IsAfresh l.fn.session.counts → IsAfresh l.session.counts;
+  few_fresh : HasFewFresh l.fn.session.counts → HasFewFresh l.session.counts;
   open_ended : l.lines.waits ≡ false;
   faults : g.K.Sink.faults l.output ≡ g.K.Sink.faults l.fn.output;
 }

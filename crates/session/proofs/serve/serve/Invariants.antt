@@ -1,7 +1,7 @@
 use Rattle.std.proofs.Common.{◌≡◌, length, false}
 use Rattle.session.specs.Counting.{is_read_line}
 use Rattle.session.specs.Kept.{machine_of, matcher_of, step_of}
-use Rattle.session.specs.Serving.{IsAfresh, progress_of}
+use Rattle.session.specs.Serving.{HasFewFresh, progress_of}
 use Rattle.session.proofs.Served.{Served}
 use Rattle.session.proofs.serve.serve.Given as goal
 
@@ -13,7 +13,7 @@ invariant-loop-room g l = record {
       (progress_of (g.K.Sink.written l.fn.output) l.fn.session l.fn.sent)
       (progress_of (g.K.Sink.written l.output) l.session l.sent) l.lines.held l.room;
   same : matcher_of l.session ≡ matcher_of l.fn.session;
-  afresh : IsAfresh l.fn.session.counts → IsAfresh l.session.counts;
+  few_fresh : HasFewFresh l.fn.session.counts → HasFewFresh l.session.counts;
   open_ended : l.lines.waits ≡ false;
   buffer : length l.buf ≡ 4096;
   input_faults : g.S.Source.faults l.input ≡ g.S.Source.faults l.fn.input;
