@@ -14,6 +14,7 @@ class Move(NamedTuple):
 
     colour: str
     vertex: str
+    is_set_up: bool = False
 
     def __str__(self) -> str:
         return f"{self.colour} {self.vertex}"
@@ -43,7 +44,7 @@ def read(path: str) -> Record:
         if name == "AE":
             raise NotPlayable(path)
         if name in ("AB", "AW"):
-            moves += [Move(name[1].lower(), vertex(point, size)) for point in listed(values)]
+            moves += [Move(name[1].lower(), vertex(point, size), True) for point in listed(values)]
         elif name in ("B", "W"):
             moves.append(Move(name.lower(), vertex(values[0], size)))
     return Record(size, komi, moves)

@@ -7,6 +7,7 @@ use go_options::read_options;
 use gtp_io::{Feed, Page, Shelf, SureFeed, SurePage, SureShelf};
 use gtp_lex::Raw;
 use pat_types::Pattern;
+use helpers::Helpers;
 use session::{Outcome, Reply, Session, WordsError, run, run_words};
 use std::alloc::Global;
 use std::process::Abort;
@@ -805,7 +806,8 @@ fn session_by_another(alloc: Global) -> Result<Session, Fail> {
     let Ok(options) = read_options(alloc, &[]) else {
         return Err(Fail::from("no words are options"));
     };
-    Ok(Session::new(alloc, patterns, machine, &options)?)
+    let helpers = Helpers::new(alloc, Vec::new(alloc))?;
+    Ok(Session::new(alloc, patterns, machine, helpers, &options)?)
 }
 
 // The automaton asks for an enemy's stone where the pattern has a friend's.

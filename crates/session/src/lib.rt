@@ -8,6 +8,7 @@
 
 mod answer;
 mod board_text;
+mod engine;
 pub mod laws;
 mod match_text;
 mod opening;
@@ -21,6 +22,7 @@ mod top_call;
 mod vertices;
 
 pub use self::session::Session;
+pub use engine::Engine;
 pub use outcome::{End, OpenError, Outcome, WordsError};
 pub use reply::Reply;
 pub use top_call::{run, run_words};

@@ -15,6 +15,7 @@ use dfa_join::compile;
 use go_options::Options;
 use gtp_io::{LoadError, Loader};
 use gtp_lex::Lines;
+use helpers::Helpers;
 use pat_types::Pattern;
 use std::alloc::{AllocError, Global};
 
@@ -86,12 +87,13 @@ fn session_with(
 ) -> Result<Session, OpenError>
     requires few { length patterns.items ≤ most_patterns }
     requires ranges { AreInRange options.now }
-    ensures ok { IfOk result (λ session. IsPlainWith patterns.items options.now.depth options.now.branch session) }
+    ensures ok { IfOk result (λ session. IsPlainWith patterns.items options.now.depth options.now.branch session.engine) }
     ensures few { OnOk result (HasFewStates patterns.items options.now.states) }
     ensures err { IfErr result (RefusesStates patterns.items options.now.states) }
 {
     let machine = compile(alloc, patterns.as_slice(), options.states)?;
-    Ok(Session::new(alloc, patterns, machine, options)?)
+    let helpers = Helpers::new(alloc, Vec::new(alloc))?;
+    Ok(Session::new(alloc, patterns, machine, helpers, options)?)
 }
 
 /// Opens the files of the options: joins their contents, reads them as one database and makes its patterns one
@@ -102,7 +104,7 @@ pub(crate) fn open<L: Loader>(
     files: &mut L,
 ) -> Result<Opened, OpenError>
     requires { AreInRange options.now }
-    ensures ok { IfOk result (λ opened. Opens (L.contents files.old) options.now opened.session opened.lines) }
+    ensures ok { IfOk result (λ opened. Opens (L.contents files.old) options.now opened.session.engine opened.lines) }
     ensures kept { OnOk result (L.missed files.new ≡ L.missed files.old) }
     ensures err { IfErr result (IsRefused (L.contents files.old) options.now.files options.now.states) }
     ensures missed { IfErr result (MissedIn options.now.files (L.missed files.old) (L.missed files.new)) }

@@ -69,16 +69,16 @@ fn answer<K: Sink>(
     output: &mut K,
     sent: &mut Sent,
 ) -> Result<bool, Failed>
-    ensures ok { IfOk result (λ ends. Replies (step_of session.old) is_read_line (machine_of session.old)
+    ensures ok { IfOk result (λ ends. Replies (step_of session.old.engine) is_read_line (machine_of session.old.engine)
         (raw_line raw.entry)
-        (machine_of session.new) ends (progress_of (K.written output.old) session.old sent.old)
-        (progress_of (K.written output.new) session.new sent.new)) }
-    ensures part { OnErr result (RepliesPart (step_of session.old) is_read_line (machine_of session.old)
+        (machine_of session.new.engine) ends (progress_of (K.written output.old) session.old.engine sent.old)
+        (progress_of (K.written output.new) session.new.engine sent.new)) }
+    ensures part { OnErr result (RepliesPart (step_of session.old.engine) is_read_line (machine_of session.old.engine)
         (raw_line raw.entry)
-        (progress_of (K.written output.old) session.old sent.old)
-        (progress_of (K.written output.new) session.new sent.new)) }
-    ensures same { matcher_of session.new ≡ matcher_of session.old }
-    ensures few_fresh { HasFewFresh session.old.counts → HasFewFresh session.new.counts }
+        (progress_of (K.written output.old) session.old.engine sent.old)
+        (progress_of (K.written output.new) session.new.engine sent.new)) }
+    ensures same { matcher_of session.new.engine ≡ matcher_of session.old.engine }
+    ensures few_fresh { HasFewFresh session.old.engine.counts → HasFewFresh session.new.engine.counts }
     ensures cause { IsCounted (K.faults output.old) (K.faults output.new) result }
 {
     match session.line(raw) {
@@ -112,15 +112,15 @@ fn answer_taken<K: Sink>(
 ) -> Result<bool, Failed>
     requires { (held : RawLine) × (lines.now ≡ given_state held) × (taken ≡ taken_of held) }
     ensures ok { (held : RawLine) → lines.now ≡ given_state held → taken ≡ taken_of held → IfOk result
-        (λ ends. Replies (step_of session.old) is_read_line (machine_of session.old) held
-        (machine_of session.new) ends (progress_of (K.written output.old) session.old sent.old)
-        (progress_of (K.written output.new) session.new sent.new)) }
+        (λ ends. Replies (step_of session.old.engine) is_read_line (machine_of session.old.engine) held
+        (machine_of session.new.engine) ends (progress_of (K.written output.old) session.old.engine sent.old)
+        (progress_of (K.written output.new) session.new.engine sent.new)) }
     ensures part { (held : RawLine) → lines.now ≡ given_state held → taken ≡ taken_of held → OnErr result
-        (RepliesPart (step_of session.old) is_read_line (machine_of session.old) held
-        (progress_of (K.written output.old) session.old sent.old)
-        (progress_of (K.written output.new) session.new sent.new)) }
-    ensures same { matcher_of session.new ≡ matcher_of session.old }
-    ensures few_fresh { HasFewFresh session.old.counts → HasFewFresh session.new.counts }
+        (RepliesPart (step_of session.old.engine) is_read_line (machine_of session.old.engine) held
+        (progress_of (K.written output.old) session.old.engine sent.old)
+        (progress_of (K.written output.new) session.new.engine sent.new)) }
+    ensures same { matcher_of session.new.engine ≡ matcher_of session.old.engine }
+    ensures few_fresh { HasFewFresh session.old.engine.counts → HasFewFresh session.new.engine.counts }
     ensures cause { IsCounted (K.faults output.old) (K.faults output.new) result }
 {
     match taken {
@@ -140,18 +140,18 @@ fn answer_next<K: Sink>(
 ) -> Result<(usize, bool), Failed>
     requires { lines.old.waits ≡ false }
     ensures bound { IfOk result (λ turn. (turn.0 ≤ length rest.now) × (0 < length rest.now → 0 < turn.0)) }
-    ensures ok { IfOk result (λ turn. RunsTo (step_of session.old) is_read_line (machine_of session.old)
-        (lines_from lines.old.held (take turn.0 rest.now)) (machine_of session.new) turn.1
-        (progress_of (K.written output.old) session.old sent.old)
-        (progress_of (K.written output.new) session.new sent.new)) }
+    ensures ok { IfOk result (λ turn. RunsTo (step_of session.old.engine) is_read_line (machine_of session.old.engine)
+        (lines_from lines.old.held (take turn.0 rest.now)) (machine_of session.new.engine) turn.1
+        (progress_of (K.written output.old) session.old.engine sent.old)
+        (progress_of (K.written output.new) session.new.engine sent.new)) }
     ensures held { IfOk result (λ turn. (lines.new.held ≡ held_from lines.old.held (take turn.0 rest.now))
         × (lines.new.waits ≡ false)) }
-    ensures part { OnErr result (RunsPart (step_of session.old) is_read_line (machine_of session.old)
+    ensures part { OnErr result (RunsPart (step_of session.old.engine) is_read_line (machine_of session.old.engine)
         (lines_from lines.old.held rest.now)
-        (progress_of (K.written output.old) session.old sent.old)
-        (progress_of (K.written output.new) session.new sent.new)) }
-    ensures same { matcher_of session.new ≡ matcher_of session.old }
-    ensures few_fresh { HasFewFresh session.old.counts → HasFewFresh session.new.counts }
+        (progress_of (K.written output.old) session.old.engine sent.old)
+        (progress_of (K.written output.new) session.new.engine sent.new)) }
+    ensures same { matcher_of session.new.engine ≡ matcher_of session.old.engine }
+    ensures few_fresh { HasFewFresh session.old.engine.counts → HasFewFresh session.new.engine.counts }
     ensures cause { IsCounted (K.faults output.old) (K.faults output.new) result }
 {
     let count = lines.feed(rest);
@@ -173,18 +173,18 @@ fn answer_piece<K: Sink>(
     sent: &mut Sent,
 ) -> Result<bool, Failed>
     requires { lines.old.waits ≡ false }
-    ensures ok { IfOk result (λ ended. RunsTo (step_of session.old) is_read_line (machine_of session.old)
+    ensures ok { IfOk result (λ ended. RunsTo (step_of session.old.engine) is_read_line (machine_of session.old.engine)
         (lines_from lines.old.held piece.now)
-        (machine_of session.new) ended (progress_of (K.written output.old) session.old sent.old)
-        (progress_of (K.written output.new) session.new sent.new)) }
+        (machine_of session.new.engine) ended (progress_of (K.written output.old) session.old.engine sent.old)
+        (progress_of (K.written output.new) session.new.engine sent.new)) }
     ensures held { IfOk result (λ ended. ended ≡ false →
         (lines.new.held ≡ held_from lines.old.held piece.now) × (lines.new.waits ≡ false)) }
-    ensures part { OnErr result (RunsPart (step_of session.old) is_read_line (machine_of session.old)
+    ensures part { OnErr result (RunsPart (step_of session.old.engine) is_read_line (machine_of session.old.engine)
         (lines_from lines.old.held piece.now)
-        (progress_of (K.written output.old) session.old sent.old)
-        (progress_of (K.written output.new) session.new sent.new)) }
-    ensures same { matcher_of session.new ≡ matcher_of session.old }
-    ensures few_fresh { HasFewFresh session.old.counts → HasFewFresh session.new.counts }
+        (progress_of (K.written output.old) session.old.engine sent.old)
+        (progress_of (K.written output.new) session.new.engine sent.new)) }
+    ensures same { matcher_of session.new.engine ≡ matcher_of session.old.engine }
+    ensures few_fresh { HasFewFresh session.old.engine.counts → HasFewFresh session.new.engine.counts }
     ensures cause { IsCounted (K.faults output.old) (K.faults output.new) result }
 {
     let mut rest = piece;
@@ -206,15 +206,15 @@ fn answer_rest<K: Sink>(
     sent: &mut Sent,
 ) -> Result<bool, Failed>
     requires { lines.old.waits ≡ false }
-    ensures ok { IfOk result (λ ended. RunsTo (step_of session.old) is_read_line (machine_of session.old)
+    ensures ok { IfOk result (λ ended. RunsTo (step_of session.old.engine) is_read_line (machine_of session.old.engine)
         (held_line lines.old.held)
-        (machine_of session.new) ended (progress_of (K.written output.old) session.old sent.old)
-        (progress_of (K.written output.new) session.new sent.new)) }
-    ensures part { OnErr result (RunsPart (step_of session.old) is_read_line (machine_of session.old)
+        (machine_of session.new.engine) ended (progress_of (K.written output.old) session.old.engine sent.old)
+        (progress_of (K.written output.new) session.new.engine sent.new)) }
+    ensures part { OnErr result (RunsPart (step_of session.old.engine) is_read_line (machine_of session.old.engine)
         (held_line lines.old.held)
-        (progress_of (K.written output.old) session.old sent.old)
-        (progress_of (K.written output.new) session.new sent.new)) }
-    ensures few_fresh { HasFewFresh session.old.counts → HasFewFresh session.new.counts }
+        (progress_of (K.written output.old) session.old.engine sent.old)
+        (progress_of (K.written output.new) session.new.engine sent.new)) }
+    ensures few_fresh { HasFewFresh session.old.engine.counts → HasFewFresh session.new.engine.counts }
     ensures cause { IsCounted (K.faults output.old) (K.faults output.new) result }
 {
     match lines.finish() {
@@ -246,7 +246,7 @@ pub(crate) fn serve<S: Source, K: Sink>(
     sent: &mut Sent,
 ) -> End
     requires { lines.old ≡ no_line }
-    ensures serves { ServesCounting None (step_of session.old) is_read_line (machine_of session.old)
+    ensures serves { ServesCounting None (step_of session.old.engine) is_read_line (machine_of session.old.engine)
         (record {
           left = S.left input.old;
           piece = S.piece input.old;
@@ -261,9 +261,9 @@ pub(crate) fn serve<S: Source, K: Sink>(
           written = K.written output.new;
           output_faults = K.faults output.new;
         }) result
-        (progress_of (K.written output.old) session.old sent.old)
-        (progress_of (K.written output.new) session.new sent.new) }
-    ensures few_fresh { HasFewFresh session.old.counts → HasFewFresh session.new.counts }
+        (progress_of (K.written output.old) session.old.engine sent.old)
+        (progress_of (K.written output.new) session.new.engine sent.new) }
+    ensures few_fresh { HasFewFresh session.old.engine.counts → HasFewFresh session.new.engine.counts }
     ensures input { IsCauseOf (result ≡ End.InputFault) (S.faults input.old) (S.faults input.new) }
     ensures output { IsCauseOf (result ≡ End.OutputFault) (K.faults output.old) (K.faults output.new) }
 {

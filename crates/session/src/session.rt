@@ -1,256 +1,93 @@
-//! A session: what the plain machine keeps, and its answer to each line.
-ghost use Rattle.std.specs.Prelude.{◌≡◌, ◌≢◌, ◌≤◌, ◌↔◌, List, ℕ, length, IfOk};
+//! A session of the protocol: what it keeps, and the helpers that its patterns ask.
+ghost use Rattle.std.specs.Prelude.{⊤, ◌≡◌, ◌≢◌, ◌↔◌, IfOk};
 ghost use Rattle.gtp_lex.specs.Raw.{raw_line};
 ghost use Rattle.go_options.specs.Found.{AreInRange};
-ghost use Rattle.go_strings.specs.Games.{reached};
-ghost use Rattle.gtp_cmd.specs.Within.{IsWithin, SaysWithin};
-ghost use Rattle.session.specs.Machine.{position_of};
 ghost use Rattle.session.specs.Kept.{machine_of, matcher_of, first_kept, NumbersPatterns};
-ghost use Rattle.session.specs.Answering.{step, parsed_step, effect_of, word_of};
-ghost use Rattle.session.specs.Answers.{IsAnswer};
+ghost use Rattle.session.specs.Answering.{step};
 ghost use Rattle.session.specs.Tallies.{reply_count};
-ghost use Rattle.session.specs.Counting.{counted, is_read, is_parsed_read, is_read_line};
+ghost use Rattle.session.specs.Counting.{counted, is_read_line};
 ghost use Rattle.session.specs.Serving.{HasFewFresh};
-ghost use Rattle.session.specs.Asking.{ReadsAs, KeepsCounts, asks_of, asks_of_parsed, asks_of_line};
+ghost use Rattle.session.specs.Asking.{ReadsAs, KeepsCounts, asks_of_line};
 ghost use Rattle.session.specs.Replies.{IsReplyTo, IsWithoutWords, IsRefusal, reply_bytes};
 
-mod board_commands;
-mod matching_commands;
-mod reading_commands;
-
-use crate::answer::{Answer, grown, told};
+use crate::engine::Engine;
 use crate::reply::Reply;
 use dfa_core::Automaton;
-use go_base::{Bytes, NoMemory, Position, Size};
-use go_history::{History, Move};
+use go_base::NoMemory;
 use go_options::Options;
-use go_strings::StringBoard;
-use gtp_cmd::{Command, KomiText, Parsed, RefuseText, names_text, parse};
 use gtp_lex::Raw;
-use match_engine::Readings;
+use helpers::Helpers;
 use pat_types::Pattern;
-use read_moves::Depths;
-use read_tree::Kind;
 use run_notes::Counts;
 use std::alloc::Global;
-use std::marker::Model;
 
-/// What a session counts of the lines that ask for a reading and are answered with a code.
-#[derive(Clone, Copy)]
-pub(crate) struct ReadingCounts {
-    /// How many there were.
-    pub(crate) readings: u64,
-    /// How many of them were read afresh.
-    pub(crate) fresh: u64,
-    /// How many trial plays these made.
-    pub(crate) trials: u64,
-}
-
-/// Nothing was counted.
-const NO_COUNTS: ReadingCounts = ReadingCounts {
-    readings: 0,
-    fresh: 0,
-    trials: 0,
-};
-
-/// The size of the board before the first line that says one.
-const FIRST_SIZE: u8 = 19;
-
-/// A session of the protocol, seen as what it keeps; `machine_of` is the machine that this is.
+/// A session of the protocol.
 #[derive(Drop)]
 pub struct Session {
-    alloc: Global,
-    history: History,
-    komi: KomiText,
-    readings: Readings,
-    patterns: Vec<Pattern>,
-    automaton: Automaton,
-    counts: ReadingCounts,
-}
-
-impl Model for Session {
-    ghost use Rattle.session.specs.Kept.{Kept, NumbersPatterns};
-    ghost use Rattle.pat_types.specs.contracts.expr.Expr as expr;
-    ghost use Rattle.std.specs.Coded.{codes};
-
-    ghost Value = { Kept };
-
-    ghost coded = { Prim.hlevel (codes, expr.the_row.coded) };
-
-    ghost view = { λ s. record {
-      size = s.history.size;
-      moves = s.history.moves;
-      komi = s.komi;
-      plies = s.readings.plies;
-      wide = s.readings.wide;
-      patterns = s.patterns.items;
-      automaton = s.automaton;
-      counts = record {
-        readings = s.counts.readings;
-        fresh = s.counts.fresh;
-        trials = s.counts.trials;
-        refused = s.readings.refused;
-      };
-      readings = s.readings;
-    } };
-
-    ghost invariant = { λ s. NumbersPatterns s.automaton s.patterns.items };
-}
-
-/// `true` or `false`.
-fn word(known: bool) -> &'static [u8]
-    ensures text { result.now ≡ word_of known }
-    ensures short { length result.now ≤ 5 }
-{
-    if known { b"true" } else { b"false" }
+    /// The machine that it is, its patterns and what it counted.
+    pub engine: Engine,
+    /// The helpers that its patterns ask.
+    pub helpers: Helpers,
 }
 
 impl Session {
-    /// A session with these patterns, whose matches it finds by this automaton, before its first line: a board of 19
-    /// by 19, no moves, the komi 0.0, readings as deep as the options say, nothing counted. Takes memory.
+    /// A session with these patterns, whose matches it finds by this automaton, and these helpers, before its first
+    /// line: a board of 19 by 19, no moves, the komi 0.0, readings as deep as the options say, nothing counted. Takes
+    /// memory.
     pub fn new(
         alloc: Global,
         patterns: Vec<Pattern>,
         machine: Automaton,
+        helpers: Helpers,
         options: &Options,
     ) -> Result<Session, NoMemory>
         requires numbers { NumbersPatterns machine patterns.items }
         requires ranges { AreInRange options.now }
-        ensures { IfOk result (λ session. session
+        ensures engine { IfOk result (λ session. session.engine
             ≡ first_kept patterns.items machine options.now.depth options.now.branch options.now.cache) }
+        ensures helpers { IfOk result (λ session. session.helpers ≡ helpers) }
     {
-        let size = Size::new(FIRST_SIZE).unwrap();
-        Ok(Session {
-            alloc,
-            history: History::new(alloc, size)?,
-            komi: KomiText::zero(),
-            readings: Readings::new(
-                alloc,
-                Depths::new(options.depth, options.branch).unwrap(),
-                options.cache,
-            )?,
-            patterns,
-            automaton: machine,
-            counts: NO_COUNTS,
-        })
+        let engine = Engine::new(alloc, patterns, machine, options)?;
+        Ok(Session { engine, helpers })
     }
 
     /// What the session counted: its lines that asked for a reading and were answered with a code, those of them that
     /// were read afresh, the moves that these tried, and the readings that could not be kept for want of memory.
     pub fn stats(&self) -> Counts
-        ensures { result ≡ self.now.counts }
+        ensures { result ≡ self.now.engine.counts }
     {
-        Counts {
-            readings: self.counts.readings,
-            fresh: self.counts.fresh,
-            trials: self.counts.trials,
-            refused: self.readings.refused(),
-        }
+        self.engine.stats()
     }
 
     /// Answers one line, by the step of the machine that the session is: for the matches of its patterns this takes
     /// those by its automaton. With the automaton of the patterns it is the plain machine.
     ///
     /// Nothing comes exactly for a line without words. NoMemory comes only in place of a growing reply. It leaves the
-    /// machine as it was, and so does a refused line; of the counts only that of refused keepings may have risen.
+    /// machine as it was, and so does a refused line; of the counts only that of refused keepings may have risen. The
+    /// empty condition says that the call makes no helper of its own.
     pub fn line(&mut self, raw: Raw<'_>) -> Reply
-        ensures reply { IsReplyTo (machine_of self.old)
-            (step (matcher_of self.old) (machine_of self.old) (raw_line raw.entry))
-            result (machine_of self.new) }
+        requires { ⊤ }
+        ensures reply { IsReplyTo (machine_of self.old.engine)
+            (step (matcher_of self.old.engine) (machine_of self.old.engine) (raw_line raw.entry))
+            result (machine_of self.new.engine) }
         ensures nothing { result ≡ Reply.Nothing ↔ IsWithoutWords (raw_line raw.entry) }
         ensures bytes { result ≢ Reply.Nothing → reply_count (reply_bytes result) ≡ 1 }
-        ensures patterns { self.new.patterns ≡ self.old.patterns }
-        ensures same { self.new.automaton ≡ self.old.automaton }
+        ensures patterns { self.new.engine.patterns ≡ self.old.engine.patterns }
+        ensures same { self.new.engine.automaton ≡ self.old.engine.automaton }
 
         // A line that asks for a reading and is answered with a code is counted.
-        ensures readings { self.new.counts.readings ≡ counted self.old.counts.readings
-            (is_read_line (machine_of self.old) (raw_line raw.entry)) }
+        ensures readings { self.new.engine.counts.readings ≡ counted self.old.engine.counts.readings
+            (is_read_line (machine_of self.old.engine) (raw_line raw.entry)) }
 
-        // It makes one reading, which is kept or fresh; a line that asks for matches may make any, and no other line makes one.
-        ensures read { ReadsAs (asks_of_line (machine_of self.old) (raw_line raw.entry)) self.old self.new }
-        ensures few_fresh { HasFewFresh self.old.counts → HasFewFresh self.new.counts }
-        ensures refused { IsRefusal (reply_bytes result) → (machine_of self.new ≡ machine_of self.old) × KeepsCounts self.old self.new }
+        // It makes one reading, which is kept or fresh; a line that asks for matches may make any, and no other line
+        // makes one.
+        ensures read { ReadsAs (asks_of_line (machine_of self.old.engine) (raw_line raw.entry)) self.old.engine
+            self.new.engine }
+        ensures few_fresh { HasFewFresh self.old.engine.counts → HasFewFresh self.new.engine.counts }
+        ensures refused { IsRefusal (reply_bytes result) → (machine_of self.new.engine ≡ machine_of self.old.engine)
+            × KeepsCounts self.old.engine self.new.engine }
+        ensures helpers { self.new.helpers ≡ self.old.helpers }
     {
-        match raw {
-            Raw::TooLong => Reply::refused(None, RefuseText::LineTooLong),
-            Raw::Line(text) => {
-                let size = self.history.size();
-                self.answer(parse(text, size))
-            }
-        }
-    }
-
-    /// Answers what a line says.
-    fn answer(&mut self, parsed: Parsed) -> Reply
-        requires { SaysWithin self.old.size parsed }
-        ensures reply { IsReplyTo (machine_of self.old) (parsed_step (matcher_of self.old) (machine_of self.old) parsed)
-            result (machine_of self.new) }
-        ensures nothing { result ≡ Reply.Nothing ↔ (parsed ≡ Parsed.Nothing) }
-        ensures bytes { result ≢ Reply.Nothing → reply_count (reply_bytes result) ≡ 1 }
-        ensures patterns { self.new.patterns ≡ self.old.patterns }
-        ensures same { self.new.automaton ≡ self.old.automaton }
-        ensures readings { self.new.counts.readings ≡ counted self.old.counts.readings
-            (is_parsed_read (machine_of self.old) parsed) }
-        ensures read { ReadsAs (asks_of_parsed (machine_of self.old) parsed) self.old self.new }
-    {
-        match parsed {
-            Parsed::Nothing => Reply::Nothing,
-            Parsed::Refused { id, text } => Reply::refused(id, text),
-            Parsed::Command { id, command } => self.obey(command).reply(self.alloc, id),
-        }
-    }
-
-    /// Does what a command says.
-    fn obey(&mut self, command: Command) -> Answer
-        requires { IsWithin self.old.size command }
-        ensures answer { IsAnswer (machine_of self.old) (effect_of (matcher_of self.old) (machine_of self.old) command)
-            result (machine_of self.new) }
-        ensures patterns { self.new.patterns ≡ self.old.patterns }
-        ensures same { self.new.automaton ≡ self.old.automaton }
-        ensures readings { self.new.counts.readings ≡ counted self.old.counts.readings
-            (is_read (machine_of self.old) command) }
-        ensures read { ReadsAs (asks_of (machine_of self.old) command) self.old self.new }
-    {
-        match command {
-            Command::ProtocolVersion => told(b"2"),
-            Command::Name => told(b"gopat"),
-            Command::Version => told(b"1"),
-            Command::KnownCommand(known) => told(word(known)),
-            Command::ListCommands => grown(names_text(self.alloc)),
-            Command::Quit => Answer::Ended,
-            Command::BoardSize(size) => self.resize(size),
-            Command::ClearBoard => self.clear(),
-            Command::Komi(komi) => self.keep_komi(komi),
-            Command::GetKomi => told(self.komi.as_slice()),
-            Command::Play(colour, at) => self.play(Move { colour, at }),
-            Command::Undo => self.undo(),
-            Command::ShowBoard => self.show_board(),
-            Command::IsLegal(colour, at) => self.tell_legal(Move { colour, at }),
-            Command::AllLegal(colour) => self.list_legal(colour),
-            Command::CountLib(p) => self.count_liberties(p),
-            Command::FindLib(p) => self.find_liberties(p),
-            Command::Captures(colour) => self.count_captures(colour),
-            Command::Attack(p) => self.read(Kind::Attack, p),
-            Command::Defend(p) => self.read(Kind::Defend, p),
-            Command::Depths { plies, wide } => self.deepen(plies, wide),
-            Command::MatchPatterns(friend) => self.list_matches(friend),
-            Command::ListPatterns => self.list_patterns(),
-        }
-    }
-
-    /// The position after the moves.
-    fn position(&self) -> Position
-        ensures value { result ≡ position_of (machine_of self.now) }
-        ensures size { (position_of (machine_of self.now)).size ≡ self.now.size }
-    {
-        self.history.position()
-    }
-
-    /// The board after the moves, which tells strings, liberties and legal points without a search.
-    fn board(&self) -> &StringBoard
-        ensures value { reached result.now ≡ position_of (machine_of self.now) }
-        ensures size { (position_of (machine_of self.now)).size ≡ self.now.size }
-    {
-        self.history.board()
+        self.engine.line(raw)
     }
 }

@@ -67,7 +67,7 @@ fn serve_lines<S: Source, K: Sink>(
     sent: &mut Sent,
 ) -> End
     requires { opened.old.lines ≡ no_line }
-    ensures serves { ServesCounting generate (step_of opened.old.session) is_read_line (machine_of opened.old.session)
+    ensures serves { ServesCounting generate (step_of opened.old.session.engine) is_read_line (machine_of opened.old.session.engine)
         (record {
           left = S.left input.old;
           piece = S.piece input.old;
@@ -82,9 +82,9 @@ fn serve_lines<S: Source, K: Sink>(
           written = K.written output.new;
           output_faults = K.faults output.new;
         }) result
-        (progress_of (K.written output.old) opened.old.session sent.old)
-        (progress_of (K.written output.new) opened.new.session sent.new) }
-    ensures few_fresh { HasFewFresh opened.old.session.counts → HasFewFresh opened.new.session.counts }
+        (progress_of (K.written output.old) opened.old.session.engine sent.old)
+        (progress_of (K.written output.new) opened.new.session.engine sent.new) }
+    ensures few_fresh { HasFewFresh opened.old.session.engine.counts → HasFewFresh opened.new.session.engine.counts }
     ensures input { IsCauseOf (result ≡ End.InputFault) (S.faults input.old) (S.faults input.new) }
     ensures output { IsCauseOf (result ≡ End.OutputFault) (K.faults output.old) (K.faults output.new) }
 {

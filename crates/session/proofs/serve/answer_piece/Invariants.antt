@@ -10,12 +10,12 @@ use Rattle.session.proofs.serve.answer_piece.Given as goal
 abbrev pub invariant-loop-rest : goal.invariant-loop-rest
 invariant-loop-rest g l = record {
   answered : (lines : List RawLine) × (lines_from l.fn.lines.held l.fn.piece ≡ lines ++ lines_from l.lines.held l.rest)
-      × RunsTo (step_of l.fn.session) is_read_line (machine_of l.fn.session) lines (machine_of l.session) false
-      (progress_of (g.K.Sink.written l.fn.output) l.fn.session l.fn.sent)
-      (progress_of (g.K.Sink.written l.output) l.session l.sent);
+      × RunsTo (step_of l.fn.session.engine) is_read_line (machine_of l.fn.session.engine) lines (machine_of l.session.engine) false
+      (progress_of (g.K.Sink.written l.fn.output) l.fn.session.engine l.fn.sent)
+      (progress_of (g.K.Sink.written l.output) l.session.engine l.sent);
   held : held_from l.fn.lines.held l.fn.piece ≡ held_from l.lines.held l.rest;
-  same : matcher_of l.session ≡ matcher_of l.fn.session;
-  few_fresh : HasFewFresh l.fn.session.counts → HasFewFresh l.session.counts;
+  same : matcher_of l.session.engine ≡ matcher_of l.fn.session.engine;
+  few_fresh : HasFewFresh l.fn.session.engine.counts → HasFewFresh l.session.engine.counts;
   open_ended : l.lines.waits ≡ false;
   faults : g.K.Sink.faults l.output ≡ g.K.Sink.faults l.fn.output;
 }

@@ -8,10 +8,10 @@ ghost use Rattle.session.specs.Asking.{KeepsCounts};
 use crate::answer::{Answer, grown};
 use crate::match_text::matches_text;
 use crate::pattern_text::patterns_text;
-use crate::session::Session;
+use crate::engine::Engine;
 use go_base::Colour;
 
-impl Session {
+impl Engine {
     pub(crate) fn list_matches(&mut self, friend: Colour) -> Answer
         ensures answer { IsAnswer (machine_of self.old)
             (matches_listed (matcher_of self.old) (machine_of self.old) friend) result (machine_of self.new) }

@@ -9,14 +9,14 @@ ghost use Rattle.session.specs.Asking.{ReadsAs, asks_at, after_trials};
 
 use crate::answer::{Answer, told};
 use crate::readings::answer_text;
-use crate::session::Session;
-use crate::session::board_commands::has_stone;
+use crate::engine::Engine;
+use crate::engine::board_commands::has_stone;
 use go_base::Point;
 use gtp_cmd::RefuseText;
 use read_moves::Depths;
 use read_tree::Kind;
 
-impl Session {
+impl Engine {
     /// Counts a reading: the moves that it tried, where it was made afresh.
     fn count_reading(&mut self, tried: Option<u64>)
         ensures machine { machine_of self.new ≡ machine_of self.old }

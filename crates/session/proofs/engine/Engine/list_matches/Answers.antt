@@ -1,7 +1,7 @@
 -- The automaton's numbers are those of the session's patterns.
 use Rattle.std.proofs.Common.{sym, subst}
 use Rattle.session.specs.Kept.{NumbersPatterns}
-use Rattle.session.proofs.session.Session.list_matches.Goals as goal
+use Rattle.session.proofs.engine.Engine.list_matches.Goals as goal
 
 pub matches_text-requires : goal.matches_text-requires
 matches_text-requires c = subst (λ patterns. NumbersPatterns c.self.inside.automaton patterns)

@@ -4,8 +4,8 @@ use Rattle.session.specs.BoardCommands.{played}
 use Rattle.session.specs.Kept.{Kept, machine_of}
 use Rattle.session.specs.Answers.{IsAnswer}
 use Rattle.session.proofs.Playing.{with_game, move_added, move_illegal, move_past_full, move_without_memory}
-use Rattle.session.proofs.session.Session.play.Goals as goal
-use Rattle.session.proofs.session.Session.play.Goals.{in-Ok, in-Err-Illegal, in-Err-Full, in-Err-NoMemory}
+use Rattle.session.proofs.engine.Engine.play.Goals as goal
+use Rattle.session.proofs.engine.Engine.play.Goals.{in-Ok, in-Err-Illegal, in-Err-Full, in-Err-NoMemory}
 
 pub returns-clause-answer : goal.returns-clause-answer
 returns-clause-answer c =

@@ -11,7 +11,7 @@ ghost use Rattle.session.specs.Answers.{IsAnswer};
 
 use crate::answer::{Answer, grown, told, told_number};
 use crate::board_text::board_text;
-use crate::session::Session;
+use crate::engine::Engine;
 use crate::vertices::{legal_text, liberties_text};
 use go_base::{Cell, Colour, Point, Size};
 use go_history::{HistoryError, Move};
@@ -37,7 +37,7 @@ pub(crate) fn has_stone(board: &StringBoard, p: Point) -> bool
     }
 }
 
-impl Session {
+impl Engine {
     pub(crate) fn resize(&mut self, size: Option<Size>) -> Answer
         ensures answer { IsAnswer (machine_of self.old) (resized (machine_of self.old) size) result
             (machine_of self.new) }

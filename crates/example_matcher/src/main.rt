@@ -1,0 +1,74 @@
+//! A program that uses the matcher as a library: patterns from a text, their automaton, a position, and the matches.
+#![tactic(auto)]
+
+ghost use Rattle.std.specs.Prelude.{◌≡◌, ◌≤◌, IfOk, length};
+ghost use Rattle.match_engine.specs.Readings.{codes_of};
+ghost use Rattle.match_rules.specs.Match.{matches_of};
+
+use db_read::read;
+use dfa_join::{JoinError, compile};
+use go_base::{Colour, Position, Size};
+use match_engine::{Match, Readings, matches};
+use pat_types::Pattern;
+use read_rules::Depths;
+use std::alloc::Global;
+use std::io;
+
+/// The longest list of patterns that has an automaton.
+const MOST_PATTERNS: usize = 4096;
+
+/// A stone of the friend beside the move, and the edge behind it; the stone that is played has to be safe.
+const TEXT: &[u8] = b"Pattern Edge\nO*|\n:8";
+
+/// The matches of the patterns on a position.
+fn found(
+    alloc: Global,
+    patterns: &[Pattern],
+    position: &Position,
+    friend: Colour,
+    readings: &mut Readings,
+) -> Result<Vec<Match>, JoinError>
+    requires { length patterns.now ≤ 4096 }
+    ensures { IfOk result (λ v. v.items ≡ matches_of (codes_of readings.old) patterns.now position.now friend) }
+{
+    let machine = compile(alloc, patterns, 100_000)?;
+    Ok(matches(alloc, patterns, &machine, position, friend, readings)?)
+}
+
+/// A board of 9 rows with a black stone in the second column from the right.
+fn board() -> Option<Position> {
+    let size = Size::new(9)?;
+    let position = Position::new(size);
+    position.play(Colour::Black, 5 * 9 + 7).ok()
+}
+
+fn main(rt: HostRuntime) -> io::Result<()> {
+    let alloc = rt.alloc();
+    let patterns = match read(alloc, TEXT, &[], Vec::new(alloc)) {
+        Ok(patterns) => patterns,
+        Err(why) => return println!(rt; "{why}"),
+    };
+    let (Some(position), Some(depths)) = (board(), Depths::new(10, 2)) else {
+        return println!(rt; "no position");
+    };
+    if patterns.len() > MOST_PATTERNS {
+        return println!(rt; "too many patterns");
+    }
+    let Ok(mut readings) = Readings::new(alloc, depths, 4096) else {
+        return println!(rt; "out of memory");
+    };
+    match found(alloc, &patterns, &position, Colour::Black, &mut readings) {
+        Ok(list) => {
+            for m in &list {
+                println!(rt;
+                    "pattern {} transformation {} point {}",
+                    m.pattern,
+                    m.transform.get(),
+                    m.at
+                )?;
+            }
+            println!(rt; "readings {}", readings.fresh())
+        }
+        Err(why) => println!(rt; "{why}"),
+    }
+}

@@ -1,0 +1,109 @@
+"""Runs every command of the documents for users, as it stands, and compares what it prints with what stands below it.
+
+usage: python3 tools/check_docs.py [FILE ...]
+
+Without files these are README.md and docs/FORMATS.md, docs/USING.md and docs/LIBRARY.md, in this order. It runs at the
+top of a fresh clone: README's commands prove and build the program, and docs/USING.md says what has to stand beside
+the clone.
+
+A command is a line `$ ..` of a block that is set off by three backticks; it goes on over lines that end in a
+backslash. The lines below it, up to the next command or the end of the block, are its standard output, where blank
+lines at the end do not count. A line `..` alone stands for lines that are left out. A block that is named `rust PATH`
+is a part of the file of this path, with the same use of `..`. In the table of kinds of docs/FORMATS.md each example
+is a text as printf takes it, and the program's note has to be the one beside it. A block under a line `<!-- not run:
+WHY -->` is passed over and told.
+"""
+
+import pathlib
+import re
+import subprocess
+import sys
+import tempfile
+from typing import Iterator, NamedTuple
+
+DOCUMENTS = ["README.md", "docs/FORMATS.md", "docs/USING.md", "docs/LIBRARY.md"]
+GOPAT = "crates/gopat/out/gopat"
+KIND = re.compile(r"\| (\d+) \| [^|]+ \| `([^`]+)` \| `(line \d+ kind \d+)` \|.*")
+
+
+class Block(NamedTuple):
+    """A block of a document: where it begins, what stands behind its backticks, why it is not run, and its lines."""
+
+    place: str
+    name: str
+    not_run: str | None
+    lines: list[str]
+
+
+def blocks(document: str) -> Iterator[Block]:
+    """The blocks that are set off by backticks."""
+    lines = pathlib.Path(document).read_text(encoding="utf-8").splitlines()
+    at = 0
+    while at < len(lines):
+        if lines[at].startswith("```"):
+            end = lines.index("```", at + 1)
+            above = next((line for line in reversed(lines[:at]) if line.strip()), "")
+            why = re.fullmatch(r"<!-- not run: (.*) -->", above)
+            yield Block(f"{document}:{at + 1}", lines[at][3:].strip(), why[1] if why else None, lines[at + 1 : end])
+            at = end
+        at += 1
+
+
+def commands(block: Block) -> Iterator[tuple[str, list[str]]]:
+    """Each command of a block with the lines below it."""
+    at = 0
+    while at < len(block.lines):
+        command = block.lines[at][2:]
+        while command.endswith("\\"):
+            at += 1
+            command += "\n" + block.lines[at]
+        after = next((i for i in range(at + 1, len(block.lines)) if block.lines[i].startswith("$ ")), len(block.lines))
+        yield command, block.lines[at + 1 : after]
+        at = after
+
+
+def agrees(wanted: list[str], got: list[str]) -> bool:
+    """Whether the lines are these, where a line `..` stands for any lines."""
+    pattern = "".join("(?:.*\n)*?" if line.strip() == ".." else re.escape(line.rstrip()) + "\n" for line in wanted)
+    return re.fullmatch(pattern.rstrip("\n") + "\n*", "".join(line.rstrip() + "\n" for line in got)) is not None
+
+
+def check_block(block: Block) -> Iterator[str | None]:
+    """For each command of a block, or for what it quotes, None or what is wrong."""
+    source = re.fullmatch(r"rust (\S+)", block.name)
+    if source:
+        text = pathlib.Path(source[1]).read_text(encoding="utf-8").splitlines()
+        yield None if agrees(["..", *block.lines, ".."], text) else f"{block.place}: not so in {source[1]}"
+    for command, wanted in commands(block) if block.lines and block.lines[0].startswith("$ ") else []:
+        done = subprocess.run(["bash", "-c", command], capture_output=True, text=True, check=False)
+        is_so = agrees(wanted, done.stdout.splitlines())
+        yield None if is_so else f"{block.place}: $ {command}\n{done.stdout}{done.stderr}"
+
+
+def check_kinds(document: str) -> Iterator[str | None]:
+    """For each row of the table of kinds None or what is wrong."""
+    rows = filter(None, map(KIND.fullmatch, pathlib.Path(document).read_text(encoding="utf-8").splitlines()))
+    for number, text, note in (row.groups() for row in rows):
+        with tempfile.NamedTemporaryFile(suffix=".db") as file:
+            file.write(subprocess.run(["printf", text.replace("\\|", "|")], capture_output=True, check=True).stdout)
+            file.flush()
+            done = subprocess.run([GOPAT, file.name], input="", capture_output=True, text=True, check=False)
+        yield None if done.stderr == f"bad database: {note}\n" else f"{document}: kind {number}: {done.stderr}"
+
+
+def main(documents: list[str]):
+    found: list[str | None] = []
+    for document in documents:
+        for block in blocks(document):
+            if block.not_run is None:
+                found += check_block(block)
+            else:
+                print(f"{block.place}: not run: {block.not_run}")
+        found += check_kinds(document)
+    wrong = [one for one in found if one]
+    print("\n".join([*wrong, f"{len(found)} commands, quotes and examples, {len(wrong)} of them differ"]))
+    sys.exit(1 if wrong else 0)
+
+
+if __name__ == "__main__":
+    main(sys.argv[1:] or DOCUMENTS)
