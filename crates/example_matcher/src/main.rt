@@ -2,12 +2,15 @@
 #![tactic(auto)]
 
 ghost use Rattle.std.specs.Prelude.{◌≡◌, ◌≤◌, IfOk, length};
+ghost use Rattle.helpers.specs.Asking.{says_yes};
+ghost use Rattle.helpers.specs.Slots.{states_of};
 ghost use Rattle.match_engine.specs.Readings.{codes_of};
 ghost use Rattle.match_rules.specs.Match.{matches_of};
 
 use db_read::read;
 use dfa_join::{JoinError, compile};
 use go_base::{Colour, Position, Size};
+use helpers::Helpers;
 use match_engine::{Match, Readings, matches};
 use pat_types::Pattern;
 use read_rules::Depths;
@@ -27,12 +30,16 @@ fn found(
     position: &Position,
     friend: Colour,
     readings: &mut Readings,
+    helpers: &mut Helpers,
 ) -> Result<Vec<Match>, JoinError>
     requires { length patterns.now ≤ 4096 }
-    ensures { IfOk result (λ v. v.items ≡ matches_of (codes_of readings.old) patterns.now position.now friend) }
+    ensures { IfOk result (λ v. v.items ≡ matches_of (codes_of readings.old) (says_yes (states_of state helpers.old))
+        patterns.now position.now friend) }
 {
     let machine = compile(alloc, patterns, 100_000)?;
-    Ok(matches(alloc, patterns, &machine, position, friend, readings)?)
+    Ok(matches(
+        alloc, patterns, &machine, position, friend, readings, helpers,
+    )?)
 }
 
 /// A board of 9 rows with a black stone in the second column from the right.
@@ -54,10 +61,18 @@ fn main(rt: HostRuntime) -> io::Result<()> {
     if patterns.len() > MOST_PATTERNS {
         return println!(rt; "too many patterns");
     }
-    let Ok(mut readings) = Readings::new(alloc, depths, 4096) else {
+    let none = Helpers::new(alloc, Vec::new(alloc));
+    let (Ok(mut readings), Ok(mut helpers)) = (Readings::new(alloc, depths, 4096), none) else {
         return println!(rt; "out of memory");
     };
-    match found(alloc, &patterns, &position, Colour::Black, &mut readings) {
+    match found(
+        alloc,
+        &patterns,
+        &position,
+        Colour::Black,
+        &mut readings,
+        &mut helpers,
+    ) {
         Ok(list) => {
             for m in &list {
                 println!(rt;

@@ -7,7 +7,7 @@ ghost use Rattle.helpers.specs.Asking.{after_off, after_remove};
 ghost use Rattle.helpers.specs.Slots.{slot_state, listed};
 
 use crate::Helper;
-use go_base::{Colour, NoMemory, Point, Position};
+use go_base::{Bytes, Colour, NoMemory, Point, Position};
 use std::alloc::{AllocError, Global};
 
 /// A place of a list of helpers.
@@ -20,6 +20,13 @@ pub struct HelperSlot {
 }
 
 impl HelperSlot {
+    /// The name of its helper.
+    fn name(&self) -> &str
+        ensures { result.now ≡ (slot_state state self.now).helper.name }
+    {
+        self.helper.name()
+    }
+
     /// Whether its helper has the name.
     fn has_name(&self, name: &[u8]) -> bool
         ensures { result ≡ has_name name.now (slot_state state self.now) }
@@ -42,6 +49,15 @@ impl HelperSlot {
     {
         self.on && self.helper.decide(pos, at, friend)
     }
+}
+
+/// A copy of some bytes. Takes memory.
+fn copied(alloc: Global, bytes: &[u8]) -> Result<Bytes, NoMemory>
+    ensures { IfOk result (λ copy. copy ≡ bytes.now) }
+{
+    let mut copy = Bytes::new(alloc);
+    copy.extend(bytes)?;
+    Ok(copy)
 }
 
 /// A list of helpers. Each is asked by its name; where two share a name the first is meant.
@@ -79,6 +95,17 @@ impl Helpers {
             slots.push(HelperSlot { helper, on: true })?;
         }
         Ok(Helpers { slots })
+    }
+
+    /// The names of the helpers in order. Takes memory.
+    pub fn names(&self, alloc: Global) -> Result<Vec<Bytes>, NoMemory>
+        ensures { IfOk result (λ names. names.items ≡ map (λ s. s.helper.name) (listed state self.now)) }
+    {
+        let mut names = Vec::new(alloc);
+        for slot in &self.slots {
+            names.push(copied(alloc, slot.name().as_bytes())?)?;
+        }
+        Ok(names)
     }
 
     /// Where the helper of the name stands.

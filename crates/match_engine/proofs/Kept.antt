@@ -19,7 +19,7 @@ KeepsFirst-none test old = record { fewer = omega arith; few = omega arith; same
 
 module _ (test : Match → Bool) (old now : List Match) (k n : ℕ) (z : Match) (before : KeepsFirst test old now k n) (low : n < length old) (read : z ≡ get_or now n z) where
   -- the element that is read is the one of before
-  read_old : z ≡ get_or old n z
+  pub read_old : z ≡ get_or old n z
   read_old =
       let first : n + 0 ≡ n = omega arith in
       read ∙ ap (λ i. get_or now i z) (sym first) ∙ sym (get_or-drop n now 0 z) ∙ ap (λ xs. get_or xs 0 z) before.rest ∙ get_or-drop n old 0 z ∙ ap (λ i. get_or old i z) first

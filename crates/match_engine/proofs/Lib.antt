@@ -10,3 +10,5 @@ pub mod Remembering
 pub mod Judged
 pub mod Labels
 pub mod Placed
+pub mod Filtered
+pub mod Agreed

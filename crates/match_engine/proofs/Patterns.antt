@@ -20,14 +20,14 @@ use Rattle.dfa_match.proofs.FitHits.{fit_from_hit, hit_from_fit}
 use Rattle.match_rules.specs.declared.found.Match.{Match}
 use Rattle.match_rules.specs.Fits.{place_of_cell, drawn_fits, fits}
 use Rattle.cons_eval.specs.Readings.{Codes}
-use Rattle.match_rules.specs.Conditions.{is_allowed}
-use Rattle.match_rules.specs.Match.{is_match, matches_of, ComesBefore}
-use Rattle.match_engine.specs.MachineMatches.{has_hit, place_of_anchor, lies_on_board, is_found, found_by, is_machine_match, machine_matches, is_allowed_at, IsFoundThere}
+use Rattle.match_rules.specs.Conditions.{Advice, all_yes, is_allowed, do_helpers_agree, is_agreed}
+use Rattle.match_rules.specs.Match.{is_match, matches_of}
+use Rattle.match_engine.specs.MachineMatches.{has_hit, place_of_anchor, lies_on_board, is_found, found_by, is_machine_match, machine_matches, is_allowed_at, is_agreed_at, IsFoundThere}
+use Rattle.helper_asking.specs.Fields.{helper_names}
 use Rattle.match_engine.proofs.Corners.{on_all}
 use Rattle.match_rules.proofs.InWords.{each_cell, all_cells, letter_from_cell}
 use Rattle.match_engine.proofs.Machine.{count_within, hit_of_accept, accept_of_hit, has_hit-true}
-use Rattle.std.proofs.lemmas.List.Kept.{AllPairs-filter}
-use Rattle.match_rules.proofs.Lists.{Contains-filter, Contains-filter_from}
+use Rattle.match_engine.proofs.Filtered.{matches_by-filter, all_agreed, and_yes, asked_last}
 use Rattle.match_rules.proofs.Orders.{IsBy, by-has, by-from, by-in_order, same_matches}
 use Rattle.match_engine.proofs.Places.{sum_of, placed_on, place_at-sum}
 
@@ -53,19 +53,19 @@ module _ (p : Pattern) (board : BoardState) (friend : Colour) (t m a : ℕ) (low
     cells = λ r c. ap (drawn_fits (drawn_at p r c) board friend) (same_place r c) ∙ each_cell p board friend t m is r c;
   }
 
-module _ (code : Codes) (patterns : List Pattern) (machine : List Row) (board : BoardState) (friend : Colour) (accepts : IsMachineOf patterns machine) where
+module _ (code : Codes) (advice : Advice) (patterns : List Pattern) (machine : List Row) (board : BoardState) (friend : Colour) (accepts : IsMachineOf patterns machine) where
   -- the test of a match, and that of a match by the machine
   abbrev matched : ℕ → Pattern → ℕ → ℕ → Bool
-  matched number p t m = is_match code p board friend t m
+  matched number p t m = is_match code advice p board friend t m
 
   abbrev by_machine : ℕ → Pattern → ℕ → ℕ → Bool
-  by_machine = is_machine_match code machine board friend
+  by_machine = is_machine_match code advice machine board friend
 
   -- a match by the machine is one of the patterns
   match_of_machine : (z : Match) → IsBy by_machine patterns board.size z → IsBy matched patterns board.size z
   match_of_machine z by =
       let p : Pattern = by.pattern in
-      let judged = and_parts (is_found machine board friend z.pattern p z.transform z.at) (is_allowed code p board friend z.transform z.at) by.passes in
+      let judged = and_parts (is_found machine board friend z.pattern p z.transform z.at) (is_agreed code advice p board friend z.transform z.at) by.passes in
       let parts = and_parts (has_hit machine board friend z.pattern z.transform (place_of_anchor p board.size z.transform z.at)) (lies_on_board p board.size z.transform z.at && is_legal board friend z.at) judged.0 in
       let legal = (and_parts (lies_on_board p board.size z.transform z.at) (is_legal board friend z.at) parts.1).1 in
       let found = has_hit-true machine board friend z.pattern z.transform (place_of_anchor p board.size z.transform z.at) parts.0 in
@@ -79,17 +79,17 @@ module _ (code : Codes) (patterns : List Pattern) (machine : List Row) (board : 
         number = by.number;
         transform = by.transform;
         at = by.at;
-        passes = and_from (fits p board friend z.transform z.at) (is_legal board friend z.at && is_allowed code p board friend z.transform z.at)
+        passes = and_from (fits p board friend z.transform z.at) (is_legal board friend z.at && is_agreed code advice p board friend z.transform z.at)
             (fits_at_star p board friend z.transform z.at found.0 low found.1 (subst (λ q. FitsAt q board friend z.transform found.0) same fit.fits))
-            (and_from (is_legal board friend z.at) (is_allowed code p board friend z.transform z.at) legal judged.1);
+            (and_from (is_legal board friend z.at) (is_agreed code advice p board friend z.transform z.at) legal judged.1);
       }
 
   -- and the other way round
   machine_of_match : (z : Match) → IsBy matched patterns board.size z → IsBy by_machine patterns board.size z
   machine_of_match z by =
       let p : Pattern = by.pattern in
-      let parts = and_parts (fits p board friend z.transform z.at) (is_legal board friend z.at && is_allowed code p board friend z.transform z.at) by.passes in
-      let judged = and_parts (is_legal board friend z.at) (is_allowed code p board friend z.transform z.at) parts.1 in
+      let parts = and_parts (fits p board friend z.transform z.at) (is_legal board friend z.at && is_agreed code advice p board friend z.transform z.at) by.passes in
+      let judged = and_parts (is_legal board friend z.at) (is_agreed code advice p board friend z.transform z.at) parts.1 in
       let low : z.transform < transformations = omega (arith, by.transform, count_within p.mark) in
       let within = anchor_within p in
       let letter = letter_from_cell p board friend z.transform z.at (anchor_of p).0 (anchor_of p).1 within.0 within.1 (each_cell p board friend z.transform z.at parts.0 (pos (anchor_of p).0) (pos (anchor_of p).1)) in
@@ -107,7 +107,7 @@ module _ (code : Codes) (patterns : List Pattern) (machine : List Row) (board : 
         number = by.number;
         transform = by.transform;
         at = by.at;
-        passes = and_from (is_found machine board friend z.pattern p z.transform z.at) (is_allowed code p board friend z.transform z.at)
+        passes = and_from (is_found machine board friend z.pattern p z.transform z.at) (is_agreed code advice p board friend z.transform z.at)
             (and_from (has_hit machine board friend z.pattern z.transform (place_of_anchor p board.size z.transform z.at)) (lies_on_board p board.size z.transform z.at && is_legal board friend z.at)
             (ap (has_hit machine board friend z.pattern z.transform) letter.place ∙ accept_of_hit machine board friend hit (hit_from_fit patterns machine board friend hit accepts fit))
             (and_from (lies_on_board p board.size z.transform z.at) (is_legal board friend z.at)
@@ -117,10 +117,10 @@ module _ (code : Codes) (patterns : List Pattern) (machine : List Row) (board : 
       }
 
   -- the machine of the patterns finds their matches
-  pub same_by_machine : machine_matches code machine patterns board friend ≡ matches_of code patterns board friend
+  pub same_by_machine : machine_matches code advice machine patterns board friend ≡ matches_of code advice patterns board friend
   unfolding machine_matches matches_of
   same_by_machine =
-      same_matches (machine_matches code machine patterns board friend) (matches_of code patterns board friend)
+      same_matches (machine_matches code advice machine patterns board friend) (matches_of code advice patterns board friend)
       (by-in_order by_machine patterns board.size) (by-in_order matched patterns board.size)
       (λ z there. by-from matched patterns board.size z (match_of_machine z (by-has by_machine patterns board.size z there)))
       (λ z there. by-from by_machine patterns board.size z (machine_of_match z (by-has matched patterns board.size z there)))
@@ -130,34 +130,39 @@ module _ (code : Codes) (patterns : List Pattern) (machine : List Row) (board : 
   abbrev pub allows : Match → Bool
   allows z = is_allowed_at code board friend (slice_get patterns z.pattern) z
 
-  -- the test of the machine's matches
-  abbrev says : ℕ → Pattern → ℕ → ℕ → Bool
-  says = is_machine_match code machine board friend
-
-  -- what the machine finds, where classes and constraint allow it, are the matches by the machine
-  pub filtered : filter allows (found_by machine patterns board friend) ≡ machine_matches code machine patterns board friend
+  -- what the machine finds, where classes and constraint allow it, is what matches if every helper says yes
+  pub filtered : filter allows (found_by machine patterns board friend) ≡ machine_matches code all_yes machine patterns board friend
   unfolding found_by machine_matches
   filtered =
-      same_matches (filter allows (found_by machine patterns board friend)) (machine_matches code machine patterns board friend)
-      (AllPairs-filter ComesBefore allows (found_by machine patterns board friend) (by-in_order (is_found machine board friend) patterns board.size))
-      (by-in_order says patterns board.size)
-      (λ z there.
-      let kept = Contains-filter allows (found_by machine patterns board friend) z there in
-      let by = by-has (is_found machine board friend) patterns board.size z kept.0 in
-      by-from says patterns board.size z (record {
-        pattern = by.pattern;
-        number = by.number;
-        transform = by.transform;
-        at = by.at;
-        passes = and_from (is_found machine board friend z.pattern by.pattern z.transform z.at) (is_allowed code by.pattern board friend z.transform z.at) by.passes
-            (sym (ap (λ o. is_allowed_at code board friend o z) by.number) ∙ kept.1);
-      }))
-      (λ z there.
-      let by = by-has says patterns board.size z there in
-      let parts = and_parts (is_found machine board friend z.pattern by.pattern z.transform z.at) (is_allowed code by.pattern board friend z.transform z.at) by.passes in
-      Contains-filter_from allows (found_by machine patterns board friend) z
-      (by-from (is_found machine board friend) patterns board.size z (record { pattern = by.pattern; number = by.number; transform = by.transform; at = by.at; passes = parts.0 }))
-      (ap (λ o. is_allowed_at code board friend o z) by.number ∙ parts.1))
+      matches_by-filter patterns board.size (is_found machine board friend) (is_machine_match code all_yes machine board friend) allows
+      (λ z p number.
+      ap (λ b. is_found machine board friend z.pattern p z.transform z.at && b)
+      (and_yes (is_allowed code p board friend z.transform z.at) (do_helpers_agree all_yes p board friend z.at) (all_agreed (helper_names p.items))
+      ∙ sym (ap (λ o. is_allowed_at code board friend o z) number)))
+
+  -- and of these those to which their helpers say yes are the matches by the machine
+  pub agreed : (advice : Advice) → filter (λ z. is_agreed_at advice board friend (slice_get patterns z.pattern) z) (machine_matches code all_yes machine patterns board friend)
+      ≡ machine_matches code advice machine patterns board friend
+  unfolding machine_matches
+  agreed advice =
+      matches_by-filter patterns board.size (is_machine_match code all_yes machine board friend) (is_machine_match code advice machine board friend)
+      (λ z. is_agreed_at advice board friend (slice_get patterns z.pattern) z)
+      (λ z p number.
+      asked_last (is_found machine board friend z.pattern p z.transform z.at) (is_allowed code p board friend z.transform z.at) (do_helpers_agree all_yes p board friend z.at)
+      (do_helpers_agree advice p board friend z.at) (all_agreed (helper_names p.items))
+      ∙ sym (ap (λ o. is_machine_match code all_yes machine board friend z.pattern p z.transform z.at && is_agreed_at advice board friend o z) number))
+
+  -- what was found and is allowed is what matches if every helper says yes
+  pub if_yes : (found now : List Match) → found ≡ found_by machine patterns board friend → now ≡ filter allows found
+      → now ≡ machine_matches code all_yes machine patterns board friend
+  if_yes found now is kept = kept ∙ ap (filter allows) is ∙ filtered
+
+  -- and what is agreed of it are the matches
+  pub if_agreed : (advice : Advice) (now last : List Match) → now ≡ machine_matches code all_yes machine patterns board friend
+      → last ≡ filter (λ z. is_agreed_at advice board friend (slice_get patterns z.pattern) z) now
+      → last ≡ machine_matches code advice machine patterns board friend
+  if_agreed advice now last is kept =
+      kept ∙ ap (filter (λ z. is_agreed_at advice board friend (slice_get patterns z.pattern) z)) is ∙ agreed advice
 
   -- what was found is of a pattern of the list, at a point of the board
   pub found-there : (z : Match) → Contains (found_by machine patterns board friend) z → IsFoundThere patterns board z

@@ -2,6 +2,7 @@ pub mod Caches
 pub mod Keys
 pub mod MachineMatches
 pub mod Found
+pub mod HelperCalls
 pub mod Readings
 pub mod Remembered
 pub mod Asked

@@ -13,7 +13,7 @@ use Rattle.dfa_match.specs.Sights.{word_at}
 use Rattle.match_rules.specs.declared.found.Match.{Match}
 use Rattle.match_rules.specs.Fits.{place_of_cell}
 use Rattle.cons_eval.specs.Readings.{Codes}
-use Rattle.match_rules.specs.Conditions.{is_allowed}
+use Rattle.match_rules.specs.Conditions.{Advice, is_allowed, do_helpers_agree, is_agreed}
 use Rattle.match_rules.specs.Match.{matches_by}
 
 -- the machine accepts the number at the end of some front of the word that is read from the anchor a under t
@@ -43,18 +43,23 @@ unfoldable pub found_by : List Row → List Pattern → BoardState → Colour �
 found_by machine patterns board friend = matches_by (is_found machine board friend) patterns board.size
 
 -- whether the machine says that the pattern with this number matches at m under t: it has a hit whose star stands at m, the whole
--- diagram lies on the board, the friend's play at m is legal, and its classes and its constraint allow it
-abbrev pub is_machine_match : Codes → List Row → BoardState → Colour → ℕ → Pattern → ℕ → ℕ → Bool
-is_machine_match code machine board friend number p t m = is_found machine board friend number p t m && is_allowed code p board friend t m
+-- diagram lies on the board, the friend's play at m is legal, and its classes, its constraint and its helpers allow it
+abbrev pub is_machine_match : Codes → Advice → List Row → BoardState → Colour → ℕ → Pattern → ℕ → ℕ → Bool
+is_machine_match code advice machine board friend number p t m = is_found machine board friend number p t m && is_agreed code advice p board friend t m
 
 -- the matches of the patterns by a machine, which need not be theirs
-unfoldable pub machine_matches : Codes → List Row → List Pattern → BoardState → Colour → List Match
-machine_matches code machine patterns board friend = matches_by (is_machine_match code machine board friend) patterns board.size
+unfoldable pub machine_matches : Codes → Advice → List Row → List Pattern → BoardState → Colour → List Match
+machine_matches code advice machine patterns board friend = matches_by (is_machine_match code advice machine board friend) patterns board.size
 
 -- whether the classes and the constraint of the match's pattern allow it
 abbrev pub is_allowed_at : Codes → BoardState → Colour → Option Pattern → Match → Bool
 is_allowed_at code board friend None z = false
 is_allowed_at code board friend (Some p) z = is_allowed code p board friend z.transform z.at
+
+-- whether the helpers of the match's pattern say yes to it
+abbrev pub is_agreed_at : Advice → BoardState → Colour → Option Pattern → Match → Bool
+is_agreed_at advice board friend None z = false
+is_agreed_at advice board friend (Some p) z = do_helpers_agree advice p board friend z.at
 
 -- the match is of a pattern of the list, and its point is on the board
 pub record IsFoundThere (patterns : List Pattern) (board : BoardState) (z : Match) : Type 0 where

@@ -9,10 +9,15 @@ ghost use Rattle.dfa_match.specs.declared.Hit.{Hit as HitSeen};
 ghost use Rattle.go_rules.specs.Play.{is_legal as is_legal_on};
 ghost use Rattle.match_rules.specs.declared.found.Match.{Match as MatchSeen};
 ghost use Rattle.match_rules.specs.Match.{matches_of};
+ghost use Rattle.match_rules.specs.Conditions.{all_yes};
+ghost use Rattle.helpers.specs.Asking.{says_yes};
+ghost use Rattle.helpers.specs.Slots.{states_of};
+ghost use Rattle.match_engine.specs.HelperCalls.{after_matches};
 ghost use Rattle.match_engine.specs.MachineMatches.{found_by as is_found_by, machine_matches, is_allowed_at, IsFoundThere};
 ghost use Rattle.match_engine.specs.Readings.{Follows, codes_of};
 ghost use Rattle.match_engine.specs.Found.{match_of as match_made, match_from};
 
+use crate::agreeing::keep_agreed;
 use crate::allowing::is_allowed;
 use crate::placing::{lies_on_board, star_place};
 use crate::plays::Plays;
@@ -20,6 +25,7 @@ use crate::readings::Readings;
 use dfa_core::Automaton;
 use dfa_match::{Hit, scan};
 use go_base::{Colour, NoMemory, Point, Position, Watch};
+use helpers::Helpers;
 use match_rules::Match;
 use pat_types::{Pattern, mark_count};
 use std::alloc::Global;
@@ -95,7 +101,7 @@ fn found_by(
 }
 
 /// The pattern at a place of the list.
-fn pattern_with(patterns: &[Pattern], number: u16) -> &Pattern
+pub(crate) fn pattern_with(patterns: &[Pattern], number: u16) -> &Pattern
     requires { number < length patterns.now }
     ensures { slice_get patterns.now number ≡ Some result.now }
 {
@@ -103,7 +109,7 @@ fn pattern_with(patterns: &[Pattern], number: u16) -> &Pattern
 }
 
 /// Puts a match behind those that are kept, where it is allowed, and says how many are kept then.
-fn keep(found: &mut Vec<Match>, kept: usize, z: Match, allowed: bool) -> usize
+pub(crate) fn keep(found: &mut Vec<Match>, kept: usize, z: Match, allowed: bool) -> usize
     requires { kept < length found.old.items }
     ensures found { found.new.items ≡ (if allowed then set found.old.items kept z else found.old.items) }
     ensures kept { result ≡ (if allowed then kept + 1 else kept) }
@@ -151,7 +157,9 @@ fn keep_allowed(
 ///
 /// Diagrams are found by the automaton alone: none is compared with the board again. With the automaton of the patterns the list
 /// is exactly that of the matches. Legality is asked before a reading, class `s` before class `n` and both before the constraint,
-/// and each play is read once. Takes all its memory before its first reading, and answers `NoMemory` where there is none.
+/// and each play is read once. Helpers are asked last: each once about a match that has all else, where every helper that the
+/// pattern names before it said yes. Takes all its memory before its first reading and its first call of a helper, and answers
+/// `NoMemory` where there is none.
 ///
 /// After GNU Go Manual, "The Pattern Code" and "The DFA pattern matcher".
 pub fn matches(
@@ -161,18 +169,29 @@ pub fn matches(
     position: &Position,
     friend: Colour,
     readings: &mut Readings,
+    helpers: &mut Helpers,
 ) -> Result<Vec<Match>, NoMemory>
     requires numbers { (w : Word) (n : ℕ) → Contains (accepted machine.now w) n → n < length patterns.now }
     // For every automaton.
-    ensures machine { IfOk result (λ v. v.items ≡ machine_matches (codes_of readings.old) machine.now patterns.now position.now friend) }
+    ensures machine { IfOk result (λ v. v.items ≡ machine_matches (codes_of readings.old) (says_yes (states_of state helpers.old))
+        machine.now patterns.now position.now friend) }
     // For that of the patterns.
-    ensures patterns { IfOk result (λ v. IsMachineOf patterns.now machine.now → v.items ≡ matches_of (codes_of readings.old) patterns.now position.now friend) }
+    ensures patterns { IfOk result (λ v. IsMachineOf patterns.now machine.now → v.items
+        ≡ matches_of (codes_of readings.old) (says_yes (states_of state helpers.old)) patterns.now position.now friend) }
+    // The helpers were asked about all that matches if they say yes, each as often as the rule of asking says.
+    ensures calls { OnOk result (states_of state helpers.new ≡ after_matches (states_of state helpers.old) patterns.now
+        (machine_matches (codes_of readings.old) all_yes machine.now patterns.now position.now friend) position.now friend) }
+    ensures calls_of_patterns { OnOk result (IsMachineOf patterns.now machine.now → states_of state helpers.new
+        ≡ after_matches (states_of state helpers.old) patterns.now
+        (matches_of (codes_of readings.old) all_yes patterns.now position.now friend) position.now friend) }
     // The depths of the readings are as before, and no count has fallen.
     ensures follows { OnOk result (Follows readings.old readings.new) }
-    // Without memory nothing was read.
+    // Without memory nothing was read, and no helper was asked.
     ensures unread { OnErr result (readings.new ≡ readings.old) }
+    ensures unasked { OnErr result (helpers.new ≡ helpers.old) }
 {
     let mut found = found_by(alloc, patterns, machine, position, friend)?;
     keep_allowed(patterns, position, friend, readings, &mut found);
+    keep_agreed(patterns, position, friend, helpers, &mut found);
     Ok(found)
 }

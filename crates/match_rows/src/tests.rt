@@ -2,6 +2,7 @@
 use db_read::{DbError, read};
 use dfa_join::{JoinError, compile};
 use go_base::{Colour, Point, Position, Size};
+use helpers::{Helper, Helpers, NearEdge, NoBan};
 use match_engine::{Match, Readings, matches};
 use pat_types::Pattern;
 use read_rules::Depths;
@@ -96,6 +97,7 @@ fn matches_by(
     let machine = compile(rt.alloc(), &others, 10_000)?;
     let depths = Depths::new(3, 2).ok_or("the depths are in range")?;
     let mut readings = Readings::new(rt.alloc(), depths, 4096)?;
+    let mut helpers = Helpers::new(rt.alloc(), Vec::new(rt.alloc()))?;
     Ok(matches(
         rt.alloc(),
         &patterns,
@@ -103,6 +105,7 @@ fn matches_by(
         position,
         friend,
         &mut readings,
+        &mut helpers,
     )?)
 }
 
@@ -462,6 +465,82 @@ fn sample_database_matches(rt: HostRuntime) -> Result<(), Fail> {
             (pattern, t, at),
             "in order"
         );
+    }
+    Ok(())
+}
+
+/// The matches of the patterns of a text for black, and how often `near_edge` and `no_ban` were asked for them.
+fn matches_asking(
+    rt: &HostRuntime,
+    text: &[u8],
+    position: &Position,
+) -> Result<(Vec<Match>, [Option<u64>; 2]), Fail> {
+    let mut list: Vec<Box<dyn Helper>> = Vec::new(rt.alloc());
+    list.push(Box::new(rt.alloc(), NearEdge::new())?)?;
+    list.push(Box::new(rt.alloc(), NoBan::new())?)?;
+    let mut helpers = Helpers::new(rt.alloc(), list)?;
+    let names = helpers.names(rt.alloc())?;
+    let patterns = read(rt.alloc(), text, names.as_slice(), Vec::new(rt.alloc()))?;
+    if patterns.len() > 4096 {
+        return Err("the list is no longer")?;
+    }
+    let machine = compile(rt.alloc(), &patterns, 10_000)?;
+    let depths = Depths::new(3, 2).ok_or("the depths are in range")?;
+    let mut readings = Readings::new(rt.alloc(), depths, 4096)?;
+    let found = matches(
+        rt.alloc(),
+        &patterns,
+        &machine,
+        position,
+        Colour::Black,
+        &mut readings,
+        &mut helpers,
+    )?;
+    Ok((
+        found,
+        [helpers.calls(b"near_edge"), helpers.calls(b"no_ban")],
+    ))
+}
+
+// Black stands on C5 of a board of 9: of the eight placements those at B5 are near the edge.
+#[test]
+fn helpers_are_asked_last_and_once(rt: HostRuntime) -> Result<(), Fail> {
+    let position = with_stones(9, &[38])?;
+    let near: &[(u16, u8, Point)] = &[(0, 2, 37), (0, 4, 37)];
+    let rows: [(&str, &[u8], &[(u16, u8, Point)], [u64; 2]); 4] = [
+        (
+            "the second is asked where the first says yes",
+            b"Pattern P\nO*\n:8,s,near_edge,no_ban",
+            near,
+            [8, 2],
+        ),
+        (
+            "a name that stands twice is asked once",
+            b"Pattern P\nO*\n:8,s,no_ban,near_edge,no_ban",
+            near,
+            [8, 8],
+        ),
+        (
+            "a constraint is asked before",
+            b"Pattern P\nO*\n:8,s,near_edge\nA*\n;lib(A)==3",
+            &[],
+            [0, 0],
+        ),
+        (
+            "another pattern's helpers are not asked for it",
+            b"Pattern P\nO*\n:O,s,near_edge\nPattern Q\nO*\n:O,s",
+            &[(1, 0, 39)],
+            [1, 0],
+        ),
+    ];
+    for (what, text, want, calls) in rows {
+        let (found, asked) = matches_asking(&rt, text, &position)?;
+        let mut told = Vec::new(rt.alloc());
+        for z in &found {
+            told.push((z.pattern, z.transform.get(), z.at))?;
+        }
+        assert_eq!(rt; told.as_slice(), want, "{what}");
+        assert_eq!(rt; asked, [Some(calls[0]), Some(calls[1])], "{what}");
     }
     Ok(())
 }

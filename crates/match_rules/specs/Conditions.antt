@@ -1,7 +1,7 @@
--- What a match asks beside its diagram and a legal move: its classes and its constraint. After "The Pattern Code" of the GNU Go
+-- What a match asks beside its diagram and a legal move: its classes, its constraint and its helpers. After "The Pattern Code" of the GNU Go
 -- Manual; the exact tests are this project's own. Codes are those of readings on the position after the play that is asked about.
 use Rattle.std.specs.Prelude.{◌≡◌, ℕ, ◌==◌, ◌&&◌, ◌||◌, not, Bool, true, List, [], ◌∷◌, Option, Some, None, Ok, pos, if◌then◌else◌}
-use Rattle.std.specs.List.{list_any}
+use Rattle.std.specs.List.{list_all, list_any}
 use Rattle.go_rules.specs.declared.Colour.{Colour}
 use Rattle.go_rules.specs.Position.{BoardState, other}
 use Rattle.go_rules.specs.Play.{play}
@@ -16,6 +16,7 @@ use Rattle.cons_eval.specs.Functions.{is_safe_move}
 use Rattle.cons_eval.specs.Meanings.{Meanings}
 use Rattle.cons_eval.specs.Values.{is_so, value_of}
 use Rattle.match_rules.specs.Fits.{place_of_cell}
+use Rattle.helper_asking.specs.Fields.{helper_names}
 
 -- the class letter s: the stone that is played need not be safe
 abbrev pub unsafe_class : ℕ
@@ -76,3 +77,19 @@ is_constraint_true code p board friend t m = is_so_valued (meanings_at code p bo
 unfoldable pub is_allowed : Codes → Pattern → BoardState → Colour → ℕ → ℕ → Bool
 is_allowed code p board friend t m =
     is_safe code p board friend m && (is_enemy_safe code p board friend m && is_constraint_true code p board friend t m)
+
+-- what the helper of each name says of a position, a point and a colour; a name without a helper that is on has a no
+abbrev pub Advice : Type 0
+Advice = List ℕ → BoardState → ℕ → Colour → Bool
+
+-- every helper says yes to everything
+abbrev pub all_yes : Advice
+all_yes name board m friend = true
+
+-- whether every helper that the pattern names says yes to the friend's move at m
+abbrev pub do_helpers_agree : Advice → Pattern → BoardState → Colour → ℕ → Bool
+do_helpers_agree advice p board friend m = list_all (λ name. advice name board m friend) (helper_names p.items)
+
+-- whether the classes, the constraint and the helpers of the pattern allow the friend's move at m under t
+abbrev pub is_agreed : Codes → Advice → Pattern → BoardState → Colour → ℕ → ℕ → Bool
+is_agreed code advice p board friend t m = is_allowed code p board friend t m && do_helpers_agree advice p board friend m

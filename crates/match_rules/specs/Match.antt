@@ -1,6 +1,6 @@
 -- The matches of patterns on a position, in order: by the pattern's number, the transformation, and the point of the move.
--- A pattern asks for its diagram, for a legal move, and for what its classes and its constraint say; helpers are not asked.
-use Rattle.std.specs.Prelude.{◌≡◌, ◌≢◌, pos, ℕ, ◌*◌, ◌<◌, ◌&&◌, ◌⊎◌, Bool, List, map, filter, Some, Ok, slice_get, Contains}
+-- A pattern asks for its diagram, for a legal move, and for what its classes, its constraint and its helpers say.
+use Rattle.std.specs.Prelude.{◌≡◌, ◌≢◌, pos, true, ℕ, ◌*◌, ◌<◌, ◌&&◌, ◌⊎◌, Bool, List, map, filter, Some, Ok, slice_get, Contains}
 use Rattle.std.specs.List.{flat_map, enumerate_from, range_with_len, AllPairs}
 use Rattle.go_rules.specs.declared.Colour.{Colour}
 use Rattle.go_rules.specs.Position.{BoardState, other}
@@ -12,12 +12,13 @@ use Rattle.pat_types.specs.declared.expr.Expr.{Expr}
 use Rattle.cons_eval.specs.Readings.{Codes}
 use Rattle.cons_eval.specs.Values.{value_of}
 use Rattle.match_rules.specs.Fits.{fits, Fits}
-use Rattle.match_rules.specs.Conditions.{unsafe_class, enemy_class, IsSafePlay, meanings_at, is_allowed}
+use Rattle.match_rules.specs.Conditions.{unsafe_class, enemy_class, IsSafePlay, Advice, meanings_at, is_agreed}
+use Rattle.helper_asking.specs.Fields.{helper_names}
 
--- whether the pattern matches at m under t: it fits there, the friend's play at m is legal, and its classes and its constraint
--- allow it
-abbrev pub is_match : Codes → Pattern → BoardState → Colour → ℕ → ℕ → Bool
-is_match code p board friend t m = fits p board friend t m && (is_legal board friend m && is_allowed code p board friend t m)
+-- whether the pattern matches at m under t: it fits there, the friend's play at m is legal, and its classes, its constraint and
+-- its helpers allow it
+abbrev pub is_match : Codes → Advice → Pattern → BoardState → Colour → ℕ → ℕ → Bool
+is_match code advice p board friend t m = fits p board friend t m && (is_legal board friend m && is_agreed code advice p board friend t m)
 
 -- the matches of the pattern with this number under t, by a test of the points of a board of size s
 abbrev pub matches_under : (ℕ → Bool) → ℕ → ℕ → ℕ → List Match
@@ -32,11 +33,11 @@ abbrev pub matches_by : (ℕ → Pattern → ℕ → ℕ → Bool) → List Patt
 matches_by test patterns s = flat_map (λ numbered. matches_of_one (test numbered.0 numbered.1) numbered.0 numbered.1 s) (enumerate_from 0 patterns)
 
 -- the matches of the patterns for a friend: each pattern under each transformation of its mark at each point where it matches
-unfoldable pub matches_of : Codes → List Pattern → BoardState → Colour → List Match
-matches_of code patterns board friend = matches_by (λ number p t m. is_match code p board friend t m) patterns board.size
+unfoldable pub matches_of : Codes → Advice → List Pattern → BoardState → Colour → List Match
+matches_of code advice patterns board friend = matches_by (λ number p t m. is_match code advice p board friend t m) patterns board.size
 
--- z is a match of the patterns for a friend, where this is the code of each reading
-pub record IsMatch (code : Codes) (patterns : List Pattern) (board : BoardState) (friend : Colour) (z : Match) : Type 0 where
+-- z is a match of the patterns for a friend, where this is the code of each reading, and this what each helper says
+pub record IsMatch (code : Codes) (advice : Advice) (patterns : List Pattern) (board : BoardState) (friend : Colour) (z : Match) : Type 0 where
   pub pattern : Pattern
   pub number : slice_get patterns z.pattern ≡ Some pattern
   pub transform : z.transform < count_of pattern.mark
@@ -49,13 +50,15 @@ pub record IsMatch (code : Codes) (patterns : List Pattern) (board : BoardState)
   pub enemy_safe : Contains pattern.classes enemy_class → IsSafePlay code board (other friend) z.at
   -- the constraint, if there is one, has a value other than 0 at the moved labels
   pub constraint_true : (e : Expr) → pattern.constraint ≡ Some e → value_of (meanings_at code pattern board friend z.transform z.at) e ≢ pos 0
+  -- every helper that the pattern names says yes
+  pub helpers_agree : (name : List ℕ) → Contains (helper_names pattern.items) name → advice name board z.at friend ≡ true
 
 -- y comes before z: by the pattern's number, then by the transformation, then by the point
 abbrev pub ComesBefore : Match → Match → Type 0
 ComesBefore y z = (y.pattern < z.pattern) ⊎ ((y.pattern ≡ z.pattern) × ((y.transform < z.transform) ⊎ ((y.transform ≡ z.transform) × (y.at < z.at))))
 
 -- the list has exactly the matches, each once, in order
-pub record AreMatches (code : Codes) (patterns : List Pattern) (board : BoardState) (friend : Colour) (zs : List Match) : Type 0 where
-  pub sound : (z : Match) → Contains zs z → IsMatch code patterns board friend z
-  pub complete : (z : Match) → IsMatch code patterns board friend z → Contains zs z
+pub record AreMatches (code : Codes) (advice : Advice) (patterns : List Pattern) (board : BoardState) (friend : Colour) (zs : List Match) : Type 0 where
+  pub sound : (z : Match) → Contains zs z → IsMatch code advice patterns board friend z
+  pub complete : (z : Match) → IsMatch code advice patterns board friend z → Contains zs z
   pub in_order : AllPairs ComesBefore zs

@@ -5,6 +5,7 @@ ghost use Rattle.go_rules.specs.declared.Colour.{Colour};
 ghost use Rattle.go_rules.specs.Position.{BoardState};
 ghost use Rattle.pat_types.specs.declared.pattern.Pattern.{Pattern};
 ghost use Rattle.cons_eval.specs.Readings.{Codes};
+ghost use Rattle.match_rules.specs.Conditions.{Advice};
 ghost use Rattle.match_rules.specs.declared.found.Match.{Match};
 ghost use Rattle.match_rules.specs.Fits.{fits, Fits};
 ghost use Rattle.match_rules.specs.Match.{matches_of, AreMatches};
@@ -16,6 +17,9 @@ pub fn fits_are_in_words()
 
 /// The list of matches has exactly the matches, each once and in order, and is the only such list.
 pub fn matches_are_in_words()
-    ensures matches { (code : Codes) (patterns : List Pattern) (board : BoardState) (friend : Colour) → AreMatches code patterns board friend (matches_of code patterns board friend) }
-    ensures only { (code : Codes) (patterns : List Pattern) (board : BoardState) (friend : Colour) (zs : List Match) → AreMatches code patterns board friend zs → zs ≡ matches_of code patterns board friend }
+    ensures matches { (code : Codes) (advice : Advice) (patterns : List Pattern) (board : BoardState) (friend : Colour)
+        → AreMatches code advice patterns board friend (matches_of code advice patterns board friend) }
+    ensures only { (code : Codes) (advice : Advice) (patterns : List Pattern) (board : BoardState) (friend : Colour)
+        (zs : List Match) → AreMatches code advice patterns board friend zs
+        → zs ≡ matches_of code advice patterns board friend }
 {}

@@ -2,6 +2,7 @@
 use Rattle.std.proofs.Common.{◌≡◌, ℕ, Bool, List, Option, Some, None, ap}
 use Rattle.gtp_rules.specs.Lines.{RawLine}
 use Rattle.gtp_rules.specs.Steps.{Step}
+use Rattle.helpers.specs.Asking.{SlotState}
 use Rattle.run_notes.specs.declared.notes.Counts.{Counts}
 use Rattle.run_notes.specs.declared.notes.Sent.{Sent}
 use Rattle.session.specs.Tallies.{Tally}
@@ -63,14 +64,14 @@ module _ (input : List ℕ) (last hurt : ℕ) (old : List ℕ) (torn : ℕ) (res
       )
 
   -- a run over them says what was taken and put
-  pub told : (words : List (List ℕ)) (contents : List ℕ → Option (List ℕ)) (counts : Option Counts)
+  pub told : (helpers : List SlotState) (words : List (List ℕ)) (contents : List ℕ → Option (List ℕ)) (counts : Option Counts)
       (sent : Option Sent) (phase : Phase)
-      → Came words contents (telling input last hurt old torn) (telling rest piece fault new cut) counts sent phase
-      → Told words contents input rest old new piece phase
-  told words contents counts sent NotTaken came = let same = as_before came.1.streams in (came.0, same.0, same.1)
-  told words contents counts sent (NotOpened error) came = let same = as_before came.1.streams in
+      → Came helpers words contents (telling input last hurt old torn) (telling rest piece fault new cut) counts sent phase
+      → Told helpers words contents input rest old new piece phase
+  told helpers words contents counts sent NotTaken came = let same = as_before came.1.streams in (came.0, same.0, same.1)
+  told helpers words contents counts sent (NotOpened error) came = let same = as_before came.1.streams in
       (came.0, same.0, same.1)
-  told words contents counts sent (Served end) came = record {
+  told helpers words contents counts sent (Served end) came = record {
     options = came.0;
     given = came.1;
     patterns = came.2.patterns;

@@ -9,6 +9,8 @@ use Rattle.pat_types.specs.declared.pattern.Pattern.{Pattern}
 use Rattle.session.specs.Answering.{step}
 use Rattle.session.specs.Machine.{first_machine}
 use Rattle.session.specs.Matcher.{plain_matcher}
+use Rattle.helpers.specs.Asking.{SlotState, says_yes}
+use Rattle.session.specs.Handed.{helper_names}
 use Rattle.session.specs.Opening.{IsOpened}
 use Rattle.session.specs.Outcomes.{Phase, NotTaken, NotOpened, Served}
 use Rattle.session.specs.Ends.{IsRight}
@@ -34,22 +36,22 @@ ServesEither (Some n) step first input rest old new piece end =
     (rest ≡ input) × ((unread : List ℕ) × (last : ℕ) × ServesBytes step first
     (generated_text n) unread old new last end)
 
--- the words gave options, the files were opened, and the lines were served by the plain machine; rest is what the
--- feed has left, and piece how many bytes it gave last
-pub record ServesInMemory (words : List (List ℕ)) (contents : List ℕ → Option (List ℕ))
+-- the words gave options, the files were opened, and the lines were served by the plain machine and these helpers; rest
+-- is what the feed has left, and piece how many bytes it gave last
+pub record ServesInMemory (helpers : List SlotState) (words : List (List ℕ)) (contents : List ℕ → Option (List ℕ))
     (input rest old new : List ℕ) (piece : ℕ)
     (end : End) : Type 0 where
   pub options : Options
   pub given : GiveOptions words options
   pub patterns : List Pattern
-  pub opened : IsOpened contents options.files options.states patterns
-  pub serves : ServesEither options.generate (step (plain_matcher patterns))
+  pub opened : IsOpened (helper_names helpers) contents options.files options.states patterns
+  pub serves : ServesEither options.generate (step (plain_matcher (says_yes helpers) patterns))
       (first_machine options.depth options.branch)
       input rest old new piece end
 
 -- by how far a run came: before the lines nothing was taken and nothing put
-abbrev pub Told : List (List ℕ) → (List ℕ → Option (List ℕ)) → List ℕ → List ℕ → List ℕ → List ℕ → ℕ → Phase → Type 0
-Told words contents input rest old new piece NotTaken = (is_taken words ≡ false) × (rest ≡ input) × (new ≡ old)
-Told words contents input rest old new piece (NotOpened error) = IsUnopened words contents error × (rest ≡ input)
+abbrev pub Told : List SlotState → List (List ℕ) → (List ℕ → Option (List ℕ)) → List ℕ → List ℕ → List ℕ → List ℕ → ℕ → Phase → Type 0
+Told helpers words contents input rest old new piece NotTaken = (is_taken words ≡ false) × (rest ≡ input) × (new ≡ old)
+Told helpers words contents input rest old new piece (NotOpened error) = IsUnopened helpers words contents error × (rest ≡ input)
     × (new ≡ old)
-Told words contents input rest old new piece (Served end) = ServesInMemory words contents input rest old new piece end
+Told helpers words contents input rest old new piece (Served end) = ServesInMemory helpers words contents input rest old new piece end

@@ -6,10 +6,12 @@
 
 ghost use Rattle.std.specs.Prelude.{◌≢◌, map, string_bytes};
 ghost use Rattle.gtp_io.specs.Loading.{named};
+ghost use Rattle.session.specs.Handed.{handed};
 ghost use Rattle.session.specs.Outcomes.{phase_of};
 ghost use Rattle.memory_runs.specs.Told.{Told};
 
 use gtp_io::{Feed, Page, Shelf, SureFeed, SurePage, SureShelf};
+use helpers::Helper;
 use session::{Outcome, run};
 use std::alloc::Global;
 
@@ -20,11 +22,20 @@ pub fn run_in_memory(
     shelf: &mut Shelf,
     feed: &mut Feed,
     page: &mut Page,
+    helpers: Vec<Box<dyn Helper>>,
 ) -> Outcome
-    ensures { Told (map string_bytes words.now) (named shelf.old.names shelf.old.contents) feed.old.left feed.new.left
+    ensures { Told (handed state helpers.items) (map string_bytes words.now) (named shelf.old.names shelf.old.contents) feed.old.left feed.new.left
         page.old.written page.new.written feed.new.piece (phase_of result) }
 {
-    run(alloc, words, shelf, feed, page, &mut SurePage::new())
+    run(
+        alloc,
+        words,
+        shelf,
+        feed,
+        page,
+        &mut SurePage::new(),
+        helpers,
+    )
 }
 
 /// Runs over objects that never fail.
@@ -34,12 +45,21 @@ pub fn run_surely(
     shelf: &mut SureShelf,
     feed: &mut SureFeed,
     page: &mut SurePage,
+    helpers: Vec<Box<dyn Helper>>,
 ) -> Outcome
     ensures file { result ≢ Outcome.FileFault }
     ensures input { result ≢ Outcome.InputFault }
     ensures output { result ≢ Outcome.OutputFault }
 {
-    run(alloc, words, shelf, feed, page, &mut SurePage::new())
+    run(
+        alloc,
+        words,
+        shelf,
+        feed,
+        page,
+        &mut SurePage::new(),
+        helpers,
+    )
 }
 
 #[cfg(test)]

@@ -15,7 +15,7 @@ pub struct Session {
 }
 
 /// The sessions of the protocol's frame, of the board, of readings and of patterns.
-pub const SESSIONS: [Session; 26] = [
+pub const SESSIONS: [Session; 28] = [
     Session {
         name: "reply_repeats_the_id",
         files: &[],
@@ -199,6 +199,29 @@ pub const SESSIONS: [Session; 26] = [
         }],
         input: b"boardsize 9\nplay b H5\nmatch_patterns b\nboardsize 9\nplay b E5\nmatch_patterns b\n",
         output: b"=\n\n=\n\n= P 0 J5\nP 6 J5\n\n=\n\n=\n\n=\n\n",
+    },
+    Session {
+        name: "helper_filters_matches",
+        files: &[File {
+            name: "p",
+            text: b"Pattern P\nO*\n:8,s,near_edge\n",
+        }],
+        input: b"boardsize 9\nplay b C5\nmatch_patterns b\n",
+        output: b"=\n\n=\n\n= P 2 B5\nP 4 B5\n\n",
+    },
+    // . . . . .
+    // . . X O .     White's last play, at C3, takes D3, and the ban stands until the next move.
+    // . X O . O
+    // . . X O .
+    // . . . . .
+    Session {
+        name: "helper_asks_for_no_ban",
+        files: &[File {
+            name: "p",
+            text: b"Pattern P\nO*|\n:O,s,no_ban\n",
+        }],
+        input: b"boardsize 5\nplay b B3\nplay b C4\nplay b C2\nplay b D3\nplay w D4\nplay w E3\nplay w D2\nplay w C3\nmatch_patterns w\nplay b pass\nmatch_patterns w\n",
+        output: b"=\n\n=\n\n=\n\n=\n\n=\n\n=\n\n=\n\n=\n\n=\n\n=\n\n=\n\n= P 0 E4\nP 0 E2\n\n",
     },
     Session {
         name: "comments_alone_are_no_patterns",

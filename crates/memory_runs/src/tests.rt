@@ -6,8 +6,8 @@ use dfa_join::compile;
 use go_options::read_options;
 use gtp_io::{Feed, Page, Shelf, SureFeed, SurePage, SureShelf};
 use gtp_lex::Raw;
+use helpers::{Helper, Helpers, NearEdge, NoBan};
 use pat_types::Pattern;
-use helpers::Helpers;
 use session::{Outcome, Reply, Session, WordsError, run, run_words};
 use std::alloc::Global;
 use std::process::Abort;
@@ -101,6 +101,9 @@ fn go_with(
     let mut notes = Page::new(alloc, ROOM, way.piece, once(alloc, way.notes_fail)?)?;
     let words = words(alloc, options, files)?;
     let mut shelf = shelf(rt, alloc, files, way.loader_fails)?;
+    let mut helpers: Vec<Box<dyn Helper>> = Vec::new(alloc);
+    helpers.push(Box::new(alloc, NearEdge::new())?)?;
+    helpers.push(Box::new(alloc, NoBan::new())?)?;
     let outcome = run(
         alloc,
         &words,
@@ -108,6 +111,7 @@ fn go_with(
         &mut feed,
         &mut output,
         &mut notes,
+        helpers,
     );
     let left = feed.left().len();
     Ok(Ran {
@@ -166,7 +170,14 @@ fn longest_line_and_one_byte_more(rt: HostRuntime) -> Result<(), Fail> {
         let mut feed = Feed::new(input, PIECE, Vec::new(rt.alloc()));
         let mut page = Page::new(rt.alloc(), ROOM, ROOM, Vec::new(rt.alloc()))?;
         let mut none = shelf(&rt, rt.alloc(), &[], 0)?;
-        let outcome = run_in_memory(rt.alloc(), &[], &mut none, &mut feed, &mut page);
+        let outcome = run_in_memory(
+            rt.alloc(),
+            &[],
+            &mut none,
+            &mut feed,
+            &mut page,
+            Vec::new(rt.alloc()),
+        );
         assert_eq!(rt; page.bytes(), output, "{what}");
         assert_eq!(rt; outcome, Outcome::Done, "{what}");
     }
@@ -410,6 +421,7 @@ fn words_that_could_not_be_had_are_told(rt: HostRuntime) -> Result<(), Fail> {
             &mut feed,
             &mut SurePage::new(),
             &mut notes,
+            Vec::new(rt.alloc()),
         );
         assert_eq!(rt; outcome.code(), status);
         assert_eq!(rt; notes.bytes(), note);
@@ -429,6 +441,7 @@ fn words_that_begin_with_a_hyphen_are_refused(rt: HostRuntime) -> Result<(), Fai
         &mut shelf,
         &mut feed,
         &mut SurePage::new(),
+        Vec::new(rt.alloc()),
     );
     assert_eq!(rt; outcome, Outcome::Done, "a word that names a file");
     words.push(String::from_str(rt.alloc(), "-h")?)?;
@@ -438,6 +451,7 @@ fn words_that_begin_with_a_hyphen_are_refused(rt: HostRuntime) -> Result<(), Fai
         &mut shelf,
         &mut feed,
         &mut SurePage::new(),
+        Vec::new(rt.alloc()),
     );
     assert_eq!(rt; outcome.code(), 2, "a word that begins with a hyphen");
     Ok(())

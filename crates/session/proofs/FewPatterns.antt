@@ -128,15 +128,17 @@ few_entries helpers text none =
     (blocks_of (fold after_line at_start (kept_lines text))) entry_of_block)) few
 
 -- so have patterns that are its entries
-pub few_patterns : {A : Type 0} (f : A → Entry) (patterns : List A) (text : List ℕ) → first_fault [] text ≡ None
+pub few_patterns : {A : Type 0} (f : A → Entry) (patterns : List A) (known : List (List ℕ)) (text : List ℕ)
+    → first_fault known text ≡ None
     → map f patterns ≡ entries text
     → length patterns ≤ most_patterns
-few_patterns f patterns text none spelled =
-    subst (λ n. n ≤ most_patterns) (ap length (sym spelled) ∙ length-map patterns f) (few_entries [] text none)
+few_patterns f patterns known text none spelled =
+    subst (λ n. n ≤ most_patterns) (ap length (sym spelled) ∙ length-map patterns f) (few_entries known text none)
 
 -- so has what was read of a text without a fault
-pub few_read : {V A E : Type 0} (items : V → List A) (f : A → Entry) (result : Result V E) (text : List ℕ)
-    → IfOk result (λ v. (first_fault [] text ≡ None) × (map f (items v) ≡ entries text)) → IfOk result
+pub few_read : {V A E : Type 0} (items : V → List A) (f : A → Entry) (result : Result V E)
+    (known : List (List ℕ)) (text : List ℕ)
+    → IfOk result (λ v. (first_fault known text ≡ None) × (map f (items v) ≡ entries text)) → IfOk result
     (λ v. length (items v) ≤ most_patterns)
-few_read items f (Ok v) text read = few_patterns f (items v) text read.0 read.1
-few_read items f (Err e) text read = tt
+few_read items f (Ok v) known text read = few_patterns f (items v) known text read.0 read.1
+few_read items f (Err e) known text read = tt

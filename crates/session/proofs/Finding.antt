@@ -10,12 +10,13 @@ use Rattle.match_engine.specs.MachineMatches.{machine_matches, is_machine_match}
 use Rattle.match_rules.proofs.Orders.{by-has}
 use Rattle.match_engine.proofs.Patterns.{same_by_machine}
 use Rattle.session.specs.Machine.{first_machine, position_of}
-use Rattle.session.specs.Matcher.{plain_matcher, codes_of}
+use Rattle.match_rules.specs.Conditions.{Advice}
+use Rattle.session.specs.Matcher.{Matcher, plain_matcher, codes_of}
 use Rattle.cons_eval.specs.Readings.{Codes}
 use Rattle.session.specs.Answering.{step}
 use Rattle.session.specs.Counting.{is_read_line}
 use Rattle.session.specs.Tallies.{Tally}
-use Rattle.session.specs.Kept.{Kept, machine_of, step_of, first_kept}
+use Rattle.session.specs.Kept.{Kept, machine_of, matcher_with, first_kept}
 use Rattle.session.specs.Opened.{IsPlainWith}
 use Rattle.session.specs.Ends.{Streams}
 use Rattle.session.specs.Headline.{ServesLines}
@@ -23,33 +24,36 @@ use Rattle.session.specs.declared.outcome.End.{End}
 use Rattle.session.specs.MatchTexts.{AreAmong}
 
 -- the matches by an automaton are among the patterns and on the board
-pub AreAmong-found : (code : Codes) (rows : List Row) (patterns : List Pattern) (board : BoardState) (friend : Colour)
-    → AreAmong patterns board.size (machine_matches code rows patterns board friend)
+pub AreAmong-found : (code : Codes) (advice : Advice) (rows : List Row) (patterns : List Pattern) (board : BoardState) (friend : Colour)
+    → AreAmong patterns board.size (machine_matches code advice rows patterns board friend)
 unfolding machine_matches
-AreAmong-found code rows patterns board friend = λ z there.
-    let by = by-has (is_machine_match code rows board friend) patterns board.size z there in
+AreAmong-found code advice rows patterns board friend = λ z there.
+    let by = by-has (is_machine_match code advice rows board friend) patterns board.size z there in
     (slice_get_within patterns z.pattern by.pattern by.number, by.at)
 
 -- with the automaton of its patterns a session is plain before its first line
-pub plain-first : (patterns : List Pattern) (rows : List Row) (plies wide capacity : ℕ) → IsMachineOf patterns rows
-    → IsPlainWith patterns plies wide (first_kept patterns rows plies wide capacity)
-plain-first patterns rows plies wide capacity accepts = record {
+pub plain-first : (advice : Advice) (patterns : List Pattern) (rows : List Row) (plies wide capacity : ℕ) → IsMachineOf patterns rows
+    → IsPlainWith advice patterns plies wide (first_kept patterns rows plies wide capacity)
+    (matcher_with advice (first_kept patterns rows plies wide capacity))
+plain-first advice patterns rows plies wide capacity accepts = record {
   machine = refl;
   counts = refl;
-  matcher = λ i. record {
+  matches = λ i. record {
     patterns = patterns;
-    matches = λ machine friend. same_by_machine (codes_of machine) patterns rows (position_of machine) friend
+    matches = λ machine friend. same_by_machine (codes_of machine) advice patterns rows (position_of machine) friend
         accepts i;
   };
 }
 
 -- a session that is plain with some patterns served the lines as the plain machine does
-pub ServesLines-plain : (patterns : List Pattern) (plies wide : ℕ) (session : Kept) (generate : Option ℕ)
-    (before after : Streams) (end : End) (tally : Tally) → IsPlainWith patterns plies wide session
-    → ServesLines generate (step_of session) is_read_line (machine_of session) before after end tally
-    → ServesLines generate (step (plain_matcher patterns)) is_read_line
+pub ServesLines-plain : (advice : Advice) (patterns : List Pattern) (plies wide : ℕ) (session : Kept) (matcher : Matcher)
+    (generate : Option ℕ) (before after : Streams) (end : End) (tally : Tally)
+    → IsPlainWith advice patterns plies wide session matcher
+    → ServesLines generate (step matcher) is_read_line (machine_of session) before after end tally
+    → ServesLines generate (step (plain_matcher advice patterns)) is_read_line
     (first_machine plies wide) before after end tally
-ServesLines-plain patterns plies wide session generate before after end tally plain serves =
-    subst (λ m. ServesLines generate (step (plain_matcher patterns)) is_read_line m before after end tally) plain.machine
+ServesLines-plain advice patterns plies wide session matcher generate before after end tally plain serves =
+    subst (λ m. ServesLines generate (step (plain_matcher advice patterns)) is_read_line m before after end tally)
+    plain.machine
     (subst (λ k. ServesLines generate (step k) is_read_line
-    (machine_of session) before after end tally) plain.matcher serves)
+    (machine_of session) before after end tally) plain.matches serves)

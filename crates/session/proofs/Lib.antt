@@ -12,3 +12,4 @@ pub mod OpeningLemmas
 pub mod FewPatterns
 pub mod Finding
 pub mod Running
+pub mod Helped

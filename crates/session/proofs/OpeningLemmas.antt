@@ -69,23 +69,23 @@ IsJoined-next f contents words i word text new within is so_far adds =
     }
 
 -- Why files were not opened.
-module _ (contents : List ℕ → Option (List ℕ)) (names : List (List ℕ)) (most : ℕ) where
+module _ (known : List (List ℕ)) (contents : List ℕ → Option (List ℕ)) (names : List (List ℕ)) (most : ℕ) where
   -- a file could not be loaded
-  pub refused-unloaded : (cause : LoadError) → IsRefused contents names most (unloaded cause)
+  pub refused-unloaded : (cause : LoadError) → IsRefused known contents names most (unloaded cause)
   refused-unloaded load.Failed = tt
   refused-unloaded load.NoMemory = tt
 
   -- the joined text is no database
   pub refused-unread : (text : List ℕ) (cause : DbError) → IsJoined contents names text → BlamesAt cause
-      (first_fault [] text)
-      → IsRefused contents names most (unread cause)
+      (first_fault known text)
+      → IsRefused known contents names most (unread cause)
   refused-unread text (db.Fault line kind) joined blames = record { text = text; joined = joined; fault = blames }
   refused-unread text db.NoMemory joined blames = tt
 
   -- the patterns have too many states, or there was no memory
-  pub refused-states : (patterns : List Pattern) (error : OpenError) → IsDatabase contents names patterns
+  pub refused-states : (patterns : List Pattern) (error : OpenError) → IsDatabase known contents names patterns
       → RefusesStates patterns most error
-      → IsRefused contents names most error
+      → IsRefused known contents names most error
   refused-states patterns opening.FileFault database refuses = tt
   refused-states patterns (opening.BadDatabase line kind) database refuses = absurd refuses
   refused-states patterns (opening.TooManyStates limit) database refuses =

@@ -6,7 +6,9 @@ use Rattle.gtp_rules.specs.Steps.{Step}
 use Rattle.gtp_rules.specs.Transcript.{MayGive, Answers}
 use Rattle.std.proofs.KnownBytes.{Appends-nil}
 use Rattle.run_notes.specs.declared.notes.Sent.{Sent}
-use Rattle.session.specs.Kept.{Kept, machine_of, step_of}
+use Rattle.session.specs.Answering.{step}
+use Rattle.session.specs.Matcher.{Matcher}
+use Rattle.session.specs.Kept.{Kept, machine_of}
 use Rattle.session.specs.Counting.{counted, is_read_line}
 use Rattle.session.specs.Tallies.{kept_sum, reading_count, reply_count}
 use Rattle.session.specs.Serving.{PutsPart, PutsReply, Replies, RepliesPart, progress_of}
@@ -44,8 +46,8 @@ counted-sum count true = refl
 counted-sum count false = refl
 
 -- The session answered a line with a reply of some bytes.
-module _ (old new : Kept) (line : RawLine) (reply : Reply)
-    (answers : IsReplyTo (machine_of old) (step_of old (machine_of old) line) reply (machine_of new))
+module _ (matcher : Matcher) (old new : Kept) (line : RawLine) (reply : Reply)
+    (answers : IsReplyTo (machine_of old) (step matcher (machine_of old) line) reply (machine_of new))
     (readings : new.counts.readings ≡ counted old.counts.readings (is_read_line (machine_of old) line))
     (w0 w1 : Option (List ℕ)) (s0 s1 : Sent) where
   -- how much it counted
@@ -55,11 +57,11 @@ module _ (old new : Kept) (line : RawLine) (reply : Reply)
   -- the bytes went out whole
   pub Replies-whole : (sent : List ℕ) → sent ≡ reply_bytes reply → reply_count (reply_bytes reply) ≡ 1
       → PutsReply w0 w1 s0 s1 sent
-      → Replies (step_of old) is_read_line (machine_of old) line (machine_of new) (reply_ends reply)
+      → Replies (step matcher) is_read_line (machine_of old) line (machine_of new) (reply_ends reply)
       (progress_of w0 old s0) (progress_of w1 new s1)
   Replies-whole sent same some puts = record {
     reply = reply_bytes reply;
-    answers = MayGive-reply (machine_of old) (step_of old (machine_of old) line) reply (machine_of new) answers;
+    answers = MayGive-reply (machine_of old) (step matcher (machine_of old) line) reply (machine_of new) answers;
     advances = record {
       writes = subst (Appends w0 w1) same puts.writes;
       readings = readings_sum;
@@ -70,15 +72,15 @@ module _ (old new : Kept) (line : RawLine) (reply : Reply)
 
   -- a front of the bytes went out
   pub Replies-part : (sent : List ℕ) → sent ≡ reply_bytes reply → PutsPart w0 w1 s0 s1 sent
-      → RepliesPart (step_of old) is_read_line (machine_of old) line (progress_of w0 old s0) (progress_of w1 new s1)
+      → RepliesPart (step matcher) is_read_line (machine_of old) line (progress_of w0 old s0) (progress_of w1 new s1)
   Replies-part sent same put = record {
     part = put.part;
     missing = put.missing;
     next = machine_of new;
     ends = reply_ends reply;
-    answers = subst (λ l. Answers (step_of old) (machine_of old) line l (machine_of new) (reply_ends reply))
+    answers = subst (λ l. Answers (step matcher) (machine_of old) line l (machine_of new) (reply_ends reply))
         (sym same ∙ put.whole)
-        (MayGive-reply (machine_of old) (step_of old (machine_of old) line) reply (machine_of new) answers);
+        (MayGive-reply (machine_of old) (step matcher (machine_of old) line) reply (machine_of new) answers);
     proper = put.proper;
     advances = record {
       writes = put.puts.writes;
@@ -89,14 +91,14 @@ module _ (old new : Kept) (line : RawLine) (reply : Reply)
   }
 
 -- the session passed the line over, and nothing was put
-pub Replies-nothing : (old new : Kept) (line : RawLine) (w : Option (List ℕ)) (s : Sent)
-    → IsReplyTo (machine_of old) (step_of old (machine_of old) line) Nothing (machine_of new)
+pub Replies-nothing : (matcher : Matcher) (old new : Kept) (line : RawLine) (w : Option (List ℕ)) (s : Sent)
+    → IsReplyTo (machine_of old) (step matcher (machine_of old) line) Nothing (machine_of new)
     → new.counts.readings ≡ counted old.counts.readings (is_read_line (machine_of old) line)
-    → Replies (step_of old) is_read_line (machine_of old) line (machine_of new) false (progress_of w old s)
+    → Replies (step matcher) is_read_line (machine_of old) line (machine_of new) false (progress_of w old s)
     (progress_of w new s)
-Replies-nothing old new line w s answers readings = record {
+Replies-nothing matcher old new line w s answers readings = record {
   reply = [];
-  answers = MayGive-reply (machine_of old) (step_of old (machine_of old) line) Nothing (machine_of new) answers;
+  answers = MayGive-reply (machine_of old) (step matcher (machine_of old) line) Nothing (machine_of new) answers;
   advances = record {
     writes = Appends-nil w;
     readings = readings ∙ counted-sum old.counts.readings (is_read_line (machine_of old) line);

@@ -12,7 +12,11 @@ use Rattle.session.specs.Tallies.{Tally, Progress, kept_sum}
 use Rattle.gtp_rules.specs.Lines.{RawLine}
 use Rattle.gtp_rules.specs.Steps.{Step}
 use Rattle.workload.specs.GeneratedLines.{generated_text}
-use Rattle.session.specs.Kept.{Kept, machine_of, step_of}
+use Rattle.helpers.specs.Asking.{SlotState, says_yes}
+use Rattle.session.specs.Answering.{step}
+use Rattle.session.specs.Handed.{helper_names}
+use Rattle.session.specs.Matcher.{Matcher}
+use Rattle.session.specs.Kept.{Kept, machine_of}
 use Rattle.session.specs.Opening.{IsRefused, MissedIn}
 use Rattle.session.specs.Opened.{Opens, CameBy, ServesCounting}
 use Rattle.session.specs.Outcomes.{Phase, NotTaken, NotOpened, Served}
@@ -37,24 +41,25 @@ sent-told None sent tally lines bytes = refl
 sent-told (Some n) sent tally lines bytes = (lines, bytes)
 
 -- the files were opened, and the session served the lines
-pub came-served : (contents : List ℕ → Option (List ℕ)) (options : Options) (session now : Kept) (lines : LinesState)
+pub came-served : (helpers : List SlotState) (contents : List ℕ → Option (List ℕ)) (options : Options)
+    (session now : Kept) (matcher : Matcher) (lines : LinesState)
     (before after : Streams) (end : End) (w0 w1 : Option (List ℕ)) (sent : Sent) (told : Option Counts)
     (noted : Option Sent)
-    (phase : Phase) → Opens contents options session lines
-    → ServesCounting options.generate (step_of session) is_read_line (machine_of session) before after end
+    (phase : Phase) → Opens helpers contents options session matcher lines
+    → ServesCounting options.generate (step matcher) is_read_line (machine_of session) before after end
     (progress_of w0 session (record { lines = 0; bytes = 0 })) (progress_of w1 now sent)
     → (HasFewFresh session.counts → HasFewFresh now.counts)
     → told ≡ cond options.stats (Some now.counts) None → noted ≡ option_map (λ _. sent) options.generate
-    → phase ≡ Served end → CameBy options contents before after told noted phase
-came-served contents options session now lines before after end w0 w1 sent told noted phase opens counting afresh tells notes is =
+    → phase ≡ Served end → CameBy helpers options contents before after told noted phase
+came-served helpers contents options session now matcher lines before after end w0 w1 sent told noted phase opens counting afresh tells notes is =
     let none = opens.plain.counts in
     let start : HasFewFresh session.counts = subst HasFewFresh (sym none) (record { few = omega arith; small = lit< tt }) in
     let readings = counting.advances.readings ∙ ap (λ (k : Counts). kept_sum k.readings counting.tally.readings) none in
-    subst (CameBy options contents before after told noted) (sym is) (record {
+    subst (CameBy helpers options contents before after told noted) (sym is) (record {
       patterns = opens.patterns;
       opened = opens.opened;
       tally = counting.tally;
-      serves = ServesLines-plain opens.patterns options.depth options.branch session options.generate before after end
+      serves = ServesLines-plain (says_yes helpers) opens.patterns options.depth options.branch session matcher options.generate before after end
           counting.tally opens.plain counting.serves;
       counted = subst (λ o. AreCounts options.stats o counting.tally) (sym tells)
           (counts-told options.stats now.counts counting.tally readings (afresh start));
@@ -63,14 +68,14 @@ came-served contents options session now lines before after end w0 w1 sent told 
     })
 
 -- the words gave the options of the run
-pub came-given : (words : List (List ℕ)) (options : Options) (contents : List ℕ → Option (List ℕ))
+pub came-given : (helpers : List SlotState) (words : List (List ℕ)) (options : Options) (contents : List ℕ → Option (List ℕ))
     (before after : Streams) (counts : Option Counts)
     (sent : Option Sent) (phase : Phase) → is_taken words ≡ true → AreFound (rows_in words) options
-    → CameBy options contents before after counts sent phase → Came words contents before after counts sent phase
-came-given words options contents before after counts sent NotTaken taken found came = absurd came
-came-given words options contents before after counts sent (NotOpened error) taken found came =
+    → CameBy helpers options contents before after counts sent phase → Came helpers words contents before after counts sent phase
+came-given helpers words options contents before after counts sent NotTaken taken found came = absurd came
+came-given helpers words options contents before after counts sent (NotOpened error) taken found came =
     (inr (options, record { taken = taken; found = found }, came.0), came.1)
-came-given words options contents before after counts sent (Served end) taken found came =
+came-given helpers words options contents before after counts sent (Served end) taken found came =
     (options, record { taken = taken; found = found }, came)
 
 -- the names missed are among the file words
@@ -126,12 +131,12 @@ serves-generated n step asks first left piece faults w0 w1 c0 c1 f0 f1 p text re
 -- the files were not opened
 module _ (options : Options) (error : OpenError) (phase : Phase) (is : phase ≡ NotOpened error) where
   -- nothing was taken, put or counted, and the error says why
-  pub came-unopened : (contents : List ℕ → Option (List ℕ)) (before : Streams) (counts : Option Counts)
+  pub came-unopened : (helpers : List SlotState) (contents : List ℕ → Option (List ℕ)) (before : Streams) (counts : Option Counts)
       (sent : Option Sent)
-      → IsRefused contents options.files options.states error → counts ≡ None → sent ≡ None
-      → CameBy options contents before before counts sent phase
-  came-unopened contents before counts sent refused uncounted unsent =
-      subst (CameBy options contents before before counts sent) (sym is)
+      → IsRefused (helper_names helpers) contents options.files options.states error → counts ≡ None → sent ≡ None
+      → CameBy helpers options contents before before counts sent phase
+  came-unopened helpers contents before counts sent refused uncounted unsent =
+      subst (CameBy helpers options contents before before counts sent) (sym is)
       (refused, record { streams = refl; uncounted = uncounted; unsent = unsent })
 
   -- the names missed are as the error says

@@ -4,6 +4,7 @@ use Rattle.gtp_io.specs.Outside.{Rose}
 use Rattle.gtp_rules.specs.Lines.{RawLine}
 use Rattle.gtp_rules.specs.Steps.{Step}
 use Rattle.pat_types.specs.declared.pattern.Pattern.{Pattern}
+use Rattle.helpers.specs.Asking.{SlotState, says_yes}
 use Rattle.session.specs.Machine.{first_machine}
 use Rattle.session.specs.Matcher.{plain_matcher}
 use Rattle.session.specs.Answering.{step}
@@ -11,6 +12,7 @@ use Rattle.session.specs.Counting.{is_read_line}
 use Rattle.session.specs.Tallies.{Tally, kept_sum}
 use Rattle.session.specs.Ends.{Streams, Serves}
 use Rattle.session.specs.Opening.{IsOpened, IsRefused, MissedIn}
+use Rattle.session.specs.Handed.{helper_names}
 use Rattle.session.specs.Notes.{note_of}
 use Rattle.go_options.specs.CommandLine.{is_taken, rows_in}
 use Rattle.go_options.specs.Found.{AreFound, words_in}
@@ -43,10 +45,10 @@ pub record GiveOptions (words : List (List ℕ)) (options : Options) : Type 0 wh
   pub found : AreFound (rows_in words) options
 
 -- the files of the options were not opened, and the error says why; want of memory has no other cause
-abbrev pub IsUnopened : List (List ℕ) → (List ℕ → Option (List ℕ)) → OpenError → Type 0
-IsUnopened words contents error =
+abbrev pub IsUnopened : List SlotState → List (List ℕ) → (List ℕ → Option (List ℕ)) → OpenError → Type 0
+IsUnopened helpers words contents error =
     (error ≡ opening.NoMemory) ⊎ ((options : Options) × GiveOptions words options
-    × IsRefused contents options.files options.states error)
+    × IsRefused (helper_names helpers) contents options.files options.states error)
 
 -- Generated lines were served in place of the source, which stays as it was.
 pub record ServesGenerated {M : Type 0} (n : ℕ) (step : M → RawLine → Step M) (asks : M → RawLine → Bool) (first : M)
@@ -75,14 +77,15 @@ abbrev pub IsSent : Option ℕ → Option Sent → Tally → Type 0
 IsSent generate sent tally = MatchOption generate (sent ≡ None) (λ n. IsSomeAnd sent
     (λ s. (s.lines ≡ kept_sum 0 tally.replies) × (s.bytes ≡ kept_sum 0 (length tally.out))))
 
--- The files of the options were opened, and the lines were served by the plain machine, which compares each diagram
--- of their patterns with the board and reads as deep as the options say.
-pub record IsServed (options : Options) (contents : List ℕ → Option (List ℕ)) (before after : Streams) (end : End)
+-- The files of the options were opened, in which the helpers may be named, and the lines were served by the plain
+-- machine, which compares each diagram of their patterns with the board, reads as deep as the options say, and asks the
+-- helpers, whose meanings never change.
+pub record IsServed (helpers : List SlotState) (options : Options) (contents : List ℕ → Option (List ℕ)) (before after : Streams) (end : End)
     (counts : Option Counts) (sent : Option Sent) : Type 0 where
   pub patterns : List Pattern
-  pub opened : IsOpened contents options.files options.states patterns
+  pub opened : IsOpened (helper_names helpers) contents options.files options.states patterns
   pub tally : Tally
-  pub serves : ServesLines options.generate (step (plain_matcher patterns)) is_read_line
+  pub serves : ServesLines options.generate (step (plain_matcher (says_yes helpers) patterns)) is_read_line
       (first_machine options.depth options.branch)
       before after end tally
   pub counted : AreCounts options.stats counts tally
@@ -95,13 +98,13 @@ pub record IsUntouched (before after : Streams) (counts : Option Counts) (sent :
   pub unsent : sent ≡ None
 
 -- by how far a run came, what its words gave, what it did, and what it is to note
-abbrev pub Came : List (List ℕ) → (List ℕ → Option (List ℕ)) → Streams → Streams → Option Counts → Option Sent
+abbrev pub Came : List SlotState → List (List ℕ) → (List ℕ → Option (List ℕ)) → Streams → Streams → Option Counts → Option Sent
     → Phase → Type 0
-Came words contents before after counts sent NotTaken = (is_taken words ≡ false) × IsUntouched before after counts sent
-Came words contents before after counts sent (NotOpened error) = IsUnopened words contents error
+Came helpers words contents before after counts sent NotTaken = (is_taken words ≡ false) × IsUntouched before after counts sent
+Came helpers words contents before after counts sent (NotOpened error) = IsUnopened helpers words contents error
     × IsUntouched before after counts sent
-Came words contents before after counts sent (Served end) =
-    (options : Options) × GiveOptions words options × IsServed options contents before after end counts sent
+Came helpers words contents before after counts sent (Served end) =
+    (options : Options) × GiveOptions words options × IsServed helpers options contents before after end counts sent
 
 -- the file words of a command line
 abbrev pub files_in : List (List ℕ) → List (List ℕ)
@@ -119,11 +122,11 @@ pub record IsCauseOf (fault : Type 0) (before now : ℕ) : Type 0 where
   pub rose : fault → Rose before now
   pub told : before < now → fault
 
--- what a run of these words did, by its outcome, and what it counted
-pub record Runs (words : List (List ℕ)) (before after : Outside) (outcome : Outcome) : Type 0 where
+-- what a run of these words with these helpers did, by its outcome, and what it counted
+pub record Runs (helpers : List SlotState) (words : List (List ℕ)) (before after : Outside) (outcome : Outcome) : Type 0 where
   pub counts : Option Counts
   pub sent : Option Sent
-  pub came : Came words before.contents before.streams after.streams counts sent (phase_of outcome)
+  pub came : Came helpers words before.contents before.streams after.streams counts sent (phase_of outcome)
   pub missed : MissedAfter (files_in words) before.missed after.missed (phase_of outcome)
   pub same : after.contents ≡ before.contents
   pub input : IsCauseOf (outcome ≡ told.InputFault) before.streams.input_faults after.streams.input_faults
@@ -138,7 +141,8 @@ pub record DoesNothing (before after : Outside) (outcome : Outcome) : Type 0 whe
   pub streams : after.streams ≡ before.streams
   pub notes : IsNoted before.noted after.noted before.notes_faults after.notes_faults (note_of outcome)
 
--- what a run did, by its words where they could be had; texts tells these
-abbrev pub RunsHad : {V : Type 0} → (V → List (List ℕ)) → Result V WordsError → Outside → Outside → Outcome → Type 0
-RunsHad texts (Ok words) before after outcome = Runs (texts words) before after outcome
-RunsHad texts (Err error) before after outcome = (outcome ≡ unhad error) × DoesNothing before after outcome
+-- what a run with these helpers did, by its words where they could be had; texts tells these
+abbrev pub RunsHad : {V : Type 0} → List SlotState → (V → List (List ℕ)) → Result V WordsError → Outside → Outside
+    → Outcome → Type 0
+RunsHad helpers texts (Ok words) before after outcome = Runs helpers (texts words) before after outcome
+RunsHad helpers texts (Err error) before after outcome = (outcome ≡ unhad error) × DoesNothing before after outcome

@@ -1,16 +1,14 @@
--- What a session keeps: the machine that it is, and how it finds matches.
+-- What a session keeps beside its helpers: the machine that it is, and how it finds matches.
 use Rattle.std.specs.Prelude.{ℕ, ◌<◌, List, [], length, codes, Contains}
 use Rattle.go_rules.specs.declared.Move.{Move}
 use Rattle.pat_types.specs.declared.pattern.Pattern.{Pattern}
 use Rattle.dfa_core.specs.Automata.{Row, accepted}
 use Rattle.dfa_core.specs.Words.{Word}
-use Rattle.gtp_rules.specs.Lines.{RawLine}
-use Rattle.gtp_rules.specs.Steps.{Step}
+use Rattle.match_rules.specs.Conditions.{Advice}
 use Rattle.run_notes.specs.declared.notes.Counts.{Counts}
 use Rattle.match_engine.specs.Readings.{ReadingsView, first_readings}
 use Rattle.session.specs.Machine.{Machine, first_size}
 use Rattle.session.specs.Matcher.{Matcher, automaton_matcher}
-use Rattle.session.specs.Answering.{step}
 
 -- settings and moves, the patterns, the automaton by which their matches are found, what was counted, and the readings with
 -- those that are kept
@@ -35,13 +33,9 @@ machine_of kept = record {
   wide = kept.wide;
 }
 
--- how a session finds matches: by its automaton
-abbrev pub matcher_of : Kept → Matcher
-matcher_of kept = automaton_matcher kept.patterns kept.automaton
-
--- the step by which a session answers a line
-abbrev pub step_of : Kept → Machine → RawLine → Step Machine
-step_of kept machine line = step (matcher_of kept) machine line
+-- how matches are found: by the automaton, and by what helpers say
+abbrev pub matcher_with : Advice → Kept → Matcher
+matcher_with advice kept = automaton_matcher advice kept.patterns kept.automaton
 
 -- nothing was counted
 abbrev pub no_counts : Counts

@@ -22,3 +22,5 @@ pub mod Ends
 pub mod Headline
 pub mod Opened
 pub mod Serving
+pub mod Sessions
+pub mod Handed

@@ -4,6 +4,7 @@ use Rattle.go_rules.specs.declared.Colour.{Colour}
 use Rattle.pat_types.specs.declared.pattern.Pattern.{Pattern}
 use Rattle.dfa_core.specs.Automata.{Row}
 use Rattle.match_rules.specs.declared.found.Match.{Match}
+use Rattle.match_rules.specs.Conditions.{Advice}
 use Rattle.match_rules.specs.Match.{matches_of}
 use Rattle.match_engine.specs.MachineMatches.{machine_matches}
 use Rattle.cons_eval.specs.Readings.{Codes}
@@ -19,17 +20,17 @@ pub record Matcher : Type 0 where
 abbrev pub codes_of : Machine → Codes
 codes_of machine = codes_at machine.plies machine.wide
 
--- the plain matcher of these patterns: it compares each of their diagrams with the board, and reads afresh what their
--- classes and constraints ask
-abbrev pub plain_matcher : List Pattern → Matcher
-plain_matcher patterns = record {
+-- the plain matcher of these patterns: it compares each of their diagrams with the board, reads afresh what their
+-- classes and constraints ask, and asks the helpers that they name
+abbrev pub plain_matcher : Advice → List Pattern → Matcher
+plain_matcher advice patterns = record {
   patterns = patterns;
-  matches = λ machine friend. matches_of (codes_of machine) patterns (position_of machine) friend;
+  matches = λ machine friend. matches_of (codes_of machine) advice patterns (position_of machine) friend;
 }
 
 -- the matcher of these patterns by an automaton, which need not be theirs
-abbrev pub automaton_matcher : List Pattern → List Row → Matcher
-automaton_matcher patterns rows = record {
+abbrev pub automaton_matcher : Advice → List Pattern → List Row → Matcher
+automaton_matcher advice patterns rows = record {
   patterns = patterns;
-  matches = λ machine friend. machine_matches (codes_of machine) rows patterns (position_of machine) friend;
+  matches = λ machine friend. machine_matches (codes_of machine) advice rows patterns (position_of machine) friend;
 }

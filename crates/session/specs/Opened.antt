@@ -4,8 +4,11 @@ use Rattle.pat_types.specs.declared.pattern.Pattern.{Pattern}
 use Rattle.gtp_lex.specs.Lines.{LinesState, no_line}
 use Rattle.go_options.specs.declared.options.Options.{Options}
 use Rattle.session.specs.Machine.{first_machine}
-use Rattle.session.specs.Matcher.{plain_matcher}
-use Rattle.session.specs.Kept.{Kept, machine_of, matcher_of, no_counts}
+use Rattle.helpers.specs.Asking.{SlotState, says_yes}
+use Rattle.match_rules.specs.Conditions.{Advice}
+use Rattle.session.specs.Handed.{helper_names}
+use Rattle.session.specs.Matcher.{Matcher, plain_matcher}
+use Rattle.session.specs.Kept.{Kept, machine_of, no_counts}
 use Rattle.session.specs.Opening.{IsOpened, IsRefused}
 use Rattle.session.specs.Outcomes.{Phase, NotTaken, NotOpened, Served}
 use Rattle.session.specs.Ends.{Streams}
@@ -17,28 +20,30 @@ use Rattle.session.specs.declared.outcome.End.{End}
 use Rattle.run_notes.specs.declared.notes.Counts.{Counts}
 use Rattle.run_notes.specs.declared.notes.Sent.{Sent}
 
--- the session is the first machine with these plies and wide plies, finds the matches of these patterns as the plain
--- matcher does, and has counted nothing
-pub record IsPlainWith (patterns : List Pattern) (plies wide : ℕ) (session : Kept) : Type 0 where
+-- the session is the first machine with these plies and wide plies, its matcher finds the matches of these patterns as
+-- the plain one does, by what the helpers say, and it has counted nothing
+pub record IsPlainWith (advice : Advice) (patterns : List Pattern) (plies wide : ℕ) (session : Kept)
+    (matcher : Matcher) : Type 0 where
   pub machine : machine_of session ≡ first_machine plies wide
   pub counts : session.counts ≡ no_counts
-  pub matcher : matcher_of session ≡ plain_matcher patterns
+  pub matches : matcher ≡ plain_matcher advice patterns
 
--- the files of the options were opened, the session is plain with their patterns, and no line has come
-pub record Opens (contents : List ℕ → Option (List ℕ)) (options : Options) (session : Kept)
-    (lines : LinesState) : Type 0 where
+-- the files of the options were opened, in which the helpers may be named, the session is plain with their patterns, and
+-- no line has come
+pub record Opens (helpers : List SlotState) (contents : List ℕ → Option (List ℕ)) (options : Options) (session : Kept)
+    (matcher : Matcher) (lines : LinesState) : Type 0 where
   pub patterns : List Pattern
-  pub opened : IsOpened contents options.files options.states patterns
-  pub plain : IsPlainWith patterns options.depth options.branch session
+  pub opened : IsOpened (helper_names helpers) contents options.files options.states patterns
+  pub plain : IsPlainWith (says_yes helpers) patterns options.depth options.branch session matcher
   pub none : lines ≡ no_line
 
 -- how far a run with these options came: its files were not opened, or the lines were served
-abbrev pub CameBy : Options → (List ℕ → Option (List ℕ)) → Streams → Streams → Option Counts → Option Sent → Phase
+abbrev pub CameBy : List SlotState → Options → (List ℕ → Option (List ℕ)) → Streams → Streams → Option Counts → Option Sent → Phase
     → Type 0
-CameBy options contents before after counts sent NotTaken = ⊥
-CameBy options contents before after counts sent (NotOpened error) =
-    IsRefused contents options.files options.states error × IsUntouched before after counts sent
-CameBy options contents before after counts sent (Served end) = IsServed options contents before after end counts sent
+CameBy helpers options contents before after counts sent NotTaken = ⊥
+CameBy helpers options contents before after counts sent (NotOpened error) =
+    IsRefused (helper_names helpers) contents options.files options.states error × IsUntouched before after counts sent
+CameBy helpers options contents before after counts sent (Served end) = IsServed helpers options contents before after end counts sent
 
 -- the lines were served with a tally, by which the counts rose
 pub record ServesCounting {M : Type 0} (generate : Option ℕ) (step : M → RawLine → Step M)

@@ -71,42 +71,44 @@ abbrev pub MissedBy : List (List ℕ) → List (List ℕ) → List (List ℕ) �
 MissedBy names before now load.Failed = MissedOne names before now
 MissedBy names before now load.NoMemory = now ≡ before
 
--- the joined files have no fault, and the patterns are their entries
-pub record IsDatabase (contents : List ℕ → Option (List ℕ)) (names : List (List ℕ))
+-- the joined files have no fault where these helpers may be named, and the patterns are their entries
+pub record IsDatabase (known : List (List ℕ)) (contents : List ℕ → Option (List ℕ)) (names : List (List ℕ))
     (patterns : List Pattern) : Type 0 where
   pub text : List ℕ
   pub joined : IsJoined contents names text
-  pub sound : first_fault [] text ≡ None
+  pub sound : first_fault known text ≡ None
   pub spelled : map entry_of patterns ≡ entries text
 
--- the joined files have this first fault
-pub record IsFaulty (contents : List ℕ → Option (List ℕ)) (names : List (List ℕ)) (line kind : ℕ) : Type 0 where
+-- the joined files have this first fault where these helpers may be named
+pub record IsFaulty (known : List (List ℕ)) (contents : List ℕ → Option (List ℕ)) (names : List (List ℕ))
+    (line kind : ℕ) : Type 0 where
   pub text : List ℕ
   pub joined : IsJoined contents names text
-  pub fault : first_fault [] text ≡ Some (record { line = line; kind = kind })
+  pub fault : first_fault known text ≡ Some (record { line = line; kind = kind })
 
 -- the patterns have no more states than there may be
 abbrev pub HasFewStates : List Pattern → ℕ → Type 0
 HasFewStates patterns most = (n : ℕ) × HasStates patterns n × (n ≤ most)
 
 -- the joined files have no fault, their entries are the patterns, and these have no more states than there may be
-pub record IsOpened (contents : List ℕ → Option (List ℕ)) (names : List (List ℕ)) (most : ℕ)
+pub record IsOpened (known : List (List ℕ)) (contents : List ℕ → Option (List ℕ)) (names : List (List ℕ)) (most : ℕ)
     (patterns : List Pattern) : Type 0 where
-  pub database : IsDatabase contents names patterns
+  pub database : IsDatabase known contents names patterns
   pub few : HasFewStates patterns most
 
 -- the joined files have no fault, and their entries have more states than there may be
-pub record HasTooMany (contents : List ℕ → Option (List ℕ)) (names : List (List ℕ)) (most : ℕ) : Type 0 where
+pub record HasTooMany (known : List (List ℕ)) (contents : List ℕ → Option (List ℕ)) (names : List (List ℕ))
+    (most : ℕ) : Type 0 where
   pub patterns : List Pattern
-  pub database : IsDatabase contents names patterns
+  pub database : IsDatabase known contents names patterns
   pub many : HasMoreStates patterns most
 
 -- the files were not opened, and the error says why
-abbrev pub IsRefused : (List ℕ → Option (List ℕ)) → List (List ℕ) → ℕ → OpenError → Type 0
-IsRefused contents names most FileFault = Unit {0}
-IsRefused contents names most (BadDatabase line kind) = IsFaulty contents names line kind
-IsRefused contents names most (TooManyStates limit) = (limit ≡ most) × HasTooMany contents names most
-IsRefused contents names most NoMemory = Unit {0}
+abbrev pub IsRefused : List (List ℕ) → (List ℕ → Option (List ℕ)) → List (List ℕ) → ℕ → OpenError → Type 0
+IsRefused known contents names most FileFault = Unit {0}
+IsRefused known contents names most (BadDatabase line kind) = IsFaulty known contents names line kind
+IsRefused known contents names most (TooManyStates limit) = (limit ≡ most) × HasTooMany known contents names most
+IsRefused known contents names most NoMemory = Unit {0}
 
 -- the names missed after the files were not opened: a fault of a file appended its name, and no other error appends one
 abbrev pub MissedIn : List (List ℕ) → List (List ℕ) → List (List ℕ) → OpenError → Type 0

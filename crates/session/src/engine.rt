@@ -5,7 +5,10 @@ ghost use Rattle.go_options.specs.Found.{AreInRange};
 ghost use Rattle.go_strings.specs.Games.{reached};
 ghost use Rattle.gtp_cmd.specs.Within.{IsWithin, SaysWithin};
 ghost use Rattle.session.specs.Machine.{position_of};
-ghost use Rattle.session.specs.Kept.{machine_of, matcher_of, first_kept, NumbersPatterns};
+ghost use Rattle.helpers.specs.Asking.{says_yes};
+ghost use Rattle.helpers.specs.Slots.{states_of};
+ghost use Rattle.session.specs.Handed.{without_calls};
+ghost use Rattle.session.specs.Kept.{machine_of, matcher_with, first_kept, NumbersPatterns};
 ghost use Rattle.session.specs.Answering.{step, parsed_step, effect_of, word_of};
 ghost use Rattle.session.specs.Answers.{IsAnswer};
 ghost use Rattle.session.specs.Tallies.{reply_count};
@@ -27,6 +30,7 @@ use go_options::Options;
 use go_strings::StringBoard;
 use gtp_cmd::{Command, KomiText, Parsed, RefuseText, names_text, parse};
 use gtp_lex::Raw;
+use helpers::Helpers;
 use match_engine::Readings;
 use pat_types::Pattern;
 use read_moves::Depths;
@@ -149,20 +153,21 @@ impl Engine {
     }
 
     /// Answers one line, by the step of the machine that this is: for the matches of its patterns this takes
-    /// those by its automaton. With the automaton of the patterns it is the plain machine.
+    /// those by its automaton and what the helpers say. With the automaton of the patterns it is the plain machine.
     ///
     /// Nothing comes exactly for a line without words. NoMemory comes only in place of a growing reply. It leaves the
     /// machine as it was, and so does a refused line; of the counts only that of refused keepings may have risen.
-    pub(crate) fn line(&mut self, raw: Raw<'_>) -> Reply
+    pub(crate) fn line(&mut self, helpers: &mut Helpers, raw: Raw<'_>) -> Reply
         ensures reply { IsReplyTo (machine_of self.old)
-            (step (matcher_of self.old) (machine_of self.old) (raw_line raw.entry))
+            (step (matcher_with (says_yes (states_of state helpers.old)) self.old) (machine_of self.old)
+            (raw_line raw.entry))
             result (machine_of self.new) }
         ensures nothing { result ≡ Reply.Nothing ↔ IsWithoutWords (raw_line raw.entry) }
         ensures bytes { result ≢ Reply.Nothing → reply_count (reply_bytes result) ≡ 1 }
         ensures patterns { self.new.patterns ≡ self.old.patterns }
         ensures same { self.new.automaton ≡ self.old.automaton }
 
-        // A line that asks for a reading and is answered with a code is counted, and each such reading is made afresh.
+        // A line that asks for a reading and is answered with a code is counted.
         ensures readings { self.new.counts.readings ≡ counted self.old.counts.readings
             (is_read_line (machine_of self.old) (raw_line raw.entry)) }
 
@@ -172,20 +177,22 @@ impl Engine {
         ensures few_fresh { HasFewFresh self.old.counts → HasFewFresh self.new.counts }
         ensures refused { IsRefusal (reply_bytes result) → (machine_of self.new ≡ machine_of self.old)
             × KeepsCounts self.old self.new }
+        ensures helpers { without_calls (states_of state helpers.new) ≡ without_calls (states_of state helpers.old) }
     {
         match raw {
             Raw::TooLong => Reply::refused(None, RefuseText::LineTooLong),
             Raw::Line(text) => {
                 let size = self.history.size();
-                self.answer(parse(text, size))
+                self.answer(helpers, parse(text, size))
             }
         }
     }
 
     /// Answers what a line says.
-    fn answer(&mut self, parsed: Parsed) -> Reply
+    fn answer(&mut self, helpers: &mut Helpers, parsed: Parsed) -> Reply
         requires { SaysWithin self.old.size parsed }
-        ensures reply { IsReplyTo (machine_of self.old) (parsed_step (matcher_of self.old) (machine_of self.old) parsed)
+        ensures reply { IsReplyTo (machine_of self.old)
+            (parsed_step (matcher_with (says_yes (states_of state helpers.old)) self.old) (machine_of self.old) parsed)
             result (machine_of self.new) }
         ensures nothing { result ≡ Reply.Nothing ↔ (parsed ≡ Parsed.Nothing) }
         ensures bytes { result ≢ Reply.Nothing → reply_count (reply_bytes result) ≡ 1 }
@@ -194,24 +201,27 @@ impl Engine {
         ensures readings { self.new.counts.readings ≡ counted self.old.counts.readings
             (is_parsed_read (machine_of self.old) parsed) }
         ensures read { ReadsAs (asks_of_parsed (machine_of self.old) parsed) self.old self.new }
+        ensures helpers { without_calls (states_of state helpers.new) ≡ without_calls (states_of state helpers.old) }
     {
         match parsed {
             Parsed::Nothing => Reply::Nothing,
             Parsed::Refused { id, text } => Reply::refused(id, text),
-            Parsed::Command { id, command } => self.obey(command).reply(self.alloc, id),
+            Parsed::Command { id, command } => self.obey(helpers, command).reply(self.alloc, id),
         }
     }
 
     /// Does what a command says.
-    fn obey(&mut self, command: Command) -> Answer
+    fn obey(&mut self, helpers: &mut Helpers, command: Command) -> Answer
         requires { IsWithin self.old.size command }
-        ensures answer { IsAnswer (machine_of self.old) (effect_of (matcher_of self.old) (machine_of self.old) command)
+        ensures answer { IsAnswer (machine_of self.old)
+            (effect_of (matcher_with (says_yes (states_of state helpers.old)) self.old) (machine_of self.old) command)
             result (machine_of self.new) }
         ensures patterns { self.new.patterns ≡ self.old.patterns }
         ensures same { self.new.automaton ≡ self.old.automaton }
         ensures readings { self.new.counts.readings ≡ counted self.old.counts.readings
             (is_read (machine_of self.old) command) }
         ensures read { ReadsAs (asks_of (machine_of self.old) command) self.old self.new }
+        ensures helpers { without_calls (states_of state helpers.new) ≡ without_calls (states_of state helpers.old) }
     {
         match command {
             Command::ProtocolVersion => told(b"2"),
@@ -235,7 +245,7 @@ impl Engine {
             Command::Attack(p) => self.read(Kind::Attack, p),
             Command::Defend(p) => self.read(Kind::Defend, p),
             Command::Depths { plies, wide } => self.deepen(plies, wide),
-            Command::MatchPatterns(friend) => self.list_matches(friend),
+            Command::MatchPatterns(friend) => self.list_matches(helpers, friend),
             Command::ListPatterns => self.list_patterns(),
         }
     }

@@ -1,7 +1,10 @@
 //! Matches as a growing text, one a line.
 ghost use Rattle.std.specs.Prelude.{◌≡◌, ◌*◌, ◌<◌, ◌≤◌, ◌++◌, length, slice_get, OnOk, IfOk};
+ghost use Rattle.helpers.specs.Asking.{says_yes};
+ghost use Rattle.helpers.specs.Slots.{states_of};
 ghost use Rattle.match_engine.specs.MachineMatches.{machine_matches};
 ghost use Rattle.match_engine.specs.Readings.{codes_of};
+ghost use Rattle.session.specs.Handed.{without_calls};
 ghost use Rattle.session.specs.Kept.{NumbersPatterns};
 ghost use Rattle.session.specs.MatchTexts.{name_of, match_text, matches_text, AreAmong, SameDepths};
 ghost use Rattle.session.specs.PatternTexts.{feed_after};
@@ -9,6 +12,7 @@ ghost use Rattle.session.specs.PatternTexts.{feed_after};
 use crate::vertices::{push_number, push_vertex};
 use dfa_core::Automaton;
 use go_base::{Bytes, Colour, NoMemory, Position, Size};
+use helpers::Helpers;
 use match_engine::{Readings, matches};
 use match_rules::Match;
 use pat_types::Pattern;
@@ -66,7 +70,7 @@ fn list_text(
 }
 
 /// The matches of the patterns by an automaton, one a line. What their classes and constraints ask is read at the depths
-/// of the readings.
+/// of the readings, and the helpers that they name are asked last.
 pub(crate) fn matches_text(
     alloc: Global,
     patterns: &[Pattern],
@@ -74,13 +78,18 @@ pub(crate) fn matches_text(
     position: &Position,
     friend: Colour,
     readings: &mut Readings,
+    helpers: &mut Helpers,
 ) -> Result<Bytes, NoMemory>
     requires { NumbersPatterns machine.now patterns.now }
     ensures text { IfOk result (λ text. text ≡ matches_text patterns.now position.now.size
-        (machine_matches (codes_of readings.old) machine.now patterns.now position.now friend)) }
+        (machine_matches (codes_of readings.old) (says_yes (states_of state helpers.old)) machine.now patterns.now
+        position.now friend)) }
     ensures depths { SameDepths readings.old readings.new }
     ensures refused { readings.old.refused ≤ readings.new.refused }
+    ensures helpers { without_calls (states_of state helpers.new) ≡ without_calls (states_of state helpers.old) }
 {
-    let found = matches(alloc, patterns, machine, position, friend, readings)?;
+    let found = matches(
+        alloc, patterns, machine, position, friend, readings, helpers,
+    )?;
     list_text(alloc, patterns, position.size(), found.as_slice())
 }

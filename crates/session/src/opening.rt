@@ -6,12 +6,17 @@ ghost use Rattle.db_grammar.specs.Faults.{first_fault, entries};
 ghost use Rattle.db_read.specs.Reading.{BlamesAt};
 ghost use Rattle.go_options.specs.Found.{AreInRange};
 ghost use Rattle.session.specs.Opening.{most_patterns, needs_feed, added_feed, Adds, IsJoined, MissedBy, MissedIn, HasFewStates, RefusesStates, IsRefused};
+ghost use Rattle.helpers.specs.Asking.{says_yes};
+ghost use Rattle.helpers.specs.Slots.{states_of};
+ghost use Rattle.session.specs.Handed.{helper_names};
+ghost use Rattle.session.specs.Sessions.{matcher_of};
 ghost use Rattle.session.specs.Opened.{IsPlainWith, Opens};
 
 use crate::outcome::OpenError;
 use crate::session::Session;
 use db_read::{DbError, read};
 use dfa_join::compile;
+use go_base::Bytes;
 use go_options::Options;
 use gtp_io::{LoadError, Loader};
 use gtp_lex::Lines;
@@ -62,14 +67,14 @@ fn joined<L: Loader>(alloc: Global, names: &[String], files: &mut L) -> Result<V
     Ok(text)
 }
 
-/// The patterns of a text without a fault.
-fn patterns_in(alloc: Global, text: &[u8]) -> Result<Vec<Pattern>, DbError>
-    ensures ok { IfOk result (λ patterns. (first_fault [] text.now ≡ None)
+/// The patterns of a text without a fault, in which helpers of these names may be named.
+fn patterns_in(alloc: Global, known: &[Bytes], text: &[u8]) -> Result<Vec<Pattern>, DbError>
+    ensures ok { IfOk result (λ patterns. (first_fault known.now text.now ≡ None)
         × (map entry_of patterns.items ≡ entries text.now)) }
     ensures few { IfOk result (λ patterns. length patterns.items ≤ most_patterns) }
-    ensures err { IfErr result (λ error. BlamesAt error (first_fault [] text.now)) }
+    ensures err { IfErr result (λ error. BlamesAt error (first_fault known.now text.now)) }
 {
-    read(alloc, text, &[], Vec::new(alloc))
+    read(alloc, text, known, Vec::new(alloc))
 }
 
 /// The session before its first line, and the lines of which none has come.
@@ -79,40 +84,46 @@ pub(crate) struct Opened {
     pub(crate) lines: Lines,
 }
 
-/// A session with these patterns, by their automaton, with the depths and at most the states of the options.
+/// A session with these patterns, by their automaton, these helpers, and the depths and at most the states of the
+/// options.
 fn session_with(
     alloc: Global,
     patterns: Vec<Pattern>,
+    helpers: Helpers,
     options: &Options,
 ) -> Result<Session, OpenError>
     requires few { length patterns.items ≤ most_patterns }
     requires ranges { AreInRange options.now }
-    ensures ok { IfOk result (λ session. IsPlainWith patterns.items options.now.depth options.now.branch session.engine) }
+    ensures ok { IfOk result (λ session. IsPlainWith (says_yes (states_of state helpers)) patterns.items
+        options.now.depth options.now.branch session.engine (matcher_of state session)) }
     ensures few { OnOk result (HasFewStates patterns.items options.now.states) }
     ensures err { IfErr result (RefusesStates patterns.items options.now.states) }
 {
     let machine = compile(alloc, patterns.as_slice(), options.states)?;
-    let helpers = Helpers::new(alloc, Vec::new(alloc))?;
     Ok(Session::new(alloc, patterns, machine, helpers, options)?)
 }
 
-/// Opens the files of the options: joins their contents, reads them as one database and makes its patterns one
-/// automaton. Takes all memory that the run asks for before its first line.
+/// Opens the files of the options: joins their contents, reads them as one database, in which the helpers may be named,
+/// and makes its patterns one automaton. Takes all memory that the run asks for before its first line.
 pub(crate) fn open<L: Loader>(
     alloc: Global,
     options: &Options,
     files: &mut L,
+    helpers: Helpers,
 ) -> Result<Opened, OpenError>
     requires { AreInRange options.now }
-    ensures ok { IfOk result (λ opened. Opens (L.contents files.old) options.now opened.session.engine opened.lines) }
+    ensures ok { IfOk result (λ opened. Opens (states_of state helpers) (L.contents files.old) options.now
+        opened.session.engine (matcher_of state opened.session) opened.lines) }
     ensures kept { OnOk result (L.missed files.new ≡ L.missed files.old) }
-    ensures err { IfErr result (IsRefused (L.contents files.old) options.now.files options.now.states) }
+    ensures err { IfErr result (IsRefused (helper_names (states_of state helpers)) (L.contents files.old)
+        options.now.files options.now.states) }
     ensures missed { IfErr result (MissedIn options.now.files (L.missed files.old) (L.missed files.new)) }
     ensures same { L.contents files.new ≡ L.contents files.old }
 {
     let text = joined(alloc, options.files.as_slice(), files)?;
-    let patterns = patterns_in(alloc, text.as_slice())?;
-    let session = session_with(alloc, patterns, options)?;
+    let known = helpers.names(alloc)?;
+    let patterns = patterns_in(alloc, known.as_slice(), text.as_slice())?;
+    let session = session_with(alloc, patterns, helpers, options)?;
     let lines = Lines::new(alloc)?;
     Ok(Opened { session, lines })
 }

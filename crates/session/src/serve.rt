@@ -11,7 +11,8 @@ ghost use Rattle.gtp_lex.specs.Raw.{raw_line};
 ghost use Rattle.session.specs.Counting.{is_read_line};
 ghost use Rattle.session.specs.Headline.{IsCauseOf};
 ghost use Rattle.session.specs.Opened.{ServesCounting};
-ghost use Rattle.session.specs.Kept.{machine_of, matcher_of, step_of};
+ghost use Rattle.session.specs.Kept.{machine_of};
+ghost use Rattle.session.specs.Sessions.{matcher_of, step_of};
 ghost use Rattle.session.specs.Tallies.{kept_sum};
 ghost use Rattle.session.specs.Serving.{HasFewFresh, Puts, PutsPart, PutsReply, progress_of, Replies, RepliesPart, RunsTo, RunsPart};
 
@@ -69,15 +70,15 @@ fn answer<K: Sink>(
     output: &mut K,
     sent: &mut Sent,
 ) -> Result<bool, Failed>
-    ensures ok { IfOk result (λ ends. Replies (step_of session.old.engine) is_read_line (machine_of session.old.engine)
+    ensures ok { IfOk result (λ ends. Replies (step_of state session.old) is_read_line (machine_of session.old.engine)
         (raw_line raw.entry)
         (machine_of session.new.engine) ends (progress_of (K.written output.old) session.old.engine sent.old)
         (progress_of (K.written output.new) session.new.engine sent.new)) }
-    ensures part { OnErr result (RepliesPart (step_of session.old.engine) is_read_line (machine_of session.old.engine)
+    ensures part { OnErr result (RepliesPart (step_of state session.old) is_read_line (machine_of session.old.engine)
         (raw_line raw.entry)
         (progress_of (K.written output.old) session.old.engine sent.old)
         (progress_of (K.written output.new) session.new.engine sent.new)) }
-    ensures same { matcher_of session.new.engine ≡ matcher_of session.old.engine }
+    ensures same { matcher_of state session.new ≡ matcher_of state session.old }
     ensures few_fresh { HasFewFresh session.old.engine.counts → HasFewFresh session.new.engine.counts }
     ensures cause { IsCounted (K.faults output.old) (K.faults output.new) result }
 {
@@ -112,14 +113,14 @@ fn answer_taken<K: Sink>(
 ) -> Result<bool, Failed>
     requires { (held : RawLine) × (lines.now ≡ given_state held) × (taken ≡ taken_of held) }
     ensures ok { (held : RawLine) → lines.now ≡ given_state held → taken ≡ taken_of held → IfOk result
-        (λ ends. Replies (step_of session.old.engine) is_read_line (machine_of session.old.engine) held
+        (λ ends. Replies (step_of state session.old) is_read_line (machine_of session.old.engine) held
         (machine_of session.new.engine) ends (progress_of (K.written output.old) session.old.engine sent.old)
         (progress_of (K.written output.new) session.new.engine sent.new)) }
     ensures part { (held : RawLine) → lines.now ≡ given_state held → taken ≡ taken_of held → OnErr result
-        (RepliesPart (step_of session.old.engine) is_read_line (machine_of session.old.engine) held
+        (RepliesPart (step_of state session.old) is_read_line (machine_of session.old.engine) held
         (progress_of (K.written output.old) session.old.engine sent.old)
         (progress_of (K.written output.new) session.new.engine sent.new)) }
-    ensures same { matcher_of session.new.engine ≡ matcher_of session.old.engine }
+    ensures same { matcher_of state session.new ≡ matcher_of state session.old }
     ensures few_fresh { HasFewFresh session.old.engine.counts → HasFewFresh session.new.engine.counts }
     ensures cause { IsCounted (K.faults output.old) (K.faults output.new) result }
 {
@@ -140,17 +141,17 @@ fn answer_next<K: Sink>(
 ) -> Result<(usize, bool), Failed>
     requires { lines.old.waits ≡ false }
     ensures bound { IfOk result (λ turn. (turn.0 ≤ length rest.now) × (0 < length rest.now → 0 < turn.0)) }
-    ensures ok { IfOk result (λ turn. RunsTo (step_of session.old.engine) is_read_line (machine_of session.old.engine)
+    ensures ok { IfOk result (λ turn. RunsTo (step_of state session.old) is_read_line (machine_of session.old.engine)
         (lines_from lines.old.held (take turn.0 rest.now)) (machine_of session.new.engine) turn.1
         (progress_of (K.written output.old) session.old.engine sent.old)
         (progress_of (K.written output.new) session.new.engine sent.new)) }
     ensures held { IfOk result (λ turn. (lines.new.held ≡ held_from lines.old.held (take turn.0 rest.now))
         × (lines.new.waits ≡ false)) }
-    ensures part { OnErr result (RunsPart (step_of session.old.engine) is_read_line (machine_of session.old.engine)
+    ensures part { OnErr result (RunsPart (step_of state session.old) is_read_line (machine_of session.old.engine)
         (lines_from lines.old.held rest.now)
         (progress_of (K.written output.old) session.old.engine sent.old)
         (progress_of (K.written output.new) session.new.engine sent.new)) }
-    ensures same { matcher_of session.new.engine ≡ matcher_of session.old.engine }
+    ensures same { matcher_of state session.new ≡ matcher_of state session.old }
     ensures few_fresh { HasFewFresh session.old.engine.counts → HasFewFresh session.new.engine.counts }
     ensures cause { IsCounted (K.faults output.old) (K.faults output.new) result }
 {
@@ -173,17 +174,17 @@ fn answer_piece<K: Sink>(
     sent: &mut Sent,
 ) -> Result<bool, Failed>
     requires { lines.old.waits ≡ false }
-    ensures ok { IfOk result (λ ended. RunsTo (step_of session.old.engine) is_read_line (machine_of session.old.engine)
+    ensures ok { IfOk result (λ ended. RunsTo (step_of state session.old) is_read_line (machine_of session.old.engine)
         (lines_from lines.old.held piece.now)
         (machine_of session.new.engine) ended (progress_of (K.written output.old) session.old.engine sent.old)
         (progress_of (K.written output.new) session.new.engine sent.new)) }
     ensures held { IfOk result (λ ended. ended ≡ false →
         (lines.new.held ≡ held_from lines.old.held piece.now) × (lines.new.waits ≡ false)) }
-    ensures part { OnErr result (RunsPart (step_of session.old.engine) is_read_line (machine_of session.old.engine)
+    ensures part { OnErr result (RunsPart (step_of state session.old) is_read_line (machine_of session.old.engine)
         (lines_from lines.old.held piece.now)
         (progress_of (K.written output.old) session.old.engine sent.old)
         (progress_of (K.written output.new) session.new.engine sent.new)) }
-    ensures same { matcher_of session.new.engine ≡ matcher_of session.old.engine }
+    ensures same { matcher_of state session.new ≡ matcher_of state session.old }
     ensures few_fresh { HasFewFresh session.old.engine.counts → HasFewFresh session.new.engine.counts }
     ensures cause { IsCounted (K.faults output.old) (K.faults output.new) result }
 {
@@ -206,11 +207,11 @@ fn answer_rest<K: Sink>(
     sent: &mut Sent,
 ) -> Result<bool, Failed>
     requires { lines.old.waits ≡ false }
-    ensures ok { IfOk result (λ ended. RunsTo (step_of session.old.engine) is_read_line (machine_of session.old.engine)
+    ensures ok { IfOk result (λ ended. RunsTo (step_of state session.old) is_read_line (machine_of session.old.engine)
         (held_line lines.old.held)
         (machine_of session.new.engine) ended (progress_of (K.written output.old) session.old.engine sent.old)
         (progress_of (K.written output.new) session.new.engine sent.new)) }
-    ensures part { OnErr result (RunsPart (step_of session.old.engine) is_read_line (machine_of session.old.engine)
+    ensures part { OnErr result (RunsPart (step_of state session.old) is_read_line (machine_of session.old.engine)
         (held_line lines.old.held)
         (progress_of (K.written output.old) session.old.engine sent.old)
         (progress_of (K.written output.new) session.new.engine sent.new)) }
@@ -246,7 +247,7 @@ pub(crate) fn serve<S: Source, K: Sink>(
     sent: &mut Sent,
 ) -> End
     requires { lines.old ≡ no_line }
-    ensures serves { ServesCounting None (step_of session.old.engine) is_read_line (machine_of session.old.engine)
+    ensures serves { ServesCounting None (step_of state session.old) is_read_line (machine_of session.old.engine)
         (record {
           left = S.left input.old;
           piece = S.piece input.old;

@@ -2,7 +2,10 @@
 ghost use Rattle.std.specs.Prelude.{⊤, ◌≡◌, ◌≢◌, ◌↔◌, IfOk};
 ghost use Rattle.gtp_lex.specs.Raw.{raw_line};
 ghost use Rattle.go_options.specs.Found.{AreInRange};
-ghost use Rattle.session.specs.Kept.{machine_of, matcher_of, first_kept, NumbersPatterns};
+ghost use Rattle.helpers.specs.Slots.{states_of};
+ghost use Rattle.session.specs.Handed.{without_calls};
+ghost use Rattle.session.specs.Kept.{machine_of, first_kept, NumbersPatterns};
+ghost use Rattle.session.specs.Sessions.{matcher_of};
 ghost use Rattle.session.specs.Answering.{step};
 ghost use Rattle.session.specs.Tallies.{reply_count};
 ghost use Rattle.session.specs.Counting.{counted, is_read_line};
@@ -60,7 +63,7 @@ impl Session {
     }
 
     /// Answers one line, by the step of the machine that the session is: for the matches of its patterns this takes
-    /// those by its automaton. With the automaton of the patterns it is the plain machine.
+    /// those by its automaton, to which its helpers say yes. With the automaton of the patterns it is the plain machine.
     ///
     /// Nothing comes exactly for a line without words. NoMemory comes only in place of a growing reply. It leaves the
     /// machine as it was, and so does a refused line; of the counts only that of refused keepings may have risen. The
@@ -68,8 +71,7 @@ impl Session {
     pub fn line(&mut self, raw: Raw<'_>) -> Reply
         requires { ⊤ }
         ensures reply { IsReplyTo (machine_of self.old.engine)
-            (step (matcher_of self.old.engine) (machine_of self.old.engine) (raw_line raw.entry))
-            result (machine_of self.new.engine) }
+            (step (matcher_of state self.old) (machine_of self.old.engine) (raw_line raw.entry)) result (machine_of self.new.engine) }
         ensures nothing { result ≡ Reply.Nothing ↔ IsWithoutWords (raw_line raw.entry) }
         ensures bytes { result ≢ Reply.Nothing → reply_count (reply_bytes result) ≡ 1 }
         ensures patterns { self.new.engine.patterns ≡ self.old.engine.patterns }
@@ -86,8 +88,12 @@ impl Session {
         ensures few_fresh { HasFewFresh self.old.engine.counts → HasFewFresh self.new.engine.counts }
         ensures refused { IsRefusal (reply_bytes result) → (machine_of self.new.engine ≡ machine_of self.old.engine)
             × KeepsCounts self.old.engine self.new.engine }
-        ensures helpers { self.new.helpers ≡ self.old.helpers }
+
+        // The helpers keep their number, their order, their names and meanings, and stay on or off. Their calls alone rise.
+        ensures helpers { without_calls (states_of state self.new.helpers)
+            ≡ without_calls (states_of state self.old.helpers) }
+        ensures matcher { matcher_of state self.new ≡ matcher_of state self.old }
     {
-        self.engine.line(raw)
+        self.engine.line(&mut self.helpers, raw)
     }
 }

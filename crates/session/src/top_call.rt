@@ -5,7 +5,10 @@ ghost use Rattle.session.specs.Opened.{CameBy, ServesCounting};
 ghost use Rattle.session.specs.Serving.{HasFewFresh, progress_of};
 ghost use Rattle.go_options.specs.Found.{AreInRange};
 ghost use Rattle.session.specs.Counting.{is_read_line};
-ghost use Rattle.session.specs.Kept.{machine_of, step_of};
+ghost use Rattle.session.specs.Kept.{machine_of};
+ghost use Rattle.session.specs.Sessions.{step_of};
+ghost use Rattle.helpers.specs.Slots.{states_of};
+ghost use Rattle.session.specs.Handed.{handed};
 ghost use Rattle.session.specs.Notes.{note_of};
 ghost use Rattle.session.specs.Outcomes.{Served, phase_of};
 ghost use Rattle.gtp_lex.specs.Lines.{no_line};
@@ -17,6 +20,7 @@ use crate::outcome::{End, Outcome, WordsError, note};
 use crate::serve::serve;
 use go_options::{Options, OptionsError, read_options};
 use gtp_io::{Loader, Sink, Source};
+use helpers::{Helper, Helpers};
 use run_notes::{Counts, Sent, put_notes};
 use std::alloc::Global;
 use workload::Workload;
@@ -67,7 +71,7 @@ fn serve_lines<S: Source, K: Sink>(
     sent: &mut Sent,
 ) -> End
     requires { opened.old.lines ≡ no_line }
-    ensures serves { ServesCounting generate (step_of opened.old.session.engine) is_read_line (machine_of opened.old.session.engine)
+    ensures serves { ServesCounting generate (step_of state opened.old.session) is_read_line (machine_of opened.old.session.engine)
         (record {
           left = S.left input.old;
           piece = S.piece input.old;
@@ -102,9 +106,10 @@ fn run_options<L: Loader, S: Source, K: Sink>(
     files: &mut L,
     input: &mut S,
     output: &mut K,
+    helpers: Helpers,
 ) -> Ran
     requires { AreInRange options.now }
-    ensures came { CameBy options.now (L.contents files.old)
+    ensures came { CameBy (states_of state helpers) options.now (L.contents files.old)
         (record {
           left = S.left input.old;
           piece = S.piece input.old;
@@ -125,13 +130,50 @@ fn run_options<L: Loader, S: Source, K: Sink>(
     ensures input { IsCauseOf (result.outcome ≡ Outcome.InputFault) (S.faults input.old) (S.faults input.new) }
     ensures output { IsCauseOf (result.outcome ≡ Outcome.OutputFault) (K.faults output.old) (K.faults output.new) }
 {
-    let mut opened = match open(alloc, options, files) {
+    let mut opened = match open(alloc, options, files, helpers) {
         Ok(opened) => opened,
         Err(error) => return unserved(error.outcome()),
     };
     let mut sent = Sent { lines: 0, bytes: 0 };
     let end = serve_lines(options.generate, &mut opened, input, output, &mut sent);
     served(end, options, opened.session.stats(), sent)
+}
+
+// Hands the helpers in, opens the files of the options and serves the lines.
+fn run_helped<L: Loader, S: Source, K: Sink>(
+    alloc: Global,
+    options: &Options,
+    files: &mut L,
+    input: &mut S,
+    output: &mut K,
+    helpers: Vec<Box<dyn Helper>>,
+) -> Ran
+    requires { AreInRange options.now }
+    ensures came { CameBy (handed state helpers.items) options.now (L.contents files.old)
+        (record {
+          left = S.left input.old;
+          piece = S.piece input.old;
+          input_faults = S.faults input.old;
+          written = K.written output.old;
+          output_faults = K.faults output.old;
+        })
+        (record {
+          left = S.left input.new;
+          piece = S.piece input.new;
+          input_faults = S.faults input.new;
+          written = K.written output.new;
+          output_faults = K.faults output.new;
+        })
+        result.counts result.sent (phase_of result.outcome) }
+    ensures missed { MissedAfter options.now.files (L.missed files.old) (L.missed files.new) (phase_of result.outcome) }
+    ensures same { L.contents files.new ≡ L.contents files.old }
+    ensures input { IsCauseOf (result.outcome ≡ Outcome.InputFault) (S.faults input.old) (S.faults input.new) }
+    ensures output { IsCauseOf (result.outcome ≡ Outcome.OutputFault) (K.faults output.old) (K.faults output.new) }
+{
+    match Helpers::new(alloc, helpers) {
+        Ok(helpers) => run_options(alloc, options, files, input, output, helpers),
+        Err(_) => unserved(Outcome::NoMemory),
+    }
 }
 
 // The run but for its notes.
@@ -141,8 +183,9 @@ fn run_unnoted<L: Loader, S: Source, K: Sink>(
     files: &mut L,
     input: &mut S,
     output: &mut K,
+    helpers: Vec<Box<dyn Helper>>,
 ) -> Ran
-    ensures came { Came (map string_bytes words.now) (L.contents files.old)
+    ensures came { Came (handed state helpers.items) (map string_bytes words.now) (L.contents files.old)
         (record {
           left = S.left input.old;
           piece = S.piece input.old;
@@ -165,7 +208,7 @@ fn run_unnoted<L: Loader, S: Source, K: Sink>(
     ensures output { IsCauseOf (result.outcome ≡ Outcome.OutputFault) (K.faults output.old) (K.faults output.new) }
 {
     match read_options(alloc, words) {
-        Ok(options) => run_options(alloc, &options, files, input, output),
+        Ok(options) => run_helped(alloc, &options, files, input, output, helpers),
         Err(OptionsError::Usage) => unserved(Outcome::Usage),
         Err(OptionsError::NoMemory) => unserved(Outcome::NoMemory),
     }
@@ -183,7 +226,8 @@ fn put_ran<D: Sink>(notes: &mut D, ran: Ran)
 /// Answers the lines of the input on the output by the patterns of some files, and says on the notes how that ended.
 ///
 /// `words` are the words of the command line without the program's name: options, as `read_options` takes them, and
-/// the names of the pattern files. The files are loaded in their order and joined, their patterns are made one
+/// the names of the pattern files. The patterns may name the `helpers`, each by its name, and a pattern matches only
+/// where those that it names say yes. The files are loaded in their order and joined, their patterns are made one
 /// automaton of at most the options' states, and memory is sought, before the first line is read; the first file that
 /// fails, the first fault of the joined files, or a further state ends the run there. Where lines are to be generated
 /// the input is not called, and these lines go through the same loop. Replies go out as they are made, and no read is
@@ -197,10 +241,11 @@ pub fn run<L: Loader, S: Source, K: Sink, D: Sink>(
     input: &mut S,
     output: &mut K,
     notes: &mut D,
+    helpers: Vec<Box<dyn Helper>>,
 ) -> Outcome
     // By the outcome, what the files are, what was taken, put and noted, which files were missed, and whose count of
     // faults rose.
-    ensures runs { Runs (map string_bytes words.now)
+    ensures runs { Runs (handed state helpers.items) (map string_bytes words.now)
         (record {
           contents = L.contents files.old;
           missed = L.missed files.old;
@@ -229,7 +274,7 @@ pub fn run<L: Loader, S: Source, K: Sink, D: Sink>(
         })
         result }
 {
-    let ran = run_unnoted(alloc, words, files, input, output);
+    let ran = run_unnoted(alloc, words, files, input, output, helpers);
     put_ran(notes, ran);
     ran.outcome
 }
@@ -242,8 +287,9 @@ pub fn run_words<L: Loader, S: Source, K: Sink, D: Sink>(
     input: &mut S,
     output: &mut K,
     notes: &mut D,
+    helpers: Vec<Box<dyn Helper>>,
 ) -> Outcome
-    ensures runs { RunsHad (λ words. map string_bytes words.items) words
+    ensures runs { RunsHad (handed state helpers.items) (λ words. map string_bytes words.items) words
         (record {
           contents = L.contents files.old;
           missed = L.missed files.old;
@@ -273,7 +319,7 @@ pub fn run_words<L: Loader, S: Source, K: Sink, D: Sink>(
         result }
 {
     match words {
-        Ok(words) => run(alloc, &words, files, input, output, notes),
+        Ok(words) => run(alloc, &words, files, input, output, notes, helpers),
         Err(error) => {
             let ran = unserved(error.outcome());
             put_ran(notes, ran);

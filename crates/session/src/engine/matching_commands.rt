@@ -1,23 +1,31 @@
 //! The commands that tell of patterns and of their matches.
 ghost use Rattle.std.specs.Prelude.{◌≡◌};
-ghost use Rattle.session.specs.Kept.{machine_of, matcher_of};
-ghost use Rattle.session.specs.MatchingCommands.{matches_listed, patterns_listed};
+ghost use Rattle.helpers.specs.Asking.{says_yes};
+ghost use Rattle.helpers.specs.Slots.{states_of};
+ghost use Rattle.session.specs.Handed.{without_calls};
+ghost use Rattle.session.specs.Kept.{machine_of, matcher_with};
+ghost use Rattle.session.specs.Effects.{Grown};
+ghost use Rattle.session.specs.MatchingCommands.{matches_listed};
+ghost use Rattle.session.specs.PatternTexts.{patterns_text};
 ghost use Rattle.session.specs.Answers.{IsAnswer};
 ghost use Rattle.session.specs.Asking.{KeepsCounts};
 
 use crate::answer::{Answer, grown};
+use crate::engine::Engine;
 use crate::match_text::matches_text;
 use crate::pattern_text::patterns_text;
-use crate::engine::Engine;
 use go_base::Colour;
+use helpers::Helpers;
 
 impl Engine {
-    pub(crate) fn list_matches(&mut self, friend: Colour) -> Answer
+    pub(crate) fn list_matches(&mut self, helpers: &mut Helpers, friend: Colour) -> Answer
         ensures answer { IsAnswer (machine_of self.old)
-            (matches_listed (matcher_of self.old) (machine_of self.old) friend) result (machine_of self.new) }
+            (matches_listed (matcher_with (says_yes (states_of state helpers.old)) self.old) (machine_of self.old) friend)
+            result (machine_of self.new) }
         ensures patterns { self.new.patterns ≡ self.old.patterns }
         ensures same { self.new.automaton ≡ self.old.automaton }
         ensures counts { KeepsCounts self.old self.new }
+        ensures helpers { without_calls (states_of state helpers.new) ≡ without_calls (states_of state helpers.old) }
     {
         let position = self.position();
         grown(matches_text(
@@ -27,12 +35,13 @@ impl Engine {
             &position,
             friend,
             &mut self.readings,
+            helpers,
         ))
     }
 
     pub(crate) fn list_patterns(&self) -> Answer
-        ensures { IsAnswer (machine_of self.now)
-            (patterns_listed (matcher_of self.now) (machine_of self.now)) result (machine_of self.now) }
+        ensures { IsAnswer (machine_of self.now) (Grown (patterns_text self.now.patterns) (machine_of self.now)) result
+            (machine_of self.now) }
     {
         grown(patterns_text(self.alloc, &self.patterns))
     }

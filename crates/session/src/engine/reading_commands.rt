@@ -8,9 +8,9 @@ ghost use Rattle.session.specs.Counting.{counted, has_stone};
 ghost use Rattle.session.specs.Asking.{ReadsAs, asks_at, after_trials};
 
 use crate::answer::{Answer, told};
-use crate::readings::answer_text;
 use crate::engine::Engine;
 use crate::engine::board_commands::has_stone;
+use crate::readings::answer_text;
 use go_base::Point;
 use gtp_cmd::RefuseText;
 use read_moves::Depths;

@@ -1,5 +1,9 @@
 -- The matches that were found are among the patterns and on the board.
-use Rattle.std.proofs.Common.{sym, subst, ◌∙◌}
+use Rattle.std.proofs.Common.{sym, ap, subst, ◌∙◌}
+use Rattle.helpers.specs.Asking.{says_yes}
+use Rattle.helpers.specs.Slots.{states_of}
+use Rattle.session.specs.Handed.{without_calls}
+use Rattle.session.proofs.Helped.{raised-quiet}
 use Rattle.match_engine.specs.MachineMatches.{machine_matches}
 use Rattle.match_engine.specs.Readings.{codes_of}
 use Rattle.session.specs.MatchTexts.{AreAmong}
@@ -7,10 +11,15 @@ use Rattle.session.proofs.Finding.{AreAmong-found}
 use Rattle.session.proofs.match_text.matches_text.Goals as goal
 
 pub list_text-requires : goal.list_text-requires
-list_text-requires c =
+list_text-requires g c =
     let patterns = c.args.patterns.now in
     let code = codes_of c.args.readings.now in
-    let found = machine_matches code c.args.machine.now patterns c.args.position.now c.args.friend in
+    let advice = says_yes (states_of (λ z. (goal.Helper-dyn g z).state z.1) c.args.helpers.now) in
+    let found = machine_matches code advice c.args.machine.now patterns c.args.position.now c.args.friend in
     subst (λ zs. AreAmong patterns c.size.result zs) (sym (c.as_slice.ensures.value ∙ c.in_ok-found.ensures.machine))
     (subst (λ s. AreAmong patterns s found) (sym c.size.ensures.value)
-    (AreAmong-found code c.args.machine.now patterns c.args.position.now c.args.friend))
+    (AreAmong-found code advice c.args.machine.now patterns c.args.position.now c.args.friend))
+
+-- the helpers were asked, and keep the rest
+pub returns-clause-helpers : goal.returns-clause-helpers
+returns-clause-helpers g c = ap without_calls c.in_ok-found.ensures.calls ∙ raised-quiet _ _

@@ -4,4 +4,4 @@ use Rattle.session.proofs.FewPatterns.{few_read}
 use Rattle.session.proofs.opening.patterns_in.Goals as goal
 
 pub returns-clause-few : goal.returns-clause-few
-returns-clause-few c = few_read (λ v. v.items) entry_of c.read.result c.args.text.now c.read.ensures.ok
+returns-clause-few c = few_read (λ v. v.items) entry_of c.read.result c.args.known.now c.args.text.now c.read.ensures.ok

@@ -1,13 +1,15 @@
--- The automaton accepts the patterns' numbers alone, and by it the session is plain.
+-- The automaton accepts the patterns' numbers alone, and by it and the helpers the session is plain.
 use Rattle.std.proofs.Common.{sym, subst}
 use Rattle.dfa_core.specs.States.{IsMachineOf}
-use Rattle.session.specs.Kept.{NumbersPatterns}
+use Rattle.helpers.specs.Asking.{says_yes}
+use Rattle.helpers.specs.Slots.{states_of}
+use Rattle.session.specs.Kept.{NumbersPatterns, matcher_with}
 use Rattle.session.specs.Opened.{IsPlainWith}
 use Rattle.session.proofs.Finding.{plain-first}
 use Rattle.session.proofs.opening.session_with.Goals as goal
 
-pub new-requires-3-clause-numbers : goal.new-requires-3-clause-numbers
-new-requires-3-clause-numbers g c =
+pub new-requires-clause-numbers : goal.new-requires-clause-numbers
+new-requires-clause-numbers g c =
     subst (λ patterns. NumbersPatterns c.in_ok-machine.machine patterns) c.as_slice.ensures.value
     c.in_ok-machine.ensures.numbers
 
@@ -18,4 +20,10 @@ returns-clause-ok g c =
     let accepts = subst (λ ps. IsMachineOf ps rows) c.as_slice.ensures.value c.in_ok-machine.ensures.accepts in
     let plies = c.args.options.now.depth in
     let wide = c.args.options.now.branch in
-    subst (IsPlainWith patterns plies wide) (sym c.in_ok-new.ensures.engine) (plain-first patterns rows plies wide c.args.options.now.cache accepts)
+    let advice = says_yes (states_of (λ z. (goal.Helper-dyn g z).state z.1) c.args.helpers) in
+    let session = c.in_ok-new.field-0 in
+    subst (λ h. IsPlainWith advice patterns plies wide session.engine
+    (matcher_with (says_yes (states_of (λ z. (goal.Helper-dyn g z).state z.1) h)) session.engine))
+    (sym c.in_ok-new.ensures.helpers)
+    (subst (λ k. IsPlainWith advice patterns plies wide k (matcher_with advice k)) (sym c.in_ok-new.ensures.engine)
+    (plain-first advice patterns rows plies wide c.args.options.now.cache accepts))

@@ -11,7 +11,7 @@ pub returns-in_err-put_reply-in-Short-clause-part : goal.returns-in_err-put_repl
 returns-in_err-put_reply-in-Short-clause-part g c =
     let reply = Short c.in-Short.text c.in-Short.quit in
     on_err_from _
-    (Replies-part c.args.session.now.engine c.line.new.self.engine
+    (Replies-part _ c.args.session.now.engine c.line.new.self.engine
     (raw_line c.args.raw) reply c.in-Short.ensures.reply c.in-Short.ensures.readings
     _ _ _ _ c.as_slice.result.now c.as_slice.ensures c.in_err-put_reply-in-Short.ensures.part)
 
@@ -20,7 +20,7 @@ pub returns-in_err-put_reply-in-Text-clause-part : goal.returns-in_err-put_reply
 returns-in_err-put_reply-in-Text-clause-part g c =
     let reply = Text c.in-Text.bytes in
     on_err_from _
-    (Replies-part c.args.session.now.engine c.line.new.self.engine
+    (Replies-part _ c.args.session.now.engine c.line.new.self.engine
     (raw_line c.args.raw) reply c.in-Text.ensures.reply c.in-Text.ensures.readings
     _ _ _ _ c.as_slice-in-Text.result.now c.as_slice-in-Text.ensures c.in_err-put_reply-in-Text.ensures.part)
 
@@ -29,12 +29,12 @@ pub returns-in_err-put_reply-in-NoMemory-clause-part : goal.returns-in_err-put_r
 returns-in_err-put_reply-in-NoMemory-clause-part g c =
     let reply = NoMemory c.in-NoMemory.id in
     on_err_from _
-    (Replies-part c.args.session.now.engine c.line.new.self.engine (raw_line c.args.raw) reply c.in-NoMemory.ensures.reply
+    (Replies-part _ c.args.session.now.engine c.line.new.self.engine (raw_line c.args.raw) reply c.in-NoMemory.ensures.reply
     c.in-NoMemory.ensures.readings _ _ _ _ _ (c.as_slice-in-NoMemory.ensures ∙ c.refusal.ensures)
     c.in_err-put_reply-in-NoMemory.ensures.part)
 
 -- a line without words
 pub returns-in-Nothing-clause-ok : goal.returns-in-Nothing-clause-ok
 returns-in-Nothing-clause-ok g c =
-    Replies-nothing c.args.session.now.engine c.line.new.self.engine (raw_line c.args.raw) (g.K.Sink.written c.args.output.now)
+    Replies-nothing _ c.args.session.now.engine c.line.new.self.engine (raw_line c.args.raw) (g.K.Sink.written c.args.output.now)
     c.args.sent.now c.in-Nothing.ensures.reply c.in-Nothing.ensures.readings

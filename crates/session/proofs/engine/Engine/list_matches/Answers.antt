@@ -4,5 +4,5 @@ use Rattle.session.specs.Kept.{NumbersPatterns}
 use Rattle.session.proofs.engine.Engine.list_matches.Goals as goal
 
 pub matches_text-requires : goal.matches_text-requires
-matches_text-requires c = subst (λ patterns. NumbersPatterns c.self.inside.automaton patterns)
+matches_text-requires g c = subst (λ patterns. NumbersPatterns c.self.inside.automaton patterns)
     (sym c.deref.ensures.value) c.self.invariant
