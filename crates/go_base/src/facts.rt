@@ -15,26 +15,33 @@ use crate::ban::is_banned;
 use crate::bits::PointBits;
 use crate::points::PointSet;
 use crate::position::Position;
-use crate::size::{Point, Size};
+use crate::size::{MIN_SIZE, Point, Size};
 use go_rules::{Cell, Colour};
 
 /// The facts that were seen of a position, in some 420 bytes. Of the ban it keeps the whole; what counts is what was asked for.
 #[derive(Clone, Copy, Debug)]
 pub struct Facts {
     /// The size, which is always a fact.
-    pub size: Size,
+    size: Size,
     /// The ban of the position that was seen.
-    pub ban: Option<(Point, Colour)>,
+    ban: Option<(Point, Colour)>,
     /// The points that were seen to be empty.
-    pub empty: PointBits,
+    empty: PointBits,
     /// The points where a black stone was seen.
-    pub black: PointBits,
+    black: PointBits,
     /// The points where a white stone was seen.
-    pub white: PointBits,
+    white: PointBits,
     /// The points where it was asked whether the ban forbids Black to play.
-    pub asked_of_black: PointBits,
+    asked_of_black: PointBits,
     /// The points where it was asked whether the ban forbids White to play.
-    pub asked_of_white: PointBits,
+    asked_of_white: PointBits,
+}
+
+/// No fact but the size of the smallest board.
+impl Default for Facts {
+    fn default() -> Facts {
+        Facts::new(Size::new(MIN_SIZE).unwrap(), None)
+    }
 }
 
 impl Facts {

@@ -21,7 +21,7 @@ pub const MAX_OFFSET: i8 = MAX_SIZE as i8 - 1;
 pub use go_rules::Point;
 
 /// The size of a board: how many rows and how many columns it has. Seen as this number.
-#[derive(Clone, Copy, Debug, PartialEq, Eq)]
+#[derive(Clone, Copy, Debug, PartialEq, Eq, Hash)]
 pub struct Size {
     rows: u8,
 }

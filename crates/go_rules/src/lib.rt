@@ -14,7 +14,7 @@ pub mod laws;
 pub type Point = u16;
 
 /// The colour of a stone, and of the player who puts it.
-#[derive(Clone, Copy, Debug, PartialEq, Eq)]
+#[derive(Clone, Copy, Debug, PartialEq, Eq, Hash)]
 pub enum Colour {
     Black,
     White,

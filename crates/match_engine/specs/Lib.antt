@@ -1,3 +1,5 @@
+pub mod Caches
+pub mod Keys
 pub mod MachineMatches
 pub mod Found
 pub mod HelperCalls

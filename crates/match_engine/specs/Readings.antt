@@ -1,10 +1,25 @@
 -- What contracts see of readings, and how calls change it.
-use Rattle.std.specs.Prelude.{◌≡◌, ℕ, ◌+◌, ◌-◌, ◌^◌, ◌≤◌, ◌⊎◌, Option, Some, None, min}
-use Rattle.read_rules.specs.Answer.{code_of, asked_on}
+use Rattle.std.specs.Prelude.{◌≡◌, ℕ, ◌+◌, ◌-◌, ◌^◌, ◌≤◌, ◌⊎◌, IsTrue, Bool, List, [], Option, Some, None, IfSome, min}
+use Rattle.go_rules.specs.Position.{BoardState}
+use Rattle.go_base.specs.Facts.{Fact, Agrees}
+use Rattle.go_base.specs.Told.{told}
+use Rattle.go_base.specs.declared.facts.Facts.{Facts}
+use Rattle.read_rules.specs.declared.question.Answer.{Answer}
+use Rattle.read_rules.specs.Answer.{code_of, asked_on, answer_of}
+use Rattle.read_rules.specs.ActiveArea.{InActiveArea, IsAboutOne}
+use Rattle.read_rules.specs.GoodMoves.{IsOnBoard}
+use Rattle.read_cache.specs.declared.variants.Variant.{Variant}
+use Rattle.read_cache.specs.Kept.{Kept, HoldsOfEach, IsFound, IsMissing, kept_first, variants_of}
+use Rattle.match_engine.specs.declared.keys.Key.{Key}
+use Rattle.match_engine.specs.Keys.{same_key, meaning_of}
 use Rattle.cons_eval.specs.Readings.{Codes}
 
--- the depths of the present readings, how many were fresh, the trial plays of these, how many were not kept for want of memory, and
--- the trial plays of the last one, if it was fresh
+-- the questions that are kept, the last used first, each with its variants, the last kept or found first; and how many there may be
+abbrev pub KeptReadings : Type 0
+KeptReadings = Kept Key Answer
+
+-- the depths of the present readings, how many were fresh, the trial plays of these, how many were not kept for want of memory, the
+-- trial plays of the last one, if it was fresh, and the readings that are kept
 pub record ReadingsView : Type 0 where
   pub plies : ℕ
   pub wide : ℕ
@@ -12,6 +27,7 @@ pub record ReadingsView : Type 0 where
   pub trials : ℕ
   pub refused : ℕ
   pub last : Option ℕ
+  pub kept : KeptReadings
 
 -- the greatest value of a count
 abbrev pub most_counted : ℕ
@@ -21,13 +37,17 @@ most_counted = 2 ^ 64 - 1
 abbrev pub raised : ℕ → ℕ → ℕ
 raised count n = min (count + n) most_counted
 
--- new readings of these depths
-abbrev pub first_readings : ℕ → ℕ → ReadingsView
-first_readings plies wide = record { plies = plies; wide = wide; fresh = 0; trials = 0; refused = 0; last = None }
+-- nothing is kept, of at most so many questions
+abbrev pub nothing_kept : ℕ → KeptReadings
+nothing_kept capacity = ([], capacity)
+
+-- new readings of these depths, of which so many questions may be kept
+abbrev pub first_readings : ℕ → ℕ → ℕ → ReadingsView
+first_readings plies wide capacity = record { plies = plies; wide = wide; fresh = 0; trials = 0; refused = 0; last = None; kept = nothing_kept capacity }
 
 -- the readings with other depths
 abbrev pub with_depths : ReadingsView → ℕ → ℕ → ReadingsView
-with_depths r plies wide = record { plies = plies; wide = wide; fresh = r.fresh; trials = r.trials; refused = r.refused; last = r.last }
+with_depths r plies wide = record r { plies = plies; wide = wide }
 
 -- the code of a fresh reading at these depths, of each kind, on each position and for each target
 abbrev pub codes_at : ℕ → ℕ → Codes
@@ -37,26 +57,60 @@ codes_at plies wide kind pos target = code_of (asked_on pos kind target plies wi
 abbrev pub codes_of : ReadingsView → Codes
 codes_of r = codes_at r.plies r.wide
 
--- the last reading was fresh: it was counted, with its trial plays
-pub record WasFresh (old new : ReadingsView) : Type 0 where
-  pub trials_of_last : ℕ
-  pub last : new.last ≡ Some trials_of_last
-  pub fresh : new.fresh ≡ raised old.fresh 1
-  pub trials : new.trials ≡ raised old.trials trials_of_last
-  pub refused : old.refused ≤ new.refused
+-- The answer of the variant rests on its facts: on each position on which they hold it is the answer to the question, and there each
+-- of them lies in the active area of the reading.
+pub record Rests (key : Key) (variant : Variant Answer) : Type 0 where
+  pub answers : (pos : BoardState) → Agrees (told variant.facts) pos → variant.answer ≡ answer_of key.question pos
+  pub near : (pos : BoardState) → Agrees (told variant.facts) pos → (fact : Fact) → IsTrue (told variant.facts fact) → IsAboutOne (InActiveArea key.question pos) fact
+  pub code : variant.answer.code ≤ 3
+  pub on_board : IfSome variant.answer.at (IsOnBoard key.question.size)
 
--- the last reading was one that is kept, and no count has changed
-pub record WasKept (old new : ReadingsView) : Type 0 where
+-- the answer is that to the question on the position, its code is at most 3, and its move is on the board
+pub record Answers (key : Key) (pos : BoardState) (answer : Answer) : Type 0 where
+  pub right : answer ≡ answer_of key.question pos
+  pub code : answer.code ≤ 3
+  pub on_board : IfSome answer.at (IsOnBoard key.question.size)
+
+-- each kept variant rests on its facts
+abbrev pub AllRest : KeptReadings → Type 0
+AllRest kept = HoldsOfEach Rests kept
+
+-- the answer came from the readings that are kept: no count has changed, and there is no last fresh reading
+pub record WasKept (key : Key) (pos : BoardState) (answer : Answer) (old new : ReadingsView) : Type 0 where
+  pub found : IsFound same_key key pos old.kept new.kept answer
   pub last : new.last ≡ None
   pub fresh : new.fresh ≡ old.fresh
   pub trials : new.trials ≡ old.trials
   pub refused : new.refused ≡ old.refused
 
--- new is old after one reading at the same depths, which was fresh or one that is kept
-pub record HasRead (old new : ReadingsView) : Type 0 where
+-- the answer is now the first variant of the first kept question, with facts that hold on the position
+pub record IsKeptFirst (key : Key) (pos : BoardState) (answer : Answer) (old new : ReadingsView) : Type 0 where
+  pub facts : Facts
+  pub holds : Agrees (told facts) pos
+  pub rests : Rests key (record { facts = facts; answer = answer })
+  pub kept : new.kept ≡ kept_first same_key key (record { facts = facts; answer = answer }) old.kept
+  pub refused : new.refused ≡ old.refused
+
+-- there was no memory for the answer, whose question was not kept, and this was counted
+pub record WasRefused (key : Key) (old new : ReadingsView) : Type 0 where
+  pub not_kept : variants_of same_key key old.kept ≡ None
+  pub kept : new.kept ≡ old.kept
+  pub refused : new.refused ≡ raised old.refused 1
+
+-- the reading was fresh: no kept variant stands on the position, and it was counted, with its trial plays, and kept or refused
+pub record WasFresh (key : Key) (pos : BoardState) (answer : Answer) (old new : ReadingsView) : Type 0 where
+  pub missing : IsMissing same_key key pos old.kept
+  pub trials_of_last : ℕ
+  pub last : new.last ≡ Some trials_of_last
+  pub fresh : new.fresh ≡ raised old.fresh 1
+  pub trials : new.trials ≡ raised old.trials trials_of_last
+  pub keeping : IsKeptFirst key pos answer old new ⊎ WasRefused key old new
+
+-- new is old after one reading at the same depths, which was kept or fresh
+pub record HasRead (key : Key) (pos : BoardState) (answer : Answer) (old new : ReadingsView) : Type 0 where
   pub plies : new.plies ≡ old.plies
   pub wide : new.wide ≡ old.wide
-  pub counted : WasFresh old new ⊎ WasKept old new
+  pub read : WasFresh key pos answer old new ⊎ WasKept key pos answer old new
 
 -- new is old after any number of readings: the depths are the same, and no count has fallen
 pub record Follows (old new : ReadingsView) : Type 0 where

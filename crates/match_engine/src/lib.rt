@@ -12,6 +12,8 @@ mod agreeing;
 mod allowing;
 mod asking;
 mod finder;
+mod keeping;
+mod keys;
 pub mod laws;
 mod legality;
 mod placing;
@@ -20,4 +22,5 @@ mod readings;
 
 pub use finder::matches;
 pub use match_rules::Match;
+pub use keys::Key;
 pub use readings::Readings;

@@ -1,31 +1,40 @@
-//! Readings, counted.
-ghost use Rattle.std.specs.Prelude.{◌≡◌, ◌≢◌, ◌*◌, ◌<◌, ◌≤◌, IfOk, IfSome};
+//! Readings, counted and kept.
+ghost use Rattle.std.specs.Prelude.{◌≡◌, ◌≢◌, ◌*◌, ◌<◌, ◌≤◌, Some, None, IfOk, IfSome, IfNone, OnSome};
 ghost use Rattle.go_rules.specs.Strings.{cell_at};
+ghost use Rattle.go_base.specs.Facts.{Agrees};
+ghost use Rattle.go_base.specs.Told.{told};
 ghost use Rattle.read_rules.specs.Answer.{answer_of, asked_on};
 ghost use Rattle.read_rules.specs.GoodMoves.{IsOnBoard};
-ghost use Rattle.match_engine.specs.Readings.{HasRead, WasFresh, Follows, first_readings, with_depths};
+ghost use Rattle.match_engine.specs.Keys.{same_key, meaning_of};
+ghost use Rattle.read_cache.specs.Kept.{IsFound, IsMissing};
+ghost use Rattle.match_engine.specs.Readings.{HasRead, WasFresh, WasKept, Follows, AllRest, Rests, Answers, first_readings, with_depths};
 
-use go_base::{Cell, NoMemory, Point, Position, Watch};
+use crate::keeping::{find_in, keep_in};
+use crate::keys::{Key, key_of};
+use go_base::{Cell, Facts, NoMemory, Point, Position, Watch};
+use read_cache::Cache;
 use read_rules::{Answer, Depths, Kind};
 use read_tree::{attack, defend};
 use std::alloc::Global;
 use std::marker::Model;
 
-/// The readings of a session, all at the same depths, and how many of them were made. Seen as these depths and counts.
+/// The readings of a session, all at the same depths, how many of them were made, and those that are kept. Seen as these.
 ///
-/// Each answer is that of a fresh reading. Nothing is kept yet, so each reading is fresh and none is refused.
-#[derive(Debug, Drop)]
+/// Each answer is that of a fresh reading. It is kept with the facts that it rests on, and used again where these hold.
+#[derive(Drop)]
 pub struct Readings {
     depths: Depths,
-    capacity: u32,
     fresh: u64,
     trials: u64,
     refused: u64,
     last: Option<u64>,
+    // There is none in readings that stand in for others; they refuse each keeping.
+    cache: Option<Cache<Key>>,
 }
 
 impl Model for Readings {
-    ghost use Rattle.match_engine.specs.Readings.{ReadingsView};
+    ghost use Rattle.match_engine.specs.Readings.{ReadingsView, AllRest};
+    ghost use Rattle.match_engine.specs.Caches.{kept_in};
 
     ghost Value = { ReadingsView };
 
@@ -36,43 +45,58 @@ impl Model for Readings {
       trials = r.trials;
       refused = r.refused;
       last = r.last;
+      kept = kept_in r.cache;
     } };
+
+    ghost invariant = { λ r. AllRest (kept_in r.cache) };
 }
 
-/// The answer of a fresh reading, and how many trial plays it made.
-fn read_afresh(kind: Kind, position: &Position, target: Point, depths: Depths) -> (Answer, u64)
+/// A fresh reading: its answer, how many trial plays it made, and the facts that it rests on.
+#[derive(Drop)]
+struct Fresh {
+    answer: Answer,
+    trials: u64,
+    facts: Facts,
+}
+
+/// Reads afresh.
+fn read_afresh(kind: Kind, position: &Position, target: Point, depths: Depths) -> Fresh
     requires on_board { target < position.now.size * position.now.size }
     requires stone { cell_at position.now.cells target ≢ Cell.Empty }
-    ensures answer { result.0 ≡ answer_of (asked_on position.now kind target depths.plies depths.wide) position.now }
-    ensures code { result.0.code ≤ 3 }
-    ensures on_board { IfSome result.0.at (IsOnBoard position.now.size) }
+    ensures holds { Agrees (told result.facts) position.now }
+    ensures rests { Rests (record { question = asked_on position.now kind target depths.plies depths.wide }) (record { facts = result.facts; answer = result.answer }) }
 {
     let watch = Watch::new(position);
     let told = match kind {
         Kind::Attack => attack(watch, target, depths),
         Kind::Defend => defend(watch, target, depths),
     };
-    (told.answer, told.trials)
+    Fresh {
+        answer: told.answer,
+        trials: told.trials,
+        facts: told.look.facts(),
+    }
 }
 
 impl Readings {
-    /// Readings at these depths, with all counts 0. So many questions may be kept later, from 8 to 65,536.
-    pub fn new(_alloc: Global, depths: Depths, capacity: u32) -> Result<Readings, NoMemory>
+    /// Readings at these depths, with all counts 0 and nothing kept, of at most so many questions, from 8 to 65,536. Takes memory.
+    pub fn new(alloc: Global, depths: Depths, capacity: u32) -> Result<Readings, NoMemory>
         requires some { 8 ≤ capacity }
         requires few { capacity ≤ 65536 }
-        ensures { IfOk result (λ readings. readings ≡ first_readings depths.plies depths.wide) }
+        ensures { IfOk result (λ readings. readings ≡ first_readings depths.plies depths.wide capacity) }
     {
         Ok(Readings {
             depths,
-            capacity,
             fresh: 0,
             trials: 0,
             refused: 0,
             last: None,
+            cache: Some(Cache::new(alloc, capacity)?),
         })
     }
 
-    /// The answer to a question about a stone of the position, at the present depths: that of a fresh reading.
+    /// The answer to a question about a stone of the position, at the present depths: that of a fresh reading. It comes from the
+    /// readings that are kept exactly where a kept variant of the question stands on the position; else it is read afresh and kept.
     ///
     /// After GNU Go Manual, "Tactical reading".
     pub fn read(&mut self, kind: Kind, position: &Position, target: Point) -> Answer
@@ -81,29 +105,66 @@ impl Readings {
         ensures answer { result ≡ answer_of (asked_on position.now kind target self.old.plies self.old.wide) position.now }
         ensures code { result.code ≤ 3 }
         ensures on_board { IfSome result.at (IsOnBoard position.now.size) }
-        // Nothing is kept yet, so it was fresh.
-        ensures afresh { WasFresh self.old self.new }
-        // It was fresh and is counted, or was kept and nothing is.
-        ensures counted { HasRead self.old self.new }
+        // It was kept, and no count has changed, or it was fresh, and is counted and kept or refused.
+        ensures read { HasRead (record { question = asked_on position.now kind target self.old.plies self.old.wide }) position.now result self.old self.new }
+        // Each kept variant rests on its facts.
+        ensures rest { AllRest self.new.kept }
         // The depths are as before, and no count has fallen.
         ensures follows { Follows self.old self.new }
     {
-        let (answer, trials) = read_afresh(kind, position, target, self.depths);
+        let key = key_of(kind, position, target, self.depths);
+        match self.find(&key, position) {
+            Some(answer) => answer,
+            None => self.read_and_keep(key, kind, position, target),
+        }
+    }
+
+    /// The answer of a kept variant of the question that stands on the position.
+    fn find(&mut self, key: &Key, position: &Position) -> Option<Answer>
+        ensures found { IfSome result (λ answer. WasKept key.now position.now answer self.old self.new) }
+        ensures missing { IfNone result (IsMissing same_key key.now position.now self.old.kept) }
+        ensures same { IfNone result (self.new ≡ self.old) }
+        ensures plies { self.new.plies ≡ self.old.plies }
+        ensures wide { self.new.wide ≡ self.old.wide }
+        ensures right { IfSome result (λ answer. Answers key.now position.now answer) }
+        ensures rest { AllRest self.new.kept }
+    {
+        let answer = find_in(&mut self.cache, key, position)?;
+        self.last = None;
+        Some(answer)
+    }
+
+    /// Reads afresh, counts the reading and keeps it, or counts that there was no memory for it.
+    fn read_and_keep(&mut self, key: Key, kind: Kind, position: &Position, target: Point) -> Answer
+        requires on_board { target < position.now.size * position.now.size }
+        requires stone { cell_at position.now.cells target ≢ Cell.Empty }
+        requires key { key.question ≡ asked_on position.now kind target self.old.plies self.old.wide }
+        requires missing { IsMissing same_key key position.now self.old.kept }
+        ensures right { Answers key position.now result }
+        ensures fresh { WasFresh key position.now result self.old self.new }
+        ensures rest { AllRest self.new.kept }
+        ensures plies { self.new.plies ≡ self.old.plies }
+        ensures wide { self.new.wide ≡ self.old.wide }
+    {
+        let read = read_afresh(kind, position, target, self.depths);
         self.fresh = self.fresh.saturating_add(1);
-        self.trials = self.trials.saturating_add(trials);
-        self.last = Some(trials);
-        answer
+        self.trials = self.trials.saturating_add(read.trials);
+        self.last = Some(read.trials);
+        if !keep_in(&mut self.cache, key, read.facts, read.answer) {
+            self.refused = self.refused.saturating_add(1);
+        }
+        read.answer
     }
 
     /// Readings that stand in while these are lent. They take no memory.
     pub(crate) fn spare(&self) -> Readings {
         Readings {
             depths: self.depths,
-            capacity: self.capacity,
             fresh: 0,
             trials: 0,
             refused: 0,
             last: None,
+            cache: None,
         }
     }
 

@@ -32,10 +32,10 @@ AreAmong-found code advice rows patterns board friend = λ z there.
     (slice_get_within patterns z.pattern by.pattern by.number, by.at)
 
 -- with the automaton of its patterns a session is plain before its first line
-pub plain-first : (advice : Advice) (patterns : List Pattern) (rows : List Row) (plies wide : ℕ) → IsMachineOf patterns rows
-    → IsPlainWith advice patterns plies wide (first_kept patterns rows plies wide)
-    (matcher_with advice (first_kept patterns rows plies wide))
-plain-first advice patterns rows plies wide accepts = record {
+pub plain-first : (advice : Advice) (patterns : List Pattern) (rows : List Row) (plies wide capacity : ℕ) → IsMachineOf patterns rows
+    → IsPlainWith advice patterns plies wide (first_kept patterns rows plies wide capacity)
+    (matcher_with advice (first_kept patterns rows plies wide capacity))
+plain-first advice patterns rows plies wide capacity accepts = record {
   machine = refl;
   counts = refl;
   matches = λ i. record {
@@ -43,20 +43,6 @@ plain-first advice patterns rows plies wide accepts = record {
     matches = λ machine friend. same_by_machine (codes_of machine) advice patterns rows (position_of machine) friend
         accepts i;
   };
-}
-
--- two sessions that are one machine, and have one list of patterns, one automaton and one set of counts, keep the same
-pub same_kept : (a b : Kept) → machine_of a ≡ machine_of b → a.patterns ≡ b.patterns → a.automaton ≡ b.automaton
-    → a.counts ≡ b.counts → a ≡ b
-same_kept a b machines patterns automata counts = λ i. record {
-  size = (machines i).size;
-  moves = (machines i).moves;
-  komi = (machines i).komi;
-  plies = (machines i).plies;
-  wide = (machines i).wide;
-  patterns = patterns i;
-  automaton = automata i;
-  counts = counts i;
 }
 
 -- a session that is plain with some patterns served the lines as the plain machine does

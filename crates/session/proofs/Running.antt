@@ -1,5 +1,5 @@
 -- How a run of a command line came to its end, by how it read its options, opened its files and served its lines.
-use Rattle.std.proofs.Common.{◌≡◌, ℕ, Bool, true, false, cond, List, length, Option, Some, None, refl, sym, ap, subst, ◌∙◌, inr, ◌≤◌, arith}
+use Rattle.std.proofs.Common.{◌≡◌, ℕ, Bool, true, false, cond, List, length, Option, Some, None, refl, sym, ap, subst, ◌∙◌, inr, ◌≤◌, lit<, arith}
 use Rattle.std.specs.Prelude.{option_map}
 use Rattle.gtp_lex.specs.Lines.{LinesState}
 use Rattle.go_options.specs.CommandLine.{is_taken, rows_in}
@@ -22,16 +22,16 @@ use Rattle.session.specs.Opened.{Opens, CameBy, ServesCounting}
 use Rattle.session.specs.Outcomes.{Phase, NotTaken, NotOpened, Served}
 use Rattle.session.specs.Ends.{Streams}
 use Rattle.session.specs.Headline.{Came, AreCounts, IsSent, IsCauseOf, MissedAfter, files_in}
-use Rattle.session.specs.Serving.{IsAfresh, progress_of}
+use Rattle.session.specs.Serving.{HasFewFresh, progress_of}
 use Rattle.session.specs.declared.outcome.End.{End}
 use Rattle.session.specs.declared.outcome.OpenError.{OpenError}
 use Rattle.session.proofs.Finding.{ServesLines-plain}
 
--- the counts of a session that read all afresh are told where they are asked for
+-- the counts of a session are told where they are asked for
 counts-told : (asked : Bool) (counts : Counts) (tally : Tally) → counts.readings ≡ kept_sum 0 tally.readings
-    → IsAfresh counts
+    → HasFewFresh counts
     → AreCounts asked (cond asked (Some counts) None) tally
-counts-told true counts tally readings afresh = (readings, afresh.all, afresh.none)
+counts-told true counts tally readings afresh = (readings, afresh.few)
 counts-told false counts tally readings afresh = refl
 
 -- what was sent is told where lines were generated
@@ -48,12 +48,12 @@ pub came-served : (helpers : List SlotState) (contents : List ℕ → Option (Li
     (phase : Phase) → Opens helpers contents options session matcher lines
     → ServesCounting options.generate (step matcher) is_read_line (machine_of session) before after end
     (progress_of w0 session (record { lines = 0; bytes = 0 })) (progress_of w1 now sent)
-    → (IsAfresh session.counts → IsAfresh now.counts)
+    → (HasFewFresh session.counts → HasFewFresh now.counts)
     → told ≡ cond options.stats (Some now.counts) None → noted ≡ option_map (λ _. sent) options.generate
     → phase ≡ Served end → CameBy helpers options contents before after told noted phase
 came-served helpers contents options session now matcher lines before after end w0 w1 sent told noted phase opens counting afresh tells notes is =
     let none = opens.plain.counts in
-    let start : IsAfresh session.counts = subst IsAfresh (sym none) (record { all = refl; none = refl }) in
+    let start : HasFewFresh session.counts = subst HasFewFresh (sym none) (record { few = omega arith; small = lit< tt }) in
     let readings = counting.advances.readings ∙ ap (λ (k : Counts). kept_sum k.readings counting.tally.readings) none in
     subst (CameBy helpers options contents before after told noted) (sym is) (record {
       patterns = opens.patterns;

@@ -11,7 +11,7 @@ use Rattle.session.specs.Machine.{Machine}
 use Rattle.session.specs.Matcher.{Matcher}
 use Rattle.session.specs.Effects.{Effect, Refused, Told, Grown, Ended, replied}
 use Rattle.session.specs.Answering.{effect_of, parsed_step, step}
-use Rattle.session.specs.Counting.{is_read, is_parsed_read, is_read_line, counted}
+use Rattle.session.specs.Counting.{is_read, is_parsed_read, is_read_line}
 use Rattle.session.specs.ReadingCommands.{answer_text, reading_of}
 use Rattle.session.specs.Replies.{IsReplyTo, IsRefusal, IsSound, reply_bytes}
 use Rattle.session.specs.declared.reply.Reply.{Reply}
@@ -19,7 +19,6 @@ use Rattle.session.specs.declared.reply.Reply.TheVariants as reply
 use Rattle.gtp_cmd.specs.declared.commands.Command.{Command}
 use Rattle.gtp_cmd.specs.declared.commands.Command.TheVariants as command
 use Rattle.read_rules.specs.declared.question.Kind.TheVariants.{Attack, Defend}
-use Rattle.run_notes.specs.declared.notes.Counts.{Counts}
 
 -- a success is no refusal
 success_apart : (bytes more : List ℕ) → bytes ≡ 61 ∷ more → IsRefusal bytes → ⊥
@@ -105,12 +104,3 @@ pub read-not_refused : (old : Machine) (matcher : Matcher) (line : RawLine) (rep
 read-not_refused old matcher line reply new is refusal reads =
     let told = read-line matcher old line reads in
     told-not_refused old new told.0 told.1 reply (subst (λ given. IsReplyTo old given reply new) told.2 is) refusal
-
--- where no reading was answered, the counts are as before
-pub counts_same : (reads : Bool) (before now : Counts) → (reads ≡ true → ⊥) → now.readings
-    ≡ counted before.readings reads
-    → now.fresh ≡ counted before.fresh reads → (reads ≡ false → now.trials ≡ before.trials) → now.refused
-    ≡ before.refused → now ≡ before
-counts_same true before now never readings fresh trials refused = absurd (never refl)
-counts_same false before now never readings fresh trials refused =
-    λ i. record { readings = readings i; fresh = fresh i; trials = trials refl i; refused = refused i }

@@ -67,10 +67,10 @@ abbrev pub ServesLines : {M : Type 0} → Option ℕ → (M → RawLine → Step
 ServesLines None step asks first before after end tally = Serves step asks first before after end tally
 ServesLines (Some n) step asks first before after end tally = ServesGenerated n step asks first before after end tally
 
--- the counts are told where they are asked for: the readings of the tally, each made afresh and none kept
+-- the counts are told where they are asked for: the readings of the tally, of which no more than all were made afresh
 abbrev pub AreCounts : Bool → Option Counts → Tally → Type 0
 AreCounts asked counts tally = MatchBool asked (IsSomeAnd counts (λ c. (c.readings ≡ kept_sum 0 tally.readings)
-    × (c.fresh ≡ c.readings) × (c.refused ≡ 0))) (counts ≡ None)
+    × (c.fresh ≤ c.readings))) (counts ≡ None)
 
 -- what was sent is told where lines are generated: the replies of the tally that went out whole, and its bytes
 abbrev pub IsSent : Option ℕ → Option Sent → Tally → Type 0

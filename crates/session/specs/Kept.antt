@@ -6,10 +6,12 @@ use Rattle.dfa_core.specs.Automata.{Row, accepted}
 use Rattle.dfa_core.specs.Words.{Word}
 use Rattle.match_rules.specs.Conditions.{Advice}
 use Rattle.run_notes.specs.declared.notes.Counts.{Counts}
+use Rattle.match_engine.specs.Readings.{ReadingsView, first_readings}
 use Rattle.session.specs.Machine.{Machine, first_size}
 use Rattle.session.specs.Matcher.{Matcher, automaton_matcher}
 
--- settings and moves, the patterns, the automaton by which their matches are found, and what was counted
+-- settings and moves, the patterns, the automaton by which their matches are found, what was counted, and the readings with
+-- those that are kept
 pub record Kept : Type 0 where
   pub size : ℕ
   pub moves : List Move
@@ -19,6 +21,7 @@ pub record Kept : Type 0 where
   pub patterns : List Pattern
   pub automaton : List Row
   pub counts : Counts
+  pub readings : ReadingsView
 
 -- the machine that a session is
 abbrev pub machine_of : Kept → Machine
@@ -39,9 +42,9 @@ abbrev pub no_counts : Counts
 no_counts = record { readings = 0; fresh = 0; trials = 0; refused = 0 }
 
 -- what a session with these patterns, this automaton and readings of this many plies and wide plies keeps before the
--- first line
-abbrev pub first_kept : List Pattern → List Row → ℕ → ℕ → Kept
-first_kept patterns automaton plies wide = record {
+-- first line, where so many questions may be kept
+abbrev pub first_kept : List Pattern → List Row → ℕ → ℕ → ℕ → Kept
+first_kept patterns automaton plies wide capacity = record {
   size = first_size;
   moves = [];
   komi = codes "0.0";
@@ -50,6 +53,7 @@ first_kept patterns automaton plies wide = record {
   patterns = patterns;
   automaton = automaton;
   counts = no_counts;
+  readings = first_readings plies wide capacity;
 }
 
 -- each number that the automaton accepts is the place of one of the patterns

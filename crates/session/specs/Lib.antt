@@ -1,3 +1,4 @@
+pub mod Asking
 pub mod Machine
 pub mod Matcher
 pub mod BoardText

@@ -1,6 +1,6 @@
 -- What the loops of a run say of the lines that they answer, of the bytes that they put and of what they count, by any
 -- machine M, any step, and any test of the lines that are counted as readings.
-use Rattle.std.specs.Prelude.{◌≡◌, ℕ, ◌<◌, Bool, List, ◌++◌, length, Option}
+use Rattle.std.specs.Prelude.{◌≡◌, ℕ, ◌^◌, ◌<◌, ◌≤◌, Bool, List, ◌++◌, length, Option}
 use Rattle.std.specs.Io.KnownBytes.{Appends}
 use Rattle.gtp_rules.specs.Lines.{RawLine}
 use Rattle.gtp_rules.specs.Steps.{Step}
@@ -10,10 +10,10 @@ use Rattle.run_notes.specs.declared.notes.Sent.{Sent}
 use Rattle.session.specs.Kept.{Kept}
 use Rattle.session.specs.Tallies.{Tally, Progress, Advances, IsTallied, BreaksOff, tally_of, cut_tally, kept_sum}
 
--- each reading that was counted was made afresh, and none was kept
-pub record IsAfresh (counts : Counts) : Type 0 where
-  pub all : counts.fresh ≡ counts.readings
-  pub none : counts.refused ≡ 0
+-- no more readings were made afresh than were counted, which a u64 counts
+pub record HasFewFresh (counts : Counts) : Type 0 where
+  pub few : counts.fresh ≤ counts.readings
+  pub small : counts.readings < 2 ^ 64
 
 -- how far a run is: what its output holds, what its session counted, and what was sent
 abbrev pub progress_of : Option (List ℕ) → Kept → Sent → Progress

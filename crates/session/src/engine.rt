@@ -1,5 +1,5 @@
 //! What a session keeps beside its helpers: the plain machine, its patterns and its counts; and its answer to each line.
-ghost use Rattle.std.specs.Prelude.{◌≡◌, ◌≢◌, ◌≤◌, ◌↔◌, List, ℕ, false, length, IfOk};
+ghost use Rattle.std.specs.Prelude.{◌≡◌, ◌≢◌, ◌≤◌, ◌↔◌, List, ℕ, length, IfOk};
 ghost use Rattle.gtp_lex.specs.Raw.{raw_line};
 ghost use Rattle.go_options.specs.Found.{AreInRange};
 ghost use Rattle.go_strings.specs.Games.{reached};
@@ -13,6 +13,8 @@ ghost use Rattle.session.specs.Answering.{step, parsed_step, effect_of, word_of}
 ghost use Rattle.session.specs.Answers.{IsAnswer};
 ghost use Rattle.session.specs.Tallies.{reply_count};
 ghost use Rattle.session.specs.Counting.{counted, is_read, is_parsed_read, is_read_line};
+ghost use Rattle.session.specs.Serving.{HasFewFresh};
+ghost use Rattle.session.specs.Asking.{ReadsAs, KeepsCounts, asks_of, asks_of_parsed, asks_of_line};
 ghost use Rattle.session.specs.Replies.{IsReplyTo, IsWithoutWords, IsRefusal, reply_bytes};
 
 mod board_commands;
@@ -37,12 +39,22 @@ use run_notes::Counts;
 use std::alloc::Global;
 use std::marker::Model;
 
+/// What is counted of the lines that ask for a reading and are answered with a code.
+#[derive(Clone, Copy)]
+pub(crate) struct ReadingCounts {
+    /// How many there were.
+    pub(crate) readings: u64,
+    /// How many of them were read afresh.
+    pub(crate) fresh: u64,
+    /// How many trial plays these made.
+    pub(crate) trials: u64,
+}
+
 /// Nothing was counted.
-const NO_COUNTS: Counts = Counts {
+const NO_COUNTS: ReadingCounts = ReadingCounts {
     readings: 0,
     fresh: 0,
     trials: 0,
-    refused: 0,
 };
 
 /// The size of the board before the first line that says one.
@@ -57,7 +69,7 @@ pub struct Engine {
     readings: Readings,
     patterns: Vec<Pattern>,
     automaton: Automaton,
-    counts: Counts,
+    counts: ReadingCounts,
 }
 
 impl Model for Engine {
@@ -77,7 +89,13 @@ impl Model for Engine {
       wide = s.readings.wide;
       patterns = s.patterns.items;
       automaton = s.automaton;
-      counts = s.counts;
+      counts = record {
+        readings = s.counts.readings;
+        fresh = s.counts.fresh;
+        trials = s.counts.trials;
+        refused = s.readings.refused;
+      };
+      readings = s.readings;
     } };
 
     ghost invariant = { λ s. NumbersPatterns s.automaton s.patterns.items };
@@ -103,7 +121,7 @@ impl Engine {
         requires numbers { NumbersPatterns machine patterns.items }
         requires ranges { AreInRange options.now }
         ensures { IfOk result (λ engine. engine
-            ≡ first_kept patterns.items machine options.now.depth options.now.branch) }
+            ≡ first_kept patterns.items machine options.now.depth options.now.branch options.now.cache) }
     {
         let size = Size::new(FIRST_SIZE).unwrap();
         Ok(Engine {
@@ -122,18 +140,23 @@ impl Engine {
     }
 
     /// What the session counted: its lines that asked for a reading and were answered with a code, those of them that
-    /// were read afresh, and the moves that these tried. No reading is kept, so none is refused.
+    /// were read afresh, the moves that these tried, and the readings that could not be kept for want of memory.
     pub(crate) fn stats(&self) -> Counts
         ensures { result ≡ self.now.counts }
     {
-        self.counts
+        Counts {
+            readings: self.counts.readings,
+            fresh: self.counts.fresh,
+            trials: self.counts.trials,
+            refused: self.readings.refused(),
+        }
     }
 
     /// Answers one line, by the step of the machine that this is: for the matches of its patterns this takes
     /// those by its automaton and what the helpers say. With the automaton of the patterns it is the plain machine.
     ///
-    /// Nothing comes exactly for a line without words. NoMemory comes only in place of a growing reply, and leaves
-    /// everything as it was. A refused line leaves it as it was, too.
+    /// Nothing comes exactly for a line without words. NoMemory comes only in place of a growing reply. It leaves the
+    /// machine as it was, and so does a refused line; of the counts only that of refused keepings may have risen.
     pub(crate) fn line(&mut self, helpers: &mut Helpers, raw: Raw<'_>) -> Reply
         ensures reply { IsReplyTo (machine_of self.old)
             (step (matcher_with (says_yes (states_of state helpers.old)) self.old) (machine_of self.old)
@@ -144,16 +167,17 @@ impl Engine {
         ensures patterns { self.new.patterns ≡ self.old.patterns }
         ensures same { self.new.automaton ≡ self.old.automaton }
 
-        // A line that asks for a reading and is answered with a code is counted, and each such reading is made afresh.
+        // A line that asks for a reading and is answered with a code is counted.
         ensures readings { self.new.counts.readings ≡ counted self.old.counts.readings
             (is_read_line (machine_of self.old) (raw_line raw.entry)) }
-        ensures fresh { self.new.counts.fresh ≡ counted self.old.counts.fresh
-            (is_read_line (machine_of self.old) (raw_line raw.entry)) }
-        ensures trials { is_read_line (machine_of self.old) (raw_line raw.entry) ≡ false → self.new.counts.trials
-            ≡ self.old.counts.trials }
-        ensures none_kept { self.new.counts.refused ≡ self.old.counts.refused }
+
+        // It makes one reading, which is kept or fresh; a line that asks for matches may make any, and no other line
+        // makes one.
+        ensures read { ReadsAs (asks_of_line (machine_of self.old) (raw_line raw.entry)) self.old self.new }
+        ensures few_fresh { HasFewFresh self.old.counts → HasFewFresh self.new.counts }
+        ensures refused { IsRefusal (reply_bytes result) → (machine_of self.new ≡ machine_of self.old)
+            × KeepsCounts self.old self.new }
         ensures helpers { without_calls (states_of state helpers.new) ≡ without_calls (states_of state helpers.old) }
-        ensures refused { IsRefusal (reply_bytes result) → self.new ≡ self.old }
     {
         match raw {
             Raw::TooLong => Reply::refused(None, RefuseText::LineTooLong),
@@ -176,11 +200,7 @@ impl Engine {
         ensures same { self.new.automaton ≡ self.old.automaton }
         ensures readings { self.new.counts.readings ≡ counted self.old.counts.readings
             (is_parsed_read (machine_of self.old) parsed) }
-        ensures fresh { self.new.counts.fresh ≡ counted self.old.counts.fresh
-            (is_parsed_read (machine_of self.old) parsed) }
-        ensures trials { is_parsed_read (machine_of self.old) parsed ≡ false → self.new.counts.trials
-            ≡ self.old.counts.trials }
-        ensures none_kept { self.new.counts.refused ≡ self.old.counts.refused }
+        ensures read { ReadsAs (asks_of_parsed (machine_of self.old) parsed) self.old self.new }
         ensures helpers { without_calls (states_of state helpers.new) ≡ without_calls (states_of state helpers.old) }
     {
         match parsed {
@@ -200,10 +220,7 @@ impl Engine {
         ensures same { self.new.automaton ≡ self.old.automaton }
         ensures readings { self.new.counts.readings ≡ counted self.old.counts.readings
             (is_read (machine_of self.old) command) }
-        ensures fresh { self.new.counts.fresh ≡ counted self.old.counts.fresh (is_read (machine_of self.old) command) }
-        ensures trials { is_read (machine_of self.old) command ≡ false → self.new.counts.trials
-            ≡ self.old.counts.trials }
-        ensures none_kept { self.new.counts.refused ≡ self.old.counts.refused }
+        ensures read { ReadsAs (asks_of (machine_of self.old) command) self.old self.new }
         ensures helpers { without_calls (states_of state helpers.new) ≡ without_calls (states_of state helpers.old) }
     {
         match command {

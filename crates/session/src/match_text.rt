@@ -1,5 +1,5 @@
 //! Matches as a growing text, one a line.
-ghost use Rattle.std.specs.Prelude.{◌≡◌, ◌*◌, ◌<◌, ◌++◌, length, slice_get, OnOk, IfOk};
+ghost use Rattle.std.specs.Prelude.{◌≡◌, ◌*◌, ◌<◌, ◌≤◌, ◌++◌, length, slice_get, OnOk, IfOk};
 ghost use Rattle.helpers.specs.Asking.{says_yes};
 ghost use Rattle.helpers.specs.Slots.{states_of};
 ghost use Rattle.match_engine.specs.MachineMatches.{machine_matches};
@@ -85,6 +85,7 @@ pub(crate) fn matches_text(
         (machine_matches (codes_of readings.old) (says_yes (states_of state helpers.old)) machine.now patterns.now
         position.now friend)) }
     ensures depths { SameDepths readings.old readings.new }
+    ensures refused { readings.old.refused ≤ readings.new.refused }
     ensures helpers { without_calls (states_of state helpers.new) ≡ without_calls (states_of state helpers.old) }
 {
     let found = matches(

@@ -14,7 +14,7 @@ ghost use Rattle.session.specs.Opened.{ServesCounting};
 ghost use Rattle.session.specs.Kept.{machine_of};
 ghost use Rattle.session.specs.Sessions.{matcher_of, step_of};
 ghost use Rattle.session.specs.Tallies.{kept_sum};
-ghost use Rattle.session.specs.Serving.{IsAfresh, Puts, PutsPart, PutsReply, progress_of, Replies, RepliesPart, RunsTo, RunsPart};
+ghost use Rattle.session.specs.Serving.{HasFewFresh, Puts, PutsPart, PutsReply, progress_of, Replies, RepliesPart, RunsTo, RunsPart};
 
 use crate::outcome::End;
 use crate::reply::Reply;
@@ -79,7 +79,7 @@ fn answer<K: Sink>(
         (progress_of (K.written output.old) session.old.engine sent.old)
         (progress_of (K.written output.new) session.new.engine sent.new)) }
     ensures same { matcher_of state session.new ≡ matcher_of state session.old }
-    ensures afresh { IsAfresh session.old.engine.counts → IsAfresh session.new.engine.counts }
+    ensures few_fresh { HasFewFresh session.old.engine.counts → HasFewFresh session.new.engine.counts }
     ensures cause { IsCounted (K.faults output.old) (K.faults output.new) result }
 {
     match session.line(raw) {
@@ -121,7 +121,7 @@ fn answer_taken<K: Sink>(
         (progress_of (K.written output.old) session.old.engine sent.old)
         (progress_of (K.written output.new) session.new.engine sent.new)) }
     ensures same { matcher_of state session.new ≡ matcher_of state session.old }
-    ensures afresh { IsAfresh session.old.engine.counts → IsAfresh session.new.engine.counts }
+    ensures few_fresh { HasFewFresh session.old.engine.counts → HasFewFresh session.new.engine.counts }
     ensures cause { IsCounted (K.faults output.old) (K.faults output.new) result }
 {
     match taken {
@@ -152,7 +152,7 @@ fn answer_next<K: Sink>(
         (progress_of (K.written output.old) session.old.engine sent.old)
         (progress_of (K.written output.new) session.new.engine sent.new)) }
     ensures same { matcher_of state session.new ≡ matcher_of state session.old }
-    ensures afresh { IsAfresh session.old.engine.counts → IsAfresh session.new.engine.counts }
+    ensures few_fresh { HasFewFresh session.old.engine.counts → HasFewFresh session.new.engine.counts }
     ensures cause { IsCounted (K.faults output.old) (K.faults output.new) result }
 {
     let count = lines.feed(rest);
@@ -185,7 +185,7 @@ fn answer_piece<K: Sink>(
         (progress_of (K.written output.old) session.old.engine sent.old)
         (progress_of (K.written output.new) session.new.engine sent.new)) }
     ensures same { matcher_of state session.new ≡ matcher_of state session.old }
-    ensures afresh { IsAfresh session.old.engine.counts → IsAfresh session.new.engine.counts }
+    ensures few_fresh { HasFewFresh session.old.engine.counts → HasFewFresh session.new.engine.counts }
     ensures cause { IsCounted (K.faults output.old) (K.faults output.new) result }
 {
     let mut rest = piece;
@@ -215,7 +215,7 @@ fn answer_rest<K: Sink>(
         (held_line lines.old.held)
         (progress_of (K.written output.old) session.old.engine sent.old)
         (progress_of (K.written output.new) session.new.engine sent.new)) }
-    ensures afresh { IsAfresh session.old.engine.counts → IsAfresh session.new.engine.counts }
+    ensures few_fresh { HasFewFresh session.old.engine.counts → HasFewFresh session.new.engine.counts }
     ensures cause { IsCounted (K.faults output.old) (K.faults output.new) result }
 {
     match lines.finish() {
@@ -264,7 +264,7 @@ pub(crate) fn serve<S: Source, K: Sink>(
         }) result
         (progress_of (K.written output.old) session.old.engine sent.old)
         (progress_of (K.written output.new) session.new.engine sent.new) }
-    ensures afresh { IsAfresh session.old.engine.counts → IsAfresh session.new.engine.counts }
+    ensures few_fresh { HasFewFresh session.old.engine.counts → HasFewFresh session.new.engine.counts }
     ensures input { IsCauseOf (result ≡ End.InputFault) (S.faults input.old) (S.faults input.new) }
     ensures output { IsCauseOf (result ≡ End.OutputFault) (K.faults output.old) (K.faults output.new) }
 {

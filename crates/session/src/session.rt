@@ -1,5 +1,5 @@
 //! A session of the protocol: what it keeps, and the helpers that its patterns ask.
-ghost use Rattle.std.specs.Prelude.{⊤, ◌≡◌, ◌≢◌, ◌↔◌, false, IfOk};
+ghost use Rattle.std.specs.Prelude.{⊤, ◌≡◌, ◌≢◌, ◌↔◌, IfOk};
 ghost use Rattle.gtp_lex.specs.Raw.{raw_line};
 ghost use Rattle.go_options.specs.Found.{AreInRange};
 ghost use Rattle.helpers.specs.Slots.{states_of};
@@ -9,6 +9,8 @@ ghost use Rattle.session.specs.Sessions.{matcher_of};
 ghost use Rattle.session.specs.Answering.{step};
 ghost use Rattle.session.specs.Tallies.{reply_count};
 ghost use Rattle.session.specs.Counting.{counted, is_read_line};
+ghost use Rattle.session.specs.Serving.{HasFewFresh};
+ghost use Rattle.session.specs.Asking.{ReadsAs, KeepsCounts, asks_of_line};
 ghost use Rattle.session.specs.Replies.{IsReplyTo, IsWithoutWords, IsRefusal, reply_bytes};
 
 use crate::engine::Engine;
@@ -45,7 +47,7 @@ impl Session {
         requires numbers { NumbersPatterns machine patterns.items }
         requires ranges { AreInRange options.now }
         ensures engine { IfOk result (λ session. session.engine
-            ≡ first_kept patterns.items machine options.now.depth options.now.branch) }
+            ≡ first_kept patterns.items machine options.now.depth options.now.branch options.now.cache) }
         ensures helpers { IfOk result (λ session. session.helpers ≡ helpers) }
     {
         let engine = Engine::new(alloc, patterns, machine, options)?;
@@ -53,7 +55,7 @@ impl Session {
     }
 
     /// What the session counted: its lines that asked for a reading and were answered with a code, those of them that
-    /// were read afresh, and the moves that these tried. No reading is kept, so none is refused.
+    /// were read afresh, the moves that these tried, and the readings that could not be kept for want of memory.
     pub fn stats(&self) -> Counts
         ensures { result ≡ self.now.engine.counts }
     {
@@ -63,9 +65,9 @@ impl Session {
     /// Answers one line, by the step of the machine that the session is: for the matches of its patterns this takes
     /// those by its automaton, to which its helpers say yes. With the automaton of the patterns it is the plain machine.
     ///
-    /// Nothing comes exactly for a line without words. NoMemory comes only in place of a growing reply, and leaves
-    /// the session as it was. A refused line leaves it as it was, too. The empty condition says that the call makes no
-    /// helper of its own.
+    /// Nothing comes exactly for a line without words. NoMemory comes only in place of a growing reply. It leaves the
+    /// machine as it was, and so does a refused line; of the counts only that of refused keepings may have risen. The
+    /// empty condition says that the call makes no helper of its own.
     pub fn line(&mut self, raw: Raw<'_>) -> Reply
         requires { ⊤ }
         ensures reply { IsReplyTo (machine_of self.old.engine)
@@ -75,15 +77,17 @@ impl Session {
         ensures patterns { self.new.engine.patterns ≡ self.old.engine.patterns }
         ensures same { self.new.engine.automaton ≡ self.old.engine.automaton }
 
-        // A line that asks for a reading and is answered with a code is counted, and each such reading is made afresh.
+        // A line that asks for a reading and is answered with a code is counted.
         ensures readings { self.new.engine.counts.readings ≡ counted self.old.engine.counts.readings
             (is_read_line (machine_of self.old.engine) (raw_line raw.entry)) }
-        ensures fresh { self.new.engine.counts.fresh ≡ counted self.old.engine.counts.fresh
-            (is_read_line (machine_of self.old.engine) (raw_line raw.entry)) }
-        ensures trials { is_read_line (machine_of self.old.engine) (raw_line raw.entry) ≡ false
-            → self.new.engine.counts.trials ≡ self.old.engine.counts.trials }
-        ensures none_kept { self.new.engine.counts.refused ≡ self.old.engine.counts.refused }
-        ensures refused { IsRefusal (reply_bytes result) → self.new.engine ≡ self.old.engine }
+
+        // It makes one reading, which is kept or fresh; a line that asks for matches may make any, and no other line
+        // makes one.
+        ensures read { ReadsAs (asks_of_line (machine_of self.old.engine) (raw_line raw.entry)) self.old.engine
+            self.new.engine }
+        ensures few_fresh { HasFewFresh self.old.engine.counts → HasFewFresh self.new.engine.counts }
+        ensures refused { IsRefusal (reply_bytes result) → (machine_of self.new.engine ≡ machine_of self.old.engine)
+            × KeepsCounts self.old.engine self.new.engine }
 
         // The helpers keep their number, their order, their names and meanings, and stay on or off. Their calls alone rise.
         ensures helpers { without_calls (states_of state self.new.helpers)

@@ -2,7 +2,7 @@
 ghost use Rattle.std.specs.Prelude.{◌≡◌, ◌↔◌, Option, None, Some, ℕ, if◌then◌else◌, option_map, map, string_bytes};
 ghost use Rattle.session.specs.Headline.{Came, IsCauseOf, MissedAfter, Runs, RunsHad, files_in};
 ghost use Rattle.session.specs.Opened.{CameBy, ServesCounting};
-ghost use Rattle.session.specs.Serving.{IsAfresh, progress_of};
+ghost use Rattle.session.specs.Serving.{HasFewFresh, progress_of};
 ghost use Rattle.go_options.specs.Found.{AreInRange};
 ghost use Rattle.session.specs.Counting.{is_read_line};
 ghost use Rattle.session.specs.Kept.{machine_of};
@@ -88,7 +88,7 @@ fn serve_lines<S: Source, K: Sink>(
         }) result
         (progress_of (K.written output.old) opened.old.session.engine sent.old)
         (progress_of (K.written output.new) opened.new.session.engine sent.new) }
-    ensures afresh { IsAfresh opened.old.session.engine.counts → IsAfresh opened.new.session.engine.counts }
+    ensures few_fresh { HasFewFresh opened.old.session.engine.counts → HasFewFresh opened.new.session.engine.counts }
     ensures input { IsCauseOf (result ≡ End.InputFault) (S.faults input.old) (S.faults input.new) }
     ensures output { IsCauseOf (result ≡ End.OutputFault) (K.faults output.old) (K.faults output.new) }
 {

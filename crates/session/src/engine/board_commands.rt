@@ -44,6 +44,7 @@ impl Engine {
         ensures patterns { self.new.patterns ≡ self.old.patterns }
         ensures same { self.new.automaton ≡ self.old.automaton }
         ensures counts { self.new.counts ≡ self.old.counts }
+        ensures kept { self.new.readings.kept ≡ self.old.readings.kept }
     {
         let Some(size) = size else {
             return Answer::Refused(RefuseText::UnacceptableSize);
@@ -57,6 +58,7 @@ impl Engine {
         ensures patterns { self.new.patterns ≡ self.old.patterns }
         ensures same { self.new.automaton ≡ self.old.automaton }
         ensures counts { self.new.counts ≡ self.old.counts }
+        ensures kept { self.new.readings.kept ≡ self.old.readings.kept }
     {
         self.history.clear();
         told(b"")
@@ -68,6 +70,7 @@ impl Engine {
         ensures patterns { self.new.patterns ≡ self.old.patterns }
         ensures same { self.new.automaton ≡ self.old.automaton }
         ensures counts { self.new.counts ≡ self.old.counts }
+        ensures kept { self.new.readings.kept ≡ self.old.readings.kept }
     {
         self.komi = komi;
         told(b"")
@@ -79,6 +82,7 @@ impl Engine {
         ensures patterns { self.new.patterns ≡ self.old.patterns }
         ensures same { self.new.automaton ≡ self.old.automaton }
         ensures counts { self.new.counts ≡ self.old.counts }
+        ensures kept { self.new.readings.kept ≡ self.old.readings.kept }
     {
         match self.history.play(m) {
             Ok(()) => told(b""),
@@ -94,6 +98,7 @@ impl Engine {
         ensures patterns { self.new.patterns ≡ self.old.patterns }
         ensures same { self.new.automaton ≡ self.old.automaton }
         ensures counts { self.new.counts ≡ self.old.counts }
+        ensures kept { self.new.readings.kept ≡ self.old.readings.kept }
     {
         match self.history.undo() {
             Ok(()) => told(b""),

@@ -5,6 +5,7 @@ ghost use Rattle.session.specs.ReadingCommands.{read, deepened};
 ghost use Rattle.gtp_cmd.specs.Within.{AreDepths};
 ghost use Rattle.session.specs.Answers.{IsAnswer};
 ghost use Rattle.session.specs.Counting.{counted, has_stone};
+ghost use Rattle.session.specs.Asking.{ReadsAs, asks_at, after_trials};
 
 use crate::answer::{Answer, told};
 use crate::engine::Engine;
@@ -23,7 +24,8 @@ impl Engine {
         ensures same { self.new.automaton ≡ self.old.automaton }
         ensures readings { self.new.counts.readings ≡ counted self.old.counts.readings true }
         ensures fresh { self.new.counts.fresh ≡ counted self.old.counts.fresh (is_some tried) }
-        ensures none_kept { self.new.counts.refused ≡ self.old.counts.refused }
+        ensures trials { self.new.counts.trials ≡ after_trials self.old.counts.trials tried }
+        ensures kept { self.new.readings ≡ self.old.readings }
     {
         self.counts.readings = self.counts.readings.saturating_add(1);
         if let Some(trials) = tried {
@@ -40,9 +42,7 @@ impl Engine {
         ensures same { self.new.automaton ≡ self.old.automaton }
         ensures readings { self.new.counts.readings ≡ counted self.old.counts.readings
             (has_stone (machine_of self.old) p) }
-        ensures fresh { self.new.counts.fresh ≡ counted self.old.counts.fresh (has_stone (machine_of self.old) p) }
-        ensures trials { has_stone (machine_of self.old) p ≡ false → self.new.counts.trials ≡ self.old.counts.trials }
-        ensures none_kept { self.new.counts.refused ≡ self.old.counts.refused }
+        ensures read { ReadsAs (asks_at (machine_of self.old) kind p) self.old self.new }
     {
         if !has_stone(self.board(), p) {
             return Answer::Refused(RefuseText::VertexEmpty);
@@ -61,6 +61,7 @@ impl Engine {
         ensures patterns { self.new.patterns ≡ self.old.patterns }
         ensures same { self.new.automaton ≡ self.old.automaton }
         ensures counts { self.new.counts ≡ self.old.counts }
+        ensures kept { self.new.readings.kept ≡ self.old.readings.kept }
     {
         self.readings.set(Depths::new(plies, wide).unwrap());
         told(b"")

@@ -4,7 +4,7 @@ use Rattle.gtp_lex.specs.Held.{lines_from, held_from}
 use Rattle.session.specs.Counting.{is_read_line}
 use Rattle.session.specs.Kept.{machine_of}
 use Rattle.session.specs.Sessions.{matcher_of, step_of}
-use Rattle.session.specs.Serving.{IsAfresh, RunsTo, progress_of}
+use Rattle.session.specs.Serving.{HasFewFresh, RunsTo, progress_of}
 use Rattle.session.proofs.serve.answer_piece.Given as goal
 
 -- some of the piece's lines were answered, and those of the rest are left
@@ -16,7 +16,7 @@ invariant-loop-rest g l = record {
       (progress_of (g.K.Sink.written l.output) l.session.engine l.sent);
   held : held_from l.fn.lines.held l.fn.piece ≡ held_from l.lines.held l.rest;
   same : matcher_of (λ z. (goal.Helper-dyn g z).state z.1) l.session ≡ matcher_of (λ z. (goal.Helper-dyn g z).state z.1) l.fn.session;
-  afresh : IsAfresh l.fn.session.engine.counts → IsAfresh l.session.engine.counts;
+  few_fresh : HasFewFresh l.fn.session.engine.counts → HasFewFresh l.session.engine.counts;
   open_ended : l.lines.waits ≡ false;
   faults : g.K.Sink.faults l.output ≡ g.K.Sink.faults l.fn.output;
 }

@@ -18,7 +18,13 @@ returns-clause-answer c =
       wide = c.self.inside.readings.wide;
       patterns = c.self.inside.patterns.items;
       automaton = c.self.inside.automaton;
-      counts = c.self.inside.counts;
+      counts = record {
+        readings = c.self.inside.counts.readings;
+        fresh = c.self.inside.counts.fresh;
+        trials = c.self.inside.counts.trials;
+        refused = c.self.inside.readings.refused;
+      };
+      readings = c.self.inside.readings;
     }) in
     let new = c.play.new.self in
     let family : Kept → Type 0 = λ old. IsAnswer (machine_of old)

@@ -1,0 +1,5 @@
+pub mod Each
+pub mod Seen
+pub mod Sizes
+pub mod Sound
+pub mod Standing

@@ -1,0 +1,106 @@
+-- What is kept stays right.
+use Rattle.std.proofs.Common.{◌≡◌, ◌∙◌, ◌⊎◌, inl, inr, sym, ap, subst, Bool, true, Contains, List, [], ◌∷◌, ◌++◌, ℕ, suc, ◌+◌, ◌<◌, ◌≤◌, length, take, drop, length-append, lit≤, arith, Option, Some}
+use Rattle.std.proofs.lemmas.List.{length-take}
+use Rattle.std.proofs.lemmas.List.Elements.{Contains-append_left, Contains-append_right, Contains-append_cases}
+use Rattle.std.specs.Map.{lookup}
+use Rattle.lru.specs.LruCache.{lru_cache}
+use Rattle.lru.proofs.CallerLemmas.{Contains-put_entries, Contains-lookup, Contains-take}
+use Rattle.lru.proofs.Splits.{Contains-head, Contains-tail, Contains-cons, Contains-nil}
+use Rattle.go_rules.specs.Position.{BoardState}
+use Rattle.read_cache.specs.Kept.{Kept, IsRight, AreVariants, IsSound, put_first}
+use Rattle.read_cache.specs.Variants.{IsFirstStanding, most_variants}
+use Rattle.read_cache.specs.declared.variants.Variant.{Variant}
+
+module _ {Q A : Type 0} (meaning : Q → BoardState → A) (eq : Q → Q → Bool) (same : (p q : Q) → eq p q ≡ true → (pos : BoardState) → meaning p pos ≡ meaning q pos) where
+  -- what is right for a question is right for each equal one
+  IsRight-same : (p q : Q) (v : Variant A) → eq p q ≡ true → IsRight (meaning p) v → IsRight (meaning q) v
+  IsRight-same p q v e r = record { right = λ pos a. r.right pos a ∙ same p q e pos }
+
+  -- so are variants
+  AreVariants-same : (p q : Q) (vs : List (Variant A)) → eq p q ≡ true → AreVariants (meaning p) vs → AreVariants (meaning q) vs
+  AreVariants-same p q vs e are = record { right = λ v i. IsRight-same p q v e (are.right v i); some = are.some; few = are.few }
+
+  -- those that are found under an equal question are variants of this one
+  pub found_are : (qs : List (Q × List (Variant A))) (q : Q) (vs : List (Variant A)) → IsSound meaning qs → lookup (eq q) qs ≡ Some vs → AreVariants (meaning q) vs
+  found_are qs q vs s at_key =
+      let kept = Contains-lookup (eq q) qs vs at_key in
+      let are = s.each kept.0 vs kept.1 in
+      record { right = λ v i. record { right = λ pos a. (are.right v i).right pos a ∙ sym (same q kept.0 kept.2 pos) }; some = are.some; few = are.few }
+
+  -- what is put first keeps the rest right
+  pub IsSound-put_first : (kept : Kept Q A) (q : Q) (vs : List (Variant A)) → IsSound meaning kept.0 → AreVariants (meaning q) vs → IsSound meaning (put_first eq q vs kept).0
+  IsSound-put_first kept q vs s are = record { each = each }
+    where
+      at_key : (p : Q) → (p ≡ q) ⊎ ((w : List (Variant A)) × Contains kept.0 (p, w) × (eq q p ≡ true)) → AreVariants (meaning p) vs
+      at_key p (inl e) = subst (λ (x : Q). AreVariants (meaning x) vs) (sym e) are
+      at_key p (inr e) = AreVariants-same q p vs e.2 are
+
+      each : (p : Q) (ws : List (Variant A)) → Contains (put_first eq q vs kept).0 (p, ws) → AreVariants (meaning p) ws
+      each p ws i = elim (Contains-put_entries eq (lru_cache kept.0 kept.1) q vs (p, ws) i) [
+        | inl old ↦ s.each p ws old
+        | inr new ↦ subst (λ (xs : List (Variant A)). AreVariants (meaning p) xs) (sym new.0) (at_key p new.1)
+      ]
+
+module _ {A : Type 0} (meaning : BoardState → A) where
+  -- the variants with one of them brought to the front are these variants
+  AreVariants-brought : (pos : BoardState) (vs front : List (Variant A)) (i : ℕ) (first : IsFirstStanding pos vs i)
+      → front ≡ first.found ∷ take i vs ++ drop (i + 1) vs → AreVariants meaning vs → AreVariants meaning front
+  AreVariants-brought pos vs front i first is are = record {
+    right = λ v there. are.right v (elim (Contains-cons first.found (take i vs ++ drop (i + 1) vs) v (subst (λ xs. Contains xs v) is there)) [
+      | inl same ↦ again v (Contains-append_right (take i vs) (first.found ∷ drop (i + 1) vs) v (subst (Contains (first.found ∷ drop (i + 1) vs)) same (Contains-head first.found (drop (i + 1) vs))))
+      | inr other ↦ elim (Contains-append_cases (take i vs) (drop (i + 1) vs) v other) [
+        | inl earlier ↦ again v (Contains-append_left (take i vs) (first.found ∷ drop (i + 1) vs) v earlier)
+        | inr later ↦ again v (Contains-append_right (take i vs) (first.found ∷ drop (i + 1) vs) v (Contains-tail first.found (drop (i + 1) vs) v later))
+      ]
+    ]);
+    some = omega (arith, as_many, are.some);
+    few = omega (arith, as_many, are.few);
+  }
+    where
+      again : (v : Variant A) → Contains (take i vs ++ first.found ∷ drop (i + 1) vs) v → Contains vs v
+      again v there = subst (λ xs. Contains xs v) (sym first.there) there
+
+      as_many : length front ≡ length vs
+      as_many =
+          let one = length-append (take i vs) (drop (i + 1) vs) in
+          let all = length-append (take i vs) (first.found ∷ drop (i + 1) vs) in
+          ap length is ∙ (let same : suc (length (take i vs ++ drop (i + 1) vs)) ≡ length (take i vs ++ first.found ∷ drop (i + 1) vs) = omega (arith, one, all) in same) ∙ sym (ap length first.there)
+
+  -- a variant that is right before three of the variants
+  pub AreVariants-with : (v : Variant A) (vs : List (Variant A)) → IsRight meaning v → AreVariants meaning vs → AreVariants meaning (v ∷ take 3 vs)
+  AreVariants-with v vs right are = record {
+    right = λ w there. elim (Contains-cons v (take 3 vs) w there) [
+      | inl same ↦ subst (IsRight meaning) same right
+      | inr other ↦ are.right w (Contains-take 3 vs w other)
+    ];
+    some = omega arith;
+    few = let three = length-take 3 vs in omega (arith, three);
+  }
+
+  -- one variant that is right
+  pub AreVariants-alone : (v : Variant A) → IsRight meaning v → AreVariants meaning (v ∷ [])
+  AreVariants-alone v right = record {
+    right = λ w there. elim (Contains-cons v [] w there) [
+      | inl same ↦ subst (IsRight meaning) same right
+      | inr none ↦ absurd (Contains-nil w none)
+    ];
+    some = lit≤ tt;
+    few = lit≤ tt;
+  }
+
+  -- there are at most four, and the first that stands is one of them
+  pub few_of : (pos : BoardState) (items slice again : List (Variant A)) (place : ℕ) → slice ≡ items → again ≡ items → AreVariants meaning items → IsFirstStanding pos slice place
+      → (place < length again) × (length again ≤ most_variants)
+  few_of pos items slice again place is is_again are first = (
+    subst (λ vs. place < length vs) (is ∙ sym is_again) first.within,
+    subst (λ vs. length vs ≤ most_variants) (sym is_again) are.few,
+  )
+
+  -- the variants with the first that stands brought to the front are these variants
+  pub AreVariants-by : (pos : BoardState) (items slice again front : List (Variant A)) (place : ℕ) → slice ≡ items → again ≡ items → IsFirstStanding pos slice place
+      → ((found : Variant A) → again ≡ take place again ++ found ∷ drop (place + 1) again → front ≡ found ∷ take place again ++ drop (place + 1) again)
+      → AreVariants meaning items → AreVariants meaning front
+  AreVariants-by pos items slice again front place is is_again first brought are =
+      let here = subst (λ vs. IsFirstStanding pos vs place) is first in
+      let family : List (Variant A) → Type 0 = λ vs. (found : Variant A) → vs ≡ take place vs ++ found ∷ drop (place + 1) vs → front ≡ found ∷ take place vs ++ drop (place + 1) vs in
+      AreVariants-brought pos items front place here (subst family is_again brought here.found here.there) are

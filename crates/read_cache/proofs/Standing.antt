@@ -1,0 +1,61 @@
+-- Which variants stand, one after another.
+use Rattle.std.proofs.Common.{◌≡◌, ◌∙◌, ◌⊎◌, inl, inr, sym, ap, subst, Contains, List, [], ◌∷◌, ◌++◌, ℕ, ◌+◌, ◌-◌, ◌<◌, le_of_lt, le_refl, arith, length, get_or, take, drop, Bool, Some, None}
+use Rattle.std.proofs.lemmas.List.{take_more, drop_more, take-append-drop, length-take-le, get_or-append_right}
+use Rattle.std.proofs.lemmas.List.Elements.{Contains-append_cases}
+use Rattle.lru.proofs.Splits.{Contains-cons, Contains-nil}
+use Rattle.go_rules.specs.Position.{BoardState}
+use Rattle.read_cache.specs.Kept.{Kept, variants_of, IsBrought, IsMissing}
+use Rattle.read_cache.specs.Variants.{Stands, NoneStands, IsFirstStanding}
+use Rattle.read_cache.specs.declared.variants.Variant.{Variant}
+
+-- the variant at the place of the first that stands is this one
+pub found_at : {A : Type 0} {pos : BoardState} {variants : List (Variant A)} {i : ℕ} (first : IsFirstStanding pos variants i) (d : Variant A) → get_or variants i d ≡ first.found
+found_at {variants} {i} first d =
+    let none : i - i ≡ 0 = omega arith in
+    ap (λ vs. get_or vs i d) first.there ∙ get_or-append_right (take i variants) (first.found ∷ drop (i + 1) variants) i i d (length-take-le i variants (le_of_lt first.within)) (le_refl i)
+    ∙ ap (λ n. get_or (first.found ∷ drop (i + 1) variants) n d) none
+
+module _ {A : Type 0} (pos : BoardState) (variants : List (Variant A)) (i : ℕ) (found : Variant A) (low : i < length variants) (read : found ≡ get_or variants i found)
+    (before : NoneStands pos (take i variants)) where
+  -- the variant at place i is the first that stands, where none before it does
+  pub IsFirstStanding-at : Stands pos found → IsFirstStanding pos variants i
+  IsFirstStanding-at stands = record {
+    found = found;
+    within = low;
+    there = sym (take-append-drop i variants) ∙ ap (λ rest. take i variants ++ rest) (drop_more variants i found low ∙ ap (λ v. v ∷ drop (i + 1) variants) (sym read));
+    stands = stands;
+    first = before;
+  }
+
+  -- where it does not stand either, none up to it does
+  pub NoneStands-more : (Stands pos found → ⊥) → NoneStands pos (take (i + 1) variants)
+  NoneStands-more not = record {
+    none = λ v there stands.
+        elim (Contains-append_cases (take i variants) (found ∷ []) v (subst (λ vs. Contains vs v) (take_more variants i found low ∙ ap (λ w. take i variants ++ w ∷ []) (sym read)) there)) [
+          | inl earlier ↦ before.none v earlier stands
+          | inr last ↦ elim (Contains-cons found [] v last) [
+            | inl same ↦ not (subst (Stands pos) (sym same) stands)
+            | inr none ↦ Contains-nil v none
+          ]
+        ];
+  }
+
+module _ {Q A : Type 0} (eq : Q → Q → Bool) (q : Q) (pos : BoardState) (old : Kept Q A) where
+  -- the first of the kept variants that stands was brought to the front
+  pub IsBrought-by : (items slice again front : List (Variant A)) (place : ℕ) → variants_of eq q old ≡ Some items → slice ≡ items → again ≡ items → IsFirstStanding pos slice place
+      → ((found : Variant A) → again ≡ take place again ++ found ∷ drop (place + 1) again → front ≡ found ∷ take place again ++ drop (place + 1) again)
+      → IsBrought eq q pos old front
+  IsBrought-by items slice again front place kept is is_again first brought =
+      let here = subst (λ vs. IsFirstStanding pos vs place) is first in
+      let family : List (Variant A) → Type 0 = λ vs. (found : Variant A) → vs ≡ take place vs ++ found ∷ drop (place + 1) vs → front ≡ found ∷ take place vs ++ drop (place + 1) vs in
+      record { variants = items; place = place; kept = kept; first = here; front_is = subst family is_again brought here.found here.there }
+
+  -- none of the kept variants stands
+  pub IsMissing-by : (items slice : List (Variant A)) → variants_of eq q old ≡ Some items → slice ≡ items → NoneStands pos slice → IsMissing eq q pos old
+  IsMissing-by items slice kept is none = record {
+    none = λ variants there. subst (NoneStands pos) (is ∙ (let same = sym kept ∙ there in cc)) none;
+  }
+
+  -- there are none
+  pub IsMissing-none : variants_of eq q old ≡ None → IsMissing eq q pos old
+  IsMissing-none none = record { none = λ variants there. absurd (let no = sym none ∙ there in cc) }

@@ -1,0 +1,119 @@
+//! The cache: questions, the last used first, each with its variants.
+
+ghost use Rattle.std.specs.Prelude.{◌≡◌, ◌≤◌, ◌∷◌, Some, None, IfOk, OnOk, OnErr, IfSome, IfNone};
+ghost use Rattle.go_rules.specs.Position.{BoardState};
+ghost use Rattle.go_base.specs.Facts.{Agrees};
+ghost use Rattle.go_base.specs.Told.{told};
+ghost use Rattle.read_cache.specs.Kept.{no_questions, variants_of, put_first, kept_first, variants_with, IsRight, AreVariants, IsBrought, IsFound, IsMissing};
+
+use crate::question::Question;
+use crate::variants::{Variant, Variants, alone, brought_to_front, first_standing, with_first};
+use go_base::{Facts, NoMemory, Position};
+use lru::LruCache;
+use std::alloc::Global;
+use std::marker::Model;
+use std::num::NonZeroUsize;
+
+/// Questions with their variants, at most as many as its capacity says. Seen as the list of these, the last used first.
+#[derive(Drop)]
+pub struct Cache<Q: Question> {
+    alloc: Global,
+    kept: LruCache<Q, Variants<Q::Answer>>,
+}
+
+impl<Q: Question> Model for Cache<Q> {
+    ghost use Rattle.std.specs.Prelude.{List, ℕ};
+    ghost use Rattle.read_cache.specs.declared.variants.Variant.{Variant};
+    ghost use Rattle.read_cache.specs.Kept.{IsSound, seen_entries};
+
+    ghost Value = { List (Q × List (Variant Q.Answer)) × ℕ };
+
+    ghost view = { λ c. (seen_entries c.kept.entries, c.kept.cap) };
+
+    ghost invariant = { λ c. IsSound Q.meaning (seen_entries c.kept.entries) };
+}
+
+impl<Q: Question> Cache<Q> {
+    /// An empty cache for so many questions, from 8 to 65,536. Takes memory.
+    pub fn new(alloc: Global, capacity: u32) -> Result<Cache<Q>, NoMemory>
+        requires some { 8 ≤ capacity }
+        requires few { capacity ≤ 65536 }
+        ensures { IfOk result (λ cache. cache ≡ no_questions capacity) }
+    {
+        let capacity = NonZeroUsize::new(capacity as usize).unwrap();
+        Ok(Cache {
+            alloc,
+            kept: LruCache::new(alloc, capacity)?,
+        })
+    }
+
+    /// The answer of the first kept variant of the question that stands on the position; it and its question then stand first.
+    /// None exactly where no kept variant of it stands, and then nothing changes. Takes no memory.
+    pub fn find(&mut self, q: &Q, position: &Position) -> Option<Q::Answer>
+        ensures found { IfSome result (IsFound Q.eq q.now position.now self.old self.new) }
+        ensures missing { IfNone result (IsMissing Q.eq q.now position.now self.old) }
+        ensures same { IfNone result (self.new ≡ self.old) }
+
+        // What is found is the question's answer on the position.
+        ensures right { IfSome result (λ answer. answer ≡ Q.meaning q.now position.now) }
+    {
+        let front = self.brought_to_front(q, position)?;
+        let answer = front.as_slice()[0].answer;
+        match self.put(*q, front) {
+            Ok(()) => Some(answer),
+            Err(_) => unreachable!(),
+        }
+    }
+
+    /// The variants of the question with the first that stands on the position before the others.
+    fn brought_to_front(&self, q: &Q, position: &Position) -> Option<Variants<Q::Answer>>
+        ensures some { IfSome result (λ front. IsBrought Q.eq q.now position.now self.now front.items) }
+        ensures are { IfSome result (λ front. AreVariants (Q.meaning q.now) front.items) }
+        ensures none { IfNone result (IsMissing Q.eq q.now position.now self.now) }
+    {
+        match self.kept.peek(q) {
+            Some(kept) => match first_standing(kept.as_slice(), position) {
+                Some(place) => Some(brought_to_front(self.alloc, kept.as_slice(), place)),
+                None => None,
+            },
+            None => None,
+        }
+    }
+
+    /// Keeps an answer of the question with the facts that it rests on: it stands first among the question's variants, and its
+    /// question among the questions. A fifth variant and the last question past the capacity are dropped.
+    ///
+    /// NoMemory comes only where the question was not kept, and leaves the cache as it was.
+    pub fn keep(&mut self, q: Q, facts: Facts, answer: Q::Answer) -> Result<(), NoMemory>
+        requires { (pos : BoardState) → Agrees (told facts) pos → answer ≡ Q.meaning q pos }
+        ensures kept { OnOk result (self.new ≡ kept_first Q.eq q (record { facts = facts; answer = answer }) self.old) }
+        ensures refused { OnErr result (self.new ≡ self.old) }
+        ensures not_kept { OnErr result (variants_of Q.eq q self.old ≡ None) }
+    {
+        let variants = self.with_first(&q, Variant { facts, answer });
+        self.put(q, variants)
+    }
+
+    /// Puts the question first, with these variants.
+    fn put(&mut self, q: Q, variants: Variants<Q::Answer>) -> Result<(), NoMemory>
+        requires { AreVariants (Q.meaning q) variants.items }
+        ensures put { OnOk result (self.new ≡ put_first Q.eq q variants.items self.old) }
+        ensures refused { OnErr result (self.new ≡ self.old) }
+        ensures not_kept { OnErr result (variants_of Q.eq q self.old ≡ None) }
+    {
+        self.kept.put(q, variants)?;
+        Ok(())
+    }
+
+    /// The variant, and then those of the question, of which a fifth is dropped.
+    fn with_first(&self, q: &Q, first: Variant<Q::Answer>) -> Variants<Q::Answer>
+        requires { IsRight (Q.meaning q.now) first }
+        ensures with { result.items ≡ variants_with Q.eq q.now first self.now }
+        ensures are { AreVariants (Q.meaning q.now) result.items }
+    {
+        match self.kept.peek(q) {
+            Some(kept) => with_first(self.alloc, first, kept.as_slice()),
+            None => alone(self.alloc, first),
+        }
+    }
+}
