@@ -1,5 +1,6 @@
 -- How a run of a command line came to its end, by how it read its options, opened its files and served its lines.
-use Rattle.std.proofs.Common.{◌≡◌, ℕ, Bool, true, false, cond, List, length, Option, Some, None, refl, sym, ap, subst, ◌∙◌, inr, ◌≤◌, lit<, arith}
+use Rattle.std.proofs.Common.{◌≡◌, ◌≢◌, ℕ, ◌+◌, Bool, true, false, cond, List, ◌++◌, length, Option, Some, None, refl, sym, ap, subst, ◌∙◌, inr, ◌≤◌, ◌<◌, lit<, arith}
+use Rattle.std.proofs.lemmas.List.{length-append}
 use Rattle.std.specs.Prelude.{option_map}
 use Rattle.gtp_lex.specs.Lines.{LinesState}
 use Rattle.go_options.specs.CommandLine.{is_taken, rows_in}
@@ -12,6 +13,7 @@ use Rattle.session.specs.Tallies.{Tally, Progress, kept_sum}
 use Rattle.gtp_rules.specs.Lines.{RawLine}
 use Rattle.gtp_rules.specs.Steps.{Step}
 use Rattle.workload.specs.GeneratedLines.{generated_text}
+use Rattle.workload.proofs.LengthLemmas.{generated_length}
 use Rattle.helpers.specs.Asking.{SlotState, says_yes}
 use Rattle.session.specs.Answering.{step}
 use Rattle.session.specs.Handed.{helper_names}
@@ -20,10 +22,11 @@ use Rattle.session.specs.Kept.{Kept, machine_of}
 use Rattle.session.specs.Opening.{IsRefused, MissedIn}
 use Rattle.session.specs.Opened.{Opens, CameBy, ServesCounting}
 use Rattle.session.specs.Outcomes.{Phase, NotTaken, NotOpened, Served}
-use Rattle.session.specs.Ends.{Streams}
+use Rattle.session.specs.Ends.{Streams, IsRight, most_taken}
 use Rattle.session.specs.Headline.{Came, AreCounts, IsSent, IsCauseOf, MissedAfter, files_in}
 use Rattle.session.specs.Serving.{HasFewFresh, progress_of}
 use Rattle.session.specs.declared.outcome.End.{End}
+use Rattle.session.specs.declared.outcome.End.TheVariants.{InputTooLong}
 use Rattle.session.specs.declared.outcome.OpenError.{OpenError}
 use Rattle.session.proofs.Finding.{ServesLines-plain}
 
@@ -93,18 +96,28 @@ uncaused fault count cause = record {
   told = λ less. absurd (omega (arith, less));
 }
 
+-- a run that took a part of so many generated lines did not take as many bytes as the longest input has
+not_too_long : {M : Type 0} (step : M → RawLine → Step M) (first : M) (left : Option (List ℕ))
+    (text rest taken put : List ℕ) (piece n : ℕ) (end : End) → n ≤ 100000 → text ≡ generated_text n
+    → text ≡ taken ++ rest → IsRight step first left taken put piece end → end ≢ InputTooLong
+not_too_long step first left text rest taken put piece n end few is reads right too_long =
+    let taken_all : length taken ≡ most_taken = (subst (IsRight step first left taken put piece) too_long right).1 in
+    let short : length text < most_taken = subst (λ t. length t < most_taken) (sym is) (generated_length n few) in
+    let parts : length text ≡ length taken + length rest = ap length reads ∙ length-append taken rest in
+    omega (arith, taken_all, short, parts)
+
 -- generated lines were served in place of the source
 pub serves-generated : {M : Type 0} (n : ℕ) (step : M → RawLine → Step M) (asks : M → RawLine → Bool) (first : M)
     (left : Option (List ℕ)) (piece faults : ℕ) (w0 w1 : Option (List ℕ)) (c0 c1 f0 f1 p : ℕ) (text rest : List ℕ)
     (last : ℕ)
-    (end : End) (old new : Progress) (generate : Option ℕ) → generate ≡ Some n → text ≡ generated_text n
-    → ServesCounting None step asks first
+    (end : End) (old new : Progress) (generate : Option ℕ) → generate ≡ Some n → n ≤ 100000
+    → text ≡ generated_text n → ServesCounting None step asks first
     (record { left = Some text; piece = p; input_faults = f0; written = w0; output_faults = c0 })
     (record { left = Some rest; piece = last; input_faults = f1; written = w1; output_faults = c1 }) end old new
     → ServesCounting generate step asks first
     (record { left = left; piece = piece; input_faults = faults; written = w0; output_faults = c0 })
     (record { left = left; piece = piece; input_faults = faults; written = w1; output_faults = c1 }) end old new
-serves-generated n step asks first left piece faults w0 w1 c0 c1 f0 f1 p text rest last end old new generate some is counting =
+serves-generated n step asks first left piece faults w0 w1 c0 c1 f0 f1 p text rest last end old new generate some few is counting =
     let before : Streams = record { left = left; piece = piece; input_faults = faults; written = w0; output_faults = c0 } in
     let after : Streams = record { left = left; piece = piece; input_faults = faults; written = w1; output_faults = c1 } in
     subst (λ o. ServesCounting o step asks first before after end old new) (sym some) (record {
@@ -124,6 +137,8 @@ serves-generated n step asks first left piece faults w0 w1 c0 c1 f0 f1 p text re
             tallied = counting.serves.tallied;
           },
         );
+        not_too_long = not_too_long step first (Some rest) text rest counting.serves.taken counting.tally.out last n end
+            few is counting.serves.reads counting.serves.right;
       };
       advances = counting.advances;
     })

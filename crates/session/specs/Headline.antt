@@ -1,5 +1,5 @@
 -- The claim of `run`: by its outcome, what its files are, what it took from its source, put on its output and noted.
-use Rattle.std.specs.Prelude.{◌≡◌, ◌⊎◌, ℕ, ◌<◌, ◌≤◌, Bool, true, false, MatchBool, List, length, Option, Some, None, IsSomeAnd, MatchOption, Result, Ok, Err, codes}
+use Rattle.std.specs.Prelude.{◌≡◌, ◌≢◌, ◌⊎◌, ℕ, ◌<◌, ◌≤◌, Bool, true, false, MatchBool, List, length, Option, Some, None, IsSomeAnd, MatchOption, Result, Ok, Err, codes}
 use Rattle.gtp_io.specs.Outside.{Rose}
 use Rattle.gtp_rules.specs.Lines.{RawLine}
 use Rattle.gtp_rules.specs.Steps.{Step}
@@ -29,6 +29,7 @@ use Rattle.session.specs.declared.outcome.Outcome.{Outcome}
 use Rattle.session.specs.declared.outcome.Outcome.TheVariants as told
 use Rattle.session.specs.declared.outcome.WordsError.{WordsError}
 use Rattle.session.specs.declared.outcome.End.{End}
+use Rattle.session.specs.declared.outcome.End.TheVariants.{InputTooLong}
 
 -- what stands outside a run: the files by their names, those that failed, the streams, and the notes with how often
 -- they failed
@@ -50,7 +51,7 @@ IsUnopened helpers words contents error =
     (error ≡ opening.NoMemory) ⊎ ((options : Options) × GiveOptions words options
     × IsRefused (helper_names helpers) contents options.files options.states error)
 
--- Generated lines were served in place of the source, which stays as it was.
+-- Generated lines were served in place of the source, which stays as it was. They are fewer bytes than the longest input.
 pub record ServesGenerated {M : Type 0} (n : ℕ) (step : M → RawLine → Step M) (asks : M → RawLine → Bool) (first : M)
     (before after : Streams) (end : End) (tally : Tally) : Type 0 where
   pub left : after.left ≡ before.left
@@ -59,6 +60,7 @@ pub record ServesGenerated {M : Type 0} (n : ℕ) (step : M → RawLine → Step
   pub generated : (rest : List ℕ) × (last : ℕ) × Serves step asks first
       (record before { left = Some (generated_text n); piece = 0 })
       (record after { left = Some rest; piece = last }) end tally
+  pub not_too_long : end ≢ InputTooLong
 
 -- the lines of the source were served, or where so many lines are to be generated, these
 abbrev pub ServesLines : {M : Type 0} → Option ℕ → (M → RawLine → Step M) → (M → RawLine → Bool) → M → Streams

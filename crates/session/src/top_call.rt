@@ -1,9 +1,9 @@
 //! The top call of the program.
-ghost use Rattle.std.specs.Prelude.{◌≡◌, ◌↔◌, Option, None, Some, ℕ, if◌then◌else◌, option_map, map, string_bytes};
+ghost use Rattle.std.specs.Prelude.{◌≡◌, ◌↔◌, MatchOption, Option, None, Some, ℕ, if◌then◌else◌, option_map, map, string_bytes};
 ghost use Rattle.session.specs.Headline.{Came, IsCauseOf, MissedAfter, Runs, RunsHad, files_in};
 ghost use Rattle.session.specs.Opened.{CameBy, ServesCounting};
 ghost use Rattle.session.specs.Serving.{HasFewFresh, progress_of};
-ghost use Rattle.go_options.specs.Found.{AreInRange};
+ghost use Rattle.go_options.specs.Found.{AreInRange, IsFrom};
 ghost use Rattle.session.specs.Counting.{is_read_line};
 ghost use Rattle.session.specs.Kept.{machine_of};
 ghost use Rattle.session.specs.Sessions.{step_of};
@@ -70,7 +70,8 @@ fn serve_lines<S: Source, K: Sink>(
     output: &mut K,
     sent: &mut Sent,
 ) -> End
-    requires { opened.old.lines ≡ no_line }
+    requires none { opened.old.lines ≡ no_line }
+    requires few { MatchOption generate (Unit {0}) (IsFrom 1 100000) }
     ensures serves { ServesCounting generate (step_of state opened.old.session) is_read_line (machine_of opened.old.session.engine)
         (record {
           left = S.left input.old;
