@@ -15,7 +15,7 @@ pub struct Session {
 }
 
 /// The sessions of the protocol's frame, of the board, of readings and of patterns.
-pub const SESSIONS: [Session; 28] = [
+pub const SESSIONS: [Session; 29] = [
     Session {
         name: "reply_repeats_the_id",
         files: &[],
@@ -33,6 +33,12 @@ pub const SESSIONS: [Session; 28] = [
         files: &[],
         input: b"name",
         output: b"= gopat\n\n",
+    },
+    Session {
+        name: "unended_line_behind_another",
+        files: &[],
+        input: b"name\nna",
+        output: b"= gopat\n\n? unknown command\n\n",
     },
     Session {
         name: "occupied_point_is_illegal_and_undo_stops_at_the_start",

@@ -349,12 +349,14 @@ fn no_call_is_made_that_is_not_needed(rt: HostRuntime) -> Result<(), Fail> {
 fn each_call_fails_in_turn(rt: HostRuntime) -> Result<(), Fail> {
     for session in &SESSIONS {
         for (object, fault) in [
+            ("loader", Outcome::FileFault),
             ("source", Outcome::InputFault),
             ("sink", Outcome::OutputFault),
         ] {
             for call in 1..MANY_CALLS {
                 let way = Way {
                     piece: 7,
+                    loader_fails: if fault == Outcome::FileFault { call } else { 0 },
                     source_fails: if fault == Outcome::InputFault {
                         call
                     } else {
@@ -399,6 +401,32 @@ fn notes_that_fail_change_no_outcome(rt: HostRuntime) -> Result<(), Fail> {
     assert_eq!(rt; ran.notes.bytes(), b"".as_slice());
     assert_eq!(rt; ran.outcome, Outcome::InputFault);
     Ok(())
+}
+
+// The notes are then a front of their text, and nothing else changes.
+#[test]
+fn each_call_of_the_notes_fails_in_turn(rt: HostRuntime) -> Result<(), Fail> {
+    let options = ["--stats", "--generate", "1"];
+    let way = Way { piece: 7, ..WHOLE };
+    let whole = go_with(&rt, rt.alloc(), &options, &[], b"", way)?;
+    for call in 1..MANY_CALLS {
+        let fails = Way {
+            notes_fail: call,
+            ..way
+        };
+        let ran = go_with(&rt, rt.alloc(), &options, &[], b"", fails)?;
+        assert_eq!(rt; ran.outcome, Outcome::Done, "call {call}");
+        assert_eq!(rt; ran.output.bytes(), whole.output.bytes(), "call {call}");
+        assert!(rt;
+            whole.notes.bytes().starts_with(ran.notes.bytes()),
+            "call {call}"
+        );
+        if ran.notes.bytes() == whole.notes.bytes() {
+            assert!(rt; call > 1, "the first call fails");
+            return Ok(());
+        }
+    }
+    Err(Fail::from("some call is the last"))
 }
 
 #[test]
