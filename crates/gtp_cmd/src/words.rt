@@ -1,7 +1,7 @@
 //! The words of a line, read in place: a word is handed out with the bytes that are dropped still in it, and the calls
 //! on words pass over them.
 
-ghost use Rattle.std.specs.Prelude.{true, false, ◌≡◌, ℕ, List, ◌<◌, ◌≤◌, ◌==◌, ◌∷◌, [], MatchOption, length, drop, map};
+ghost use Rattle.std.specs.Prelude.{◌≡◌, ℕ, List, ◌<◌, ◌≤◌, ◌==◌, ◌∷◌, [], false, MatchOption, length, drop, map};
 ghost use Rattle.std.specs.Prelude.{slice_index};
 ghost use Rattle.std.specs.List.{before_first, position_or_len};
 ghost use Rattle.std.specs.Str.{bytes_eq, str_to_ascii_lowercase};
@@ -104,23 +104,10 @@ fn spells_in(word: &[u8], name: &[u8], either_case: bool) -> bool
     left.is_empty()
 }
 
-/// Whether a word begins with another byte than the name. It may answer no where it does.
-fn begins_otherwise(word: &[u8], name: &[u8]) -> bool
-    ensures { result ≡ true → bytes_eq (kept word.now) name.now ≡ false }
-{
-    match (word.first(), name.first()) {
-        (Some(first), Some(wanted)) => *first != *wanted && is_kept(*first),
-        _ => false,
-    }
-}
-
-/// Whether a word is the name. Most names are told apart by their first byte.
+/// Whether a word is the name.
 pub fn spells(word: &[u8], name: &[u8]) -> bool
     ensures { result ≡ bytes_eq (kept word.now) name.now }
 {
-    if begins_otherwise(word, name) {
-        return false;
-    }
     spells_in(word, name, false)
 }
 
