@@ -12,11 +12,7 @@ use read_cache::Cache;
 use read_rules::Answer;
 
 /// The answer of a kept variant of the question that stands on the position.
-pub fn find_in(
-    cache: &mut Option<Cache<Key>>,
-    key: &Key,
-    position: &Position,
-) -> Option<Answer>
+pub fn find_in(cache: &mut Option<Cache<Key>>, key: &Key, position: &Position) -> Option<Answer>
     ensures found { IfSome result (IsFound same_key key.now position.now (kept_in cache.old) (kept_in cache.new)) }
     ensures missing { IfNone result (IsMissing same_key key.now position.now (kept_in cache.old)) }
     ensures same { IfNone result (cache.new ≡ cache.old) }

@@ -21,6 +21,6 @@ mod plays;
 mod readings;
 
 pub use finder::matches;
-pub use match_rules::Match;
 pub use keys::Key;
+pub use match_rules::Match;
 pub use readings::Readings;

@@ -44,11 +44,11 @@ module _ {Q A : Type 0} (P : Q → Variant A → Type 0) (eq : Q → Q → Bool)
       among : (w : Variant A) → Contains (b.first.found ∷ take b.place b.variants ++ drop (b.place + 1) b.variants) w → Contains b.variants w
       among w i = elim (Contains-cons b.first.found (take b.place b.variants ++ drop (b.place + 1) b.variants) w i) [
         | inl same ↦ again w (Contains-append_right (take b.place b.variants) (b.first.found ∷ drop (b.place + 1) b.variants) w
-        (subst (Contains (b.first.found ∷ drop (b.place + 1) b.variants)) same (Contains-head b.first.found (drop (b.place + 1) b.variants))))
+            (subst (Contains (b.first.found ∷ drop (b.place + 1) b.variants)) same (Contains-head b.first.found (drop (b.place + 1) b.variants))))
         | inr other ↦ elim (Contains-append_cases (take b.place b.variants) (drop (b.place + 1) b.variants) w other) [
           | inl earlier ↦ again w (Contains-append_left (take b.place b.variants) (b.first.found ∷ drop (b.place + 1) b.variants) w earlier)
           | inr later ↦ again w (Contains-append_right (take b.place b.variants) (b.first.found ∷ drop (b.place + 1) b.variants) w
-          (Contains-tail b.first.found (drop (b.place + 1) b.variants) w later))
+              (Contains-tail b.first.found (drop (b.place + 1) b.variants) w later))
         ]
       ]
 

@@ -45,7 +45,7 @@ module _ {Q A : Type 0} where
     abbrev pub put_first : List (Variant A) → Kept Q A → Kept Q A
     put_first variants kept = (
       option_map_or (λ e. (e.0, variants) ∷ remove_entry (eq q) kept.0) (lookup_entry (eq q) kept.0)
-      ((q, variants) ∷ take (kept.1 - 1) kept.0),
+          ((q, variants) ∷ take (kept.1 - 1) kept.0),
       kept.1,
     )
 

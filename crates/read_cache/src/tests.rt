@@ -49,13 +49,22 @@ fn last_used_questions_and_variants_stay(rt: HostRuntime) -> Result<(), Fail> {
     assert!(rt; !is_found(&mut cache, 0, 13)?, "on another board");
     keep(&mut cache, 8, 9)?;
     assert!(rt; is_found(&mut cache, 0, 9)?, "it was used after the second");
-    assert!(rt; !is_found(&mut cache, 1, 9)?, "the ninth question dropped the second");
+    assert!(rt;
+        !is_found(&mut cache, 1, 9)?,
+        "the ninth question dropped the second"
+    );
     for rows in 10..13 {
         keep(&mut cache, 0, rows)?;
     }
     assert!(rt; is_found(&mut cache, 0, 9)?, "the first of four variants");
     keep(&mut cache, 0, 13)?;
-    assert!(rt; is_found(&mut cache, 0, 9)?, "it was found after the second");
-    assert!(rt; !is_found(&mut cache, 0, 10)?, "the fifth variant dropped the second");
+    assert!(rt;
+        is_found(&mut cache, 0, 9)?,
+        "it was found after the second"
+    );
+    assert!(rt;
+        !is_found(&mut cache, 0, 10)?,
+        "the fifth variant dropped the second"
+    );
     Ok(())
 }

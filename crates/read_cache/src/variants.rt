@@ -28,10 +28,7 @@ pub struct Variant<A> {
 pub type Variants<A> = SmallVec<Variant<A>, MOST_VARIANTS>;
 
 /// The place of the first variant that stands on the position.
-pub(crate) fn first_standing<A: Copy>(
-    variants: &[Variant<A>],
-    position: &Position,
-) -> Option<usize>
+pub(crate) fn first_standing<A: Copy>(variants: &[Variant<A>], position: &Position) -> Option<usize>
     ensures some { IfSome result (IsFirstStanding position.now variants.now) }
     ensures none { IfNone result (NoneStands position.now variants.now) }
 {
@@ -71,7 +68,10 @@ pub(crate) fn with_first<A: Copy + Default>(
 {
     let mut variants = SmallVec::new(alloc);
     variants.push_reserved(first);
-    add_all(&mut variants, &others[..others.len().min(MOST_VARIANTS - 1)]);
+    add_all(
+        &mut variants,
+        &others[..others.len().min(MOST_VARIANTS - 1)],
+    );
     variants
 }
 

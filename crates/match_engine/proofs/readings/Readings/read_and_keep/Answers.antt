@@ -74,5 +74,5 @@ returns-clause-rest c =
     elim c.if-not-keep_in.branch as (λ _. AllRest c.if-not-keep_in.self.kept) [
       | then-not-keep_in w ↦ subst AllRest (sym (ap (λ (r : ReadingsView). r.kept) w.self-is ∙ c.keep_in.ensures.refused w.if-not-keep_in.true)) c.self.invariant
       | else-not-keep_in w ↦ subst (λ (r : ReadingsView). AllRest r.kept) (sym w.self-is)
-      (AllRest-kept c.args.key read.facts read.answer rests (kept_in c.self.inside.cache) (kept_in c.keep_in.new.cache) c.self.invariant (c.keep_in.ensures.kept w.if-not-keep_in.false))
+          (AllRest-kept c.args.key read.facts read.answer rests (kept_in c.self.inside.cache) (kept_in c.keep_in.new.cache) c.self.invariant (c.keep_in.ensures.kept w.if-not-keep_in.false))
     ]

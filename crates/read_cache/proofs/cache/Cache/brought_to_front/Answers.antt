@@ -12,9 +12,11 @@ brought_to_front-requires g c =
     let map = c.self.inside.kept in
     let at_key = sym c.peek.ensures ∙ ap option_copied c.in-Some.is in
     let are = variants_are g.Q.PartialEq.eq c.args.q.now map.entries map.cap c.args.self.now c.self.view_is g.Q.Question.meaning g.met.Q.Question.same c.self.invariant c.in-Some.kept.now at_key in
-    let first = c.in-Some-first_standing.ensures.some in
-    (variants_fit g.row.Q-Answer g.met.Q.Question.small, few_of _ c.args.position.now c.in-Some.kept.now.items c.as_slice.result.now c.as_slice-in-Some-first_standing.result.now
-    c.in-Some-first_standing.place c.as_slice.ensures c.as_slice-in-Some-first_standing.ensures are first)
+    let first = c.in-Some-first_standing.ensures.some in (
+      variants_fit g.row.Q-Answer g.met.Q.Question.small,
+      few_of _ c.args.position.now c.in-Some.kept.now.items c.as_slice.result.now c.as_slice-in-Some-first_standing.result.now
+          c.in-Some-first_standing.place c.as_slice.ensures c.as_slice-in-Some-first_standing.ensures are first,
+    )
 
 -- the first that stands was brought to the front
 pub returns-in-Some-first_standing-clause-some : goal.returns-in-Some-first_standing-clause-some
