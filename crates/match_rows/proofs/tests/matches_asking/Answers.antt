@@ -1,0 +1,8 @@
+use Rattle.std.proofs.Common.{arith, length, ap, ◌≡◌}
+use Rattle.match_rows.proofs.tests.matches_asking.Goals as goal
+
+-- the automaton accepts numbers of the list alone
+pub matches-requires : goal.matches-requires
+matches-requires c = record {
+  numbers = λ w n here. let low = c.in_ok-machine.ensures.numbers w n here in omega (arith, low);
+}
