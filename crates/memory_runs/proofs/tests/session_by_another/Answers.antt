@@ -2,8 +2,8 @@
 use Rattle.std.proofs.Common.{ℕ, ◌<◌, length, arith}
 use Rattle.memory_runs.proofs.tests.session_by_another.Goals as goal
 
-pub new-requires-clause-numbers : goal.new-requires-clause-numbers
-new-requires-clause-numbers c = λ w n accepted.
+pub new-requires-3-clause-numbers : goal.new-requires-3-clause-numbers
+new-requires-3-clause-numbers g c = λ w n accepted.
     let below : n < length c.deref.result.now = c.in-Ok.ensures.numbers w n accepted in
     omega (
       arith,
