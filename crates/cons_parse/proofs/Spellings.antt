@@ -49,8 +49,8 @@ loose_joined f k (OpenLeft op a ∷ ps) e h =
 abbrev pub joins : {P : Type 0} → Forms P → ℕ → Standing P → Standing P
 joins f k s = joined_in f k s.0 s.1
 
--- what the run over an expression leaves open, with an operand: the same as the whole expression behind what was open before,
--- at each level that the expression has room for
+-- what the run over an expression leaves open, with an operand: the same as the whole expression behind what was open
+-- before, at each level that the expression has room for
 pub record Reads {P : Type 0} (f : Forms P) (w : Written) (ps : List (Pending P)) : Type 0 where
   pub left : Standing P
   pub runs : (is : List Item) → run f (waiting ps) (spelling w ++ is) ≡ run f (standing left) is

@@ -10,7 +10,8 @@ use Rattle.cons_parse.specs.declared.scan.Mark.TheVariants.{Prefix, Parenthesis}
 use Rattle.cons_parse.specs.declared.scan.Place.{Place}
 use Rattle.cons_parse.specs.Faults.{most_levels}
 
--- a place: what is open, the newest first; whether an operand stands before it, and whether a leaf before it is too deep
+-- a place: what is open, the newest first; whether an operand stands before it, and whether a leaf before it is too
+-- deep
 pub record Spot : Type 0 where
   pub open_marks : List Mark
   pub after : Bool

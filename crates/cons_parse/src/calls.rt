@@ -68,7 +68,8 @@ fn goes_on(token: Token) -> bool
     }
 }
 
-/// The arguments of the call whose name stands before these tokens, and how many tokens they and their parentheses take.
+/// The arguments of the call whose name stands before these tokens, and how many tokens they and their parentheses
+/// take.
 fn arguments(alloc: Global, tokens: &[Token]) -> Result<(Args, usize), ConsError>
     ensures value { Gives (λ a. a) result (arguments_in tokens.now) }
     ensures within { IfOk result (λ a. a.1 ≤ length tokens.now) }

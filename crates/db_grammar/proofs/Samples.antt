@@ -41,7 +41,9 @@ faults_of_diagrams : faults_in (
     ∷ (codes "Pattern A" ∷ codes "O*" ∷ [])
     ∷ [])
     ≡ fault 1 2 ∷ fault 1 3 ∷ fault 2 4 ∷ fault 3 5 ∷ fault 2 6 ∷ fault 3 8 ∷ fault 2 9 ∷ fault 3 10 ∷ []
-unfolding lines_of kept_if kept_from kind_of is_edge_line is_row shape_of wanted is_misplaced diagram_fault split_at_commas fields_fault labels_under constraint_fault labels_closing_fault after_line so_far pattern_fault found found_at_end least_fault first_fault
+unfolding lines_of kept_if kept_from kind_of is_edge_line is_row shape_of wanted is_misplaced diagram_fault
+    split_at_commas fields_fault labels_under constraint_fault labels_closing_fault after_line so_far pattern_fault
+    found found_at_end least_fault first_fault
 faults_of_diagrams = refl
 
 -- one text for each kind of fault of colon lines
@@ -53,7 +55,9 @@ faults_of_colon_lines : faults_in (
     ∷ (codes "Pattern A" ∷ codes "O*" ∷ codes ":8,s,NULL,far" ∷ [])
     ∷ [])
     ≡ fault 3 7 ∷ fault 3 11 ∷ fault 3 12 ∷ fault 3 13 ∷ fault 3 17 ∷ []
-unfolding lines_of kept_if kept_from kind_of is_edge_line is_row shape_of wanted is_misplaced diagram_fault split_at_commas fields_fault labels_under constraint_fault labels_closing_fault after_line so_far pattern_fault found found_at_end least_fault first_fault
+unfolding lines_of kept_if kept_from kind_of is_edge_line is_row shape_of wanted is_misplaced diagram_fault
+    split_at_commas fields_fault labels_under constraint_fault labels_closing_fault after_line so_far pattern_fault
+    found found_at_end least_fault first_fault
 faults_of_colon_lines = refl
 
 -- constraint diagrams and expressions: what a line leaves is at fault before the line itself, an expression at its
@@ -67,7 +71,10 @@ faults_of_constraints : faults_in (
     ∷ (codes "Pattern A" ∷ codes "O*" ∷ codes ":8" ∷ codes "A*" ∷ codes ";lib(A)" ∷ codes ";>0" ∷ codes ":8" ∷ [])
     ∷ [])
     ≡ fault 4 14 ∷ fault 6 14 ∷ fault 6 14 ∷ fault 4 15 ∷ fault 5 16 ∷ fault 7 2 ∷ []
-unfolding lines_of kept_if kept_from kind_of is_edge_line is_row shape_of wanted is_misplaced diagram_fault split_at_commas fields_fault labels_under constraint_fault labels_closing_fault fault_in expression_in items_after tokens_after token_at listed_at arguments_at scanned_from run fault_of after_line so_far pattern_fault found found_at_end least_fault first_fault
+unfolding lines_of kept_if kept_from kind_of is_edge_line is_row shape_of wanted is_misplaced diagram_fault
+    split_at_commas fields_fault labels_under constraint_fault labels_closing_fault fault_in expression_in items_after
+    tokens_after token_at listed_at arguments_at scanned_from run fault_of after_line so_far pattern_fault found
+    found_at_end least_fault first_fault
 faults_of_constraints = refl
 
 -- a text with passed lines, side text, edges, labels, an expression and actions has no fault
@@ -78,5 +85,8 @@ no_fault : faults_in (
     ∷ (codes "Pattern B" ∷ codes "+--+" ∷ codes "|O*|" ∷ codes "+--+" ∷ codes ":O" ∷ [])
     ∷ [])
     ≡ None ∷ None ∷ []
-unfolding lines_of kept_if kept_from kind_of is_edge_line is_row shape_of wanted is_misplaced diagram_fault split_at_commas fields_fault labels_under constraint_fault labels_closing_fault fault_in expression_in items_after tokens_after token_at listed_at arguments_at scanned_from run fault_of after_line so_far pattern_fault found found_at_end least_fault first_fault
+unfolding lines_of kept_if kept_from kind_of is_edge_line is_row shape_of wanted is_misplaced diagram_fault
+    split_at_commas fields_fault labels_under constraint_fault labels_closing_fault fault_in expression_in items_after
+    tokens_after token_at listed_at arguments_at scanned_from run fault_of after_line so_far pattern_fault found
+    found_at_end least_fault first_fault
 no_fault = refl

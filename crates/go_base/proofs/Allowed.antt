@@ -11,14 +11,16 @@ use Rattle.go_rules.specs.Play.{play_free, is_legal, legal_points}
 use Rattle.go_rules.proofs.Results.{free_occupied, play_occupied, play_ko, play_else}
 
 -- a play on which the ban is is not legal
-pub banned_is_illegal : (pos : BoardState) (c : Colour) (p : ℕ) → is_banned pos.ban c p ≡ true → false ≡ is_legal pos c p
+pub banned_is_illegal : (pos : BoardState) (c : Colour) (p : ℕ) → is_banned pos.ban c p ≡ true
+    → false ≡ is_legal pos c p
 banned_is_illegal pos c p banned = elim (cases_Bool (is_stone (cell_at pos.cells p))) [
   | inl stone ↦ ap is_ok (play_occupied pos c p stone)
   | inr none ↦ ap is_ok (play_ko pos c p none banned)
 ]
 
 -- any other play is legal where it is with the ban dropped
-pub free_is_legal : (pos : BoardState) (c : Colour) (p : ℕ) → is_banned pos.ban c p ≡ false → is_ok (play_free pos c p) ≡ is_legal pos c p
+pub free_is_legal : (pos : BoardState) (c : Colour) (p : ℕ) → is_banned pos.ban c p ≡ false
+    → is_ok (play_free pos c p) ≡ is_legal pos c p
 free_is_legal pos c p free = elim (cases_Bool (is_stone (cell_at pos.cells p))) [
   | inl stone ↦ ap is_ok (sym (free_occupied pos c p stone) ∙ play_occupied pos c p stone)
   | inr none ↦ ap is_ok (play_else pos c p none free)
@@ -30,20 +32,24 @@ unfolding set_below
 set_below-none test found e = e
 
 -- one point more, which passes the test
-pub set_below-passes : (test : ℕ → Bool) (n : ℕ) (found new : sets.FinSet nat_cmp) → found ≡ set_below n test → test n ≡ true → new ≡ sets.insert found n → new ≡ set_below (n + 1) test
+pub set_below-passes : (test : ℕ → Bool) (n : ℕ) (found new : sets.FinSet nat_cmp) → found ≡ set_below n test
+    → test n ≡ true → new ≡ sets.insert found n → new ≡ set_below (n + 1) test
 unfolding set_below
 set_below-passes test n found new e t is =
     let one : suc n ≡ n + 1 = omega arith in
-    is ∙ ap (λ s. sets.insert s n) e ∙ ap (λ b. cond b (sets.insert (set_below n test) n) (set_below n test)) (sym t) ∙ ap (λ k. set_below k test) one
+    is ∙ ap (λ s. sets.insert s n) e ∙ ap (λ b. cond b (sets.insert (set_below n test) n) (set_below n test)) (sym t)
+    ∙ ap (λ k. set_below k test) one
 
 -- one point more, which fails it
-pub set_below-fails : (test : ℕ → Bool) (n : ℕ) (found : sets.FinSet nat_cmp) → found ≡ set_below n test → test n ≡ false → found ≡ set_below (n + 1) test
+pub set_below-fails : (test : ℕ → Bool) (n : ℕ) (found : sets.FinSet nat_cmp) → found ≡ set_below n test
+    → test n ≡ false → found ≡ set_below (n + 1) test
 unfolding set_below
 set_below-fails test n found e f =
     let one : suc n ≡ n + 1 = omega arith in
     e ∙ ap (λ b. cond b (sets.insert (set_below n test) n) (set_below n test)) (sym f) ∙ ap (λ k. set_below k test) one
 
 -- the points of the whole board
-pub legal_points-all : (pos : BoardState) (c : Colour) → set_below (pos.size * pos.size) (is_legal pos c) ≡ legal_points pos c
+pub legal_points-all : (pos : BoardState) (c : Colour)
+    → set_below (pos.size * pos.size) (is_legal pos c) ≡ legal_points pos c
 unfolding legal_points
 legal_points-all pos c = refl

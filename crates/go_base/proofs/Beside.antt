@@ -29,7 +29,9 @@ unfolding are_neighbours
 next_in_column s p q e h = or_right _ _ (and_from _ _ (eq-eqb _ _ e) h)
 
 -- neighbours stand in one row and columns that follow one another, or the other way about
-next_cases : (s p q : ℕ) → are_neighbours s p q ≡ true → ((p / s ≡ q / s) × ((p % s ≡ q % s + 1) ⊎ (q % s ≡ p % s + 1))) ⊎ ((p % s ≡ q % s) × ((p / s ≡ q / s + 1) ⊎ (q / s ≡ p / s + 1)))
+next_cases : (s p q : ℕ) → are_neighbours s p q ≡ true
+    → ((p / s ≡ q / s) × ((p % s ≡ q % s + 1) ⊎ (q % s ≡ p % s + 1)))
+    ⊎ ((p % s ≡ q % s) × ((p / s ≡ q / s + 1) ⊎ (q / s ≡ p / s + 1)))
 unfolding are_neighbours
 next_cases s p q h = elim (or_cases _ _ h) [
   | inl a ↦ let x = and_parts _ _ a in inl (eqb-true _ _ x.0, are_one_apart-true _ _ x.1)
@@ -39,7 +41,10 @@ next_cases s p q h = elim (or_cases _ _ h) [
 -- q = p - s, one row above
 above : (s p : ℕ) → p < s * s → s ≤ p → (p - s < s * s) × (are_neighbours s p (p - s) ≡ true)
 above s p h l =
-    let pos : 0 < s = elim (cases_eq s 0) [ inl e ↦ absurd (let z : p < 0 * 0 = rw e at h in omega arith) | inr ne ↦ omega arith ] in
+    let pos : 0 < s = elim (cases_eq s 0) [
+      | inl e ↦ absurd (let z : p < 0 * 0 = rw e at h in omega arith)
+      | inr ne ↦ omega arith
+    ] in
     let split = div-add-mod' p s in
     let low = mod_below p s pos in
     go (p / s) (p % s) low (sym split) pos
@@ -49,8 +54,12 @@ above s p h l =
     go (suc r) c low e pos =
         let mine = row_column s p (suc r) c low e in
         let f : p - s ≡ r * s + c = omega arith in
-        let its = row_column s (p - s) r c low f in
-        (omega arith, next_in_column s p (p - s) (mine.1 ∙ sym its.1) (are_one_apart-from _ _ (inl (mine.0 ∙ (let g : suc r ≡ r + 1 = omega arith in g) ∙ ap (λ n. n + 1) (sym its.0)))))
+        let its = row_column s (p - s) r c low f in (
+          omega arith,
+          next_in_column s p (p - s) (mine.1 ∙ sym its.1)
+              (are_one_apart-from _ _ (inl (mine.0 ∙ (let g : suc r ≡ r + 1 = omega arith in
+              g) ∙ ap (λ n. n + 1) (sym its.0)))),
+        )
 
 -- a point by its row and column
 record Placed (s p : ℕ) : Type 0 where
@@ -66,8 +75,20 @@ record Placed (s p : ℕ) : Type 0 where
 -- a point of the board has a row and a column on it
 placed : (s p : ℕ) → p < s * s → Placed s p
 placed s p h =
-    let pos : 0 < s = elim (cases_eq s 0) [ inl e ↦ absurd (let z : p < 0 * 0 = rw e at h in omega arith) | inr ne ↦ omega arith ] in
-    record { r = p / s; c = p % s; place = sym (div-add-mod' p s); r_in = div_below p s s pos h; c_in = mod_below p s pos; row_is = refl; column_is = refl; positive = pos }
+    let pos : 0 < s = elim (cases_eq s 0) [
+      | inl e ↦ absurd (let z : p < 0 * 0 = rw e at h in omega arith)
+      | inr ne ↦ omega arith
+    ] in
+    record {
+      r = p / s;
+      c = p % s;
+      place = sym (div-add-mod' p s);
+      r_in = div_below p s s pos h;
+      c_in = mod_below p s pos;
+      row_is = refl;
+      column_is = refl;
+      positive = pos;
+    }
 
 -- q = p + s, one row below
 below : (s p : ℕ) → p < s * s → p + s < s * s → are_neighbours s p (p + s) ≡ true
@@ -75,7 +96,9 @@ below s p h l =
     let m = placed s p h in
     let f : p + s ≡ suc m.r * s + m.c = omega (arith, m.place) in
     let its = row_column s (p + s) (suc m.r) m.c m.c_in f in
-    next_in_column s p (p + s) (m.column_is ∙ sym its.1) (are_one_apart-from _ _ (inr (its.0 ∙ (let g : suc m.r ≡ m.r + 1 = omega arith in g) ∙ ap (λ n. n + 1) (sym m.row_is))))
+    next_in_column s p (p + s) (m.column_is ∙ sym its.1)
+    (are_one_apart-from _ _ (inr (its.0 ∙ (let g : suc m.r ≡ m.r + 1 = omega arith in
+    g) ∙ ap (λ n. n + 1) (sym m.row_is))))
 
 -- the point before one that is not first in its row is its neighbour
 left : (s p : ℕ) → p < s * s → (p % s ≡ 0 → ⊥) → (p - 1 < s * s) × (are_neighbours s p (p - 1) ≡ true)
@@ -83,8 +106,11 @@ left s p h l =
     let m = placed s p h in
     let c_pos : 0 < m.c = omega (arith, m.column_is, l) in
     let f : p - 1 ≡ m.r * s + (m.c - 1) = omega (arith, m.place, c_pos) in
-    let its = row_column s (p - 1) m.r (m.c - 1) (omega (arith, m.c_in)) f in
-    (omega arith, next_in_row s p (p - 1) (m.row_is ∙ sym its.0) (are_one_apart-from (p % s) ((p - 1) % s) (inl (omega (arith, m.column_is, its.1, c_pos)))))
+    let its = row_column s (p - 1) m.r (m.c - 1) (omega (arith, m.c_in)) f in (
+      omega arith,
+      next_in_row s p (p - 1) (m.row_is ∙ sym its.0)
+          (are_one_apart-from (p % s) ((p - 1) % s) (inl (omega (arith, m.column_is, its.1, c_pos)))),
+    )
 
 -- the point after one that is not last in its row is its neighbour
 right : (s p : ℕ) → p < s * s → (p % s + 1 ≡ s → ⊥) → (p + 1 < s * s) × (are_neighbours s p (p + 1) ≡ true)
@@ -92,11 +118,15 @@ right s p h l =
     let m = placed s p h in
     let c_in : m.c + 1 < s = omega (arith, m.column_is, l, m.c_in) in
     let f : p + 1 ≡ m.r * s + (m.c + 1) = omega (arith, m.place) in
-    let its = row_column s (p + 1) m.r (m.c + 1) c_in f in
-    (rw f (mul-add-lt m.r s (m.c + 1) s m.r_in c_in), next_in_row s p (p + 1) (m.row_is ∙ sym its.0) (are_one_apart-from (p % s) ((p + 1) % s) (inr (omega (arith, m.column_is, its.1)))))
+    let its = row_column s (p + 1) m.r (m.c + 1) c_in f in (
+      rw f (mul-add-lt m.r s (m.c + 1) s m.r_in c_in),
+      next_in_row s p (p + 1) (m.row_is ∙ sym its.0)
+          (are_one_apart-from (p % s) ((p + 1) % s) (inr (omega (arith, m.column_is, its.1)))),
+    )
 
 -- What a side gives is a neighbour on the board.
-pub neighbour_at-near : (s p side q : ℕ) → p < s * s → neighbour_at s p side ≡ Some q → (q < s * s) × (are_neighbours s p q ≡ true)
+pub neighbour_at-near : (s p side q : ℕ) → p < s * s → neighbour_at s p side ≡ Some q
+    → (q < s * s) × (are_neighbours s p q ≡ true)
 neighbour_at-near s p side q h e =
     elim (cases_Bool (eqb side 0)) [
       | inl a ↦ elim (cases_Bool (ltb p s)) [
@@ -105,24 +135,28 @@ neighbour_at-near s p side q h e =
       ]
       | inr a ↦ elim (cases_Bool (eqb side 1)) [
         | inl a2 ↦ elim (cases_Bool (ltb (p + s) (s * s))) [
-          | inl b ↦ let f : p + s ≡ q = (let g = rw (a, a2, b) at e in cc) in rw (← f) (ltb-true _ _ b, below s p h (ltb-true _ _ b))
+          | inl b ↦ let f : p + s ≡ q = (let g = rw (a, a2, b) at e in cc) in
+              rw (← f) (ltb-true _ _ b, below s p h (ltb-true _ _ b))
           | inr b ↦ let f = rw (a, a2, b) at e in absurd (cc)
         ]
         | inr a2 ↦ elim (cases_Bool (eqb side 2)) [
           | inl a3 ↦ elim (cases_Bool (eqb (p % s) 0)) [
             | inl b ↦ let f = rw (a, a2, a3, b) at e in absurd (cc)
-            | inr b ↦ let f : p - 1 ≡ q = (let g = rw (a, a2, a3, b) at e in cc) in rw (← f) (left s p h (eqb-false _ _ b))
+            | inr b ↦ let f : p - 1 ≡ q = (let g = rw (a, a2, a3, b) at e in cc) in
+                rw (← f) (left s p h (eqb-false _ _ b))
           ]
           | inr a3 ↦ elim (cases_Bool (eqb (p % s + 1) s)) [
             | inl b ↦ let f = rw (a, a2, a3, b) at e in absurd (cc)
-            | inr b ↦ let f : p + 1 ≡ q = (let g = rw (a, a2, a3, b) at e in cc) in rw (← f) (right s p h (eqb-false _ _ b))
+            | inr b ↦ let f : p + 1 ≡ q = (let g = rw (a, a2, a3, b) at e in cc) in
+                rw (← f) (right s p h (eqb-false _ _ b))
           ]
         ]
       ]
     ]
 
 -- Each neighbour is at some side.
-pub neighbour_at-all : (s p q : ℕ) → p < s * s → q < s * s → are_neighbours s p q ≡ true → (side : ℕ) × (side < 4) × (neighbour_at s p side ≡ Some q)
+pub neighbour_at-all : (s p q : ℕ) → p < s * s → q < s * s → are_neighbours s p q ≡ true
+    → (side : ℕ) × (side < 4) × (neighbour_at s p side ≡ Some q)
 neighbour_at-all s p q h k n =
     let m = placed s p h in
     let o = placed s q k in
@@ -132,11 +166,13 @@ neighbour_at-all s p q h k n =
           elim row.1 [
             | inl e ↦
                 let cols : m.c ≡ o.c + 1 = sym m.column_is ∙ e ∙ ap (λ n. n + 1) o.column_is in
-                let v : p - 1 ≡ q = (let pl : p ≡ o.r * s + o.c + 1 = m.place ∙ rw (rows, cols) (omega arith) in omega (arith, pl, o.place)) in
+                let v : p - 1 ≡ q = (let pl : p ≡ o.r * s + o.c + 1 = m.place ∙ rw (rows, cols) (omega arith) in
+                omega (arith, pl, o.place)) in
                 (2, lit< tt, rw (ne_eqb (p % s) 0 (λ z. omega (arith, z, cols, m.column_is)), v) refl)
             | inr e ↦
                 let cols : o.c ≡ m.c + 1 = sym o.column_is ∙ e ∙ ap (λ n. n + 1) m.column_is in
-                let v : p + 1 ≡ q = (let pl : q ≡ m.r * s + m.c + 1 = o.place ∙ rw (← rows, cols) (omega arith) in omega (arith, pl, m.place)) in
+                let v : p + 1 ≡ q = (let pl : q ≡ m.r * s + m.c + 1 = o.place ∙ rw (← rows, cols) (omega arith) in
+                omega (arith, pl, m.place)) in
                 (3, lit< tt, rw (ne_eqb (p % s + 1) s (λ z. omega (arith, z, cols, m.column_is, o.c_in)), v) refl)
           ]
       | inr column ↦

@@ -20,7 +20,11 @@ use Rattle.go_base.proofs.Beside.{neighbour_at-all, neighbour_at-near}
 -- a point of a list is one of each longer list
 pub has_append : (xs ys : List ℕ) (r : ℕ) → has_point xs r ≡ true → has_point (xs ++ ys) r ≡ true
 has_append [] ys r h = absurd (both_ways false refl h)
-has_append (x ∷ xs) ys r h = elim (or_cases (eqb x r) (has_point xs r) h) [ inl here ↦ or_left (eqb x r) _ here | inr there ↦ or_right (eqb x r) _ (has_append xs ys r there) ]
+has_append (x ∷ xs) ys r h =
+    elim (or_cases (eqb x r) (has_point xs r) h) [
+      | inl here ↦ or_left (eqb x r) _ here
+      | inr there ↦ or_right (eqb x r) _ (has_append xs ys r there)
+    ]
 
 -- a point of a list stands at some place of it
 pub has_index : (xs : List ℕ) (r : ℕ) → has_point xs r ≡ true → (i : ℕ) × (i < length xs) × (get_or xs i 0 ≡ r)
@@ -54,11 +58,13 @@ append_more (x ∷ xs) ys p = ap (λ t. x ∷ t) (append_more xs ys p)
 
 -- no side was visited
 pub Spreads-none : (s : ℕ) (cells : List Cell) (q : ℕ) (old : List ℕ) → Spreads s cells q 0 old old
-Spreads-none s cells q old = record { kept = ([], append_nothing old); all = λ side l. absurd (omega arith); only = λ r h. inl h }
+Spreads-none s cells q old =
+    record { kept = ([], append_nothing old); all = λ side l. absurd (omega arith); only = λ r h. inl h }
 
 -- the next side gave nothing, or a point that holds something else
 pub Spreads-skip : (s : ℕ) (cells : List Cell) (q n : ℕ) (old new : List ℕ) → Spreads s cells q n old new
-    → ((r : ℕ) → neighbour_at s q n ≡ Some r → cell_at cells r ≡ cell_at cells q → ⊥) → Spreads s cells q (n + 1) old new
+    → ((r : ℕ) → neighbour_at s q n ≡ Some r → cell_at cells r ≡ cell_at cells q → ⊥)
+    → Spreads s cells q (n + 1) old new
 Spreads-skip s cells q n old new h none = record {
   kept = h.kept;
   all = λ side l r e same. elim (cases_eq side n) [
@@ -70,22 +76,32 @@ Spreads-skip s cells q n old new h none = record {
 
 -- what came before is on the trail
 has_add_once : (xs : List ℕ) (p r : ℕ) → has_point xs r ≡ true → has_point (add_once xs p) r ≡ true
-has_add_once xs p r h = elim (cases_Bool (has_point xs p)) [ inl t ↦ rw t h | inr f ↦ rw f (has_append xs (p ∷ []) r h) ]
+has_add_once xs p r h = elim (cases_Bool (has_point xs p)) [
+  | inl t ↦ rw t h
+  | inr f ↦ rw f (has_append xs (p ∷ []) r h)
+]
 
 -- and so is what is added
 has_added : (xs : List ℕ) (p : ℕ) → has_point (add_once xs p) p ≡ true
-has_added xs p = elim (cases_Bool (has_point xs p)) [ inl t ↦ rw t t | inr f ↦ rw f (has_push xs p p ∙ or_left _ _ (eq-eqb p p refl)) ]
+has_added xs p = elim (cases_Bool (has_point xs p)) [
+  | inl t ↦ rw t t
+  | inr f ↦ rw f (has_push xs p p ∙ or_left _ _ (eq-eqb p p refl))
+]
 
 -- and nothing else
 pub add_once_only : (xs : List ℕ) (p r : ℕ) → has_point (add_once xs p) r ≡ true → (has_point xs r ≡ true) ⊎ (p ≡ r)
 add_once_only xs p r h = elim (cases_Bool (has_point xs p)) [
   | inl t ↦ inl (rw t at h)
-  | inr f ↦ let g = rw f at h in elim (or_cases _ _ (sym (has_push xs p r) ∙ g)) [ inl e ↦ inr (eqb-true p r e) | inr old ↦ inl old ]
+  | inr f ↦ let g = rw f at h in
+      elim (or_cases _ _ (sym (has_push xs p r) ∙ g)) [ inl e ↦ inr (eqb-true p r e) | inr old ↦ inl old ]
 ]
 
 -- the trail only grows at its end
 add_once_kept : (xs : List ℕ) (p : ℕ) → (more : List ℕ) × (add_once xs p ≡ xs ++ more)
-add_once_kept xs p = elim (cases_Bool (has_point xs p)) [ inl t ↦ ([], rw t (append_nothing xs)) | inr f ↦ (p ∷ [], rw f refl) ]
+add_once_kept xs p = elim (cases_Bool (has_point xs p)) [
+  | inl t ↦ ([], rw t (append_nothing xs))
+  | inr f ↦ (p ∷ [], rw f refl)
+]
 
 append_assoc' : (xs ys zs : List ℕ) → (xs ++ ys) ++ zs ≡ xs ++ (ys ++ zs)
 append_assoc' [] ys zs = refl
@@ -107,7 +123,8 @@ Spreads-add s cells q n r old mid h on e same =
       ];
       only = λ r' h'. elim (add_once_only mid r r' h') [
         | inl before ↦ h.only r' before
-        | inr g ↦ inr (subst (λ x. (x < s * s) × (are_neighbours s q x ≡ true) × (cell_at cells x ≡ cell_at cells q)) g (near.0, near.1, same))
+        | inr g ↦ inr (subst (λ x. (x < s * s) × (are_neighbours s q x ≡ true)
+            × (cell_at cells x ≡ cell_at cells q)) g (near.0, near.1, same))
       ];
     }
 
@@ -116,7 +133,8 @@ pub record Flooded (s : ℕ) (cells : List Cell) (p n : ℕ) (trail : List ℕ) 
   pub within : n ≤ length trail
   pub begins : has_point trail p ≡ true
   pub only : (r : ℕ) → has_point trail r ≡ true → Path s cells p r
-  pub closed : (i : ℕ) → i < n → (r : ℕ) → r < s * s → are_neighbours s (get_or trail i 0) r ≡ true → cell_at cells r ≡ cell_at cells (get_or trail i 0) → has_point trail r ≡ true
+  pub closed : (i : ℕ) → i < n → (r : ℕ) → r < s * s → are_neighbours s (get_or trail i 0) r ≡ true
+      → cell_at cells r ≡ cell_at cells (get_or trail i 0) → has_point trail r ≡ true
 
 -- a path leads over points that hold the same
 path_same : (s : ℕ) (cells : List Cell) (p : ℕ) {q : ℕ} → Path s cells p q → cell_at cells q ≡ cell_at cells p
@@ -128,20 +146,26 @@ pub Flooded-start : (s : ℕ) (cells : List Cell) (p : ℕ) → Flooded s cells 
 Flooded-start s cells p = record {
   within = omega arith;
   begins = has_added [] p;
-  only = λ r h. elim (add_once_only [] p r h) [ inl f ↦ absurd (both_ways false refl f) | inr e ↦ subst (λ x. Path s cells p x) e start ];
+  only = λ r h. elim (add_once_only [] p r h) [
+    | inl f ↦ absurd (both_ways false refl f)
+    | inr e ↦ subst (λ x. Path s cells p x) e start
+  ];
   closed = λ i l. absurd (omega arith);
 }
 
 -- the neighbours of one more stone came
-pub Flooded-next : (s : ℕ) (cells : List Cell) (p n : ℕ) (trail new : List ℕ) → p < s * s → Flooded s cells p n trail → n < length trail
+pub Flooded-next : (s : ℕ) (cells : List Cell) (p n : ℕ) (trail new : List ℕ) → p < s * s → Flooded s cells p n trail
+    → n < length trail
     → Spreads s cells (get_or trail n 0) 4 trail new → Flooded s cells p (n + 1) new
 Flooded-next s cells p n trail new on h l sp =
     let q = get_or trail n 0 in
     let path : Path s cells p q = h.only q (has_at trail n l) in
     let q_on : q < s * s = path_on_board s cells p on path in
     let grown : length trail ≤ length new = rw sp.kept.1 (omega (arith, length-append trail sp.kept.0)) in
-    let at_is = λ (i : ℕ) (li : i < length trail). ap (λ xs. get_or xs i 0) sp.kept.1 ∙ at_append trail sp.kept.0 i li in
-    let old_has = λ (r : ℕ) (b : has_point trail r ≡ true). ap (λ xs. has_point xs r) sp.kept.1 ∙ has_append trail sp.kept.0 r b in
+    let at_is = λ (i : ℕ) (li : i < length trail).
+    ap (λ xs. get_or xs i 0) sp.kept.1 ∙ at_append trail sp.kept.0 i li in
+    let old_has = λ (r : ℕ) (b : has_point trail r ≡ true).
+    ap (λ xs. has_point xs r) sp.kept.1 ∙ has_append trail sp.kept.0 r b in
     record {
       within = omega arith;
       begins = old_has p h.begins;
@@ -164,29 +188,35 @@ Flooded-next s cells p n trail new on h l sp =
     }
 
 -- what a whole trail has
-pub Flooded-all : (s : ℕ) (cells : List Cell) (p n : ℕ) (trail : List ℕ) → Flooded s cells p n trail → length trail ≤ n → {q : ℕ} → Path s cells p q → has_point trail q ≡ true
+pub Flooded-all : (s : ℕ) (cells : List Cell) (p n : ℕ) (trail : List ℕ) → Flooded s cells p n trail → length trail ≤ n
+    → {q : ℕ} → Path s cells p q → has_point trail q ≡ true
 Flooded-all s cells p n trail h l start = h.begins
 Flooded-all s cells p n trail h l (step {q} {r} path on near same) =
     let found = has_index trail q (Flooded-all s cells p n trail h l path) in
-    h.closed found.0 (omega (arith, found.1, l)) r on (rw found.2 near) (rw found.2 (same ∙ sym (path_same s cells p path)))
+    h.closed found.0 (omega (arith, found.1, l)) r on (rw found.2 near)
+    (rw found.2 (same ∙ sym (path_same s cells p path)))
 
 -- where each stone of the trail was visited, the trail is the string
-pub string_is : (s : ℕ) (cells : List Cell) (p n : ℕ) (trail : List ℕ) (found : sets.FinSet nat_cmp) → p < s * s → is_stone (cell_at cells p) ≡ true → Flooded s cells p n trail → length trail ≤ n
+pub string_is : (s : ℕ) (cells : List Cell) (p n : ℕ) (trail : List ℕ) (found : sets.FinSet nat_cmp) → p < s * s
+    → is_stone (cell_at cells p) ≡ true → Flooded s cells p n trail → length trail ≤ n
     → ((q : ℕ) → sets.contains found q ≡ has_point trail q) → found ≡ string_at s cells p
 unfolding string_at
 string_is s cells p n trail found on stone h l same =
     same_nat_set _ _ (λ q. same q ∙ same_tests _ _
     (λ b.
     let path = h.only q b in
-    and_from _ _ (lt-ltb q (s * s) (path_on_board s cells p on path)) (is_is_in_string-from_fact s cells p q on (record { stone = stone; path = path })))
+    and_from _ _ (lt-ltb q (s * s) (path_on_board s cells p on path))
+    (is_is_in_string-from_fact s cells p q on (record { stone = stone; path = path })))
     (λ t. Flooded-all s cells p n trail h l (IsInString-from_test s cells p q (and_parts _ _ t).1).path)
     ∙ sym (contains-set_below (s * s) (is_in_string s cells p) q))
 
 -- an empty point has no string
-pub string_is_none : (s : ℕ) (cells : List Cell) (p : ℕ) (found : sets.FinSet nat_cmp) → cell_at cells p ≡ Empty → ((q : ℕ) → sets.contains found q ≡ has_point [] q) → found ≡ string_at s cells p
+pub string_is_none : (s : ℕ) (cells : List Cell) (p : ℕ) (found : sets.FinSet nat_cmp) → cell_at cells p ≡ Empty
+    → ((q : ℕ) → sets.contains found q ≡ has_point [] q) → found ≡ string_at s cells p
 unfolding string_at is_in_string
 string_is_none s cells p found e same =
-    same_nat_set _ _ (λ q. same q ∙ sym (contains-set_below (s * s) (is_in_string s cells p) q ∙ ap (λ k. ltb q (s * s) && (is_stone k && reached s cells p (s * s) q)) e ∙ and-false (ltb q (s * s))))
+    same_nat_set _ _ (λ q. same q ∙ sym (contains-set_below (s * s) (is_in_string s cells p) q
+    ∙ ap (λ k. ltb q (s * s) && (is_stone k && reached s cells p (s * s) q)) e ∙ and-false (ltb q (s * s))))
 
 -- what is not empty is a stone
 pub stone_from : (k : Cell) → (k ≡ Empty → ⊥) → is_stone k ≡ true
@@ -195,16 +225,20 @@ stone_from Black h = refl
 stone_from White h = refl
 
 -- what a side gives is around the point
-pub at_side : (s p side q : ℕ) → p < s * s → neighbour_at s p side ≡ Some q → (r : ℕ) → eqb r q ≡ true → around s p r ≡ true
+pub at_side : (s p side q : ℕ) → p < s * s → neighbour_at s p side ≡ Some q → (r : ℕ) → eqb r q ≡ true
+    → around s p r ≡ true
 at_side s p side q on e r h =
     let near = neighbour_at-near s p side q on e in
     let is_q = eqb-true r q h in
-    and_from _ _ (lt-ltb r (s * s) (subst (λ x. x < s * s) (sym is_q) near.0)) (or_right _ _ (ap (are_neighbours s p) is_q ∙ near.1))
+    and_from _ _ (lt-ltb r (s * s) (subst (λ x. x < s * s) (sym is_q) near.0))
+    (or_right _ _ (ap (are_neighbours s p) is_q ∙ near.1))
 
 -- each point of a trail that began on the board is on it
-pub on_board_more : (s : ℕ) (old new : List ℕ) → ((r : ℕ) → has_point old r ≡ true → r < s * s) → AddsOnBoard s old new → (r : ℕ) → has_point new r ≡ true → r < s * s
+pub on_board_more : (s : ℕ) (old new : List ℕ) → ((r : ℕ) → has_point old r ≡ true → r < s * s) → AddsOnBoard s old new
+    → (r : ℕ) → has_point new r ≡ true → r < s * s
 on_board_more s old new before more r h = elim (more r h) [ inl o ↦ before r o | inr on ↦ on ]
 
 -- a trail of one point of the board is on the board
 pub on_board_one : (s p : ℕ) → p < s * s → (r : ℕ) → has_point (add_once [] p) r ≡ true → r < s * s
-on_board_one s p on r h = elim (add_once_only [] p r h) [ inl f ↦ absurd (both_ways false refl f) | inr e ↦ subst (λ x. x < s * s) e on ]
+on_board_one s p on r h =
+    elim (add_once_only [] p r h) [ inl f ↦ absurd (both_ways false refl f) | inr e ↦ subst (λ x. x < s * s) e on ]

@@ -24,10 +24,13 @@ kept_length a k small =
     let few = square_small a.size small in
     let front = k.position.cells in
     let back = ap length k.padded ∙ length-replicate (largest_points - a.size * a.size) Empty in
-    ap length (sym (take-append-drop (a.size * a.size) a.cells)) ∙ length-append (take (a.size * a.size) a.cells) (drop (a.size * a.size) a.cells) ∙ omega (arith, few, front, back)
+    ap length (sym (take-append-drop (a.size * a.size) a.cells))
+    ∙ length-append (take (a.size * a.size) a.cells) (drop (a.size * a.size) a.cells)
+    ∙ omega (arith, few, front, back)
 
 -- the board that a position is kept as holds the position
-pub holds_of : (a : Inside) (pos : BoardState) → position_of a ≡ pos → IsKept a → a.size ≤ largest_size → Holds pos (record { size = a.size; cells = a.cells })
+pub holds_of : (a : Inside) (pos : BoardState) → position_of a ≡ pos → IsKept a → a.size ≤ largest_size
+    → Holds pos (record { size = a.size; cells = a.cells })
 holds_of a pos e k small = record {
   position = subst IsPosition e k.position;
   size = ap (λ x. x.size) e;
@@ -37,54 +40,79 @@ holds_of a pos e k small = record {
 }
 
 -- a board that keeps the rest is as long as before
-pub whole_after : (old new : Flat) → KeepsRest old new → (length old.cells ≡ largest_points) × (old.size ≤ largest_size) → (length new.cells ≡ largest_points) × (new.size ≤ largest_size)
+pub whole_after : (old new : Flat) → KeepsRest old new → (length old.cells ≡ largest_points) × (old.size ≤ largest_size)
+    → (length new.cells ≡ largest_points) × (new.size ≤ largest_size)
 whole_after old new k w = (k.length ∙ w.0, subst (λ n. n ≤ largest_size) (sym k.size) w.1)
 
 -- the code's test for a stone is that of the definition
-pub stone_is_test : (a : Inside) (p : ℕ) (r : Bool) → p < a.size * a.size → r ≡ not (sameb the_type (cell_at a.cells p) Empty) → r ≡ is_stone (cell_at (take (a.size * a.size) a.cells) p)
-stone_is_test a p r on e = e ∙ stone_test (cell_at a.cells p) ∙ ap is_stone (sym (get_or-take (a.size * a.size) a.cells p Empty on))
+pub stone_is_test : (a : Inside) (p : ℕ) (r : Bool) → p < a.size * a.size
+    → r ≡ not (sameb the_type (cell_at a.cells p) Empty) → r ≡ is_stone (cell_at (take (a.size * a.size) a.cells) p)
+stone_is_test a p r on e =
+    e ∙ stone_test (cell_at a.cells p) ∙ ap is_stone (sym (get_or-take (a.size * a.size) a.cells p Empty on))
 
 -- a play does not ask for the ban
 free_board : (pos : BoardState) (c : Colour) (p : ℕ) → play_free (board_of pos.size pos.cells) c p ≡ play_free pos c p
 unfolding play_free
 free_board pos c p = refl
 
-module _ {pos : BoardState} {old new : Flat} (c : Colour) (p : ℕ) (result : Result (Option (ℕ × Colour)) Illegal) (h : Holds pos old) (k : KeepsRest old new)
-    (over : (x : BoardState) → (length new.cells ≡ largest_points) × (new.size ≤ largest_size) → IsPosition (board_of old.size (take (old.size * old.size) old.cells))
-    → play_free (board_of old.size (take (old.size * old.size) old.cells)) c p ≡ played_on old.size (take (new.size * new.size) new.cells) result) where
+module _ {pos : BoardState} {old new : Flat} (c : Colour) (p : ℕ) (result : Result (Option (ℕ × Colour)) Illegal)
+    (h : Holds pos old) (k : KeepsRest old new)
+    (over : (x : BoardState) → (length new.cells ≡ largest_points) × (new.size ≤ largest_size)
+    → IsPosition (board_of old.size (take (old.size * old.size) old.cells))
+    → play_free (board_of old.size (take (old.size * old.size) old.cells)) c p
+    ≡ played_on old.size (take (new.size * new.size) new.cells) result) where
   -- the board as the cells of the position
   board_is : board_of old.size (take (old.size * old.size) old.cells) ≡ board_of pos.size pos.cells
   board_is = ap (λ n. board_of n (take (old.size * old.size) old.cells)) h.size ∙ ap (board_of pos.size) h.cells
 
   -- the cells of a position without its ban are a position
   board_good : IsPosition (board_of pos.size pos.cells)
-  board_good = record { size_at_least = h.position.size_at_least; size_at_most = h.position.size_at_most; cells = h.position.cells; alive = h.position.alive; ban = tt }
+  board_good = record {
+    size_at_least = h.position.size_at_least;
+    size_at_most = h.position.size_at_most;
+    cells = h.position.cells;
+    alive = h.position.alive;
+    ban = tt;
+  }
 
   -- the play on the board is the play of the rules
   pub held_free : played_on old.size (take (new.size * new.size) new.cells) result ≡ play_free pos c p
-  held_free = sym (over pos (whole_after old new k h.whole) (subst IsPosition (sym board_is) board_good)) ∙ ap (λ b. play_free b c p) board_is ∙ free_board pos c p
+  held_free = sym (over pos (whole_after old new k h.whole) (subst IsPosition (sym board_is) board_good))
+      ∙ ap (λ b. play_free b c p) board_is ∙ free_board pos c p
 
-module _ {pos : BoardState} {old new : Flat} (c : Colour) (p : ℕ) (ban : Option (ℕ × Colour)) (h : Holds pos old) (k : KeepsRest old new)
+module _ {pos : BoardState} {old new : Flat} (c : Colour) (p : ℕ) (ban : Option (ℕ × Colour)) (h : Holds pos old)
+    (k : KeepsRest old new)
     (is : played_on old.size (take (new.size * new.size) new.cells) (Ok ban) ≡ play_free pos c p) where
   -- a play that is done gives the position of the rules
   pub held_done : Ok (position_of (record { size = new.size; ban = ban; cells = new.cells })) ≡ play_free pos c p
-  held_done = ap (λ (n : ℕ). Ok (record { size = n; cells = take (new.size * new.size) new.cells; ban = ban })) k.size ∙ is
+  held_done = ap (λ (n : ℕ). Ok (record { size = n; cells = take (new.size * new.size) new.cells; ban = ban })) k.size
+      ∙ is
 
   -- and what is kept of it is the position and the empty rest
   pub held_kept : p < pos.size * pos.size → IsKept (record { size = new.size; ban = ban; cells = new.cells })
   held_kept on = record {
-    position = free_keeps pos c p (position_of (record { size = new.size; ban = ban; cells = new.cells })) h.position on (sym held_done);
+    position = free_keeps pos c p (position_of (record { size = new.size; ban = ban; cells = new.cells })) h.position on
+        (sym held_done);
     padded = subst (λ n. drop (n * n) new.cells ≡ padding n) (sym k.size) (k.rest ∙ h.padded);
   }
 
 -- the board as a position, where it holds one
-pub held_position : {pos : BoardState} {board : Flat} → Holds pos board → IsPosition (board_of board.size (take (board.size * board.size) board.cells))
+pub held_position : {pos : BoardState} {board : Flat} → Holds pos board
+    → IsPosition (board_of board.size (take (board.size * board.size) board.cells))
 held_position {pos} {board} h =
-    subst IsPosition (sym (ap (λ n. board_of n (take (board.size * board.size) board.cells)) h.size ∙ ap (board_of pos.size) h.cells))
-    (record { size_at_least = h.position.size_at_least; size_at_most = h.position.size_at_most; cells = h.position.cells; alive = h.position.alive; ban = tt })
+    subst IsPosition (sym (ap (λ n. board_of n (take (board.size * board.size) board.cells)) h.size
+    ∙ ap (board_of pos.size) h.cells))
+    (record {
+      size_at_least = h.position.size_at_least;
+      size_at_most = h.position.size_at_most;
+      cells = h.position.cells;
+      alive = h.position.alive;
+      ban = tt;
+    })
 
 -- a board whose cells came back holds the position still
-pub holds_again : {pos : BoardState} {old new : Flat} → Holds pos old → KeepsRest old new → take (new.size * new.size) new.cells ≡ take (old.size * old.size) old.cells → Holds pos new
+pub holds_again : {pos : BoardState} {old new : Flat} → Holds pos old → KeepsRest old new
+    → take (new.size * new.size) new.cells ≡ take (old.size * old.size) old.cells → Holds pos new
 holds_again {pos} {old} {new} h k back = record {
   position = h.position;
   size = k.size ∙ h.size;

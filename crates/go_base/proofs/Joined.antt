@@ -31,7 +31,8 @@ or-true true = refl
 or-true false = refl
 
 -- the member n came
-joined_add : (old more new : sets.FinSet nat_cmp) (n : ℕ) → JoinedBelow old more n new → sets.contains more n ≡ true → JoinedBelow old more (n + 1) (sets.insert new n)
+joined_add : (old more new : sets.FinSet nat_cmp) (n : ℕ) → JoinedBelow old more n new → sets.contains more n ≡ true
+    → JoinedBelow old more (n + 1) (sets.insert new n)
 joined_add old more new n h hit r = contains-insert_nat new n r ∙ elim (joined_step old more n r) [
   | inl e ↦ rw (e, eq-eqb n n refl, lt-ltb n (n + 1) (omega arith), hit) (sym (or-true _))
   | inr same ↦ elim (cases_eq r n) [
@@ -41,7 +42,8 @@ joined_add old more new n h hit r = contains-insert_nat new n r ∙ elim (joined
 ]
 
 -- no member stands between the next point and this one
-joined_jump : (old more new : sets.FinSet nat_cmp) (n m : ℕ) → n ≤ m → JoinedBelow old more n new → ((k : ℕ) → n ≤ k → k < m → sets.contains more k ≡ false) → JoinedBelow old more m new
+joined_jump : (old more new : sets.FinSet nat_cmp) (n m : ℕ) → n ≤ m → JoinedBelow old more n new
+    → ((k : ℕ) → n ≤ k → k < m → sets.contains more k ≡ false) → JoinedBelow old more m new
 joined_jump old more new n m l h none r = h r ∙ elim (cases_lt r n) [
   | inl below ↦ rw (lt-ltb r n below, lt-ltb r m (omega arith)) refl
   | inr above ↦ elim (cases_lt r m) [
@@ -51,12 +53,14 @@ joined_jump old more new n m l h none r = h r ∙ elim (cases_lt r n) [
 ]
 
 -- the next member came
-pub joined_next : (old more new : sets.FinSet nat_cmp) (n m : ℕ) → n ≤ m → JoinedBelow old more n new → ((k : ℕ) → n ≤ k → k < m → sets.contains more k ≡ false) → sets.contains more m ≡ true
+pub joined_next : (old more new : sets.FinSet nat_cmp) (n m : ℕ) → n ≤ m → JoinedBelow old more n new
+    → ((k : ℕ) → n ≤ k → k < m → sets.contains more k ≡ false) → sets.contains more m ≡ true
     → JoinedBelow old more (m + 1) (sets.insert new m)
 joined_next old more new n m l h none hit = joined_add old more new m (joined_jump old more new n m l h none) hit
 
 -- where no member is left, all of the other set came
-pub joined_all : (old more new : sets.FinSet nat_cmp) (n : ℕ) → JoinedBelow old more n new → ((r : ℕ) → n ≤ r → sets.contains more r ≡ false) → new ≡ sets.union old more
+pub joined_all : (old more new : sets.FinSet nat_cmp) (n : ℕ) → JoinedBelow old more n new
+    → ((r : ℕ) → n ≤ r → sets.contains more r ≡ false) → new ≡ sets.union old more
 joined_all old more new n h above = same_nat_set _ _ (λ r. h r ∙ elim (cases_lt r n) [
   | inl l ↦ rw (lt-ltb r n l) refl
   | inr g ↦ rw (le-ltb r n g, above r g) refl

@@ -17,22 +17,27 @@ at_replicate (suc n) zero = refl
 at_replicate (suc n) (suc p) = at_replicate n p
 
 -- the empty board is a position
-pub empty_position : (s : ℕ) → smallest_size ≤ s → s ≤ largest_size → IsPosition (record { size = s; cells = replicate (s * s) Empty; ban = None })
+pub empty_position : (s : ℕ) → smallest_size ≤ s → s ≤ largest_size
+    → IsPosition (record { size = s; cells = replicate (s * s) Empty; ban = None })
 empty_position s low high = record {
   size_at_least = low;
   size_at_most = high;
   cells = length-replicate (s * s) Empty;
-  alive = λ p h stone. absurd (both_ways (is_stone (cell_at (replicate (s * s) Empty) p)) (ap is_stone (at_replicate (s * s) p)) stone);
+  alive = λ p h stone. absurd (both_ways (is_stone (cell_at (replicate (s * s) Empty) p))
+      (ap is_stone (at_replicate (s * s) p)) stone);
   ban = tt;
 }
 
 -- the cells of the empty board are empty
-pub view_empty : (s : ℕ) (cells : List Cell) → s ≤ largest_size → cells ≡ replicate largest_points Empty → take (s * s) cells ≡ replicate (s * s) Empty
+pub view_empty : (s : ℕ) (cells : List Cell) → s ≤ largest_size → cells ≡ replicate largest_points Empty
+    → take (s * s) cells ≡ replicate (s * s) Empty
 view_empty s cells high e = ap (take (s * s)) e ∙ take-replicate (s * s) largest_points Empty (square_small s high)
 
 -- and so is the rest of its array
-pub IsKept-empty : (s : ℕ) (cells : List Cell) → smallest_size ≤ s → s ≤ largest_size → cells ≡ replicate largest_points Empty → IsKept (record { size = s; ban = None; cells = cells })
+pub IsKept-empty : (s : ℕ) (cells : List Cell) → smallest_size ≤ s → s ≤ largest_size
+    → cells ≡ replicate largest_points Empty → IsKept (record { size = s; ban = None; cells = cells })
 IsKept-empty s cells low high e = record {
-  position = subst (λ t. IsPosition (record { size = s; cells = t; ban = None })) (sym (view_empty s cells high e)) (empty_position s low high);
+  position = subst (λ t. IsPosition (record { size = s; cells = t; ban = None })) (sym (view_empty s cells high e))
+      (empty_position s low high);
   padded = ap (drop (s * s)) e ∙ drop-replicate (s * s) largest_points Empty;
 }

@@ -18,33 +18,47 @@ use Rattle.go_base.specs.Surroundings.{is_only_liberty, is_last_liberty_of_enemy
 use Rattle.go_base.proofs.Liberties.{len-liberty_points}
 
 -- the set of the liberties has the liberties
-pub contains-liberty_points : (s : ℕ) (cells : List Cell) (r l : ℕ) → sets.contains (liberty_points s cells r) l ≡ is_liberty s cells r l
+pub contains-liberty_points : (s : ℕ) (cells : List Cell) (r l : ℕ)
+    → sets.contains (liberty_points s cells r) l ≡ is_liberty s cells r l
 unfolding liberty_points
-contains-liberty_points s cells r l = contains-set_below (s * s) (is_liberty s cells r) l ∙ same_tests _ _ (λ h. (and_parts _ _ h).1) (λ h. and_from _ _ (lt-ltb l (s * s) (IsLiberty-from_test s cells r l h).on_board) h)
+contains-liberty_points s cells r l =
+    contains-set_below (s * s) (is_liberty s cells r) l
+    ∙ same_tests _ _ (λ h. (and_parts _ _ h).1)
+    (λ h. and_from _ _ (lt-ltb l (s * s) (IsLiberty-from_test s cells r l h).on_board) h)
 
 -- the points of one string have the same liberties
-same_liberty : (s : ℕ) (cells : List Cell) (p q l : ℕ) → p < s * s → is_in_string s cells p q ≡ true → is_liberty s cells p l ≡ is_liberty s cells q l
+same_liberty : (s : ℕ) (cells : List Cell) (p q l : ℕ) → p < s * s → is_in_string s cells p q ≡ true
+    → is_liberty s cells p l ≡ is_liberty s cells q l
 same_liberty s cells p q l on h = same_tests _ _
-    (λ t. is_liberty-from_fact s cells q l (is_in_string_on s cells p q on h) (liberty_moves s cells q p l (is_in_string_on s cells p q on h) (IsInString-from_test s cells q p (string_back s cells p q on h)) (IsLiberty-from_test s cells p l t)))
-    (λ t. is_liberty-from_fact s cells p l on (liberty_moves s cells p q l on (IsInString-from_test s cells p q h) (IsLiberty-from_test s cells q l t)))
+    (λ t. is_liberty-from_fact s cells q l (is_in_string_on s cells p q on h)
+    (liberty_moves s cells q p l (is_in_string_on s cells p q on h)
+    (IsInString-from_test s cells q p (string_back s cells p q on h)) (IsLiberty-from_test s cells p l t)))
+    (λ t. is_liberty-from_fact s cells p l on
+    (liberty_moves s cells p q l on (IsInString-from_test s cells p q h) (IsLiberty-from_test s cells q l t)))
 
 -- and the same one liberty
-same_only : (s : ℕ) (cells : List Cell) (p q l : ℕ) → p < s * s → is_in_string s cells p q ≡ true → is_only_liberty s cells p l ≡ is_only_liberty s cells q l
+same_only : (s : ℕ) (cells : List Cell) (p q l : ℕ) → p < s * s → is_in_string s cells p q ≡ true
+    → is_only_liberty s cells p l ≡ is_only_liberty s cells q l
 unfolding is_only_liberty liberties
 same_only s cells p q l on h =
-    ap (λ n. eqb n 1 && is_liberty s cells p l) (count_below_same (s * s) (is_liberty s cells p) (is_liberty s cells q) (λ k i. same_liberty s cells p q k on h))
+    ap (λ n. eqb n 1 && is_liberty s cells p l)
+    (count_below_same (s * s) (is_liberty s cells p) (is_liberty s cells q)
+    (λ k i. same_liberty s cells p q k on h))
     ∙ ap (λ b. eqb (count_below (s * s) (is_liberty s cells q)) 1 && b) (same_liberty s cells p q l on h)
 
 -- the one liberties of the enemy strings that the points below n belong to are there, and nothing else is
 pub record Lasts (s : ℕ) (cells : List Cell) (p n : ℕ) (last : sets.FinSet nat_cmp) : Type 0 where
   pub only : (l : ℕ) → sets.contains last l ≡ true → is_last_liberty_of_enemy s cells p l ≡ true
-  pub all : (q : ℕ) → q < n → is_beside_string s cells p q ≡ true → is_enemy (cell_at cells p) (cell_at cells q) ≡ true → (l : ℕ) → is_only_liberty s cells q l ≡ true → sets.contains last l ≡ true
+  pub all : (q : ℕ) → q < n → is_beside_string s cells p q ≡ true → is_enemy (cell_at cells p) (cell_at cells q) ≡ true
+      → (l : ℕ) → is_only_liberty s cells q l ≡ true → sets.contains last l ≡ true
 
 -- a string that was seen adds nothing
-pub AddsLast-seen : (s : ℕ) (cells : List Cell) (q : ℕ) (seen last : sets.FinSet nat_cmp) → KnowsLast s cells seen last → sets.contains seen q ≡ true → AddsLast s cells q last last
+pub AddsLast-seen : (s : ℕ) (cells : List Cell) (q : ℕ) (seen last : sets.FinSet nat_cmp) → KnowsLast s cells seen last
+    → sets.contains seen q ≡ true → AddsLast s cells q last last
 AddsLast-seen s cells q seen last knows h = record { kept = λ l i. i; only = λ l i. inl i; all = λ l i. knows q h l i }
 
-module _ (s : ℕ) (cells : List Cell) (q n : ℕ) (found old : sets.FinSet nat_cmp) (e : found ≡ liberty_points s cells q) (count : n ≡ sets.len found) where
+module _ (s : ℕ) (cells : List Cell) (q n : ℕ) (found old : sets.FinSet nat_cmp) (e : found ≡ liberty_points s cells q)
+    (count : n ≡ sets.len found) where
   -- the liberties of the string are counted
   how_many : n ≡ liberties s cells q
   how_many = count ∙ ap sets.len e ∙ len-liberty_points s cells q
@@ -77,31 +91,39 @@ module _ (s : ℕ) (cells : List Cell) (q n : ℕ) (found old : sets.FinSet nat_
   }
 
 -- after a string's one liberty came, the string is among those seen
-pub KnowsLast-join : (s : ℕ) (cells : List Cell) (q : ℕ) (seen joined found last new : sets.FinSet nat_cmp) → q < s * s → found ≡ string_at s cells q
-    → joined ≡ sets.union seen found → KnowsLast s cells seen last → AddsLast s cells q last new → KnowsLast s cells joined new
+pub KnowsLast-join : (s : ℕ) (cells : List Cell) (q : ℕ) (seen joined found last new : sets.FinSet nat_cmp) → q < s * s
+    → found ≡ string_at s cells q
+    → joined ≡ sets.union seen found → KnowsLast s cells seen last → AddsLast s cells q last new
+    → KnowsLast s cells joined new
 unfolding string_at
 KnowsLast-join s cells q seen joined found last new on e is knows adds x h l i =
     elim (or_cases _ _ (sym (ap (λ t. sets.contains t x) is ∙ sets.contains-union nat_cmp_total seen found x) ∙ h)) [
       | inl before ↦ adds.kept l (knows x before l i)
       | inr now ↦
-          let link = (and_parts _ _ (sym (ap (λ t. sets.contains t x) e ∙ contains-set_below (s * s) (is_in_string s cells q) x) ∙ now)).1 in
+          let link = (and_parts _ _
+          (sym (ap (λ t. sets.contains t x) e ∙ contains-set_below (s * s) (is_in_string s cells q) x) ∙ now)).1 in
           adds.all l (same_only s cells q x l on link ∙ i)
     ]
 
 -- nothing is known at first
-pub KnowsLast-none : (s : ℕ) (cells : List Cell) (seen last : sets.FinSet nat_cmp) → seen ≡ sets.empty → KnowsLast s cells seen last
-KnowsLast-none s cells seen last e q h = absurd (both_ways (sets.contains seen q) (ap (λ t. sets.contains t q) e ∙ sets.contains-empty nat_cmp q) h)
+pub KnowsLast-none : (s : ℕ) (cells : List Cell) (seen last : sets.FinSet nat_cmp) → seen ≡ sets.empty
+    → KnowsLast s cells seen last
+KnowsLast-none s cells seen last e q h =
+    absurd (both_ways (sets.contains seen q) (ap (λ t. sets.contains t q) e ∙ sets.contains-empty nat_cmp q) h)
 
 -- no point is below 0
-pub Lasts-none : (s : ℕ) (cells : List Cell) (p : ℕ) (last : sets.FinSet nat_cmp) → last ≡ sets.empty → Lasts s cells p 0 last
+pub Lasts-none : (s : ℕ) (cells : List Cell) (p : ℕ) (last : sets.FinSet nat_cmp) → last ≡ sets.empty
+    → Lasts s cells p 0 last
 Lasts-none s cells p last e = record {
-  only = λ l h. absurd (both_ways (sets.contains last l) (ap (λ t. sets.contains t l) e ∙ sets.contains-empty nat_cmp l) h);
+  only = λ l h. absurd (both_ways (sets.contains last l)
+      (ap (λ t. sets.contains t l) e ∙ sets.contains-empty nat_cmp l) h);
   all = λ q b. absurd (omega arith);
 }
 
 -- no enemy next to the string stands between the next point and this one
 pub Lasts-jump : (s : ℕ) (cells : List Cell) (p n m : ℕ) (last : sets.FinSet nat_cmp) → Lasts s cells p n last
-    → ((q : ℕ) → n ≤ q → q < m → is_beside_string s cells p q ≡ true → is_enemy (cell_at cells p) (cell_at cells q) ≡ true → ⊥) → Lasts s cells p m last
+    → ((q : ℕ) → n ≤ q → q < m → is_beside_string s cells p q ≡ true
+    → is_enemy (cell_at cells p) (cell_at cells q) ≡ true → ⊥) → Lasts s cells p m last
 Lasts-jump s cells p n m last b none = record {
   only = b.only;
   all = λ q below beside enemy l h. elim (cases_lt q n) [
@@ -111,8 +133,10 @@ Lasts-jump s cells p n m last b none = record {
 }
 
 -- the next point is an enemy next to the string, and its one liberty came
-pub Lasts-add : (s : ℕ) (cells : List Cell) (p n : ℕ) (last new : sets.FinSet nat_cmp) → Lasts s cells p n last → n < s * s
-    → is_beside_string s cells p n ≡ true → is_enemy (cell_at cells p) (cell_at cells n) ≡ true → AddsLast s cells n last new → Lasts s cells p (n + 1) new
+pub Lasts-add : (s : ℕ) (cells : List Cell) (p n : ℕ) (last new : sets.FinSet nat_cmp) → Lasts s cells p n last
+    → n < s * s
+    → is_beside_string s cells p n ≡ true → is_enemy (cell_at cells p) (cell_at cells n) ≡ true
+    → AddsLast s cells n last new → Lasts s cells p (n + 1) new
 unfolding is_last_liberty_of_enemy
 Lasts-add s cells p n last new b on beside enemy add = record {
   only = λ l h. elim (add.only l h) [
@@ -126,7 +150,8 @@ Lasts-add s cells p n last new b on beside enemy add = record {
 }
 
 -- where every point was passed, the set has exactly the last liberties of the enemy strings
-pub Lasts-all : (s : ℕ) (cells : List Cell) (p n : ℕ) (last : sets.FinSet nat_cmp) → Lasts s cells p n last → s * s ≤ n → (l : ℕ) → sets.contains last l ≡ is_last_liberty_of_enemy s cells p l
+pub Lasts-all : (s : ℕ) (cells : List Cell) (p n : ℕ) (last : sets.FinSet nat_cmp) → Lasts s cells p n last → s * s ≤ n
+    → (l : ℕ) → sets.contains last l ≡ is_last_liberty_of_enemy s cells p l
 unfolding is_last_liberty_of_enemy
 Lasts-all s cells p n last b whole l = same_tests _ _ (b.only l)
     (λ h.

@@ -13,13 +13,15 @@ use Rattle.go_base.proofs.Marks.{contains-marked, contains-above}
 
 -- a bit of what is left after a shift
 bit_at-shift : (word from j : ℕ) → bit_at (word / 2 ^ from) j ≡ bit_at word (from + j)
-bit_at-shift word from j = ap (λ n. n % 2) (div-div-eq-div-mul word (2 ^ from) (2 ^ j) ∙ ap (λ n. word / n) (sym (pow-add 2 from j)))
+bit_at-shift word from j =
+    ap (λ n. n % 2) (div-div-eq-div-mul word (2 ^ from) (2 ^ j) ∙ ap (λ n. word / n) (sym (pow-add 2 from j)))
 
 -- no bit from the place on is set where nothing is left
 pub nothing_left : (word from : ℕ) → word / 2 ^ from ≡ 0 → (k : ℕ) → from ≤ k → bit_at word k ≡ 0
 nothing_left word from z k h =
     let e : from + (k - from) ≡ k = omega arith in
-    ap (bit_at word) (sym e) ∙ sym (bit_at-shift word from (k - from)) ∙ ap (λ n. bit_at n (k - from)) z ∙ bit_at-zero (k - from)
+    ap (bit_at word) (sym e) ∙ sym (bit_at-shift word from (k - from)) ∙ ap (λ n. bit_at n (k - from)) z
+    ∙ bit_at-zero (k - from)
 
 -- the lowest bit that is set from a place on
 pub record LowestFrom (word from at : ℕ) : Type 0 where
@@ -28,7 +30,8 @@ pub record LowestFrom (word from at : ℕ) : Type 0 where
   pub misses : (k : ℕ) → from ≤ k → k < at → bit_at word k ≡ 0
 
 -- the lowest bit that is not below a place is found by the zeros behind it
-pub lowest_from : (word from : ℕ) → word < 2 ^ 64 → 0 < word / 2 ^ from → LowestFrom word from (from + trailing_zeros w64 (word / 2 ^ from))
+pub lowest_from : (word from : ℕ) → word < 2 ^ 64 → 0 < word / 2 ^ from
+    → LowestFrom word from (from + trailing_zeros w64 (word / 2 ^ from))
 lowest_from word from fits some =
     let rest : ℕ = word / 2 ^ from in
     let small : rest < 2 ^ 64 = omega (arith, div-le_self word (2 ^ from), fits) in
@@ -38,7 +41,8 @@ lowest_from word from fits some =
     record {
       bound = elim (cases_lt (from + t) 64) [
         | inl l ↦ l
-        | inr g ↦ let z = bit_at_above word 64 (from + t) fits g in absurd (let two : 0 ≡ 1 = sym z ∙ is_hit in omega (arith, two))
+        | inr g ↦ let z = bit_at_above word 64 (from + t) fits g in
+            absurd (let two : 0 ≡ 1 = sym z ∙ is_hit in omega (arith, two))
       ];
       hit = is_hit;
       misses = λ k l m.
@@ -46,7 +50,8 @@ lowest_from word from fits some =
           ap (bit_at word) (sym e) ∙ sym (bit_at-shift word from (k - from)) ∙ low.2 (k - from) (omega arith);
     }
 
-module _ (words : List ℕ) (p from bit : ℕ) (low : p ≤ from) (before : (r : ℕ) → p ≤ r → r < from → is_marked words r ≡ false)
+module _ (words : List ℕ) (p from bit : ℕ) (low : p ≤ from) (before : (r : ℕ) → p ≤ r → r < from
+    → is_marked words r ≡ false)
     (misses : (k : ℕ) → from % 64 ≤ k → k < bit → bit_at (get_or words (from / 64) 0) k ≡ 0) (bound : bit ≤ 64) where
   -- no point from p on is marked before the bit
   pub none_before : (r : ℕ) → p ≤ r → r < from / 64 * 64 + bit → is_marked words r ≡ false
@@ -60,27 +65,39 @@ module _ (words : List ℕ) (p from bit : ℕ) (low : p ≤ from) (before : (r :
   ]
 
   -- the bit's point is marked
-  pub is_marked-found : bit < 64 → bit_at (get_or words (from / 64) 0) bit ≡ 1 → is_marked words (from / 64 * 64 + bit) ≡ true
+  pub is_marked-found : bit < 64 → bit_at (get_or words (from / 64) 0) bit ≡ 1
+      → is_marked words (from / 64 * 64 + bit) ≡ true
   is_marked-found small hit = rw (div-mul-add (from / 64) 64 bit small, mod-mul-add (from / 64) 64 bit small, hit) refl
 
 module _ (words : List ℕ) (p q : ℕ) (low : p ≤ q) (before : (r : ℕ) → p ≤ r → r < q → is_marked words r ≡ false) where
   -- no point before the one found is in the set
   not_before : (r : ℕ) → p ≤ r → r < q → sets.contains (marked words) r ≡ false
-  not_before r l m = contains-marked words r ∙ ap (λ b. ltb r largest_points && b) (before r l m) ∙ and-false (ltb r largest_points)
+  not_before r l m = contains-marked words r ∙ ap (λ b. ltb r largest_points && b) (before r l m)
+      ∙ and-false (ltb r largest_points)
 
   -- the first of the set from p on is q, where q is a point
   pub first_some : is_marked words q ≡ true → (o : Option ℕ) → o ≡ cond (ltb q largest_points) (Some q) None
-      → IfSome o (λ x. (p ≤ x) × (x < largest_points) × (sets.contains (marked words) x ≡ true) × ((r : ℕ) → p ≤ r → r < x → sets.contains (marked words) r ≡ false))
+      → IfSome o (λ x. (p ≤ x) × (x < largest_points) × (sets.contains (marked words) x ≡ true)
+      × ((r : ℕ) → p ≤ r → r < x → sets.contains (marked words) r ≡ false))
   first_some hit o e = elim (cases_lt q largest_points) [
-    | inl l ↦ rw (e, lt-ltb q largest_points l) (low, l, contains-marked words q ∙ rw (lt-ltb q largest_points l, hit) refl, not_before)
+    | inl l ↦ rw (e, lt-ltb q largest_points l) (
+      low,
+      l,
+      contains-marked words q ∙ rw (lt-ltb q largest_points l, hit) refl,
+      not_before,
+    )
     | inr g ↦ rw (e, le-ltb q largest_points g) tt
   ]
 
   -- and where it is none, the set has no member from p on
-  pub first_none : (o : Option ℕ) → o ≡ cond (ltb q largest_points) (Some q) None → IfNone o ((r : ℕ) → p ≤ r → sets.contains (marked words) r ≡ false)
+  pub first_none : (o : Option ℕ) → o ≡ cond (ltb q largest_points) (Some q) None
+      → IfNone o ((r : ℕ) → p ≤ r → sets.contains (marked words) r ≡ false)
   first_none o e = elim (cases_lt q largest_points) [
     | inl l ↦ rw (e, lt-ltb q largest_points l) tt
-    | inr g ↦ rw (e, le-ltb q largest_points g) (λ r l. elim (cases_lt r q) [ inl m ↦ not_before r l m | inr m ↦ contains-above words r (omega arith) ])
+    | inr g ↦ rw (e, le-ltb q largest_points g) (λ r l. elim (cases_lt r q) [
+      | inl m ↦ not_before r l m
+      | inr m ↦ contains-above words r (omega arith)
+    ])
   ]
 
   -- where every point up to the largest board's last was passed, the set has no member from p on

@@ -15,14 +15,16 @@ use Rattle.go_rules.proofs.Tests.{and-false}
 use Rattle.go_base.specs.Bits.{set_words, is_marked, marked}
 
 -- the set that words keep has the points of the largest board that are marked
-pub contains-marked : (words : List ℕ) (q : ℕ) → sets.contains (marked words) q ≡ (ltb q largest_points && is_marked words q)
+pub contains-marked : (words : List ℕ) (q : ℕ)
+    → sets.contains (marked words) q ≡ (ltb q largest_points && is_marked words q)
 unfolding marked
 contains-marked words q = contains-set_below largest_points (is_marked words) q
 
 -- it has no more members than the largest board has points
 pub len-marked : (words : List ℕ) → sets.len (marked words) ≤ largest_points
 unfolding marked
-len-marked words = rw (len-set_below largest_points (is_marked words)) (count_below_at_most largest_points (is_marked words))
+len-marked words = rw (len-set_below largest_points (is_marked words))
+    (count_below_at_most largest_points (is_marked words))
 
 -- each word of a list of zeros is zero, and so is what stands past its end
 zeros_at : (n j : ℕ) → get_or (replicate {A = ℕ} n 0) j 0 ≡ zero
@@ -32,11 +34,13 @@ zeros_at (suc n) (suc j) = zeros_at n j
 
 -- no point is marked in words that are zero
 pub is_marked-none : (q : ℕ) → is_marked (replicate set_words 0) q ≡ false
-is_marked-none q = ap (λ n. eqb (bit_at n (q % 64)) 1) (zeros_at set_words (q / 64)) ∙ ap (λ n. eqb n 1) (bit_at-zero (q % 64))
+is_marked-none q = ap (λ n. eqb (bit_at n (q % 64)) 1) (zeros_at set_words (q / 64))
+    ∙ ap (λ n. eqb n 1) (bit_at-zero (q % 64))
 
 -- words that are zero keep the empty set
 pub marked-none : marked (replicate set_words 0) ≡ sets.empty
-marked-none = same_nat_set _ _ (λ q. contains-marked _ q ∙ ap (λ b. ltb q largest_points && b) (is_marked-none q) ∙ and-false (ltb q largest_points) ∙ sym (sets.contains-empty nat_cmp q))
+marked-none = same_nat_set _ _ (λ q. contains-marked _ q ∙ ap (λ b. ltb q largest_points && b) (is_marked-none q)
+    ∙ and-false (ltb q largest_points) ∙ sym (sets.contains-empty nat_cmp q))
 
 -- one more bit
 abbrev pub with_bit : List ℕ → ℕ → List ℕ
@@ -46,49 +50,61 @@ with_bit words p = set words (p / 64) (bit_or (get_or words (p / 64) 0) (1 * 2 ^
 pub is_marked-with_bit_same : (words : List ℕ) (p : ℕ) → p / 64 < length words → is_marked (with_bit words p) p ≡ true
 is_marked-with_bit_same words p h =
     let r : p % 64 < 64 = omega arith in
-    ap (λ n. eqb (bit_at n (p % 64)) 1) (get_or-set_same words (p / 64) _ 0 h) ∙ ap (λ n. eqb n 1) (bit_at_set_same w64 (get_or words (p / 64) 0) (p % 64) r)
+    ap (λ n. eqb (bit_at n (p % 64)) 1) (get_or-set_same words (p / 64) _ 0 h)
+    ∙ ap (λ n. eqb n 1) (bit_at_set_same w64 (get_or words (p / 64) 0) (p % 64) r)
 
 -- and each other point is marked as before
-pub is_marked-with_bit_other : (words : List ℕ) (p q : ℕ) → p / 64 < length words → q ≢ p → is_marked (with_bit words p) q ≡ is_marked words q
+pub is_marked-with_bit_other : (words : List ℕ) (p q : ℕ) → p / 64 < length words → q ≢ p
+    → is_marked (with_bit words p) q ≡ is_marked words q
 is_marked-with_bit_other words p q h ne =
     let r : p % 64 < 64 = omega arith in
     elim (cases_eq (q / 64) (p / 64)) [
       | inl e ↦
           let other : q % 64 ≢ p % 64 = λ f. ne (omega arith) in
-          rw e (ap (λ n. eqb (bit_at n (q % 64)) 1) (get_or-set_same words (p / 64) _ 0 h) ∙ ap (λ n. eqb n 1) (bit_at_set_other w64 (get_or words (p / 64) 0) (p % 64) r (q % 64) other))
+          rw e (ap (λ n. eqb (bit_at n (q % 64)) 1) (get_or-set_same words (p / 64) _ 0 h)
+          ∙ ap (λ n. eqb n 1) (bit_at_set_other w64 (get_or words (p / 64) 0) (p % 64) r (q % 64) other))
       | inr f ↦ ap (λ n. eqb (bit_at n (q % 64)) 1) (get_or-set_other words (p / 64) (q / 64) _ 0 f)
     ]
 
 -- with one more bit the set has one more member
-pub marked-with_bit : (words : List ℕ) (p : ℕ) → length words ≡ set_words → p < largest_points → marked (with_bit words p) ≡ sets.insert (marked words) p
+pub marked-with_bit : (words : List ℕ) (p : ℕ) → length words ≡ set_words → p < largest_points
+    → marked (with_bit words p) ≡ sets.insert (marked words) p
 marked-with_bit words p six h =
     let in_words : p / 64 < length words = omega arith in
     same_nat_set _ _ (λ q.
     contains-marked (with_bit words p) q
-    ∙ elim (cases_eq q p) as (λ _. (ltb q largest_points && is_marked (with_bit words p) q) ≡ (eqb q p || (ltb q largest_points && is_marked words q))) [
+    ∙ elim (cases_eq q p) as (λ _. (ltb q largest_points && is_marked (with_bit words p) q)
+    ≡ (eqb q p || (ltb q largest_points && is_marked words q))) [
       | inl e ↦ rw (e, eq-eqb p p refl, lt-ltb p largest_points h, is_marked-with_bit_same words p in_words) refl
       | inr ne ↦ rw (ne_eqb q p ne, is_marked-with_bit_other words p q in_words ne) refl
     ]
     ∙ sym (contains-insert_nat (marked words) p q ∙ ap (λ b. eqb q p || b) (contains-marked words q)))
 
 -- the code's test of a bit is that of the definition
-pub marked_bit : (words : List ℕ) (p : ℕ) → eqb (bit_and (get_or words (p / 64) 0 / 2 ^ (p % 64)) 1) 1 ≡ is_marked words p
+pub marked_bit : (words : List ℕ) (p : ℕ)
+    → eqb (bit_and (get_or words (p / 64) 0 / 2 ^ (p % 64)) 1) 1 ≡ is_marked words p
 marked_bit words p = ap (λ n. eqb n 1) (shr_and_one (get_or words (p / 64) 0) (p % 64))
 
 -- and so it tells whether the set has the point
-pub has_bit : (words : List ℕ) (p : ℕ) → p < largest_points → eqb (bit_and (get_or words (p / 64) 0 / 2 ^ (p % 64)) 1) 1 ≡ sets.contains (marked words) p
-has_bit words p h = marked_bit words p ∙ sym (contains-marked words p ∙ ap (λ b. b && is_marked words p) (lt-ltb p largest_points h))
+pub has_bit : (words : List ℕ) (p : ℕ) → p < largest_points
+    → eqb (bit_and (get_or words (p / 64) 0 / 2 ^ (p % 64)) 1) 1 ≡ sets.contains (marked words) p
+has_bit words p h = marked_bit words p ∙ sym
+    (contains-marked words p ∙ ap (λ b. b && is_marked words p) (lt-ltb p largest_points h))
 
 -- and counts one more, if it is new
-pub len-with_bit : (words : List ℕ) (p : ℕ) → length words ≡ set_words → p < largest_points → sets.contains (marked words) p ≡ false → sets.len (marked (with_bit words p)) ≡ sets.len (marked words) + 1
-len-with_bit words p six h new = ap sets.len (marked-with_bit words p six h) ∙ sets.len-insert nat_cmp_total (marked words) p ∙ ap (λ b. cond b (sets.len (marked words)) (sets.len (marked words) + 1)) new
+pub len-with_bit : (words : List ℕ) (p : ℕ) → length words ≡ set_words → p < largest_points
+    → sets.contains (marked words) p ≡ false → sets.len (marked (with_bit words p)) ≡ sets.len (marked words) + 1
+len-with_bit words p six h new =
+    ap sets.len (marked-with_bit words p six h) ∙ sets.len-insert nat_cmp_total (marked words) p
+    ∙ ap (λ b. cond b (sets.len (marked words)) (sets.len (marked words) + 1)) new
 
 -- a member that is inserted again changes nothing
 pub insert-member : (s : sets.FinSet nat_cmp) (p : ℕ) → sets.contains s p ≡ true → s ≡ sets.insert s p
-insert-member s p h = same_nat_set _ _ (λ q. elim (cases_eq q p) as (λ _. sets.contains s q ≡ sets.contains (sets.insert s p) q) [
-  | inl e ↦ rw (e, contains-insert_nat s p p, eq-eqb p p refl) h
-  | inr ne ↦ rw (contains-insert_nat s p q, ne_eqb q p ne) refl
-])
+insert-member s p h = same_nat_set _ _ (λ q.
+    elim (cases_eq q p) as (λ _. sets.contains s q ≡ sets.contains (sets.insert s p) q) [
+      | inl e ↦ rw (e, contains-insert_nat s p p, eq-eqb p p refl) h
+      | inr ne ↦ rw (contains-insert_nat s p q, ne_eqb q p ne) refl
+    ])
 
 -- no number above the points of the largest board is in the set
 pub contains-above : (words : List ℕ) (q : ℕ) → largest_points ≤ q → sets.contains (marked words) q ≡ false

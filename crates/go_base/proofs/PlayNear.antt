@@ -33,12 +33,14 @@ twice_self s cells p r on h = close_again s cells (alone p) r (close_alone s cel
 
 -- a neighbour of p, and what is close to an enemy there, is near what a play at p takes
 pub near_taken_from : (s : ℕ) (cells : List Cell) (c : Colour) (p q r : ℕ) → q < s * s → are_neighbours s p q ≡ true
-    → (alone q r || (same_cell (cell_at cells q) (stone_of (other c)) && neighbourhood_of s cells (alone q) r)) ≡ true → near_taken s cells c p r ≡ true
+    → (alone q r || (same_cell (cell_at cells q) (stone_of (other c)) && neighbourhood_of s cells (alone q) r)) ≡ true
+    → near_taken s cells c p r ≡ true
 unfolding near_taken
 near_taken_from s cells c p q r on near h = any_below_from (s * s) _ q on (and_from _ _ near h)
 
 -- Where each point of the paths from q holds the same on another board, the same is close there.
-close_moves : (s : ℕ) (a b : List Cell) (q : ℕ) → q < s * s → ((x : ℕ) → Path s a q x → cell_at b x ≡ cell_at a x) → (r : ℕ) → neighbourhood_of s a (alone q) r ≡ true → neighbourhood_of s b (alone q) r ≡ true
+close_moves : (s : ℕ) (a b : List Cell) (q : ℕ) → q < s * s → ((x : ℕ) → Path s a q x → cell_at b x ≡ cell_at a x)
+    → (r : ℕ) → neighbourhood_of s a (alone q) r ≡ true → neighbourhood_of s b (alone q) r ≡ true
 close_moves s a b q on same r h = elim (closeness s a (alone q) r h) [
   | within w ↦ close_whole s b (alone q) r (moved r w)
   | beside y r_on w n ↦ close_next s b (alone q) y r r_on (moved y w) n
@@ -51,7 +53,10 @@ close_moves s a b q on same r h = elim (closeness s a (alone q) r h) [
           let x_is : i.0 ≡ q = eqb-true i.0 q i.2 in
           let inside = IsInString-from_test s a q y (subst (λ x. is_in_string s a x y ≡ true) x_is i.3) in
           whole_string s b (alone q) q y on (alone_self q)
-          (is_is_in_string-from_fact s b q y on (record { stone = ap is_stone (same q start) ∙ inside.stone; path = path_keeps s a b q same inside.path }))
+          (is_is_in_string-from_fact s b q y on (record {
+            stone = ap is_stone (same q start) ∙ inside.stone;
+            path = path_keeps s a b q same inside.path;
+          }))
     ]
 
 -- a stone of c was put at p, and then the points of the set were emptied
@@ -70,7 +75,8 @@ record Joined (s : ℕ) (old : List Cell) (c : Colour) (p y : ℕ) : Type 0 wher
   inside : is_in_string s old x y ≡ true
   its : cell_at old y ≡ stone_of c
 
-module _ {s : ℕ} {old put after : List Cell} {c : Colour} {p : ℕ} {taken : sets.FinSet nat_cmp} (h : Leaves s old put after c p taken) where
+module _ {s : ℕ} {old put after : List Cell} {c : Colour} {p : ℕ} {taken : sets.FinSet nat_cmp}
+    (h : Leaves s old put after c p taken) where
   -- the stone stands at p
   put_here : cell_at put p ≡ stone_of c
   put_here = ap (λ t. cell_at t p) h.put_is ∙ at_put_same old p (stone_of c) (omega (arith, h.whole, h.on_board))
@@ -91,13 +97,15 @@ module _ {s : ℕ} {old put after : List Cell} {c : Colour} {p : ℕ} {taken : s
       let both = and_parts _ _ found.2 in
       let close = close_side found.0 found.1 both.0 in
       elim (or_cases _ _ both.1) [
-        | inl e ↦ close_again s old (alone p) r (subst (λ x. neighbourhood_of s old (alone p) x ≡ true) (sym (eqb-true r found.0 e)) close)
+        | inl e ↦ close_again s old (alone p) r (subst (λ x. neighbourhood_of s old (alone p) x ≡ true)
+            (sym (eqb-true r found.0 e)) close)
         | inr f ↦
             let parts = and_parts _ _ f in
             let enemy = same_cell-true _ _ parts.0 in
             close_point s old (neighbourhood_of s old (alone p)) found.0 close r
             (close_moves s put old found.0 found.1
-            (λ x w. put_there x (λ e. enemy_differs c (sym (path_same s put found.0 w ∙ enemy) ∙ ap (cell_at put) e ∙ put_here))) r parts.1)
+            (λ x w. put_there x (λ e. enemy_differs c
+            (sym (path_same s put found.0 w ∙ enemy) ∙ ap (cell_at put) e ∙ put_here))) r parts.1)
       ]
 
   -- the stones of c that stand after the play stood before it, but for the one at p
@@ -105,7 +113,8 @@ module _ {s : ℕ} {old put after : List Cell} {c : Colour} {p : ℕ} {taken : s
   stood y on ne e =
       let at = ap (λ t. cell_at t y) h.after_is ∙ get_or-map-range_with_len _ 0 (s * s) y y Empty on (omega arith) in
       elim (cases_Bool (sets.contains taken y)) [
-        | inl t ↦ absurd (both_ways (is_stone Empty) refl (ap is_stone (sym (at ∙ ap (λ b. cond b Empty (cell_at put y)) t) ∙ e) ∙ stone_is c))
+        | inl t ↦ absurd (both_ways (is_stone Empty) refl
+            (ap is_stone (sym (at ∙ ap (λ b. cond b Empty (cell_at put y)) t) ∙ e) ∙ stone_is c))
         | inr f ↦ put_there y ne ∙ sym (at ∙ ap (λ b. cond b Empty (cell_at put y)) f) ∙ e
       ]
 
@@ -117,14 +126,23 @@ module _ {s : ℕ} {old put after : List Cell} {c : Colour} {p : ℕ} {taken : s
     | inr ne ↦
         let its = stood r on ne (same ∙ own) in
         elim (joined own path) [
-          | inl e ↦ inr (record { x = r; x_on = on; x_near = subst (λ z. are_neighbours s z r ≡ true) e near; inside = string_self s old r on (ap is_stone its ∙ stone_is c); its = its })
+          | inl e ↦ inr (record {
+            x = r;
+            x_on = on;
+            x_near = subst (λ z. are_neighbours s z r ≡ true) e near;
+            inside = string_self s old r on (ap is_stone its ∙ stone_is c);
+            its = its;
+          })
           | inr j ↦
               let w = IsInString-from_test s old j.x q j.inside in
               inr (record {
                 x = j.x;
                 x_on = j.x_on;
                 x_near = j.x_near;
-                inside = is_is_in_string-from_fact s old j.x r j.x_on (record { stone = w.stone; path = step w.path on near (its ∙ sym j.its ∙ path_same s old j.x w.path) });
+                inside = is_is_in_string-from_fact s old j.x r j.x_on (record {
+                  stone = w.stone;
+                  path = step w.path on near (its ∙ sym j.its ∙ path_same s old j.x w.path);
+                });
                 its = its;
               })
         ]
@@ -132,7 +150,8 @@ module _ {s : ℕ} {old put after : List Cell} {c : Colour} {p : ℕ} {taken : s
 
   -- a stone that the play joins is in the string of a neighbour of p
   whole_joined : (y : ℕ) → Joined s old c p y → whole_strings_of s old (neighbourhood_of s old (alone p)) y ≡ true
-  whole_joined y j = whole_string s old (neighbourhood_of s old (alone p)) j.x y j.x_on (close_side j.x j.x_on j.x_near) j.inside
+  whole_joined y j = whole_string s old (neighbourhood_of s old (alone p)) j.x y j.x_on
+      (close_side j.x j.x_on j.x_near) j.inside
 
   -- a point of the string of the played stone is p, or was joined by it
   own_cases : (y : ℕ) → whole_strings_of s after (alone p) y ≡ true → (y ≡ p) ⊎ Joined s old c p y
@@ -146,9 +165,11 @@ module _ {s : ℕ} {old put after : List Cell} {c : Colour} {p : ℕ} {taken : s
     where
       own : is_stone (cell_at after p) ≡ true → cell_at after p ≡ stone_of c
       own stone =
-          let at = ap (λ t. cell_at t p) h.after_is ∙ get_or-map-range_with_len _ 0 (s * s) p p Empty h.on_board (omega arith) in
+          let at = ap (λ t. cell_at t p) h.after_is
+          ∙ get_or-map-range_with_len _ 0 (s * s) p p Empty h.on_board (omega arith) in
           elim (cases_Bool (sets.contains taken p)) [
-            | inl t ↦ absurd (both_ways (is_stone Empty) refl (ap is_stone (sym (at ∙ ap (λ b. cond b Empty (cell_at put p)) t)) ∙ stone))
+            | inl t ↦ absurd (both_ways (is_stone Empty) refl
+                (ap is_stone (sym (at ∙ ap (λ b. cond b Empty (cell_at put p)) t)) ∙ stone))
             | inr f ↦ at ∙ ap (λ b. cond b Empty (cell_at put p)) f ∙ put_here
           ]
 

@@ -24,10 +24,12 @@ pub record PlaysOn (s : ℕ) (old put after : List Cell) (c : Colour) (p : ℕ) 
   pub taken_is : TakenBeside s put c p → taken ≡ taken_at s put c
   pub after_is : after ≡ map (λ q. cond (sets.contains taken q) Empty (cell_at put q)) (range_with_len 0 (s * s))
 
-module _ {s : ℕ} {old put after : List Cell} {c : Colour} {p : ℕ} {taken : sets.FinSet nat_cmp} (h : PlaysOn s old put after c p taken) where
+module _ {s : ℕ} {old put after : List Cell} {c : Colour} {p : ℕ} {taken : sets.FinSet nat_cmp}
+    (h : PlaysOn s old put after c p taken) where
   -- what the play takes hangs on a neighbour of its point
   pub plays_beside : TakenBeside s put c p
-  plays_beside = subst (λ t. TakenBeside s t c p) (sym h.put_is) (taken_beside (board_of s old) h.good c p h.on_board (empty_from _ h.is_empty))
+  plays_beside = subst (λ t. TakenBeside s t c p) (sym h.put_is)
+      (taken_beside (board_of s old) h.good c p h.on_board (empty_from _ h.is_empty))
 
   -- what was gathered is what the rules take
   pub plays_taken : taken ≡ taken_at s put c
@@ -39,7 +41,8 @@ module _ {s : ℕ} {old put after : List Cell} {c : Colour} {p : ℕ} {taken : s
 
   -- the cells afterwards are those of the rules
   pub plays_after : after ≡ after_on (board_of s old) c p
-  plays_after = h.after_is ∙ ap (λ n. map (λ q. cond (sets.contains taken q) Empty (cell_at put q)) (range_with_len 0 n)) (sym plays_length)
+  plays_after = h.after_is ∙ ap (λ n. map (λ q. cond (sets.contains taken q) Empty (cell_at put q))
+      (range_with_len 0 n)) (sym plays_length)
       ∙ after_from s put c taken plays_taken plays_length ∙ ap (λ t. cells_after s t c) h.put_is
 
   -- a stone without a liberty is suicide by the rules
@@ -47,9 +50,15 @@ module _ {s : ℕ} {old put after : List Cell} {c : Colour} {p : ℕ} {taken : s
   plays_suicide z = sym (free_suicide (board_of s old) c p h.is_empty (ap (λ t. liberties s t p) (sym plays_after) ∙ z))
 
   -- else the play is done by the rules
-  pub plays_done : (ban : Option (ℕ × Colour)) → liberties s after p ≢ 0 → ((put : List Cell) → taken ≡ taken_at s put c → ban ≡ ban_after s put after c p)
+  pub plays_done : (ban : Option (ℕ × Colour)) → liberties s after p ≢ 0
+      → ((put : List Cell) → taken ≡ taken_at s put c → ban ≡ ban_after s put after c p)
       → play_free (board_of s old) c p ≡ Ok (record { size = s; cells = after; ban = ban })
   plays_done ban nz b =
       sym (free_done (board_of s old) c p h.is_empty (λ z. nz (ap (λ t. liberties s t p) plays_after ∙ z)))
-      ∙ ap (λ (t : List Cell). Ok (record { size = s; cells = t; ban = ban_after s (put_on (board_of s old) c p) t c p })) (sym plays_after)
-      ∙ ap (λ (t : Option (ℕ × Colour)). Ok (record { size = s; cells = after; ban = t })) (sym (b (put_on (board_of s old) c p) (plays_taken ∙ ap (λ t. taken_at s t c) h.put_is)))
+      ∙ ap (λ (t : List Cell). Ok (record {
+        size = s;
+        cells = t;
+        ban = ban_after s (put_on (board_of s old) c p) t c p;
+      })) (sym plays_after)
+      ∙ ap (λ (t : Option (ℕ × Colour)). Ok (record { size = s; cells = after; ban = t }))
+      (sym (b (put_on (board_of s old) c p) (plays_taken ∙ ap (λ t. taken_at s t c) h.put_is)))

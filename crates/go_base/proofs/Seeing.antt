@@ -35,16 +35,21 @@ same_cells : (n m : ℕ) (a b : List ℕ) (p : ℕ) → m ≡ n → b ≡ a → 
 same_cells n m a b p size bits = ap (λ k. tells_cell k b p) size ∙ ap (λ w. tells_cell n w p) bits
 
 -- and the same bans
-same_bans : (n m : ℕ) (u v : Option (ℕ × Colour)) (a b : List ℕ) (p : ℕ) (c : Colour) (forbidden : Bool) → m ≡ n → v ≡ u → b ≡ a → tells_ban m v b p c forbidden ≡ tells_ban n u a p c forbidden
+same_bans : (n m : ℕ) (u v : Option (ℕ × Colour)) (a b : List ℕ) (p : ℕ) (c : Colour) (forbidden : Bool) → m ≡ n → v ≡ u
+    → b ≡ a → tells_ban m v b p c forbidden ≡ tells_ban n u a p c forbidden
 same_bans n m u v a b p c forbidden size ban bits =
-    ap (λ k. tells_ban k v b p c forbidden) size ∙ ap (λ k. tells_ban n k b p c forbidden) ban ∙ ap (λ w. tells_ban n u w p c forbidden) bits
+    ap (λ k. tells_ban k v b p c forbidden) size ∙ ap (λ k. tells_ban n k b p c forbidden) ban
+    ∙ ap (λ w. tells_ban n u w p c forbidden) bits
 
 -- a position that agrees has the size of the facts
-on_facts : (f : Facts) (pos : BoardState) (p : ℕ) → Agrees (told f) pos → p < pos.size * pos.size → ltb p (f.size * f.size) ≡ true
-on_facts f pos p a on = lt-ltb p (f.size * f.size) (subst (λ n. p < n * n) (a.each (SizeIs f.size) (eq-eqb f.size f.size refl)) on)
+on_facts : (f : Facts) (pos : BoardState) (p : ℕ) → Agrees (told f) pos → p < pos.size * pos.size
+    → ltb p (f.size * f.size) ≡ true
+on_facts f pos p a on = lt-ltb p (f.size * f.size)
+    (subst (λ n. p < n * n) (a.each (SizeIs f.size) (eq-eqb f.size f.size refl)) on)
 
 -- The cell of a point p of a position was seen, over facts that agree with it.
-module _ (f g : Facts) (pos : BoardState) (a : Agrees (told f) pos) (p : ℕ) (on : p < pos.size * pos.size) (cell : Cell) (here : cell ≡ cell_at pos.cells p) (sees : SeesCell f g p cell) where
+module _ (f g : Facts) (pos : BoardState) (a : Agrees (told f) pos) (p : ℕ) (on : p < pos.size * pos.size) (cell : Cell)
+    (here : cell ≡ cell_at pos.cells p) (sees : SeesCell f g p cell) where
   -- it is among the facts
   pub cell_told : told g (CellIs p cell) ≡ true
   cell_told = and_from _ _ (ap (λ n. ltb p (n * n)) sees.size ∙ on_facts f pos p a on) sees.here
@@ -55,8 +60,10 @@ module _ (f g : Facts) (pos : BoardState) (a : Agrees (told f) pos) (p : ℕ) (o
     where
       kept : (fact : Fact) → told f fact ≡ true → told g fact ≡ true
       kept (SizeIs n) h = eq-eqb g.size n (sees.size ∙ eqb-true f.size n h)
-      kept (BanIs q c b) h = same_bans f.size g.size f.ban g.ban (asked_of f c) (asked_of g c) q c b sees.size sees.ban (sees.bans c) ∙ h
-      kept (CellIs q x) h = let parts = and_parts _ _ h in and_from _ _ (ap (λ n. ltb q (n * n)) sees.size ∙ parts.0) (sees.kept x q parts.1)
+      kept (BanIs q c b) h = same_bans f.size g.size f.ban g.ban (asked_of f c) (asked_of g c) q c b sees.size sees.ban
+          (sees.bans c) ∙ h
+      kept (CellIs q x) h = let parts = and_parts _ _ h in
+          and_from _ _ (ap (λ n. ltb q (n * n)) sees.size ∙ parts.0) (sees.kept x q parts.1)
 
   -- what is told of a cell now was told before, or is the cell of p
   was : (q : ℕ) (x : Cell) → told g (CellIs q x) ≡ true → (told f (CellIs q x) ≡ true) ⊎ ((q ≡ p) × (x ≡ cell))
@@ -71,7 +78,8 @@ module _ (f g : Facts) (pos : BoardState) (a : Agrees (told f) pos) (p : ℕ) (o
 
   -- and so was what is told of a ban
   ban_was : (q : ℕ) (c : Colour) (b : Bool) → told g (BanIs q c b) ≡ true → told f (BanIs q c b) ≡ true
-  ban_was q c b h = sym (same_bans f.size g.size f.ban g.ban (asked_of f c) (asked_of g c) q c b sees.size sees.ban (sees.bans c)) ∙ h
+  ban_was q c b h = sym (same_bans f.size g.size f.ban g.ban (asked_of f c) (asked_of g c) q c b sees.size sees.ban
+      (sees.bans c)) ∙ h
 
   -- what came is about p
   pub cell_near : AddsIn (told f) (told g) (alone p)
@@ -89,10 +97,14 @@ module _ (f g : Facts) (pos : BoardState) (a : Agrees (told f) pos) (p : ℕ) (o
       each : (fact : Fact) → told g fact ≡ true → IsFactOf pos fact
       each (SizeIs n) h = a.each (SizeIs n) (size_was n h)
       each (BanIs q c b) h = a.each (BanIs q c b) (ban_was q c b h)
-      each (CellIs q x) h = elim (was q x h) [ inl o ↦ a.each (CellIs q x) o | inr e ↦ ap (cell_at pos.cells) e.0 ∙ sym here ∙ sym e.1 ]
+      each (CellIs q x) h = elim (was q x h) [
+        | inl o ↦ a.each (CellIs q x) o
+        | inr e ↦ ap (cell_at pos.cells) e.0 ∙ sym here ∙ sym e.1
+      ]
 
 -- It was asked whether the ban of a position forbids c to play at p, over facts that agree with it and have its ban.
-module _ (f g : Facts) (pos : BoardState) (a : Agrees (told f) pos) (same : f.ban ≡ pos.ban) (p : ℕ) (on : p < pos.size * pos.size) (c : Colour) (asks : AsksBan f g p c) where
+module _ (f g : Facts) (pos : BoardState) (a : Agrees (told f) pos) (same : f.ban ≡ pos.ban) (p : ℕ)
+    (on : p < pos.size * pos.size) (c : Colour) (asks : AsksBan f g p c) where
   -- the facts still have the ban of the position
   now_same : g.ban ≡ pos.ban
   now_same = asks.ban ∙ same
@@ -101,7 +113,8 @@ module _ (f g : Facts) (pos : BoardState) (a : Agrees (told f) pos) (same : f.ba
   pub ban_told : told g (BanIs p c (is_banned pos.ban c p)) ≡ true
   ban_told =
       and_from _ _ (ap (λ n. ltb p (n * n)) asks.size ∙ on_facts f pos p a on)
-      (and_from _ _ asks.here (ap (λ b. same_bool (is_banned b c p) (is_banned pos.ban c p)) now_same ∙ same_bool-refl (is_banned pos.ban c p)))
+      (and_from _ _ asks.here (ap (λ b. same_bool (is_banned b c p) (is_banned pos.ban c p)) now_same
+      ∙ same_bool-refl (is_banned pos.ban c p)))
 
   -- and so is what was
   pub ban_grows : Grows (told f) (told g)
@@ -122,7 +135,8 @@ module _ (f g : Facts) (pos : BoardState) (a : Agrees (told f) pos) (same : f.ba
     where
       added : (fact : Fact) → told g fact ≡ true → (told f fact ≡ true) ⊎ IsAbout (alone p) fact
       added (SizeIs n) h = inl (eq-eqb f.size n (sym asks.size ∙ eqb-true g.size n h))
-      added (CellIs q x) h = inl (sym (same_cells f.size g.size (seen_as f x) (seen_as g x) q asks.size (asks.cells x)) ∙ h)
+      added (CellIs q x) h = inl (sym (same_cells f.size g.size (seen_as f x) (seen_as g x) q asks.size (asks.cells x))
+          ∙ h)
       added (BanIs q k b) h =
           let parts = and_parts _ _ h in
           let more = and_parts _ _ parts.1 in
@@ -138,18 +152,21 @@ module _ (f g : Facts) (pos : BoardState) (a : Agrees (told f) pos) (same : f.ba
     where
       each : (fact : Fact) → told g fact ≡ true → IsFactOf pos fact
       each (SizeIs n) h = a.each (SizeIs n) (eq-eqb f.size n (sym asks.size ∙ eqb-true g.size n h))
-      each (CellIs q x) h = a.each (CellIs q x) (sym (same_cells f.size g.size (seen_as f x) (seen_as g x) q asks.size (asks.cells x)) ∙ h)
+      each (CellIs q x) h = a.each (CellIs q x)
+          (sym (same_cells f.size g.size (seen_as f x) (seen_as g x) q asks.size (asks.cells x)) ∙ h)
       each (BanIs q k b) h =
           let more = and_parts _ _ (and_parts _ _ h).1 in
           sym (ap (λ n. is_banned n k q) now_same) ∙ same_bool-true (is_banned g.ban k q) b more.1
 
 -- No cell was seen, and no ban asked for.
-module _ (f : Facts) (n : ℕ) (size : f.size ≡ n) (cells : (cell : Cell) (q : ℕ) → is_marked (seen_as f cell) q ≡ false) (bans : (c : Colour) (q : ℕ) → is_marked (asked_of f c) q ≡ false) where
+module _ (f : Facts) (n : ℕ) (size : f.size ≡ n) (cells : (cell : Cell) (q : ℕ)
+    → is_marked (seen_as f cell) q ≡ false) (bans : (c : Colour) (q : ℕ) → is_marked (asked_of f c) q ≡ false) where
   -- no fact but the size was seen
   pub none_told : (fact : Fact) → told f fact ≡ true → fact ≡ SizeIs n
   none_told (SizeIs m) h = ap SizeIs (sym (eqb-true f.size m h) ∙ size)
   none_told (CellIs q x) h = absurd (both_ways (is_marked (seen_as f x) q) (cells x q) (and_parts _ _ h).1)
-  none_told (BanIs q c b) h = absurd (both_ways (is_marked (asked_of f c) q) (bans c q) (and_parts _ _ (and_parts _ _ h).1).0)
+  none_told (BanIs q c b) h =
+      absurd (both_ways (is_marked (asked_of f c) q) (bans c q) (and_parts _ _ (and_parts _ _ h).1).0)
 
   -- so each position of this size agrees
   pub none_agrees : (pos : BoardState) → IsPosition pos → pos.size ≡ n → Agrees (told f) pos

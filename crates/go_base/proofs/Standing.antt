@@ -40,7 +40,8 @@ unseen cell x seen differ h = not_from_false seen (elim (cases_Bool seen) [
 ])
 
 -- a cell that is what was seen is admitted
-admitted_all : (e b w : Bool) (cell : Cell) → ((x : Cell) → seen_in e b w x ≡ true → cell ≡ x) → is_admitted cell e b w ≡ true
+admitted_all : (e b w : Bool) (cell : Cell) → ((x : Cell) → seen_in e b w x ≡ true → cell ≡ x)
+    → is_admitted cell e b w ≡ true
 admitted_all e b w Empty h = and_from _ _ (unseen Empty Black b refl (h Black)) (unseen Empty White w refl (h White))
 admitted_all e b w Black h = and_from _ _ (unseen Black Empty e refl (h Empty)) (unseen Black White w refl (h White))
 admitted_all e b w White h = and_from _ _ (unseen White Empty e refl (h Empty)) (unseen White Black b refl (h Black))
@@ -61,16 +62,19 @@ ban_test f pos q c = not (is_marked (asked_of f c) q) || same_bool (is_banned po
 
 -- the cell at q may be what was seen
 abbrev cell_test : Facts → Cell → ℕ → Bool
-cell_test f cell q = is_admitted cell (is_marked (seen_as f Empty) q) (is_marked (seen_as f Black) q) (is_marked (seen_as f White) q)
+cell_test f cell q = is_admitted cell (is_marked (seen_as f Empty) q) (is_marked (seen_as f Black) q)
+    (is_marked (seen_as f White) q)
 
 -- the tests of a point say that its facts hold
-pub holds_test : (f : Facts) (pos : BoardState) (q : ℕ) (a b c r : Bool) → a ≡ cell_test f (cell_at pos.cells q) q → b ≡ ban_test f pos q black → c ≡ ban_test f pos q white
+pub holds_test : (f : Facts) (pos : BoardState) (q : ℕ) (a b c r : Bool) → a ≡ cell_test f (cell_at pos.cells q) q
+    → b ≡ ban_test f pos q black → c ≡ ban_test f pos q white
     → r ≡ (a && b && c) → (r ≡ true) ↔ HoldsAt f pos q
 holds_test f pos q a b c r ea eb ec er = (
   λ t.
       let parts = and_parts _ _ (sym er ∙ t) in
       let both = and_parts _ _ parts.0 in
-      let one = λ (x : Cell). admitted_one (is_marked (seen_as f Empty) q) (is_marked (seen_as f Black) q) (is_marked (seen_as f White) q) (cell_at pos.cells q) x (sym ea ∙ both.0) in
+      let one = λ (x : Cell). admitted_one (is_marked (seen_as f Empty) q) (is_marked (seen_as f Black) q)
+      (is_marked (seen_as f White) q) (cell_at pos.cells q) x (sym ea ∙ both.0) in
       record {
         cell = elim [
           | Empty ↦ λ h. one Empty h
@@ -83,13 +87,16 @@ holds_test f pos q a b c r ea eb ec er = (
         ];
       },
   λ h.
-      let cells = admitted_all (is_marked (seen_as f Empty) q) (is_marked (seen_as f Black) q) (is_marked (seen_as f White) q) (cell_at pos.cells q)
+      let cells = admitted_all (is_marked (seen_as f Empty) q) (is_marked (seen_as f Black) q)
+      (is_marked (seen_as f White) q) (cell_at pos.cells q)
       (elim [ Empty ↦ h.cell Empty | Black ↦ h.cell Black | White ↦ h.cell White ]) in
-      er ∙ and_from _ _ (and_from _ _ (ea ∙ cells) (eb ∙ asked_all _ _ _ (h.ban black))) (ec ∙ asked_all _ _ _ (h.ban white)),
+      er ∙ and_from _ _ (and_from _ _ (ea ∙ cells) (eb ∙ asked_all _ _ _ (h.ban black)))
+      (ec ∙ asked_all _ _ _ (h.ban white)),
 )
 
 -- where the facts about each point hold, the position agrees
-pub stands_all : (f : Facts) (pos : BoardState) → IsPosition pos → f.size ≡ pos.size → ((q : ℕ) → q < pos.size * pos.size → HoldsAt f pos q) → Agrees (told f) pos
+pub stands_all : (f : Facts) (pos : BoardState) → IsPosition pos → f.size ≡ pos.size
+    → ((q : ℕ) → q < pos.size * pos.size → HoldsAt f pos q) → Agrees (told f) pos
 stands_all f pos good e h = record { sound = good; each = each }
   where
     on : (q : ℕ) (b : Bool) → (ltb q (f.size * f.size) && b) ≡ true → (q < pos.size * pos.size) × (b ≡ true)
@@ -98,10 +105,12 @@ stands_all f pos good e h = record { sound = good; each = each }
     each : (fact : Fact) → told f fact ≡ true → IsFactOf pos fact
     each (SizeIs n) t = sym e ∙ eqb-true f.size n t
     each (CellIs q x) t = let i = on q _ t in (h q i.0).cell x i.1
-    each (BanIs q c b) t = let i = on q _ t in let parts = and_parts _ _ i.1 in (h q i.0).ban c parts.0 ∙ same_bool-true _ _ parts.1
+    each (BanIs q c b) t = let i = on q _ t in let parts = and_parts _ _ i.1 in
+        (h q i.0).ban c parts.0 ∙ same_bool-true _ _ parts.1
 
 -- and where it agrees they hold
-pub stands_each : (f : Facts) (pos : BoardState) → Agrees (told f) pos → (f.size ≡ pos.size) × ((q : ℕ) → q < pos.size * pos.size → HoldsAt f pos q)
+pub stands_each : (f : Facts) (pos : BoardState) → Agrees (told f) pos
+    → (f.size ≡ pos.size) × ((q : ℕ) → q < pos.size * pos.size → HoldsAt f pos q)
 stands_each f pos a =
     let e : f.size ≡ pos.size = sym (a.each (SizeIs f.size) (eq-eqb f.size f.size refl)) in (
       e,
@@ -109,6 +118,7 @@ stands_each f pos a =
           let t = lt-ltb q (f.size * f.size) (subst (λ n. q < n * n) (sym e) on) in
           record {
             cell = λ x k. a.each (CellIs q x) (and_from _ _ t k);
-            ban = λ c k. a.each (BanIs q c (is_banned f.ban c q)) (and_from _ _ t (and_from _ _ k (same_bool-refl (is_banned f.ban c q))));
+            ban = λ c k. a.each (BanIs q c (is_banned f.ban c q))
+                (and_from _ _ t (and_from _ _ k (same_bool-refl (is_banned f.ban c q))));
           },
     )

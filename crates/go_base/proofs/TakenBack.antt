@@ -19,28 +19,39 @@ use Rattle.go_base.specs.TakenBack.{before_play}
 use Rattle.go_base.proofs.PlayedOn.{PlaysOn, plays_taken, plays_beside}
 
 -- the cells before a play, point by point
-before_at : (s : ℕ) (c : Colour) (p : ℕ) (taken : sets.FinSet nat_cmp) (now old : List Cell) → length old ≡ s * s → cell_at old p ≡ Empty
-    → ((k : ℕ) → k < s * s → k ≢ p → cell_at old k ≡ cond (sets.contains taken k) (stone_of (other c)) (cell_at now k)) → before_play s c p taken now ≡ old
+before_at : (s : ℕ) (c : Colour) (p : ℕ) (taken : sets.FinSet nat_cmp) (now old : List Cell) → length old ≡ s * s
+    → cell_at old p ≡ Empty
+    → ((k : ℕ) → k < s * s → k ≢ p → cell_at old k ≡ cond (sets.contains taken k) (stone_of (other c)) (cell_at now k))
+    → before_play s c p taken now ≡ old
 unfolding before_play
 before_at s c p taken now old whole empty other_points =
-    sym (fill_by_all (λ q. cond (eqb q p) Empty (cond (sets.contains taken q) (stone_of (other c)) (cell_at now q))) old (s * s) Empty whole (λ k on. elim (cases_eq k p) [
-      | inl e ↦ ap (cell_at old) e ∙ empty ∙ ap (λ b. cond b Empty (cond (sets.contains taken k) (stone_of (other c)) (cell_at now k))) (sym (eq-eqb k p e))
-      | inr ne ↦ other_points k on ne ∙ ap (λ b. cond b Empty (cond (sets.contains taken k) (stone_of (other c)) (cell_at now k))) (sym (ne_eqb k p ne))
+    sym (fill_by_all (λ q. cond (eqb q p) Empty (cond (sets.contains taken q) (stone_of (other c)) (cell_at now q))) old
+    (s * s) Empty whole (λ k on. elim (cases_eq k p) [
+      | inl e ↦ ap (cell_at old) e ∙ empty ∙ ap
+          (λ b. cond b Empty (cond (sets.contains taken k) (stone_of (other c)) (cell_at now k))) (sym (eq-eqb k p e))
+      | inr ne ↦ other_points k on ne ∙ ap (λ b.
+          cond b Empty (cond (sets.contains taken k) (stone_of (other c)) (cell_at now k))) (sym (ne_eqb k p ne))
     ]))
 
 -- the taken stones stand again, and then p was emptied
 pub put_back : (s : ℕ) (c : Colour) (p : ℕ) (taken : sets.FinSet nat_cmp) (now back : List Cell) → p < s * s
-    → back ≡ map (λ q. cond (sets.contains taken q) (stone_of (other c)) (cell_at now q)) (range_with_len 0 (s * s)) → set back p Empty ≡ before_play s c p taken now
+    → back ≡ map (λ q. cond (sets.contains taken q) (stone_of (other c)) (cell_at now q)) (range_with_len 0 (s * s))
+    → set back p Empty ≡ before_play s c p taken now
 put_back s c p taken now back on is =
     let whole : length back ≡ s * s = ap length is ∙ length-map-range_with_len _ 0 (s * s) in
-    sym (before_at s c p taken now (set back p Empty) (length-set back p Empty ∙ whole) (at_put_same back p Empty (omega (arith, whole, on)))
-    (λ k k_on ne. at_put_other back p k Empty ne ∙ ap (λ t. cell_at t k) is ∙ get_or-map-range_with_len _ 0 (s * s) k k Empty k_on (omega arith)))
+    sym (before_at s c p taken now (set back p Empty) (length-set back p Empty ∙ whole)
+    (at_put_same back p Empty (omega (arith, whole, on)))
+    (λ k k_on ne. at_put_other back p k Empty ne ∙ ap (λ t. cell_at t k) is
+    ∙ get_or-map-range_with_len _ 0 (s * s) k k Empty k_on (omega arith)))
 
 -- boards that hold the same on each point are the same
-same_board : (n : ℕ) (a b : List Cell) → length a ≡ n → length b ≡ n → ((k : ℕ) → k < n → cell_at a k ≡ cell_at b k) → a ≡ b
-same_board n a b la lb h = fill_by_all (cell_at b) a n Empty la h ∙ sym (fill_by_all (cell_at b) b n Empty lb (λ k on. refl))
+same_board : (n : ℕ) (a b : List Cell) → length a ≡ n → length b ≡ n → ((k : ℕ) → k < n → cell_at a k ≡ cell_at b k)
+    → a ≡ b
+same_board n a b la lb h =
+    fill_by_all (cell_at b) a n Empty la h ∙ sym (fill_by_all (cell_at b) b n Empty lb (λ k on. refl))
 
-module _ {s : ℕ} {old put after : List Cell} {c : Colour} {p : ℕ} {taken : sets.FinSet nat_cmp} (h : PlaysOn s old put after c p taken) where
+module _ {s : ℕ} {old put after : List Cell} {c : Colour} {p : ℕ} {taken : sets.FinSet nat_cmp}
+    (h : PlaysOn s old put after c p taken) where
   -- the stone stood at p
   put_here : cell_at put p ≡ stone_of c
   put_here = ap (λ t. cell_at t p) h.put_is ∙ at_put_same old p (stone_of c) (omega (arith, h.good.cells, h.on_board))
@@ -61,13 +72,15 @@ module _ {s : ℕ} {old put after : List Cell} {c : Colour} {p : ℕ} {taken : s
   taken_is : (q : ℕ) → sets.contains taken q ≡ true → (q < s * s) × (is_taken s put c q ≡ true)
   unfolding taken_at
   taken_is q t =
-      let parts = and_parts _ _ (sym (ap (λ x. sets.contains x q) (plays_taken h) ∙ contains-set_below (s * s) (is_taken s put c) q) ∙ t) in
+      let parts = and_parts _ _
+      (sym (ap (λ x. sets.contains x q) (plays_taken h) ∙ contains-set_below (s * s) (is_taken s put c) q) ∙ t) in
       (ltb-true _ _ parts.0, parts.1)
 
   -- and these are all
   is_among : (q : ℕ) → q < s * s → is_taken s put c q ≡ true → sets.contains taken q ≡ true
   unfolding taken_at
-  is_among q on t = ap (λ x. sets.contains x q) (plays_taken h) ∙ contains-set_below (s * s) (is_taken s put c) q ∙ and_from _ _ (lt-ltb q (s * s) on) t
+  is_among q on t = ap (λ x. sets.contains x q) (plays_taken h) ∙ contains-set_below (s * s) (is_taken s put c) q
+      ∙ and_from _ _ (lt-ltb q (s * s) on) t
 
   -- the played stone is not taken
   own_stays : sets.contains taken p ≡ false
@@ -92,7 +105,11 @@ module _ {s : ℕ} {old put after : List Cell} {c : Colour} {p : ℕ} {taken : s
 
   -- a play without a liberty took nothing
   took_none : liberties s after p ≡ 0 → (k : ℕ) → sets.contains taken k ≡ false
-  took_none z k = elim (cases_Bool (sets.contains taken k)) [ inl t ↦ (let alive = taker_lives k t in absurd (omega (arith, alive, z))) | inr f ↦ f ]
+  took_none z k = elim (cases_Bool (sets.contains taken k)) [
+    | inl t ↦ (let alive = taker_lives k t in
+        absurd (omega (arith, alive, z)))
+    | inr f ↦ f
+  ]
 
   -- so a play that took something has one
   pub takers_live : taken ≢ sets.empty → liberties s after p ≢ 0
@@ -100,14 +117,22 @@ module _ {s : ℕ} {old put after : List Cell} {c : Colour} {p : ℕ} {taken : s
 
   -- what was taken stands again, and the point is empty
   pub plays_back : before_play s c p taken after ≡ old
-  plays_back = before_at s c p taken after old h.good.cells (empty_from _ h.is_empty) (λ k on ne. put_there k ne ∙ elim (cases_Bool (sets.contains taken k)) [
-    | inl t ↦ (taken_parts s put c k (taken_is k t).1).0 ∙ ap (λ b. cond b (stone_of (other c)) (cell_at after k)) (sym t)
-    | inr f ↦ sym (ap (λ b. cond b (stone_of (other c)) (cell_at after k)) f ∙ after_at k on ∙ ap (λ b. cond b Empty (cell_at put k)) f)
-  ])
+  plays_back = before_at s c p taken after old h.good.cells (empty_from _ h.is_empty)
+      (λ k on ne. put_there k ne ∙ elim (cases_Bool (sets.contains taken k)) [
+        | inl t ↦ (taken_parts s put c k (taken_is k t).1).0
+            ∙ ap (λ b. cond b (stone_of (other c)) (cell_at after k)) (sym t)
+        | inr f ↦ sym (ap (λ b. cond b (stone_of (other c)) (cell_at after k)) f ∙ after_at k on
+            ∙ ap (λ b. cond b Empty (cell_at put k)) f)
+      ])
 
   -- a suicide took nothing, so that the board without its stone is the one before
   pub suicide_back : liberties s after p ≡ 0 → set after p Empty ≡ old
-  suicide_back z = same_board (s * s) (set after p Empty) old (length-set after p Empty ∙ after_length) h.good.cells (λ k on. elim (cases_eq k p) [
-    | inl e ↦ ap (cell_at (set after p Empty)) e ∙ at_put_same after p Empty (omega (arith, after_length, h.on_board)) ∙ sym (ap (cell_at old) e ∙ empty_from _ h.is_empty)
-    | inr ne ↦ at_put_other after p k Empty ne ∙ after_at k on ∙ ap (λ b. cond b Empty (cell_at put k)) (took_none z k) ∙ sym (put_there k ne)
-  ])
+  suicide_back z = same_board (s * s) (set after p Empty) old (length-set after p Empty ∙ after_length) h.good.cells
+      (λ k on. elim (cases_eq k p) [
+        | inl e ↦ ap (cell_at (set after p Empty)) e
+            ∙ at_put_same after p Empty (omega (arith, after_length, h.on_board))
+            ∙ sym (ap (cell_at old) e ∙ empty_from _ h.is_empty)
+        | inr ne ↦ at_put_other after p k Empty ne ∙ after_at k on
+            ∙ ap (λ b. cond b Empty (cell_at put k)) (took_none z k)
+            ∙ sym (put_there k ne)
+      ])

@@ -24,13 +24,17 @@ use Rattle.go_base.proofs.Beside.{neighbour_at-all}
 pub record Takes (s : ℕ) (put : List Cell) (c : Colour) (p n : ℕ) (taken : sets.FinSet nat_cmp) : Type 0 where
   pub only : (q : ℕ) → sets.contains taken q ≡ true → (q < s * s) × (is_taken s put c q ≡ true)
   pub whole : HasWholeStrings s put taken
-  pub all : (k : ℕ) → k < n → (r : ℕ) → neighbour_at s p k ≡ Some r → is_taken s put c r ≡ true → (q : ℕ) → Path s put r q → sets.contains taken q ≡ true
+  pub all : (k : ℕ) → k < n → (r : ℕ) → neighbour_at s p k ≡ Some r → is_taken s put c r ≡ true → (q : ℕ)
+      → Path s put r q → sets.contains taken q ≡ true
 
 -- no side was visited
-pub Takes-none : (s : ℕ) (put : List Cell) (c : Colour) (p : ℕ) (taken : sets.FinSet nat_cmp) → taken ≡ sets.empty → Takes s put c p 0 taken
+pub Takes-none : (s : ℕ) (put : List Cell) (c : Colour) (p : ℕ) (taken : sets.FinSet nat_cmp) → taken ≡ sets.empty
+    → Takes s put c p 0 taken
 Takes-none s put c p taken e = record {
-  only = λ q h. absurd (both_ways (sets.contains taken q) (ap (λ t. sets.contains t q) e ∙ sets.contains-empty nat_cmp q) h);
-  whole = λ q h. absurd (both_ways (sets.contains taken q) (ap (λ t. sets.contains t q) e ∙ sets.contains-empty nat_cmp q) h);
+  only = λ q h. absurd (both_ways (sets.contains taken q)
+      (ap (λ t. sets.contains t q) e ∙ sets.contains-empty nat_cmp q) h);
+  whole = λ q h. absurd (both_ways (sets.contains taken q)
+      (ap (λ t. sets.contains t q) e ∙ sets.contains-empty nat_cmp q) h);
   all = λ k l. absurd (omega arith);
 }
 
@@ -47,54 +51,70 @@ Takes-skip s put c p n taken h none = record {
 }
 
 -- a point that a path leads to is in the string
-string_has : (s : ℕ) (cells : List Cell) (r q : ℕ) → r < s * s → is_stone (cell_at cells r) ≡ true → Path s cells r q → sets.contains (string_at s cells r) q ≡ true
+string_has : (s : ℕ) (cells : List Cell) (r q : ℕ) → r < s * s → is_stone (cell_at cells r) ≡ true → Path s cells r q
+    → sets.contains (string_at s cells r) q ≡ true
 unfolding string_at
 string_has s cells r q on stone path =
-    contains-set_below (s * s) (is_in_string s cells r) q ∙ and_from _ _ (lt-ltb q (s * s) (path_on_board s cells r on path)) (is_is_in_string-from_fact s cells r q on (record { stone = stone; path = path }))
+    contains-set_below (s * s) (is_in_string s cells r) q
+    ∙ and_from _ _ (lt-ltb q (s * s) (path_on_board s cells r on path))
+    (is_is_in_string-from_fact s cells r q on (record { stone = stone; path = path }))
 
 -- a path leads to each point of the string
 string_path : (s : ℕ) (cells : List Cell) (r q : ℕ) → sets.contains (string_at s cells r) q ≡ true → Path s cells r q
 unfolding string_at
-string_path s cells r q h = (IsInString-from_test s cells r q (and_parts _ _ (sym (contains-set_below (s * s) (is_in_string s cells r) q) ∙ h)).1).path
+string_path s cells r q h =
+    (IsInString-from_test s cells r q (and_parts _ _
+    (sym (contains-set_below (s * s) (is_in_string s cells r) q) ∙ h)).1).path
 
 -- the next side gave a string that is taken
-Takes-add : (s : ℕ) (put : List Cell) (c : Colour) (p n r : ℕ) (taken new : sets.FinSet nat_cmp) → Takes s put c p n taken → r < s * s
-    → neighbour_at s p n ≡ Some r → is_taken s put c r ≡ true → new ≡ sets.union taken (string_at s put r) → Takes s put c p (n + 1) new
+Takes-add : (s : ℕ) (put : List Cell) (c : Colour) (p n r : ℕ) (taken new : sets.FinSet nat_cmp)
+    → Takes s put c p n taken → r < s * s
+    → neighbour_at s p n ≡ Some r → is_taken s put c r ≡ true → new ≡ sets.union taken (string_at s put r)
+    → Takes s put c p (n + 1) new
 Takes-add s put c p n r taken new h on e t is =
-    let has = λ (q : ℕ). ap (λ x. sets.contains x q) is ∙ sets.contains-union nat_cmp_total taken (string_at s put r) q in
+    let has = λ (q : ℕ). ap (λ x. sets.contains x q) is
+    ∙ sets.contains-union nat_cmp_total taken (string_at s put r) q in
     record {
       only = λ q b. elim (or_cases _ _ (sym (has q) ∙ b)) [
         | inl before ↦ h.only q before
-        | inr now ↦ let path = string_path s put r q now in (path_on_board s put r on path, taken_whole s put c r q on t path)
+        | inr now ↦ let path = string_path s put r q now in
+            (path_on_board s put r on path, taken_whole s put c r q on t path)
       ];
       whole = λ q b x i. has x ∙ elim (or_cases _ _ (sym (has q) ∙ b)) [
         | inl before ↦ or_left _ _ (h.whole q before x i)
-        | inr now ↦ or_right _ _ (string_has s put r x on (ap is_stone (taken_parts s put c r t).0 ∙ stone_is (other c)) (path_on s put r q (string_path s put r q now) (string_path s put q x i)))
+        | inr now ↦ or_right _ _ (string_has s put r x on (ap is_stone (taken_parts s put c r t).0 ∙ stone_is (other c))
+            (path_on s put r q (string_path s put r q now) (string_path s put q x i)))
       ];
       all = λ k l r' e' t' q path. has q ∙ elim (cases_eq k n) [
         | inl f ↦
             let g : r ≡ r' = (let k : Some r ≡ Some r' = sym e ∙ ap (neighbour_at s p) (sym f) ∙ e' in cc) in
-            or_right _ _ (string_has s put r q on (ap is_stone (taken_parts s put c r t).0 ∙ stone_is (other c)) (subst (λ x. Path s put x q) (sym g) path))
+            or_right _ _ (string_has s put r q on (ap is_stone (taken_parts s put c r t).0 ∙ stone_is (other c))
+            (subst (λ x. Path s put x q) (sym g) path))
         | inr ne ↦ or_left _ _ (h.all k (omega arith) r' e' t' q path)
       ];
     }
 
 -- the next side gave a point, whose string came where it is taken
-pub Takes-next : (s : ℕ) (put : List Cell) (c : Colour) (p n r : ℕ) (taken new : sets.FinSet nat_cmp) → Takes s put c p n taken → r < s * s → neighbour_at s p n ≡ Some r
+pub Takes-next : (s : ℕ) (put : List Cell) (c : Colour) (p n r : ℕ) (taken new : sets.FinSet nat_cmp)
+    → Takes s put c p n taken → r < s * s → neighbour_at s p n ≡ Some r
     → new ≡ cond (is_taken s put c r) (sets.union taken (string_at s put r)) taken → Takes s put c p (n + 1) new
 Takes-next s put c p n r taken new h on e is = elim (cases_Bool (is_taken s put c r)) [
-  | inl t ↦ Takes-add s put c p n r taken new h on e t (is ∙ ap (λ b. cond b (sets.union taken (string_at s put r)) taken) t)
-  | inr f ↦ subst (Takes s put c p (n + 1)) (sym (is ∙ ap (λ b. cond b (sets.union taken (string_at s put r)) taken) f)) (Takes-skip s put c p n taken h (λ x e' t.
+  | inl t ↦ Takes-add s put c p n r taken new h on e t
+      (is ∙ ap (λ b. cond b (sets.union taken (string_at s put r)) taken) t)
+  | inr f ↦ subst (Takes s put c p (n + 1)) (sym (is ∙ ap (λ b. cond b (sets.union taken (string_at s put r)) taken) f))
+      (Takes-skip s put c p n taken h (λ x e' t.
       let same : r ≡ x = (let k : Some r ≡ Some x = sym e ∙ e' in cc) in
       both_ways (is_taken s put c x) (ap (is_taken s put c) (sym same) ∙ f) t))
 ]
 
 -- the next side gave nothing
-pub Takes-nothing : (s : ℕ) (put : List Cell) (c : Colour) (p n : ℕ) (taken : sets.FinSet nat_cmp) → Takes s put c p n taken → ((r : ℕ) → neighbour_at s p n ≡ Some r → ⊥) → Takes s put c p (n + 1) taken
+pub Takes-nothing : (s : ℕ) (put : List Cell) (c : Colour) (p n : ℕ) (taken : sets.FinSet nat_cmp)
+    → Takes s put c p n taken → ((r : ℕ) → neighbour_at s p n ≡ Some r → ⊥) → Takes s put c p (n + 1) taken
 Takes-nothing s put c p n taken h none = Takes-skip s put c p n taken h (λ r e t. none r e)
 
 -- after the four sides all that the rules take is there
-pub Takes-all : (s : ℕ) (put : List Cell) (c : Colour) (p n : ℕ) (taken : sets.FinSet nat_cmp) → p < s * s → 4 ≤ n → Takes s put c p n taken → TakenBeside s put c p → taken ≡ taken_at s put c
+pub Takes-all : (s : ℕ) (put : List Cell) (c : Colour) (p n : ℕ) (taken : sets.FinSet nat_cmp) → p < s * s → 4 ≤ n
+    → Takes s put c p n taken → TakenBeside s put c p → taken ≡ taken_at s put c
 unfolding taken_at
 Takes-all s put c p n taken on four h beside =
     same_nat_set _ _ (λ q. same_tests _ _
@@ -107,25 +127,32 @@ Takes-all s put c p n taken on four h beside =
     ∙ sym (contains-set_below (s * s) (is_taken s put c) q))
 
 -- a stone that is there came with its string
-pub union_there : (s : ℕ) (put : List Cell) (q : ℕ) (taken : sets.FinSet nat_cmp) → HasWholeStrings s put taken → sets.contains taken q ≡ true → taken ≡ sets.union taken (string_at s put q)
+pub union_there : (s : ℕ) (put : List Cell) (q : ℕ) (taken : sets.FinSet nat_cmp) → HasWholeStrings s put taken
+    → sets.contains taken q ≡ true → taken ≡ sets.union taken (string_at s put q)
 union_there s put q taken whole h =
     same_nat_set _ _ (λ r. same_tests _ _
     (λ b. sets.contains-union nat_cmp_total taken (string_at s put q) r ∙ or_left _ _ b)
-    (λ b. elim (or_cases _ _ (sym (sets.contains-union nat_cmp_total taken (string_at s put q) r) ∙ b)) [ inl before ↦ before | inr now ↦ whole q h r now ]))
+    (λ b. elim (or_cases _ _ (sym (sets.contains-union nat_cmp_total taken (string_at s put q) r) ∙ b))
+    [ inl before ↦ before | inr now ↦ whole q h r now ]))
 
 -- an enemy's string that was found without a liberty is taken
-pub is_taken_from : (s : ℕ) (put : List Cell) (c : Colour) (q : ℕ) (stones : sets.FinSet nat_cmp) → cell_at put q ≡ stone_of (other c) → Some stones ≡ stones_without_liberty s put q
+pub is_taken_from : (s : ℕ) (put : List Cell) (c : Colour) (q : ℕ) (stones : sets.FinSet nat_cmp)
+    → cell_at put q ≡ stone_of (other c) → Some stones ≡ stones_without_liberty s put q
     → (is_taken s put c q ≡ true) × (stones ≡ string_at s put q)
 unfolding is_taken
-is_taken_from s put c q stones enemy is = let found = found_without s put q stones is in (and_from _ _ (same_cell-from _ _ enemy) (eq-eqb (liberties s put q) 0 found.1), found.2)
+is_taken_from s put c q stones enemy is = let found = found_without s put q stones is in
+    (and_from _ _ (same_cell-from _ _ enemy) (eq-eqb (liberties s put q) 0 found.1), found.2)
 
 -- an enemy's string in which a liberty was found is not
-pub not_taken_from : (s : ℕ) (put : List Cell) (c : Colour) (q : ℕ) → cell_at put q ≡ stone_of (other c) → None ≡ stones_without_liberty s put q → is_taken s put c q ≡ false
+pub not_taken_from : (s : ℕ) (put : List Cell) (c : Colour) (q : ℕ) → cell_at put q ≡ stone_of (other c)
+    → None ≡ stones_without_liberty s put q → is_taken s put c q ≡ false
 unfolding is_taken
 not_taken_from s put c q enemy is =
-    rw (same_cell-from _ _ enemy) (ne_eqb (liberties s put q) 0 (none_without s put q (ap is_stone enemy ∙ stone_is (other c)) is))
+    rw (same_cell-from _ _ enemy) (ne_eqb (liberties s put q) 0
+    (none_without s put q (ap is_stone enemy ∙ stone_is (other c)) is))
 
 -- what is no enemy is not taken
-pub no_enemy_taken : (s : ℕ) (put : List Cell) (c : Colour) (q : ℕ) → same_cell (cell_at put q) (stone_of (other c)) ≡ false → is_taken s put c q ≡ false
+pub no_enemy_taken : (s : ℕ) (put : List Cell) (c : Colour) (q : ℕ)
+    → same_cell (cell_at put q) (stone_of (other c)) ≡ false → is_taken s put c q ≡ false
 unfolding is_taken
 no_enemy_taken s put c q f = rw f refl

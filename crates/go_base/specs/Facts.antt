@@ -42,7 +42,8 @@ pub record AddsIn (before now : Fact → Bool) (S : ℕ → Bool) : Type 0 where
   pub added : (fact : Fact) → IsTrue (now fact) → IsTrue (before fact) ⊎ IsAbout S fact
 
 -- a position that agrees with more agrees with less
-pub agrees_before : {before now : Fact → Bool} {pos : BoardState} → Grows before now → Agrees now pos → Agrees before pos
+pub agrees_before : {before now : Fact → Bool} {pos : BoardState} → Grows before now → Agrees now pos
+    → Agrees before pos
 agrees_before g a = record { sound = a.sound; each = λ fact h. a.each fact (g.kept fact h) }
 
 -- what was seen is seen
@@ -54,7 +55,8 @@ pub Grows-trans : {a b c : Fact → Bool} → Grows a b → Grows b c → Grows 
 Grows-trans g h = record { kept = λ fact i. h.kept fact (g.kept fact i) }
 
 -- a position that agrees has the size that was seen
-pub same_size : {seen : Fact → Bool} {pos : BoardState} {n : ℕ} → IsTrue (seen (SizeIs n)) → Agrees seen pos → pos.size ≡ n
+pub same_size : {seen : Fact → Bool} {pos : BoardState} {n : ℕ} → IsTrue (seen (SizeIs n)) → Agrees seen pos
+    → pos.size ≡ n
 same_size {n} told a = a.each (SizeIs n) told
 
 -- nothing came
@@ -62,7 +64,8 @@ pub AddsIn-refl : (seen : Fact → Bool) (S : ℕ → Bool) → AddsIn seen seen
 AddsIn-refl seen S = record { added = λ _ h. inl h }
 
 -- a fact about a point of a set is about a point of a larger one
-IsAbout-mono : (S T : ℕ → Bool) (fact : Fact) → ((p : ℕ) → IsTrue (S p) → IsTrue (T p)) → IsAbout S fact → IsAbout T fact
+IsAbout-mono : (S T : ℕ → Bool) (fact : Fact) → ((p : ℕ) → IsTrue (S p) → IsTrue (T p)) → IsAbout S fact
+    → IsAbout T fact
 IsAbout-mono S T (SizeIs n) h i = tt
 IsAbout-mono S T (CellIs p cell) h i = h p i
 IsAbout-mono S T (BanIs p c forbidden) h i = h p i
@@ -72,8 +75,10 @@ pub AddsIn-trans : {a b c : Fact → Bool} {S : ℕ → Bool} → AddsIn a b S �
 AddsIn-trans g h = record { added = λ fact i. elim (h.added fact i) [ inl j ↦ g.added fact j | inr j ↦ inr j ] }
 
 -- what came about a set came about a larger one
-pub AddsIn-mono : {a b : Fact → Bool} {S T : ℕ → Bool} → AddsIn a b S → ((p : ℕ) → IsTrue (S p) → IsTrue (T p)) → AddsIn a b T
-AddsIn-mono {S} {T} g m = record { added = λ fact i. elim (g.added fact i) [ inl j ↦ inl j | inr j ↦ inr (IsAbout-mono S T fact m j) ] }
+pub AddsIn-mono : {a b : Fact → Bool} {S T : ℕ → Bool} → AddsIn a b S → ((p : ℕ) → IsTrue (S p) → IsTrue (T p))
+    → AddsIn a b T
+AddsIn-mono {S} {T} g m =
+    record { added = λ fact i. elim (g.added fact i) [ inl j ↦ inl j | inr j ↦ inr (IsAbout-mono S T fact m j) ] }
 
 -- a fact about what an option holds has one proof at most where the fact has
 IfSome-prop : {A : Type 0} (o : Option A) (P : A → Type 0) → ((a : A) → IsProp (P a)) → IsProp (IfSome o P)
@@ -81,7 +86,8 @@ IfSome-prop None P h = hlevel
 IfSome-prop (Some a) P h = h a
 
 -- that a ban's point is empty has one proof at most
-ban-prop : (pos : BoardState) → IsProp (IfSome pos.ban (λ b. (b.0 < pos.size * pos.size) × (cell_at pos.cells b.0 ≡ Empty)))
+ban-prop : (pos : BoardState)
+    → IsProp (IfSome pos.ban (λ b. (b.0 < pos.size * pos.size) × (cell_at pos.cells b.0 ≡ Empty)))
 ban-prop pos = IfSome-prop pos.ban _ (λ b. hlevel (le_prop, ⊎_set))
 
 -- that a board is a position has one proof at most

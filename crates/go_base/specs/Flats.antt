@@ -25,11 +25,13 @@ KeepsRest-trans u v w a b = record {
 }
 
 -- a board that kept its cells had as many before
-pub KeepsRest-back : (u v : Flat) → KeepsRest u v → (length v.cells ≡ largest_points) × (v.size ≤ largest_size) → (length u.cells ≡ largest_points) × (u.size ≤ largest_size)
+pub KeepsRest-back : (u v : Flat) → KeepsRest u v → (length v.cells ≡ largest_points) × (v.size ≤ largest_size)
+    → (length u.cells ≡ largest_points) × (u.size ≤ largest_size)
 KeepsRest-back u v a b = (sym a.length ∙ b.0, subst (λ n. n ≤ largest_size) a.size b.1)
 
 -- the cells of the board are as many as its points
-pub flat_whole : (v : Flat) → (length v.cells ≡ largest_points) × (v.size ≤ largest_size) → length (take (v.size * v.size) v.cells) ≡ v.size * v.size
+pub flat_whole : (v : Flat) → (length v.cells ≡ largest_points) × (v.size ≤ largest_size)
+    → length (take (v.size * v.size) v.cells) ≡ v.size * v.size
 flat_whole v a =
     let small : v.size * v.size ≤ largest_points = mul-le v.size v.size largest_size largest_size a.1 a.1 in
     length-take' (v.size * v.size) v.cells (subst (λ n. v.size * v.size ≤ n) (sym a.0) small)

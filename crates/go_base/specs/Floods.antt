@@ -14,14 +14,19 @@ use Rattle.go_base.specs.Trails.{has_point, add_once}
 -- of the first n sides of q, the neighbours that hold what q holds are there now, and nothing else came
 pub record Spreads (s : ℕ) (cells : List Cell) (q n : ℕ) (old new : List ℕ) : Type 0 where
   pub kept : (more : List ℕ) × (new ≡ old ++ more)
-  pub all : (side : ℕ) → side < n → (r : ℕ) → neighbour_at s q side ≡ Some r → cell_at cells r ≡ cell_at cells q → has_point new r ≡ true
-  pub only : (r : ℕ) → has_point new r ≡ true → (has_point old r ≡ true) ⊎ ((r < s * s) × (are_neighbours s q r ≡ true) × (cell_at cells r ≡ cell_at cells q))
+  pub all : (side : ℕ) → side < n → (r : ℕ) → neighbour_at s q side ≡ Some r → cell_at cells r ≡ cell_at cells q
+      → has_point new r ≡ true
+  pub only : (r : ℕ) → has_point new r ≡ true
+      → (has_point old r ≡ true) ⊎ ((r < s * s) × (are_neighbours s q r ≡ true) × (cell_at cells r ≡ cell_at cells q))
 
 -- of the first n sides of q, the neighbours whose cell passes the test are there now, and nothing else came
-pub record Gathers (s : ℕ) (cells : List Cell) (test : Cell → Bool) (q n : ℕ) (old new : set.FinSet nat_cmp) : Type 0 where
+pub record Gathers (s : ℕ) (cells : List Cell) (test : Cell
+    → Bool) (q n : ℕ) (old new : set.FinSet nat_cmp) : Type 0 where
   pub kept : (r : ℕ) → set.contains old r ≡ true → set.contains new r ≡ true
-  pub all : (side : ℕ) → side < n → (r : ℕ) → neighbour_at s q side ≡ Some r → test (cell_at cells r) ≡ true → set.contains new r ≡ true
-  pub only : (r : ℕ) → set.contains new r ≡ true → (set.contains old r ≡ true) ⊎ ((r < s * s) × (are_neighbours s q r ≡ true) × (test (cell_at cells r) ≡ true))
+  pub all : (side : ℕ) → side < n → (r : ℕ) → neighbour_at s q side ≡ Some r → test (cell_at cells r) ≡ true
+      → set.contains new r ≡ true
+  pub only : (r : ℕ) → set.contains new r ≡ true
+      → (set.contains old r ≡ true) ⊎ ((r < s * s) × (are_neighbours s q r ≡ true) × (test (cell_at cells r) ≡ true))
 
 -- what came is on the board
 abbrev pub AddsOnBoard : ℕ → List ℕ → List ℕ → Type 0
@@ -29,17 +34,20 @@ AddsOnBoard s old new = (r : ℕ) → has_point new r ≡ true → (has_point ol
 
 -- a flood over stones like own came to r, which holds this cell: an own stone goes on the trail, an empty point to the
 -- liberties, an enemy to the enemies
-pub record Visits (own cell : Cell) (r : ℕ) (old new : List ℕ) (free freed foes foed : set.FinSet nat_cmp) : Type 0 where
+pub record Visits (own cell : Cell) (r : ℕ) (old new : List ℕ)
+    (free freed foes foed : set.FinSet nat_cmp) : Type 0 where
   pub trail : new ≡ (if same_cell cell own then add_once old r else old)
   pub liberties : freed ≡ (if same_cell cell Empty then set.insert free r else free)
   pub enemies : foed ≡ (if is_enemy own cell then set.insert foes r else foes)
 
 -- a flood over stones like own went to the first n sides of q
-pub record SpreadsOut (s : ℕ) (cells : List Cell) (own : Cell) (q n : ℕ) (old new : List ℕ) (free freed foes foed : set.FinSet nat_cmp) : Type 0 where
+pub record SpreadsOut (s : ℕ) (cells : List Cell) (own : Cell) (q n : ℕ) (old new : List ℕ)
+    (free freed foes foed : set.FinSet nat_cmp) : Type 0 where
   pub stones : Spreads s cells q n old new
   pub liberties : Gathers s cells (λ cell. same_cell cell Empty) q n free freed
   pub enemies : Gathers s cells (is_enemy own) q n foes foed
 
 -- the enemy stones next to the string of p
 abbrev pub enemy_points : ℕ → List Cell → ℕ → set.FinSet nat_cmp
-enemy_points s cells p = set_below (s * s) (λ q. is_beside_string s cells p q && is_enemy (cell_at cells p) (cell_at cells q))
+enemy_points s cells p = set_below (s * s)
+    (λ q. is_beside_string s cells p q && is_enemy (cell_at cells p) (cell_at cells q))

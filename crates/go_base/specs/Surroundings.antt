@@ -14,7 +14,8 @@ is_only_liberty s cells q l = (liberties s cells q == 1) && is_liberty s cells q
 -- l is the one liberty of an enemy string that is next to the string of p
 unfoldable pub is_last_liberty_of_enemy : ℕ → List Cell → ℕ → ℕ → Bool
 is_last_liberty_of_enemy s cells p l =
-    any_below (s * s) (λ q. is_enemy (cell_at cells p) (cell_at cells q) && is_beside_string s cells p q && is_only_liberty s cells q l)
+    any_below (s * s) (λ q. is_enemy (cell_at cells p) (cell_at cells q) && is_beside_string s cells p q
+    && is_only_liberty s cells q l)
 
 -- the liberty of the string of q came where it is the only one, and nothing else did
 pub record AddsLast (s : ℕ) (cells : List Cell) (q : ℕ) (old new : set.FinSet nat_cmp) : Type 0 where
@@ -24,4 +25,5 @@ pub record AddsLast (s : ℕ) (cells : List Cell) (q : ℕ) (old new : set.FinSe
 
 -- the liberty of the string of each point seen is there, where it is the only one
 abbrev pub KnowsLast : ℕ → List Cell → set.FinSet nat_cmp → set.FinSet nat_cmp → Type 0
-KnowsLast s cells seen last = (q : ℕ) → set.contains seen q ≡ true → (l : ℕ) → is_only_liberty s cells q l ≡ true → set.contains last l ≡ true
+KnowsLast s cells seen last = (q : ℕ) → set.contains seen q ≡ true → (l : ℕ) → is_only_liberty s cells q l ≡ true
+    → set.contains last l ≡ true

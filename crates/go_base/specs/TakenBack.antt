@@ -11,14 +11,15 @@ use Rattle.go_rules.specs.Strings.{cell_at}
 use Rattle.go_rules.specs.Position.{other, stone_of}
 use Rattle.go_base.specs.declared.capture.Played.{Played}
 
--- the cells before c played at p and took these stones: the taken stones, which are the other colour's, stand again, and p is
--- empty
+-- the cells before c played at p and took these stones: the taken stones, which are the other colour's, stand again,
+-- and p is empty
 unfoldable pub before_play : ℕ → Colour → ℕ → set.FinSet nat_cmp → List Cell → List Cell
 before_play s c p taken cells =
-    map (λ q. if q == p then Empty else if set.contains taken q then stone_of (other c) else cell_at cells q) (range_with_len 0 (s * s))
+    map (λ q. if q == p then Empty else if set.contains taken q then stone_of (other c) else cell_at cells q)
+    (range_with_len 0 (s * s))
 
--- the cells before c tried to play at p, from those afterwards: of a play that was done those before it, and of a refused one
--- the same
+-- the cells before c tried to play at p, from those afterwards: of a play that was done those before it, and of a
+-- refused one the same
 abbrev pub cells_before : ℕ → Colour → ℕ → Result Played Illegal → List Cell → List Cell
 cells_before s c p (Ok played) cells = before_play s c p played.taken cells
 cells_before s c p (Err e) cells = cells

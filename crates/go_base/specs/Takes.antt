@@ -1,4 +1,5 @@
--- Where a stone was put on a position, it is next to each string that has no liberty; what is gathered side by side is whole strings.
+-- Where a stone was put on a position, it is next to each string that has no liberty; what is gathered side by side is
+-- whole strings.
 use Rattle.std.specs.Prelude.{◌≡◌, ℕ, ◌*◌, ◌<◌, ◌==◌, ◌&&◌, ◌||◌, Bool, true, List}
 use Rattle.std.specs.Ordering.{nat_cmp}
 use Rattle.std.specs.FinSet as set
@@ -14,12 +15,16 @@ use Rattle.go_base.specs.Views.{alone}
 
 -- what is taken after c put a stone at p hangs on a neighbour of p, which is taken too
 abbrev pub TakenBeside : ℕ → List Cell → Colour → ℕ → Type 0
-TakenBeside s put c p = (q : ℕ) → q < s * s → is_taken s put c q ≡ true → (x : ℕ) × (x < s * s) × (are_neighbours s p x ≡ true) × (is_taken s put c x ≡ true) × Path s put x q
+TakenBeside s put c p = (q : ℕ) → q < s * s → is_taken s put c q ≡ true
+    → (x : ℕ) × (x < s * s) × (are_neighbours s p x ≡ true) × (is_taken s put c x ≡ true) × Path s put x q
 
 -- with each stone the set has its whole string
 abbrev pub HasWholeStrings : ℕ → List Cell → set.FinSet nat_cmp → Type 0
-HasWholeStrings s cells stones = (q : ℕ) → set.contains stones q ≡ true → (r : ℕ) → set.contains (string_at s cells q) r ≡ true → set.contains stones r ≡ true
+HasWholeStrings s cells stones = (q : ℕ) → set.contains stones q ≡ true → (r : ℕ)
+    → set.contains (string_at s cells q) r ≡ true → set.contains stones r ≡ true
 
 -- r is a neighbour of p, or close to one that holds an enemy of c
 unfoldable pub near_taken : ℕ → List Cell → Colour → ℕ → ℕ → Bool
-near_taken s cells c p r = any_below (s * s) (λ q. are_neighbours s p q && ((r == q) || (same_cell (cell_at cells q) (stone_of (other c)) && neighbourhood_of s cells (alone q) r)))
+near_taken s cells c p r =
+    any_below (s * s) (λ q. are_neighbours s p q
+    && ((r == q) || (same_cell (cell_at cells q) (stone_of (other c)) && neighbourhood_of s cells (alone q) r)))

@@ -31,7 +31,8 @@ same_bool false false = true
 abbrev pub told : Facts → Fact → Bool
 told f (SizeIs n) = f.size == n
 told f (CellIs p cell) = nat_lt p (f.size * f.size) && is_marked (seen_as f cell) p
-told f (BanIs p c forbidden) = nat_lt p (f.size * f.size) && (is_marked (asked_of f c) p && same_bool (is_banned f.ban c p) forbidden)
+told f (BanIs p c forbidden) =
+    nat_lt p (f.size * f.size) && (is_marked (asked_of f c) p && same_bool (is_banned f.ban c p) forbidden)
 
 -- new has the facts of old, and what was seen to stand at p
 pub record SeesCell (old new : Facts) (p : ℕ) (cell : Cell) : Type 0 where
@@ -39,7 +40,8 @@ pub record SeesCell (old new : Facts) (p : ℕ) (cell : Cell) : Type 0 where
   pub ban : new.ban ≡ old.ban
   pub here : is_marked (seen_as new cell) p ≡ true
   pub kept : (x : Cell) (q : ℕ) → is_marked (seen_as old x) q ≡ true → is_marked (seen_as new x) q ≡ true
-  pub only : (x : Cell) (q : ℕ) → is_marked (seen_as new x) q ≡ true → (is_marked (seen_as old x) q ≡ true) ⊎ ((q ≡ p) × (x ≡ cell))
+  pub only : (x : Cell) (q : ℕ) → is_marked (seen_as new x) q ≡ true
+      → (is_marked (seen_as old x) q ≡ true) ⊎ ((q ≡ p) × (x ≡ cell))
   pub bans : (c : Colour) → asked_of new c ≡ asked_of old c
 
 -- new has the facts of old, and whether the ban forbids c to play at p
@@ -48,7 +50,8 @@ pub record AsksBan (old new : Facts) (p : ℕ) (c : Colour) : Type 0 where
   pub ban : new.ban ≡ old.ban
   pub here : is_marked (asked_of new c) p ≡ true
   pub kept : (k : Colour) (q : ℕ) → is_marked (asked_of old k) q ≡ true → is_marked (asked_of new k) q ≡ true
-  pub only : (k : Colour) (q : ℕ) → is_marked (asked_of new k) q ≡ true → (is_marked (asked_of old k) q ≡ true) ⊎ ((q ≡ p) × (k ≡ c))
+  pub only : (k : Colour) (q : ℕ) → is_marked (asked_of new k) q ≡ true
+      → (is_marked (asked_of old k) q ≡ true) ⊎ ((q ≡ p) × (k ≡ c))
   pub cells : (cell : Cell) → seen_as new cell ≡ seen_as old cell
 
 -- the facts about q are so on the position

@@ -5,7 +5,8 @@ use Rattle.go_rules.specs.Position.{BoardState}
 use Rattle.go_rules.specs.Board.{are_neighbours}
 
 -- only points of S were asked for, and the cells are as they were
-pub record Looks {V : Type 0} (cells : V → BoardState → List Cell) (asks : V → V → (ℕ → Bool) → Type 0) (old new : V) (S : ℕ → Bool) : Type 0 where
+pub record Looks {V : Type 0} (cells : V → BoardState → List Cell) (asks : V → V → (ℕ → Bool)
+    → Type 0) (old new : V) (S : ℕ → Bool) : Type 0 where
   pub asked : asks old new S
   pub same : (pos : BoardState) → cells new pos ≡ cells old pos
 

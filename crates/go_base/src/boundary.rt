@@ -19,9 +19,11 @@ fn add_least<V: View>(board: &mut V, q: Point, seen: &mut PointSet, least: &mut 
     ensures looks { Looks V.cells V.asks board.old board.new anywhere }
     ensures near { (pos : BoardState) → V.agrees board.new pos
         → V.asks board.old board.new (neighbourhood_of (V.rows board.old) (V.cells board.old pos) (alone q)) }
-    ensures adds { (pos : BoardState) → V.agrees board.new pos → KnowsLeast (V.rows board.old) (V.cells board.old pos) seen.old least.old
+    ensures adds { (pos : BoardState) → V.agrees board.new pos
+        → KnowsLeast (V.rows board.old) (V.cells board.old pos) seen.old least.old
         → AddsLeast (V.rows board.old) (V.cells board.old pos) q least.old least.new }
-    ensures knows { (pos : BoardState) → V.agrees board.new pos → KnowsLeast (V.rows board.old) (V.cells board.old pos) seen.old least.old
+    ensures knows { (pos : BoardState) → V.agrees board.new pos
+        → KnowsLeast (V.rows board.old) (V.cells board.old pos) seen.old least.old
         → KnowsLeast (V.rows board.old) (V.cells board.old pos) seen.new least.new }
 {
     if seen.has(q) {
@@ -39,7 +41,8 @@ pub fn boundary_of<V: View>(board: &mut V, p: Point) -> PointSet
     requires { p < V.rows board.old * V.rows board.old }
     ensures looks { Looks V.cells V.asks board.old board.new anywhere }
     ensures near { (pos : BoardState) → V.agrees board.new pos
-        → V.asks board.old board.new (neighbourhood_of (V.rows board.old) (V.cells board.old pos) (neighbourhood_of (V.rows board.old) (V.cells board.old pos) (alone p))) }
+        → V.asks board.old board.new (neighbourhood_of (V.rows board.old) (V.cells board.old pos)
+        (neighbourhood_of (V.rows board.old) (V.cells board.old pos) (alone p))) }
     ensures over { (pos : BoardState) → V.agrees board.new pos
         → result ≡ boundary_points (V.rows board.old) (V.cells board.old pos) p }
 {

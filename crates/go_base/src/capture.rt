@@ -21,17 +21,22 @@ use crate::view::View;
 use crate::without_liberty::string_without_liberty;
 use go_rules::{Cell, Colour, Illegal};
 
-/// Adds the stones of the string of q to the taken ones, where they are enemies of c without a liberty. A string that is among the
-/// taken ones already is not searched again.
+/// Adds the stones of the string of q to the taken ones, where they are enemies of c without a liberty. A string that
+/// is among the taken ones already is not searched again.
 fn take<V: View>(board: &mut V, c: Colour, q: Point, taken: &mut PointSet)
     requires on_board { q < V.rows board.old * V.rows board.old }
     requires small { q < largest_points }
     ensures looks { Looks V.cells V.asks board.old board.new anywhere }
-    ensures over { (pos : BoardState) → V.agrees board.new pos → HasWholeStrings (V.rows board.old) (V.cells board.old pos) taken.old
-        → taken.new ≡ (if is_taken (V.rows board.old) (V.cells board.old pos) c q then set.union taken.old (string_at (V.rows board.old) (V.cells board.old pos) q) else taken.old) }
-    ensures on_board { (r : ℕ) → IsTrue (set.contains taken.new r) → IsTrue (set.contains taken.old r) ⊎ (r < V.rows board.old * V.rows board.old) }
+    ensures over { (pos : BoardState) → V.agrees board.new pos
+        → HasWholeStrings (V.rows board.old) (V.cells board.old pos) taken.old
+        → taken.new ≡ (if is_taken (V.rows board.old) (V.cells board.old pos) c q then set.union taken.old
+        (string_at (V.rows board.old) (V.cells board.old pos) q) else taken.old) }
+    ensures on_board { (r : ℕ) → IsTrue (set.contains taken.new r)
+        → IsTrue (set.contains taken.old r) ⊎ (r < V.rows board.old * V.rows board.old) }
     ensures near { (pos : BoardState) → V.agrees board.new pos
-        → V.asks board.old board.new (λ r. alone q r || (same_cell (cell_at (V.cells board.old pos) q) (stone_of (other c)) && neighbourhood_of (V.rows board.old) (V.cells board.old pos) (alone q) r)) }
+        → V.asks board.old board.new (λ r. alone q r
+        || (same_cell (cell_at (V.cells board.old pos) q) (stone_of (other c))
+        && neighbourhood_of (V.rows board.old) (V.cells board.old pos) (alone q) r)) }
 {
     if taken.has(q) {
         return;
@@ -48,7 +53,8 @@ fn take<V: View>(board: &mut V, c: Colour, q: Point, taken: &mut PointSet)
 fn captured<V: View>(board: &mut V, c: Colour, p: Point) -> PointSet
     requires { p < V.rows board.old * V.rows board.old }
     ensures looks { Looks V.cells V.asks board.old board.new anywhere }
-    ensures over { (pos : BoardState) → V.agrees board.new pos → TakenBeside (V.rows board.old) (V.cells board.old pos) c p
+    ensures over { (pos : BoardState) → V.agrees board.new pos
+        → TakenBeside (V.rows board.old) (V.cells board.old pos) c p
         → result ≡ taken_at (V.rows board.old) (V.cells board.old pos) c }
     ensures on_board { (r : ℕ) → IsTrue (set.contains result r) → r < V.rows board.old * V.rows board.old }
     ensures near { (pos : BoardState) → V.agrees board.new pos
@@ -69,7 +75,8 @@ pub fn put_all<V: View>(board: &mut V, points: &PointSet, cell: Cell)
     requires { (r : ℕ) → IsTrue (set.contains points.now r) → r < V.rows board.old * V.rows board.old }
     ensures asks { V.asks board.old board.new nowhere }
     ensures over { (pos : BoardState) → V.agrees board.new pos
-        → V.cells board.new pos ≡ map (λ q. if set.contains points.now q then cell else cell_at (V.cells board.old pos) q) (range_with_len 0 (V.rows board.old * V.rows board.old)) }
+        → V.cells board.new pos ≡ map (λ q. if set.contains points.now q then cell else cell_at
+        (V.cells board.old pos) q) (range_with_len 0 (V.rows board.old * V.rows board.old)) }
 {
     let mut next = 0;
     while let Some(q) = points.first_from(next) {
@@ -78,8 +85,8 @@ pub fn put_all<V: View>(board: &mut V, points: &PointSet, cell: Cell)
     }
 }
 
-/// Whether the string of the stone at p has no liberty, where these stones were taken by it. A stone that took another has the liberty
-/// where that stood, so nothing is searched for it.
+/// Whether the string of the stone at p has no liberty, where these stones were taken by it. A stone that took another
+/// has the liberty where that stood, so nothing is searched for it.
 fn is_suicide<V: View>(board: &mut V, p: Point, taken: &PointSet) -> bool
     requires { p < V.rows board.old * V.rows board.old }
     ensures looks { Looks V.cells V.asks board.old board.new anywhere }
@@ -95,8 +102,9 @@ fn is_suicide<V: View>(board: &mut V, p: Point, taken: &PointSet) -> bool
     string_without_liberty(board, p).is_some()
 }
 
-/// The ban after c took these stones by the one at p: where one stone was taken by one that is alone and has one liberty, the other
-/// colour may not play where the taken one stood. The string of p is searched only where one stone was taken.
+/// The ban after c took these stones by the one at p: where one stone was taken by one that is alone and has one
+/// liberty, the other colour may not play where the taken one stood. The string of p is searched only where one stone
+/// was taken.
 pub fn ban_of<V: View>(
     board: &mut V,
     c: Colour,
@@ -105,7 +113,8 @@ pub fn ban_of<V: View>(
 ) -> Option<(Point, Colour)>
     requires { p < V.rows board.old * V.rows board.old }
     ensures looks { Looks V.cells V.asks board.old board.new anywhere }
-    ensures over { (pos : BoardState) → V.agrees board.new pos → (put : List Cell) → taken.now ≡ taken_at (V.rows board.old) put c
+    ensures over { (pos : BoardState) → V.agrees board.new pos → (put : List Cell)
+        → taken.now ≡ taken_at (V.rows board.old) put c
         → result ≡ ban_after (V.rows board.old) put (V.cells board.old pos) c p }
     ensures near { (pos : BoardState) → V.agrees board.new pos
         → V.asks board.old board.new (neighbourhood_of (V.rows board.old) (V.cells board.old pos) (alone p)) }
@@ -138,18 +147,23 @@ pub struct Played {
     pub ban: Option<(Point, Colour)>,
 }
 
-/// Plays c at p with no regard to a ban, and answers what it took and the new ban: Occupied or Suicide, and never Ko. After a
-/// refusal the board is as it was before. It takes no memory.
+/// Plays c at p with no regard to a ban, and answers what it took and the new ban: Occupied or Suicide, and never Ko.
+/// After a refusal the board is as it was before. It takes no memory.
 pub fn play_on<V: View>(board: &mut V, c: Colour, p: Point) -> Result<Played, Illegal>
     requires { p < V.rows board.old * V.rows board.old }
     ensures asks { V.asks board.old board.new anywhere }
-    ensures over { (pos : BoardState) → V.agrees board.new pos → IsPosition (board_of (V.rows board.old) (V.cells board.old pos))
-        → play_free (board_of (V.rows board.old) (V.cells board.old pos)) c p ≡ played_on (V.rows board.old) (V.cells board.new pos) (ban_or_refusal result) }
-    ensures undone { (pos : BoardState) → V.agrees board.new pos → IsPosition (board_of (V.rows board.old) (V.cells board.old pos))
+    ensures over { (pos : BoardState) → V.agrees board.new pos
+        → IsPosition (board_of (V.rows board.old) (V.cells board.old pos))
+        → play_free (board_of (V.rows board.old) (V.cells board.old pos)) c p
+        ≡ played_on (V.rows board.old) (V.cells board.new pos) (ban_or_refusal result) }
+    ensures undone { (pos : BoardState) → V.agrees board.new pos
+        → IsPosition (board_of (V.rows board.old) (V.cells board.old pos))
         → cells_before (V.rows board.old) c p result (V.cells board.new pos) ≡ V.cells board.old pos }
-    ensures taken_on_board { IfOk result (λ played. (q : ℕ) → IsTrue (set.contains played.taken q) → q < V.rows board.old * V.rows board.old) }
+    ensures taken_on_board { IfOk result (λ played. (q : ℕ) → IsTrue (set.contains played.taken q)
+        → q < V.rows board.old * V.rows board.old) }
     ensures near { (pos : BoardState) → V.agrees board.new pos
-        → V.asks board.old board.new (neighbourhood_of (V.rows board.old) (V.cells board.old pos) (neighbourhood_of (V.rows board.old) (V.cells board.old pos) (alone p))) }
+        → V.asks board.old board.new (neighbourhood_of (V.rows board.old) (V.cells board.old pos)
+        (neighbourhood_of (V.rows board.old) (V.cells board.old pos) (alone p))) }
 {
     if board.at(p) != Cell::Empty {
         return Err(Illegal::Occupied);

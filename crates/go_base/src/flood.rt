@@ -1,4 +1,5 @@
-//! Strings, their liberties and the enemy stones next to them, found by one flood over a board whose cells are told one by one.
+//! Strings, their liberties and the enemy stones next to them, found by one flood over a board whose cells are told one
+//! by one.
 
 ghost use Rattle.std.specs.Prelude.{◌≡◌, ◌≢◌, ◌⊎◌, ℕ, ◌*◌, ◌<◌, IsTrue, true};
 ghost use Rattle.std.specs.FinSet as set;
@@ -44,9 +45,11 @@ fn visit<V: View>(
     requires stone { own ≢ Cell.Empty }
     ensures looks { Looks V.cells V.asks board.old board.new (alone r) }
     ensures over { (pos : BoardState) → V.agrees board.new pos
-        → Visits own (cell_at (V.cells board.old pos) r) r trail.old trail.new liberties.old liberties.new enemies.old enemies.new }
+        → Visits own (cell_at (V.cells board.old pos) r) r trail.old trail.new liberties.old liberties.new enemies.old
+        enemies.new }
     ensures trail_alone { (q : ℕ) → has_point trail.new q ≡ true → (has_point trail.old q ≡ true) ⊎ (r ≡ q) }
-    ensures enemies_alone { (q : ℕ) → set.contains enemies.new q ≡ true → (set.contains enemies.old q ≡ true) ⊎ (q ≡ r) }
+    ensures enemies_alone { (q : ℕ) → set.contains enemies.new q ≡ true
+        → (set.contains enemies.old q ≡ true) ⊎ (q ≡ r) }
 {
     let cell = board.at(r);
     if cell == own {
@@ -72,9 +75,11 @@ fn spread<V: View>(
     requires stone { own ≢ Cell.Empty }
     ensures looks { Looks V.cells V.asks board.old board.new (around (V.rows board.old) q) }
     ensures over { (pos : BoardState) → V.agrees board.new pos → cell_at (V.cells board.old pos) q ≡ own
-        → SpreadsOut (V.rows board.old) (V.cells board.old pos) own q 4 trail.old trail.new liberties.old liberties.new enemies.old enemies.new }
+        → SpreadsOut (V.rows board.old) (V.cells board.old pos) own q 4 trail.old trail.new liberties.old liberties.new
+        enemies.old enemies.new }
     ensures trail_on_board { AddsOnBoard (V.rows board.old) trail.old trail.new }
-    ensures enemies_on_board { (r : ℕ) → set.contains enemies.new r ≡ true → (set.contains enemies.old r ≡ true) ⊎ (r < V.rows board.old * V.rows board.old) }
+    ensures enemies_on_board { (r : ℕ) → set.contains enemies.new r ≡ true
+        → (set.contains enemies.old r ≡ true) ⊎ (r < V.rows board.old * V.rows board.old) }
 {
     let size = board.size();
     for side in 0..4 {
@@ -84,8 +89,8 @@ fn spread<V: View>(
     }
 }
 
-/// The string of p, its liberties and the enemy stones next to it. It visits each stone once, and nothing but the stones and
-/// their neighbours; all three sets are empty where p is.
+/// The string of p, its liberties and the enemy stones next to it. It visits each stone once, and nothing but the
+/// stones and their neighbours; all three sets are empty where p is.
 pub fn flood<V: View>(board: &mut V, p: Point) -> Found
     requires { p < V.rows board.old * V.rows board.old }
     ensures looks { Looks V.cells V.asks board.old board.new anywhere }
@@ -95,8 +100,10 @@ pub fn flood<V: View>(board: &mut V, p: Point) -> Found
         → result.liberties ≡ liberty_points (V.rows board.old) (V.cells board.old pos) p }
     ensures enemies { (pos : BoardState) → V.agrees board.new pos
         → result.enemies ≡ enemy_points (V.rows board.old) (V.cells board.old pos) p }
-    ensures stones_on_board { (q : ℕ) → IsTrue (set.contains result.stones q) → q < V.rows board.old * V.rows board.old }
-    ensures enemies_on_board { (q : ℕ) → IsTrue (set.contains result.enemies q) → q < V.rows board.old * V.rows board.old }
+    ensures stones_on_board { (q : ℕ) → IsTrue (set.contains result.stones q)
+        → q < V.rows board.old * V.rows board.old }
+    ensures enemies_on_board { (q : ℕ) → IsTrue (set.contains result.enemies q)
+        → q < V.rows board.old * V.rows board.old }
     ensures near { (pos : BoardState) → V.agrees board.new pos
         → V.asks board.old board.new (neighbourhood_of (V.rows board.old) (V.cells board.old pos) (alone p)) }
 {

@@ -41,7 +41,8 @@ impl Position {
         is_free(board, c, p)
     }
 
-    /// The points where c may play. The board is copied once, and each point is tried once on the copy. Takes no memory.
+    /// The points where c may play. The board is copied once, and each point is tried once on the copy. Takes no
+    /// memory.
     pub fn legal_points(&self, c: Colour) -> PointSet
         ensures { result ≡ legal_points self.now c }
     {

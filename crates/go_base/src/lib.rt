@@ -1,9 +1,9 @@
-//! The Go board: sizes, points, sets of points, positions and plays, and views of a position that record what was asked.
-//! Every crate that knows of stones stands on this one.
+//! The Go board: sizes, points, sets of points, positions and plays, and views of a position that record what was
+//! asked. Every crate that knows of stones stands on this one.
 //!
-//! A point of a board of size `s` is a number below `s * s`: point `r * s + c` stands in row `r` from the top and column `c`
-//! from the left, both counted from 0. Reading order is the order of these numbers. Each call meets the rules as `go_rules`
-//! defines them, and none takes memory.
+//! A point of a board of size `s` is a number below `s * s`: point `r * s + c` stands in row `r` from the top and
+//! column `c` from the left, both counted from 0. Reading order is the order of these numbers. Each call meets the
+//! rules as `go_rules` defines them, and none takes memory.
 #![tactic(auto)]
 
 pub mod ban;

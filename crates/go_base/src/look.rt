@@ -12,8 +12,8 @@ use crate::position::Position;
 use crate::size::{Point, Size};
 use go_rules::{Cell, Colour};
 
-/// A view of one position that records what was asked of it. Each answer is that of the position shown, and is among the facts
-/// seen afterwards; the facts only grow, and each call adds facts about its own point alone.
+/// A view of one position that records what was asked of it. Each answer is that of the position shown, and is among
+/// the facts seen afterwards; the facts only grow, and each call adds facts about its own point alone.
 pub trait Look {
     ghost use Rattle.go_rules.specs.Position.{BoardState};
     ghost use Rattle.go_base.specs.Facts.{Fact, SizeIs, CellIs, BanIs};
@@ -51,7 +51,8 @@ pub trait Look {
     ghost sized: { (look : Self) → IsTrue (seen look (SizeIs (shows look).size)) };
 }
 
-/// The recording view over a position. Its facts hold on the position as long as it lives; it is ended by letting it go.
+/// The recording view over a position. Its facts hold on the position as long as it lives; it is ended by letting it
+/// go.
 #[derive(Drop)]
 pub struct Watch<'a> {
     position: &'a Position,

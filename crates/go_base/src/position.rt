@@ -16,8 +16,8 @@ use crate::view::Flat;
 use go_rules::{Cell, Colour, Illegal};
 use std::marker::Model;
 
-/// A position of the game: what stands on each point, and the ko ban. Every string has a liberty, and the ban's point is on the
-/// board and empty. It is small and may be copied; no call takes memory.
+/// A position of the game: what stands on each point, and the ko ban. Every string has a liberty, and the ban's point
+/// is on the board and empty. It is small and may be copied; no call takes memory.
 #[derive(Clone, Copy, Debug, PartialEq, Eq)]
 pub struct Position {
     size: Size,
@@ -166,8 +166,8 @@ impl Position {
         }
     }
 
-    /// The position after c plays at p, or the first reason against it: Occupied where a stone stands at p, Ko where the ban forbids
-    /// the play, Suicide where the stone's string would have no liberty after the captures.
+    /// The position after c plays at p, or the first reason against it: Occupied where a stone stands at p, Ko where
+    /// the ban forbids the play, Suicide where the stone's string would have no liberty after the captures.
     pub fn play(&self, c: Colour, p: Point) -> Result<Position, Illegal>
         requires { p < self.now.size * self.now.size }
         ensures value { result ≡ played self.now c p }

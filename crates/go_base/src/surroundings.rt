@@ -1,5 +1,5 @@
-//! What stands around a string, on a board whose cells are told one by one: its liberties, and the last liberties of the enemy
-//! strings next to it.
+//! What stands around a string, on a board whose cells are told one by one: its liberties, and the last liberties of
+//! the enemy strings next to it.
 
 ghost use Rattle.std.specs.Prelude.{◌≡◌, ℕ, ◌*◌, ◌<◌};
 ghost use Rattle.std.specs.FinSet as set;
@@ -34,9 +34,11 @@ fn add_last_liberty<V: View>(board: &mut V, q: Point, seen: &mut PointSet, last:
     ensures looks { Looks V.cells V.asks board.old board.new anywhere }
     ensures near { (pos : BoardState) → V.agrees board.new pos
         → V.asks board.old board.new (neighbourhood_of (V.rows board.old) (V.cells board.old pos) (alone q)) }
-    ensures adds { (pos : BoardState) → V.agrees board.new pos → KnowsLast (V.rows board.old) (V.cells board.old pos) seen.old last.old
+    ensures adds { (pos : BoardState) → V.agrees board.new pos
+        → KnowsLast (V.rows board.old) (V.cells board.old pos) seen.old last.old
         → AddsLast (V.rows board.old) (V.cells board.old pos) q last.old last.new }
-    ensures knows { (pos : BoardState) → V.agrees board.new pos → KnowsLast (V.rows board.old) (V.cells board.old pos) seen.old last.old
+    ensures knows { (pos : BoardState) → V.agrees board.new pos
+        → KnowsLast (V.rows board.old) (V.cells board.old pos) seen.old last.old
         → KnowsLast (V.rows board.old) (V.cells board.old pos) seen.new last.new }
 {
     if seen.has(q) {
@@ -53,17 +55,19 @@ fn add_last_liberty<V: View>(board: &mut V, q: Point, seen: &mut PointSet, last:
     }
 }
 
-/// The liberties of the string of p and the last liberties of the enemy strings next to it, both none where p is empty. Each
-/// string is searched once.
+/// The liberties of the string of p and the last liberties of the enemy strings next to it, both none where p is empty.
+/// Each string is searched once.
 pub fn surroundings_of<V: View>(board: &mut V, p: Point) -> Surroundings
     requires { p < V.rows board.old * V.rows board.old }
     ensures looks { Looks V.cells V.asks board.old board.new anywhere }
     ensures near { (pos : BoardState) → V.agrees board.new pos
-        → V.asks board.old board.new (neighbourhood_of (V.rows board.old) (V.cells board.old pos) (neighbourhood_of (V.rows board.old) (V.cells board.old pos) (alone p))) }
+        → V.asks board.old board.new (neighbourhood_of (V.rows board.old) (V.cells board.old pos)
+        (neighbourhood_of (V.rows board.old) (V.cells board.old pos) (alone p))) }
     ensures liberties { (pos : BoardState) → V.agrees board.new pos
         → result.liberties ≡ liberty_points (V.rows board.old) (V.cells board.old pos) p }
     ensures last_liberties { (pos : BoardState) → V.agrees board.new pos → (l : ℕ)
-        → set.contains result.last_liberties l ≡ is_last_liberty_of_enemy (V.rows board.old) (V.cells board.old pos) p l }
+        → set.contains result.last_liberties l ≡ is_last_liberty_of_enemy (V.rows board.old)
+        (V.cells board.old pos) p l }
 {
     let Found {
         stones: _,

@@ -317,9 +317,9 @@ fn bytes_and_sets_grow(rt: HostRuntime) -> Result<(), Fail> {
 
 #[test]
 fn legal_points_are_those_that_can_be_played(rt: HostRuntime) -> Result<(), Fail> {
-    // . X O .        Black has just taken a white stone at the second point of the second row, so white may not play there, and
-    // X . X O        in the upper left corner white's stone would have no liberty. In the upper right one black's stone would
-    // . X O .        have none either, but it takes one.
+    // . X O .        Black has just taken a white stone at the second point of the second row, so white may not play
+    // there, and X . X O        in the upper left corner white's stone would have no liberty. In the upper right one
+    // black's stone would . X O .        have none either, but it takes one.
     let plays: [Play; 8] = [
         (Black, 0, 1),
         (White, 0, 2),

@@ -9,8 +9,8 @@ ghost use Rattle.go_base.specs.Views.{Looks, anywhere, nowhere, alone};
 use crate::size::{MAX_POINTS, Point, Size};
 use go_rules::Cell;
 
-/// A board whose cells are told one by one and may be written over, so that one flood serves a position and a board of trial moves.
-/// What it tells is so over each position that agrees with what was told.
+/// A board whose cells are told one by one and may be written over, so that one flood serves a position and a board of
+/// trial moves. What it tells is so over each position that agrees with what was told.
 pub trait View {
     /// How many rows the board has.
     ghost rows: { Self → ℕ };
@@ -38,13 +38,15 @@ pub trait View {
     fn put(&mut self, p: Point, cell: Cell)
         requires { p < rows self.old * rows self.old }
         ensures asks { asks self.old self.new nowhere }
-        ensures over { (pos : BoardState) → agrees self.new pos → cells self.new pos ≡ slice_set (cells self.old pos) p cell };
+        ensures over { (pos : BoardState) → agrees self.new pos
+            → cells self.new pos ≡ slice_set (cells self.old pos) p cell };
 
     ghost asks_none: { (v : Self) (S : ℕ → Bool) → asks v v S };
 
     ghost asks_more: { (u v w : Self) (S : ℕ → Bool) → asks u v S → asks v w S → asks u w S };
 
-    ghost asks_within: { (u v : Self) (S T : ℕ → Bool) → asks u v S → ((q : ℕ) → IsTrue (S q) → IsTrue (T q)) → asks u v T };
+    ghost asks_within: { (u v : Self) (S T : ℕ → Bool) → asks u v S → ((q : ℕ) → IsTrue (S q) → IsTrue (T q))
+        → asks u v T };
 
     ghost asks_rows: { (u v : Self) (S : ℕ → Bool) → asks u v S → rows v ≡ rows u };
 

@@ -25,7 +25,8 @@ fn meets_empty<V: View>(board: &mut V, own: Cell, r: Point, trail: &mut Trail) -
     requires on_board { r < V.rows board.old * V.rows board.old }
     requires small { r < largest_points }
     ensures looks { Looks V.cells V.asks board.old board.new (alone r) }
-    ensures over { (pos : BoardState) → V.agrees board.new pos → result ≡ same_cell (cell_at (V.cells board.old pos) r) Cell.Empty }
+    ensures over { (pos : BoardState) → V.agrees board.new pos
+        → result ≡ same_cell (cell_at (V.cells board.old pos) r) Cell.Empty }
     ensures trail { (pos : BoardState) → V.agrees board.new pos
         → trail.new ≡ (if same_cell (cell_at (V.cells board.old pos) r) own then add_once trail.old r else trail.old) }
     ensures trail_alone { (q : ℕ) → has_point trail.new q ≡ true → (has_point trail.old q ≡ true) ⊎ (r ≡ q) }
@@ -37,12 +38,14 @@ fn meets_empty<V: View>(board: &mut V, own: Cell, r: Point, trail: &mut Trail) -
     cell == Cell::Empty
 }
 
-/// Whether a neighbour of q is empty. Until one is seen, the neighbours that hold stones like `own` are put on the trail.
+/// Whether a neighbour of q is empty. Until one is seen, the neighbours that hold stones like `own` are put on the
+/// trail.
 #[inline(always)]
 fn reaches_empty<V: View>(board: &mut V, own: Cell, q: Point, trail: &mut Trail) -> bool
     requires { q < V.rows board.old * V.rows board.old }
     ensures looks { Looks V.cells V.asks board.old board.new (around (V.rows board.old) q) }
-    ensures over { (pos : BoardState) → V.agrees board.new pos → result ≡ has_empty_neighbour (V.rows board.old) (V.cells board.old pos) q }
+    ensures over { (pos : BoardState) → V.agrees board.new pos
+        → result ≡ has_empty_neighbour (V.rows board.old) (V.cells board.old pos) q }
     ensures trail { (pos : BoardState) → V.agrees board.new pos → cell_at (V.cells board.old pos) q ≡ own
         → result ≡ false → Spreads (V.rows board.old) (V.cells board.old pos) q 4 trail.old trail.new }
     ensures trail_on_board { AddsOnBoard (V.rows board.old) trail.old trail.new }
@@ -58,14 +61,15 @@ fn reaches_empty<V: View>(board: &mut V, own: Cell, q: Point, trail: &mut Trail)
     false
 }
 
-/// The stones of the string of p, where p holds a stone and its string has no liberty; else None. It looks at the stones and their
-/// neighbours, and no further once it has seen a liberty. It takes no memory.
+/// The stones of the string of p, where p holds a stone and its string has no liberty; else None. It looks at the
+/// stones and their neighbours, and no further once it has seen a liberty. It takes no memory.
 pub(crate) fn string_without_liberty<V: View>(board: &mut V, p: Point) -> Option<PointSet>
     requires { p < V.rows board.old * V.rows board.old }
     ensures looks { Looks V.cells V.asks board.old board.new anywhere }
     ensures over { (pos : BoardState) → V.agrees board.new pos
         → result ≡ stones_without_liberty (V.rows board.old) (V.cells board.old pos) p }
-    ensures on_board { IfSome result (λ stones. (q : ℕ) → IsTrue (set.contains stones q) → q < V.rows board.old * V.rows board.old) }
+    ensures on_board { IfSome result (λ stones. (q : ℕ) → IsTrue (set.contains stones q)
+        → q < V.rows board.old * V.rows board.old) }
     ensures near { (pos : BoardState) → V.agrees board.new pos
         → V.asks board.old board.new (neighbourhood_of (V.rows board.old) (V.cells board.old pos) (alone p)) }
 {

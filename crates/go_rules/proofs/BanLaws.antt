@@ -37,15 +37,27 @@ only_one : (n : ℕ) (test : ℕ → Bool) → count_below n test ≡ 1 → (k :
 only_one zero test e = absurd (omega arith)
 only_one (suc n) test e = elim (cases_Bool (test n)) [
   | inl t ↦
-      let none : count_below n test ≡ 0 = (let g : 1 + count_below n test ≡ 1 = rw t at e in omega arith) in
-      (n, record { below = omega arith; passes = t; others = λ j l h. elim (cases_eq j n) [ inl same ↦ same | inr ne ↦ absurd (both_ways (test j) (none_pass n test none j (omega arith)) h) ] })
+      let none : count_below n test ≡ 0 = (let g : 1 + count_below n test ≡ 1 = rw t at e in omega arith) in (
+        n,
+        record {
+          below = omega arith;
+          passes = t;
+          others = λ j l h. elim (cases_eq j n) [
+            | inl same ↦ same
+            | inr ne ↦ absurd (both_ways (test j) (none_pass n test none j (omega arith)) h)
+          ];
+        },
+      )
   | inr f ↦
       let rest = only_one n test (let g : 0 + count_below n test ≡ 1 = rw f at e in omega arith) in (
         rest.0,
         record {
           below = omega (arith, rest.1.below);
           passes = rest.1.passes;
-          others = λ j l h. elim (cases_eq j n) [ inl same ↦ absurd (both_ways (test j) (ap test same ∙ f) h) | inr ne ↦ rest.1.others j (omega arith) h ];
+          others = λ j l h. elim (cases_eq j n) [
+            | inl same ↦ absurd (both_ways (test j) (ap test same ∙ f) h)
+            | inr ne ↦ rest.1.others j (omega arith) h
+          ];
         },
       )
 ]
@@ -67,8 +79,17 @@ count_one (suc n) test k h = elim (cases_eq k n) [
       rw (ap test (sym e) ∙ h.passes, none) refl
   | inr ne ↦
       let below : k < n = (let l = h.below in omega arith) in
-      let miss : test n ≡ false = elim (cases_Bool (test n)) [ inl t ↦ absurd (let same = h.others n (omega arith) t in omega arith) | inr f ↦ f ] in
-      let rest : count_below n test ≡ 1 = count_one n test k (record { below = below; passes = h.passes; others = λ j l t. h.others j (omega arith) t }) in
+      let miss : test n ≡ false =
+      elim (cases_Bool (test n)) [
+        | inl t ↦ absurd (let same = h.others n (omega arith) t in omega arith)
+        | inr f ↦ f
+      ] in
+      let rest : count_below n test ≡ 1 =
+      count_one n test k (record {
+        below = below;
+        passes = h.passes;
+        others = λ j l t. h.others j (omega arith) t;
+      }) in
       rw (miss, rest) refl
 ]
 
@@ -86,24 +107,33 @@ ban_colour c (Some b) = b.1
 abbrev put_on : BoardState → Colour → ℕ → List Cell
 put_on pos c p = set pos.cells p (stone_of c)
 
-module _ (pos : BoardState) (c : Colour) (p : ℕ) (new : BoardState) (on : p < pos.size * pos.size) (played : play_free pos c p ≡ Ok new) where
+module _ (pos : BoardState) (c : Colour) (p : ℕ) (new : BoardState) (on : p < pos.size * pos.size)
+    (played : play_free pos c p ≡ Ok new) where
   -- where the three counts are one, the ban is on the point that was taken
-  first_ban : (q : ℕ) → count_below (pos.size * pos.size) (is_taken pos.size (put_on pos c p) c) ≡ 1 → count_below (pos.size * pos.size) (is_in_string pos.size new.cells p) ≡ 1
-      → liberties pos.size new.cells p ≡ 1 → first_below (pos.size * pos.size) (is_taken pos.size (put_on pos c p) c) ≡ Some q → new.ban ≡ Some (q, other c)
+  first_ban : (q : ℕ) → count_below (pos.size * pos.size) (is_taken pos.size (put_on pos c p) c) ≡ 1
+      → count_below (pos.size * pos.size) (is_in_string pos.size new.cells p) ≡ 1
+      → liberties pos.size new.cells p ≡ 1
+      → first_below (pos.size * pos.size) (is_taken pos.size (put_on pos c p) c) ≡ Some q → new.ban ≡ Some (q, other c)
   unfolding ban_after
   first_ban q one alone free first = done_is pos c p new played ∙ rw (one, alone, free, first) refl
 
   -- the ban's point and colour, where there is one
-  pub ban_parts : (q : ℕ) (k : Colour) → new.ban ≡ Some (q, k) → (k ≡ other c) × (count_below (pos.size * pos.size) (is_taken pos.size (put_on pos c p) c) ≡ 1)
-      × (count_below (pos.size * pos.size) (is_in_string pos.size new.cells p) ≡ 1) × (liberties pos.size new.cells p ≡ 1) × (first_below (pos.size * pos.size) (is_taken pos.size (put_on pos c p) c) ≡ Some q)
+  pub ban_parts : (q : ℕ) (k : Colour) → new.ban ≡ Some (q, k)
+      → (k ≡ other c) × (count_below (pos.size * pos.size) (is_taken pos.size (put_on pos c p) c) ≡ 1)
+      × (count_below (pos.size * pos.size) (is_in_string pos.size new.cells p) ≡ 1)
+      × (liberties pos.size new.cells p ≡ 1)
+      × (first_below (pos.size * pos.size) (is_taken pos.size (put_on pos c p) c) ≡ Some q)
   unfolding ban_after
   ban_parts q k e = split _ _ _ _ (sym (done_is pos c p new played) ∙ e)
     where
-      mapped : (o : Option ℕ) → option_map {T = ℕ} {U = ℕ × Colour} (λ x. (x, other c)) o ≡ Some (q, k) → (k ≡ other c) × (o ≡ Some q)
+      mapped : (o : Option ℕ) → option_map {T = ℕ} {U = ℕ × Colour} (λ x. (x, other c)) o ≡ Some (q, k)
+          → (k ≡ other c) × (o ≡ Some q)
       mapped None h = absurd (cc)
       mapped (Some x) h = (sym (ap (ban_colour c) h), ap Some (ap ban_point h))
 
-      split : (a b d : ℕ) (o : Option ℕ) → cond (eqb a 1 && eqb b 1 && eqb d 1) (option_map {T = ℕ} {U = ℕ × Colour} (λ x. (x, other c)) o) None ≡ Some (q, k) → (k ≡ other c) × (a ≡ 1) × (b ≡ 1) × (d ≡ 1) × (o ≡ Some q)
+      split : (a b d : ℕ) (o : Option ℕ)
+          → cond (eqb a 1 && eqb b 1 && eqb d 1) (option_map {T = ℕ} {U = ℕ × Colour} (λ x. (x, other c)) o) None
+          ≡ Some (q, k) → (k ≡ other c) × (a ≡ 1) × (b ≡ 1) × (d ≡ 1) × (o ≡ Some q)
       split a b d o h = elim (cases_Bool (eqb a 1 && eqb b 1 && eqb d 1)) [
         | inl t ↦
             let parts = and_parts _ _ t in
@@ -126,12 +156,15 @@ module _ (pos : BoardState) (c : Colour) (p : ℕ) (new : BoardState) (on : p < 
       let one = only_one (pos.size * pos.size) (is_taken pos.size (put_on pos c p) c) parts.1 in
       let alone = only_one (pos.size * pos.size) (is_in_string pos.size new.cells p) parts.2 in
       let free = only_one (pos.size * pos.size) (is_liberty pos.size new.cells p) parts.3 in
-      let p_is : p ≡ alone.0 = alone.1.others p on (is_is_in_string-from_fact pos.size new.cells p p on (string_itself pos.size new.cells p stands)) in
+      let p_is : p ≡ alone.0 = alone.1.others p on
+      (is_is_in_string-from_fact pos.size new.cells p p on (string_itself pos.size new.cells p stands)) in
       record {
         on_board = found.0;
         taken = captured_from pos.size (put_on pos c p) c q found.0 found.1;
-        one_taken = λ r l h. one.1.others r l (taken_by_words pos.size (put_on pos c p) c r h) ∙ sym (one.1.others q found.0 found.1);
-        stone_alone = λ r h. alone.1.others r (path_on_board pos.size new.cells p on h.path) (is_is_in_string-from_fact pos.size new.cells p r on h) ∙ sym p_is;
+        one_taken = λ r l h. one.1.others r l (taken_by_words pos.size (put_on pos c p) c r h)
+            ∙ sym (one.1.others q found.0 found.1);
+        stone_alone = λ r h. alone.1.others r (path_on_board pos.size new.cells p on h.path)
+            (is_is_in_string-from_fact pos.size new.cells p r on h) ∙ sym p_is;
         one_liberty = (
           free.0,
           record {
@@ -162,7 +195,8 @@ module _ (pos : BoardState) (c : Colour) (p : ℕ) (new : BoardState) (on : p < 
         passes = is_liberty-from_fact pos.size new.cells p l on h.one_liberty.1.its;
         others = λ j i t. h.one_liberty.1.only j (IsLiberty-from_test pos.size new.cells p j t);
       }) in
-      first_ban q one alone free (first_below_is (pos.size * pos.size) (is_taken pos.size (put_on pos c p) c) q h.on_board taken
+      first_ban q one alone free (first_below_is (pos.size * pos.size)
+      (is_taken pos.size (put_on pos c p) c) q h.on_board taken
       (λ r l. elim (cases_Bool (is_taken pos.size (put_on pos c p) c r)) [
         | inl t ↦
             let r_on : r < pos.size * pos.size = (let i = h.on_board in omega arith) in

@@ -14,35 +14,44 @@ use Rattle.go_rules.proofs.Sets.{contains-set_below, len-set_below}
 
 -- whether one stone was taken, by a stone that is alone and has one liberty
 abbrev ko_test : ℕ → sets.FinSet nat_cmp → List Cell → ℕ → Bool
-ko_test s taken after p = eqb (sets.len taken) 1 && eqb (sets.len (string_at s after p)) 1 && eqb (liberties s after p) 1
+ko_test s taken after p =
+    eqb (sets.len taken) 1 && eqb (sets.len (string_at s after p)) 1 && eqb (liberties s after p) 1
 
 -- the test by sets is the test by counts
-ko_test_is : (s : ℕ) (put after : List Cell) (c : Colour) (p : ℕ) (taken : sets.FinSet nat_cmp) → taken ≡ taken_at s put c
-    → ko_test s taken after p ≡ (eqb (count_below (s * s) (is_taken s put c)) 1 && eqb (count_below (s * s) (is_in_string s after p)) 1 && eqb (liberties s after p) 1)
+ko_test_is : (s : ℕ) (put after : List Cell) (c : Colour) (p : ℕ) (taken : sets.FinSet nat_cmp)
+    → taken ≡ taken_at s put c
+    → ko_test s taken after p
+    ≡ (eqb (count_below (s * s) (is_taken s put c)) 1 && eqb (count_below (s * s) (is_in_string s after p)) 1
+    && eqb (liberties s after p) 1)
 unfolding taken_at string_at
 ko_test_is s put after c p taken e =
     rw (ap sets.len e ∙ len-set_below (s * s) (is_taken s put c), len-set_below (s * s) (is_in_string s after p)) refl
 
 -- where the test fails there is no ban
-pub ban_none : (s : ℕ) (put after : List Cell) (c : Colour) (p : ℕ) (taken : sets.FinSet nat_cmp) (b : Bool) → taken ≡ taken_at s put c → b ≡ ko_test s taken after p → b ≡ false
+pub ban_none : (s : ℕ) (put after : List Cell) (c : Colour) (p : ℕ) (taken : sets.FinSet nat_cmp) (b : Bool)
+    → taken ≡ taken_at s put c → b ≡ ko_test s taken after p → b ≡ false
     → None ≡ ban_after s put after c p
 unfolding ban_after
 ban_none s put after c p taken b e is f = rw (sym (is ∙ ko_test_is s put after c p taken e) ∙ f) refl
 
 -- where the test holds the ban is on the first point taken
-pub ban_some : (s : ℕ) (put after : List Cell) (c : Colour) (p q : ℕ) (taken : sets.FinSet nat_cmp) (b : Bool) → taken ≡ taken_at s put c → b ≡ ko_test s taken after p → b ≡ true
-    → sets.contains taken q ≡ true → ((r : ℕ) → 0 ≤ r → r < q → sets.contains taken r ≡ false) → Some (q, other c) ≡ ban_after s put after c p
+pub ban_some : (s : ℕ) (put after : List Cell) (c : Colour) (p q : ℕ) (taken : sets.FinSet nat_cmp) (b : Bool)
+    → taken ≡ taken_at s put c → b ≡ ko_test s taken after p → b ≡ true
+    → sets.contains taken q ≡ true → ((r : ℕ) → 0 ≤ r → r < q → sets.contains taken r ≡ false)
+    → Some (q, other c) ≡ ban_after s put after c p
 unfolding ban_after taken_at
 ban_some s put after c p q taken b e is t has least =
     let at = λ (r : ℕ). ap (λ x. sets.contains x r) e ∙ contains-set_below (s * s) (is_taken s put c) r in
     let parts = and_parts _ _ (sym (at q) ∙ has) in
     let q_on = ltb-true q (s * s) parts.0 in
     let first = first_below_is (s * s) (is_taken s put c) q q_on parts.1
-    (λ r l. sym (at r ∙ ap (λ x. x && is_taken s put c r) (lt-ltb r (s * s) (omega arith))) ∙ least r (omega arith) l) in
+    (λ r l. sym (at r ∙ ap (λ x. x && is_taken s put c r) (lt-ltb r (s * s) (omega arith)))
+    ∙ least r (omega arith) l) in
     rw (sym (is ∙ ko_test_is s put after c p taken e) ∙ t, first) refl
 
 -- where nothing was taken there is no ban
-pub ban_empty : (s : ℕ) (put after : List Cell) (c : Colour) (p : ℕ) (taken : sets.FinSet nat_cmp) (b : Bool) → taken ≡ taken_at s put c → b ≡ ko_test s taken after p → b ≡ true
+pub ban_empty : (s : ℕ) (put after : List Cell) (c : Colour) (p : ℕ) (taken : sets.FinSet nat_cmp) (b : Bool)
+    → taken ≡ taken_at s put c → b ≡ ko_test s taken after p → b ≡ true
     → ((r : ℕ) → 0 ≤ r → sets.contains taken r ≡ false) → None ≡ ban_after s put after c p
 unfolding ban_after taken_at
 ban_empty s put after c p taken b e is t none =

@@ -21,37 +21,50 @@ none_gone true = refl
 none_gone false = refl
 
 -- after a play without regard to the ban, a stone is taken exactly where it stood before and does not after
-taken_is_gone : (pos : BoardState) (c : Colour) (p : ℕ) (new : BoardState) → IsPosition pos → p < pos.size * pos.size → play_free pos c p ≡ Ok new
-    → (q : ℕ) → q < pos.size * pos.size → is_taken pos.size (put_on pos c p) c q ≡ (is_stone (cell_at pos.cells q) && not (is_stone (cell_at new.cells q)))
+taken_is_gone : (pos : BoardState) (c : Colour) (p : ℕ) (new : BoardState) → IsPosition pos → p < pos.size * pos.size
+    → play_free pos c p ≡ Ok new
+    → (q : ℕ) → q < pos.size * pos.size
+    → is_taken pos.size (put_on pos c p) c q ≡ (is_stone (cell_at pos.cells q) && not (is_stone (cell_at new.cells q)))
 taken_is_gone pos c p new good on e q q_on =
     let s = pos.size in
     let put = put_on pos c p in
     let done = done_state pos c p new e in
-    let now : cell_at new.cells q ≡ cond (is_taken s put c q) Empty (cell_at put q) = ap (λ (x : BoardState). cell_at x.cells q) done.1 ∙ at_after s put c q q_on in
+    let now : cell_at new.cells q ≡ cond (is_taken s put c q) Empty (cell_at put q) =
+    ap (λ (x : BoardState). cell_at x.cells q) done.1 ∙ at_after s put c q q_on in
     elim (cases_eq q p) [
       | inl same ↦
-          let own : is_taken s put c q ≡ false = own_not_taken s put c q (ap (cell_at put) same ∙ at_put_same pos.cells p (stone_of c) (omega (arith, good.cells, on))) in
-          own ∙ sym (ap (λ b. b && not (is_stone (cell_at new.cells q))) (ap is_stone (ap (cell_at pos.cells) same ∙ done.0)))
+          let own : is_taken s put c q ≡ false =
+          own_not_taken s put c q (ap (cell_at put) same
+          ∙ at_put_same pos.cells p (stone_of c) (omega (arith, good.cells, on))) in
+          own ∙ sym (ap (λ b. b && not (is_stone (cell_at new.cells q)))
+          (ap is_stone (ap (cell_at pos.cells) same ∙ done.0)))
       | inr ne ↦
           let before : cell_at put q ≡ cell_at pos.cells q = at_put_other pos.cells p q (stone_of c) ne in
           elim (cases_Bool (is_taken s put c q)) [
             | inl t ↦
-                let stood : is_stone (cell_at pos.cells q) ≡ true = ap is_stone (sym before ∙ (taken_parts s put c q t).0) ∙ stone_is (other c) in
+                let stood : is_stone (cell_at pos.cells q) ≡ true =
+                ap is_stone (sym before ∙ (taken_parts s put c q t).0) ∙ stone_is (other c) in
                 let gone : cell_at new.cells q ≡ Empty = now ∙ ap (λ b. cond b Empty (cell_at put q)) t in
                 t ∙ sym (ap (λ b. b && not (is_stone (cell_at new.cells q))) stood ∙ ap (λ k. not (is_stone k)) gone)
             | inr f ↦
-                let stays : cell_at new.cells q ≡ cell_at pos.cells q = now ∙ ap (λ b. cond b Empty (cell_at put q)) f ∙ before in
-                f ∙ sym (ap (λ k. is_stone (cell_at pos.cells q) && not (is_stone k)) stays ∙ none_gone (is_stone (cell_at pos.cells q)))
+                let stays : cell_at new.cells q ≡ cell_at pos.cells q =
+                now ∙ ap (λ b. cond b Empty (cell_at put q)) f ∙ before in
+                f ∙ sym (ap (λ k. is_stone (cell_at pos.cells q) && not (is_stone k)) stays
+                ∙ none_gone (is_stone (cell_at pos.cells q)))
           ]
     ]
 
 -- a legal move takes the stones that are gone after it
-taken_by_move : (pos : BoardState) (c : Colour) (at : Option ℕ) (next : BoardState) → IsPosition pos → IfSome at (λ p. p < pos.size * pos.size) → moved_to pos c at ≡ Ok next
+taken_by_move : (pos : BoardState) (c : Colour) (at : Option ℕ) (next : BoardState) → IsPosition pos
+    → IfSome at (λ p. p < pos.size * pos.size) → moved_to pos c at ≡ Ok next
     → taken_by pos c at ≡ stones_gone pos.size pos.cells next.cells
 taken_by_move pos c None next good on e =
     let same : pos.cells ≡ next.cells = (let w = ap (λ r. (led_to pos r).cells) e in w) in
-    sym (count_below_none (pos.size * pos.size) _ (λ q l. ap (λ cells. is_stone (cell_at pos.cells q) && not (is_stone (cell_at cells q))) (sym same) ∙ none_gone (is_stone (cell_at pos.cells q))))
-taken_by_move pos c (Some p) next good on e = count_below_same (pos.size * pos.size) _ _ (taken_is_gone pos c p next good on (play_done pos c p next e))
+    sym (count_below_none (pos.size * pos.size) _
+    (λ q l. ap (λ cells. is_stone (cell_at pos.cells q) && not (is_stone (cell_at cells q))) (sym same)
+    ∙ none_gone (is_stone (cell_at pos.cells q))))
+taken_by_move pos c (Some p) next good on e =
+    count_below_same (pos.size * pos.size) _ _ (taken_is_gone pos c p next good on (play_done pos c p next e))
 
 -- what the moves of a list took, and one move more
 captures_snoc : (pos : BoardState) (c : Colour) (ms : List Move) (m : Move) → captures_from pos c (ms ++ m ∷ [])
@@ -83,26 +96,33 @@ replay_size pos (m ∷ ms) = replay_size (led_to pos (moved pos m)) ms ∙ moved
     moved_size c (Some p) = play_size pos c p
 
 -- a legal move of the colour took what is gone after it
-pub own_captures : (s : ℕ) (moves : List Move) (m : Move) (next : BoardState) → IsSize s → IsLegalGame (empty_board s) moves → IsLegalMove (replay s moves) m
-    → moved (replay s moves) m ≡ Ok next → captures s m.colour (moves ++ m ∷ []) ≡ captures s m.colour moves + stones_gone s (replay s moves).cells next.cells
+pub own_captures : (s : ℕ) (moves : List Move) (m : Move) (next : BoardState) → IsSize s
+    → IsLegalGame (empty_board s) moves → IsLegalMove (replay s moves) m
+    → moved (replay s moves) m ≡ Ok next
+    → captures s m.colour (moves ++ m ∷ []) ≡ captures s m.colour moves + stones_gone s
+    (replay s moves).cells next.cells
 own_captures s moves m next size legal allowed e =
     let here = replay s moves in
     let good = game_keeps (empty_board s) moves (empty_is_position s size) legal in
     captures_snoc (empty_board s) m.colour moves m
     ∙ ap (λ n. captures s m.colour moves + n)
-    (ap (λ b. cond b (taken_by here m.colour m.at) 0) (same_colour-itself m.colour) ∙ taken_by_move here m.colour m.at next good allowed.on_board e
+    (ap (λ b. cond b (taken_by here m.colour m.at) 0) (same_colour-itself m.colour)
+    ∙ taken_by_move here m.colour m.at next good allowed.on_board e
     ∙ ap (λ n. stones_gone n here.cells next.cells) (replay_size (empty_board s) moves))
 
 -- a move of one colour took nothing for the other
-pub others_captures : (s : ℕ) (moves : List Move) (m : Move) → captures s (other m.colour) (moves ++ m ∷ []) ≡ captures s (other m.colour) moves
+pub others_captures : (s : ℕ) (moves : List Move) (m : Move)
+    → captures s (other m.colour) (moves ++ m ∷ []) ≡ captures s (other m.colour) moves
 others_captures s moves m =
     let none : cond (same_colour m.colour (other m.colour)) (taken_by (replay s moves) m.colour m.at) 0 ≡ 0 =
     ap (λ b. cond b (taken_by (replay s moves) m.colour m.at) 0) (same_colour-other m.colour) in
     omega (arith, captures_snoc (empty_board s) (other m.colour) moves m, none)
 
 -- a pass took nothing
-pub pass_captures : (s : ℕ) (c k : Colour) (moves : List Move) → captures s c (moves ++ (record { colour = k; at = None }) ∷ []) ≡ captures s c moves
-pass_captures s c k moves = omega (arith, captures_snoc (empty_board s) c moves (record { colour = k; at = None }), either (same_colour k c) 0)
+pub pass_captures : (s : ℕ) (c k : Colour) (moves : List Move)
+    → captures s c (moves ++ (record { colour = k; at = None }) ∷ []) ≡ captures s c moves
+pass_captures s c k moves =
+    omega (arith, captures_snoc (empty_board s) c moves (record { colour = k; at = None }), either (same_colour k c) 0)
   where
     either : (b : Bool) (n : ℕ) → cond b n n ≡ n
     either true n = refl

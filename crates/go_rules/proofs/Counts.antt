@@ -41,7 +41,8 @@ count_below_at_most (suc n) test =
     ]
 
 -- each number that passes the one test passes the other
-pub count_below_mono : (n : ℕ) (a b : ℕ → Bool) → ((k : ℕ) → k < n → a k ≡ true → b k ≡ true) → count_below n a ≤ count_below n b
+pub count_below_mono : (n : ℕ) (a b : ℕ → Bool) → ((k : ℕ) → k < n → a k ≡ true → b k ≡ true)
+    → count_below n a ≤ count_below n b
 count_below_mono zero a b h = omega arith
 count_below_mono (suc n) a b h =
     let rest : count_below n a ≤ count_below n b = count_below_mono n a b (λ k l. h k (omega arith)) in
@@ -51,7 +52,8 @@ count_below_mono (suc n) a b h =
     ]
 
 -- and one passes the other alone
-pub count_below_less : (n : ℕ) (a b : ℕ → Bool) → ((k : ℕ) → k < n → a k ≡ true → b k ≡ true) → (q : ℕ) → q < n → a q ≡ false → b q ≡ true → count_below n a < count_below n b
+pub count_below_less : (n : ℕ) (a b : ℕ → Bool) → ((k : ℕ) → k < n → a k ≡ true → b k ≡ true) → (q : ℕ) → q < n
+    → a q ≡ false → b q ≡ true → count_below n a < count_below n b
 count_below_less zero a b h q l miss hit = absurd (omega arith)
 count_below_less (suc n) a b h q l miss hit =
     elim (cases_eq q n) [
@@ -59,7 +61,8 @@ count_below_less (suc n) a b h q l miss hit =
           let rest : count_below n a ≤ count_below n b = count_below_mono n a b (λ k l. h k (omega arith)) in
           rw (ap a (sym e) ∙ miss, ap b (sym e) ∙ hit) (omega arith)
       | inr ne ↦
-          let rest : count_below n a < count_below n b = count_below_less n a b (λ k l. h k (omega arith)) q (omega arith) miss hit in
+          let rest : count_below n a < count_below n b =
+          count_below_less n a b (λ k l. h k (omega arith)) q (omega arith) miss hit in
           elim (cases_Bool (a n)) [
             | inl t ↦ rw (t, h n (omega arith) t) (omega arith)
             | inr f ↦ elim (cases_Bool (b n)) [ inl t ↦ rw (f, t) (omega arith) | inr g ↦ rw (f, g) (omega arith) ]
@@ -94,7 +97,8 @@ any_below_false zero test h = refl
 any_below_false (suc n) test h = rw (h n (omega arith), any_below_false n test (λ k l. h k (omega arith))) refl
 
 -- a number that passes, and none before it, is the least
-pub first_below_is : (n : ℕ) (test : ℕ → Bool) (q : ℕ) → q < n → test q ≡ true → ((r : ℕ) → r < q → test r ≡ false) → first_below n test ≡ Some q
+pub first_below_is : (n : ℕ) (test : ℕ → Bool) (q : ℕ) → q < n → test q ≡ true → ((r : ℕ) → r < q → test r ≡ false)
+    → first_below n test ≡ Some q
 first_below_is zero test q l t none = absurd (omega arith)
 first_below_is (suc n) test q l t none =
     elim (cases_eq q n) [

@@ -14,19 +14,24 @@ pub string_itself : (s : ℕ) (cells : List Cell) (p : ℕ) → is_stone (cell_a
 string_itself s cells p stone = record { stone = stone; path = start }
 
 -- where q is of the string of p, p is of the string of q
-pub string_back_in_words : (s : ℕ) (cells : List Cell) (p q : ℕ) → p < s * s → IsInString s cells p q → IsInString s cells q p
-string_back_in_words s cells p q on h = record { stone = ap is_stone (path_same s cells p h.path) ∙ h.stone; path = path_back s cells p on h.path }
+pub string_back_in_words : (s : ℕ) (cells : List Cell) (p q : ℕ) → p < s * s → IsInString s cells p q
+    → IsInString s cells q p
+string_back_in_words s cells p q on h =
+    record { stone = ap is_stone (path_same s cells p h.path) ∙ h.stone; path = path_back s cells p on h.path }
 
 -- what is of the string of a stone of the string of p is of the string of p
-pub string_onward : (s : ℕ) (cells : List Cell) (p q r : ℕ) → IsInString s cells p q → IsInString s cells q r → IsInString s cells p r
+pub string_onward : (s : ℕ) (cells : List Cell) (p q r : ℕ) → IsInString s cells p q → IsInString s cells q r
+    → IsInString s cells p r
 string_onward s cells p q r h k = record { stone = h.stone; path = path_on s cells p q h.path k.path }
 
 -- the stones of a string are of one colour
-pub string_of_one_colour : (s : ℕ) (cells : List Cell) (p q : ℕ) → IsInString s cells p q → cell_at cells q ≡ cell_at cells p
+pub string_of_one_colour : (s : ℕ) (cells : List Cell) (p q : ℕ) → IsInString s cells p q
+    → cell_at cells q ≡ cell_at cells p
 string_of_one_colour s cells p q h = path_same s cells p h.path
 
 -- the test of the boundary is the fact
-pub is_boundary-is : (s : ℕ) (cells : List Cell) (p r : ℕ) → p < s * s → r < s * s → (is_boundary s cells p r ≡ true) ↔ IsBoundary s cells p r
+pub is_boundary-is : (s : ℕ) (cells : List Cell) (p r : ℕ) → p < s * s → r < s * s
+    → (is_boundary s cells p r ≡ true) ↔ IsBoundary s cells p r
 unfolding is_boundary is_beside_string
 is_boundary-is s cells p r on r_on = (
   λ t.
@@ -38,27 +43,38 @@ is_boundary-is s cells p r on r_on = (
       let link = and_parts _ _ it.2 in
       record {
         enemy = first.0;
-        least = λ k l h. both_ways (is_in_string s cells r k) (any_below_none r (is_in_string s cells r) k (not-true _ first.1) l) (is_is_in_string-from_fact s cells r k r_on h);
-        beside = (found.0, IsInString-from_test s cells r found.0 both.0, (it.0, IsInString-from_test s cells p it.0 link.0, link.1));
+        least = λ k l h. both_ways (is_in_string s cells r k)
+            (any_below_none r (is_in_string s cells r) k (not-true _ first.1) l)
+            (is_is_in_string-from_fact s cells r k r_on h);
+        beside = (
+          found.0,
+          IsInString-from_test s cells r found.0 both.0,
+          (it.0, IsInString-from_test s cells p it.0 link.0, link.1),
+        );
       },
   λ h.
       let q = h.beside.0 in
       let x = h.beside.2.0 in
-      and_from _ _ (and_from _ _ h.enemy (not_from_false _ (any_below_false r (is_in_string s cells r) (λ k l. elim (cases_Bool (is_in_string s cells r k)) [
+      and_from _ _ (and_from _ _ h.enemy (not_from_false _
+      (any_below_false r (is_in_string s cells r) (λ k l. elim (cases_Bool (is_in_string s cells r k)) [
         | inl t ↦ absurd (h.least k l (IsInString-from_test s cells r k t))
         | inr f ↦ f
       ]))))
-      (any_below_from (s * s) _ q (path_on_board s cells r r_on h.beside.1.path) (and_from _ _ (is_is_in_string-from_fact s cells r q r_on h.beside.1)
-      (any_below_from (s * s) _ x (path_on_board s cells p on h.beside.2.1.path) (and_from _ _ (is_is_in_string-from_fact s cells p x on h.beside.2.1) h.beside.2.2)))),
+      (any_below_from (s * s) _ q (path_on_board s cells r r_on h.beside.1.path)
+      (and_from _ _ (is_is_in_string-from_fact s cells r q r_on h.beside.1)
+      (any_below_from (s * s) _ x (path_on_board s cells p on h.beside.2.1.path)
+      (and_from _ _ (is_is_in_string-from_fact s cells p x on h.beside.2.1) h.beside.2.2)))),
 )
 
 -- what passes the test of whole strings is a point of the board
-pub whole_strings_of-on_board : (s : ℕ) (cells : List Cell) (S : ℕ → Bool) (q : ℕ) → whole_strings_of s cells S q ≡ true → q < s * s
+pub whole_strings_of-on_board : (s : ℕ) (cells : List Cell) (S : ℕ → Bool) (q : ℕ) → whole_strings_of s cells S q ≡ true
+    → q < s * s
 unfolding whole_strings_of
 whole_strings_of-on_board s cells S q h = ltb-true q (s * s) (and_parts _ _ h).0
 
 -- what passes the test of the neighbourhood is a point of the board
-pub neighbourhood_of-on_board : (s : ℕ) (cells : List Cell) (S : ℕ → Bool) (q : ℕ) → neighbourhood_of s cells S q ≡ true → q < s * s
+pub neighbourhood_of-on_board : (s : ℕ) (cells : List Cell) (S : ℕ → Bool) (q : ℕ) → neighbourhood_of s cells S q ≡ true
+    → q < s * s
 unfolding neighbourhood_of
 neighbourhood_of-on_board s cells S q h = ltb-true q (s * s) (and_parts _ _ h).0
 
@@ -68,12 +84,14 @@ whole_on_board s cells S q (member on i) = on
 whole_on_board s cells S q (of_string x on i h) = path_on_board s cells x on h.path
 
 -- what belongs to the neighbourhood of a set is a point of the board
-pub in_neighbourhood_on_board : (s : ℕ) (cells : List Cell) (S : ℕ → Bool) (q : ℕ) → InNeighbourhood s cells S q → q < s * s
+pub in_neighbourhood_on_board : (s : ℕ) (cells : List Cell) (S : ℕ → Bool) (q : ℕ) → InNeighbourhood s cells S q
+    → q < s * s
 in_neighbourhood_on_board s cells S q (inside w) = whole_on_board s cells S q w
 in_neighbourhood_on_board s cells S q (next_to y on w n) = on
 
 -- the test of whole strings gives the fact
-whole_to : (s : ℕ) (cells : List Cell) (S : ℕ → Bool) (q : ℕ) → whole_strings_of s cells S q ≡ true → InWholeStrings s cells S q
+whole_to : (s : ℕ) (cells : List Cell) (S : ℕ → Bool) (q : ℕ) → whole_strings_of s cells S q ≡ true
+    → InWholeStrings s cells S q
 unfolding whole_strings_of
 whole_to s cells S q h =
     let parts = and_parts _ _ h in
@@ -86,7 +104,8 @@ whole_to s cells S q h =
     ]
 
 -- the fact of whole strings gives the test
-whole_from : (s : ℕ) (cells : List Cell) (S : ℕ → Bool) (q : ℕ) → InWholeStrings s cells S q → whole_strings_of s cells S q ≡ true
+whole_from : (s : ℕ) (cells : List Cell) (S : ℕ → Bool) (q : ℕ) → InWholeStrings s cells S q
+    → whole_strings_of s cells S q ≡ true
 unfolding whole_strings_of
 whole_from s cells S q (member on i) = and_from _ _ (lt-ltb q (s * s) on) (or_left _ _ i)
 whole_from s cells S q (of_string x on i h) =
@@ -94,7 +113,8 @@ whole_from s cells S q (of_string x on i h) =
     (or_right _ _ (any_below_from (s * s) _ x on (and_from _ _ i (is_is_in_string-from_fact s cells x q on h))))
 
 -- the test of the neighbourhood gives the fact
-neighbourhood_to : (s : ℕ) (cells : List Cell) (S : ℕ → Bool) (q : ℕ) → neighbourhood_of s cells S q ≡ true → InNeighbourhood s cells S q
+neighbourhood_to : (s : ℕ) (cells : List Cell) (S : ℕ → Bool) (q : ℕ) → neighbourhood_of s cells S q ≡ true
+    → InNeighbourhood s cells S q
 unfolding neighbourhood_of
 neighbourhood_to s cells S q h =
     let parts = and_parts _ _ h in
@@ -107,13 +127,17 @@ neighbourhood_to s cells S q h =
     ]
 
 -- the fact of the neighbourhood gives the test
-neighbourhood_from : (s : ℕ) (cells : List Cell) (S : ℕ → Bool) (q : ℕ) → InNeighbourhood s cells S q → neighbourhood_of s cells S q ≡ true
+neighbourhood_from : (s : ℕ) (cells : List Cell) (S : ℕ → Bool) (q : ℕ) → InNeighbourhood s cells S q
+    → neighbourhood_of s cells S q ≡ true
 unfolding neighbourhood_of
-neighbourhood_from s cells S q (inside w) = and_from _ _ (lt-ltb q (s * s) (whole_on_board s cells S q w)) (or_left _ _ (whole_from s cells S q w))
+neighbourhood_from s cells S q (inside w) =
+    and_from _ _ (lt-ltb q (s * s) (whole_on_board s cells S q w)) (or_left _ _ (whole_from s cells S q w))
 neighbourhood_from s cells S q (next_to y on w n) =
     and_from _ _ (lt-ltb q (s * s) on)
-    (or_right _ _ (any_below_from (s * s) _ y (whole_on_board s cells S y w) (and_from _ _ (whole_from s cells S y w) n)))
+    (or_right _ _ (any_below_from (s * s) _ y (whole_on_board s cells S y w)
+    (and_from _ _ (whole_from s cells S y w) n)))
 
 -- the test of the neighbourhood is the fact
-pub neighbourhood_of-is : (s : ℕ) (cells : List Cell) (S : ℕ → Bool) (q : ℕ) → (neighbourhood_of s cells S q ≡ true) ↔ InNeighbourhood s cells S q
+pub neighbourhood_of-is : (s : ℕ) (cells : List Cell) (S : ℕ → Bool) (q : ℕ)
+    → (neighbourhood_of s cells S q ≡ true) ↔ InNeighbourhood s cells S q
 neighbourhood_of-is s cells S q = (neighbourhood_to s cells S q, neighbourhood_from s cells S q)

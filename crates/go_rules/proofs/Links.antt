@@ -16,7 +16,13 @@ one_apart_comm a b = or_comm (eqb a (b + 1)) (eqb b (a + 1))
 -- neighbours are neighbours in both directions
 pub are_neighbours_comm : (s p q : ℕ) → are_neighbours s p q ≡ are_neighbours s q p
 unfolding are_neighbours
-are_neighbours_comm s p q = rw (eqb_comm (p / s) (q / s), one_apart_comm (p % s) (q % s), eqb_comm (p % s) (q % s), one_apart_comm (p / s) (q / s)) refl
+are_neighbours_comm s p q =
+    rw (
+      eqb_comm (p / s) (q / s),
+      one_apart_comm (p % s) (q % s),
+      eqb_comm (p % s) (q % s),
+      one_apart_comm (p / s) (q / s),
+    ) refl
 
 -- a path leads over points that hold the same
 pub path_same : (s : ℕ) (cells : List Cell) (p : ℕ) {q : ℕ} → Path s cells p q → cell_at cells q ≡ cell_at cells p
@@ -26,28 +32,36 @@ path_same s cells p (step path on near same) = same
 -- paths lead on
 pub path_on : (s : ℕ) (cells : List Cell) (p q : ℕ) → Path s cells p q → {r : ℕ} → Path s cells q r → Path s cells p r
 path_on s cells p q first start = first
-path_on s cells p q first (step path on near same) = step (path_on s cells p q first path) on near (same ∙ path_same s cells p first)
+path_on s cells p q first (step path on near same) =
+    step (path_on s cells p q first path) on near (same ∙ path_same s cells p first)
 
 -- paths lead back
 pub path_back : (s : ℕ) (cells : List Cell) (p : ℕ) → p < s * s → {q : ℕ} → Path s cells p q → Path s cells q p
 path_back s cells p h start = start
 path_back s cells p h (step {q} {r} path on near same) =
     path_on s cells r q
-    (step start (path_on_board s cells p h path) (are_neighbours_comm s r q ∙ near) (path_same s cells p path ∙ sym same))
+    (step start (path_on_board s cells p h path) (are_neighbours_comm s r q ∙ near)
+    (path_same s cells p path ∙ sym same))
     (path_back s cells p h path)
 
 -- Where each point of the paths from q holds the same on another board, the paths are there too.
-pub path_keeps : (s : ℕ) (a b : List Cell) (q : ℕ) → ((x : ℕ) → Path s a q x → cell_at b x ≡ cell_at a x) → {r : ℕ} → Path s a q r → Path s b q r
+pub path_keeps : (s : ℕ) (a b : List Cell) (q : ℕ) → ((x : ℕ) → Path s a q x → cell_at b x ≡ cell_at a x) → {r : ℕ}
+    → Path s a q r → Path s b q r
 path_keeps s a b q same start = start
 path_keeps s a b q same (step {q = x} {r} path on near e) =
     step (path_keeps s a b q same path) on near (same r (step path on near e) ∙ e ∙ sym (same q start))
 
 -- two points of one string have the same liberties
-pub liberty_moves : (s : ℕ) (cells : List Cell) (p q l : ℕ) → p < s * s → IsInString s cells p q → IsLiberty s cells q l → IsLiberty s cells p l
+pub liberty_moves : (s : ℕ) (cells : List Cell) (p q l : ℕ) → p < s * s → IsInString s cells p q → IsLiberty s cells q l
+    → IsLiberty s cells p l
 liberty_moves s cells p q l h link lib = record {
   on_board = lib.on_board;
   is_empty = lib.is_empty;
-  beside = (lib.beside.0, record { stone = link.stone; path = path_on s cells p q link.path lib.beside.1.path }, lib.beside.2);
+  beside = (
+    lib.beside.0,
+    record { stone = link.stone; path = path_on s cells p q link.path lib.beside.1.path },
+    lib.beside.2,
+  );
 }
 
 -- where some are counted, some number passes
@@ -70,4 +84,8 @@ liberties_some s cells p h =
 pub liberties_from : (s : ℕ) (cells : List Cell) (p l : ℕ) → p < s * s → IsLiberty s cells p l → 0 < liberties s cells p
 unfolding liberties
 liberties_from s cells p l h lib =
-    omega (arith, count_below_less (s * s) (λ _. false) (is_liberty s cells p) (λ k i f. absurd (both_ways false refl f)) l lib.on_board refl (is_liberty-from_fact s cells p l h lib))
+    omega (
+      arith,
+      count_below_less (s * s) (λ _. false) (is_liberty s cells p)
+          (λ k i f. absurd (both_ways false refl f)) l lib.on_board refl (is_liberty-from_fact s cells p l h lib),
+    )

@@ -33,10 +33,12 @@ same_cell-from a b e = subst (λ x. same_cell a x ≡ true) e (same_cell-itself 
 -- the test of one more step
 abbrev grows : ℕ → List Cell → ℕ → (ℕ → Bool) → ℕ → Bool
 grows s cells p before q =
-    before q || (ltb q (s * s) && same_cell (cell_at cells q) (cell_at cells p) && any_below (s * s) (λ r. before r && are_neighbours s r q))
+    before q || (ltb q (s * s) && same_cell (cell_at cells q) (cell_at cells p)
+    && any_below (s * s) (λ r. before r && are_neighbours s r q))
 
 -- one more step reaches what is next to what was reached
-reached-suc : (s : ℕ) (cells : List Cell) (p n q : ℕ) → reached s cells p (suc n) q ≡ grows s cells p (reached s cells p n) q
+reached-suc : (s : ℕ) (cells : List Cell) (p n q : ℕ)
+    → reached s cells p (suc n) q ≡ grows s cells p (reached s cells p n) q
 unfolding reached
 reached-suc s cells p n q = refl
 
@@ -58,7 +60,8 @@ path_from_reached s cells p (suc n) q h =
           let first = and_parts _ _ parts.0 in
           let found = any_below_gives (s * s) _ parts.1 in
           let both = and_parts _ _ found.2 in
-          step (path_from_reached s cells p n found.0 both.0) (ltb-true q (s * s) first.0) both.1 (same_cell-true _ _ first.1)
+          step (path_from_reached s cells p n found.0 both.0) (ltb-true q (s * s) first.0) both.1
+          (same_cell-true _ _ first.1)
     ]
 
 -- on the board
@@ -67,7 +70,8 @@ path_on_board s cells p h start = h
 path_on_board s cells p h (step path on near same) = on
 
 -- what is reached by n steps is reached by one more
-reached_more : (s : ℕ) (cells : List Cell) (p n q : ℕ) → reached s cells p n q ≡ true → reached s cells p (suc n) q ≡ true
+reached_more : (s : ℕ) (cells : List Cell) (p n q : ℕ) → reached s cells p n q ≡ true
+    → reached s cells p (suc n) q ≡ true
 reached_more s cells p n q h = reached-suc s cells p n q ∙ or_left _ _ h
 
 -- the point itself is reached
@@ -76,7 +80,8 @@ reached_start s cells p zero = reached-zero s cells p p ∙ eq-eqb p p refl
 reached_start s cells p (suc n) = reached_more s cells p n p (reached_start s cells p n)
 
 -- what is reached by k steps is reached by more
-reached_later : (s : ℕ) (cells : List Cell) (p q k n : ℕ) → k ≤ n → reached s cells p k q ≡ true → reached s cells p n q ≡ true
+reached_later : (s : ℕ) (cells : List Cell) (p q k n : ℕ) → k ≤ n → reached s cells p k q ≡ true
+    → reached s cells p n q ≡ true
 reached_later s cells p q k zero le h = let e : k ≡ 0 = omega arith in subst (λ x. reached s cells p x q ≡ true) e h
 reached_later s cells p q k (suc n) le h =
     elim (cases_eq k (suc n)) [
@@ -89,16 +94,24 @@ abbrev IsStable : ℕ → List Cell → ℕ → ℕ → Type 0
 IsStable s cells p k = (q : ℕ) → q < s * s → reached s cells p (suc k) q ≡ true → reached s cells p k q ≡ true
 
 -- where one more step reaches nothing new, what a path leads to is reached
-reached_from_path : (s : ℕ) (cells : List Cell) (p k : ℕ) → p < s * s → IsStable s cells p k → {q : ℕ} → Path s cells p q → reached s cells p k q ≡ true
+reached_from_path : (s : ℕ) (cells : List Cell) (p k : ℕ) → p < s * s → IsStable s cells p k → {q : ℕ}
+    → Path s cells p q → reached s cells p k q ≡ true
 reached_from_path s cells p k h stable start = reached_start s cells p k
 reached_from_path s cells p k h stable (step {q} {r} path on near same) =
-    stable r on (reached-suc s cells p k r ∙ or_right _ _ (and_from _ _ (and_from _ _ (lt-ltb r (s * s) on) (same_cell-from _ _ same))
-    (any_below_from (s * s) _ q (path_on_board s cells p h path) (and_from _ _ (reached_from_path s cells p k h stable path) near))))
+    stable r on (reached-suc s cells p k r ∙ or_right _ _
+    (and_from _ _ (and_from _ _ (lt-ltb r (s * s) on) (same_cell-from _ _ same))
+    (any_below_from (s * s) _ q (path_on_board s cells p h path)
+    (and_from _ _ (reached_from_path s cells p k h stable path) near))))
 
 -- after n steps either nothing new came at some step, or more than n points are reached
-stable_or_many : (s : ℕ) (cells : List Cell) (p : ℕ) → p < s * s → (n : ℕ) → ((k : ℕ) × (k ≤ n) × IsStable s cells p k) ⊎ (n < count_below (s * s) (reached s cells p n))
+stable_or_many : (s : ℕ) (cells : List Cell) (p : ℕ) → p < s * s → (n : ℕ)
+    → ((k : ℕ) × (k ≤ n) × IsStable s cells p k) ⊎ (n < count_below (s * s) (reached s cells p n))
 stable_or_many s cells p h zero =
-    inr (omega (arith, count_below_less (s * s) (λ _. false) (reached s cells p zero) (λ k l f. absurd (both_ways false refl f)) p h refl (reached_start s cells p zero)))
+    inr (omega (
+      arith,
+      count_below_less (s * s) (λ _. false) (reached s cells p zero)
+          (λ k l f. absurd (both_ways false refl f)) p h refl (reached_start s cells p zero),
+    ))
 stable_or_many s cells p h (suc n) =
     elim (stable_or_many s cells p h n) [
       | inl found ↦ inl (found.0, omega (arith, found.1), found.2)
@@ -107,7 +120,8 @@ stable_or_many s cells p h (suc n) =
             | inl t ↦
                 let found = any_below_gives (s * s) _ t in
                 let both = and_parts _ _ found.2 in
-                let more = count_below_less (s * s) (reached s cells p n) (reached s cells p (suc n)) (λ k l e. reached_more s cells p n k e) found.0 found.1 (not-true _ both.1) both.0 in
+                let more = count_below_less (s * s) (reached s cells p n) (reached s cells p (suc n))
+                (λ k l e. reached_more s cells p n k e) found.0 found.1 (not-true _ both.1) both.0 in
                 inr (omega (arith, more, many))
             | inr f ↦ inl (
               n,
@@ -115,29 +129,34 @@ stable_or_many s cells p h (suc n) =
               λ q l now.
                   elim (cases_Bool (reached s cells p n q)) [
                     | inl t ↦ t
-                    | inr g ↦ absurd (both_ways _ (any_below_none (s * s) _ q f l) (and_from _ _ now (not_from_false _ g)))
+                    | inr g ↦ absurd (both_ways _ (any_below_none (s * s) _ q f l)
+                        (and_from _ _ now (not_from_false _ g)))
                   ],
             )
           ]
     ]
 
 -- each point that a path leads to is reached
-pub reached_all : (s : ℕ) (cells : List Cell) (p : ℕ) → p < s * s → {q : ℕ} → Path s cells p q → reached s cells p (s * s) q ≡ true
+pub reached_all : (s : ℕ) (cells : List Cell) (p : ℕ) → p < s * s → {q : ℕ} → Path s cells p q
+    → reached s cells p (s * s) q ≡ true
 reached_all s cells p h {q} path =
     elim (stable_or_many s cells p h (s * s)) [
-      | inl found ↦ reached_later s cells p q found.0 (s * s) found.1 (reached_from_path s cells p found.0 h found.2 path)
+      | inl found ↦ reached_later s cells p q found.0 (s * s) found.1
+          (reached_from_path s cells p found.0 h found.2 path)
       | inr many ↦ absurd (omega (arith, many, count_below_at_most (s * s) (reached s cells p (s * s))))
     ]
 
 -- The test is the fact.
-pub IsInString-from_test : (s : ℕ) (cells : List Cell) (p q : ℕ) → is_in_string s cells p q ≡ true → IsInString s cells p q
+pub IsInString-from_test : (s : ℕ) (cells : List Cell) (p q : ℕ) → is_in_string s cells p q ≡ true
+    → IsInString s cells p q
 unfolding is_in_string
 IsInString-from_test s cells p q h =
     let parts = and_parts _ _ h in
     record { stone = parts.0; path = path_from_reached s cells p (s * s) q parts.1 }
 
 -- the fact of a string gives the test
-pub is_is_in_string-from_fact : (s : ℕ) (cells : List Cell) (p q : ℕ) → p < s * s → IsInString s cells p q → is_in_string s cells p q ≡ true
+pub is_is_in_string-from_fact : (s : ℕ) (cells : List Cell) (p q : ℕ) → p < s * s → IsInString s cells p q
+    → is_in_string s cells p q ≡ true
 unfolding is_in_string
 is_is_in_string-from_fact s cells p q h fact = and_from _ _ fact.stone (reached_all s cells p h fact.path)
 
@@ -149,10 +168,15 @@ IsLiberty-from_test s cells p l h =
     let first = and_parts _ _ parts.0 in
     let found = any_below_gives (s * s) _ parts.1 in
     let both = and_parts _ _ found.2 in
-    record { on_board = ltb-true _ _ first.0; is_empty = same_cell-true _ _ first.1; beside = (found.0, IsInString-from_test s cells p found.0 both.0, both.1) }
+    record {
+      on_board = ltb-true _ _ first.0;
+      is_empty = same_cell-true _ _ first.1;
+      beside = (found.0, IsInString-from_test s cells p found.0 both.0, both.1);
+    }
 
 -- the fact of a liberty gives the test
-pub is_liberty-from_fact : (s : ℕ) (cells : List Cell) (p l : ℕ) → p < s * s → IsLiberty s cells p l → is_liberty s cells p l ≡ true
+pub is_liberty-from_fact : (s : ℕ) (cells : List Cell) (p l : ℕ) → p < s * s → IsLiberty s cells p l
+    → is_liberty s cells p l ≡ true
 unfolding is_liberty
 is_liberty-from_fact s cells p l h fact =
     and_from _ _ (and_from _ _ (lt-ltb _ _ fact.on_board) (same_cell-from _ _ fact.is_empty))

@@ -6,7 +6,10 @@ use Rattle.go_rules.specs.Board.{Place, IsOnBoard, point_at, place_of, are_one_a
 
 -- a board with a point has a row
 some_row : (s p : ℕ) → p < s * s → 0 < s
-some_row s p h = elim (cases_eq s 0) [ inl e ↦ absurd (let z : p < 0 * 0 = rw e at h in omega arith) | inr ne ↦ omega arith ]
+some_row s p h = elim (cases_eq s 0) [
+  | inl e ↦ absurd (let z : p < 0 * 0 = rw e at h in omega arith)
+  | inr ne ↦ omega arith
+]
 
 -- a point's place is on the board, and is the place of this point
 pub on_its_place : (s p : ℕ) → p < s * s → IsOnBoard s (place_of s p) × (point_at s (place_of s p) ≡ p)
@@ -45,7 +48,8 @@ one_apart-from a b (inl e) = or_left _ _ (eq-eqb _ _ e)
 one_apart-from a b (inr e) = or_right _ _ (eq-eqb _ _ e)
 
 -- the test of neighbours is the fact about their places
-pub are_neighbours-is : (s p q : ℕ) → p < s * s → q < s * s → (are_neighbours s p q ≡ true) ↔ AreNeighbours s (place_of s p) (place_of s q)
+pub are_neighbours-is : (s p q : ℕ) → p < s * s → q < s * s
+    → (are_neighbours s p q ≡ true) ↔ AreNeighbours s (place_of s p) (place_of s q)
 unfolding are_neighbours
 are_neighbours-is s p q h k = (
   λ t. record {

@@ -56,37 +56,53 @@ unfolding cells_after
 length_after s put c = length-map-range_with_len _ 0 (s * s)
 
 -- what a point holds after a play
-pub at_after : (s : ℕ) (put : List Cell) (c : Colour) (q : ℕ) → q < s * s → cell_at (cells_after s put c) q ≡ cond (is_taken s put c q) Empty (cell_at put q)
+pub at_after : (s : ℕ) (put : List Cell) (c : Colour) (q : ℕ) → q < s * s
+    → cell_at (cells_after s put c) q ≡ cond (is_taken s put c q) Empty (cell_at put q)
 unfolding cells_after
 at_after s put c q h = get_or-map-range_with_len _ 0 (s * s) q q Empty h (omega arith)
 
 -- the two parts of being taken
-pub taken_parts : (s : ℕ) (put : List Cell) (c : Colour) (q : ℕ) → is_taken s put c q ≡ true → (cell_at put q ≡ stone_of (other c)) × (liberties s put q ≡ 0)
+pub taken_parts : (s : ℕ) (put : List Cell) (c : Colour) (q : ℕ) → is_taken s put c q ≡ true
+    → (cell_at put q ≡ stone_of (other c)) × (liberties s put q ≡ 0)
 unfolding is_taken
 taken_parts s put c q h = let parts = and_parts _ _ h in (same_cell-true _ _ parts.0, eqb-true _ _ parts.1)
 
 -- an enemy whose string has no liberty is taken
-pub taken_from : (s : ℕ) (put : List Cell) (c : Colour) (q : ℕ) → cell_at put q ≡ stone_of (other c) → liberties s put q ≡ 0 → is_taken s put c q ≡ true
+pub taken_from : (s : ℕ) (put : List Cell) (c : Colour) (q : ℕ) → cell_at put q ≡ stone_of (other c)
+    → liberties s put q ≡ 0 → is_taken s put c q ≡ true
 unfolding is_taken
 taken_from s put c q e z = and_from _ _ (same_cell-from _ _ e) (eq-eqb _ _ z)
 
 -- a stone of the player is not taken
-pub own_not_taken : (s : ℕ) (put : List Cell) (c : Colour) (q : ℕ) → cell_at put q ≡ stone_of c → is_taken s put c q ≡ false
-own_not_taken s put c q e = elim (cases_Bool (is_taken s put c q)) [ inl t ↦ absurd (enemy_differs c (sym (taken_parts s put c q t).0 ∙ e)) | inr f ↦ f ]
+pub own_not_taken : (s : ℕ) (put : List Cell) (c : Colour) (q : ℕ) → cell_at put q ≡ stone_of c
+    → is_taken s put c q ≡ false
+own_not_taken s put c q e =
+    elim (cases_Bool (is_taken s put c q)) [
+      | inl t ↦ absurd (enemy_differs c (sym (taken_parts s put c q t).0 ∙ e))
+      | inr f ↦ f
+    ]
 
 -- an empty point is not taken
-pub empty_not_taken : (s : ℕ) (put : List Cell) (c : Colour) (q : ℕ) → cell_at put q ≡ Empty → is_taken s put c q ≡ false
+pub empty_not_taken : (s : ℕ) (put : List Cell) (c : Colour) (q : ℕ) → cell_at put q ≡ Empty
+    → is_taken s put c q ≡ false
 empty_not_taken s put c q e = elim (cases_Bool (is_taken s put c q)) [
-  | inl t ↦ absurd (both_ways (is_stone Empty) refl (ap is_stone (sym e ∙ (taken_parts s put c q t).0) ∙ stone_is (other c)))
+  | inl t ↦ absurd (both_ways (is_stone Empty) refl
+      (ap is_stone (sym e ∙ (taken_parts s put c q t).0) ∙ stone_is (other c)))
   | inr f ↦ f
 ]
 
 -- a stone whose string has a liberty is not taken
-pub alive_not_taken : (s : ℕ) (put : List Cell) (c : Colour) (q : ℕ) → 0 < liberties s put q → is_taken s put c q ≡ false
-alive_not_taken s put c q h = elim (cases_Bool (is_taken s put c q)) [ inl t ↦ (let z = (taken_parts s put c q t).1 in absurd (omega arith)) | inr f ↦ f ]
+pub alive_not_taken : (s : ℕ) (put : List Cell) (c : Colour) (q : ℕ) → 0 < liberties s put q
+    → is_taken s put c q ≡ false
+alive_not_taken s put c q h =
+    elim (cases_Bool (is_taken s put c q)) [
+      | inl t ↦ (let z = (taken_parts s put c q t).1 in absurd (omega arith))
+      | inr f ↦ f
+    ]
 
 -- A string without liberties is taken whole.
-pub taken_whole : (s : ℕ) (put : List Cell) (c : Colour) (q x : ℕ) → q < s * s → is_taken s put c q ≡ true → Path s put q x → is_taken s put c x ≡ true
+pub taken_whole : (s : ℕ) (put : List Cell) (c : Colour) (q x : ℕ) → q < s * s → is_taken s put c q ≡ true
+    → Path s put q x → is_taken s put c x ≡ true
 taken_whole s put c q x on t path =
     let parts = taken_parts s put c q t in
     let x_on = path_on_board s put q on path in
@@ -102,16 +118,22 @@ taken_whole s put c q x on t path =
     ])
 
 -- the removal of a set's stones, where the set is what is taken
-pub after_from : (s : ℕ) (put : List Cell) (c : Colour) (taken : sets.FinSet nat_cmp) → taken ≡ taken_at s put c → length put ≡ s * s
-    → map (λ q. cond (sets.contains taken q) Empty (cell_at put q)) (range_with_len 0 (length put)) ≡ cells_after s put c
+pub after_from : (s : ℕ) (put : List Cell) (c : Colour) (taken : sets.FinSet nat_cmp) → taken ≡ taken_at s put c
+    → length put ≡ s * s
+    → map (λ q. cond (sets.contains taken q) Empty (cell_at put q)) (range_with_len 0 (length put))
+    ≡ cells_after s put c
 unfolding cells_after taken_at
 after_from s put c taken e l =
-    fill_by_all (λ q. cond (is_taken s put c q) Empty (cell_at put q)) (map (λ q. cond (sets.contains taken q) Empty (cell_at put q)) (range_with_len 0 (length put))) (s * s) Empty
+    fill_by_all (λ q. cond (is_taken s put c q) Empty (cell_at put q))
+    (map (λ q. cond (sets.contains taken q) Empty (cell_at put q)) (range_with_len 0 (length put))) (s * s) Empty
     (length-map-range_with_len _ 0 (length put) ∙ l)
-    (λ k h. get_or-map-range_with_len (λ q. cond (sets.contains taken q) Empty (cell_at put q)) 0 (length put) k k Empty (omega arith) (omega arith)
-    ∙ ap (λ b. cond b Empty (cell_at put k)) (ap (λ t. sets.contains t k) e ∙ contains-set_below (s * s) (is_taken s put c) k ∙ ap (λ b. b && is_taken s put c k) (lt-ltb k (s * s) h)))
+    (λ k h. get_or-map-range_with_len (λ q. cond (sets.contains taken q) Empty (cell_at put q)) 0 (length put) k k Empty
+    (omega arith) (omega arith)
+    ∙ ap (λ b. cond b Empty (cell_at put k)) (ap (λ t. sets.contains t k) e
+    ∙ contains-set_below (s * s) (is_taken s put c) k ∙ ap (λ b. b && is_taken s put c k) (lt-ltb k (s * s) h)))
 
-module _ (pos : BoardState) (good : IsPosition pos) (c : Colour) (p : ℕ) (p_on : p < pos.size * pos.size) (p_empty : cell_at pos.cells p ≡ Empty) where
+module _ (pos : BoardState) (good : IsPosition pos) (c : Colour) (p : ℕ) (p_on : p < pos.size * pos.size)
+    (p_empty : cell_at pos.cells p ≡ Empty) where
   -- the point of the play has a cell
   p_in : p < length pos.cells
   p_in = omega (arith, good.cells, p_on)
@@ -122,17 +144,21 @@ module _ (pos : BoardState) (good : IsPosition pos) (c : Colour) (p : ℕ) (p_on
 
   -- Whatever is taken is the string of a neighbour of the played stone.
   pub taken_beside : (q : ℕ) → q < pos.size * pos.size → is_taken pos.size (set pos.cells p (stone_of c)) c q ≡ true
-      → (x : ℕ) × (x < pos.size * pos.size) × (are_neighbours pos.size p x ≡ true) × (is_taken pos.size (set pos.cells p (stone_of c)) c x ≡ true) × Path pos.size (set pos.cells p (stone_of c)) x q
+      → (x : ℕ) × (x < pos.size * pos.size) × (are_neighbours pos.size p x ≡ true)
+      × (is_taken pos.size (set pos.cells p (stone_of c)) c x ≡ true) × Path pos.size (set pos.cells p (stone_of c)) x q
   taken_beside q q_on t =
       let parts = taken_parts pos.size (set pos.cells p (stone_of c)) c q t in
-      let q_not : q ≢ p = λ e. enemy_differs c (sym parts.0 ∙ ap (cell_at (set pos.cells p (stone_of c))) e ∙ at_put_same pos.cells p (stone_of c) p_in) in
-      let old : cell_at pos.cells q ≡ stone_of (other c) = sym (at_put_other pos.cells p q (stone_of c) q_not) ∙ parts.0 in
+      let q_not : q ≢ p = λ e. enemy_differs c (sym parts.0 ∙ ap (cell_at (set pos.cells p (stone_of c))) e
+      ∙ at_put_same pos.cells p (stone_of c) p_in) in
+      let old : cell_at pos.cells q ≡ stone_of (other c) =
+      sym (at_put_other pos.cells p q (stone_of c) q_not) ∙ parts.0 in
       let old_stone : is_stone (cell_at pos.cells q) ≡ true = ap is_stone old ∙ stone_is (other c) in
       let l = liberties_some pos.size pos.cells q (good.alive q q_on old_stone) in
       let x = l.1.beside.0 in
       let there : Path pos.size (set pos.cells p (stone_of c)) q x =
       path_keeps pos.size pos.cells (set pos.cells p (stone_of c)) q
-      (λ y w. at_put_other pos.cells p y (stone_of c) (not_p y (ap is_stone (path_same pos.size pos.cells q w) ∙ old_stone))) l.1.beside.1.path in
+      (λ y w. at_put_other pos.cells p y (stone_of c)
+      (not_p y (ap is_stone (path_same pos.size pos.cells q w) ∙ old_stone))) l.1.beside.1.path in
       let x_on = path_on_board pos.size (set pos.cells p (stone_of c)) q q_on there in
       elim (cases_eq l.0 p) [
         | inl e ↦ (
@@ -153,24 +179,29 @@ module _ (pos : BoardState) (good : IsPosition pos) (c : Colour) (p : ℕ) (p_on
       ]
 
   -- a stone of the player elsewhere stood before the play
-  own_old : (q : ℕ) → q ≢ p → cell_at (set pos.cells p (stone_of c)) q ≡ stone_of c → is_stone (cell_at pos.cells q) ≡ true
+  own_old : (q : ℕ) → q ≢ p → cell_at (set pos.cells p (stone_of c)) q ≡ stone_of c
+      → is_stone (cell_at pos.cells q) ≡ true
   own_old q ne e = ap is_stone (sym (at_put_other pos.cells p q (stone_of c) ne) ∙ e) ∙ stone_is c
 
   -- Where the played stone's string has a liberty, every string has one.
-  pub after_alive : (after : List Cell) → after ≡ cells_after pos.size (set pos.cells p (stone_of c)) c → 0 < liberties pos.size after p
+  pub after_alive : (after : List Cell) → after ≡ cells_after pos.size (set pos.cells p (stone_of c)) c
+      → 0 < liberties pos.size after p
       → (q : ℕ) → q < pos.size * pos.size → is_stone (cell_at after q) ≡ true → 0 < liberties pos.size after q
   after_alive after is p_alive q q_on stone =
       let put : List Cell = set pos.cells p (stone_of c) in
-      let at : (x : ℕ) → x < pos.size * pos.size → cell_at after x ≡ cond (is_taken pos.size put c x) Empty (cell_at put x)
+      let at : (x : ℕ) → x < pos.size * pos.size
+      → cell_at after x ≡ cond (is_taken pos.size put c x) Empty (cell_at put x)
       = λ x h. ap (λ t. cell_at t x) is ∙ at_after pos.size put c x h in
-      let stays : (x : ℕ) → x < pos.size * pos.size → is_taken pos.size put c x ≡ false → cell_at after x ≡ cell_at put x
+      let stays : (x : ℕ) → x < pos.size * pos.size → is_taken pos.size put c x ≡ false
+      → cell_at after x ≡ cell_at put x
       = λ x h f. at x h ∙ ap (λ b. cond b Empty (cell_at put x)) f in
       let clear : (x : ℕ) → x < pos.size * pos.size → cell_at put x ≡ Empty → cell_at after x ≡ Empty
       = λ x h e. stays x h (empty_not_taken pos.size put c x e) ∙ e in
       let p_put : cell_at put p ≡ stone_of c = at_put_same pos.cells p (stone_of c) p_in in
       let p_after : cell_at after p ≡ stone_of c = stays p p_on (own_not_taken pos.size put c p p_put) ∙ p_put in
       elim (cases_Bool (is_taken pos.size put c q)) [
-        | inl t ↦ absurd (both_ways (is_stone Empty) refl (ap is_stone (sym (at q q_on ∙ ap (λ b. cond b Empty (cell_at put q)) t)) ∙ stone))
+        | inl t ↦ absurd (both_ways (is_stone Empty) refl
+            (ap is_stone (sym (at q q_on ∙ ap (λ b. cond b Empty (cell_at put q)) t)) ∙ stone))
         | inr f ↦
             let q_after : cell_at after q ≡ cell_at put q = stays q q_on f in
             elim (stone_cases c (cell_at put q) (ap is_stone (sym q_after) ∙ stone)) [
@@ -179,24 +210,30 @@ module _ (pos : BoardState) (good : IsPosition pos) (c : Colour) (p : ℕ) (p_on
                 | inr ne ↦
                     let old : is_stone (cell_at pos.cells q) ≡ true = own_old q ne own in
                     let l = liberties_some pos.size pos.cells q (good.alive q q_on old) in
-                    let q_cells : cell_at pos.cells q ≡ stone_of c = sym (at_put_other pos.cells p q (stone_of c) ne) ∙ own in
+                    let q_cells : cell_at pos.cells q ≡ stone_of c =
+                    sym (at_put_other pos.cells p q (stone_of c) ne) ∙ own in
                     let kept : (y : ℕ) → Path pos.size pos.cells q y → cell_at after y ≡ cell_at pos.cells y
                     = λ y w.
                     let y_cells : cell_at pos.cells y ≡ stone_of c = path_same pos.size pos.cells q w ∙ q_cells in
                     let y_not : y ≢ p = not_p y (ap is_stone y_cells ∙ stone_is c) in
                     let y_put : cell_at put y ≡ cell_at pos.cells y = at_put_other pos.cells p y (stone_of c) y_not in
-                    stays y (path_on_board pos.size pos.cells q q_on w) (own_not_taken pos.size put c y (y_put ∙ y_cells)) ∙ y_put in
-                    let there : Path pos.size after q l.1.beside.0 = path_keeps pos.size pos.cells after q kept l.1.beside.1.path in
+                    stays y (path_on_board pos.size pos.cells q q_on w)
+                    (own_not_taken pos.size put c y (y_put ∙ y_cells)) ∙ y_put in
+                    let there : Path pos.size after q l.1.beside.0 =
+                    path_keeps pos.size pos.cells after q kept l.1.beside.1.path in
                     elim (cases_eq l.0 p) [
                       | inl e ↦
-                          let x_near : are_neighbours pos.size l.1.beside.0 p ≡ true = subst (λ z. are_neighbours pos.size l.1.beside.0 z ≡ true) e l.1.beside.2 in
+                          let x_near : are_neighbours pos.size l.1.beside.0 p ≡ true =
+                          subst (λ z. are_neighbours pos.size l.1.beside.0 z ≡ true) e l.1.beside.2 in
                           let to_p : Path pos.size after q p = step there p_on x_near (p_after ∙ sym (q_after ∙ own)) in
                           let pl = liberties_some pos.size after p p_alive in
-                          liberties_from pos.size after q pl.0 q_on (liberty_moves pos.size after q p pl.0 q_on (record { stone = stone; path = to_p }) pl.1)
+                          liberties_from pos.size after q pl.0 q_on
+                          (liberty_moves pos.size after q p pl.0 q_on (record { stone = stone; path = to_p }) pl.1)
                       | inr l_not ↦
                           liberties_from pos.size after q l.0 q_on (record {
                             on_board = l.1.on_board;
-                            is_empty = clear l.0 l.1.on_board (at_put_other pos.cells p l.0 (stone_of c) l_not ∙ l.1.is_empty);
+                            is_empty = clear l.0 l.1.on_board (at_put_other pos.cells p l.0 (stone_of c) l_not
+                                ∙ l.1.is_empty);
                             beside = (l.1.beside.0, record { stone = stone; path = there }, l.1.beside.2);
                           })
                     ]
@@ -209,10 +246,12 @@ module _ (pos : BoardState) (good : IsPosition pos) (c : Colour) (p : ℕ) (p_on
                         let kept : (y : ℕ) → Path pos.size put q y → cell_at after y ≡ cell_at put y
                         = λ y w. elim (cases_Bool (is_taken pos.size put c y)) [
                           | inl ty ↦ absurd (both_ways (is_taken pos.size put c q) f
-                              (taken_whole pos.size put c y q (path_on_board pos.size put q q_on w) ty (path_back pos.size put q q_on w)))
+                              (taken_whole pos.size put c y q (path_on_board pos.size put q q_on w) ty
+                              (path_back pos.size put q q_on w)))
                           | inr fy ↦ stays y (path_on_board pos.size put q q_on w) fy
                         ] in
-                        let there : Path pos.size after q l.1.beside.0 = path_keeps pos.size put after q kept l.1.beside.1.path in
+                        let there : Path pos.size after q l.1.beside.0 =
+                        path_keeps pos.size put after q kept l.1.beside.1.path in
                         liberties_from pos.size after q l.0 q_on (record {
                           on_board = l.1.on_board;
                           is_empty = clear l.0 l.1.on_board l.1.is_empty;

@@ -24,41 +24,53 @@ after_on pos c p = cells_after pos.size (put_on pos c p) c
 
 -- the position after the play
 abbrev pub result_of : BoardState → Colour → ℕ → BoardState
-result_of pos c p = record { size = pos.size; cells = after_on pos c p; ban = ban_after pos.size (put_on pos c p) (after_on pos c p) c p }
+result_of pos c p = record {
+  size = pos.size;
+  cells = after_on pos c p;
+  ban = ban_after pos.size (put_on pos c p) (after_on pos c p) c p;
+}
 
 -- where a stone stands, the play with the ban dropped is Occupied
-pub free_occupied : (pos : BoardState) (c : Colour) (p : ℕ) → is_stone (cell_at pos.cells p) ≡ true → Err Occupied ≡ play_free pos c p
+pub free_occupied : (pos : BoardState) (c : Colour) (p : ℕ) → is_stone (cell_at pos.cells p) ≡ true
+    → Err Occupied ≡ play_free pos c p
 unfolding play_free
 free_occupied pos c p t = rw t refl
 
 -- where the stone's string has no liberty afterwards, it is Suicide
-pub free_suicide : (pos : BoardState) (c : Colour) (p : ℕ) → is_stone (cell_at pos.cells p) ≡ false → liberties pos.size (after_on pos c p) p ≡ 0 → Err Suicide ≡ play_free pos c p
+pub free_suicide : (pos : BoardState) (c : Colour) (p : ℕ) → is_stone (cell_at pos.cells p) ≡ false
+    → liberties pos.size (after_on pos c p) p ≡ 0 → Err Suicide ≡ play_free pos c p
 unfolding play_free
 free_suicide pos c p f z = rw (f, z) refl
 
 -- else it is done
-pub free_done : (pos : BoardState) (c : Colour) (p : ℕ) → is_stone (cell_at pos.cells p) ≡ false → liberties pos.size (after_on pos c p) p ≢ 0 → Ok (result_of pos c p) ≡ play_free pos c p
+pub free_done : (pos : BoardState) (c : Colour) (p : ℕ) → is_stone (cell_at pos.cells p) ≡ false
+    → liberties pos.size (after_on pos c p) p ≢ 0 → Ok (result_of pos c p) ≡ play_free pos c p
 unfolding play_free
 free_done pos c p f nz = rw (f, ne_eqb (liberties pos.size (after_on pos c p) p) 0 nz) refl
 
 -- where a stone stands, the play is Occupied
-pub play_occupied : (pos : BoardState) (c : Colour) (p : ℕ) → is_stone (cell_at pos.cells p) ≡ true → Err Occupied ≡ play pos c p
+pub play_occupied : (pos : BoardState) (c : Colour) (p : ℕ) → is_stone (cell_at pos.cells p) ≡ true
+    → Err Occupied ≡ play pos c p
 unfolding play
 play_occupied pos c p t = rw t refl
 
 -- where the ban is on the play, it is Ko
-pub play_ko : (pos : BoardState) (c : Colour) (p : ℕ) → is_stone (cell_at pos.cells p) ≡ false → is_banned pos.ban c p ≡ true → Err Ko ≡ play pos c p
+pub play_ko : (pos : BoardState) (c : Colour) (p : ℕ) → is_stone (cell_at pos.cells p) ≡ false
+    → is_banned pos.ban c p ≡ true → Err Ko ≡ play pos c p
 unfolding play
 play_ko pos c p f b = rw (f, b) refl
 
 -- else it is that with the ban dropped
-pub play_else : (pos : BoardState) (c : Colour) (p : ℕ) → is_stone (cell_at pos.cells p) ≡ false → is_banned pos.ban c p ≡ false → play_free pos c p ≡ play pos c p
+pub play_else : (pos : BoardState) (c : Colour) (p : ℕ) → is_stone (cell_at pos.cells p) ≡ false
+    → is_banned pos.ban c p ≡ false → play_free pos c p ≡ play pos c p
 unfolding play
 play_else pos c p f b = rw (f, b) refl
 
 -- the ban's point is one that was taken
-ban_of_first : (s : ℕ) (put after : List Cell) (c : Colour) (o : Option ℕ) → after ≡ cells_after s put c → first_below (s * s) (is_taken s put c) ≡ o
-    → IfSome (option_map {T = ℕ} {U = ℕ × Colour} (λ q. (q, other c)) o) (λ b. (b.0 < s * s) × (cell_at after b.0 ≡ Empty))
+ban_of_first : (s : ℕ) (put after : List Cell) (c : Colour) (o : Option ℕ) → after ≡ cells_after s put c
+    → first_below (s * s) (is_taken s put c) ≡ o
+    → IfSome (option_map {T = ℕ} {U = ℕ × Colour} (λ q. (q, other c)) o) (λ b. (b.0 < s * s)
+    × (cell_at after b.0 ≡ Empty))
 ban_of_first s put after c None is e = tt
 ban_of_first s put after c (Some q) is e =
     let found = first_below_gives (s * s) (is_taken s put c) q e in
@@ -70,17 +82,20 @@ pub ban_good : (s : ℕ) (put after : List Cell) (c : Colour) (p : ℕ) → afte
 unfolding ban_after
 ban_good s put after c p is = chosen _ _ (ban_of_first s put after c (first_below (s * s) (is_taken s put c)) is refl)
   where
-    chosen : (b : Bool) (o : Option (ℕ × Colour)) → IfSome o (λ b. (b.0 < s * s) × (cell_at after b.0 ≡ Empty)) → IfSome (cond b o None) (λ b. (b.0 < s * s) × (cell_at after b.0 ≡ Empty))
+    chosen : (b : Bool) (o : Option (ℕ × Colour)) → IfSome o (λ b. (b.0 < s * s) × (cell_at after b.0 ≡ Empty))
+        → IfSome (cond b o None) (λ b. (b.0 < s * s) × (cell_at after b.0 ≡ Empty))
     chosen true o h = h
     chosen false o h = tt
 
 -- the position after a play that is done is a position
-pub result_good : (pos : BoardState) (c : Colour) (p : ℕ) → IsPosition pos → p < pos.size * pos.size → is_stone (cell_at pos.cells p) ≡ false → liberties pos.size (after_on pos c p) p ≢ 0
+pub result_good : (pos : BoardState) (c : Colour) (p : ℕ) → IsPosition pos → p < pos.size * pos.size
+    → is_stone (cell_at pos.cells p) ≡ false → liberties pos.size (after_on pos c p) p ≢ 0
     → IsPosition (result_of pos c p)
 result_good pos c p good on f nz = record {
   size_at_least = good.size_at_least;
   size_at_most = good.size_at_most;
   cells = length_after pos.size (put_on pos c p) c;
-  alive = λ q q_on stone. after_alive pos good c p on (empty_from (cell_at pos.cells p) f) (after_on pos c p) refl (omega arith) q q_on stone;
+  alive = λ q q_on stone. after_alive pos good c p on (empty_from (cell_at pos.cells p) f) (after_on pos c p) refl
+      (omega arith) q q_on stone;
   ban = ban_good pos.size (put_on pos c p) (after_on pos c p) c p refl;
 }

@@ -11,8 +11,10 @@ pub eq_by_nat_cmp : (q k : ℕ) → eq_by_cmp nat_cmp q k ≡ eqb q k
 eq_by_nat_cmp q k = unsigned_tied q k
 
 -- a set with one more member
-pub contains-insert_nat : (s : set.FinSet nat_cmp) (k q : ℕ) → set.contains (set.insert s k) q ≡ (eqb q k || set.contains s q)
-contains-insert_nat s k q = set.contains-insert nat_cmp_total s k q ∙ ap (λ b. b || set.contains s q) (eq_by_nat_cmp q k)
+pub contains-insert_nat : (s : set.FinSet nat_cmp) (k q : ℕ)
+    → set.contains (set.insert s k) q ≡ (eqb q k || set.contains s q)
+contains-insert_nat s k q =
+    set.contains-insert nat_cmp_total s k q ∙ ap (λ b. b || set.contains s q) (eq_by_nat_cmp q k)
 
 -- two sets of numbers with the same members
 pub same_nat_set : (s t : set.FinSet nat_cmp) → ((q : ℕ) → set.contains s q ≡ set.contains t q) → s ≡ t
@@ -27,12 +29,18 @@ contains-set_below (suc n) test q =
       | inl t ↦ rw (t, contains-insert_nat (set_below n test) n q, contains-set_below n test q)
           (elim (cases_eq q n) [
             | inl e ↦ rw (e, eq-eqb n n refl, lt-ltb n (suc n) (omega arith), t) refl
-            | inr ne ↦ rw (ne_eqb q n ne) (elim (cases_lt q n) [ inl l ↦ rw (lt-ltb q n l, lt-ltb q (suc n) (omega arith)) refl | inr g ↦ rw (le-ltb q n g, le-ltb q (suc n) (omega arith)) refl ])
+            | inr ne ↦ rw (ne_eqb q n ne) (elim (cases_lt q n) [
+              | inl l ↦ rw (lt-ltb q n l, lt-ltb q (suc n) (omega arith)) refl
+              | inr g ↦ rw (le-ltb q n g, le-ltb q (suc n) (omega arith)) refl
+            ])
           ])
       | inr f ↦ rw (f, contains-set_below n test q)
           (elim (cases_eq q n) [
             | inl e ↦ rw (e, le-ltb n n (omega arith), lt-ltb n (suc n) (omega arith), f) refl
-            | inr ne ↦ elim (cases_lt q n) [ inl l ↦ rw (lt-ltb q n l, lt-ltb q (suc n) (omega arith)) refl | inr g ↦ rw (le-ltb q n g, le-ltb q (suc n) (omega arith)) refl ]
+            | inr ne ↦ elim (cases_lt q n) [
+              | inl l ↦ rw (lt-ltb q n l, lt-ltb q (suc n) (omega arith)) refl
+              | inr g ↦ rw (le-ltb q n g, le-ltb q (suc n) (omega arith)) refl
+            ]
           ])
     ]
 
@@ -43,7 +51,13 @@ len-set_below zero test = set.len-empty nat_cmp
 len-set_below (suc n) test =
     elim (cases_Bool (test n)) [
       | inl t ↦
-          rw (t, set.len-insert nat_cmp_total (set_below n test) n, contains-set_below n test n, le-ltb n n (omega arith), len-set_below n test) (omega arith)
+          rw (
+            t,
+            set.len-insert nat_cmp_total (set_below n test) n,
+            contains-set_below n test n,
+            le-ltb n n (omega arith),
+            len-set_below n test,
+          ) (omega arith)
       | inr f ↦ rw (f, len-set_below n test) (omega arith)
     ]
 
@@ -55,9 +69,11 @@ set_below-none test = refl
 -- a number that passes comes
 pub set_below-hit : (n : ℕ) (test : ℕ → Bool) → test n ≡ true → set.insert (set_below n test) n ≡ set_below (n + 1) test
 unfolding set_below
-set_below-hit n test t = let k : set_below (suc n) test ≡ set.insert (set_below n test) n = rw t refl in sym (ap (λ m. set_below m test) (add-one n) ∙ k)
+set_below-hit n test t = let k : set_below (suc n) test ≡ set.insert (set_below n test) n = rw t refl in
+    sym (ap (λ m. set_below m test) (add-one n) ∙ k)
 
 -- a number that fails does not come
 pub set_below-miss : (n : ℕ) (test : ℕ → Bool) → test n ≡ false → set_below n test ≡ set_below (n + 1) test
 unfolding set_below
-set_below-miss n test f = let k : set_below (suc n) test ≡ set_below n test = rw f refl in sym (ap (λ m. set_below m test) (add-one n) ∙ k)
+set_below-miss n test f = let k : set_below (suc n) test ≡ set_below n test = rw f refl in
+    sym (ap (λ m. set_below m test) (add-one n) ∙ k)

@@ -54,10 +54,16 @@ keeps_steps =
     each_of_eight KeepsSteps
     (λ d e h. h)
     (λ d e h. elim h [ inl r ↦ inr (ap neg_ℤ r.0, r.1) | inr c ↦ inl (c.0, next-neg d.0 e.0 c.1) ])
-    (λ d e h. elim h [ inl r ↦ inl (ap neg_ℤ r.0, next-neg d.1 e.1 r.1) | inr c ↦ inr (ap neg_ℤ c.0, next-neg d.0 e.0 c.1) ])
+    (λ d e h. elim h [
+      | inl r ↦ inl (ap neg_ℤ r.0, next-neg d.1 e.1 r.1)
+      | inr c ↦ inr (ap neg_ℤ c.0, next-neg d.0 e.0 c.1)
+    ])
     (λ d e h. elim h [ inl r ↦ inr (r.0, next-neg d.1 e.1 r.1) | inr c ↦ inl (ap neg_ℤ c.0, c.1) ])
     (λ d e h. elim h [ inl r ↦ inl (r.0, next-neg d.1 e.1 r.1) | inr c ↦ inr (ap neg_ℤ c.0, c.1) ])
-    (λ d e h. elim h [ inl r ↦ inr (ap neg_ℤ r.0, next-neg d.1 e.1 r.1) | inr c ↦ inl (ap neg_ℤ c.0, next-neg d.0 e.0 c.1) ])
+    (λ d e h. elim h [
+      | inl r ↦ inr (ap neg_ℤ r.0, next-neg d.1 e.1 r.1)
+      | inr c ↦ inl (ap neg_ℤ c.0, next-neg d.0 e.0 c.1)
+    ])
     (λ d e h. elim h [ inl r ↦ inl (ap neg_ℤ r.0, r.1) | inr c ↦ inr (c.0, next-neg d.0 e.0 c.1) ])
     (λ d e h. elim h [ inl r ↦ inr (r.0, r.1) | inr c ↦ inl (c.0, c.1) ])
 

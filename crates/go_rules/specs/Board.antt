@@ -1,5 +1,6 @@
--- Boards: their sizes, their points and which points are neighbours. A board of size s has s rows and s columns; its points
--- are the numbers below s * s, and point row * s + column stands in that row from the top and that column from the left.
+-- Boards: their sizes, their points and which points are neighbours. A board of size s has s rows and s columns; its
+-- points are the numbers below s * s, and point row * s + column stands in that row from the top and that column from
+-- the left.
 use Rattle.std.specs.Prelude.{◌≡◌, ℕ, ◌+◌, ◌*◌, ◌/◌, ◌%◌, ◌==◌, ◌<◌, ◌≤◌, ◌&&◌, ◌||◌, Bool, ◌⊎◌}
 
 -- the least number of rows that a board may have
@@ -57,7 +58,8 @@ are_neighbours s p q =
 abbrev pub AreConsecutive : ℕ → ℕ → Type 0
 AreConsecutive a b = (a ≡ b + 1) ⊎ (b ≡ a + 1)
 
--- the places are neighbours on a board of size s: both stand on it, and they differ by one in exactly one of row and column
+-- the places are neighbours on a board of size s: both stand on it, and they differ by one in exactly one of row and
+-- column
 pub record AreNeighbours (s : ℕ) (a b : Place) : Type 0 where
   pub first_on_board : IsOnBoard s a
   pub second_on_board : IsOnBoard s b

@@ -25,7 +25,8 @@ is_boundary s cells p r =
     && not (any_below r (is_in_string s cells r))
     && any_below (s * s) (λ q. is_in_string s cells r q && is_beside_string s cells p q)
 
--- the same in words: r holds an enemy, is the least point of its string, and a stone of that string is a neighbour of one of p's
+-- the same in words: r holds an enemy, is the least point of its string, and a stone of that string is a neighbour of
+-- one of p's
 pub record IsBoundary (s : ℕ) (cells : List Cell) (p r : ℕ) : Type 0 where
   pub enemy : is_enemy (cell_at cells p) (cell_at cells r) ≡ true
   pub least : (k : ℕ) → k < r → IsInString s cells r k → ⊥
@@ -48,4 +49,5 @@ pub record AddsLeast (s : ℕ) (cells : List Cell) (q : ℕ) (old new : set.FinS
 
 -- the set has the least point of the string of each point seen
 abbrev pub KnowsLeast : ℕ → List Cell → set.FinSet nat_cmp → set.FinSet nat_cmp → Type 0
-KnowsLeast s cells seen least = (q : ℕ) → set.contains seen q ≡ true → (r : ℕ) → LeastOf s cells q r → set.contains least r ≡ true
+KnowsLeast s cells seen least = (q : ℕ) → set.contains seen q ≡ true → (r : ℕ) → LeastOf s cells q r
+    → set.contains least r ≡ true

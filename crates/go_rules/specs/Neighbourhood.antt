@@ -1,5 +1,5 @@
--- The neighbourhood of a set of points: its points on the board, the whole strings of their stones, and the neighbours of all of
--- these. What a look at a position may need is said by neighbourhoods.
+-- The neighbourhood of a set of points: its points on the board, the whole strings of their stones, and the neighbours
+-- of all of these. What a look at a position may need is said by neighbourhoods.
 use Rattle.std.specs.Prelude.{◌≡◌, ℕ, ◌*◌, ◌<◌, ◌&&◌, ◌||◌, Bool, true, nat_lt, List}
 use Rattle.go_rules.specs.declared.Cell.{Cell}
 use Rattle.go_rules.specs.Below.{any_below}

@@ -1,4 +1,5 @@
--- Plays and passes as functions that compute: a stone is put, what it captures is taken, suicide is judged, a ban is left.
+-- Plays and passes as functions that compute: a stone is put, what it captures is taken, suicide is judged, a ban is
+-- left.
 use Rattle.std.specs.Prelude.{ℕ, ◌*◌, ◌==◌, ◌&&◌, Bool, List, map, slice_set, Option, None, Result, Ok, Err, is_ok, if◌then◌else◌, option_map}
 use Rattle.std.specs.List.{range_with_len}
 use Rattle.std.specs.Ordering.{nat_cmp}
@@ -24,11 +25,12 @@ taken_at s put c = set_below (s * s) (is_taken s put c)
 unfoldable pub cells_after : ℕ → List Cell → Colour → List Cell
 cells_after s put c = map (λ q. if is_taken s put c q then Empty else cell_at put q) (range_with_len 0 (s * s))
 
--- the ban that c leaves at p: where one stone was taken, and the stone played is a string of one stone with one liberty, the
--- other colour may not play where the taken stone stood
+-- the ban that c leaves at p: where one stone was taken, and the stone played is a string of one stone with one
+-- liberty, the other colour may not play where the taken stone stood
 unfoldable pub ban_after : ℕ → List Cell → List Cell → Colour → ℕ → Option (ℕ × Colour)
 ban_after s put after c p =
-    if (count_below (s * s) (is_taken s put c) == 1) && (count_below (s * s) (is_in_string s after p) == 1) && (liberties s after p == 1)
+    if (count_below (s * s) (is_taken s put c) == 1) && (count_below (s * s) (is_in_string s after p) == 1)
+    && (liberties s after p == 1)
     then option_map (λ q. (q, other c)) (first_below (s * s) (is_taken s put c))
     else None
 

@@ -29,12 +29,14 @@ same_colour black black = true
 same_colour white white = true
 same_colour _ _ = false
 
--- the board is a position: it has a cell for each point, every string has a liberty, and the ban's point is on it and empty
+-- the board is a position: it has a cell for each point, every string has a liberty, and the ban's point is on it and
+-- empty
 pub record IsPosition (pos : BoardState) : Type 0 where
   pub size_at_least : smallest_size ≤ pos.size
   pub size_at_most : pos.size ≤ largest_size
   pub cells : length pos.cells ≡ pos.size * pos.size
-  pub alive : (p : ℕ) → p < pos.size * pos.size → is_stone (cell_at pos.cells p) ≡ true → 0 < liberties pos.size pos.cells p
+  pub alive : (p : ℕ) → p < pos.size * pos.size → is_stone (cell_at pos.cells p) ≡ true
+      → 0 < liberties pos.size pos.cells p
   pub ban : IfSome pos.ban (λ b. (b.0 < pos.size * pos.size) × (cell_at pos.cells b.0 ≡ Empty))
 
 -- the ban forbids c to play at p

@@ -27,25 +27,29 @@ pub record Follows (pos : BoardState) (c : Colour) (p : ℕ) (new : BoardState) 
 -- the stone that c puts at p has no liberty after its captures
 pub record IsSuicide (pos : BoardState) (c : Colour) (p : ℕ) : Type 0 where
   pub was_empty : cell_at pos.cells p ≡ Empty
-  pub dead : (after : List Cell) → Removes pos.size (slice_set pos.cells p (stone_of c)) c after → (l : ℕ) → IsLiberty pos.size after p l → ⊥
+  pub dead : (after : List Cell) → Removes pos.size (slice_set pos.cells p (stone_of c)) c after → (l : ℕ)
+      → IsLiberty pos.size after p l → ⊥
 
 -- l is a liberty of the string of p, and the only one
 pub record IsOnlyLiberty (s : ℕ) (cells : List Cell) (p l : ℕ) : Type 0 where
   pub its : IsLiberty s cells p l
   pub only : (k : ℕ) → IsLiberty s cells p k → k ≡ l
 
--- after c played at p, which left these cells, the other colour may not play at q: one stone was captured, it stood at q, and the
--- played stone is a string of one stone with one liberty
+-- after c played at p, which left these cells, the other colour may not play at q: one stone was captured, it stood at
+-- q, and the played stone is a string of one stone with one liberty
 pub record LeavesBan (pos : BoardState) (c : Colour) (p : ℕ) (after : List Cell) (q : ℕ) : Type 0 where
   pub on_board : q < pos.size * pos.size
   pub taken : IsCaptured pos.size (slice_set pos.cells p (stone_of c)) c q
-  pub one_taken : (r : ℕ) → r < pos.size * pos.size → IsCaptured pos.size (slice_set pos.cells p (stone_of c)) c r → r ≡ q
+  pub one_taken : (r : ℕ) → r < pos.size * pos.size → IsCaptured pos.size (slice_set pos.cells p (stone_of c)) c r
+      → r ≡ q
   pub stone_alone : (r : ℕ) → IsInString pos.size after p r → r ≡ p
   pub one_liberty : (l : ℕ) × IsOnlyLiberty pos.size after p l
 
--- the board is of a size, it has a cell for each point, each stone's string has a liberty, and the point of its ban is on it and empty
+-- the board is of a size, it has a cell for each point, each stone's string has a liberty, and the point of its ban is
+-- on it and empty
 pub record IsPositionInWords (pos : BoardState) : Type 0 where
   pub size : IsSize pos.size
   pub cells : length pos.cells ≡ pos.size * pos.size
-  pub alive : (p : ℕ) → p < pos.size * pos.size → cell_at pos.cells p ≢ Empty → (l : ℕ) × IsLiberty pos.size pos.cells p l
+  pub alive : (p : ℕ) → p < pos.size * pos.size → cell_at pos.cells p ≢ Empty
+      → (l : ℕ) × IsLiberty pos.size pos.cells p l
   pub ban : (q : ℕ) (c : Colour) → pos.ban ≡ Some (q, c) → (q < pos.size * pos.size) × (cell_at pos.cells q ≡ Empty)

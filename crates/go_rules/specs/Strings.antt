@@ -27,7 +27,8 @@ cell_at cells p = slice_index_or cells p Empty
 -- a path from p to q: each point is a neighbour of the one before, and each holds what p holds
 pub data Path (s : ℕ) (cells : List Cell) (p : ℕ) : ℕ → Type 0 where
   start : Path s cells p p
-  step : {q r : ℕ} → Path s cells p q → r < s * s → are_neighbours s q r ≡ true → cell_at cells r ≡ cell_at cells p → Path s cells p r
+  step : {q r : ℕ} → Path s cells p q → r < s * s → are_neighbours s q r ≡ true → cell_at cells r ≡ cell_at cells p
+      → Path s cells p r
 
 -- q is a stone of the string of p: p holds a stone, and a path leads from p to q
 pub record IsInString (s : ℕ) (cells : List Cell) (p q : ℕ) : Type 0 where
@@ -45,7 +46,8 @@ unfoldable pub reached : ℕ → List Cell → ℕ → ℕ → ℕ → Bool
 reached s cells p zero q = q == p
 reached s cells p (suc n) q =
     reached s cells p n q
-    || (nat_lt q (s * s) && same_cell (cell_at cells q) (cell_at cells p) && any_below (s * s) (λ r. reached s cells p n r && are_neighbours s r q))
+    || (nat_lt q (s * s) && same_cell (cell_at cells q) (cell_at cells p)
+    && any_below (s * s) (λ r. reached s cells p n r && are_neighbours s r q))
 
 -- q is a stone of the string of p, by a path of at most s * s steps
 unfoldable pub is_in_string : ℕ → List Cell → ℕ → ℕ → Bool
@@ -54,7 +56,8 @@ is_in_string s cells p q = is_stone (cell_at cells p) && reached s cells p (s * 
 -- l is an empty neighbour of a stone of the string of p
 unfoldable pub is_liberty : ℕ → List Cell → ℕ → ℕ → Bool
 is_liberty s cells p l =
-    nat_lt l (s * s) && same_cell (cell_at cells l) Empty && any_below (s * s) (λ q. is_in_string s cells p q && are_neighbours s q l)
+    nat_lt l (s * s) && same_cell (cell_at cells l) Empty
+    && any_below (s * s) (λ q. is_in_string s cells p q && are_neighbours s q l)
 
 -- how many liberties the string of p has; 0 where p is empty
 unfoldable pub liberties : ℕ → List Cell → ℕ → ℕ

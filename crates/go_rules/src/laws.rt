@@ -1,6 +1,6 @@
-//! What the definitions of specs/ mean, in Go's own words. Each function here is a law: its contract is what is proved, and it does
-//! nothing. The definitions that compute (`play`, `is_in_string`, `liberties`) stand in the contracts of the crates above; the laws
-//! tie them to paths, places and the rules as a Go book has them.
+//! What the definitions of specs/ mean, in Go's own words. Each function here is a law: its contract is what is proved,
+//! and it does nothing. The definitions that compute (`play`, `is_in_string`, `liberties`) stand in the contracts of
+//! the crates above; the laws tie them to paths, places and the rules as a Go book has them.
 
 ghost use Rattle.std.specs.Prelude.{◌≡◌, ◌≢◌, ◌⊎◌, ℕ, Ok, Err, Some, None, ◌+◌, ◌*◌, ◌<◌, ◌↔◌, Bool, IsTrue, true, List, [], ◌∷◌, ◌++◌, slice_set};
 ghost use Rattle.go_rules.specs.declared.Cell.{Cell};
@@ -54,14 +54,16 @@ pub fn strings_are_by_paths()
 pub fn strings_are_classes()
     ensures itself { (s : ℕ) (cells : List Cell) (p : ℕ) → is_stone (cell_at cells p) ≡ true → IsInString s cells p p }
     ensures back { (s : ℕ) (cells : List Cell) (p q : ℕ) → p < s * s → IsInString s cells p q → IsInString s cells q p }
-    ensures onward { (s : ℕ) (cells : List Cell) (p q r : ℕ) → IsInString s cells p q → IsInString s cells q r → IsInString s cells p r }
-    ensures one_colour { (s : ℕ) (cells : List Cell) (p q : ℕ) → IsInString s cells p q → cell_at cells q ≡ cell_at cells p }
+    ensures onward { (s : ℕ) (cells : List Cell) (p q r : ℕ) → IsInString s cells p q → IsInString s cells q r
+        → IsInString s cells p r }
+    ensures one_colour { (s : ℕ) (cells : List Cell) (p q : ℕ) → IsInString s cells p q
+        → cell_at cells q ≡ cell_at cells p }
     ensures same_liberties { (s : ℕ) (cells : List Cell) (p q l : ℕ) → p < s * s → IsInString s cells p q
         → IsLiberty s cells q l → IsLiberty s cells p l }
 {}
 
-/// The tests of the boundary of a string and of the neighbourhood of a set of points say what the words say, and a neighbourhood lies
-/// on the board.
+/// The tests of the boundary of a string and of the neighbourhood of a set of points say what the words say, and a
+/// neighbourhood lies on the board.
 pub fn boundaries_are_in_words()
     ensures boundary { (s : ℕ) (cells : List Cell) (p r : ℕ) → p < s * s → r < s * s
         → IsTrue (is_boundary s cells p r) ↔ IsBoundary s cells p r }
@@ -70,13 +72,15 @@ pub fn boundaries_are_in_words()
     ensures on_board { (s : ℕ) (cells : List Cell) (S : ℕ → Bool) (q : ℕ) → InNeighbourhood s cells S q → q < s * s }
 {}
 
-/// What the computing definition of a play answers is what the rules say: the position that follows, or why there is none.
+/// What the computing definition of a play answers is what the rules say: the position that follows, or why there is
+/// none.
 pub fn plays_are_by_rules()
     ensures follows { (pos : BoardState) (c : Colour) (p : ℕ) (new : BoardState) → p < pos.size * pos.size
         → play_free pos c p ≡ Ok new → Follows pos c p new }
     ensures answered { (pos : BoardState) (c : Colour) (p : ℕ) (next : BoardState) → p < pos.size * pos.size
         → Follows pos c p next → (new : BoardState) × (play_free pos c p ≡ Ok new) }
-    ensures determined { (pos : BoardState) (c : Colour) (p : ℕ) (a b : BoardState) → Follows pos c p a → Follows pos c p b
+    ensures determined { (pos : BoardState) (c : Colour) (p : ℕ) (a b : BoardState) → Follows pos c p a
+        → Follows pos c p b
         → (q : ℕ) → q < pos.size * pos.size → cell_at a.cells q ≡ cell_at b.cells q }
     ensures occupied { (pos : BoardState) (c : Colour) (p : ℕ)
         → (play_free pos c p ≡ Err Illegal.Occupied) ↔ (cell_at pos.cells p ≢ Cell.Empty) }
@@ -87,18 +91,21 @@ pub fn plays_are_by_rules()
 
 /// A play changes no cell but its own point, where the stone stands afterwards, and the captured enemy stones.
 pub fn plays_change_little()
-    ensures stone { (pos : BoardState) (c : Colour) (p : ℕ) (new : BoardState) → IsPosition pos → p < pos.size * pos.size
+    ensures stone { (pos : BoardState) (c : Colour) (p : ℕ) (new : BoardState) → IsPosition pos
+        → p < pos.size * pos.size
         → play_free pos c p ≡ Ok new → cell_at new.cells p ≡ stone_of c }
     ensures others { (pos : BoardState) (c : Colour) (p : ℕ) (new : BoardState) (q : ℕ) → play_free pos c p ≡ Ok new
         → q < pos.size * pos.size → q ≢ p → (cell_at new.cells q ≡ cell_at pos.cells q)
-        ⊎ ((cell_at pos.cells q ≡ stone_of (other c)) × (cell_at new.cells q ≡ Cell.Empty) × IsCaptured pos.size (slice_set pos.cells p (stone_of c)) c q) }
+        ⊎ ((cell_at pos.cells q ≡ stone_of (other c)) × (cell_at new.cells q ≡ Cell.Empty)
+        × IsCaptured pos.size (slice_set pos.cells p (stone_of c)) c q) }
 {}
 
 /// The ban that a play leaves is the one of the words, and it is always on the other colour.
 pub fn bans_are_by_rules()
     ensures left { (pos : BoardState) (c : Colour) (p : ℕ) (new : BoardState) (q : ℕ) → p < pos.size * pos.size
         → play_free pos c p ≡ Ok new → (new.ban ≡ Some (q, other c)) ↔ LeavesBan pos c p new.cells q }
-    ensures colour { (pos : BoardState) (c : Colour) (p : ℕ) (new : BoardState) (q : ℕ) (k : Colour) → p < pos.size * pos.size
+    ensures colour { (pos : BoardState) (c : Colour) (p : ℕ) (new : BoardState) (q : ℕ) (k : Colour)
+        → p < pos.size * pos.size
         → play_free pos c p ≡ Ok new → new.ban ≡ Some (q, k) → k ≡ other c }
 {}
 
@@ -114,32 +121,39 @@ pub fn reasons_are_in_order()
         → cell_at pos.cells p ≡ Cell.Empty → pos.ban ≢ Some (p, c) → play pos c p ≡ play_free pos c p }
 {}
 
-/// The empty board is a position, and every play that is answered, every pass and every legal game leads to a position: each string
-/// has a liberty, and the ban's point is empty and on the board.
+/// The empty board is a position, and every play that is answered, every pass and every legal game leads to a position:
+/// each string has a liberty, and the ban's point is empty and on the board.
 pub fn games_keep_positions()
     ensures empty { (s : ℕ) → IsSize s → IsPosition (empty_board s) }
     ensures play { (pos : BoardState) (c : Colour) (p : ℕ) (new : BoardState) → IsPosition pos → p < pos.size * pos.size
         → play pos c p ≡ Ok new → IsPosition new }
-    ensures play_free { (pos : BoardState) (c : Colour) (p : ℕ) (new : BoardState) → IsPosition pos → p < pos.size * pos.size
+    ensures play_free { (pos : BoardState) (c : Colour) (p : ℕ) (new : BoardState) → IsPosition pos
+        → p < pos.size * pos.size
         → play_free pos c p ≡ Ok new → IsPosition new }
     ensures pass { (pos : BoardState) → IsPosition pos → IsPosition (pass pos) }
-    ensures game { (pos : BoardState) (moves : List Move) → IsPosition pos → IsLegalGame pos moves → IsPosition (replay_from pos moves) }
+    ensures game { (pos : BoardState) (moves : List Move) → IsPosition pos → IsLegalGame pos moves
+        → IsPosition (replay_from pos moves) }
 {}
 
-/// What a position keeps, in words, and so what each legal game keeps from the empty board on: each string has a liberty, and the
-/// ban's point is empty and on the board.
+/// What a position keeps, in words, and so what each legal game keeps from the empty board on: each string has a
+/// liberty, and the ban's point is empty and on the board.
 pub fn positions_are_in_words()
     ensures words { (pos : BoardState) → IsPosition pos ↔ IsPositionInWords pos }
-    ensures game { (s : ℕ) (moves : List Move) → IsSize s → IsLegalGame (empty_board s) moves → IsPositionInWords (replay s moves) }
+    ensures game { (s : ℕ) (moves : List Move) → IsSize s → IsLegalGame (empty_board s) moves
+        → IsPositionInWords (replay s moves) }
 {}
 
-/// What a colour took grows by its own moves alone: by as many stones as stood before the move and do not stand after it. A pass takes
-/// none, and where no move was made nothing was taken.
+/// What a colour took grows by its own moves alone: by as many stones as stood before the move and do not stand after
+/// it. A pass takes none, and where no move was made nothing was taken.
 pub fn captures_are_stones_gone()
     ensures nothing { (s : ℕ) (c : Colour) → captures s c [] ≡ 0 }
-    ensures own { (s : ℕ) (moves : List Move) (m : Move) (next : BoardState) → IsSize s → IsLegalGame (empty_board s) moves
+    ensures own { (s : ℕ) (moves : List Move) (m : Move) (next : BoardState) → IsSize s
+        → IsLegalGame (empty_board s) moves
         → IsLegalMove (replay s moves) m → moved (replay s moves) m ≡ Ok next
-        → captures s m.colour (moves ++ m ∷ []) ≡ captures s m.colour moves + stones_gone s (replay s moves).cells next.cells }
-    ensures others { (s : ℕ) (moves : List Move) (m : Move) → captures s (other m.colour) (moves ++ m ∷ []) ≡ captures s (other m.colour) moves }
-    ensures pass { (s : ℕ) (c k : Colour) (moves : List Move) → captures s c (moves ++ (record { colour = k; at = None }) ∷ []) ≡ captures s c moves }
+        → captures s m.colour (moves ++ m ∷ []) ≡ captures s m.colour moves + stones_gone s
+        (replay s moves).cells next.cells }
+    ensures others { (s : ℕ) (moves : List Move) (m : Move)
+        → captures s (other m.colour) (moves ++ m ∷ []) ≡ captures s (other m.colour) moves }
+    ensures pass { (s : ℕ) (c k : Colour) (moves : List Move)
+        → captures s c (moves ++ (record { colour = k; at = None }) ∷ []) ≡ captures s c moves }
 {}

@@ -1,8 +1,9 @@
-//! The rules of Go as definitions: points, strings, liberties, plays, the ko ban and games, and the laws that say in Go's own
-//! words what the computing definitions mean. There is next to no code here; every other crate cites what stands in specs/.
+//! The rules of Go as definitions: points, strings, liberties, plays, the ko ban and games, and the laws that say in
+//! Go's own words what the computing definitions mean. There is next to no code here; every other crate cites what
+//! stands in specs/.
 //!
-//! A point of a board of size `s` is a number below `s * s`: point `r * s + c` stands in row `r` from the top and column `c`
-//! from the left, both counted from 0.
+//! A point of a board of size `s` is a number below `s * s`: point `r * s + c` stands in row `r` from the top and
+//! column `c` from the left, both counted from 0.
 #![tactic(auto)]
 
 ghost use Rattle.std.specs.Prelude.{◌≡◌};

@@ -27,7 +27,8 @@ class_there p letter e =
 
 -- and the other way round
 class_found : (p : Pattern) (letter : ℕ) → Contains p.classes letter → has_class p letter ≡ true
-class_found p letter is = list_any-from_Any (λ c. eqb c letter) p.classes (is.0, letter, is.1, is.2, eq-eqb letter letter refl)
+class_found p letter is =
+    list_any-from_Any (λ c. eqb c letter) p.classes (is.0, letter, is.1, is.2, eq-eqb letter letter refl)
 
 module _ (code : Codes) (board : BoardState) (c : Colour) (m : ℕ) where
   -- a safe move is a legal play whose stone cannot be captured
@@ -35,25 +36,31 @@ module _ (code : Codes) (board : BoardState) (c : Colour) (m : ℕ) where
   unfolding is_safe_move
   safe_play e = by (play board c m) refl e
     where
-      by : (r : Result BoardState Illegal) → play board c m ≡ r → after_play false (λ next. eqb (code_at code Attack next m) 0) r ≡ true → IsSafePlay code board c m
+      by : (r : Result BoardState Illegal) → play board c m ≡ r
+          → after_play false (λ next. eqb (code_at code Attack next m) 0) r ≡ true → IsSafePlay code board c m
       by (Ok next) at is = record { next = next; legal = at; safe = eqb-true (code_at code Attack next m) 0 is }
       by (Err reason) at is = absurd (false≢true is)
 
   -- and the other way round
   safe_move : IsSafePlay code board c m → is_safe_move code board c m ≡ true
   unfolding is_safe_move
-  safe_move is = ap (after_play false (λ next. eqb (code_at code Attack next m) 0)) is.legal ∙ eq-eqb (code_at code Attack is.next m) 0 is.safe
+  safe_move is = ap (after_play false (λ next. eqb (code_at code Attack next m) 0)) is.legal
+      ∙ eq-eqb (code_at code Attack is.next m) 0 is.safe
 
 -- a value counts as true where it is not 0
-so_value : (meanings : Meanings) (o : Option Expr) → is_so_valued meanings o ≡ true → (e : Expr) → o ≡ Some e → value_of meanings e ≢ pos 0
+so_value : (meanings : Meanings) (o : Option Expr) → is_so_valued meanings o ≡ true → (e : Expr) → o ≡ Some e
+    → value_of meanings e ≢ pos 0
 so_value meanings None so e at = absurd (none-some e at)
 so_value meanings (Some d) so e at =
-    subst (λ x. value_of meanings x ≢ pos 0) (same_Some d e at) ((Decides-not (int_eq (value_of meanings d) (pos 0)) (Decides-int_eq (value_of meanings d) (pos 0))).0 so)
+    subst (λ x. value_of meanings x ≢ pos 0) (same_Some d e at)
+    ((Decides-not (int_eq (value_of meanings d) (pos 0)) (Decides-int_eq (value_of meanings d) (pos 0))).0 so)
 
 -- and the other way round
-value_so : (meanings : Meanings) (o : Option Expr) → ((e : Expr) → o ≡ Some e → value_of meanings e ≢ pos 0) → is_so_valued meanings o ≡ true
+value_so : (meanings : Meanings) (o : Option Expr) → ((e : Expr) → o ≡ Some e → value_of meanings e ≢ pos 0)
+    → is_so_valued meanings o ≡ true
 value_so meanings None each = refl
-value_so meanings (Some d) each = (Decides-not (int_eq (value_of meanings d) (pos 0)) (Decides-int_eq (value_of meanings d) (pos 0))).1 (each d refl)
+value_so meanings (Some d) each =
+    (Decides-not (int_eq (value_of meanings d) (pos 0)) (Decides-int_eq (value_of meanings d) (pos 0))).1 (each d refl)
 
 -- what classes and constraint say of the friend's move at m under t
 pub record IsAllowed (code : Codes) (p : Pattern) (board : BoardState) (friend : Colour) (t m : ℕ) : Type 0 where
@@ -66,17 +73,19 @@ module _ (code : Codes) (p : Pattern) (board : BoardState) (friend : Colour) (t 
   pub allowed-true : is_allowed code p board friend t m ≡ true → IsAllowed code p board friend t m
   unfolding is_allowed
   allowed-true e =
-      let parts = and_parts (is_safe code p board friend m) (is_enemy_safe code p board friend m && is_constraint_true code p board friend t m) e in
+      let parts = and_parts (is_safe code p board friend m)
+      (is_enemy_safe code p board friend m && is_constraint_true code p board friend t m) e in
       let more = and_parts (is_enemy_safe code p board friend m) (is_constraint_true code p board friend t m) parts.1 in
       record {
         safe = elim (or_cases (has_class p unsafe_class) (is_safe_move code board friend m) parts.0) [
           | inl there ↦ inl (class_there p unsafe_class there)
           | inr safe ↦ inr (safe_play code board friend m safe)
         ];
-        enemy_safe = λ there. elim (or_cases (not (has_class p enemy_class)) (is_safe_move code board (other friend) m) more.0) [
-          | inl none ↦ absurd (false≢true (sym (ap not (class_found p enemy_class there)) ∙ none))
-          | inr safe ↦ safe_play code board (other friend) m safe
-        ];
+        enemy_safe = λ there. elim (or_cases (not (has_class p enemy_class))
+            (is_safe_move code board (other friend) m) more.0) [
+              | inl none ↦ absurd (false≢true (sym (ap not (class_found p enemy_class there)) ∙ none))
+              | inr safe ↦ safe_play code board (other friend) m safe
+            ];
         constraint_true = so_value (meanings_at code p board friend t m) p.constraint more.1;
       }
 
@@ -84,14 +93,19 @@ module _ (code : Codes) (p : Pattern) (board : BoardState) (friend : Colour) (t 
   pub allowed-from : IsAllowed code p board friend t m → is_allowed code p board friend t m ≡ true
   unfolding is_allowed
   allowed-from is =
-      and_from (is_safe code p board friend m) (is_enemy_safe code p board friend m && is_constraint_true code p board friend t m)
+      and_from (is_safe code p board friend m) (is_enemy_safe code p board friend m
+      && is_constraint_true code p board friend t m)
       (elim is.safe [
-        | inl there ↦ or_left (has_class p unsafe_class) (is_safe_move code board friend m) (class_found p unsafe_class there)
-        | inr safe ↦ or_right (has_class p unsafe_class) (is_safe_move code board friend m) (safe_move code board friend m safe)
+        | inl there ↦ or_left (has_class p unsafe_class) (is_safe_move code board friend m)
+            (class_found p unsafe_class there)
+        | inr safe ↦ or_right (has_class p unsafe_class) (is_safe_move code board friend m)
+            (safe_move code board friend m safe)
       ])
       (and_from (is_enemy_safe code p board friend m) (is_constraint_true code p board friend t m)
       (elim (cases_Bool (has_class p enemy_class)) [
-        | inl there ↦ or_right (not (has_class p enemy_class)) (is_safe_move code board (other friend) m) (safe_move code board (other friend) m (is.enemy_safe (class_there p enemy_class there)))
-        | inr none ↦ or_left (not (has_class p enemy_class)) (is_safe_move code board (other friend) m) (not_from_false (has_class p enemy_class) none)
+        | inl there ↦ or_right (not (has_class p enemy_class)) (is_safe_move code board (other friend) m)
+            (safe_move code board (other friend) m (is.enemy_safe (class_there p enemy_class there)))
+        | inr none ↦ or_left (not (has_class p enemy_class)) (is_safe_move code board (other friend) m)
+            (not_from_false (has_class p enemy_class) none)
       ])
       (value_so (meanings_at code p board friend t m) p.constraint is.constraint_true))

@@ -18,7 +18,8 @@ use Rattle.match_rules.specs.Fits.{place_of_cell, letter_at, LetterFits, Fits, l
 use Rattle.match_rules.proofs.Lists.{passes_each, passes_all, Contains-map_from, Contains-flat_map_from, Contains-below_from}
 
 -- a letter fits only on the board, where it admits what stands there
-letter_on : (l : Letter) (board : BoardState) (friend : Colour) (o : Option ℕ) → drawn_fits (Shows l) board friend o ≡ true
+letter_on : (l : Letter) (board : BoardState) (friend : Colour) (o : Option ℕ)
+    → drawn_fits (Shows l) board friend o ≡ true
     → (q : ℕ) × (o ≡ Some q) × (admits l (cell_at board.cells q) friend ≡ true)
 letter_on l board friend None e = absurd (false≢true e)
 letter_on l board friend (Some q) e = (q, refl, e)
@@ -35,24 +36,35 @@ is_line Edge = true
 is_line Beyond = false
 
 -- a drawn line is one of the letters' lines or of those beside them
-line_within : (n : ℕ) (before after : Bool) (z : ℤ) → is_line (line_at n before after z) ≡ true → (k : ℕ) × (k < n + 2) × (pos k -ℤ pos 1 ≡ z)
+line_within : (n : ℕ) (before after : Bool) (z : ℤ) → is_line (line_at n before after z) ≡ true
+    → (k : ℕ) × (k < n + 2) × (pos k -ℤ pos 1 ≡ z)
 line_within n before after (pos j) e = elim (cases_Bool (ltb j n)) [
   | inl low ↦ (suc j, omega (arith, ltb-true j n low), omega (arith, ints))
   | inr high ↦ elim (cases_Bool (eqb j n && after)) [
     | inl edge ↦ (suc j, omega (arith, eqb-true j n (and_parts (eqb j n) after edge).0), omega (arith, ints))
-    | inr none ↦ absurd (false≢true (sym (ap (λ t. is_line (cond t (Crosses j) (cond (eqb j n && after) Edge Beyond))) high ∙ ap (λ t. is_line (cond t Edge Beyond)) none) ∙ e))
+    | inr none ↦ absurd (false≢true
+        (sym (ap (λ t. is_line (cond t (Crosses j) (cond (eqb j n && after) Edge Beyond))) high
+        ∙ ap (λ t. is_line (cond t Edge Beyond)) none) ∙ e))
   ]
 ]
 line_within n before after (negsuc j) e = elim (cases_Bool (eqb j 0 && before)) [
-  | inl edge ↦ (0, omega arith, let same : j ≡ 0 = eqb-true j 0 (and_parts (eqb j 0) before edge).0 in omega (arith, ints, same))
+  | inl edge ↦ (
+    0,
+    omega arith,
+    let same : j ≡ 0 = eqb-true j 0 (and_parts (eqb j 0) before edge).0 in
+        omega (arith, ints, same),
+  )
   | inr none ↦ absurd (false≢true (sym (ap (λ t. is_line (cond t Edge Beyond)) none) ∙ e))
 ]
 
 -- a line of the letters has its number
 line_crosses : (n k : ℕ) (before after : Bool) (z : ℤ) → line_at n before after z ≡ Crosses k → (z ≡ pos k) × (k < n)
 line_crosses n k before after (pos j) e = elim (cases_Bool (ltb j n)) [
-  | inl low ↦ let same : Crosses j ≡ Crosses k = sym (ap (λ t. cond t (Crosses j) (cond (eqb j n && after) Edge Beyond)) low) ∙ e in let number : j ≡ k = cc in (ap pos number, subst (λ i. i < n) number (ltb-true j n low))
-  | inr high ↦ absurd (never (eqb j n && after) (sym (ap (λ t. cond t (Crosses j) (cond (eqb j n && after) Edge Beyond)) high) ∙ e))
+  | inl low ↦ let same : Crosses j ≡ Crosses k =
+      sym (ap (λ t. cond t (Crosses j) (cond (eqb j n && after) Edge Beyond)) low) ∙ e in let number : j ≡ k = cc in
+      (ap pos number, subst (λ i. i < n) number (ltb-true j n low))
+  | inr high ↦ absurd (never (eqb j n && after)
+      (sym (ap (λ t. cond t (Crosses j) (cond (eqb j n && after) Edge Beyond)) high) ∙ e))
 ]
   where
     never : (b : Bool) → cond b Edge Beyond ≡ Crosses k → ⊥
@@ -80,7 +92,8 @@ lines_meet p (Crosses r) Edge some = record { row_drawn = refl; column_drawn = r
 lines_meet p (Crosses r) (Crosses c) some = record { row_drawn = refl; column_drawn = refl }
 
 -- a letter is drawn only where two lines of letters meet
-letters_meet : (p : Pattern) (row column : Line) (l : Letter) → drawn_by p row column ≡ Shows l → (r : ℕ) × (c : ℕ) × (row ≡ Crosses r) × (column ≡ Crosses c) × (letter_at p r c ≡ l)
+letters_meet : (p : Pattern) (row column : Line) (l : Letter) → drawn_by p row column ≡ Shows l
+    → (r : ℕ) × (c : ℕ) × (row ≡ Crosses r) × (column ≡ Crosses c) × (letter_at p r c ≡ l)
 letters_meet p Beyond column l e = absurd (let h : ⊥ = cc in h)
 letters_meet p Edge Beyond l e = absurd (let h : ⊥ = cc in h)
 letters_meet p Edge Edge l e = absurd (let h : ⊥ = cc in h)
@@ -91,7 +104,8 @@ letters_meet p (Crosses r) (Crosses c) l e = (r, c, refl, refl, let same : lette
 
 module _ (p : Pattern) where
   -- a cell that shows a letter is that letter's
-  shown : (r c : ℤ) (l : Letter) → drawn_at p r c ≡ Shows l → (i : ℕ) × (j : ℕ) × (r ≡ pos i) × (c ≡ pos j) × (i < p.rows) × (j < p.cols) × (letter_at p i j ≡ l)
+  shown : (r c : ℤ) (l : Letter) → drawn_at p r c ≡ Shows l
+      → (i : ℕ) × (j : ℕ) × (r ≡ pos i) × (c ≡ pos j) × (i < p.rows) × (j < p.cols) × (letter_at p i j ≡ l)
   unfolding drawn_at
   shown r c l e =
       let meet = letters_meet p (line_at p.rows p.top p.bottom r) (line_at p.cols p.left p.right c) l e in
@@ -103,8 +117,10 @@ module _ (p : Pattern) where
   pub shows : (i j : ℕ) → i < p.rows → j < p.cols → drawn_at p (pos i) (pos j) ≡ Shows (letter_at p i j)
   unfolding drawn_at
   shows i j low low' =
-      ap (λ t. drawn_by p (cond t (Crosses i) (cond (eqb i p.rows && p.bottom) Edge Beyond)) (line_at p.cols p.left p.right (pos j))) (lt-ltb i p.rows low)
-      ∙ ap (λ t. drawn_by p (Crosses i) (cond t (Crosses j) (cond (eqb j p.cols && p.right) Edge Beyond))) (lt-ltb j p.cols low')
+      ap (λ t. drawn_by p (cond t (Crosses i) (cond (eqb i p.rows && p.bottom) Edge Beyond))
+      (line_at p.cols p.left p.right (pos j))) (lt-ltb i p.rows low)
+      ∙ ap (λ t. drawn_by p (Crosses i) (cond t (Crosses j) (cond (eqb j p.cols && p.right) Edge Beyond)))
+      (lt-ltb j p.cols low')
 
   -- a cell in which something is drawn is one of the cells
   drawn_within : (r c : ℤ) → (drawn_at p r c ≡ Nothing → ⊥) → Contains (cells_of p) (r, c)
@@ -113,11 +129,13 @@ module _ (p : Pattern) where
       let lines = lines_meet p (line_at p.rows p.top p.bottom r) (line_at p.cols p.left p.right c) some in
       Contains-flat_map_from (λ k. map (λ j. (k, j)) (line_cells p.cols)) (line_cells p.rows) r (r, c)
       (of_line p.rows r (line_within p.rows p.top p.bottom r lines.row_drawn))
-      (Contains-map_from (λ j. (r, j)) (line_cells p.cols) c (of_line p.cols c (line_within p.cols p.left p.right c lines.column_drawn)))
+      (Contains-map_from (λ j. (r, j)) (line_cells p.cols) c
+      (of_line p.cols c (line_within p.cols p.left p.right c lines.column_drawn)))
     where
       of_line : (n : ℕ) (z : ℤ) → (k : ℕ) × (k < n + 2) × (pos k -ℤ pos 1 ≡ z) → Contains (line_cells n) z
       of_line n z line =
-          subst (Contains (line_cells n)) line.2 (Contains-map_from (λ k. pos k -ℤ pos 1) (range_with_len 0 (n + 2)) line.0 (Contains-below_from (n + 2) line.0 line.1))
+          subst (Contains (line_cells n)) line.2 (Contains-map_from (λ k. pos k -ℤ pos 1)
+          (range_with_len 0 (n + 2)) line.0 (Contains-below_from (n + 2) line.0 line.1))
 
 module _ (p : Pattern) (board : BoardState) (friend : Colour) (t m : ℕ) where
   -- a pattern that fits has each of its cells fit
@@ -140,10 +158,12 @@ module _ (p : Pattern) (board : BoardState) (friend : Colour) (t m : ℕ) where
   all_cells each = passes_all (cell_fits p board friend t m) (cells_of p) (λ cell there. each cell.0 cell.1)
 
   -- a letter's cell that fits lies on the board, and the letter admits what stands there
-  pub letter_from_cell : (i j : ℕ) → i < p.rows → j < p.cols → cell_fits p board friend t m (pos i, pos j) ≡ true → LetterFits p board friend t m i j
+  pub letter_from_cell : (i j : ℕ) → i < p.rows → j < p.cols → cell_fits p board friend t m (pos i, pos j) ≡ true
+      → LetterFits p board friend t m i j
   letter_from_cell i j low low' e =
       let on = letter_on (letter_at p i j) board friend (place_of_cell p board.size t m (pos i) (pos j))
-      (sym (ap (λ d. drawn_fits d board friend (place_of_cell p board.size t m (pos i) (pos j))) (shows p i j low low')) ∙ e) in
+      (sym (ap (λ d. drawn_fits d board friend (place_of_cell p board.size t m (pos i) (pos j))) (shows p i j low low'))
+      ∙ e) in
       record { point = on.0; place = on.1; admitted = on.2 }
 
   -- a pattern whose cells fit fits
@@ -159,18 +179,23 @@ module _ (p : Pattern) (board : BoardState) (friend : Colour) (t m : ℕ) where
   cells_from_fits is r c = by (drawn_at p r c) refl
     where
       -- a letter's cell fits
-      letter : (l : Letter) → (i : ℕ) × (j : ℕ) × (r ≡ pos i) × (c ≡ pos j) × (i < p.rows) × (j < p.cols) × (letter_at p i j ≡ l) → drawn_fits (Shows l) board friend (place_of_cell p board.size t m r c) ≡ true
+      letter : (l : Letter) → (i : ℕ) × (j : ℕ) × (r ≡ pos i) × (c ≡ pos j) × (i < p.rows) × (j < p.cols)
+          × (letter_at p i j ≡ l) → drawn_fits (Shows l) board friend (place_of_cell p board.size t m r c) ≡ true
       letter l at =
           let here = is.letters at.0 at.1 at.4 at.5 in
-          let place : place_of_cell p board.size t m r c ≡ Some here.point = ap (λ z. place_of_cell p board.size t m z c) at.2 ∙ ap (place_of_cell p board.size t m (pos at.0)) at.3 ∙ here.place in
+          let place : place_of_cell p board.size t m r c ≡ Some here.point =
+          ap (λ z. place_of_cell p board.size t m z c) at.2 ∙ ap (place_of_cell p board.size t m (pos at.0)) at.3
+          ∙ here.place in
           ap (drawn_fits (Shows l) board friend) place
           ∙ ap (λ k. admits k (cell_at board.cells here.point) friend) (sym at.6) ∙ here.admitted
 
       by : (d : Drawn) → drawn_at p r c ≡ d → cell_fits p board friend t m (r, c) ≡ true
       by Nothing e = ap (λ d. drawn_fits d board friend (place_of_cell p board.size t m r c)) e
       by OffBoard e =
-          ap (λ d. drawn_fits d board friend (place_of_cell p board.size t m r c)) e ∙ ap (drawn_fits OffBoard board friend) (is.edges r c e)
-      by (Shows l) e = ap (λ d. drawn_fits d board friend (place_of_cell p board.size t m r c)) e ∙ letter l (shown p r c l e)
+          ap (λ d. drawn_fits d board friend (place_of_cell p board.size t m r c)) e
+          ∙ ap (drawn_fits OffBoard board friend) (is.edges r c e)
+      by (Shows l) e = ap (λ d. drawn_fits d board friend (place_of_cell p board.size t m r c)) e
+          ∙ letter l (shown p r c l e)
 
   -- the test of a fit says the fact
   pub fits-true : fits p board friend t m ≡ true → Fits p board friend t m

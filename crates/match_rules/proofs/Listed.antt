@@ -24,11 +24,15 @@ next_of (Err reason) e = absurd (false≢true e)
 
 module _ (code : Codes) (advice : Advice) (patterns : List Pattern) (board : BoardState) (friend : Colour) where
   -- what passes the test is a match
-  match_from_by : (z : Match) → IsBy (λ number p t m. is_match code advice p board friend t m) patterns board.size z → IsMatch code advice patterns board friend z
+  match_from_by : (z : Match) → IsBy (λ number p t m. is_match code advice p board friend t m) patterns board.size z
+      → IsMatch code advice patterns board friend z
   match_from_by z by =
-      let parts = and_parts (fits by.pattern board friend z.transform z.at) (is_legal board friend z.at && is_agreed code advice by.pattern board friend z.transform z.at) by.passes in
-      let both = and_parts (is_legal board friend z.at) (is_agreed code advice by.pattern board friend z.transform z.at) parts.1 in
-      let agreed = and_parts (is_allowed code by.pattern board friend z.transform z.at) (do_helpers_agree advice by.pattern board friend z.at) both.1 in
+      let parts = and_parts (fits by.pattern board friend z.transform z.at)
+      (is_legal board friend z.at && is_agreed code advice by.pattern board friend z.transform z.at) by.passes in
+      let both = and_parts (is_legal board friend z.at)
+      (is_agreed code advice by.pattern board friend z.transform z.at) parts.1 in
+      let agreed = and_parts (is_allowed code by.pattern board friend z.transform z.at)
+      (do_helpers_agree advice by.pattern board friend z.at) both.1 in
       let allowed = allowed-true code by.pattern board friend z.transform z.at agreed.0 in
       record {
         pattern = by.pattern;
@@ -44,17 +48,25 @@ module _ (code : Codes) (advice : Advice) (patterns : List Pattern) (board : Boa
       }
 
   -- and the other way round
-  by_from_match : (z : Match) → IsMatch code advice patterns board friend z → IsBy (λ number p t m. is_match code advice p board friend t m) patterns board.size z
+  by_from_match : (z : Match) → IsMatch code advice patterns board friend z
+      → IsBy (λ number p t m. is_match code advice p board friend t m) patterns board.size z
   by_from_match z is = record {
     pattern = is.pattern;
     number = is.number;
     transform = is.transform;
     at = is.on_board;
-    passes = and_from (fits is.pattern board friend z.transform z.at) (is_legal board friend z.at && is_agreed code advice is.pattern board friend z.transform z.at)
+    passes = and_from (fits is.pattern board friend z.transform z.at)
+        (is_legal board friend z.at && is_agreed code advice is.pattern board friend z.transform z.at)
         (fits-from is.pattern board friend z.transform z.at is.fits)
-        (and_from (is_legal board friend z.at) (is_agreed code advice is.pattern board friend z.transform z.at) (ap is_ok is.legal.1)
-        (and_from (is_allowed code is.pattern board friend z.transform z.at) (do_helpers_agree advice is.pattern board friend z.at)
-        (allowed-from code is.pattern board friend z.transform z.at (record { safe = is.safe; enemy_safe = is.enemy_safe; constraint_true = is.constraint_true }))
+        (and_from (is_legal board friend z.at) (is_agreed code advice is.pattern board friend z.transform z.at)
+        (ap is_ok is.legal.1)
+        (and_from (is_allowed code is.pattern board friend z.transform z.at)
+        (do_helpers_agree advice is.pattern board friend z.at)
+        (allowed-from code is.pattern board friend z.transform z.at (record {
+          safe = is.safe;
+          enemy_safe = is.enemy_safe;
+          constraint_true = is.constraint_true;
+        }))
         (passes_all (λ name. advice name board z.at friend) (helper_names is.pattern.items) is.helpers_agree)));
   }
 
@@ -62,13 +74,16 @@ module _ (code : Codes) (advice : Advice) (patterns : List Pattern) (board : Boa
   pub are_matches : AreMatches code advice patterns board friend (matches_of code advice patterns board friend)
   unfolding matches_of
   are_matches = record {
-    sound = λ z there. match_from_by z (by-has (λ number p t m. is_match code advice p board friend t m) patterns board.size z there);
-    complete = λ z is. by-from (λ number p t m. is_match code advice p board friend t m) patterns board.size z (by_from_match z is);
+    sound = λ z there. match_from_by z (by-has
+        (λ number p t m. is_match code advice p board friend t m) patterns board.size z there);
+    complete = λ z is. by-from (λ number p t m. is_match code advice p board friend t m) patterns board.size z
+        (by_from_match z is);
     in_order = by-in_order (λ number p t m. is_match code advice p board friend t m) patterns board.size;
   }
 
   -- and no other list does
-  pub only_matches : (zs : List Match) → AreMatches code advice patterns board friend zs → zs ≡ matches_of code advice patterns board friend
+  pub only_matches : (zs : List Match) → AreMatches code advice patterns board friend zs
+      → zs ≡ matches_of code advice patterns board friend
   only_matches zs are =
       same_matches zs (matches_of code advice patterns board friend) are.in_order are_matches.in_order
       (λ z there. are_matches.complete z (are.sound z there)) (λ z there. are.complete z (are_matches.sound z there))

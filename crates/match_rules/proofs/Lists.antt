@@ -39,10 +39,12 @@ module _ {X : Type 0} (R : X → X → Type 0) where
 
   -- one element more in front, before all others
   pub AllPairs-front : (x : X) (xs : List X) → ((z : X) → Contains xs z → R x z) → AllPairs R xs → AllPairs R (x ∷ xs)
-  AllPairs-front x xs before pairs = AllPairs-cons R x xs (λ k d l. before (get_or xs k d) (Contains-get_or xs k d l)) pairs
+  AllPairs-front x xs before pairs =
+      AllPairs-cons R x xs (λ k d l. before (get_or xs k d) (Contains-get_or xs k d l)) pairs
 
   -- two lists in order, the first before the second
-  pub AllPairs-append : (xs ys : List X) → AllPairs R xs → AllPairs R ys → ((y z : X) → Contains xs y → Contains ys z → R y z) → AllPairs R (xs ++ ys)
+  pub AllPairs-append : (xs ys : List X) → AllPairs R xs → AllPairs R ys
+      → ((y z : X) → Contains xs y → Contains ys z → R y z) → AllPairs R (xs ++ ys)
   AllPairs-append [] ys left right before = right
   AllPairs-append (x ∷ xs) ys left right before =
       AllPairs-front x (xs ++ ys)
@@ -50,22 +52,27 @@ module _ {X : Type 0} (R : X → X → Type 0) where
         | inl in_left ↦ AllPairs-before x xs z left in_left
         | inr in_right ↦ before x z (Contains-first x xs x refl) in_right
       ])
-      (AllPairs-append xs ys (AllPairs-rest x xs left) right (λ y z here there. before y z (Contains-rest x xs y here) there))
+      (AllPairs-append xs ys (AllPairs-rest x xs left) right
+      (λ y z here there. before y z (Contains-rest x xs y here) there))
 
   -- two lists in order with the same elements are the same, where nothing comes before what comes before it
-  pub same_in_order : ((x y : X) → R x y → R y x → ⊥) → (xs ys : List X) → AllPairs R xs → AllPairs R ys → ((z : X) → Contains xs z → Contains ys z) → ((z : X) → Contains ys z → Contains xs z) → xs ≡ ys
+  pub same_in_order : ((x y : X) → R x y → R y x → ⊥) → (xs ys : List X) → AllPairs R xs → AllPairs R ys
+      → ((z : X) → Contains xs z → Contains ys z) → ((z : X) → Contains ys z → Contains xs z) → xs ≡ ys
   same_in_order one [] [] left right to back = refl
   same_in_order one [] (y ∷ ys) left right to back = absurd (Contains-nil y (back y (Contains-first y ys y refl)))
   same_in_order one (x ∷ xs) [] left right to back = absurd (Contains-nil x (to x (Contains-first x xs x refl)))
   same_in_order one (x ∷ xs) (y ∷ ys) left right to back =
-      let same : x ≡ y = heads (Contains-cons_cases y ys x (to x (Contains-first x xs x refl))) (Contains-cons_cases x xs y (back y (Contains-first y ys y refl))) in
+      let same : x ≡ y = heads (Contains-cons_cases y ys x (to x (Contains-first x xs x refl)))
+      (Contains-cons_cases x xs y (back y (Contains-first y ys y refl))) in
       let rest : xs ≡ ys = same_in_order one xs ys (AllPairs-rest x xs left) (AllPairs-rest y ys right)
       (λ z there. elim (Contains-cons_cases y ys z (to z (Contains-rest x xs z there))) [
-        | inl first ↦ absurd (let again : R z z = subst (λ w. R w z) (same ∙ first) (AllPairs-before x xs z left there) in one z z again again)
+        | inl first ↦ absurd (let again : R z z =
+            subst (λ w. R w z) (same ∙ first) (AllPairs-before x xs z left there) in one z z again again)
         | inr later ↦ later
       ])
       (λ z there. elim (Contains-cons_cases x xs z (back z (Contains-rest y ys z there))) [
-        | inl first ↦ absurd (let again : R z z = subst (λ w. R w z) (sym same ∙ first) (AllPairs-before y ys z right there) in one z z again again)
+        | inl first ↦ absurd (let again : R z z =
+            subst (λ w. R w z) (sym same ∙ first) (AllPairs-before y ys z right there) in one z z again again)
         | inr later ↦ later
       ]) in
       ap (λ w. w ∷ xs) same ∙ ap (λ ws. y ∷ ws) rest
@@ -73,13 +80,15 @@ module _ {X : Type 0} (R : X → X → Type 0) where
       heads : (y ≡ x) ⊎ Contains ys x → (x ≡ y) ⊎ Contains xs y → x ≡ y
       heads (inl e) there = sym e
       heads (inr here) (inl e) = e
-      heads (inr here) (inr there) = absurd (one x y (AllPairs-before x xs y left there) (AllPairs-before y ys x right here))
+      heads (inr here) (inr there) =
+          absurd (one x y (AllPairs-before x xs y left there) (AllPairs-before y ys x right here))
 
 module _ {Y : Type 0} where
   -- what a function gives is in the list of what it gives
   given_first : (o : Option Y) (zs : List Y) (z : Y) → Contains (cons_option o zs) z → (o ≡ Some z) ⊎ Contains zs z
   given_first None zs z there = inr there
-  given_first (Some y) zs z there = elim (Contains-cons_cases y zs z there) [ inl first ↦ inl (ap Some first) | inr later ↦ inr later ]
+  given_first (Some y) zs z there =
+      elim (Contains-cons_cases y zs z there) [ inl first ↦ inl (ap Some first) | inr later ↦ inr later ]
 
   -- what a list has is there with what a function gives before it
   given_later : (o : Option Y) (zs : List Y) (z : Y) → Contains zs z → Contains (cons_option o zs) z
@@ -104,7 +113,8 @@ module _ {X Y : Type 0} where
   ]
 
   -- what is in lists that are joined is in one of them
-  pub Contains-flat_map : (f : X → List Y) (xs : List X) (z : Y) → Contains (flat_map f xs) z → (x : X) × Contains xs x × Contains (f x) z
+  pub Contains-flat_map : (f : X → List Y) (xs : List X) (z : Y) → Contains (flat_map f xs) z
+      → (x : X) × Contains xs x × Contains (f x) z
   Contains-flat_map f [] z there = absurd (Contains-nil z there)
   Contains-flat_map f (x ∷ xs) z there = elim (Contains-append_cases (f x) (flat_map f xs) z there) [
     | inl first ↦ (x, Contains-first x xs x refl, first)
@@ -112,7 +122,8 @@ module _ {X Y : Type 0} where
   ]
 
   -- and the other way round
-  pub Contains-flat_map_from : (f : X → List Y) (xs : List X) (x : X) (z : Y) → Contains xs x → Contains (f x) z → Contains (flat_map f xs) z
+  pub Contains-flat_map_from : (f : X → List Y) (xs : List X) (x : X) (z : Y) → Contains xs x → Contains (f x) z
+      → Contains (flat_map f xs) z
   Contains-flat_map_from f [] x z there here = absurd (Contains-nil x there)
   Contains-flat_map_from f (w ∷ xs) x z there here = elim (Contains-cons_cases w xs x there) [
     | inl first ↦ Contains-append_left (f w) (flat_map f xs) z (subst (λ v. Contains (f v) z) (sym first) here)
@@ -120,7 +131,8 @@ module _ {X Y : Type 0} where
   ]
 
   -- what is in a list of what a function gives comes from an element
-  pub Contains-filter_map : (f : X → Option Y) (xs : List X) (z : Y) → Contains (filter_map f xs) z → (x : X) × Contains xs x × (f x ≡ Some z)
+  pub Contains-filter_map : (f : X → Option Y) (xs : List X) (z : Y) → Contains (filter_map f xs) z
+      → (x : X) × Contains xs x × (f x ≡ Some z)
   Contains-filter_map f [] z there = absurd (Contains-nil z there)
   Contains-filter_map f (x ∷ xs) z there = elim (given_first (f x) (filter_map f xs) z there) [
     | inl first ↦ (x, Contains-first x xs x refl, first)
@@ -128,10 +140,12 @@ module _ {X Y : Type 0} where
   ]
 
   -- and the other way round
-  pub Contains-filter_map_from : (f : X → Option Y) (xs : List X) (x : X) (z : Y) → Contains xs x → f x ≡ Some z → Contains (filter_map f xs) z
+  pub Contains-filter_map_from : (f : X → Option Y) (xs : List X) (x : X) (z : Y) → Contains xs x → f x ≡ Some z
+      → Contains (filter_map f xs) z
   Contains-filter_map_from f [] x z there e = absurd (Contains-nil x there)
   Contains-filter_map_from f (w ∷ xs) x z there e = elim (Contains-cons_cases w xs x there) [
-    | inl first ↦ subst (λ o. Contains (cons_option o (filter_map f xs)) z) (sym (ap f first ∙ e)) (Contains-first z (filter_map f xs) z refl)
+    | inl first ↦ subst (λ o. Contains (cons_option o (filter_map f xs)) z) (sym (ap f first ∙ e))
+        (Contains-first z (filter_map f xs) z refl)
     | inr later ↦ given_later (f w) (filter_map f xs) z (Contains-filter_map_from f xs x z later e)
   ]
 
@@ -140,20 +154,23 @@ module _ {X : Type 0} (test : X → Bool) where
   pub Contains-filter : (xs : List X) (z : X) → Contains (filter test xs) z → Contains xs z × (test z ≡ true)
   Contains-filter [] z there = absurd (Contains-nil z there)
   Contains-filter (x ∷ xs) z there =
-      let later : Contains (filter test xs) z → Contains (x ∷ xs) z × (test z ≡ true) = λ here. let rest = Contains-filter xs z here in (Contains-rest x xs z rest.0, rest.1) in
+      let later : Contains (filter test xs) z → Contains (x ∷ xs) z × (test z ≡ true) = λ here. let rest =
+      Contains-filter xs z here in (Contains-rest x xs z rest.0, rest.1) in
       elim (cases_Bool (test x)) [
         | inr fails ↦ later (subst (λ b. Contains (cond b (x ∷ filter test xs) (filter test xs)) z) fails there)
-        | inl passes ↦ elim (Contains-cons_cases x (filter test xs) z (subst (λ b. Contains (cond b (x ∷ filter test xs) (filter test xs)) z) passes there)) [
-          | inl first ↦ (Contains-first x xs z first, sym (ap test first) ∙ passes)
-          | inr here ↦ later here
-        ]
+        | inl passes ↦ elim (Contains-cons_cases x (filter test xs) z
+            (subst (λ b. Contains (cond b (x ∷ filter test xs) (filter test xs)) z) passes there)) [
+              | inl first ↦ (Contains-first x xs z first, sym (ap test first) ∙ passes)
+              | inr here ↦ later here
+            ]
       ]
 
   -- and the other way round
   pub Contains-filter_from : (xs : List X) (z : X) → Contains xs z → test z ≡ true → Contains (filter test xs) z
   Contains-filter_from [] z there e = absurd (Contains-nil z there)
   Contains-filter_from (x ∷ xs) z there e = elim (Contains-cons_cases x xs z there) [
-    | inl first ↦ subst (λ b. Contains (cond b (x ∷ filter test xs) (filter test xs)) z) (sym (ap test first ∙ e)) (Contains-first x (filter test xs) z first)
+    | inl first ↦ subst (λ b. Contains (cond b (x ∷ filter test xs) (filter test xs)) z) (sym (ap test first ∙ e))
+        (Contains-first x (filter test xs) z first)
     | inr later ↦ kept (test x) (Contains-filter_from xs z later e)
   ]
     where
@@ -166,12 +183,17 @@ module _ {X : Type 0} (test : X → Bool) where
   passes_each [] e z there = absurd (Contains-nil z there)
   passes_each (x ∷ xs) e z there =
       let parts = and_parts (test x) (list_all test xs) e in
-      elim (Contains-cons_cases x xs z there) [ inl first ↦ sym (ap test first) ∙ parts.0 | inr later ↦ passes_each xs parts.1 z later ]
+      elim (Contains-cons_cases x xs z there) [
+        | inl first ↦ sym (ap test first) ∙ parts.0
+        | inr later ↦ passes_each xs parts.1 z later
+      ]
 
   -- and the other way round
   pub passes_all : (xs : List X) → ((z : X) → Contains xs z → test z ≡ true) → list_all test xs ≡ true
   passes_all [] each = refl
-  passes_all (x ∷ xs) each = and_from (test x) (list_all test xs) (each x (Contains-first x xs x refl)) (passes_all xs (λ z there. each z (Contains-rest x xs z there)))
+  passes_all (x ∷ xs) each =
+      and_from (test x) (list_all test xs) (each x (Contains-first x xs x refl))
+      (passes_all xs (λ z there. each z (Contains-rest x xs z there)))
 
 -- the numbers of a range
 pub Contains-range : (a n k : ℕ) → Contains (range_with_len a n) k → (a ≤ k) × (k < a + n)
@@ -185,7 +207,8 @@ Contains-range a (suc n) k there = elim (Contains-cons_cases a (range_with_len (
 pub Contains-range_from : (a n k : ℕ) → a ≤ k → k < a + n → Contains (range_with_len a n) k
 Contains-range_from a zero k low high = absurd (omega arith)
 Contains-range_from a (suc n) k low high = elim (cases_lt a k) [
-  | inl later ↦ Contains-rest a (range_with_len (a + 1) n) k (Contains-range_from (a + 1) n k (omega arith) (omega arith))
+  | inl later ↦ Contains-rest a (range_with_len (a + 1) n) k
+      (Contains-range_from (a + 1) n k (omega arith) (omega arith))
   | inr first ↦ let same : a ≡ k = omega arith in Contains-first a (range_with_len (a + 1) n) k same
 ]
 
@@ -200,16 +223,20 @@ Contains-below_from n k low = Contains-range_from 0 n k (omega arith) (omega ari
 -- the numbers of a range rise
 pub range_rises : (a n : ℕ) → AllPairs (λ j k. j < k) (range_with_len a n)
 range_rises a zero = AllPairs-nil (λ j k. j < k)
-range_rises a (suc n) = AllPairs-front (λ j k. j < k) a (range_with_len (a + 1) n) (λ z there. let low = (Contains-range (a + 1) n z there).0 in omega (arith, low)) (range_rises (a + 1) n)
+range_rises a (suc n) = AllPairs-front (λ j k. j < k) a (range_with_len (a + 1) n)
+    (λ z there. let low = (Contains-range (a + 1) n z there).0 in omega (arith, low)) (range_rises (a + 1) n)
 
 module _ {X : Type 0} where
   -- a numbered element is that of its number
-  pub Contains-enumerate : (a : ℕ) (xs : List X) (z : ℕ × X) → Contains (enumerate_from a xs) z → (a ≤ z.0) × (slice_get xs (z.0 - a) ≡ Some z.1)
+  pub Contains-enumerate : (a : ℕ) (xs : List X) (z : ℕ × X) → Contains (enumerate_from a xs) z
+      → (a ≤ z.0) × (slice_get xs (z.0 - a) ≡ Some z.1)
   Contains-enumerate a [] z there = absurd (Contains-nil z there)
   Contains-enumerate a (x ∷ xs) z there = elim (Contains-cons_cases (a, x) (enumerate_from (a + 1) xs) z there) [
     | inl first ↦
-        let none : z.0 - a ≡ 0 = omega (arith, ap (λ (w : ℕ × X). w.0) first) in
-        (omega (arith, ap (λ (w : ℕ × X). w.0) first), ap (slice_get (x ∷ xs)) none ∙ ap Some (ap (λ (w : ℕ × X). w.1) first))
+        let none : z.0 - a ≡ 0 = omega (arith, ap (λ (w : ℕ × X). w.0) first) in (
+          omega (arith, ap (λ (w : ℕ × X). w.0) first),
+          ap (slice_get (x ∷ xs)) none ∙ ap Some (ap (λ (w : ℕ × X). w.1) first),
+        )
     | inr later ↦
         let rest = Contains-enumerate (a + 1) xs z later in
         let next : z.0 - a ≡ suc (z.0 - (a + 1)) = omega (arith, rest.0) in
@@ -217,19 +244,29 @@ module _ {X : Type 0} where
   ]
 
   -- and the other way round
-  pub Contains-enumerate_from : (a : ℕ) (xs : List X) (i : ℕ) (x : X) → slice_get xs i ≡ Some x → Contains (enumerate_from a xs) (a + i, x)
+  pub Contains-enumerate_from : (a : ℕ) (xs : List X) (i : ℕ) (x : X) → slice_get xs i ≡ Some x
+      → Contains (enumerate_from a xs) (a + i, x)
   Contains-enumerate_from a [] i x e = absurd (none-some x e)
   Contains-enumerate_from a (w ∷ xs) zero x e =
       let none : a ≡ a + 0 = omega arith in
-      Contains-first (a, w) (enumerate_from (a + 1) xs) (a + 0, x) (ap (λ v. (a, v)) (same_Some w x e) ∙ ap (λ n. (n, x)) none)
+      Contains-first (a, w) (enumerate_from (a + 1) xs) (
+        a + 0,
+        x,
+      ) (ap (λ v. (a, v)) (same_Some w x e) ∙ ap (λ n. (n, x)) none)
   Contains-enumerate_from a (w ∷ xs) (suc i) x e =
       let sums : a + 1 + i ≡ a + suc i = omega arith in
-      Contains-rest (a, w) (enumerate_from (a + 1) xs) (a + suc i, x) (subst (λ n. Contains (enumerate_from (a + 1) xs) (n, x)) sums (Contains-enumerate_from (a + 1) xs i x e))
+      Contains-rest (a, w) (enumerate_from (a + 1) xs) (
+        a + suc i,
+        x,
+      ) (subst (λ n. Contains (enumerate_from (a + 1) xs) (n, x)) sums (Contains-enumerate_from (a + 1) xs i x e))
 
   -- the numbers of numbered elements rise
   pub enumerate_rises : (a : ℕ) (xs : List X) → AllPairs (λ y z. y.0 < z.0) (enumerate_from a xs)
   enumerate_rises a [] = AllPairs-nil (λ y z. y.0 < z.0)
-  enumerate_rises a (x ∷ xs) = AllPairs-front (λ y z. y.0 < z.0) (a, x) (enumerate_from (a + 1) xs) (λ z there. let low = (Contains-enumerate (a + 1) xs z there).0 in omega (arith, low)) (enumerate_rises (a + 1) xs)
+  enumerate_rises a (x ∷ xs) =
+      AllPairs-front (λ y z. y.0 < z.0) (a, x) (enumerate_from (a + 1) xs)
+      (λ z there. let low = (Contains-enumerate (a + 1) xs z there).0 in
+      omega (arith, low)) (enumerate_rises (a + 1) xs)
 
 module _ {X Y : Type 0} (R : Y → Y → Type 0) where
   -- a mapped list is in order where the elements are
@@ -237,13 +274,17 @@ module _ {X Y : Type 0} (R : Y → Y → Type 0) where
   AllPairs-map f [] pairs = AllPairs-nil R
   AllPairs-map f (x ∷ xs) pairs =
       AllPairs-front R (f x) (map f xs)
-      (λ z there. let from = Contains-map f xs z there in subst (R (f x)) from.2 (AllPairs-before (λ v w. R (f v) (f w)) x xs from.0 pairs from.1))
+      (λ z there. let from = Contains-map f xs z there in
+      subst (R (f x)) from.2 (AllPairs-before (λ v w. R (f v) (f w)) x xs from.0 pairs from.1))
       (AllPairs-map f xs (AllPairs-rest (λ v w. R (f v) (f w)) x xs pairs))
 
   -- joined lists are in order where each is, and what is in an earlier one comes before what is in a later one
-  pub AllPairs-flat_map : (Q : X → X → Type 0) (f : X → List Y) (xs : List X) → AllPairs Q xs → ((x : X) → AllPairs R (f x))
+  pub AllPairs-flat_map : (Q : X → X → Type 0) (f : X → List Y) (xs : List X) → AllPairs Q xs
+      → ((x : X) → AllPairs R (f x))
       → ((x w : X) (y z : Y) → Q x w → Contains (f x) y → Contains (f w) z → R y z) → AllPairs R (flat_map f xs)
   AllPairs-flat_map Q f [] pairs each before = AllPairs-nil R
   AllPairs-flat_map Q f (x ∷ xs) pairs each before =
-      AllPairs-append R (f x) (flat_map f xs) (each x) (AllPairs-flat_map Q f xs (AllPairs-rest Q x xs pairs) each before)
-      (λ y z here there. let from = Contains-flat_map f xs z there in before x from.0 y z (AllPairs-before Q x xs from.0 pairs from.1) here from.2)
+      AllPairs-append R (f x) (flat_map f xs) (each x)
+      (AllPairs-flat_map Q f xs (AllPairs-rest Q x xs pairs) each before)
+      (λ y z here there. let from = Contains-flat_map f xs z there in
+      before x from.0 y z (AllPairs-before Q x xs from.0 pairs from.1) here from.2)

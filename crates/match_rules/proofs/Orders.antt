@@ -19,7 +19,8 @@ one_way y z (inr (e, inr (h, a))) (inr (f, inl b)) = omega arith
 one_way y z (inr (e, inr (h, a))) (inr (f, inr (g, b))) = omega arith
 
 -- two lists of matches in order with the same elements are the same
-pub same_matches : (ys zs : List Match) → AllPairs ComesBefore ys → AllPairs ComesBefore zs → ((z : Match) → Contains ys z → Contains zs z) → ((z : Match) → Contains zs z → Contains ys z) → ys ≡ zs
+pub same_matches : (ys zs : List Match) → AllPairs ComesBefore ys → AllPairs ComesBefore zs
+    → ((z : Match) → Contains ys z → Contains zs z) → ((z : Match) → Contains zs z → Contains ys z) → ys ≡ zs
 same_matches = same_in_order ComesBefore one_way
 
 -- a match by its three parts
@@ -34,7 +35,8 @@ record IsUnder (test : ℕ → Bool) (number t s : ℕ) (z : Match) : Type 0 whe
   pub passes : test z.at ≡ true
 
 -- what is in the matches under one transformation
-under-has : (test : ℕ → Bool) (number t s : ℕ) (z : Match) → Contains (matches_under test number t s) z → IsUnder test number t s z
+under-has : (test : ℕ → Bool) (number t s : ℕ) (z : Match) → Contains (matches_under test number t s) z
+    → IsUnder test number t s z
 under-has test number t s z there =
     let from = Contains-map (match_with number t) (filter test (range_with_len 0 (s * s))) z there in
     let kept = Contains-filter test (range_with_len 0 (s * s)) from.0 from.1 in
@@ -47,7 +49,8 @@ under-has test number t s z there =
     }
 
 -- and the other way round
-under-from : (test : ℕ → Bool) (number t s m : ℕ) → m < s * s → test m ≡ true → Contains (matches_under test number t s) (match_with number t m)
+under-from : (test : ℕ → Bool) (number t s m : ℕ) → m < s * s → test m ≡ true
+    → Contains (matches_under test number t s) (match_with number t m)
 under-from test number t s m on passes =
     Contains-map_from (match_with number t) (filter test (range_with_len 0 (s * s))) m
     (Contains-filter_from test (range_with_len 0 (s * s)) m (Contains-below_from (s * s) m on) passes)
@@ -56,7 +59,14 @@ under-from test number t s m on passes =
 under-in_order : (test : ℕ → Bool) (number t s : ℕ) → AllPairs ComesBefore (matches_under test number t s)
 under-in_order test number t s =
     AllPairs-map ComesBefore (match_with number t) (filter test (range_with_len 0 (s * s)))
-    (λ i j d l k. inr (refl, inr (refl, AllPairs-filter (λ m n. m < n) test (range_with_len 0 (s * s)) (range_rises 0 (s * s)) i j d l k)))
+    (λ i j d l k. inr (
+      refl,
+      inr (
+        refl,
+        AllPairs-filter (λ m n. m < n) test (range_with_len 0 (s * s))
+            (range_rises 0 (s * s)) i j d l k,
+      ),
+    ))
 
 -- z is the match of the pattern under one of its transformations at a point, and passes the test
 record IsOf (test : ℕ → ℕ → Bool) (number : ℕ) (p : Pattern) (s : ℕ) (z : Match) : Type 0 where
@@ -66,27 +76,34 @@ record IsOf (test : ℕ → ℕ → Bool) (number : ℕ) (p : Pattern) (s : ℕ)
   pub passes : test z.transform z.at ≡ true
 
 -- what is in the matches of one pattern
-one-has : (test : ℕ → ℕ → Bool) (number : ℕ) (p : Pattern) (s : ℕ) (z : Match) → Contains (matches_of_one test number p s) z → IsOf test number p s z
+one-has : (test : ℕ → ℕ → Bool) (number : ℕ) (p : Pattern) (s : ℕ) (z : Match)
+    → Contains (matches_of_one test number p s) z → IsOf test number p s z
 one-has test number p s z there =
-    let from = Contains-flat_map (λ t. matches_under (test t) number t s) (range_with_len 0 (count_of p.mark)) z there in
+    let from = Contains-flat_map (λ t. matches_under (test t) number t s)
+    (range_with_len 0 (count_of p.mark)) z there in
     let under = under-has (test from.0) number from.0 s z from.2 in
     record {
       pattern = under.pattern;
-      transform = subst (λ t. t < count_of p.mark) (sym under.transform) (Contains-below (count_of p.mark) from.0 from.1);
+      transform = subst (λ t. t < count_of p.mark) (sym under.transform)
+          (Contains-below (count_of p.mark) from.0 from.1);
       at = under.at;
       passes = subst (λ t. test t z.at ≡ true) (sym under.transform) under.passes;
     }
 
 -- and the other way round
-one-from : (test : ℕ → ℕ → Bool) (number : ℕ) (p : Pattern) (s t m : ℕ) → t < count_of p.mark → m < s * s → test t m ≡ true → Contains (matches_of_one test number p s) (match_with number t m)
+one-from : (test : ℕ → ℕ → Bool) (number : ℕ) (p : Pattern) (s t m : ℕ) → t < count_of p.mark → m < s * s
+    → test t m ≡ true → Contains (matches_of_one test number p s) (match_with number t m)
 one-from test number p s t m low on passes =
-    Contains-flat_map_from (λ u. matches_under (test u) number u s) (range_with_len 0 (count_of p.mark)) t (match_with number t m)
+    Contains-flat_map_from (λ u. matches_under (test u) number u s) (range_with_len 0 (count_of p.mark)) t
+    (match_with number t m)
     (Contains-below_from (count_of p.mark) t low) (under-from (test t) number t s m on passes)
 
 -- the matches of one pattern are in order
-one-in_order : (test : ℕ → ℕ → Bool) (number : ℕ) (p : Pattern) (s : ℕ) → AllPairs ComesBefore (matches_of_one test number p s)
+one-in_order : (test : ℕ → ℕ → Bool) (number : ℕ) (p : Pattern) (s : ℕ)
+    → AllPairs ComesBefore (matches_of_one test number p s)
 one-in_order test number p s =
-    AllPairs-flat_map ComesBefore (λ t u. t < u) (λ t. matches_under (test t) number t s) (range_with_len 0 (count_of p.mark)) (range_rises 0 (count_of p.mark))
+    AllPairs-flat_map ComesBefore (λ t u. t < u) (λ t. matches_under (test t) number t s)
+    (range_with_len 0 (count_of p.mark)) (range_rises 0 (count_of p.mark))
     (λ t. under-in_order (test t) number t s)
     (λ t u y z low here there.
     let first = under-has (test t) number t s y here in
@@ -126,13 +143,15 @@ module _ (test : ℕ → Pattern → ℕ → ℕ → Bool) (patterns : List Patt
   by-from z is =
       let none : 0 + z.pattern ≡ z.pattern = omega arith in
       Contains-flat_map_from of_numbered (enumerate_from 0 patterns) (z.pattern, is.pattern) z
-      (subst (λ n. Contains (enumerate_from 0 patterns) (n, is.pattern)) none (Contains-enumerate_from 0 patterns z.pattern is.pattern is.number))
+      (subst (λ n. Contains (enumerate_from 0 patterns) (n, is.pattern)) none
+      (Contains-enumerate_from 0 patterns z.pattern is.pattern is.number))
       (one-from (test z.pattern is.pattern) z.pattern is.pattern s z.transform z.at is.transform is.at is.passes)
 
   -- the matches of all patterns are in order
   pub by-in_order : AllPairs ComesBefore (matches_by test patterns s)
   by-in_order =
-      AllPairs-flat_map ComesBefore (λ x y. x.0 < y.0) of_numbered (enumerate_from 0 patterns) (enumerate_rises 0 patterns)
+      AllPairs-flat_map ComesBefore (λ x y. x.0 < y.0) of_numbered (enumerate_from 0 patterns)
+      (enumerate_rises 0 patterns)
       (λ x. one-in_order (test x.0 x.1) x.0 x.1 s)
       (λ x w y z low here there.
       let first = one-has (test x.0 x.1) x.0 x.1 s y here in

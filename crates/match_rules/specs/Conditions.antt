@@ -1,5 +1,6 @@
--- What a match asks beside its diagram and a legal move: its classes, its constraint and its helpers. After "The Pattern Code" of the GNU Go
--- Manual; the exact tests are this project's own. Codes are those of readings on the position after the play that is asked about.
+-- What a match asks beside its diagram and a legal move: its classes, its constraint and its helpers. After "The
+-- Pattern Code" of the GNU Go Manual; the exact tests are this project's own. Codes are those of readings on the
+-- position after the play that is asked about.
 use Rattle.std.specs.Prelude.{◌≡◌, ℕ, ◌==◌, ◌&&◌, ◌||◌, not, Bool, true, List, [], ◌∷◌, Option, Some, None, Ok, pos, if◌then◌else◌}
 use Rattle.std.specs.List.{list_all, list_any}
 use Rattle.go_rules.specs.declared.Colour.{Colour}
@@ -62,7 +63,8 @@ place_of_argument p s t m Nowhere = None
 
 -- what the pattern's constraint is valued by at m under t: the position before the move, and the moved labels
 abbrev pub meanings_at : Codes → Pattern → BoardState → Colour → ℕ → ℕ → Meanings
-meanings_at code p board friend t m = record { position = board; friend = friend; point = place_of_argument p board.size t m; code = code }
+meanings_at code p board friend t m =
+    record { position = board; friend = friend; point = place_of_argument p board.size t m; code = code }
 
 -- whether the constraint has a value other than 0, if there is one
 abbrev pub is_so_valued : Meanings → Option Expr → Bool
@@ -92,4 +94,5 @@ do_helpers_agree advice p board friend m = list_all (λ name. advice name board 
 
 -- whether the classes, the constraint and the helpers of the pattern allow the friend's move at m under t
 abbrev pub is_agreed : Codes → Advice → Pattern → BoardState → Colour → ℕ → ℕ → Bool
-is_agreed code advice p board friend t m = is_allowed code p board friend t m && do_helpers_agree advice p board friend m
+is_agreed code advice p board friend t m =
+    is_allowed code p board friend t m && do_helpers_agree advice p board friend m

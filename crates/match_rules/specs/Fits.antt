@@ -1,5 +1,5 @@
--- Where a pattern fits on a position, after "The Pattern Code" of the GNU Go Manual: its diagram is moved by a transformation so
--- that the star stands at a point, and every letter and every edge is compared with the board.
+-- Where a pattern fits on a position, after "The Pattern Code" of the GNU Go Manual: its diagram is moved by a
+-- transformation so that the star stands at a point, and every letter and every edge is compared with the board.
 use Rattle.std.specs.Prelude.{◌≡◌, ℕ, ◌+◌, ◌*◌, ◌<◌, Bool, true, false, ℤ, pos, ◌-ℤ◌, List, map, Option, Some, None, slice_index_or}
 use Rattle.std.specs.List.{list_all, flat_map, range_with_len}
 use Rattle.go_rules.specs.declared.Colour.{Colour}
@@ -32,8 +32,8 @@ pub record LetterFits (p : Pattern) (board : BoardState) (friend : Colour) (t m 
   pub place : place_of_cell p board.size t m (pos r) (pos c) ≡ Some point
   pub admitted : admits (letter_at p r c) (cell_at board.cells point) friend ≡ true
 
--- the pattern fits at m under t: every letter of its diagram lies on the board and admits what stands there, and every edge cell
--- lies off the board
+-- the pattern fits at m under t: every letter of its diagram lies on the board and admits what stands there, and every
+-- edge cell lies off the board
 pub record Fits (p : Pattern) (board : BoardState) (friend : Colour) (t m : ℕ) : Type 0 where
   pub letters : (r c : ℕ) → r < p.rows → c < p.cols → LetterFits p board friend t m r c
   pub edges : (r c : ℤ) → IsEdgeCell p r c → place_of_cell p board.size t m r c ≡ None
@@ -46,8 +46,8 @@ line_cells n = map (λ k. pos k -ℤ pos 1) (range_with_len 0 (n + 2))
 abbrev pub cells_of : Pattern → List (ℤ × ℤ)
 cells_of p = flat_map (λ r. map (λ c. (r, c)) (line_cells p.cols)) (line_cells p.rows)
 
--- whether what is drawn fits at a place: a letter on the board, where it admits what stands there, an edge cell off the board alone,
--- and where nothing is drawn anything does
+-- whether what is drawn fits at a place: a letter on the board, where it admits what stands there, an edge cell off the
+-- board alone, and where nothing is drawn anything does
 abbrev pub drawn_fits : Drawn → BoardState → Colour → Option ℕ → Bool
 drawn_fits Nothing board friend place = true
 drawn_fits OffBoard board friend None = true
@@ -57,7 +57,8 @@ drawn_fits (Shows l) board friend (Some q) = admits l (cell_at board.cells q) fr
 
 -- whether what is drawn in a cell fits at its place, with the star at m under t
 abbrev pub cell_fits : Pattern → BoardState → Colour → ℕ → ℕ → ℤ × ℤ → Bool
-cell_fits p board friend t m cell = drawn_fits (drawn_at p cell.0 cell.1) board friend (place_of_cell p board.size t m cell.0 cell.1)
+cell_fits p board friend t m cell =
+    drawn_fits (drawn_at p cell.0 cell.1) board friend (place_of_cell p board.size t m cell.0 cell.1)
 
 -- whether the pattern fits at m under t: each of its cells does
 unfoldable pub fits : Pattern → BoardState → Colour → ℕ → ℕ → Bool

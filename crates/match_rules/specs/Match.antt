@@ -1,5 +1,5 @@
--- The matches of patterns on a position, in order: by the pattern's number, the transformation, and the point of the move.
--- A pattern asks for its diagram, for a legal move, and for what its classes, its constraint and its helpers say.
+-- The matches of patterns on a position, in order: by the pattern's number, the transformation, and the point of the
+-- move. A pattern asks for its diagram, for a legal move, and for what its classes, its constraint and its helpers say.
 use Rattle.std.specs.Prelude.{◌≡◌, ◌≢◌, pos, true, ℕ, ◌*◌, ◌<◌, ◌&&◌, ◌⊎◌, Bool, List, map, filter, Some, Ok, slice_get, Contains}
 use Rattle.std.specs.List.{flat_map, enumerate_from, range_with_len, AllPairs}
 use Rattle.go_rules.specs.declared.Colour.{Colour}
@@ -15,14 +15,16 @@ use Rattle.match_rules.specs.Fits.{fits, Fits}
 use Rattle.match_rules.specs.Conditions.{unsafe_class, enemy_class, IsSafePlay, Advice, meanings_at, is_agreed}
 use Rattle.helper_asking.specs.Fields.{helper_names}
 
--- whether the pattern matches at m under t: it fits there, the friend's play at m is legal, and its classes, its constraint and
--- its helpers allow it
+-- whether the pattern matches at m under t: it fits there, the friend's play at m is legal, and its classes, its
+-- constraint and its helpers allow it
 abbrev pub is_match : Codes → Advice → Pattern → BoardState → Colour → ℕ → ℕ → Bool
-is_match code advice p board friend t m = fits p board friend t m && (is_legal board friend m && is_agreed code advice p board friend t m)
+is_match code advice p board friend t m =
+    fits p board friend t m && (is_legal board friend m && is_agreed code advice p board friend t m)
 
 -- the matches of the pattern with this number under t, by a test of the points of a board of size s
 abbrev pub matches_under : (ℕ → Bool) → ℕ → ℕ → ℕ → List Match
-matches_under test number t s = map (λ m. record { pattern = number; transform = t; at = m }) (filter test (range_with_len 0 (s * s)))
+matches_under test number t s =
+    map (λ m. record { pattern = number; transform = t; at = m }) (filter test (range_with_len 0 (s * s)))
 
 -- the matches of the pattern with this number, by a test of the transformations of its mark and of the points
 abbrev pub matches_of_one : (ℕ → ℕ → Bool) → ℕ → Pattern → ℕ → List Match
@@ -30,14 +32,19 @@ matches_of_one test number p s = flat_map (λ t. matches_under (test t) number t
 
 -- the matches of all patterns, by a test of numbers, patterns, transformations and points
 abbrev pub matches_by : (ℕ → Pattern → ℕ → ℕ → Bool) → List Pattern → ℕ → List Match
-matches_by test patterns s = flat_map (λ numbered. matches_of_one (test numbered.0 numbered.1) numbered.0 numbered.1 s) (enumerate_from 0 patterns)
+matches_by test patterns s =
+    flat_map (λ numbered. matches_of_one (test numbered.0 numbered.1) numbered.0 numbered.1 s)
+    (enumerate_from 0 patterns)
 
--- the matches of the patterns for a friend: each pattern under each transformation of its mark at each point where it matches
+-- the matches of the patterns for a friend: each pattern under each transformation of its mark at each point where it
+-- matches
 unfoldable pub matches_of : Codes → Advice → List Pattern → BoardState → Colour → List Match
-matches_of code advice patterns board friend = matches_by (λ number p t m. is_match code advice p board friend t m) patterns board.size
+matches_of code advice patterns board friend =
+    matches_by (λ number p t m. is_match code advice p board friend t m) patterns board.size
 
 -- z is a match of the patterns for a friend, where this is the code of each reading, and this what each helper says
-pub record IsMatch (code : Codes) (advice : Advice) (patterns : List Pattern) (board : BoardState) (friend : Colour) (z : Match) : Type 0 where
+pub record IsMatch (code : Codes) (advice : Advice) (patterns : List Pattern) (board : BoardState) (friend : Colour)
+    (z : Match) : Type 0 where
   pub pattern : Pattern
   pub number : slice_get patterns z.pattern ≡ Some pattern
   pub transform : z.transform < count_of pattern.mark
@@ -49,16 +56,20 @@ pub record IsMatch (code : Codes) (advice : Advice) (patterns : List Pattern) (b
   -- with class n the enemy's play at the same point is legal, and that stone cannot be captured either
   pub enemy_safe : Contains pattern.classes enemy_class → IsSafePlay code board (other friend) z.at
   -- the constraint, if there is one, has a value other than 0 at the moved labels
-  pub constraint_true : (e : Expr) → pattern.constraint ≡ Some e → value_of (meanings_at code pattern board friend z.transform z.at) e ≢ pos 0
+  pub constraint_true : (e : Expr) → pattern.constraint ≡ Some e
+      → value_of (meanings_at code pattern board friend z.transform z.at) e ≢ pos 0
   -- every helper that the pattern names says yes
-  pub helpers_agree : (name : List ℕ) → Contains (helper_names pattern.items) name → advice name board z.at friend ≡ true
+  pub helpers_agree : (name : List ℕ) → Contains (helper_names pattern.items) name
+      → advice name board z.at friend ≡ true
 
 -- y comes before z: by the pattern's number, then by the transformation, then by the point
 abbrev pub ComesBefore : Match → Match → Type 0
-ComesBefore y z = (y.pattern < z.pattern) ⊎ ((y.pattern ≡ z.pattern) × ((y.transform < z.transform) ⊎ ((y.transform ≡ z.transform) × (y.at < z.at))))
+ComesBefore y z = (y.pattern < z.pattern)
+    ⊎ ((y.pattern ≡ z.pattern) × ((y.transform < z.transform) ⊎ ((y.transform ≡ z.transform) × (y.at < z.at))))
 
 -- the list has exactly the matches, each once, in order
-pub record AreMatches (code : Codes) (advice : Advice) (patterns : List Pattern) (board : BoardState) (friend : Colour) (zs : List Match) : Type 0 where
+pub record AreMatches (code : Codes) (advice : Advice) (patterns : List Pattern) (board : BoardState) (friend : Colour)
+    (zs : List Match) : Type 0 where
   pub sound : (z : Match) → Contains zs z → IsMatch code advice patterns board friend z
   pub complete : (z : Match) → IsMatch code advice patterns board friend z → Contains zs z
   pub in_order : AllPairs ComesBefore zs

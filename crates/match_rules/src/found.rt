@@ -2,8 +2,8 @@
 
 use go_base::{Point, Transform};
 
-/// A pattern that matches: its place in the list of patterns, the transformation, and the point of its move. Matches are in
-/// order by these three.
+/// A pattern that matches: its place in the list of patterns, the transformation, and the point of its move. Matches
+/// are in order by these three.
 #[derive(Clone, Copy, Debug, PartialEq, Eq, PartialOrd, Ord)]
 pub struct Match {
     /// The pattern's place in the list, counted from 0.

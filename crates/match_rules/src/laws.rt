@@ -1,5 +1,5 @@
-//! What the definitions of specs/ mean, in the words of Go. Each function here is a law: its contract is what is proved, and it
-//! does nothing.
+//! What the definitions of specs/ mean, in the words of Go. Each function here is a law: its contract is what is
+//! proved, and it does nothing.
 ghost use Rattle.std.specs.Prelude.{◌≡◌, ◌↔◌, ℕ, List, IsTrue};
 ghost use Rattle.go_rules.specs.declared.Colour.{Colour};
 ghost use Rattle.go_rules.specs.Position.{BoardState};
@@ -10,9 +10,11 @@ ghost use Rattle.match_rules.specs.declared.found.Match.{Match};
 ghost use Rattle.match_rules.specs.Fits.{fits, Fits};
 ghost use Rattle.match_rules.specs.Match.{matches_of, AreMatches};
 
-/// The test of a fit is the fact: every letter lies on the board and admits what stands there, every edge cell lies off it.
+/// The test of a fit is the fact: every letter lies on the board and admits what stands there, every edge cell lies off
+/// it.
 pub fn fits_are_in_words()
-    ensures { (p : Pattern) (board : BoardState) (friend : Colour) (t m : ℕ) → IsTrue (fits p board friend t m) ↔ Fits p board friend t m }
+    ensures { (p : Pattern) (board : BoardState) (friend : Colour) (t m : ℕ)
+        → IsTrue (fits p board friend t m) ↔ Fits p board friend t m }
 {}
 
 /// The list of matches has exactly the matches, each once and in order, and is the only such list.

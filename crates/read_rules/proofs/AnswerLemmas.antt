@@ -21,12 +21,14 @@ not_not true = refl
 not_not false = refl
 
 -- a move that is there was not barred
-kept : (barred : Bool) (first found : Option Spot) → found ≡ cond barred None first → is_some found ≡ true → found ≡ first
+kept : (barred : Bool) (first found : Option Spot) → found ≡ cond barred None first → is_some found ≡ true
+    → found ≡ first
 kept true first found e s = absurd (let w : false ≡ true = sym (ap is_some e) ∙ s in cc)
 kept false first found e s = e
 
 -- the good move at the first node is what a reading under the code looks for
-pub reads : (q : ReadingQuestion) (pos : BoardState) (code : ℕ) (found : Option Spot) → q.plies ≢ 0 → is_captured pos q.target ≡ false
+pub reads : (q : ReadingQuestion) (pos : BoardState) (code : ℕ) (found : Option Spot) → q.plies ≢ 0
+    → is_captured pos q.target ≡ false
     → found ≡ good_move (q.plies - 1) (first_node q code) pos → Reads q pos code found
 reads q pos code found ne h e =
     let node = first_node q code in
@@ -34,7 +36,8 @@ reads q pos code found ne h e =
     record {
       attained = ap is_some e ∙ elim (cases_Bool (is_attack q.kind)) [
         | inl t ↦ sym (wins-attacker_move q.plies node pos h ne t) ∙ sym (ap (λ b. cond b wins (not wins)) t)
-        | inr f ↦ sym (not_not (is_some (good_move (q.plies - 1) node pos))) ∙ ap not (sym (wins-defender_move q.plies node pos h ne f)) ∙ sym (ap (λ b. cond b wins (not wins)) f)
+        | inr f ↦ sym (not_not (is_some (good_move (q.plies - 1) node pos)))
+            ∙ ap not (sym (wins-defender_move q.plies node pos h ne f)) ∙ sym (ap (λ b. cond b wins (not wins)) f)
       ];
       move = kept (is_barred node pos) (first_move (q.plies - 1) node pos) found e;
     }
@@ -51,7 +54,8 @@ about_stands q pos h = stone_stands (cell_at pos.cells q.target) q.colour (same_
 chosen : (about three two one : Bool) → ℕ
 chosen about three two one = cond (not about) 0 (cond three 3 (cond two 2 (cond one 1 0)))
 
-code_of-chosen : (q : ReadingQuestion) (pos : BoardState) → code_of q pos ≡ chosen (is_about q pos) (attains_code q pos 3) (attains_code q pos 2) (attains_code q pos 1)
+code_of-chosen : (q : ReadingQuestion) (pos : BoardState)
+    → code_of q pos ≡ chosen (is_about q pos) (attains_code q pos 3) (attains_code q pos 2) (attains_code q pos 1)
 unfolding code_of chosen
 code_of-chosen q pos = refl
 
@@ -63,44 +67,60 @@ chosen-2 : (about three two one : Bool) → about ≡ true → three ≡ false �
 unfolding chosen
 chosen-2 about three two one a t s = rw (a, t, s) refl
 
-chosen-1 : (about three two one : Bool) → about ≡ true → three ≡ false → two ≡ false → one ≡ true → chosen about three two one ≡ 1
+chosen-1 : (about three two one : Bool) → about ≡ true → three ≡ false → two ≡ false → one ≡ true
+    → chosen about three two one ≡ 1
 unfolding chosen
 chosen-1 about three two one a t s o = rw (a, t, s, o) refl
 
-chosen-0 : (about three two one : Bool) → about ≡ true → three ≡ false → two ≡ false → one ≡ false → chosen about three two one ≡ 0
+chosen-0 : (about three two one : Bool) → about ≡ true → three ≡ false → two ≡ false → one ≡ false
+    → chosen about three two one ≡ 0
 unfolding chosen
 chosen-0 about three two one a t s o = rw (a, t, s, o) refl
 
 -- the answer of a code
-answer_with : (q : ReadingQuestion) (pos : BoardState) (code : ℕ) (at : Option Spot) → code_of q pos ≡ code → at ≡ move_of q pos code → record { code = code; at = at } ≡ answer_of q pos
+answer_with : (q : ReadingQuestion) (pos : BoardState) (code : ℕ) (at : Option Spot) → code_of q pos ≡ code
+    → at ≡ move_of q pos code → record { code = code; at = at } ≡ answer_of q pos
 unfolding answer_of
 answer_with q pos code at e f =
-    ap (λ (m : Option Spot). record { code = code; at = m }) f ∙ ap (λ (k : ℕ). record { code = k; at = move_of q pos k }) (sym e)
+    ap (λ (m : Option Spot). record { code = code; at = m }) f
+    ∙ ap (λ (k : ℕ). record { code = k; at = move_of q pos k }) (sym e)
 
-missed : {q : ReadingQuestion} {pos : BoardState} {code : ℕ} {found : Option Spot} → Reads q pos code found → found ≡ None → attains_code q pos code ≡ false
+missed : {q : ReadingQuestion} {pos : BoardState} {code : ℕ} {found : Option Spot} → Reads q pos code found
+    → found ≡ None → attains_code q pos code ≡ false
 missed r e = sym r.attained ∙ ap is_some e
 
-hit : {q : ReadingQuestion} {pos : BoardState} {code : ℕ} {found : Option Spot} {spot : Spot} → Reads q pos code found → found ≡ Some spot → attains_code q pos code ≡ true
+hit : {q : ReadingQuestion} {pos : BoardState} {code : ℕ} {found : Option Spot} {spot : Spot} → Reads q pos code found
+    → found ≡ Some spot → attains_code q pos code ≡ true
 hit r e = sym r.attained ∙ ap is_some e
 
-move : {q : ReadingQuestion} {pos : BoardState} {code : ℕ} {found : Option Spot} {spot : Spot} → Reads q pos code found → found ≡ Some spot → Some spot ≡ first_move_of q pos code
+move : {q : ReadingQuestion} {pos : BoardState} {code : ℕ} {found : Option Spot} {spot : Spot} → Reads q pos code found
+    → found ≡ Some spot → Some spot ≡ first_move_of q pos code
 move r e = sym e ∙ r.move (ap is_some e)
 
-pub answer_3 : (q : ReadingQuestion) (pos : BoardState) (three : Option Spot) (spot : Spot) → is_about q pos ≡ true → Reads q pos 3 three → three ≡ Some spot
+pub answer_3 : (q : ReadingQuestion) (pos : BoardState) (three : Option Spot) (spot : Spot) → is_about q pos ≡ true
+    → Reads q pos 3 three → three ≡ Some spot
     → record { code = 3; at = Some spot } ≡ answer_of q pos
-answer_3 q pos three spot a r e = answer_with q pos 3 (Some spot) (code_of-chosen q pos ∙ chosen-3 _ _ _ _ a (hit r e)) (move r e)
+answer_3 q pos three spot a r e =
+    answer_with q pos 3 (Some spot) (code_of-chosen q pos ∙ chosen-3 _ _ _ _ a (hit r e)) (move r e)
 
-pub answer_2 : (q : ReadingQuestion) (pos : BoardState) (three two : Option Spot) (spot : Spot) → is_about q pos ≡ true → Reads q pos 3 three → three ≡ None → Reads q pos 2 two → two ≡ Some spot
+pub answer_2 : (q : ReadingQuestion) (pos : BoardState) (three two : Option Spot) (spot : Spot) → is_about q pos ≡ true
+    → Reads q pos 3 three → three ≡ None → Reads q pos 2 two → two ≡ Some spot
     → record { code = 2; at = Some spot } ≡ answer_of q pos
-answer_2 q pos three two spot a r3 e3 r e = answer_with q pos 2 (Some spot) (code_of-chosen q pos ∙ chosen-2 _ _ _ _ a (missed r3 e3) (hit r e)) (move r e)
+answer_2 q pos three two spot a r3 e3 r e =
+    answer_with q pos 2 (Some spot) (code_of-chosen q pos ∙ chosen-2 _ _ _ _ a (missed r3 e3) (hit r e)) (move r e)
 
-pub answer_1 : (q : ReadingQuestion) (pos : BoardState) (three two one : Option Spot) (spot : Spot) → is_about q pos ≡ true → Reads q pos 3 three → three ≡ None → Reads q pos 2 two → two ≡ None
+pub answer_1 : (q : ReadingQuestion) (pos : BoardState) (three two one : Option Spot) (spot : Spot)
+    → is_about q pos ≡ true → Reads q pos 3 three → three ≡ None → Reads q pos 2 two → two ≡ None
     → Reads q pos 1 one → one ≡ Some spot → record { code = 1; at = Some spot } ≡ answer_of q pos
-answer_1 q pos three two one spot a r3 e3 r2 e2 r e = answer_with q pos 1 (Some spot) (code_of-chosen q pos ∙ chosen-1 _ _ _ _ a (missed r3 e3) (missed r2 e2) (hit r e)) (move r e)
+answer_1 q pos three two one spot a r3 e3 r2 e2 r e =
+    answer_with q pos 1 (Some spot) (code_of-chosen q pos ∙ chosen-1 _ _ _ _ a (missed r3 e3) (missed r2 e2) (hit r e))
+    (move r e)
 
-pub answer_0 : (q : ReadingQuestion) (pos : BoardState) (three two one : Option Spot) → is_about q pos ≡ true → Reads q pos 3 three → three ≡ None → Reads q pos 2 two → two ≡ None
+pub answer_0 : (q : ReadingQuestion) (pos : BoardState) (three two one : Option Spot) → is_about q pos ≡ true
+    → Reads q pos 3 three → three ≡ None → Reads q pos 2 two → two ≡ None
     → Reads q pos 1 one → one ≡ None → record { code = 0; at = None } ≡ answer_of q pos
-answer_0 q pos three two one a r3 e3 r2 e2 r e = answer_with q pos 0 None (code_of-chosen q pos ∙ chosen-0 _ _ _ _ a (missed r3 e3) (missed r2 e2) (missed r e)) refl
+answer_0 q pos three two one a r3 e3 r2 e2 r e =
+    answer_with q pos 0 None (code_of-chosen q pos ∙ chosen-0 _ _ _ _ a (missed r3 e3) (missed r2 e2) (missed r e)) refl
 
 stone-colour : (cell : Cell) → cell ≢ Empty → cell ≡ stone_of (colour_of cell)
 stone-colour Empty h = absurd (h refl)
@@ -108,33 +128,58 @@ stone-colour Black h = refl
 stone-colour White h = refl
 
 -- a position of the same size with the same target is one that the question is about
-pub about_asked : (shown pos : BoardState) (kind : Kind) (t plies wide : ℕ) → cell_at shown.cells t ≢ Empty → pos.size ≡ shown.size → cell_at pos.cells t ≡ cell_at shown.cells t
+pub about_asked : (shown pos : BoardState) (kind : Kind) (t plies wide : ℕ) → cell_at shown.cells t ≢ Empty
+    → pos.size ≡ shown.size → cell_at pos.cells t ≡ cell_at shown.cells t
     → is_about (asked_on shown kind t plies wide) pos ≡ true
 about_asked shown pos kind t plies wide h s e =
     and_from _ _ (eq-eqb shown.size pos.size (sym s)) (same_cell-from _ _ (e ∙ stone-colour (cell_at shown.cells t) h))
 
 -- the question that is asked, by its parts
-pub question_is : (shown : BoardState) (size t plies wide : ℕ) (kind : Kind) (cell : Cell) (colour : Colour) → size ≡ shown.size → colour ≡ colour_of cell → cell ≡ cell_at shown.cells t
-    → record { size = size; kind = kind; target = t; colour = colour; plies = plies; wide = wide } ≡ asked_on shown kind t plies wide
+pub question_is : (shown : BoardState) (size t plies wide : ℕ) (kind : Kind) (cell : Cell) (colour : Colour)
+    → size ≡ shown.size → colour ≡ colour_of cell → cell ≡ cell_at shown.cells t
+    → record {
+      size = size;
+      kind = kind;
+      target = t;
+      colour = colour;
+      plies = plies;
+      wide = wide;
+    } ≡ asked_on shown kind t plies wide
 question_is shown size t plies wide kind cell colour s o e =
     ap (λ (n : ℕ). record { size = n; kind = kind; target = t; colour = colour; plies = plies; wide = wide }) s
-    ∙ ap (λ (c : Colour). record { size = shown.size; kind = kind; target = t; colour = c; plies = plies; wide = wide }) (o ∙ ap colour_of e)
+    ∙ ap (λ (c : Colour). record {
+      size = shown.size;
+      kind = kind;
+      target = t;
+      colour = c;
+      plies = plies;
+      wide = wide;
+    }) (o ∙ ap colour_of e)
 
 -- the question attains a code exactly where the side to play has a good move at its first node
-pub attained_by : (q : ReadingQuestion) (pos : BoardState) (code : ℕ) → q.plies ≢ 0 → is_captured pos q.target ≡ false → attains_code q pos code ≡ is_some (good_move (q.plies - 1) (first_node q code) pos)
-attained_by q pos code ne h = sym (reads q pos code (good_move (q.plies - 1) (first_node q code) pos) ne h refl).attained
+pub attained_by : (q : ReadingQuestion) (pos : BoardState) (code : ℕ) → q.plies ≢ 0 → is_captured pos q.target ≡ false
+    → attains_code q pos code ≡ is_some (good_move (q.plies - 1) (first_node q code) pos)
+attained_by q pos code ne h =
+    sym (reads q pos code (good_move (q.plies - 1) (first_node q code) pos) ne h refl).attained
 
 -- a code that is attained, where no greater one is, and its move are the answer
-pub answer_best : (q : ReadingQuestion) (pos : BoardState) (code : ℕ) (at : Option Spot) → is_about q pos ≡ true → code ≤ 3 → (code ≢ 0 → attains_code q pos code ≡ true)
-    → ((more : ℕ) → code < more → more ≤ 3 → attains_code q pos more ≡ false) → (code ≡ 0 → at ≡ None) → (code ≢ 0 → at ≡ first_move_of q pos code) → record { code = code; at = at } ≡ answer_of q pos
+pub answer_best : (q : ReadingQuestion) (pos : BoardState) (code : ℕ) (at : Option Spot) → is_about q pos ≡ true
+    → code ≤ 3 → (code ≢ 0 → attains_code q pos code ≡ true)
+    → ((more : ℕ) → code < more → more ≤ 3 → attains_code q pos more ≡ false) → (code ≡ 0 → at ≡ None)
+    → (code ≢ 0 → at ≡ first_move_of q pos code) → record { code = code; at = at } ≡ answer_of q pos
 answer_best q pos code at about bounded hit miss no_move move = elim (cases_eq code 0) [
-  | inl e ↦ answer_with q pos code at (code_of-chosen q pos ∙ chosen-0 _ _ _ _ about (miss 3 (omega arith) (omega arith)) (miss 2 (omega arith) (omega arith)) (miss 1 (omega arith) (omega arith)) ∙ sym e)
+  | inl e ↦ answer_with q pos code at (code_of-chosen q pos
+      ∙ chosen-0 _ _ _ _ about (miss 3 (omega arith) (omega arith)) (miss 2 (omega arith) (omega arith))
+      (miss 1 (omega arith) (omega arith)) ∙ sym e)
       (no_move e ∙ sym (ap (move_of q pos) e))
   | inr n0 ↦ answer_with q pos code at (elim (cases_eq code 1) [
-    | inl e ↦ code_of-chosen q pos ∙ chosen-1 _ _ _ _ about (miss 3 (omega arith) (omega arith)) (miss 2 (omega arith) (omega arith)) (ap (attains_code q pos) (sym e) ∙ hit n0) ∙ sym e
+    | inl e ↦ code_of-chosen q pos ∙ chosen-1 _ _ _ _ about (miss 3 (omega arith) (omega arith))
+        (miss 2 (omega arith) (omega arith)) (ap (attains_code q pos) (sym e) ∙ hit n0) ∙ sym e
     | inr n1 ↦ elim (cases_eq code 2) [
-      | inl e ↦ code_of-chosen q pos ∙ chosen-2 _ _ _ _ about (miss 3 (omega arith) (omega arith)) (ap (attains_code q pos) (sym e) ∙ hit n0) ∙ sym e
-      | inr n2 ↦ let e : code ≡ 3 = omega arith in code_of-chosen q pos ∙ chosen-3 _ _ _ _ about (ap (attains_code q pos) (sym e) ∙ hit n0) ∙ sym e
+      | inl e ↦ code_of-chosen q pos ∙ chosen-2 _ _ _ _ about (miss 3 (omega arith) (omega arith))
+          (ap (attains_code q pos) (sym e) ∙ hit n0) ∙ sym e
+      | inr n2 ↦ let e : code ≡ 3 = omega arith in
+          code_of-chosen q pos ∙ chosen-3 _ _ _ _ about (ap (attains_code q pos) (sym e) ∙ hit n0) ∙ sym e
     ]
   ]) (move n0 ∙ sym (ap (λ b. cond b None (first_move_of q pos code)) (ne_eqb code 0 n0)))
 ]

@@ -17,7 +17,8 @@ use Rattle.go_base.proofs.Closing.{whole_self, whole_string, whole_cases, close_
 use Rattle.read_rules.proofs.CandidateLaws.{size_played}
 
 -- The colour c played at l with the ban dropped, which gave this position.
-module _ (pos : BoardState) (c : Colour) (l : ℕ) (new : BoardState) (on : l < pos.size * pos.size) (legal : play_free pos c l ≡ Ok new) where
+module _ (pos : BoardState) (c : Colour) (l : ℕ) (new : BoardState) (on : l < pos.size * pos.size)
+    (legal : play_free pos c l ≡ Ok new) where
   -- y stands in the string, before the play, of a neighbour of l, and is of the colour of the played stone
   record IsJoined (y : ℕ) : Type 0 where
     x : ℕ
@@ -31,7 +32,8 @@ module _ (pos : BoardState) (c : Colour) (l : ℕ) (new : BoardState) (on : l < 
       → cell_at pos.cells y ≡ cell_at new.cells l
   stood y y_on ne same = elim (others_stay pos c l new y legal y_on ne) [
     | inl kept ↦ sym kept ∙ same
-    | inr taken ↦ absurd (both_ways (is_stone Empty) refl (ap is_stone (sym taken.1 ∙ same) ∙ stone_after pos c l new on legal))
+    | inr taken ↦ absurd (both_ways (is_stone Empty) refl
+        (ap is_stone (sym taken.1 ∙ same) ∙ stone_after pos c l new on legal))
   ]
 
   -- the string of the played stone has that stone, and strings of its neighbours
@@ -57,7 +59,10 @@ module _ (pos : BoardState) (c : Colour) (l : ℕ) (new : BoardState) (on : l < 
                 x_on = j.x_on;
                 x_near = j.x_near;
                 inside = is_is_in_string-from_fact pos.size pos.cells j.x r j.x_on
-                    (record { stone = w.stone; path = step w.path r_on near (its ∙ sym j.its ∙ path_same pos.size pos.cells j.x w.path) });
+                    (record {
+                      stone = w.stone;
+                      path = step w.path r_on near (its ∙ sym j.its ∙ path_same pos.size pos.cells j.x w.path);
+                    });
                 its = its;
               })
         ]
@@ -69,7 +74,8 @@ module _ (pos : BoardState) (c : Colour) (l : ℕ) (new : BoardState) (on : l < 
 
   -- a neighbour of the point is in its neighbourhood
   side : (q : ℕ) → q < pos.size * pos.size → are_neighbours pos.size l q ≡ true → once q ≡ true
-  side q q_on near = close_next pos.size pos.cells (alone l) l q q_on (whole_self pos.size pos.cells (alone l) l on (alone_self l)) near
+  side q q_on near = close_next pos.size pos.cells (alone l) l q q_on
+      (whole_self pos.size pos.cells (alone l) l on (alone_self l)) near
 
   -- what joined lies in the whole strings of that neighbourhood
   whole_joined : (y : ℕ) → IsJoined y → whole_strings_of pos.size pos.cells once y ≡ true
@@ -84,7 +90,8 @@ module _ (pos : BoardState) (c : Colour) (l : ℕ) (new : BoardState) (on : l < 
         joined (IsInString-from_test pos.size new.cells l y inside).path
   ]
 
-  -- what lies in the neighbourhood of the played stone after the play lies in the second neighbourhood of its point before it
+  -- what lies in the neighbourhood of the played stone after the play lies in the second neighbourhood of its point
+  -- before it
   pub near_played : (r : ℕ) → neighbourhood_of pos.size new.cells (alone l) r ≡ true
       → neighbourhood_of pos.size pos.cells (neighbourhood_of pos.size pos.cells (alone l)) r ≡ true
   near_played r h = elim (closeness pos.size new.cells (alone l) r h) [
@@ -93,7 +100,8 @@ module _ (pos : BoardState) (c : Colour) (l : ℕ) (new : BoardState) (on : l < 
       | inr j ↦ close_whole pos.size pos.cells once r (whole_joined r j)
     ]
     | beside y r_on w near ↦ elim (own y w) [
-      | inl e ↦ close_again pos.size pos.cells (alone l) r (side r r_on (subst (λ x. are_neighbours pos.size x r ≡ true) e near))
+      | inl e ↦ close_again pos.size pos.cells (alone l) r
+          (side r r_on (subst (λ x. are_neighbours pos.size x r ≡ true) e near))
       | inr j ↦ close_next pos.size pos.cells once y r r_on (whole_joined y j) near
     ]
   ]
@@ -105,4 +113,5 @@ module _ (pos : BoardState) (c : Colour) (l : ℕ) (new : BoardState) (on : l < 
       let its = subst (λ n. IsLiberty n new.cells l p) (size_played pos c l new legal) lib in
       let q = its.beside in
       let q_in = is_is_in_string-from_fact pos.size new.cells l q.0 on q.1 in
-      near_played p (close_next pos.size new.cells (alone l) q.0 p its.on_board (whole_string pos.size new.cells (alone l) l q.0 on (alone_self l) q_in) q.2)
+      near_played p (close_next pos.size new.cells (alone l) q.0 p its.on_board
+      (whole_string pos.size new.cells (alone l) l q.0 on (alone_self l) q_in) q.2)

@@ -23,17 +23,27 @@ wide_gives s cells target p h =
     let parts = and_parts _ _ h in
     let first = and_parts _ _ parts.0 in
     let l = any_below_gives (s * s) _ parts.1 in
-    let both = and_parts _ _ l.2 in
-    (l.0, both.0, record { on_board = ltb-true p (s * s) first.0; is_empty = same_cell-true _ _ first.1; beside = both.1 })
+    let both = and_parts _ _ l.2 in (
+      l.0,
+      both.0,
+      record {
+        on_board = ltb-true p (s * s) first.0;
+        is_empty = same_cell-true _ _ first.1;
+        beside = both.1;
+      },
+    )
 
-wide_from : (s : ℕ) (cells : List Cell) (target p l : ℕ) → l < s * s → is_liberty s cells target l ≡ true → IsEmptyNeighbour s cells l p
+wide_from : (s : ℕ) (cells : List Cell) (target p l : ℕ) → l < s * s → is_liberty s cells target l ≡ true
+    → IsEmptyNeighbour s cells l p
     → is_empty_beside s cells (is_liberty s cells target) p ≡ true
 unfolding is_empty_beside
 wide_from s cells target p l on lib near =
-    and_from _ _ (and_from _ _ (lt-ltb p (s * s) near.on_board) (same_cell-from _ _ near.is_empty)) (any_below_from (s * s) _ l on (and_from _ _ lib near.beside))
+    and_from _ _ (and_from _ _ (lt-ltb p (s * s) near.on_board) (same_cell-from _ _ near.is_empty))
+    (any_below_from (s * s) _ l on (and_from _ _ lib near.beside))
 
 -- an attacker's string that is taken, and the other way round
-takes_gives : (s : ℕ) (cells : List Cell) (target p : ℕ) → is_last_liberty_of_enemy s cells target p ≡ true → (q : ℕ) × IsTakenAt s cells target q p
+takes_gives : (s : ℕ) (cells : List Cell) (target p : ℕ) → is_last_liberty_of_enemy s cells target p ≡ true
+    → (q : ℕ) × IsTakenAt s cells target q p
 unfolding is_last_liberty_of_enemy is_beside_string is_only_liberty
 takes_gives s cells target p h =
     let q = any_below_gives (s * s) _ h in
@@ -52,17 +62,21 @@ takes_gives s cells target p h =
       },
     )
 
-takes_from : (s : ℕ) (cells : List Cell) (target q p : ℕ) → target < s * s → IsTakenAt s cells target q p → is_last_liberty_of_enemy s cells target p ≡ true
+takes_from : (s : ℕ) (cells : List Cell) (target q p : ℕ) → target < s * s → IsTakenAt s cells target q p
+    → is_last_liberty_of_enemy s cells target p ≡ true
 unfolding is_last_liberty_of_enemy is_beside_string is_only_liberty
 takes_from s cells target q p on taken =
     let inside = is_is_in_string-from_fact s cells target taken.beside.0 on taken.beside.1 in
     any_below_from (s * s) _ q taken.on_board
     (and_from _ _ (and_from _ _ taken.enemy
-    (any_below_from (s * s) _ taken.beside.0 (is_in_string_on s cells target taken.beside.0 on inside) (and_from _ _ inside taken.beside.2)))
-    (and_from _ _ (eq-eqb (liberties s cells q) 1 taken.in_atari) (is_liberty-from_fact s cells q p taken.on_board taken.last)))
+    (any_below_from (s * s) _ taken.beside.0 (is_in_string_on s cells target taken.beside.0 on inside)
+    (and_from _ _ inside taken.beside.2)))
+    (and_from _ _ (eq-eqb (liberties s cells q) 1 taken.in_atari)
+    (is_liberty-from_fact s cells q p taken.on_board taken.last)))
 
 -- a legal play keeps the size
-pub size_played : (pos : BoardState) (c : Colour) (l : ℕ) (new : BoardState) → play_free pos c l ≡ Ok new → new.size ≡ pos.size
+pub size_played : (pos : BoardState) (c : Colour) (l : ℕ) (new : BoardState) → play_free pos c l ≡ Ok new
+    → new.size ≡ pos.size
 size_played pos c l new e = ap (λ (x : BoardState). x.size) (done_state pos c l new e).1
 
 -- what a play that leaves one liberty gives
@@ -83,7 +97,8 @@ unfolding is_only_liberty
 only_from s cells l p one its = and_from _ _ (eq-eqb (liberties s cells l) 1 one) its
 
 -- a backfilling move by the test is one by the rules, and the other way round
-backfills_gives : (pos : BoardState) (target p : ℕ) → is_backfilling pos target p ≡ true → (l : ℕ) × IsBackfilledAt pos target l p
+backfills_gives : (pos : BoardState) (target p : ℕ) → is_backfilling pos target p ≡ true
+    → (l : ℕ) × IsBackfilledAt pos target l p
 unfolding is_backfilling
 backfills_gives pos target p h =
     let parts = and_parts _ _ h in
@@ -121,14 +136,16 @@ backfilled_on pos target l p w =
 -- p is a wide move, by the test
 abbrev by_wide : BoardState → ℕ → ℕ → ℕ → Bool
 by_wide pos target k p =
-    (ltb 0 k && ltb (liberties pos.size pos.cells target) 3) && is_empty_beside pos.size pos.cells (is_liberty pos.size pos.cells target) p
+    (ltb 0 k && ltb (liberties pos.size pos.cells target) 3)
+    && is_empty_beside pos.size pos.cells (is_liberty pos.size pos.cells target) p
 
 -- p is a backfilling move while a wide ply is left, by the test
 abbrev by_backfilling : BoardState → ℕ → ℕ → ℕ → Bool
 by_backfilling pos target k p = ltb 0 k && is_backfilling pos target p
 
 -- a candidate by the test is one by the rules
-pub candidate_gives : (pos : BoardState) (target k p : ℕ) → is_candidate pos target k p ≡ true → IsCandidate pos target k p
+pub candidate_gives : (pos : BoardState) (target k p : ℕ) → is_candidate pos target k p ≡ true
+    → IsCandidate pos target k p
 unfolding is_candidate
 candidate_gives pos target k p h =
     let lib = is_liberty pos.size pos.cells target p in
@@ -148,20 +165,27 @@ candidate_gives pos target k p h =
               let both = and_parts _ _ parts.0 in
               let l = wide_gives pos.size pos.cells target p parts.1 in
               let few = ltb-true (liberties pos.size pos.cells target) 3 both.1 in
-              looks_wide (ltb-true 0 k both.0) (omega arith) l.0 (IsLiberty-from_test pos.size pos.cells target l.0 l.1) l.2
+              looks_wide (ltb-true 0 k both.0) (omega arith) l.0
+              (IsLiberty-from_test pos.size pos.cells target l.0 l.1) l.2
         ]
       ]
     ]
 
 -- a candidate by the rules is one by the test
-pub candidate_from : (pos : BoardState) (target k p : ℕ) → target < pos.size * pos.size → IsCandidate pos target k p → is_candidate pos target k p ≡ true
+pub candidate_from : (pos : BoardState) (target k p : ℕ) → target < pos.size * pos.size → IsCandidate pos target k p
+    → is_candidate pos target k p ≡ true
 unfolding is_candidate
-candidate_from pos target k p on (fills lib) = or_left _ _ (or_left _ _ (or_left _ _ (is_liberty-from_fact pos.size pos.cells target p on lib)))
+candidate_from pos target k p on (fills lib) =
+    or_left _ _ (or_left _ _ (or_left _ _ (is_liberty-from_fact pos.size pos.cells target p on lib)))
 candidate_from pos target k p on (looks_wide some few l lib near) =
-    or_left _ _ (or_left _ _ (or_right _ _ (and_from _ _ (and_from _ _ (lt-ltb 0 k some) (lt-ltb (liberties pos.size pos.cells target) 3 (omega arith)))
-    (wide_from pos.size pos.cells target p l lib.on_board (is_liberty-from_fact pos.size pos.cells target l on lib) near))))
-candidate_from pos target k p on (takes q taken) = or_left _ _ (or_right _ _ (takes_from pos.size pos.cells target q p on taken))
-candidate_from pos target k p on (backfills some l w) = or_right _ _ (and_from _ _ (lt-ltb 0 k some) (backfills_from pos target l p on w))
+    or_left _ _ (or_left _ _ (or_right _ _ (and_from _ _
+    (and_from _ _ (lt-ltb 0 k some) (lt-ltb (liberties pos.size pos.cells target) 3 (omega arith)))
+    (wide_from pos.size pos.cells target p l lib.on_board
+    (is_liberty-from_fact pos.size pos.cells target l on lib) near))))
+candidate_from pos target k p on (takes q taken) =
+    or_left _ _ (or_right _ _ (takes_from pos.size pos.cells target q p on taken))
+candidate_from pos target k p on (backfills some l w) =
+    or_right _ _ (and_from _ _ (lt-ltb 0 k some) (backfills_from pos target l p on w))
 
 -- a candidate is a point of the board
 pub candidate_on : (pos : BoardState) (target k p : ℕ) → is_candidate pos target k p ≡ true → p < pos.size * pos.size

@@ -13,14 +13,17 @@ use Rattle.read_rules.proofs.WinLemmas.{wins-captured, wins-no_plies}
 use Rattle.read_rules.proofs.RuleLemmas.{attacker_gives, attacker_from, defender_gives, defender_from}
 
 -- the same with the next number written as a sum
-as_sum : (n : ℕ) (node : Node) (pos : BoardState) → attacker_wins (suc n) node pos ≡ true → attacker_wins (n + 1) node pos ≡ true
+as_sum : (n : ℕ) (node : Node) (pos : BoardState) → attacker_wins (suc n) node pos ≡ true
+    → attacker_wins (n + 1) node pos ≡ true
 as_sum n node pos h = ap (λ m. attacker_wins m node pos) (add-one n) ∙ h
 
-as_next : (n : ℕ) (node : Node) (pos : BoardState) → attacker_wins (n + 1) node pos ≡ true → attacker_wins (suc n) node pos ≡ true
+as_next : (n : ℕ) (node : Node) (pos : BoardState) → attacker_wins (n + 1) node pos ≡ true
+    → attacker_wins (suc n) node pos ≡ true
 as_next n node pos h = ap (λ m. attacker_wins m node pos) (sym (add-one n)) ∙ h
 
 -- one more ply takes no win away
-pub one_more : (n : ℕ) (node : Node) (pos : BoardState) → attacker_wins n node pos ≡ true → attacker_wins (suc n) node pos ≡ true
+pub one_more : (n : ℕ) (node : Node) (pos : BoardState) → attacker_wins n node pos ≡ true
+    → attacker_wins (suc n) node pos ≡ true
 one_more zero node pos h = elim (cases_Bool (is_captured pos node.target)) [
   | inl t ↦ wins-captured 1 node pos t
   | inr f ↦ absurd (both_ways (attacker_wins 0 node pos) (wins-no_plies 0 node pos f refl) h)
@@ -32,7 +35,14 @@ one_more (suc n) node pos h = elim (cases_Bool (is_captured pos node.target)) [
         let w = attacker_gives n node pos stands turn (as_sum n node pos h) in
         as_next (suc n) node pos (attacker_from (suc n) node pos stands turn (
           w.0,
-          record { point = w.1.point; next = w.1.next; new = w.1.new; candidate = w.1.candidate; child = w.1.child; wins = one_more n w.1.next w.1.new w.1.wins },
+          record {
+            point = w.1.point;
+            next = w.1.next;
+            new = w.1.new;
+            candidate = w.1.candidate;
+            child = w.1.child;
+            wins = one_more n w.1.next w.1.new w.1.wins;
+          },
         ))
     | inr turn ↦
         let w = defender_gives n node pos stands turn (as_sum n node pos h) in
@@ -49,11 +59,13 @@ other_child node a d = next_node (with_allowances node a d) (allowance_of (with_
 
 -- it is the child under allowances of its own
 child_is : (node : Node) (a d : ℕ) → other_child node a d ≡ with_allowances (next_node node (allowance_of node))
-    (cond node.attacker_to_play (allowance_of (with_allowances node a d)) a) (cond node.attacker_to_play d (allowance_of (with_allowances node a d)))
+    (cond node.attacker_to_play (allowance_of (with_allowances node a d)) a)
+    (cond node.attacker_to_play d (allowance_of (with_allowances node a d)))
 child_is node a d = refl
 
 -- where the ban forbids no candidate, a child is one by a legal play
-legal_child : {below : Node → BoardState → Type 0} {node : Node} {pos : BoardState} → IsFreeHere below node pos → (p : ℕ) (next : Node) (new : BoardState)
+legal_child : {below : Node → BoardState → Type 0} {node : Node} {pos : BoardState} → IsFreeHere below node pos
+    → (p : ℕ) (next : Node) (new : BoardState)
     → is_candidate pos node.target node.wide p ≡ true → (a d : ℕ) → IsChild (with_allowances node a d) pos p next new
     → (play pos (mover_of node) p ≡ Ok new) × (next ≡ other_child node a d)
 legal_child free p next new candidate a d (inl w) = (w.legal, w.next_is)
@@ -64,7 +76,8 @@ pub same_winner : (n : ℕ) (node : Node) (pos : BoardState) → IsBanFree n nod
     → attacker_wins n (with_allowances node a d) pos ≡ true → attacker_wins n (with_allowances node x y) pos ≡ true
 same_winner zero node pos free a d x y h = elim (cases_Bool (is_captured pos node.target)) [
   | inl t ↦ wins-captured 0 (with_allowances node x y) pos t
-  | inr f ↦ absurd (both_ways (attacker_wins 0 (with_allowances node a d) pos) (wins-no_plies 0 (with_allowances node a d) pos f refl) h)
+  | inr f ↦ absurd (both_ways (attacker_wins 0 (with_allowances node a d) pos)
+      (wins-no_plies 0 (with_allowances node a d) pos f refl) h)
 ]
 same_winner (suc n) node pos free a d x y h = elim (cases_Bool (is_captured pos node.target)) [
   | inl t ↦ wins-captured (suc n) (with_allowances node x y) pos t
@@ -73,7 +86,8 @@ same_winner (suc n) node pos free a d x y h = elim (cases_Bool (is_captured pos 
       let below = next_node node (allowance_of node) in
       elim (cases_Bool node.attacker_to_play) [
         | inl turn ↦
-            let w = attacker_gives n (with_allowances node a d) pos stands turn (as_sum n (with_allowances node a d) pos h) in
+            let w = attacker_gives n (with_allowances node a d) pos stands turn
+            (as_sum n (with_allowances node a d) pos h) in
             let one = legal_child here w.1.point w.1.next w.1.new w.1.candidate a d w.1.child in
             let wins = ap (λ (m : Node). attacker_wins n m w.1.new) (sym one.1) ∙ w.1.wins in
             as_next n (with_allowances node x y) pos (attacker_from n (with_allowances node x y) pos stands turn (
@@ -88,18 +102,24 @@ same_winner (suc n) node pos free a d x y h = elim (cases_Bool (is_captured pos 
               },
             ))
         | inr turn ↦
-            let w = defender_gives n (with_allowances node a d) pos stands turn (as_sum n (with_allowances node a d) pos h) in
-            as_next n (with_allowances node x y) pos (defender_from n (with_allowances node x y) pos stands turn (record {
+            let w = defender_gives n (with_allowances node a d) pos stands turn
+            (as_sum n (with_allowances node a d) pos h) in
+            as_next n (with_allowances node x y) pos (defender_from n (with_allowances node x y) pos stands turn
+            (record {
               passed = same_winner n below (pass pos) (here.passed turn) _ _ _ _ w.passed;
               played = λ p next new candidate child.
                   let one = legal_child here p next new candidate x y child in
-                  let wins = w.played p (other_child node a d) new candidate (inl (record { legal = one.0; next_is = refl })) in
-                  ap (λ (m : Node). attacker_wins n m new) one.1 ∙ same_winner n below new (here.played p new candidate one.0) _ _ _ _ wins;
+                  let wins = w.played p (other_child node a d) new candidate
+                  (inl (record { legal = one.0; next_is = refl })) in
+                  ap (λ (m : Node). attacker_wins n m new) one.1
+                  ∙ same_winner n below new (here.played p new candidate one.0) _ _ _ _ wins;
             }))
       ]
 ]
 
 -- so the winner is the same
-pub one_winner : (n : ℕ) (node : Node) (pos : BoardState) (a d : ℕ) → IsBanFree n node pos → attacker_wins n (with_allowances node a d) pos ≡ attacker_wins n node pos
+pub one_winner : (n : ℕ) (node : Node) (pos : BoardState) (a d : ℕ) → IsBanFree n node pos
+    → attacker_wins n (with_allowances node a d) pos ≡ attacker_wins n node pos
 one_winner n node pos a d free =
-    same_tests _ _ (same_winner n node pos free a d node.attacker_ko node.defender_ko) (same_winner n node pos free node.attacker_ko node.defender_ko a d)
+    same_tests _ _ (same_winner n node pos free a d node.attacker_ko node.defender_ko)
+    (same_winner n node pos free node.attacker_ko node.defender_ko a d)

@@ -14,12 +14,15 @@ use Rattle.read_rules.specs.GameTree.{attacker_wins, child_of, next_node, allowa
 use Rattle.read_rules.specs.GoodMoves.{good_move}
 
 -- the first that passes both tests, among the numbers from a on
-pub first-found : (g t : ℕ → Bool) (n a p : ℕ) → a ≤ p → p < a + n → ((q : ℕ) → a ≤ q → q < p → (g q && t q) ≡ false) → (g p && t p) ≡ true → find t (filter g (range_with_len a n)) ≡ Some p
+pub first-found : (g t : ℕ → Bool) (n a p : ℕ) → a ≤ p → p < a + n → ((q : ℕ) → a ≤ q → q < p → (g q && t q) ≡ false)
+    → (g p && t p) ≡ true → find t (filter g (range_with_len a n)) ≡ Some p
 first-found g t zero a p lo hi before here = absurd (omega arith)
 first-found g t (suc n) a p lo hi before here =
-    step (eqb a p) refl (λ ne. first-found g t n (a + 1) p (omega arith) (omega arith) (λ q l h. before q (omega arith) h) here)
+    step (eqb a p) refl (λ ne. first-found g t n (a + 1) p (omega arith) (omega arith)
+    (λ q l h. before q (omega arith) h) here)
   where
-    skip : (x : Bool) → (x && t a) ≡ false → find t (filter g (range_with_len (a + 1) n)) ≡ Some p → find t (cond x (a ∷ filter g (range_with_len (a + 1) n)) (filter g (range_with_len (a + 1) n))) ≡ Some p
+    skip : (x : Bool) → (x && t a) ≡ false → find t (filter g (range_with_len (a + 1) n)) ≡ Some p
+        → find t (cond x (a ∷ filter g (range_with_len (a + 1) n)) (filter g (range_with_len (a + 1) n))) ≡ Some p
     skip true h rest = rw h rest
     skip false h rest = rest
 
@@ -28,7 +31,8 @@ first-found g t (suc n) a p lo hi before here =
     now true false h = cc
     now false y h = cc
 
-    step : (b : Bool) → eqb a p ≡ b → ((a ≢ p) → find t (filter g (range_with_len (a + 1) n)) ≡ Some p) → find t (filter g (range_with_len a (suc n))) ≡ Some p
+    step : (b : Bool) → eqb a p ≡ b → ((a ≢ p) → find t (filter g (range_with_len (a + 1) n)) ≡ Some p)
+        → find t (filter g (range_with_len a (suc n))) ≡ Some p
     step true eb rest =
         let e = eqb-true a p eb in
         let both = now (g p) (t p) here in
@@ -37,12 +41,15 @@ first-found g t (suc n) a p lo hi before here =
         let ne : a ≢ p = eqb-false a p eb in
         skip (g a) (before a (omega arith) (omega arith)) (rest ne)
 
-pub first-none : (g t : ℕ → Bool) (n a : ℕ) → ((q : ℕ) → a ≤ q → q < a + n → (g q && t q) ≡ false) → find t (filter g (range_with_len a n)) ≡ None
+pub first-none : (g t : ℕ → Bool) (n a : ℕ) → ((q : ℕ) → a ≤ q → q < a + n → (g q && t q) ≡ false)
+    → find t (filter g (range_with_len a n)) ≡ None
 first-none g t zero a none = refl
 first-none g t (suc n) a none =
-    skip (g a) (none a (omega arith) (omega arith)) (first-none g t n (a + 1) (λ q l h. none q (omega arith) (omega arith)))
+    skip (g a) (none a (omega arith) (omega arith))
+    (first-none g t n (a + 1) (λ q l h. none q (omega arith) (omega arith)))
   where
-    skip : (x : Bool) → (x && t a) ≡ false → find t (filter g (range_with_len (a + 1) n)) ≡ None → find t (cond x (a ∷ filter g (range_with_len (a + 1) n)) (filter g (range_with_len (a + 1) n))) ≡ None
+    skip : (x : Bool) → (x && t a) ≡ false → find t (filter g (range_with_len (a + 1) n)) ≡ None
+        → find t (cond x (a ∷ filter g (range_with_len (a + 1) n)) (filter g (range_with_len (a + 1) n))) ≡ None
     skip true h rest = rw h rest
     skip false h rest = rest
 
@@ -56,34 +63,45 @@ any-first f (x ∷ xs) = by (f x) (any-first f xs)
     by false h = h
 
 -- no move saves the target exactly where each child is lost
-all-first : (n : ℕ) (f : ℕ → Option (Node × BoardState)) (ps : List ℕ) → is_none (find (λ p. some_child (λ s pos. not (attacker_wins n s pos)) (f p)) ps) ≡ list_all (λ p. each_child (attacker_wins n) (f p)) ps
+all-first : (n : ℕ) (f : ℕ → Option (Node × BoardState)) (ps : List ℕ)
+    → is_none (find (λ p. some_child (λ s pos. not (attacker_wins n s pos)) (f p)) ps)
+    ≡ list_all (λ p. each_child (attacker_wins n) (f p)) ps
 all-first n f [] = refl
 all-first n f (p ∷ ps) = by (f p) (all-first n f ps)
   where
-    lost : (b : Bool) → is_none (find (λ p. some_child (λ s pos. not (attacker_wins n s pos)) (f p)) ps) ≡ list_all (λ p. each_child (attacker_wins n) (f p)) ps
-        → is_none (cond (not b) (Some p) (find (λ p. some_child (λ s pos. not (attacker_wins n s pos)) (f p)) ps)) ≡ (b && list_all (λ p. each_child (attacker_wins n) (f p)) ps)
+    lost : (b : Bool) → is_none (find (λ p. some_child (λ s pos. not (attacker_wins n s pos)) (f p)) ps)
+        ≡ list_all (λ p. each_child (attacker_wins n) (f p)) ps
+        → is_none (cond (not b) (Some p) (find (λ p. some_child (λ s pos. not (attacker_wins n s pos)) (f p)) ps))
+        ≡ (b && list_all (λ p. each_child (attacker_wins n) (f p)) ps)
     lost true h = h
     lost false h = refl
 
-    by : (o : Option (Node × BoardState)) → is_none (find (λ p. some_child (λ s pos. not (attacker_wins n s pos)) (f p)) ps) ≡ list_all (λ p. each_child (attacker_wins n) (f p)) ps
-        → is_none (cond (some_child (λ s pos. not (attacker_wins n s pos)) o) (Some p) (find (λ p. some_child (λ s pos. not (attacker_wins n s pos)) (f p)) ps)) ≡ (each_child (attacker_wins n) o && list_all (λ p. each_child (attacker_wins n) (f p)) ps)
+    by : (o : Option (Node × BoardState))
+        → is_none (find (λ p. some_child (λ s pos. not (attacker_wins n s pos)) (f p)) ps)
+        ≡ list_all (λ p. each_child (attacker_wins n) (f p)) ps
+        → is_none (cond (some_child (λ s pos. not (attacker_wins n s pos)) o) (Some p)
+        (find (λ p. some_child (λ s pos. not (attacker_wins n s pos)) (f p)) ps))
+        ≡ (each_child (attacker_wins n) o && list_all (λ p. each_child (attacker_wins n) (f p)) ps)
     by None h = h
     by (Some child) h = lost (attacker_wins n child.0 child.1) h
 
 -- the target is captured
-pub wins-captured : (n : ℕ) (node : Node) (pos : BoardState) → is_captured pos node.target ≡ true → attacker_wins n node pos ≡ true
+pub wins-captured : (n : ℕ) (node : Node) (pos : BoardState) → is_captured pos node.target ≡ true
+    → attacker_wins n node pos ≡ true
 unfolding attacker_wins
 wins-captured zero node pos h = h
 wins-captured (suc n) node pos h = rw h refl
 
 -- it stands, and no ply is left
-pub wins-no_plies : (n : ℕ) (node : Node) (pos : BoardState) → is_captured pos node.target ≡ false → n ≡ 0 → attacker_wins n node pos ≡ false
+pub wins-no_plies : (n : ℕ) (node : Node) (pos : BoardState) → is_captured pos node.target ≡ false → n ≡ 0
+    → attacker_wins n node pos ≡ false
 unfolding attacker_wins
 wins-no_plies zero node pos h e = h
 wins-no_plies (suc n) node pos h e = cc
 
 -- it stands, and it is the attacker's turn
-pub wins-attacker : (n : ℕ) (node : Node) (pos : BoardState) → is_captured pos node.target ≡ false → node.attacker_to_play ≡ true
+pub wins-attacker : (n : ℕ) (node : Node) (pos : BoardState) → is_captured pos node.target ≡ false
+    → node.attacker_to_play ≡ true
     → attacker_wins (suc n) node pos ≡ (not (has_many_liberties pos node.target node.wide)
     && list_any (λ p. some_child (attacker_wins n) (child_of node pos p)) (candidates_of pos node.target node.wide))
 unfolding attacker_wins
@@ -93,7 +111,8 @@ wins-attacker n node pos h e = choose (is_captured pos node.target) node.attacke
     choose c turn b x y h e = ap (λ v. v || cond turn x y) h ∙ ap (λ v. cond v x y) e
 
 -- it stands, and it is the defender's turn
-pub wins-defender : (n : ℕ) (node : Node) (pos : BoardState) → is_captured pos node.target ≡ false → node.attacker_to_play ≡ false
+pub wins-defender : (n : ℕ) (node : Node) (pos : BoardState) → is_captured pos node.target ≡ false
+    → node.attacker_to_play ≡ false
     → attacker_wins (suc n) node pos ≡ (attacker_wins n (next_node node (allowance_of node)) (pass pos)
     && list_all (λ p. each_child (attacker_wins n) (child_of node pos p)) (candidates_of pos node.target node.wide))
 unfolding attacker_wins
@@ -111,22 +130,26 @@ by_turn : (turn many saved : Bool) (first : Option ℕ) → Option Spot
 by_turn turn many saved first = cond (turn && many) None (cond (not turn && saved) (Some Pass) (at_point first))
 
 good_move-by_turn : (n : ℕ) (node : Node) (pos : BoardState)
-    → good_move n node pos ≡ by_turn node.attacker_to_play (has_many_liberties pos node.target node.wide) (not (attacker_wins n (next_node node (allowance_of node)) (pass pos))) (first_success n node pos)
+    → good_move n node pos ≡ by_turn node.attacker_to_play (has_many_liberties pos node.target node.wide)
+    (not (attacker_wins n (next_node node (allowance_of node)) (pass pos))) (first_success n node pos)
 unfolding by_turn
 good_move-by_turn n node pos = refl
 
-attacker_some : (many saved : Bool) (first : Option ℕ) (any : Bool) → is_some first ≡ any → is_some (by_turn true many saved first) ≡ (not many && any)
+attacker_some : (many saved : Bool) (first : Option ℕ) (any : Bool) → is_some first ≡ any
+    → is_some (by_turn true many saved first) ≡ (not many && any)
 unfolding by_turn
 attacker_some true saved first any e = refl
 attacker_some false saved first any e = some-at_point first ∙ e
 
-defender_none : (many lost : Bool) (first : Option ℕ) (all : Bool) → is_none first ≡ all → is_none (by_turn false many (not lost) first) ≡ (lost && all)
+defender_none : (many lost : Bool) (first : Option ℕ) (all : Bool) → is_none first ≡ all
+    → is_none (by_turn false many (not lost) first) ≡ (lost && all)
 unfolding by_turn
 defender_none many true first all e = ap not (some-at_point first) ∙ e
 defender_none many false first all e = refl
 
 -- the attacker wins at his turn exactly where he has a good move
-pub wins-attacker_move : (n : ℕ) (node : Node) (pos : BoardState) → is_captured pos node.target ≡ false → n ≢ 0 → node.attacker_to_play ≡ true
+pub wins-attacker_move : (n : ℕ) (node : Node) (pos : BoardState) → is_captured pos node.target ≡ false → n ≢ 0
+    → node.attacker_to_play ≡ true
     → attacker_wins n node pos ≡ is_some (good_move (n - 1) node pos)
 wins-attacker_move zero node pos h ne e = absurd (ne refl)
 wins-attacker_move (suc n) node pos h ne e =
@@ -137,11 +160,14 @@ wins-attacker_move (suc n) node pos h ne e =
     wins-attacker n node pos h e
     ∙ sym (ap (λ m. is_some (good_move m node pos)) (sym less) ∙ ap is_some (good_move-by_turn n node pos)
     ∙ ap (λ turn. is_some (by_turn turn many saved (first_success n node pos))) e
-    ∙ attacker_some many saved (first_success n node pos) (list_any (λ p. some_child (attacker_wins n) (child_of node pos p)) ps)
-    (ap (λ turn. is_some (find (λ p. suits n turn (child_of node pos p)) ps)) e ∙ any-first (λ p. some_child (attacker_wins n) (child_of node pos p)) ps))
+    ∙ attacker_some many saved (first_success n node pos)
+    (list_any (λ p. some_child (attacker_wins n) (child_of node pos p)) ps)
+    (ap (λ turn. is_some (find (λ p. suits n turn (child_of node pos p)) ps)) e
+    ∙ any-first (λ p. some_child (attacker_wins n) (child_of node pos p)) ps))
 
 -- and at the defender's turn exactly where the defender has none
-pub wins-defender_move : (n : ℕ) (node : Node) (pos : BoardState) → is_captured pos node.target ≡ false → n ≢ 0 → node.attacker_to_play ≡ false
+pub wins-defender_move : (n : ℕ) (node : Node) (pos : BoardState) → is_captured pos node.target ≡ false → n ≢ 0
+    → node.attacker_to_play ≡ false
     → attacker_wins n node pos ≡ is_none (good_move (n - 1) node pos)
 wins-defender_move zero node pos h ne e = absurd (ne refl)
 wins-defender_move (suc n) node pos h ne e =
@@ -152,11 +178,14 @@ wins-defender_move (suc n) node pos h ne e =
     wins-defender n node pos h e
     ∙ sym (ap (λ m. is_none (good_move m node pos)) (sym less) ∙ ap is_none (good_move-by_turn n node pos)
     ∙ ap (λ turn. is_none (by_turn turn many (not lost) (first_success n node pos))) e
-    ∙ defender_none many lost (first_success n node pos) (list_all (λ p. each_child (attacker_wins n) (child_of node pos p)) ps)
+    ∙ defender_none many lost (first_success n node pos)
+    (list_all (λ p. each_child (attacker_wins n) (child_of node pos p)) ps)
     (ap (λ turn. is_none (find (λ p. suits n turn (child_of node pos p)) ps)) e ∙ all-first n (child_of node pos) ps))
 
--- no point before p is a candidate that succeeds, where none before the next one is, and between them stands no candidate
-pub none_before : (cands wins : ℕ → Bool) (next p : ℕ) → ((q : ℕ) → q < next → (cands q && wins q) ≡ false) → ((q : ℕ) → next ≤ q → q < p → cands q ≡ false)
+-- no point before p is a candidate that succeeds, where none before the next one is, and between them stands no
+-- candidate
+pub none_before : (cands wins : ℕ → Bool) (next p : ℕ) → ((q : ℕ) → q < next → (cands q && wins q) ≡ false)
+    → ((q : ℕ) → next ≤ q → q < p → cands q ≡ false)
     → (q : ℕ) → q < p → (cands q && wins q) ≡ false
 none_before cands wins next p before between q h = elim (cases_lt q next) [
   | inl l ↦ before q l
@@ -164,22 +193,29 @@ none_before cands wins next p before between q h = elim (cases_lt q next) [
 ]
 
 -- the first that succeeds, found by a walk over the candidates
-pub first_success-found : (n : ℕ) (node : Node) (pos : BoardState) (next p : ℕ) (cands : ℕ → Bool) → ((q : ℕ) → cands q ≡ is_candidate pos node.target node.wide q)
-    → ((q : ℕ) → q < next → (cands q && succeeds n node pos q) ≡ false) → ((q : ℕ) → next ≤ q → q < p → cands q ≡ false) → cands p ≡ true → true ≡ succeeds n node pos p → Some p ≡ first_success n node pos
+pub first_success-found : (n : ℕ) (node : Node) (pos : BoardState) (next p : ℕ) (cands : ℕ → Bool)
+    → ((q : ℕ) → cands q ≡ is_candidate pos node.target node.wide q)
+    → ((q : ℕ) → q < next → (cands q && succeeds n node pos q) ≡ false) → ((q : ℕ) → next ≤ q → q < p → cands q ≡ false)
+    → cands p ≡ true → true ≡ succeeds n node pos p → Some p ≡ first_success n node pos
 first_success-found n node pos next p cands same before between c t =
     let on = candidate_on pos node.target node.wide p (sym (same p) ∙ c) in
-    sym (first-found (is_candidate pos node.target node.wide) (succeeds n node pos) (pos.size * pos.size) 0 p (omega arith) (omega (arith, on))
-    (λ q l h. rw (← same q) (none_before cands (succeeds n node pos) next p before between q h)) (both (sym (same p) ∙ c) (sym t)))
+    sym (first-found (is_candidate pos node.target node.wide) (succeeds n node pos) (pos.size * pos.size) 0 p
+    (omega arith) (omega (arith, on))
+    (λ q l h. rw (← same q) (none_before cands (succeeds n node pos) next p before between q h))
+    (both (sym (same p) ∙ c) (sym t)))
   where
     both : {a b : Bool} → a ≡ true → b ≡ true → (a && b) ≡ true
     both x y = rw (x, y) refl
 
 -- none succeeds, where no candidate is left
-pub first_success-none : (n : ℕ) (node : Node) (pos : BoardState) (next : ℕ) (cands : ℕ → Bool) → ((q : ℕ) → cands q ≡ is_candidate pos node.target node.wide q)
-    → ((q : ℕ) → q < next → (cands q && succeeds n node pos q) ≡ false) → ((q : ℕ) → next ≤ q → cands q ≡ false) → None ≡ first_success n node pos
+pub first_success-none : (n : ℕ) (node : Node) (pos : BoardState) (next : ℕ) (cands : ℕ → Bool)
+    → ((q : ℕ) → cands q ≡ is_candidate pos node.target node.wide q)
+    → ((q : ℕ) → q < next → (cands q && succeeds n node pos q) ≡ false) → ((q : ℕ) → next ≤ q → cands q ≡ false)
+    → None ≡ first_success n node pos
 first_success-none n node pos next cands same before left =
     sym (first-none (is_candidate pos node.target node.wide) (succeeds n node pos) (pos.size * pos.size) 0
-    (λ q l h. rw (← same q) (none_before cands (succeeds n node pos) next (pos.size * pos.size) before (λ k g m. left k g) q (omega arith))))
+    (λ q l h. rw (← same q) (none_before cands (succeeds n node pos) next (pos.size * pos.size) before
+    (λ k g m. left k g) q (omega arith))))
 
 -- who wins at a node that no earlier rule decides, by whether its mover has a good move
 pub wins-by_move : (n : ℕ) (node : Node) (pos : BoardState) (some : Bool) → is_captured pos node.target ≡ false → n ≢ 0

@@ -18,11 +18,12 @@ with_allowances node a d = record {
   defender_ko = d;
 }
 
--- where the target stands, no play at a candidate is refused for the ban, and the same holds of the nodes that the legal plays at
--- candidates and the defender's pass lead to, by the test
+-- where the target stands, no play at a candidate is refused for the ban, and the same holds of the nodes that the
+-- legal plays at candidates and the defender's pass lead to, by the test
 pub record IsFreeHere (below : Node → BoardState → Type 0) (node : Node) (pos : BoardState) : Type 0 where
   pub none : (p : ℕ) → IsTrue (is_candidate pos node.target node.wide p) → play pos (mover_of node) p ≢ Err Ko
-  pub played : (p : ℕ) (new : BoardState) → IsTrue (is_candidate pos node.target node.wide p) → play pos (mover_of node) p ≡ Ok new
+  pub played : (p : ℕ) (new : BoardState) → IsTrue (is_candidate pos node.target node.wide p)
+      → play pos (mover_of node) p ≡ Ok new
       → below (next_node node (allowance_of node)) new
   pub passed : node.attacker_to_play ≡ false → below (next_node node (allowance_of node)) (pass pos)
 

@@ -1,5 +1,5 @@
--- The moves that a reading tries: four sets of points, each once as a test that computes and once in terms of strings and
--- liberties. The law `candidates_are_by_strings` says that the two are the same.
+-- The moves that a reading tries: four sets of points, each once as a test that computes and once in terms of strings
+-- and liberties. The law `candidates_are_by_strings` says that the two are the same.
 use Rattle.std.specs.Prelude.{◌≡◌, ℕ, ◌*◌, ◌<◌, ◌≤◌, ◌&&◌, ◌||◌, Bool, true, false, nat_lt, List, Result, Ok, Err}
 use Rattle.std.specs.List.{range_with_len, filter}
 use Rattle.go_rules.specs.declared.Cell.{Cell}
@@ -33,16 +33,18 @@ abbrev pub leaves_only : ℕ → ℕ → Result BoardState Illegal → Bool
 leaves_only l p (Ok new) = is_only_liberty new.size new.cells l p
 leaves_only l p (Err why) = false
 
--- p is empty, and at some liberty of the target the attacker's play, with the ban dropped, is legal and leaves the string of its
--- stone one liberty, which is p: an attacker who first plays there does not put himself into atari by filling that liberty
+-- p is empty, and at some liberty of the target the attacker's play, with the ban dropped, is legal and leaves the
+-- string of its stone one liberty, which is p: an attacker who first plays there does not put himself into atari by
+-- filling that liberty
 unfoldable pub is_backfilling : BoardState → ℕ → ℕ → Bool
 is_backfilling pos target p =
     same_cell (cell_at pos.cells p) Empty
     && any_below (pos.size * pos.size)
-    (λ l. is_liberty pos.size pos.cells target l && leaves_only l p (play_free pos (attacker_of (cell_at pos.cells target)) l))
+    (λ l. is_liberty pos.size pos.cells target l
+    && leaves_only l p (play_free pos (attacker_of (cell_at pos.cells target)) l))
 
--- p is a liberty of the target; or, where k is above 0 and the target has at most two, an empty neighbour of one; or the one
--- liberty of an enemy string next to it; or, where k is above 0, a backfilling move
+-- p is a liberty of the target; or, where k is above 0 and the target has at most two, an empty neighbour of one; or
+-- the one liberty of an enemy string next to it; or, where k is above 0, a backfilling move
 unfoldable pub is_candidate : BoardState → ℕ → ℕ → ℕ → Bool
 is_candidate pos target k p =
     is_liberty pos.size pos.cells target p
@@ -58,7 +60,8 @@ candidates_of pos target k = filter (is_candidate pos target k) (range_with_len 
 -- the points that a search for the candidates of a target may ask for: the neighbourhood taken four times
 abbrev pub near_candidates : ℕ → List Cell → ℕ → ℕ → Bool
 near_candidates s cells target =
-    neighbourhood_of s cells (neighbourhood_of s cells (neighbourhood_of s cells (neighbourhood_of s cells (alone target))))
+    neighbourhood_of s cells (neighbourhood_of s cells
+    (neighbourhood_of s cells (neighbourhood_of s cells (alone target))))
 
 -- The same in terms of strings and liberties.
 
@@ -76,8 +79,8 @@ pub record IsTakenAt (s : ℕ) (cells : List Cell) (target q p : ℕ) : Type 0 w
   pub in_atari : liberties s cells q ≡ 1
   pub last : IsLiberty s cells q p
 
--- l is a liberty of the target, the attacker's play at l, with the ban dropped, is legal and leaves the string of its stone one
--- liberty, and this is p, which is empty before the play
+-- l is a liberty of the target, the attacker's play at l, with the ban dropped, is legal and leaves the string of its
+-- stone one liberty, and this is p, which is empty before the play
 pub record IsBackfilledAt (pos : BoardState) (target l p : ℕ) : Type 0 where
   pub liberty : IsLiberty pos.size pos.cells target l
   pub new : BoardState

@@ -2,8 +2,8 @@
 
 ghost use Rattle.std.specs.Prelude.{◌≡◌, ◌<◌, ◌≤◌, ◌↔◌, IsSome, IfSome};
 
-/// How deep a reading goes: the plies from the question to the end of the tree, 1 to 200, and the plies at its beginning that
-/// look wide, 0 to 12.
+/// How deep a reading goes: the plies from the question to the end of the tree, 1 to 200, and the plies at its
+/// beginning that look wide, 0 to 12.
 #[derive(Clone, Copy, Debug, PartialEq, Eq)]
 pub struct Depths {
     /// How many moves, passes among them, may follow on one another.

@@ -15,19 +15,22 @@ ghost use Rattle.read_rules.specs.Rules.{HasManyLiberties, IsChild, SomeChildWin
 use crate::question::Kind;
 use go_base::Cell;
 
-/// A candidate is a liberty of the target; an empty neighbour of one, where the target has few and a wide ply is left; the last
-/// liberty of an enemy string next to the target; or, where a wide ply is left, the one liberty that a stone of the attacker on a
-/// liberty of the target would have.
+/// A candidate is a liberty of the target; an empty neighbour of one, where the target has few and a wide ply is left;
+/// the last liberty of an enemy string next to the target; or, where a wide ply is left, the one liberty that a stone
+/// of the attacker on a liberty of the target would have.
 pub fn candidates_are_by_strings()
     ensures candidate { (pos : BoardState) (target k p : ℕ) → target < pos.size * pos.size →
         IsTrue (is_candidate pos target k p) ↔ IsCandidate pos target k p }
-    ensures on_board { (pos : BoardState) (target k p : ℕ) → IsTrue (is_candidate pos target k p) → p < pos.size * pos.size }
+    ensures on_board { (pos : BoardState) (target k p : ℕ) → IsTrue (is_candidate pos target k p)
+        → p < pos.size * pos.size }
 {}
 
 /// Where a node is captured, where its target has too many liberties, and which children it has.
 pub fn nodes_are_by_the_rules()
-    ensures captured { (pos : BoardState) (target : ℕ) → IsTrue (is_captured pos target) ↔ (cell_at pos.cells target ≡ Cell.Empty) }
-    ensures many { (pos : BoardState) (target k : ℕ) → IsTrue (has_many_liberties pos target k) ↔ HasManyLiberties pos target k }
+    ensures captured { (pos : BoardState) (target : ℕ)
+        → IsTrue (is_captured pos target) ↔ (cell_at pos.cells target ≡ Cell.Empty) }
+    ensures many { (pos : BoardState) (target k : ℕ)
+        → IsTrue (has_many_liberties pos target k) ↔ HasManyLiberties pos target k }
     ensures child { (node : Node) (pos : BoardState) (p : ℕ) (next : Node) (new : BoardState) →
         (child_of node pos p ≡ Some (next, new)) ↔ IsChild node pos p next new }
     ensures can_play { (node : Node) (pos : BoardState) (p : ℕ) →
@@ -36,17 +39,23 @@ pub fn nodes_are_by_the_rules()
 
 /// The four rules that say who wins, in their order.
 pub fn the_tree_is_by_four_rules()
-    ensures captured { (n : ℕ) (node : Node) (pos : BoardState) → IsTrue (is_captured pos node.target) → IsTrue (attacker_wins n node pos) }
-    ensures out_of_plies { (node : Node) (pos : BoardState) → is_captured pos node.target ≡ false → attacker_wins 0 node pos ≡ false }
-    ensures attacker_to_play { (n : ℕ) (node : Node) (pos : BoardState) → is_captured pos node.target ≡ false → node.attacker_to_play ≡ true →
-        IsTrue (attacker_wins (n + 1) node pos) ↔ ((has_many_liberties pos node.target node.wide ≡ false) × SomeChildWins n node pos) }
-    ensures defender_to_play { (n : ℕ) (node : Node) (pos : BoardState) → is_captured pos node.target ≡ false → node.attacker_to_play ≡ false →
+    ensures captured { (n : ℕ) (node : Node) (pos : BoardState) → IsTrue (is_captured pos node.target)
+        → IsTrue (attacker_wins n node pos) }
+    ensures out_of_plies { (node : Node) (pos : BoardState) → is_captured pos node.target ≡ false
+        → attacker_wins 0 node pos ≡ false }
+    ensures attacker_to_play { (n : ℕ) (node : Node) (pos : BoardState) → is_captured pos node.target ≡ false
+        → node.attacker_to_play ≡ true →
+        IsTrue (attacker_wins (n + 1) node pos)
+        ↔ ((has_many_liberties pos node.target node.wide ≡ false) × SomeChildWins n node pos) }
+    ensures defender_to_play { (n : ℕ) (node : Node) (pos : BoardState) → is_captured pos node.target ≡ false
+        → node.attacker_to_play ≡ false →
         IsTrue (attacker_wins (n + 1) node pos) ↔ EachChildWins n node pos }
 {}
 
 /// With more plies the attacker wins wherever he won with fewer.
 pub fn winning_is_monotone_in_the_plies()
-    ensures one_more { (n : ℕ) (node : Node) (pos : BoardState) → IsTrue (attacker_wins n node pos) → IsTrue (attacker_wins (n + 1) node pos) }
+    ensures one_more { (n : ℕ) (node : Node) (pos : BoardState) → IsTrue (attacker_wins n node pos)
+        → IsTrue (attacker_wins (n + 1) node pos) }
 {}
 
 /// A tree in which the ban forbids no candidate has the same winner under every pair of ko allowances.
@@ -57,17 +66,26 @@ pub fn trees_without_a_ban_have_one_winner()
 
 /// The codes by their ko allowances of attacker and defender, the greatest of them, and the first move that attains it.
 pub fn answers_are_by_codes()
-    ensures attack_3 { (q : ReadingQuestion) (pos : BoardState) → q.kind ≡ Kind.Attack → attains_code q pos 3 ≡ attacker_wins q.plies (node_under q 0 1) pos }
-    ensures attack_2 { (q : ReadingQuestion) (pos : BoardState) → q.kind ≡ Kind.Attack → attains_code q pos 2 ≡ attacker_wins q.plies (node_under q 0 0) pos }
-    ensures attack_1 { (q : ReadingQuestion) (pos : BoardState) → q.kind ≡ Kind.Attack → attains_code q pos 1 ≡ attacker_wins q.plies (node_under q 1 0) pos }
-    ensures defend_3 { (q : ReadingQuestion) (pos : BoardState) → q.kind ≡ Kind.Defend → attains_code q pos 3 ≡ not (attacker_wins q.plies (node_under q 1 0) pos) }
-    ensures defend_2 { (q : ReadingQuestion) (pos : BoardState) → q.kind ≡ Kind.Defend → attains_code q pos 2 ≡ not (attacker_wins q.plies (node_under q 0 0) pos) }
-    ensures defend_1 { (q : ReadingQuestion) (pos : BoardState) → q.kind ≡ Kind.Defend → attains_code q pos 1 ≡ not (attacker_wins q.plies (node_under q 0 1) pos) }
+    ensures attack_3 { (q : ReadingQuestion) (pos : BoardState) → q.kind ≡ Kind.Attack
+        → attains_code q pos 3 ≡ attacker_wins q.plies (node_under q 0 1) pos }
+    ensures attack_2 { (q : ReadingQuestion) (pos : BoardState) → q.kind ≡ Kind.Attack
+        → attains_code q pos 2 ≡ attacker_wins q.plies (node_under q 0 0) pos }
+    ensures attack_1 { (q : ReadingQuestion) (pos : BoardState) → q.kind ≡ Kind.Attack
+        → attains_code q pos 1 ≡ attacker_wins q.plies (node_under q 1 0) pos }
+    ensures defend_3 { (q : ReadingQuestion) (pos : BoardState) → q.kind ≡ Kind.Defend
+        → attains_code q pos 3 ≡ not (attacker_wins q.plies (node_under q 1 0) pos) }
+    ensures defend_2 { (q : ReadingQuestion) (pos : BoardState) → q.kind ≡ Kind.Defend
+        → attains_code q pos 2 ≡ not (attacker_wins q.plies (node_under q 0 0) pos) }
+    ensures defend_1 { (q : ReadingQuestion) (pos : BoardState) → q.kind ≡ Kind.Defend
+        → attains_code q pos 1 ≡ not (attacker_wins q.plies (node_under q 0 1) pos) }
 
-    ensures greatest { (q : ReadingQuestion) (pos : BoardState) → is_about q pos ≡ true → IsGreatestCode q pos (code_of q pos) }
-    ensures another { (q : ReadingQuestion) (pos : BoardState) → is_about q pos ≡ false → answer_of q pos ≡ record { code = 0; at = None } }
+    ensures greatest { (q : ReadingQuestion) (pos : BoardState) → is_about q pos ≡ true
+        → IsGreatestCode q pos (code_of q pos) }
+    ensures another { (q : ReadingQuestion) (pos : BoardState) → is_about q pos ≡ false
+        → answer_of q pos ≡ record { code = 0; at = None } }
     ensures code { (q : ReadingQuestion) (pos : BoardState) → (answer_of q pos).code ≡ code_of q pos }
     ensures no_move { (q : ReadingQuestion) (pos : BoardState) → code_of q pos ≡ 0 → (answer_of q pos).at ≡ None }
     ensures first_move { (q : ReadingQuestion) (pos : BoardState) → q.plies ≢ 0 → code_of q pos ≢ 0 →
-        (spot : Spot) × ((answer_of q pos).at ≡ Some spot) × IsFirstMove (q.plies - 1) (first_node q (code_of q pos)) pos spot }
+        (spot : Spot) × ((answer_of q pos).at ≡ Some spot)
+        × IsFirstMove (q.plies - 1) (first_node q (code_of q pos)) pos spot }
 {}

@@ -30,7 +30,8 @@ loop-at-init c =
       within = omega arith;
       rest =
           rw c.new-args.ensures
-          (first_args c.args.tokens.now (token.Number 0) c.if-tokens-lt2.false (sym c.opens.ensures ∙ c.if-not-opens.false)
+          (first_args c.args.tokens.now (token.Number 0) c.if-tokens-lt2.false
+          (sym c.opens.ensures ∙ c.if-not-opens.false)
           (sym c.closes.ensures ∙ c.if-closes.false));
     }
 

@@ -11,13 +11,17 @@ pub returns-then-has-clause-near : goal.returns-then-has-clause-near
 returns-then-has-clause-near g c = λ pos a. g.met.V.View.asks_none _ _
 
 pub returns-then-has-clause-adds : goal.returns-then-has-clause-adds
-returns-then-has-clause-adds g c = λ pos a knows. AddsLeast-seen _ _ c.args.q c.args.seen.now c.args.least.now knows (sym c.has.ensures ∙ c.if-has.true)
+returns-then-has-clause-adds g c =
+    λ pos a knows. AddsLeast-seen _ _ c.args.q c.args.seen.now c.args.least.now knows
+    (sym c.has.ensures ∙ c.if-has.true)
 
 -- the least point of a string that was not seen comes
 pub returns-in-Some-clause-adds : goal.returns-in-Some-clause-adds
 returns-in-Some-clause-adds g c = λ pos a knows.
     let first = c.in-Some.ensures.some in
-    AddsLeast-some (g.V.View.rows c.args.board.now) (g.V.View.cells c.args.board.now pos) c.args.q c.in-Some.r c.string_of-string.result c.args.least.now c.add.new.self
+    AddsLeast-some (g.V.View.rows c.args.board.now)
+    (g.V.View.cells c.args.board.now pos) c.args.q c.in-Some.r c.string_of-string.result c.args.least.now
+    c.add.new.self
     c.requires.on_board (c.string_of-string.ensures.over pos a) first.2 (λ k l. first.3 k (omega arith) l) c.add.ensures
 
 pub returns-in-Some-clause-knows : goal.returns-in-Some-clause-knows
@@ -26,18 +30,24 @@ returns-in-Some-clause-knows g c = λ pos a knows.
     let s = g.V.View.rows c.args.board.now in
     let cells = g.V.View.cells c.args.board.now pos in
     let string = c.string_of-string.ensures.over pos a in
-    KnowsLeast-join s cells c.args.q c.args.seen.now _ c.string_of-string.result c.args.least.now _ c.requires.on_board string c.join.ensures knows
-    (AddsLeast-some s cells c.args.q c.in-Some.r c.string_of-string.result c.args.least.now c.add.new.self c.requires.on_board string first.2 (λ k l. first.3 k (omega arith) l) c.add.ensures)
+    KnowsLeast-join s cells c.args.q c.args.seen.now _ c.string_of-string.result c.args.least.now _ c.requires.on_board
+    string c.join.ensures knows
+    (AddsLeast-some s cells c.args.q c.in-Some.r c.string_of-string.result c.args.least.now c.add.new.self
+    c.requires.on_board string first.2 (λ k l. first.3 k (omega arith) l) c.add.ensures)
 
 -- an empty string has no least point
 pub returns-in_default-clause-adds : goal.returns-in_default-clause-adds
 returns-in_default-clause-adds g c = λ pos a knows.
-    AddsLeast-none (g.V.View.rows c.args.board.now) (g.V.View.cells c.args.board.now pos) c.args.q c.string_of-string.result c.args.least.now c.requires.on_board (c.string_of-string.ensures.over pos a) c.in_default.ensures.none
+    AddsLeast-none (g.V.View.rows c.args.board.now)
+    (g.V.View.cells c.args.board.now pos) c.args.q c.string_of-string.result c.args.least.now c.requires.on_board
+    (c.string_of-string.ensures.over pos a) c.in_default.ensures.none
 
 pub returns-in_default-clause-knows : goal.returns-in_default-clause-knows
 returns-in_default-clause-knows g c = λ pos a knows.
     let s = g.V.View.rows c.args.board.now in
     let cells = g.V.View.cells c.args.board.now pos in
     let string = c.string_of-string.ensures.over pos a in
-    KnowsLeast-join s cells c.args.q c.args.seen.now _ c.string_of-string.result c.args.least.now c.args.least.now c.requires.on_board string c.join.ensures knows
-    (AddsLeast-none s cells c.args.q c.string_of-string.result c.args.least.now c.requires.on_board string c.in_default.ensures.none)
+    KnowsLeast-join s cells c.args.q c.args.seen.now _ c.string_of-string.result c.args.least.now c.args.least.now
+    c.requires.on_board string c.join.ensures knows
+    (AddsLeast-none s cells c.args.q c.string_of-string.result c.args.least.now c.requires.on_board string
+    c.in_default.ensures.none)

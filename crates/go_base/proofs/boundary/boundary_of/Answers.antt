@@ -15,7 +15,8 @@ loop-q-init g c = record {
   near = λ pos a.
       let s = g.V.View.rows c.args.board.now in
       let cells = g.V.View.cells c.args.board.now pos in
-      g.met.V.View.asks_within _ _ _ _ (c.flood-found.ensures.near pos a) (λ q h. close_again s cells (alone c.args.p) q h);
+      g.met.V.View.asks_within _ _ _ _ (c.flood-found.ensures.near pos a)
+      (λ q h. close_again s cells (alone c.args.p) q h);
   over = λ pos a. Bounds-none _ _ _ c.new-least.result c.new-least.ensures;
   knows = λ pos a. KnowsLeast-none _ _ c.new-seen.result c.new-least.result c.new-seen.ensures;
 }
@@ -23,7 +24,8 @@ loop-q-init g c = record {
 -- an enemy is on the board
 pub add_least-requires : goal.add_least-requires
 add_least-requires g c = record {
-  on_board = rw (g.met.V.View.asks_rows _ _ _ c.loop-q.invariant.looks.asked) (c.flood-found.ensures.enemies_on_board c.in-Some.q c.in-Some.ensures.some.2);
+  on_board = rw (g.met.V.View.asks_rows _ _ _ c.loop-q.invariant.looks.asked)
+      (c.flood-found.ensures.enemies_on_board c.in-Some.q c.in-Some.ensures.some.2);
   small = c.in-Some.ensures.some.1;
 }
 
@@ -46,8 +48,10 @@ loop-q-preserved g c =
           let a0 = g.met.V.View.asks_agrees _ _ _ i.more.asked pos a1 in
           let close = rw (rows, i.looks.same pos) at (c.add_least.ensures.near pos a) in
           g.met.V.View.asks_more _ _ _ _ (i.near pos a1)
-          (g.met.V.View.asks_within _ _ _ _ close (λ r h. close_point s cells (neighbourhood_of s cells (alone c.args.p)) q
-          (enemy_close s cells c.args.p q c.flood-found.result.enemies c.requires (c.flood-found.ensures.enemies pos a0) first.2) r h));
+          (g.met.V.View.asks_within _ _ _ _ close (λ r h.
+          close_point s cells (neighbourhood_of s cells (alone c.args.p)) q
+          (enemy_close s cells c.args.p q c.flood-found.result.enemies c.requires
+          (c.flood-found.ensures.enemies pos a0) first.2) r h));
       over = λ pos a.
           let cells = g.V.View.cells c.args.board.now pos in
           let a1 = g.met.V.View.asks_agrees _ _ _ one.asked pos a in
@@ -56,7 +60,9 @@ loop-q-preserved g c =
           let its = enemy_beside s cells c.args.p q c.flood-found.result.enemies foes first.2 in
           let adds = rw (rows, i.looks.same pos) at (c.add_least.ensures.adds pos a) in
           Bounds-add s cells c.args.p q _ _
-          (Bounds-jump s cells c.args.p c.loop-q.next q _ (i.over pos a1) (λ k l m beside enemy. no_enemy s cells c.args.p k c.flood-found.result.enemies foes (omega (arith, m, on)) (first.3 k l m) beside enemy))
+          (Bounds-jump s cells c.args.p c.loop-q.next q _ (i.over pos a1)
+          (λ k l m beside enemy. no_enemy s cells c.args.p k c.flood-found.result.enemies foes
+          (omega (arith, m, on)) (first.3 k l m) beside enemy))
           on its.0 its.1 (adds (i.knows pos a1));
       knows = λ pos a.
           let a1 = g.met.V.View.asks_agrees _ _ _ one.asked pos a in
@@ -72,5 +78,6 @@ returns-clause-over g c = λ pos a.
     let a0 = g.met.V.View.asks_agrees _ _ _ c.loop-q.invariant.more.asked pos a in
     Bounds-all s cells c.args.p (s * s) c.loop-q.least
     (Bounds-jump s cells c.args.p c.loop-q.next (s * s) c.loop-q.least (c.loop-q.invariant.over pos a)
-    (λ k l m beside enemy. no_enemy s cells c.args.p k c.flood-found.result.enemies (c.flood-found.ensures.enemies pos a0) m (c.in_default.ensures.none k l) beside enemy))
+    (λ k l m beside enemy. no_enemy s cells c.args.p k c.flood-found.result.enemies
+    (c.flood-found.ensures.enemies pos a0) m (c.in_default.ensures.none k l) beside enemy))
     (omega arith)

@@ -15,14 +15,17 @@ pub loop-side-init : goal.loop-side-init
 loop-side-init g c = record {
   looks = Looks-none g.met.V.View.asks_none _ _;
   near = λ pos a. g.met.V.View.asks_none _ _;
-  on_board = λ r h. absurd (both_ways (set.contains c.new-taken.result r) (ap (λ t. set.contains t r) c.new-taken.ensures ∙ set.contains-empty nat_cmp r) h);
+  on_board = λ r h. absurd (both_ways (set.contains c.new-taken.result r)
+      (ap (λ t. set.contains t r) c.new-taken.ensures ∙ set.contains-empty nat_cmp r) h);
   over = λ pos a. Takes-none _ _ c.args.c c.args.p c.new-taken.result c.new-taken.ensures;
 }
 
 -- a side of the point is on the board
 pub take-requires : goal.take-requires
 take-requires g c = record {
-  on_board = subst (λ n. c.in-Some.q < n * n) (c.size-size.ensures ∙ sym (g.met.V.View.asks_rows _ _ _ c.loop-side.invariant.looks.asked)) c.in-Some.ensures.near.0;
+  on_board = subst (λ n. c.in-Some.q < n * n)
+      (c.size-size.ensures ∙ sym (g.met.V.View.asks_rows _ _ _ c.loop-side.invariant.looks.asked))
+      c.in-Some.ensures.near.0;
   small = c.in-Some.ensures.near.1;
 }
 
@@ -46,7 +49,8 @@ loop-side-preserved g c =
                 let cells = g.V.View.cells c.args.board.now pos in
                 let one = rw (rows, i.looks.same pos) at (w.take.ensures.near pos a1) in
                 rw w.board-is (g.met.V.View.asks_more _ _ _ _ (i.near pos a0)
-                (g.met.V.View.asks_within _ _ _ _ one (λ r h. near_taken_from s cells c.args.c c.args.p w.in-Some.q r on.0 on.1 h)));
+                (g.met.V.View.asks_within _ _ _ _ one (λ r h.
+                near_taken_from s cells c.args.c c.args.p w.in-Some.q r on.0 on.1 h)));
             on_board = λ r h. elim (w.take.ensures.on_board r (rw w.taken-is at h)) [
               | inl before ↦ i.on_board r before
               | inr now ↦ subst (λ n. r < n * n) rows now
@@ -56,14 +60,16 @@ loop-side-preserved g c =
                 let a0 = g.met.V.View.asks_agrees _ _ _ w.take.ensures.looks.asked pos a1 in
                 let cells = g.V.View.cells c.args.board.now pos in
                 let came = rw (rows, i.looks.same pos) at (w.take.ensures.over pos a1) in
-                rw w.taken-is (Takes-next s cells c.args.c c.args.p side w.in-Some.q c.loop-side.taken _ (i.over pos a0) on.0 at (came (i.over pos a0).whole));
+                rw w.taken-is (Takes-next s cells c.args.c c.args.p side w.in-Some.q c.loop-side.taken _
+                (i.over pos a0) on.0 at (came (i.over pos a0).whole));
           }
       | in_default w ↦ record {
         looks = rw w.board-is i.looks;
         near = λ pos a. rw w.board-is (i.near pos (rw w.board-is at a));
         on_board = λ r h. i.on_board r (rw w.taken-is at h);
         over = λ pos a.
-            rw w.taken-is (Takes-nothing s (g.V.View.cells c.args.board.now pos) c.args.c c.args.p side c.loop-side.taken (i.over pos (rw w.board-is at a))
+            rw w.taken-is (Takes-nothing s (g.V.View.cells c.args.board.now pos) c.args.c c.args.p side
+            c.loop-side.taken (i.over pos (rw w.board-is at a))
             (λ r e. w.in_default.not-Some r (c.neighbour.ensures.value ∙ sym here ∙ e)));
       }
     ]
@@ -71,4 +77,6 @@ loop-side-preserved g c =
 -- the four sides have all that is taken
 pub returns-clause-over : goal.returns-clause-over
 returns-clause-over g c = λ pos a beside.
-    Takes-all (g.V.View.rows c.args.board.now) (g.V.View.cells c.args.board.now pos) c.args.c c.args.p c.loop-side.side c.loop-side.taken c.requires (omega arith) (c.loop-side.invariant.over pos a) beside
+    Takes-all (g.V.View.rows c.args.board.now)
+    (g.V.View.cells c.args.board.now pos) c.args.c c.args.p c.loop-side.side c.loop-side.taken c.requires
+    (omega arith) (c.loop-side.invariant.over pos a) beside

@@ -18,7 +18,8 @@ use Rattle.go_base.proofs.capture.play_on.Goals as goal
 use Rattle.go_base.proofs.capture.play_on.Goals.{After-ne, After-is_suicide}
 
 -- whether a stone stood at the point
-occupied_is : (g : Over) (c : After-ne g) (pos : BoardState) → g.V.View.agrees c.at.new.self pos → c.ne.result ≡ is_stone (cell_at (g.V.View.cells c.args.board.now pos) c.args.p)
+occupied_is : (g : Over) (c : After-ne g) (pos : BoardState) → g.V.View.agrees c.at.new.self pos
+    → c.ne.result ≡ is_stone (cell_at (g.V.View.cells c.args.board.now pos) c.args.p)
 occupied_is g c pos a = c.ne.ensures ∙ stone_test c.at.result ∙ ap is_stone (c.at.ensures.over pos a)
 
 pub returns-then-ne-clause-asks : goal.returns-then-ne-clause-asks
@@ -26,15 +27,19 @@ returns-then-ne-clause-asks g c = g.met.V.View.asks_within _ _ _ _ c.at.ensures.
 
 pub returns-then-ne-clause-over : goal.returns-then-ne-clause-over
 returns-then-ne-clause-over g c = λ pos a good.
-    sym (free_occupied (board_of (g.V.View.rows c.args.board.now) (g.V.View.cells c.args.board.now pos)) c.args.c c.args.p
+    sym (free_occupied (board_of (g.V.View.rows c.args.board.now) (g.V.View.cells c.args.board.now pos)) c.args.c
+    c.args.p
     (sym (occupied_is g (goal.at.returns-then-ne-clause-over g c).After-ne pos a) ∙ c.if-ne.true))
 
 pub returns-then-ne-clause-near : goal.returns-then-ne-clause-near
-returns-then-ne-clause-near g c = λ pos a. g.met.V.View.asks_within _ _ _ _ c.at.ensures.looks.asked (λ r h. twice_self (g.V.View.rows c.args.board.now) (g.V.View.cells c.args.board.now pos) c.args.p r c.requires h)
+returns-then-ne-clause-near g c =
+    λ pos a. g.met.V.View.asks_within _ _ _ _ c.at.ensures.looks.asked
+    (λ r h. twice_self (g.V.View.rows c.args.board.now) (g.V.View.cells c.args.board.now pos) c.args.p r c.requires h)
 
 -- what was taken is on the board
 pub put_all-requires : goal.put_all-requires
-put_all-requires g c = λ r h. subst (λ n. r < n * n) (sym (g.met.V.View.asks_rows _ _ _ c.captured-taken.ensures.looks.asked)) (c.captured-taken.ensures.on_board r h)
+put_all-requires g c = λ r h. subst (λ n. r < n * n)
+    (sym (g.met.V.View.asks_rows _ _ _ c.captured-taken.ensures.looks.asked)) (c.captured-taken.ensures.on_board r h)
 
 -- until the stone's string was judged, only looks and writes happened
 asked : (g : Over) (c : After-is_suicide g) → g.V.View.asks c.args.board.now c.is_suicide.new.board anywhere
@@ -42,19 +47,26 @@ asked g c =
     let look = g.met.V.View.asks_within _ _ _ _ c.at.ensures.looks.asked (λ q h. refl) in
     let put = g.met.V.View.asks_within _ _ _ _ c.put.ensures.asks (λ q h. refl) in
     let removed = g.met.V.View.asks_within _ _ _ _ c.put_all.ensures.asks (λ q h. refl) in
-    g.met.V.View.asks_more _ _ _ _ look (g.met.V.View.asks_more _ _ _ _ put (g.met.V.View.asks_more _ _ _ _ c.captured-taken.ensures.looks.asked (g.met.V.View.asks_more _ _ _ _ removed c.is_suicide.ensures.looks.asked)))
+    g.met.V.View.asks_more _ _ _ _ look (g.met.V.View.asks_more _ _ _ _ put
+    (g.met.V.View.asks_more _ _ _ _ c.captured-taken.ensures.looks.asked
+    (g.met.V.View.asks_more _ _ _ _ removed c.is_suicide.ensures.looks.asked)))
 
 pub returns-then-is_suicide-clause-asks : goal.returns-then-is_suicide-clause-asks
 returns-then-is_suicide-clause-asks g c =
-    g.met.V.View.asks_more _ _ _ _ (asked g (goal.at.returns-then-is_suicide-clause-asks g c).After-is_suicide) (g.met.V.View.asks_within _ _ _ _ c.put-then-is_suicide.ensures.asks (λ q h. refl))
+    g.met.V.View.asks_more _ _ _ _ (asked g (goal.at.returns-then-is_suicide-clause-asks g c).After-is_suicide)
+    (g.met.V.View.asks_within _ _ _ _ c.put-then-is_suicide.ensures.asks (λ q h. refl))
 
 pub returns-clause-asks : goal.returns-clause-asks
-returns-clause-asks g c = g.met.V.View.asks_more _ _ _ _ (asked g (goal.at.returns-clause-asks g c).After-is_suicide) c.ban_of-ban.ensures.looks.asked
+returns-clause-asks g c =
+    g.met.V.View.asks_more _ _ _ _ (asked g (goal.at.returns-clause-asks g c).After-is_suicide)
+    c.ban_of-ban.ensures.looks.asked
 
 -- the board kept its size until then
 rows_are : (g : Over) (c : After-is_suicide g) → g.V.View.rows c.put_all.new.board ≡ g.V.View.rows c.args.board.now
 rows_are g c =
-    g.met.V.View.asks_rows _ _ _ c.put_all.ensures.asks ∙ g.met.V.View.asks_rows _ _ _ c.captured-taken.ensures.looks.asked ∙ g.met.V.View.asks_rows _ _ _ c.put.ensures.asks
+    g.met.V.View.asks_rows _ _ _ c.put_all.ensures.asks
+    ∙ g.met.V.View.asks_rows _ _ _ c.captured-taken.ensures.looks.asked
+    ∙ g.met.V.View.asks_rows _ _ _ c.put.ensures.asks
     ∙ g.met.V.View.asks_rows _ _ _ c.at.ensures.looks.asked
 
 module _ (g : Over) (c : After-is_suicide g) (pos : BoardState) (a : g.V.View.agrees c.is_suicide.new.board pos) where
@@ -77,21 +89,29 @@ module _ (g : Over) (c : After-is_suicide g) (pos : BoardState) (a : g.V.View.ag
   was_empty = sym (c.ne.ensures ∙ stone_test c.at.result ∙ ap is_stone (c.at.ensures.over pos at_look)) ∙ c.if-ne.false
 
   put_is : g.V.View.cells c.put.new.self pos ≡ set (g.V.View.cells c.args.board.now pos) c.args.p (stone_of c.args.c)
-  put_is = c.put.ensures.over pos at_put ∙ ap (λ t. set t c.args.p c.cell.result) (c.at.ensures.looks.same pos) ∙ ap (set (g.V.View.cells c.args.board.now pos) c.args.p) c.cell.ensures
+  put_is = c.put.ensures.over pos at_put ∙ ap (λ t. set t c.args.p c.cell.result) (c.at.ensures.looks.same pos)
+      ∙ ap (set (g.V.View.cells c.args.board.now pos) c.args.p) c.cell.ensures
 
   -- how the board changed
-  leaves : Leaves (g.V.View.rows c.args.board.now) (g.V.View.cells c.args.board.now pos) (g.V.View.cells c.put.new.self pos) (g.V.View.cells c.put_all.new.board pos) c.args.c c.args.p c.captured-taken.result
+  leaves : Leaves (g.V.View.rows c.args.board.now) (g.V.View.cells c.args.board.now pos)
+      (g.V.View.cells c.put.new.self pos) (g.V.View.cells c.put_all.new.board pos) c.args.c c.args.p
+      c.captured-taken.result
   leaves = record {
     whole = g.met.V.View.whole _ pos (g.met.V.View.asks_agrees _ _ _ c.at.ensures.looks.asked pos at_look);
     on_board = c.requires;
     is_empty = was_empty;
     put_is = put_is;
-    after_is = rw (g.met.V.View.asks_rows _ _ _ c.captured-taken.ensures.looks.asked ∙ rows_put, c.captured-taken.ensures.looks.same pos) at (c.put_all.ensures.over pos at_removed);
+    after_is = rw (
+      g.met.V.View.asks_rows _ _ _ c.captured-taken.ensures.looks.asked ∙ rows_put,
+      c.captured-taken.ensures.looks.same pos,
+    ) at (c.put_all.ensures.over pos at_removed);
   }
 
   -- what the play did on a position
   plays : IsPosition (board_of (g.V.View.rows c.args.board.now) (g.V.View.cells c.args.board.now pos))
-      → PlaysOn (g.V.View.rows c.args.board.now) (g.V.View.cells c.args.board.now pos) (g.V.View.cells c.put.new.self pos) (g.V.View.cells c.put_all.new.board pos) c.args.c c.args.p c.captured-taken.result
+      → PlaysOn (g.V.View.rows c.args.board.now) (g.V.View.cells c.args.board.now pos)
+      (g.V.View.cells c.put.new.self pos) (g.V.View.cells c.put_all.new.board pos) c.args.c c.args.p
+      c.captured-taken.result
   plays good = record {
     good = good;
     on_board = c.requires;
@@ -103,19 +123,28 @@ module _ (g : Over) (c : After-is_suicide g) (pos : BoardState) (a : g.V.View.ag
 
   -- whether the stone's string has no liberty
   suicide_is : IsPosition (board_of (g.V.View.rows c.args.board.now) (g.V.View.cells c.args.board.now pos))
-      → c.is_suicide.result ≡ eqb (liberties (g.V.View.rows c.args.board.now) (g.V.View.cells c.put_all.new.board pos) c.args.p) 0
+      → c.is_suicide.result ≡ eqb (liberties (g.V.View.rows c.args.board.now)
+      (g.V.View.cells c.put_all.new.board pos) c.args.p) 0
   suicide_is good =
       let told = rw (rows_are g c) at (c.is_suicide.ensures.over pos a) in
       told (ap is_stone (after_here (plays good)) ∙ stone_is c.args.c) (takers_live (plays good))
 
   -- where it was looked until then
-  near_play : g.V.View.asks c.args.board.now c.is_suicide.new.board (neighbourhood_of (g.V.View.rows c.args.board.now) (g.V.View.cells c.args.board.now pos) (neighbourhood_of (g.V.View.rows c.args.board.now) (g.V.View.cells c.args.board.now pos) (alone c.args.p)))
+  near_play : g.V.View.asks c.args.board.now c.is_suicide.new.board
+      (neighbourhood_of (g.V.View.rows c.args.board.now) (g.V.View.cells c.args.board.now pos)
+      (neighbourhood_of (g.V.View.rows c.args.board.now) (g.V.View.cells c.args.board.now pos) (alone c.args.p)))
   near_play =
-      g.met.V.View.asks_more _ _ _ _ (g.met.V.View.asks_within _ _ _ _ c.at.ensures.looks.asked (λ r h. twice_self (g.V.View.rows c.args.board.now) (g.V.View.cells c.args.board.now pos) c.args.p r c.requires h))
-      (g.met.V.View.asks_more _ _ _ _ (g.met.V.View.asks_within _ _ _ _ c.put.ensures.asks (λ r h. absurd (both_ways false refl h)))
-      (g.met.V.View.asks_more _ _ _ _ (g.met.V.View.asks_within _ _ _ _ (rw rows_put at (c.captured-taken.ensures.near pos at_captured)) (λ r h. twice_taken leaves r h))
-      (g.met.V.View.asks_more _ _ _ _ (g.met.V.View.asks_within _ _ _ _ c.put_all.ensures.asks (λ r h. absurd (both_ways false refl h)))
-      (g.met.V.View.asks_within _ _ _ _ (rw (rows_are g c) at (c.is_suicide.ensures.near pos a)) (λ r h. twice_own leaves r h)))))
+      g.met.V.View.asks_more _ _ _ _ (g.met.V.View.asks_within _ _ _ _ c.at.ensures.looks.asked
+      (λ r h. twice_self (g.V.View.rows c.args.board.now)
+      (g.V.View.cells c.args.board.now pos) c.args.p r c.requires h))
+      (g.met.V.View.asks_more _ _ _ _ (g.met.V.View.asks_within _ _ _ _ c.put.ensures.asks
+      (λ r h. absurd (both_ways false refl h)))
+      (g.met.V.View.asks_more _ _ _ _ (g.met.V.View.asks_within _ _ _ _
+      (rw rows_put at (c.captured-taken.ensures.near pos at_captured)) (λ r h. twice_taken leaves r h))
+      (g.met.V.View.asks_more _ _ _ _ (g.met.V.View.asks_within _ _ _ _ c.put_all.ensures.asks
+      (λ r h. absurd (both_ways false refl h)))
+      (g.met.V.View.asks_within _ _ _ _ (rw (rows_are g c) at (c.is_suicide.ensures.near pos a))
+      (λ r h. twice_own leaves r h)))))
 
 -- the stone's string has no liberty
 pub returns-then-is_suicide-clause-over : goal.returns-then-is_suicide-clause-over
@@ -136,7 +165,8 @@ pub returns-then-is_suicide-clause-near : goal.returns-then-is_suicide-clause-ne
 returns-then-is_suicide-clause-near g c = λ pos a1.
     let at = (goal.at.returns-then-is_suicide-clause-near g c).After-is_suicide in
     let a = g.met.V.View.asks_agrees _ _ _ c.put-then-is_suicide.ensures.asks pos a1 in
-    g.met.V.View.asks_more _ _ _ _ (near_play g at pos a) (g.met.V.View.asks_within _ _ _ _ c.put-then-is_suicide.ensures.asks (λ r h. absurd (both_ways false refl h)))
+    g.met.V.View.asks_more _ _ _ _ (near_play g at pos a)
+    (g.met.V.View.asks_within _ _ _ _ c.put-then-is_suicide.ensures.asks (λ r h. absurd (both_ways false refl h)))
 
 -- the play is done, and the ban told
 pub returns-clause-over : goal.returns-clause-over
@@ -155,7 +185,8 @@ pub returns-clause-undone : goal.returns-clause-undone
 returns-clause-undone g c = λ pos a1 good.
     let at = (goal.at.returns-clause-undone g c).After-is_suicide in
     let a = g.met.V.View.asks_agrees _ _ _ c.ban_of-ban.ensures.looks.asked pos a1 in
-    ap (before_play (g.V.View.rows c.args.board.now) c.args.c c.args.p c.captured-taken.result) (c.ban_of-ban.ensures.looks.same pos ∙ c.is_suicide.ensures.looks.same pos)
+    ap (before_play (g.V.View.rows c.args.board.now) c.args.c c.args.p c.captured-taken.result)
+    (c.ban_of-ban.ensures.looks.same pos ∙ c.is_suicide.ensures.looks.same pos)
     ∙ plays_back (plays g at pos a good)
 
 pub returns-clause-near : goal.returns-clause-near
@@ -164,4 +195,5 @@ returns-clause-near g c = λ pos a1.
     let a = g.met.V.View.asks_agrees _ _ _ c.ban_of-ban.ensures.looks.asked pos a1 in
     let rows = g.met.V.View.asks_rows _ _ _ c.is_suicide.ensures.looks.asked ∙ rows_are g at in
     let close = rw (rows, c.is_suicide.ensures.looks.same pos) at (c.ban_of-ban.ensures.near pos a1) in
-    g.met.V.View.asks_more _ _ _ _ (near_play g at pos a) (g.met.V.View.asks_within _ _ _ _ close (λ r h. twice_own (leaves g at pos a) r h))
+    g.met.V.View.asks_more _ _ _ _ (near_play g at pos a)
+    (g.met.V.View.asks_within _ _ _ _ close (λ r h. twice_own (leaves g at pos a) r h))

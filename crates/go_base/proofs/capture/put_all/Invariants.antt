@@ -9,7 +9,8 @@ use Rattle.go_base.proofs.capture.put_all.Given as goal
 abbrev pub invariant-loop-q : goal.invariant-loop-q
 invariant-loop-q g l = record {
   asks : g.V.View.asks l.initial.board l.board nowhere;
-  over : (pos : BoardState) → g.V.View.agrees l.board pos → PutOn l.cell l.points (g.V.View.cells l.initial.board pos) (g.V.View.cells l.board pos) l.next;
+  over : (pos : BoardState) → g.V.View.agrees l.board pos
+      → PutOn l.cell l.points (g.V.View.cells l.initial.board pos) (g.V.View.cells l.board pos) l.next;
 }
 
 -- how many points are left

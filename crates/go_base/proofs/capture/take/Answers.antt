@@ -29,29 +29,40 @@ returns-then-has-clause-over g c = λ pos a whole.
 pub returns-then-ne-clause-over : goal.returns-then-ne-clause-over
 returns-then-ne-clause-over g c = λ pos a whole.
     let differ = sym (eq_is_same_cell c.at.result c.cell.result) ∙ not-true _ (sym c.ne.ensures ∙ c.if-ne.true) in
-    let kept = no_enemy_taken (g.V.View.rows c.args.board.now) (g.V.View.cells c.args.board.now pos) c.args.c c.args.q (rw (c.at.ensures.over pos a, c.cell.ensures ∙ ap stone_of c.other.ensures) at differ) in
+    let kept = no_enemy_taken (g.V.View.rows c.args.board.now) (g.V.View.cells c.args.board.now pos) c.args.c c.args.q
+    (rw (c.at.ensures.over pos a, c.cell.ensures ∙ ap stone_of c.other.ensures) at differ) in
     rw kept refl
 
 -- an enemy stands there
-enemy_is : (g : Over) (c : After-string_without_liberty g) → c.ne.result ≡ false → (pos : BoardState) → g.V.View.agrees c.string_without_liberty.new.board pos
+enemy_is : (g : Over) (c : After-string_without_liberty g) → c.ne.result ≡ false → (pos : BoardState)
+    → g.V.View.agrees c.string_without_liberty.new.board pos
     → cell_at (g.V.View.cells c.args.board.now pos) c.args.q ≡ stone_of (other c.args.c)
 enemy_is g c enemy pos a =
     let a0 = g.met.V.View.asks_agrees _ _ _ c.string_without_liberty.ensures.looks.asked pos a in
     let same = not-false _ (sym c.ne.ensures ∙ enemy) in
-    sym (c.at.ensures.over pos a0) ∙ cells_same c.at.result c.cell.result true (sym same) refl ∙ c.cell.ensures ∙ ap stone_of c.other.ensures
+    sym (c.at.ensures.over pos a0) ∙ cells_same c.at.result c.cell.result true (sym same) refl ∙ c.cell.ensures
+    ∙ ap stone_of c.other.ensures
 
 -- only the string and its neighbours were looked at
-near_is : (g : Over) (c : After-string_without_liberty g) → c.ne.result ≡ false → (pos : BoardState) → g.V.View.agrees c.string_without_liberty.new.board pos
+near_is : (g : Over) (c : After-string_without_liberty g) → c.ne.result ≡ false → (pos : BoardState)
+    → g.V.View.agrees c.string_without_liberty.new.board pos
     → g.V.View.asks c.args.board.now c.string_without_liberty.new.board
-    (λ r. alone c.args.q r || (same_cell (cell_at (g.V.View.cells c.args.board.now pos) c.args.q) (stone_of (other c.args.c)) && neighbourhood_of (g.V.View.rows c.args.board.now) (g.V.View.cells c.args.board.now pos) (alone c.args.q) r))
+    (λ r. alone c.args.q r || (same_cell (cell_at (g.V.View.cells c.args.board.now pos) c.args.q)
+    (stone_of (other c.args.c)) && neighbourhood_of (g.V.View.rows c.args.board.now)
+    (g.V.View.cells c.args.board.now pos) (alone c.args.q) r))
 near_is g c enemy pos a =
     let foe = same_cell-from _ _ (enemy_is g c enemy pos a) in
-    let close = rw (g.met.V.View.asks_rows _ _ _ c.at.ensures.looks.asked, c.at.ensures.looks.same pos) at (c.string_without_liberty.ensures.near pos a) in
+    let close = rw (
+      g.met.V.View.asks_rows _ _ _ c.at.ensures.looks.asked,
+      c.at.ensures.looks.same pos,
+    ) at (c.string_without_liberty.ensures.near pos a) in
     g.met.V.View.asks_more _ _ _ _ (g.met.V.View.asks_within _ _ _ _ c.at.ensures.looks.asked (λ r h. or_left _ _ h))
     (g.met.V.View.asks_within _ _ _ _ close (λ r h. or_right _ _ (and_from _ _ foe h)))
 
-looks_are : (g : Over) (c : After-string_without_liberty g) → Looks g.V.View.cells g.V.View.asks c.args.board.now c.string_without_liberty.new.board anywhere
-looks_are g c = Looks-more g.met.V.View.asks_more (Looks-within g.met.V.View.asks_within c.at.ensures.looks (λ q h. refl)) c.string_without_liberty.ensures.looks
+looks_are : (g : Over) (c : After-string_without_liberty g)
+    → Looks g.V.View.cells g.V.View.asks c.args.board.now c.string_without_liberty.new.board anywhere
+looks_are g c = Looks-more g.met.V.View.asks_more
+    (Looks-within g.met.V.View.asks_within c.at.ensures.looks (λ q h. refl)) c.string_without_liberty.ensures.looks
 
 -- a string without liberties came
 pub returns-in-Some-clause-looks : goal.returns-in-Some-clause-looks
@@ -59,31 +70,45 @@ returns-in-Some-clause-looks g c = looks_are g (goal.at.returns-in-Some-clause-l
 
 pub returns-in-Some-clause-over : goal.returns-in-Some-clause-over
 returns-in-Some-clause-over g c = λ pos a whole.
-    let told = rw (g.met.V.View.asks_rows _ _ _ c.at.ensures.looks.asked, c.at.ensures.looks.same pos) at (c.string_without_liberty.ensures.over pos a) in
+    let told = rw (
+      g.met.V.View.asks_rows _ _ _ c.at.ensures.looks.asked,
+      c.at.ensures.looks.same pos,
+    ) at (c.string_without_liberty.ensures.over pos a) in
     let enemy = enemy_is g (goal.at.returns-in-Some-clause-over g c).After-string_without_liberty c.if-ne.false pos a in
-    let taken = is_taken_from (g.V.View.rows c.args.board.now) (g.V.View.cells c.args.board.now pos) c.args.c c.args.q c.in-Some.stones enemy (sym c.in-Some.is ∙ told) in
+    let taken = is_taken_from (g.V.View.rows c.args.board.now)
+    (g.V.View.cells c.args.board.now pos) c.args.c c.args.q c.in-Some.stones enemy (sym c.in-Some.is ∙ told) in
     rw taken.0 (c.join.ensures ∙ ap (set.union c.args.taken.now) taken.1)
 
 pub returns-in-Some-clause-on_board : goal.returns-in-Some-clause-on_board
 returns-in-Some-clause-on_board g c = λ r h.
-    elim (or_cases _ _ (sym (ap (λ t. set.contains t r) c.join.ensures ∙ set.contains-union nat_cmp_total c.args.taken.now c.in-Some.stones r) ∙ h)) [
+    elim (or_cases _ _ (sym (ap (λ t. set.contains t r) c.join.ensures
+    ∙ set.contains-union nat_cmp_total c.args.taken.now c.in-Some.stones r) ∙ h)) [
       | inl before ↦ inl before
-      | inr now ↦ inr (subst (λ n. r < n * n) (g.met.V.View.asks_rows _ _ _ c.at.ensures.looks.asked) (c.in-Some.ensures.on_board r now))
+      | inr now ↦ inr (subst (λ n. r < n * n) (g.met.V.View.asks_rows _ _ _ c.at.ensures.looks.asked)
+          (c.in-Some.ensures.on_board r now))
     ]
 
 pub returns-in-Some-clause-near : goal.returns-in-Some-clause-near
-returns-in-Some-clause-near g c = near_is g (goal.at.returns-in-Some-clause-near g c).After-string_without_liberty c.if-ne.false
+returns-in-Some-clause-near g c =
+    near_is g (goal.at.returns-in-Some-clause-near g c).After-string_without_liberty c.if-ne.false
 
 -- a string with a liberty stays
 pub returns-in_default-clause-looks : goal.returns-in_default-clause-looks
-returns-in_default-clause-looks g c = looks_are g (goal.at.returns-in_default-clause-looks g c).After-string_without_liberty
+returns-in_default-clause-looks g c =
+    looks_are g (goal.at.returns-in_default-clause-looks g c).After-string_without_liberty
 
 pub returns-in_default-clause-over : goal.returns-in_default-clause-over
 returns-in_default-clause-over g c = λ pos a whole.
-    let told = rw (g.met.V.View.asks_rows _ _ _ c.at.ensures.looks.asked, c.at.ensures.looks.same pos) at (c.string_without_liberty.ensures.over pos a) in
-    let enemy = enemy_is g (goal.at.returns-in_default-clause-over g c).After-string_without_liberty c.if-ne.false pos a in
-    let kept = not_taken_from (g.V.View.rows c.args.board.now) (g.V.View.cells c.args.board.now pos) c.args.c c.args.q enemy (sym c.in_default.is ∙ told) in
+    let told = rw (
+      g.met.V.View.asks_rows _ _ _ c.at.ensures.looks.asked,
+      c.at.ensures.looks.same pos,
+    ) at (c.string_without_liberty.ensures.over pos a) in
+    let enemy = enemy_is g (goal.at.returns-in_default-clause-over g c).After-string_without_liberty c.if-ne.false pos a
+    in
+    let kept = not_taken_from (g.V.View.rows c.args.board.now)
+    (g.V.View.cells c.args.board.now pos) c.args.c c.args.q enemy (sym c.in_default.is ∙ told) in
     rw kept refl
 
 pub returns-in_default-clause-near : goal.returns-in_default-clause-near
-returns-in_default-clause-near g c = near_is g (goal.at.returns-in_default-clause-near g c).After-string_without_liberty c.if-ne.false
+returns-in_default-clause-near g c =
+    near_is g (goal.at.returns-in_default-clause-near g c).After-string_without_liberty c.if-ne.false

@@ -11,4 +11,5 @@ returns-clause-over g c = λ pos a.
     let a1 = g.met.V.View.asks_agrees _ _ _ c.put.ensures.asks pos a in
     let foe = c.cell.ensures ∙ ap stone_of c.other.ensures in
     c.put.ensures.over pos a
-    ∙ put_back s c.args.c c.args.p c.args.taken.now (g.V.View.cells c.args.board.now pos) _ c.requires.on_board (rw foe at (c.put_all.ensures.over pos a1))
+    ∙ put_back s c.args.c c.args.p c.args.taken.now (g.V.View.cells c.args.board.now pos) _ c.requires.on_board
+    (rw foe at (c.put_all.ensures.over pos a1))

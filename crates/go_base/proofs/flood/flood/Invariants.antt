@@ -14,10 +14,13 @@ invariant-loop-next g l = record {
   looks : Looks g.V.View.cells g.V.View.asks l.fn.board l.board anywhere;
   more : Looks g.V.View.cells g.V.View.asks l.initial.board l.board anywhere;
   over : (pos : BoardState) → g.V.View.agrees l.board pos
-      → FloodsOut (g.V.View.rows l.fn.board) (g.V.View.cells l.fn.board pos) l.own l.p l.next l.trail l.liberties l.enemies;
+      → FloodsOut (g.V.View.rows l.fn.board) (g.V.View.cells l.fn.board pos) l.own l.p l.next l.trail l.liberties
+      l.enemies;
   near : (pos : BoardState) → g.V.View.agrees l.board pos
-      → g.V.View.asks l.fn.board l.board (neighbourhood_of (g.V.View.rows l.fn.board) (g.V.View.cells l.fn.board pos) (alone l.p));
-  enemies_on_board : (r : ℕ) → set.contains l.enemies r ≡ true → r < g.V.View.rows l.fn.board * g.V.View.rows l.fn.board;
+      → g.V.View.asks l.fn.board l.board (neighbourhood_of (g.V.View.rows l.fn.board) (g.V.View.cells l.fn.board pos)
+      (alone l.p));
+  enemies_on_board : (r : ℕ) → set.contains l.enemies r ≡ true
+      → r < g.V.View.rows l.fn.board * g.V.View.rows l.fn.board;
   stones_on_board : (r : ℕ) → has_point l.trail r ≡ true → r < g.V.View.rows l.fn.board * g.V.View.rows l.fn.board;
 }
 

@@ -37,7 +37,8 @@ loop-side-preserved g c =
     elim c.match-neighbour.branch [
       | in-Some w ↦
           let at : neighbour_at s q side ≡ Some w.in-Some.r = here ∙ sym c.neighbour.ensures.value ∙ w.in-Some.is in
-          let one = Looks-within g.met.V.View.asks_within w.visit.ensures.looks (at_side s q side w.in-Some.r c.requires.on_board at) in
+          let one = Looks-within g.met.V.View.asks_within w.visit.ensures.looks
+          (at_side s q side w.in-Some.r c.requires.on_board at) in
           record {
             looks = rw w.board-is (Looks-more g.met.V.View.asks_more i.looks one);
             over = λ pos a like.
@@ -45,21 +46,24 @@ loop-side-preserved g c =
                 let a1 = g.met.V.View.asks_agrees _ _ _ one.asked pos a2 in
                 let came = rw (i.looks.same pos) at (w.visit.ensures.over pos a2) in
                 rw (w.trail-is, w.liberties-is, w.enemies-is)
-                (SpreadsOut-visit s (g.V.View.cells c.args.board.now pos) c.args.own q side w.in-Some.r _ _ _ _ _ _ _ _ _ (i.over pos a1 like) c.requires.on_board like at came);
+                (SpreadsOut-visit s (g.V.View.cells c.args.board.now pos) c.args.own q side w.in-Some.r _ _ _ _ _ _ _ _
+                _ (i.over pos a1 like) c.requires.on_board like at came);
             trail_on_board = λ r h. elim (w.visit.ensures.trail_alone r (rw w.trail-is at h)) [
               | inl old ↦ i.trail_on_board r old
               | inr e ↦ inr (subst (λ x. x < s * s) e (neighbour_at-near s q side w.in-Some.r c.requires.on_board at).0)
             ];
             enemies_on_board = λ r h. elim (w.visit.ensures.enemies_alone r (rw w.enemies-is at h)) [
               | inl old ↦ i.enemies_on_board r old
-              | inr e ↦ inr (subst (λ x. x < s * s) (sym e) (neighbour_at-near s q side w.in-Some.r c.requires.on_board at).0)
+              | inr e ↦ inr (subst (λ x. x < s * s) (sym e)
+                  (neighbour_at-near s q side w.in-Some.r c.requires.on_board at).0)
             ];
           }
       | in_default w ↦ record {
         looks = rw w.board-is i.looks;
         over = λ pos a like.
             rw (w.trail-is, w.liberties-is, w.enemies-is)
-            (SpreadsOut-skip s (g.V.View.cells c.args.board.now pos) c.args.own q side _ _ _ _ _ _ (i.over pos (rw w.board-is at a) like)
+            (SpreadsOut-skip s (g.V.View.cells c.args.board.now pos) c.args.own q side _ _ _ _ _ _
+            (i.over pos (rw w.board-is at a) like)
             (λ r e. w.in_default.not-Some r (c.neighbour.ensures.value ∙ sym here ∙ e)));
         trail_on_board = λ r h. i.trail_on_board r (rw w.trail-is at h);
         enemies_on_board = λ r h. i.enemies_on_board r (rw w.enemies-is at h);

@@ -12,7 +12,8 @@ returns-in-Ok-clause-holds c = λ pos h.
     let whole = whole_after _ _ played h.whole in
     holds_again h (KeepsRest-trans _ _ _ played back)
     (c.take_back.ensures.over pos (whole_after _ _ back whole)
-    ∙ ap (λ n. before_play n c.args.c c.args.p c.in-Ok.played.taken (take (c.play_on.new.board.size * c.play_on.new.board.size) c.play_on.new.board.cells)) played.size
+    ∙ ap (λ n. before_play n c.args.c c.args.p c.in-Ok.played.taken
+    (take (c.play_on.new.board.size * c.play_on.new.board.size) c.play_on.new.board.cells)) played.size
     ∙ c.in-Ok.ensures.undone pos whole (held_position h))
 
 pub returns-in-Ok-clause-value : goal.returns-in-Ok-clause-value
@@ -21,7 +22,8 @@ returns-in-Ok-clause-value c = λ pos h.
 
 pub returns-in-Err-clause-holds : goal.returns-in-Err-clause-holds
 returns-in-Err-clause-holds c = λ pos h.
-    holds_again h c.play_on.ensures.asks (c.in-Err.ensures.undone pos (whole_after _ _ c.play_on.ensures.asks h.whole) (held_position h))
+    holds_again h c.play_on.ensures.asks (c.in-Err.ensures.undone pos (whole_after _ _ c.play_on.ensures.asks h.whole)
+    (held_position h))
 
 pub returns-in-Err-clause-value : goal.returns-in-Err-clause-value
 returns-in-Err-clause-value c = λ pos h.

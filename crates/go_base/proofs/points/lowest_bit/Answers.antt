@@ -8,7 +8,8 @@ returns-then-rest-eq0-clause-misses c = λ k l m. nothing_left c.args.word c.arg
 
 -- the place is that of the lowest bit of what is left
 pub returns-clause-bound : goal.returns-clause-bound
-returns-clause-bound c = let low = lowest_from c.args.word c.args.from c.ranges.word.fits (omega arith) in omega (arith, low.bound)
+returns-clause-bound c = let low = lowest_from c.args.word c.args.from c.ranges.word.fits (omega arith) in
+    omega (arith, low.bound)
 
 pub returns-clause-hit : goal.returns-clause-hit
 returns-clause-hit c = λ l. (lowest_from c.args.word c.args.from c.ranges.word.fits (omega arith)).hit

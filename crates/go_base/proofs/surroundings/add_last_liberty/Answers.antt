@@ -11,32 +11,40 @@ pub returns-then-has-clause-near : goal.returns-then-has-clause-near
 returns-then-has-clause-near g c = λ pos a. g.met.V.View.asks_none _ _
 
 pub returns-then-has-clause-adds : goal.returns-then-has-clause-adds
-returns-then-has-clause-adds g c = λ pos a knows. AddsLast-seen _ _ c.args.q c.args.seen.now c.args.last.now knows (sym c.has.ensures ∙ c.if-has.true)
+returns-then-has-clause-adds g c =
+    λ pos a knows. AddsLast-seen _ _ c.args.q c.args.seen.now c.args.last.now knows (sym c.has.ensures ∙ c.if-has.true)
 
 -- the one liberty of a string that was not seen comes
 pub returns-then-count-eq-IN_ATARI-clause-adds : goal.returns-then-count-eq-IN_ATARI-clause-adds
 returns-then-count-eq-IN_ATARI-clause-adds g c = λ pos a knows.
-    AddsLast-one (g.V.View.rows c.args.board.now) (g.V.View.cells c.args.board.now pos) c.args.q c.count.result c.flood-stones.result.liberties c.args.last.now
-    (c.flood-stones.ensures.liberties pos a) c.count.ensures.value c.join-then-count-eq-IN_ATARI.new.self c.if-count-eq-IN_ATARI.true c.join-then-count-eq-IN_ATARI.ensures
+    AddsLast-one (g.V.View.rows c.args.board.now)
+    (g.V.View.cells c.args.board.now pos) c.args.q c.count.result c.flood-stones.result.liberties c.args.last.now
+    (c.flood-stones.ensures.liberties pos a) c.count.ensures.value c.join-then-count-eq-IN_ATARI.new.self
+    c.if-count-eq-IN_ATARI.true c.join-then-count-eq-IN_ATARI.ensures
 
 pub returns-then-count-eq-IN_ATARI-clause-knows : goal.returns-then-count-eq-IN_ATARI-clause-knows
 returns-then-count-eq-IN_ATARI-clause-knows g c = λ pos a knows.
     let s = g.V.View.rows c.args.board.now in
     let cells = g.V.View.cells c.args.board.now pos in
-    KnowsLast-join s cells c.args.q c.args.seen.now c.join.new.self c.flood-stones.result.stones c.args.last.now c.join-then-count-eq-IN_ATARI.new.self c.requires.on_board (c.flood-stones.ensures.stones pos a) c.join.ensures knows
+    KnowsLast-join s cells c.args.q c.args.seen.now c.join.new.self c.flood-stones.result.stones c.args.last.now
+    c.join-then-count-eq-IN_ATARI.new.self c.requires.on_board
+    (c.flood-stones.ensures.stones pos a) c.join.ensures knows
     (AddsLast-one s cells c.args.q c.count.result c.flood-stones.result.liberties c.args.last.now
-    (c.flood-stones.ensures.liberties pos a) c.count.ensures.value c.join-then-count-eq-IN_ATARI.new.self c.if-count-eq-IN_ATARI.true c.join-then-count-eq-IN_ATARI.ensures)
+    (c.flood-stones.ensures.liberties pos a) c.count.ensures.value c.join-then-count-eq-IN_ATARI.new.self
+    c.if-count-eq-IN_ATARI.true c.join-then-count-eq-IN_ATARI.ensures)
 
 -- a string with more liberties adds none
 pub returns-else-count-eq-IN_ATARI-clause-adds : goal.returns-else-count-eq-IN_ATARI-clause-adds
 returns-else-count-eq-IN_ATARI-clause-adds g c = λ pos a knows.
-    AddsLast-none (g.V.View.rows c.args.board.now) (g.V.View.cells c.args.board.now pos) c.args.q c.count.result c.flood-stones.result.liberties c.args.last.now
+    AddsLast-none (g.V.View.rows c.args.board.now)
+    (g.V.View.cells c.args.board.now pos) c.args.q c.count.result c.flood-stones.result.liberties c.args.last.now
     (c.flood-stones.ensures.liberties pos a) c.count.ensures.value c.if-count-eq-IN_ATARI.false
 
 pub returns-else-count-eq-IN_ATARI-clause-knows : goal.returns-else-count-eq-IN_ATARI-clause-knows
 returns-else-count-eq-IN_ATARI-clause-knows g c = λ pos a knows.
     let s = g.V.View.rows c.args.board.now in
     let cells = g.V.View.cells c.args.board.now pos in
-    KnowsLast-join s cells c.args.q c.args.seen.now c.join.new.self c.flood-stones.result.stones c.args.last.now c.args.last.now c.requires.on_board (c.flood-stones.ensures.stones pos a) c.join.ensures knows
+    KnowsLast-join s cells c.args.q c.args.seen.now c.join.new.self c.flood-stones.result.stones c.args.last.now
+    c.args.last.now c.requires.on_board (c.flood-stones.ensures.stones pos a) c.join.ensures knows
     (AddsLast-none s cells c.args.q c.count.result c.flood-stones.result.liberties c.args.last.now
     (c.flood-stones.ensures.liberties pos a) c.count.ensures.value c.if-count-eq-IN_ATARI.false)

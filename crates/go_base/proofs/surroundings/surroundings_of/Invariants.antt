@@ -13,9 +13,12 @@ invariant-loop-q g l = record {
   looks : Looks g.V.View.cells g.V.View.asks l.fn.board l.board anywhere;
   more : Looks g.V.View.cells g.V.View.asks l.initial.board l.board anywhere;
   near : (pos : BoardState) → g.V.View.agrees l.board pos
-      → g.V.View.asks l.fn.board l.board (neighbourhood_of (g.V.View.rows l.fn.board) (g.V.View.cells l.fn.board pos) (neighbourhood_of (g.V.View.rows l.fn.board) (g.V.View.cells l.fn.board pos) (alone l.p)));
-  over : (pos : BoardState) → g.V.View.agrees l.board pos → Lasts (g.V.View.rows l.fn.board) (g.V.View.cells l.fn.board pos) l.p l.next l.last_liberties;
-  knows : (pos : BoardState) → g.V.View.agrees l.board pos → KnowsLast (g.V.View.rows l.fn.board) (g.V.View.cells l.fn.board pos) l.seen l.last_liberties;
+      → g.V.View.asks l.fn.board l.board (neighbourhood_of (g.V.View.rows l.fn.board) (g.V.View.cells l.fn.board pos)
+      (neighbourhood_of (g.V.View.rows l.fn.board) (g.V.View.cells l.fn.board pos) (alone l.p)));
+  over : (pos : BoardState) → g.V.View.agrees l.board pos
+      → Lasts (g.V.View.rows l.fn.board) (g.V.View.cells l.fn.board pos) l.p l.next l.last_liberties;
+  knows : (pos : BoardState) → g.V.View.agrees l.board pos
+      → KnowsLast (g.V.View.rows l.fn.board) (g.V.View.cells l.fn.board pos) l.seen l.last_liberties;
 }
 
 -- how many points are left

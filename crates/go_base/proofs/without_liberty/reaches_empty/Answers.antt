@@ -19,29 +19,36 @@ loop-side-init g c = record {
 -- a side of the point is on the board
 pub meets_empty-requires-clause-on_board : goal.meets_empty-requires-clause-on_board
 meets_empty-requires-clause-on_board g c =
-    subst (λ n. c.in-Some.r < n * n) (c.size-size.ensures ∙ sym (g.met.V.View.asks_rows _ _ _ c.loop-side.invariant.looks.asked)) c.in-Some.ensures.near.0
+    subst (λ n. c.in-Some.r < n * n) (c.size-size.ensures
+    ∙ sym (g.met.V.View.asks_rows _ _ _ c.loop-side.invariant.looks.asked)) c.in-Some.ensures.near.0
 
 -- what the side gives
-side_is : (g : Over) (c : Then-meets_empty g) → neighbour_at (g.V.View.rows c.args.board.now) c.args.q c.loop-side.side ≡ Some c.in-Some.r
-side_is g c = ap (λ n. neighbour_at n c.args.q c.loop-side.side) (sym c.size-size.ensures) ∙ sym c.neighbour.ensures.value ∙ c.in-Some.is
+side_is : (g : Over) (c : Then-meets_empty g)
+    → neighbour_at (g.V.View.rows c.args.board.now) c.args.q c.loop-side.side ≡ Some c.in-Some.r
+side_is g c = ap (λ n. neighbour_at n c.args.q c.loop-side.side) (sym c.size-size.ensures)
+    ∙ sym c.neighbour.ensures.value ∙ c.in-Some.is
 
 -- an empty neighbour ends the search
 pub returns-then-meets_empty-clause-looks : goal.returns-then-meets_empty-clause-looks
 returns-then-meets_empty-clause-looks g c =
     let s = g.V.View.rows c.args.board.now in
     Looks-more g.met.V.View.asks_more c.loop-side.invariant.looks
-    (Looks-within g.met.V.View.asks_within c.meets_empty.ensures.looks (at_side s c.args.q c.loop-side.side c.in-Some.r c.requires (side_is g c)))
+    (Looks-within g.met.V.View.asks_within c.meets_empty.ensures.looks
+    (at_side s c.args.q c.loop-side.side c.in-Some.r c.requires (side_is g c)))
 
 pub returns-then-meets_empty-clause-over : goal.returns-then-meets_empty-clause-over
 returns-then-meets_empty-clause-over g c = λ pos a.
     let seen = rw (c.loop-side.invariant.looks.same pos) at (c.meets_empty.ensures.over pos a) in
-    sym (empty_found (g.V.View.rows c.args.board.now) (g.V.View.cells c.args.board.now pos) c.args.q c.loop-side.side c.in-Some.r c.requires (side_is g c) (sym seen ∙ c.if-meets_empty.true))
+    sym (empty_found (g.V.View.rows c.args.board.now)
+    (g.V.View.cells c.args.board.now pos) c.args.q c.loop-side.side c.in-Some.r c.requires (side_is g c)
+    (sym seen ∙ c.if-meets_empty.true))
 
 pub returns-then-meets_empty-clause-trail_on_board : goal.returns-then-meets_empty-clause-trail_on_board
 returns-then-meets_empty-clause-trail_on_board g c = λ r h. elim (c.meets_empty.ensures.trail_alone r h) [
   | inl old ↦ c.loop-side.invariant.trail_on_board r old
   | inr e ↦ inr (subst (λ x. x < g.V.View.rows c.args.board.now * g.V.View.rows c.args.board.now) e
-      (neighbour_at-near (g.V.View.rows c.args.board.now) c.args.q c.loop-side.side c.in-Some.r c.requires (side_is g c)).0)
+      (neighbour_at-near (g.V.View.rows c.args.board.now) c.args.q c.loop-side.side c.in-Some.r c.requires
+      (side_is g c)).0)
 ]
 
 -- one more side was met, or gave nothing
@@ -55,7 +62,8 @@ loop-side-preserved g c =
     elim c.match-neighbour.branch [
       | in-Some+else-meets_empty w ↦
           let at : neighbour_at s q side ≡ Some w.in-Some.r = here ∙ sym c.neighbour.ensures.value ∙ w.in-Some.is in
-          let one = Looks-within g.met.V.View.asks_within w.meets_empty.ensures.looks (at_side s q side w.in-Some.r c.requires at) in
+          let one = Looks-within g.met.V.View.asks_within w.meets_empty.ensures.looks
+          (at_side s q side w.in-Some.r c.requires at) in
           record {
             looks = rw w.board-is (Looks-more g.met.V.View.asks_more i.looks one);
             over = λ pos a.
@@ -64,7 +72,8 @@ loop-side-preserved g c =
                 let seen = rw (i.looks.same pos) at (w.meets_empty.ensures.over pos a2) in
                 let came = rw (i.looks.same pos) at (w.meets_empty.ensures.trail pos a2) in
                 rw w.trail-is
-                (Meets-one s (g.V.View.cells c.args.board.now pos) c.args.own q side w.in-Some.r _ _ _ (i.over pos a1) c.requires at (sym seen ∙ w.if-meets_empty.false) came);
+                (Meets-one s (g.V.View.cells c.args.board.now pos) c.args.own q side w.in-Some.r _ _ _
+                (i.over pos a1) c.requires at (sym seen ∙ w.if-meets_empty.false) came);
             trail_on_board = λ r h. elim (w.meets_empty.ensures.trail_alone r (rw w.trail-is at h)) [
               | inl old ↦ i.trail_on_board r old
               | inr e ↦ inr (subst (λ x. x < s * s) e (neighbour_at-near s q side w.in-Some.r c.requires at).0)
@@ -74,7 +83,8 @@ loop-side-preserved g c =
         looks = rw w.board-is i.looks;
         over = λ pos a.
             rw w.trail-is
-            (Meets-skip s (g.V.View.cells c.args.board.now pos) c.args.own q side _ _ (i.over pos (rw w.board-is at a)) (λ r e. w.in_default.not-Some r (c.neighbour.ensures.value ∙ sym here ∙ e)));
+            (Meets-skip s (g.V.View.cells c.args.board.now pos) c.args.own q side _ _ (i.over pos (rw w.board-is at a))
+            (λ r e. w.in_default.not-Some r (c.neighbour.ensures.value ∙ sym here ∙ e)));
         trail_on_board = λ r h. i.trail_on_board r (rw w.trail-is at h);
       }
     ]
@@ -82,7 +92,9 @@ loop-side-preserved g c =
 -- no side was empty
 pub returns-clause-over : goal.returns-clause-over
 returns-clause-over g c = λ pos a.
-    sym (Meets-all (g.V.View.rows c.args.board.now) (g.V.View.cells c.args.board.now pos) c.args.own c.args.q c.loop-side.side _ _ c.requires (omega arith) (c.loop-side.invariant.over pos a))
+    sym (Meets-all (g.V.View.rows c.args.board.now)
+    (g.V.View.cells c.args.board.now pos) c.args.own c.args.q c.loop-side.side _ _ c.requires (omega arith)
+    (c.loop-side.invariant.over pos a))
 
 pub returns-clause-trail : goal.returns-clause-trail
 returns-clause-trail g c = λ pos a like none.

@@ -12,9 +12,11 @@ abbrev pub invariant-loop-next : goal.invariant-loop-next
 invariant-loop-next g l = record {
   looks : Looks g.V.View.cells g.V.View.asks l.fn.board l.board anywhere;
   more : Looks g.V.View.cells g.V.View.asks l.initial.board l.board anywhere;
-  over : (pos : BoardState) → g.V.View.agrees l.board pos → Surrounds (g.V.View.rows l.fn.board) (g.V.View.cells l.fn.board pos) l.p l.next l.trail;
+  over : (pos : BoardState) → g.V.View.agrees l.board pos
+      → Surrounds (g.V.View.rows l.fn.board) (g.V.View.cells l.fn.board pos) l.p l.next l.trail;
   near : (pos : BoardState) → g.V.View.agrees l.board pos
-      → g.V.View.asks l.fn.board l.board (neighbourhood_of (g.V.View.rows l.fn.board) (g.V.View.cells l.fn.board pos) (alone l.p));
+      → g.V.View.asks l.fn.board l.board (neighbourhood_of (g.V.View.rows l.fn.board) (g.V.View.cells l.fn.board pos)
+      (alone l.p));
   stones_on_board : (r : ℕ) → has_point l.trail r ≡ true → r < g.V.View.rows l.fn.board * g.V.View.rows l.fn.board;
 }
 

@@ -1,4 +1,5 @@
--- Each line is an edge, crosses letters or lies beyond by where it lies, and each way that two of them meet is one kind of cell.
+-- Each line is an edge, crosses letters or lies beyond by where it lies, and each way that two of them meet is one kind
+-- of cell.
 use Rattle.pat_types.proofs.EdgeCells.{drawn_as_seen}
 use Rattle.pat_types.proofs.laws.cells_are_drawn_as_seen.Goals as goal
 

@@ -7,7 +7,8 @@ pub invariant_of-self : goal.invariant_of-self
 invariant_of-self c =
     let w = c.args.self.now in
     record {
-      holds = cell_agrees w.facts c.see.new.self w.position.now w.holds c.args.p c.requires c.cell-cell.result c.cell-cell.ensures c.see.ensures;
+      holds = cell_agrees w.facts c.see.new.self w.position.now w.holds c.args.p c.requires c.cell-cell.result
+          c.cell-cell.ensures c.see.ensures;
       ban = c.see.ensures.ban ∙ w.ban;
     }
 
@@ -15,16 +16,19 @@ invariant_of-self c =
 pub returns-clause-grows : goal.returns-clause-grows
 returns-clause-grows c =
     let w = c.args.self.now in
-    cell_grows w.facts c.see.new.self w.position.now w.holds c.args.p c.requires c.cell-cell.result c.cell-cell.ensures c.see.ensures
+    cell_grows w.facts c.see.new.self w.position.now w.holds c.args.p c.requires c.cell-cell.result c.cell-cell.ensures
+    c.see.ensures
 
 -- the cell is seen
 pub returns-clause-told : goal.returns-clause-told
 returns-clause-told c =
     let w = c.args.self.now in
-    cell_told w.facts c.see.new.self w.position.now w.holds c.args.p c.requires c.cell-cell.result c.cell-cell.ensures c.see.ensures
+    cell_told w.facts c.see.new.self w.position.now w.holds c.args.p c.requires c.cell-cell.result c.cell-cell.ensures
+    c.see.ensures
 
 -- and nothing else
 pub returns-clause-near : goal.returns-clause-near
 returns-clause-near c =
     let w = c.args.self.now in
-    cell_near w.facts c.see.new.self w.position.now w.holds c.args.p c.requires c.cell-cell.result c.cell-cell.ensures c.see.ensures
+    cell_near w.facts c.see.new.self w.position.now w.holds c.args.p c.requires c.cell-cell.result c.cell-cell.ensures
+    c.see.ensures

@@ -21,7 +21,8 @@ returns-clause-grows c =
 pub returns-clause-told : goal.returns-clause-told
 returns-clause-told c =
     let w = c.args.self.now in
-    rw c.bans.ensures (ban_told w.facts c.ask.new.self w.position.now w.holds w.ban c.args.p c.requires c.args.c c.ask.ensures)
+    rw c.bans.ensures (ban_told w.facts c.ask.new.self w.position.now w.holds w.ban c.args.p c.requires c.args.c
+    c.ask.ensures)
 
 -- and nothing else
 pub returns-clause-near : goal.returns-clause-near

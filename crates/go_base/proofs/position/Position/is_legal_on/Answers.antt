@@ -3,7 +3,8 @@ use Rattle.go_base.proofs.Allowed.{banned_is_illegal, free_is_legal}
 use Rattle.go_base.proofs.position.Position.is_legal_on.Goals as goal
 
 pub returns-then-bans-clause-value : goal.returns-then-bans-clause-value
-returns-then-bans-clause-value c = banned_is_illegal c.args.self.now c.args.c c.args.p (sym c.bans.ensures ∙ c.if-bans.true)
+returns-then-bans-clause-value c =
+    banned_is_illegal c.args.self.now c.args.c c.args.p (sym c.bans.ensures ∙ c.if-bans.true)
 
 pub returns-clause-value : goal.returns-clause-value
 returns-clause-value c =

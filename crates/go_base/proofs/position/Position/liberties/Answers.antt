@@ -5,4 +5,5 @@ use Rattle.go_base.proofs.position.Position.liberties.Goals as goal
 
 pub returns : goal.returns
 returns c =
-    c.count.ensures.value ∙ ap sets.len c.liberty_points.ensures ∙ len-liberty_points c.args.self.now.size c.args.self.now.cells c.args.p
+    c.count.ensures.value ∙ ap sets.len c.liberty_points.ensures
+    ∙ len-liberty_points c.args.self.now.size c.args.self.now.cells c.args.p

@@ -4,7 +4,12 @@ use Rattle.go_base.proofs.Kept.{IsKept-empty, view_empty}
 use Rattle.go_base.proofs.position.Position.new.Goals as goal
 
 pub invariant_of-result : goal.invariant_of-result
-invariant_of-result c = IsKept-empty c.args.size c.empty_cells.result c.get.ensures.at_least c.get.ensures.at_most c.empty_cells.ensures
+invariant_of-result c = IsKept-empty c.args.size c.empty_cells.result c.get.ensures.at_least c.get.ensures.at_most
+    c.empty_cells.ensures
 
 pub returns : goal.returns
-returns c = ap (λ (t : List Cell). record { size = c.args.size; cells = t; ban = None }) (view_empty c.args.size c.empty_cells.result c.get.ensures.at_most c.empty_cells.ensures)
+returns c = ap (λ (t : List Cell). record {
+  size = c.args.size;
+  cells = t;
+  ban = None;
+}) (view_empty c.args.size c.empty_cells.result c.get.ensures.at_most c.empty_cells.ensures)

@@ -11,13 +11,15 @@ use Rattle.go_base.proofs.position.Position.play.Goals.{After-ne}
 on_board : (c : After-ne) → c.args.p < c.self.inside.size * c.self.inside.size
 on_board c = subst (λ x. c.args.p < x.size * x.size) (sym c.self.view_is) c.requires
 
-stone_is : (c : After-ne) → c.ne.result ≡ is_stone (cell_at (take (c.self.inside.size * c.self.inside.size) c.self.inside.cells) c.args.p)
+stone_is : (c : After-ne)
+    → c.ne.result ≡ is_stone (cell_at (take (c.self.inside.size * c.self.inside.size) c.self.inside.cells) c.args.p)
 stone_is c = stone_is_test c.self.inside c.args.p c.ne.result (on_board c) c.ne.ensures
 
 pub returns-then-ne-clause-value : goal.returns-then-ne-clause-value
 returns-then-ne-clause-value c =
     let d = (goal.at.returns-then-ne-clause-value c).After-ne in
-    play_occupied (position_of c.self.inside) c.args.c c.args.p (sym (stone_is d) ∙ c.if-ne.true) ∙ ap (λ x. play x c.args.c c.args.p) c.self.view_is
+    play_occupied (position_of c.self.inside) c.args.c c.args.p (sym (stone_is d) ∙ c.if-ne.true)
+    ∙ ap (λ x. play x c.args.c c.args.p) c.self.view_is
 
 pub returns-then-bans-clause-value : goal.returns-then-bans-clause-value
 returns-then-bans-clause-value c =
