@@ -1,7 +1,7 @@
 -- An expression without faults can be evaluated.
 use Rattle.std.proofs.Common.{◌≡◌, ℕ, suc, ◌+◌, ◌-◌, ◌≤◌, Bool, true, false, ◌&&◌, ◌||◌, not, nat_le, nat_lt, cond, List, [], ◌∷◌, ◌++◌, length, refl, ap, sym, ◌∙◌, arith}
 use Rattle.std.specs.List.{list_any, list_all, slice_get}
-use Rattle.std.proofs.lemmas.Bool.{ltb-false, le-leb}
+use Rattle.std.proofs.lemmas.Bool.{ltb-false, le-leb, and_parts, and_from}
 use Rattle.std.proofs.lemmas.List.{length-append}
 use Rattle.pat_types.specs.declared.pattern.LabelAt.{LabelAt}
 use Rattle.pat_types.specs.declared.expr.Arg.{Arg}
@@ -61,16 +61,6 @@ or_none : (a b : Bool) → (a || b) ≡ false → (a ≡ false) × (b ≡ false)
 or_none true b h = cc
 or_none false b h = (refl, h)
 
--- two tests that pass, pass together
-and_true : (a b : Bool) → a ≡ true → b ≡ true → (a && b) ≡ true
-and_true true b h k = k
-and_true false b h k = cc
-
--- two tests that pass together, pass each
-and_both : (a b : Bool) → (a && b) ≡ true → (a ≡ true) × (b ≡ true)
-and_both true b h = (refl, h)
-and_both false b h = cc
-
 -- what is not denied holds
 not_false : (b : Bool) → not b ≡ false → b ≡ true
 not_false true h = refl
@@ -108,7 +98,7 @@ all_points labels [] h k = refl
 all_points labels (a ∷ args) h k =
     let p = or_none (is_nowhere a) (list_any is_nowhere args) h in
     let q = or_none (is_unknown_label labels a) (list_any (is_unknown_label labels) args) k in
-    and_true (is_point labels a) (list_all (is_point labels) args) (point_of labels a p.0 q.0)
+    and_from (is_point labels a) (list_all (is_point labels) args) (point_of labels a p.0 q.0)
     (all_points labels args p.1 q.1)
 
 -- the last argument is the last of those behind the first
@@ -126,7 +116,7 @@ moves_then_point labels [] l h k = absurd (omega arith)
 moves_then_point labels (p ∷ []) l h k = point_of labels p h (or_none (is_unknown_label labels p) false k).0
 moves_then_point labels (m ∷ p ∷ more) l h k =
     let q = or_none (is_unknown_label labels m) (list_any (is_unknown_label labels) (p ∷ more)) k in
-    and_true (is_move labels m) (end_in_point labels (p ∷ more)) (move_of labels m q.0)
+    and_from (is_move labels m) (end_in_point labels (p ∷ more)) (move_of labels m q.0)
     (moves_then_point labels (p ∷ more) (omega arith) (sym (last_of_more m p more) ∙ h) q.1)
 
 -- arguments without faults are as the function takes them
@@ -170,8 +160,8 @@ call_may labels f args h k =
     let low : (arity_of f).0 ≤ length args = ltb-false (length args) (arity_of f).0 q.0 in
     let high : length args ≤ (arity_of f).1 = ltb-false (arity_of f).1 (length args) q.1 in
     let some : 1 ≤ length args = omega (arith, low, least_arity f) in
-    and_true (nat_le (arity_of f).0 (length args) && nat_le (length args) (arity_of f).1) _
-    (and_true (nat_le (arity_of f).0 (length args)) (nat_le (length args) (arity_of f).1)
+    and_from (nat_le (arity_of f).0 (length args) && nat_le (length args) (arity_of f).1) _
+    (and_from (nat_le (arity_of f).0 (length args)) (nat_le (length args) (arity_of f).1)
     (le-leb (arity_of f).0 (length args) low) (le-leb (length args) (arity_of f).1 high))
     (args_if labels (is_play f) args some p.1 k)
 
@@ -187,21 +177,21 @@ named_may labels Unknown args u h k = cc
 pub meaning_can : (labels : List LabelAt) (w : Written) → list_all is_small_item (spelling w) ≡ true
     → some_call is_unknown_call w ≡ false → some_call misses w ≡ false → some_call (is_unlabelled labels) w ≡ false
     → can_be labels (meaning_of w) ≡ true
-meaning_can labels (written.Num n) s u h k = (and_both (nat_lt n 1000000) true s).0
+meaning_can labels (written.Num n) s u h k = (and_parts (nat_lt n 1000000) true s).0
 meaning_can labels (written.Call name args) s u h k = named_may labels name args u h k
 meaning_can labels (written.Parens e) s u h k =
     meaning_can labels e
-    (and_both (list_all is_small_item (spelling e)) true
+    (and_parts (list_all is_small_item (spelling e)) true
     (sym (all_append is_small_item (spelling e) (item.Close ∷ [])) ∙ s)).0 u h k
 meaning_can labels (written.Not e) s u h k = meaning_can labels e s u h k
 meaning_can labels (written.Neg e) s u h k = meaning_can labels e s u h k
 meaning_can labels (written.Bin op a b) s u h k =
-    let t = and_both (list_all is_small_item (spelling a)) (list_all is_small_item (spelling b))
+    let t = and_parts (list_all is_small_item (spelling a)) (list_all is_small_item (spelling b))
     (sym (all_append is_small_item (spelling a) (item.Operator op ∷ spelling b)) ∙ s) in
     let v = or_none (some_call is_unknown_call a) (some_call is_unknown_call b) u in
     let i = or_none (some_call misses a) (some_call misses b) h in
     let l = or_none (some_call (is_unlabelled labels) a) (some_call (is_unlabelled labels) b) k in
-    and_true (can_be labels (meaning_of a)) (can_be labels (meaning_of b)) (meaning_can labels a t.0 v.0 i.0 l.0)
+    and_from (can_be labels (meaning_of a)) (can_be labels (meaning_of b)) (meaning_can labels a t.0 v.0 i.0 l.0)
     (meaning_can labels b t.1 v.1 i.1 l.1)
 
 -- a call is one leaf

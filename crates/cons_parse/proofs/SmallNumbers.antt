@@ -2,7 +2,7 @@
 use Rattle.std.proofs.Common.{◌≡◌, ℕ, zero, suc, ◌+◌, ◌-◌, ◌*◌, ◌^◌, ◌<◌, ◌≤◌, Bool, true, false, ◌&&◌, ◌==◌, nat_le, nat_lt, cond, List, [], ◌∷◌, length, take, Option, Some, None, refl, arith}
 use Rattle.std.specs.List.{list_all, prefix_len}
 use Rattle.std.specs.Option.{option_map, option_and_then}
-use Rattle.std.proofs.lemmas.Bool.{ltb-false, leb-true, lt-ltb}
+use Rattle.std.proofs.lemmas.Bool.{ltb-false, leb-true, lt-ltb, and_parts, and_from}
 use Rattle.db_lex.specs.Lines.{is_blank}
 use Rattle.pat_types.specs.declared.expr.Op.TheVariants.{Or, And, Eq, Ne, Lt, Le, Gt, Ge, Add, Sub}
 use Rattle.pat_types.specs.declared.expr.Arg.{Arg}
@@ -46,17 +46,12 @@ below_million (suc (suc (suc (suc (suc zero))))) n h b = omega arith
 below_million (suc (suc (suc (suc (suc (suc zero)))))) n h b = omega arith
 below_million (suc (suc (suc (suc (suc (suc (suc i))))))) n h b = absurd (omega arith)
 
--- two tests that pass together, pass each
-and_both : (a b : Bool) → (a && b) ≡ true → (a ≡ true) × (b ≡ true)
-and_both true b h = (refl, h)
-and_both false b h = cc
-
 -- the value of at most six digits is below a million
 value_small : (ds : List ℕ) (i n : ℕ) → i + length ds ≤ 6 → n < 10 ^ i → list_all is_digit ds ≡ true
     → value_after n ds < 1000000
 value_small [] i n l h d = below_million i n (omega arith) h
 value_small (d ∷ ds) i n l h a =
-    let p = and_both (is_digit d) (list_all is_digit ds) a in
+    let p = and_parts (is_digit d) (list_all is_digit ds) a in
     value_small ds (i + 1) (n * 10 + (d - 48)) (omega arith)
     (digit_step i n (d - 48) (omega arith) h (digit_range d p.0)) p.1
 
@@ -203,17 +198,12 @@ few_choice small n false o p h k = k
 few_more : {X : Type 0} (small : X → Bool) (n : ℕ) (xs : Option (List X)) → AreFew small n xs → AreFew small (suc n) xs
 few_more small n xs h = let c = h.count in record { count = omega arith; each = h.each }
 
--- two tests that pass, pass together
-and_true : (a b : Bool) → a ≡ true → b ≡ true → (a && b) ≡ true
-and_true true b h k = k
-and_true false b h k = cc
-
 -- one more small one makes few of one more
 few_and : {X : Type 0} (small : X → Bool) (n : ℕ) (x : X) (xs : Option (List X)) → small x ≡ true → AreFew small n xs
     → AreFew small (suc n) (option_map (λ ys. x ∷ ys) xs)
 few_and small n x None s h = record { count = omega arith; each = refl }
 few_and small n x (Some xs) s h = let c = h.count in
-    record { count = omega arith; each = and_true (small x) (list_all small xs) s h.each }
+    record { count = omega arith; each = and_from (small x) (list_all small xs) s h.each }
 
 -- a token and those behind it are few
 tokens_then : (bs : List ℕ) (t : Option (Token × ℕ)) → small_token t ≡ true
@@ -282,9 +272,9 @@ items_few [] zero h = record { count = omega arith; each = refl }
 items_few [] (suc n) h = record { count = omega arith; each = refl }
 items_few (t ∷ ts) (suc n) h =
     few_more is_small_item (length ts) (items_after n ts)
-    (items_few ts n (and_both (is_small t) (list_all is_small ts) h).1)
+    (items_few ts n (and_parts (is_small t) (list_all is_small ts) h).1)
 items_few (t ∷ ts) zero h =
-    let p = and_both (is_small t) (list_all is_small ts) h in
+    let p = and_parts (is_small t) (list_all is_small ts) h in
     items_then ts (item_at t ts) (item_small t ts p.0) (λ k. items_few ts k p.1)
 
 -- few tokens have few items

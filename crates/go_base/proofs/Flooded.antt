@@ -16,6 +16,7 @@ use Rattle.go_base.specs.Floods.{Spreads, AddsOnBoard}
 use Rattle.go_base.specs.Views.{around}
 use Rattle.go_base.proofs.Trailed.{has_push}
 use Rattle.go_base.proofs.Beside.{neighbour_at-all, neighbour_at-near}
+use Rattle.go_rules.proofs.Links.{path_same}
 
 -- a point of a list is one of each longer list
 pub has_append : (xs ys : List ℕ) (r : ℕ) → has_point xs r ≡ true → has_point (xs ++ ys) r ≡ true
@@ -103,6 +104,7 @@ add_once_kept xs p = elim (cases_Bool (has_point xs p)) [
   | inr f ↦ (p ∷ [], rw f refl)
 ]
 
+-- three lists one behind another
 append_assoc' : (xs ys zs : List ℕ) → (xs ++ ys) ++ zs ≡ xs ++ (ys ++ zs)
 append_assoc' [] ys zs = refl
 append_assoc' (x ∷ xs) ys zs = ap (λ t. x ∷ t) (append_assoc' xs ys zs)
@@ -135,11 +137,6 @@ pub record Flooded (s : ℕ) (cells : List Cell) (p n : ℕ) (trail : List ℕ) 
   pub only : (r : ℕ) → has_point trail r ≡ true → Path s cells p r
   pub closed : (i : ℕ) → i < n → (r : ℕ) → r < s * s → are_neighbours s (get_or trail i 0) r ≡ true
       → cell_at cells r ≡ cell_at cells (get_or trail i 0) → has_point trail r ≡ true
-
--- a path leads over points that hold the same
-path_same : (s : ℕ) (cells : List Cell) (p : ℕ) {q : ℕ} → Path s cells p q → cell_at cells q ≡ cell_at cells p
-path_same s cells p start = refl
-path_same s cells p (step path on near same) = same
 
 -- at first the trail has the point alone
 pub Flooded-start : (s : ℕ) (cells : List Cell) (p : ℕ) → Flooded s cells p 0 (add_once [] p)

@@ -21,7 +21,7 @@ use Rattle.go_base.specs.Sides.{neighbour_at}
 use Rattle.go_base.specs.Trails.{add_once}
 use Rattle.go_base.specs.Floods.{Spreads, Gathers, Visits, SpreadsOut, enemy_points}
 use Rattle.go_base.proofs.Beside.{neighbour_at-all, neighbour_at-near}
-use Rattle.go_base.proofs.Flooded.{Flooded, Flooded-start, Flooded-next, Flooded-all, Spreads-none, Spreads-skip, Spreads-add, has_at, has_index}
+use Rattle.go_base.proofs.Flooded.{Flooded, Flooded-start, Flooded-next, Flooded-all, Spreads-none, Spreads-skip, Spreads-add, has_at, has_index, at_append}
 
 module _ (s : ℕ) (cells : List Cell) (test : Cell → Bool) (q : ℕ) where
   -- no side was visited
@@ -118,12 +118,6 @@ pub record Gathered (s : ℕ) (cells : List Cell) (test : Cell
   pub only : (l : ℕ) → sets.contains found l ≡ true
       → (i : ℕ) × (i < n) × (l < s * s) × (are_neighbours s (get_or trail i 0) l ≡ true)
       × (test (cell_at cells l) ≡ true)
-
--- a longer list has at each place what the shorter one has
-at_append : (xs ys : List ℕ) (i : ℕ) → i < length xs → get_or (xs ++ ys) i 0 ≡ get_or xs i 0
-at_append [] ys i h = absurd (omega arith)
-at_append (x ∷ xs) ys zero h = refl
-at_append (x ∷ xs) ys (suc i) h = at_append xs ys i (omega arith)
 
 -- nothing was gathered from no stone
 Gathered-none : (s : ℕ) (cells : List Cell) (test : Cell → Bool) (trail : List ℕ) (found : sets.FinSet nat_cmp)

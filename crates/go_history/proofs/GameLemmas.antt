@@ -13,13 +13,7 @@ use Rattle.go_rules.specs.Replay.{moved, led_to, replay_from, captures_from, tak
 use Rattle.go_rules.proofs.Counts.{count_below_at_most}
 use Rattle.go_history.specs.Taken.{stones_taken}
 use Rattle.go_history.proofs.Stones.{played_from}
-
--- a replay goes on with its last move
-pub replay_from-push : (pos : BoardState) (ms : List Move) (m : Move)
-    → replay_from pos (ms ++ m ∷ []) ≡ led_to (replay_from pos ms) (moved (replay_from pos ms) m)
-unfolding replay_from
-replay_from-push pos [] m = refl
-replay_from-push pos (first ∷ ms) m = replay_from-push (led_to pos (moved pos first)) ms m
+use Rattle.go_rules.proofs.CaptureLaws.{moved_size}
 
 -- the stones of a game that goes on are those taken before and those that its last move takes
 pub captures_from-push : (pos : BoardState) (c : Colour) (ms : List Move) (m : Move)
@@ -35,19 +29,6 @@ pub captures_from-nil : (pos : BoardState) (c : Colour) → captures_from pos c 
 unfolding captures_from
 captures_from-nil pos c = refl
 
--- no move leads nowhere else
-pub replay_from-nil : (pos : BoardState) → replay_from pos [] ≡ pos
-unfolding replay_from
-replay_from-nil pos = refl
-
--- a legal game goes on with a move that is legal after it
-pub IsLegalGame-push : (pos : BoardState) (ms : List Move) (m : Move) → IsLegalGame pos ms
-    → IsLegalMove (replay_from pos ms) m → IsLegalGame pos (ms ++ m ∷ [])
-unfolding replay_from
-IsLegalGame-push pos [] m legal last = (last, tt)
-IsLegalGame-push pos (first ∷ ms) m legal last =
-    (legal.0, IsLegalGame-push (led_to pos (moved pos first)) ms m legal.1 last)
-
 -- the front of a legal game is one
 pub IsLegalGame-take : (pos : BoardState) (n : ℕ) (ms : List Move) → IsLegalGame pos ms → IsLegalGame pos (take n ms)
 IsLegalGame-take pos zero ms legal = tt
@@ -62,34 +43,6 @@ IsLegalMove-at pos [] n m legal within = absurd (omega arith)
 IsLegalMove-at pos (first ∷ ms) zero m legal within = legal.0
 IsLegalMove-at pos (first ∷ ms) (suc n) m legal within =
     IsLegalMove-at (led_to pos (moved pos first)) ms n m legal.1 (omega arith)
-
--- a play keeps the size of the board
-size-moved_to : (pos : BoardState) (m : Move) (at : Option ℕ) (next : BoardState) → m.at ≡ at → moved pos m ≡ Ok next
-    → next.size ≡ pos.size
-size-moved_to pos m None next is e =
-    sym (ap (λ (r : Result BoardState Illegal). (led_to pos r).size) (sym (pass_is pos m is) ∙ e))
-  where
-    pass_is : (pos : BoardState) (m : Move) → m.at ≡ None
-        → moved pos m ≡ Ok (record { size = pos.size; cells = pos.cells; ban = None })
-    pass_is pos m is = rw is refl
-size-moved_to pos m (Some p) next is e =
-    ap (λ (b : BoardState). b.size) (sym (played_from pos m.colour p next (rw is at e)).result)
-
--- a move keeps the size of the board
-pub size-moved : (pos : BoardState) (m : Move) (next : BoardState) → moved pos m ≡ Ok next → next.size ≡ pos.size
-size-moved pos m next e = size-moved_to pos m m.at next refl e
-
--- whatever a move led to, the board has its size
-size-led_to : (pos : BoardState) (m : Move) (r : Result BoardState Illegal) → moved pos m ≡ r
-    → (led_to pos r).size ≡ pos.size
-size-led_to pos m (Ok next) e = size-moved pos m next e
-size-led_to pos m (Err e) is = refl
-
--- a game keeps the size of the board
-pub size-replay_from : (pos : BoardState) (ms : List Move) → (replay_from pos ms).size ≡ pos.size
-unfolding replay_from
-size-replay_from pos [] = refl
-size-replay_from pos (m ∷ ms) = size-replay_from (led_to pos (moved pos m)) ms ∙ size-led_to pos m (moved pos m) refl
 
 -- a move takes at most the stones of a whole board
 pub taken_by-bound : (pos : BoardState) (c : Colour) (at : Option ℕ) → pos.size ≤ largest_size
@@ -117,5 +70,5 @@ captures_from-bound pos c [] small = omega arith
 captures_from-bound pos c (m ∷ ms) small =
     let first = stones_taken-bound pos c m small in
     let rest = captures_from-bound (led_to pos (moved pos m)) c ms (subst (λ n. n ≤ largest_size)
-    (sym (size-led_to pos m (moved pos m) refl)) small) in
+    (sym (moved_size pos m.colour m.at)) small) in
     omega (arith, first, rest)

@@ -14,7 +14,9 @@ use Rattle.go_history.specs.Games.{Game, most_moves, position_of}
 use Rattle.go_history.specs.Taken.{taken_of}
 use Rattle.go_history.specs.Kept.{game_of, IsKept}
 use Rattle.go_history.specs.declared.history.History.TheInside.{Inside}
-use Rattle.go_history.proofs.GameLemmas.{IsLegalGame-push, IsLegalGame-take, captures_from-nil, captures_from-push, captures_from-bound, taken_by-bound, size-replay_from}
+use Rattle.go_history.proofs.GameLemmas.{IsLegalGame-take, captures_from-nil, captures_from-push, captures_from-bound, taken_by-bound}
+use Rattle.go_strings.proofs.Leading.{IsLegalGame-push}
+use Rattle.go_rules.proofs.CaptureLaws.{replay_size}
 
 -- what the board shows is the replay of the moves
 pub shown : (a : Inside) → IsKept a → reached a.board ≡ replay a.board.base.size a.moves.items
@@ -27,7 +29,7 @@ shown_of a game kept view = shown a kept ∙ ap position_of view
 -- the board has the size of the game
 pub size_shown : (a : Inside) → IsKept a → (reached a.board).size ≡ a.board.base.size
 size_shown a kept = ap (λ (pos : BoardState). pos.size) (shown a kept)
-    ∙ size-replay_from (empty_board a.board.base.size) a.moves.items
+    ∙ replay_size (empty_board a.board.base.size) a.moves.items
 
 -- a move's point on the board of the game is on the board that is shown
 pub point_shown : (a : Inside) (game : Game) (m : Move) → IsKept a → game_of a ≡ game

@@ -85,15 +85,16 @@ pub no_captures : (s : ℕ) (c : Colour) → captures s c [] ≡ 0
 unfolding captures_from
 no_captures s c = refl
 
--- the size of a board stays
-replay_size : (pos : BoardState) (ms : List Move) → (replay_from pos ms).size ≡ pos.size
+-- a move keeps the size of the board
+pub moved_size : (pos : BoardState) (c : Colour) (at : Option ℕ) → (led_to pos (moved_to pos c at)).size ≡ pos.size
+moved_size pos c None = refl
+moved_size pos c (Some p) = play_size pos c p
+
+-- and so does a game
+pub replay_size : (pos : BoardState) (ms : List Move) → (replay_from pos ms).size ≡ pos.size
 unfolding replay_from
 replay_size pos [] = refl
-replay_size pos (m ∷ ms) = replay_size (led_to pos (moved pos m)) ms ∙ moved_size m.colour m.at
-  where
-    moved_size : (c : Colour) (at : Option ℕ) → (led_to pos (moved_to pos c at)).size ≡ pos.size
-    moved_size c None = refl
-    moved_size c (Some p) = play_size pos c p
+replay_size pos (m ∷ ms) = replay_size (led_to pos (moved pos m)) ms ∙ moved_size pos m.colour m.at
 
 -- a legal move of the colour took what is gone after it
 pub own_captures : (s : ℕ) (moves : List Move) (m : Move) (next : BoardState) → IsSize s

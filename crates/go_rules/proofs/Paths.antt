@@ -21,7 +21,7 @@ same_cell-true White Empty h = absurd (both_ways false refl h)
 same_cell-true White Black h = absurd (both_ways false refl h)
 
 -- a cell holds what it holds
-same_cell-itself : (a : Cell) → same_cell a a ≡ true
+pub same_cell-itself : (a : Cell) → same_cell a a ≡ true
 same_cell-itself Empty = refl
 same_cell-itself Black = refl
 same_cell-itself White = refl

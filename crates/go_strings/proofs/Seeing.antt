@@ -5,7 +5,7 @@ use Rattle.go_rules.specs.declared.Cell.{Cell}
 use Rattle.go_rules.specs.declared.Cell.TheVariants.{Empty, Black, White}
 use Rattle.go_rules.specs.Strings.{cell_at, same_cell}
 use Rattle.go_rules.specs.Position.{BoardState, IsPosition, is_banned}
-use Rattle.go_rules.proofs.Paths.{same_cell-true}
+use Rattle.go_rules.proofs.Paths.{same_cell-true, same_cell-itself}
 use Rattle.go_base.specs.Facts.{Fact, SizeIs, CellIs, BanIs, IsFactOf, Agrees}
 use Rattle.go_base.proofs.Seeing.{same_bool-true}
 use Rattle.go_strings.specs.Seen.{is_so}
@@ -19,12 +19,6 @@ so_holds pos (BanIs p c forbidden) t = same_bool-true (is_banned pos.ban c p) fo
 -- all that are so agree
 pub all_agree : (pos : BoardState) → IsPosition pos → Agrees (is_so pos) pos
 all_agree pos good = record { sound = good; each = so_holds pos }
-
--- a cell holds what it holds
-same_cell-itself : (a : Cell) → same_cell a a ≡ true
-same_cell-itself Empty = refl
-same_cell-itself Black = refl
-same_cell-itself White = refl
 
 -- what stands at a point is so
 pub cell_is_so : (a b : Cell) → b ≡ a → same_cell a b ≡ true

@@ -16,6 +16,7 @@ use Rattle.read_rules.specs.Answer.{is_attack, first_node, attains_code, is_abou
 use Rattle.read_rules.specs.GoodMoves.{is_barred, good_move, Reads}
 use Rattle.read_rules.proofs.WinLemmas.{wins-attacker_move, wins-defender_move}
 
+-- what is not denied holds
 not_not : (b : Bool) → not (not b) ≡ b
 not_not true = refl
 not_not false = refl
@@ -42,6 +43,7 @@ reads q pos code found ne h e =
       move = kept (is_barred node pos) (first_move (q.plies - 1) node pos) found e;
     }
 
+-- a cell that holds a stone is not empty
 stone_stands : (cell : Cell) (c : Colour) → cell ≡ stone_of c → same_cell cell Empty ≡ false
 stone_stands cell black e = ap (λ k. same_cell k Empty) e
 stone_stands cell white e = ap (λ k. same_cell k Empty) e
@@ -54,24 +56,29 @@ about_stands q pos h = stone_stands (cell_at pos.cells q.target) q.colour (same_
 chosen : (about three two one : Bool) → ℕ
 chosen about three two one = cond (not about) 0 (cond three 3 (cond two 2 (cond one 1 0)))
 
+-- the code of a question is chosen by what it attains
 code_of-chosen : (q : ReadingQuestion) (pos : BoardState)
     → code_of q pos ≡ chosen (is_about q pos) (attains_code q pos 3) (attains_code q pos 2) (attains_code q pos 1)
 unfolding code_of chosen
 code_of-chosen q pos = refl
 
+-- the code is 3 where that is attained
 chosen-3 : (about three two one : Bool) → about ≡ true → three ≡ true → chosen about three two one ≡ 3
 unfolding chosen
 chosen-3 about three two one a t = rw (a, t) refl
 
+-- the code is 2 where that is attained and 3 is not
 chosen-2 : (about three two one : Bool) → about ≡ true → three ≡ false → two ≡ true → chosen about three two one ≡ 2
 unfolding chosen
 chosen-2 about three two one a t s = rw (a, t, s) refl
 
+-- the code is 1 where that is attained and neither 3 nor 2 is
 chosen-1 : (about three two one : Bool) → about ≡ true → three ≡ false → two ≡ false → one ≡ true
     → chosen about three two one ≡ 1
 unfolding chosen
 chosen-1 about three two one a t s o = rw (a, t, s, o) refl
 
+-- the code is 0 where none of the others is attained
 chosen-0 : (about three two one : Bool) → about ≡ true → three ≡ false → two ≡ false → one ≡ false
     → chosen about three two one ≡ 0
 unfolding chosen
@@ -85,30 +92,36 @@ answer_with q pos code at e f =
     ap (λ (m : Option Spot). record { code = code; at = m }) f
     ∙ ap (λ (k : ℕ). record { code = k; at = move_of q pos k }) (sym e)
 
+-- a reading under a code that finds no move shows that the code is not attained
 missed : {q : ReadingQuestion} {pos : BoardState} {code : ℕ} {found : Option Spot} → Reads q pos code found
     → found ≡ None → attains_code q pos code ≡ false
 missed r e = sym r.attained ∙ ap is_some e
 
+-- a reading under a code that finds a move shows that the code is attained
 hit : {q : ReadingQuestion} {pos : BoardState} {code : ℕ} {found : Option Spot} {spot : Spot} → Reads q pos code found
     → found ≡ Some spot → attains_code q pos code ≡ true
 hit r e = sym r.attained ∙ ap is_some e
 
+-- the move that a reading under a code finds is the first that attains it
 move : {q : ReadingQuestion} {pos : BoardState} {code : ℕ} {found : Option Spot} {spot : Spot} → Reads q pos code found
     → found ≡ Some spot → Some spot ≡ first_move_of q pos code
 move r e = sym e ∙ r.move (ap is_some e)
 
+-- a move that is found under code 3 is answered with code 3
 pub answer_3 : (q : ReadingQuestion) (pos : BoardState) (three : Option Spot) (spot : Spot) → is_about q pos ≡ true
     → Reads q pos 3 three → three ≡ Some spot
     → record { code = 3; at = Some spot } ≡ answer_of q pos
 answer_3 q pos three spot a r e =
     answer_with q pos 3 (Some spot) (code_of-chosen q pos ∙ chosen-3 _ _ _ _ a (hit r e)) (move r e)
 
+-- a move that is found under code 2, where none is under 3, is answered with code 2
 pub answer_2 : (q : ReadingQuestion) (pos : BoardState) (three two : Option Spot) (spot : Spot) → is_about q pos ≡ true
     → Reads q pos 3 three → three ≡ None → Reads q pos 2 two → two ≡ Some spot
     → record { code = 2; at = Some spot } ≡ answer_of q pos
 answer_2 q pos three two spot a r3 e3 r e =
     answer_with q pos 2 (Some spot) (code_of-chosen q pos ∙ chosen-2 _ _ _ _ a (missed r3 e3) (hit r e)) (move r e)
 
+-- a move that is found under code 1, where none is under 3 and 2, is answered with code 1
 pub answer_1 : (q : ReadingQuestion) (pos : BoardState) (three two one : Option Spot) (spot : Spot)
     → is_about q pos ≡ true → Reads q pos 3 three → three ≡ None → Reads q pos 2 two → two ≡ None
     → Reads q pos 1 one → one ≡ Some spot → record { code = 1; at = Some spot } ≡ answer_of q pos
@@ -116,12 +129,14 @@ answer_1 q pos three two one spot a r3 e3 r2 e2 r e =
     answer_with q pos 1 (Some spot) (code_of-chosen q pos ∙ chosen-1 _ _ _ _ a (missed r3 e3) (missed r2 e2) (hit r e))
     (move r e)
 
+-- where no move is found under any code the answer is code 0 without a move
 pub answer_0 : (q : ReadingQuestion) (pos : BoardState) (three two one : Option Spot) → is_about q pos ≡ true
     → Reads q pos 3 three → three ≡ None → Reads q pos 2 two → two ≡ None
     → Reads q pos 1 one → one ≡ None → record { code = 0; at = None } ≡ answer_of q pos
 answer_0 q pos three two one a r3 e3 r2 e2 r e =
     answer_with q pos 0 None (code_of-chosen q pos ∙ chosen-0 _ _ _ _ a (missed r3 e3) (missed r2 e2) (missed r e)) refl
 
+-- a stone is of its own colour
 stone-colour : (cell : Cell) → cell ≢ Empty → cell ≡ stone_of (colour_of cell)
 stone-colour Empty h = absurd (h refl)
 stone-colour Black h = refl

@@ -33,6 +33,7 @@ wide_gives s cells target p h =
       },
     )
 
+-- an empty neighbour of a liberty passes the test for a point beside a liberty
 wide_from : (s : ℕ) (cells : List Cell) (target p l : ℕ) → l < s * s → is_liberty s cells target l ≡ true
     → IsEmptyNeighbour s cells l p
     → is_empty_beside s cells (is_liberty s cells target) p ≡ true
@@ -62,6 +63,7 @@ takes_gives s cells target p h =
       },
     )
 
+-- the last liberty of an enemy string beside the target passes the test for one
 takes_from : (s : ℕ) (cells : List Cell) (target q p : ℕ) → target < s * s → IsTakenAt s cells target q p
     → is_last_liberty_of_enemy s cells target p ≡ true
 unfolding is_last_liberty_of_enemy is_beside_string is_only_liberty
@@ -91,6 +93,7 @@ pub only_parts : (s : ℕ) (cells : List Cell) (l p : ℕ) → is_only_liberty s
 unfolding is_only_liberty
 only_parts s cells l p h = let both = and_parts _ _ h in (eqb-true (liberties s cells l) 1 both.0, both.1)
 
+-- the one liberty of a string passes the test for it
 only_from : (s : ℕ) (cells : List Cell) (l p : ℕ) → liberties s cells l ≡ 1 → is_liberty s cells l p ≡ true
     → is_only_liberty s cells l p ≡ true
 unfolding is_only_liberty
@@ -117,6 +120,7 @@ backfills_gives pos target p h =
       },
     )
 
+-- a backfilling move by the rules is one by the test
 backfills_from : (pos : BoardState) (target l p : ℕ) → target < pos.size * pos.size → IsBackfilledAt pos target l p
     → is_backfilling pos target p ≡ true
 unfolding is_backfilling

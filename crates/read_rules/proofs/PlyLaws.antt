@@ -17,6 +17,7 @@ as_sum : (n : ℕ) (node : Node) (pos : BoardState) → attacker_wins (suc n) no
     → attacker_wins (n + 1) node pos ≡ true
 as_sum n node pos h = ap (λ m. attacker_wins m node pos) (add-one n) ∙ h
 
+-- the same with the sum written as the next number
 as_next : (n : ℕ) (node : Node) (pos : BoardState) → attacker_wins (n + 1) node pos ≡ true
     → attacker_wins (suc n) node pos ≡ true
 as_next n node pos h = ap (λ m. attacker_wins m node pos) (sym (add-one n)) ∙ h

@@ -41,6 +41,7 @@ first-found g t (suc n) a p lo hi before here =
         let ne : a ≢ p = eqb-false a p eb in
         skip (g a) (before a (omega arith) (omega arith)) (rest ne)
 
+-- where no number passes both tests, none is found
 pub first-none : (g t : ℕ → Bool) (n a : ℕ) → ((q : ℕ) → a ≤ q → q < a + n → (g q && t q) ≡ false)
     → find t (filter g (range_with_len a n)) ≡ None
 first-none g t zero a none = refl
@@ -121,6 +122,7 @@ wins-defender n node pos h e = choose (is_captured pos node.target) node.attacke
     choose : (c turn b x y : Bool) → c ≡ false → turn ≡ b → (c || cond turn x y) ≡ cond b x y
     choose c turn b x y h e = ap (λ v. v || cond turn x y) h ∙ ap (λ v. cond v x y) e
 
+-- a move at a point is there exactly where the point is
 some-at_point : (o : Option ℕ) → is_some (at_point o) ≡ is_some o
 some-at_point None = refl
 some-at_point (Some p) = refl
@@ -129,18 +131,21 @@ some-at_point (Some p) = refl
 by_turn : (turn many saved : Bool) (first : Option ℕ) → Option Spot
 by_turn turn many saved first = cond (turn && many) None (cond (not turn && saved) (Some Pass) (at_point first))
 
+-- the good move of a node is that of the side whose turn it is
 good_move-by_turn : (n : ℕ) (node : Node) (pos : BoardState)
     → good_move n node pos ≡ by_turn node.attacker_to_play (has_many_liberties pos node.target node.wide)
     (not (attacker_wins n (next_node node (allowance_of node)) (pass pos))) (first_success n node pos)
 unfolding by_turn
 good_move-by_turn n node pos = refl
 
+-- the attacker has a good move exactly where the target has few liberties and some child wins
 attacker_some : (many saved : Bool) (first : Option ℕ) (any : Bool) → is_some first ≡ any
     → is_some (by_turn true many saved first) ≡ (not many && any)
 unfolding by_turn
 attacker_some true saved first any e = refl
 attacker_some false saved first any e = some-at_point first ∙ e
 
+-- the defender has no good move exactly where the pass and every child are lost
 defender_none : (many lost : Bool) (first : Option ℕ) (all : Bool) → is_none first ≡ all
     → is_none (by_turn false many (not lost) first) ≡ (lost && all)
 unfolding by_turn

@@ -7,9 +7,11 @@ use Rattle.go_base.proofs.boundary.add_least.Goals as goal
 pub returns-then-has-clause-looks : goal.returns-then-has-clause-looks
 returns-then-has-clause-looks g c = Looks-none g.met.V.View.asks_none _ _
 
+-- it looked at nothing
 pub returns-then-has-clause-near : goal.returns-then-has-clause-near
 returns-then-has-clause-near g c = λ pos a. g.met.V.View.asks_none _ _
 
+-- its least point came with it
 pub returns-then-has-clause-adds : goal.returns-then-has-clause-adds
 returns-then-has-clause-adds g c =
     λ pos a knows. AddsLeast-seen _ _ c.args.q c.args.seen.now c.args.least.now knows
@@ -24,6 +26,7 @@ returns-in-Some-clause-adds g c = λ pos a knows.
     c.add.new.self
     c.requires.on_board (c.string_of-string.ensures.over pos a) first.2 (λ k l. first.3 k (omega arith) l) c.add.ensures
 
+-- the least points of the strings seen are known with it
 pub returns-in-Some-clause-knows : goal.returns-in-Some-clause-knows
 returns-in-Some-clause-knows g c = λ pos a knows.
     let first = c.in-Some.ensures.some in
@@ -42,6 +45,7 @@ returns-in_default-clause-adds g c = λ pos a knows.
     (g.V.View.cells c.args.board.now pos) c.args.q c.string_of-string.result c.args.least.now c.requires.on_board
     (c.string_of-string.ensures.over pos a) c.in_default.ensures.none
 
+-- the least points of the strings seen are known without it
 pub returns-in_default-clause-knows : goal.returns-in_default-clause-knows
 returns-in_default-clause-knows g c = λ pos a knows.
     let s = g.V.View.rows c.args.board.now in

@@ -22,15 +22,18 @@ occupied_is : (g : Over) (c : After-ne g) (pos : BoardState) → g.V.View.agrees
     → c.ne.result ≡ is_stone (cell_at (g.V.View.cells c.args.board.now pos) c.args.p)
 occupied_is g c pos a = c.ne.ensures ∙ stone_test c.at.result ∙ ap is_stone (c.at.ensures.over pos a)
 
+-- on a stone only its point was looked at
 pub returns-then-ne-clause-asks : goal.returns-then-ne-clause-asks
 returns-then-ne-clause-asks g c = g.met.V.View.asks_within _ _ _ _ c.at.ensures.looks.asked (λ q h. refl)
 
+-- a play on a stone is refused as occupied
 pub returns-then-ne-clause-over : goal.returns-then-ne-clause-over
 returns-then-ne-clause-over g c = λ pos a good.
     sym (free_occupied (board_of (g.V.View.rows c.args.board.now) (g.V.View.cells c.args.board.now pos)) c.args.c
     c.args.p
     (sym (occupied_is g (goal.at.returns-then-ne-clause-over g c).After-ne pos a) ∙ c.if-ne.true))
 
+-- a point lies in its own second neighbourhood
 pub returns-then-ne-clause-near : goal.returns-then-ne-clause-near
 returns-then-ne-clause-near g c =
     λ pos a. g.met.V.View.asks_within _ _ _ _ c.at.ensures.looks.asked
@@ -51,11 +54,13 @@ asked g c =
     (g.met.V.View.asks_more _ _ _ _ c.captured-taken.ensures.looks.asked
     (g.met.V.View.asks_more _ _ _ _ removed c.is_suicide.ensures.looks.asked)))
 
+-- putting the stone and taking it back again asks for nothing
 pub returns-then-is_suicide-clause-asks : goal.returns-then-is_suicide-clause-asks
 returns-then-is_suicide-clause-asks g c =
     g.met.V.View.asks_more _ _ _ _ (asked g (goal.at.returns-then-is_suicide-clause-asks g c).After-is_suicide)
     (g.met.V.View.asks_within _ _ _ _ c.put-then-is_suicide.ensures.asks (λ q h. refl))
 
+-- the ban is found by looks alone
 pub returns-clause-asks : goal.returns-clause-asks
 returns-clause-asks g c =
     g.met.V.View.asks_more _ _ _ _ (asked g (goal.at.returns-clause-asks g c).After-is_suicide)
@@ -70,9 +75,11 @@ rows_are g c =
     ∙ g.met.V.View.asks_rows _ _ _ c.at.ensures.looks.asked
 
 module _ (g : Over) (c : After-is_suicide g) (pos : BoardState) (a : g.V.View.agrees c.is_suicide.new.board pos) where
+  -- a position that agrees after the test for suicide agreed before it
   at_removed : g.V.View.agrees c.put_all.new.board pos
   at_removed = g.met.V.View.asks_agrees _ _ _ c.is_suicide.ensures.looks.asked pos a
 
+  -- and before the captured stones were taken off
   at_captured : g.V.View.agrees c.captured-taken.new.board pos
   at_captured = g.met.V.View.asks_agrees _ _ _ c.put_all.ensures.asks pos at_removed
 
@@ -161,6 +168,7 @@ returns-then-is_suicide-clause-undone g c = λ pos a1 good.
     c.put-then-is_suicide.ensures.over pos a1 ∙ ap (λ t. set t c.args.p Empty) (c.is_suicide.ensures.looks.same pos)
     ∙ suicide_back (plays g at pos a good) (eqb-true _ _ (sym (suicide_is g at pos a good) ∙ c.if-is_suicide.true))
 
+-- a suicide is seen within the second neighbourhood of its point
 pub returns-then-is_suicide-clause-near : goal.returns-then-is_suicide-clause-near
 returns-then-is_suicide-clause-near g c = λ pos a1.
     let at = (goal.at.returns-then-is_suicide-clause-near g c).After-is_suicide in
@@ -189,6 +197,7 @@ returns-clause-undone g c = λ pos a1 good.
     (c.ban_of-ban.ensures.looks.same pos ∙ c.is_suicide.ensures.looks.same pos)
     ∙ plays_back (plays g at pos a good)
 
+-- a play is made within the second neighbourhood of its point
 pub returns-clause-near : goal.returns-clause-near
 returns-clause-near g c = λ pos a1.
     let at = (goal.at.returns-clause-near g c).After-is_suicide in

@@ -59,6 +59,7 @@ near_is g c enemy pos a =
     g.met.V.View.asks_more _ _ _ _ (g.met.V.View.asks_within _ _ _ _ c.at.ensures.looks.asked (λ r h. or_left _ _ h))
     (g.met.V.View.asks_within _ _ _ _ close (λ r h. or_right _ _ (and_from _ _ foe h)))
 
+-- the enemy's point and its string were looked at, and nothing was written
 looks_are : (g : Over) (c : After-string_without_liberty g)
     → Looks g.V.View.cells g.V.View.asks c.args.board.now c.string_without_liberty.new.board anywhere
 looks_are g c = Looks-more g.met.V.View.asks_more
@@ -68,6 +69,7 @@ looks_are g c = Looks-more g.met.V.View.asks_more
 pub returns-in-Some-clause-looks : goal.returns-in-Some-clause-looks
 returns-in-Some-clause-looks g c = looks_are g (goal.at.returns-in-Some-clause-looks g c).After-string_without_liberty
 
+-- its stones join those that are taken
 pub returns-in-Some-clause-over : goal.returns-in-Some-clause-over
 returns-in-Some-clause-over g c = λ pos a whole.
     let told = rw (
@@ -79,6 +81,7 @@ returns-in-Some-clause-over g c = λ pos a whole.
     (g.V.View.cells c.args.board.now pos) c.args.c c.args.q c.in-Some.stones enemy (sym c.in-Some.is ∙ told) in
     rw taken.0 (c.join.ensures ∙ ap (set.union c.args.taken.now) taken.1)
 
+-- they lie on the board
 pub returns-in-Some-clause-on_board : goal.returns-in-Some-clause-on_board
 returns-in-Some-clause-on_board g c = λ r h.
     elim (or_cases _ _ (sym (ap (λ t. set.contains t r) c.join.ensures
@@ -88,6 +91,7 @@ returns-in-Some-clause-on_board g c = λ r h.
           (c.in-Some.ensures.on_board r now))
     ]
 
+-- only an enemy's string and its neighbours were looked at
 pub returns-in-Some-clause-near : goal.returns-in-Some-clause-near
 returns-in-Some-clause-near g c =
     near_is g (goal.at.returns-in-Some-clause-near g c).After-string_without_liberty c.if-ne.false
@@ -97,6 +101,7 @@ pub returns-in_default-clause-looks : goal.returns-in_default-clause-looks
 returns-in_default-clause-looks g c =
     looks_are g (goal.at.returns-in_default-clause-looks g c).After-string_without_liberty
 
+-- a string with a liberty is not taken
 pub returns-in_default-clause-over : goal.returns-in_default-clause-over
 returns-in_default-clause-over g c = λ pos a whole.
     let told = rw (
@@ -109,6 +114,7 @@ returns-in_default-clause-over g c = λ pos a whole.
     (g.V.View.cells c.args.board.now pos) c.args.c c.args.q enemy (sym c.in_default.is ∙ told) in
     rw kept refl
 
+-- only an enemy's string and its neighbours were looked at
 pub returns-in_default-clause-near : goal.returns-in_default-clause-near
 returns-in_default-clause-near g c =
     near_is g (goal.at.returns-in_default-clause-near g c).After-string_without_liberty c.if-ne.false

@@ -128,5 +128,6 @@ returns-then-eq-clause-stones_on_board g c =
 pub returns-then-eq-clause-enemies_on_board : goal.returns-then-eq-clause-enemies_on_board
 returns-then-eq-clause-enemies_on_board g c = λ q h. absurd (none_at c.new-enemies.result q c.new-enemies.ensures h)
 
+-- the stones of the trail lie on the board
 pub returns-clause-stones_on_board : goal.returns-clause-stones_on_board
 returns-clause-stones_on_board g c = λ q h. c.loop-next.invariant.stones_on_board q (sym (c.into_set-2.ensures q) ∙ h)

@@ -11,8 +11,10 @@ pub returns-clause-bound : goal.returns-clause-bound
 returns-clause-bound c = let low = lowest_from c.args.word c.args.from c.ranges.word.fits (omega arith) in
     omega (arith, low.bound)
 
+-- its bit is marked
 pub returns-clause-hit : goal.returns-clause-hit
 returns-clause-hit c = λ l. (lowest_from c.args.word c.args.from c.ranges.word.fits (omega arith)).hit
 
+-- no bit below it is
 pub returns-clause-misses : goal.returns-clause-misses
 returns-clause-misses c = (lowest_from c.args.word c.args.from c.ranges.word.fits (omega arith)).misses

@@ -7,9 +7,11 @@ use Rattle.go_base.proofs.surroundings.add_last_liberty.Goals as goal
 pub returns-then-has-clause-looks : goal.returns-then-has-clause-looks
 returns-then-has-clause-looks g c = Looks-none g.met.V.View.asks_none _ _
 
+-- it looked at nothing
 pub returns-then-has-clause-near : goal.returns-then-has-clause-near
 returns-then-has-clause-near g c = λ pos a. g.met.V.View.asks_none _ _
 
+-- its last liberty, if it has one, came with it
 pub returns-then-has-clause-adds : goal.returns-then-has-clause-adds
 returns-then-has-clause-adds g c =
     λ pos a knows. AddsLast-seen _ _ c.args.q c.args.seen.now c.args.last.now knows (sym c.has.ensures ∙ c.if-has.true)
@@ -22,6 +24,7 @@ returns-then-count-eq-IN_ATARI-clause-adds g c = λ pos a knows.
     (c.flood-stones.ensures.liberties pos a) c.count.ensures.value c.join-then-count-eq-IN_ATARI.new.self
     c.if-count-eq-IN_ATARI.true c.join-then-count-eq-IN_ATARI.ensures
 
+-- the last liberties of the strings seen are known with it
 pub returns-then-count-eq-IN_ATARI-clause-knows : goal.returns-then-count-eq-IN_ATARI-clause-knows
 returns-then-count-eq-IN_ATARI-clause-knows g c = λ pos a knows.
     let s = g.V.View.rows c.args.board.now in
@@ -40,6 +43,7 @@ returns-else-count-eq-IN_ATARI-clause-adds g c = λ pos a knows.
     (g.V.View.cells c.args.board.now pos) c.args.q c.count.result c.flood-stones.result.liberties c.args.last.now
     (c.flood-stones.ensures.liberties pos a) c.count.ensures.value c.if-count-eq-IN_ATARI.false
 
+-- the last liberties of the strings seen are known without it
 pub returns-else-count-eq-IN_ATARI-clause-knows : goal.returns-else-count-eq-IN_ATARI-clause-knows
 returns-else-count-eq-IN_ATARI-clause-knows g c = λ pos a knows.
     let s = g.V.View.rows c.args.board.now in

@@ -36,6 +36,7 @@ returns-then-meets_empty-clause-looks g c =
     (Looks-within g.met.V.View.asks_within c.meets_empty.ensures.looks
     (at_side s c.args.q c.loop-side.side c.in-Some.r c.requires (side_is g c)))
 
+-- the point has an empty neighbour
 pub returns-then-meets_empty-clause-over : goal.returns-then-meets_empty-clause-over
 returns-then-meets_empty-clause-over g c = λ pos a.
     let seen = rw (c.loop-side.invariant.looks.same pos) at (c.meets_empty.ensures.over pos a) in
@@ -43,6 +44,7 @@ returns-then-meets_empty-clause-over g c = λ pos a.
     (g.V.View.cells c.args.board.now pos) c.args.q c.loop-side.side c.in-Some.r c.requires (side_is g c)
     (sym seen ∙ c.if-meets_empty.true))
 
+-- what came to the trail lies on the board
 pub returns-then-meets_empty-clause-trail_on_board : goal.returns-then-meets_empty-clause-trail_on_board
 returns-then-meets_empty-clause-trail_on_board g c = λ r h. elim (c.meets_empty.ensures.trail_alone r h) [
   | inl old ↦ c.loop-side.invariant.trail_on_board r old
@@ -96,6 +98,7 @@ returns-clause-over g c = λ pos a.
     (g.V.View.cells c.args.board.now pos) c.args.own c.args.q c.loop-side.side _ _ c.requires (omega arith)
     (c.loop-side.invariant.over pos a))
 
+-- each side of the point's own colour is on the trail
 pub returns-clause-trail : goal.returns-clause-trail
 returns-clause-trail g c = λ pos a like none.
     let four : c.loop-side.side ≡ 4 = omega arith in

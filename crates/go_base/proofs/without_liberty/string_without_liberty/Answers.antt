@@ -97,12 +97,14 @@ pub returns-then-reaches_empty-clause-looks : goal.returns-then-reaches_empty-cl
 returns-then-reaches_empty-clause-looks g c =
     looks_are g (goal.at.returns-then-reaches_empty-clause-looks g c).After-reaches_empty
 
+-- an empty neighbour of a stone of the string is a liberty
 pub returns-then-reaches_empty-clause-over : goal.returns-then-reaches_empty-clause-over
 returns-then-reaches_empty-clause-over g c = λ pos a.
     let at = (goal.at.returns-then-reaches_empty-clause-over g c).After-reaches_empty in
     liberty_seen (g.V.View.rows c.args.board.now) (g.V.View.cells c.args.board.now pos) c.args.p _ c.requires
     (link_is g at pos a) (sym (seen_is g at pos a) ∙ c.if-reaches_empty.true)
 
+-- only the string and its neighbours were looked at
 pub returns-then-reaches_empty-clause-near : goal.returns-then-reaches_empty-clause-near
 returns-then-reaches_empty-clause-near g c =
     near_is g (goal.at.returns-then-reaches_empty-clause-near g c).After-reaches_empty
@@ -141,5 +143,6 @@ returns-clause-over g c = λ pos a.
     (g.V.View.cells c.args.board.now pos) c.args.p c.loop-next.next c.loop-next.trail c.into_set.result c.requires
     stone (c.loop-next.invariant.over pos a) (omega arith) c.into_set.ensures
 
+-- the stones of the string lie on the board
 pub returns-clause-on_board : goal.returns-clause-on_board
 returns-clause-on_board g c = λ q h. c.loop-next.invariant.stones_on_board q (sym (c.into_set.ensures q) ∙ h)

@@ -5,12 +5,14 @@ use Rattle.go_base.proofs.Allowed.{set_below-none, set_below-passes, set_below-f
 use Rattle.go_base.proofs.position.Position.legal_points.Goals as goal
 use Rattle.go_base.proofs.position.Position.legal_points.Goals.{then-is_legal_on, else-is_legal_on}
 
+-- no point was tried
 pub loop-p-init : goal.loop-p-init
 loop-p-init c = record {
   holds = c.board-board.ensures;
   found = set_below-none (is_legal c.args.self.now c.args.c) _ c.new-found.ensures;
 }
 
+-- one more point was tried, and the board is as it was
 pub loop-p-preserved : goal.loop-p-preserved
 loop-p-preserved c =
     let test = is_legal c.args.self.now c.args.c in
@@ -25,6 +27,7 @@ loop-p-preserved c =
       ];
     }
 
+-- every point of the board was tried
 pub returns : goal.returns
 returns c =
     let points = c.points-p-end.ensures.value ∙ ap (λ n. n * n) c.size.ensures.value in

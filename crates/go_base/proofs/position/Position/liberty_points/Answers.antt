@@ -3,6 +3,7 @@ use Rattle.go_rules.specs.Strings.{liberty_points}
 use Rattle.go_base.proofs.Held.{whole_after}
 use Rattle.go_base.proofs.position.Position.liberty_points.Goals as goal
 
+-- a flood over the position's board finds the liberties of its string
 pub returns : goal.returns
 returns c =
     let b = c.board-board.ensures in

@@ -8,19 +8,23 @@ use Rattle.go_base.proofs.Held.{stone_is_test}
 use Rattle.go_base.proofs.position.Position.play.Goals as goal
 use Rattle.go_base.proofs.position.Position.play.Goals.{After-ne}
 
+-- the point lies on the board that is kept
 on_board : (c : After-ne) → c.args.p < c.self.inside.size * c.self.inside.size
 on_board c = subst (λ x. c.args.p < x.size * x.size) (sym c.self.view_is) c.requires
 
+-- whether a stone stands there is seen on the cells that are kept
 stone_is : (c : After-ne)
     → c.ne.result ≡ is_stone (cell_at (take (c.self.inside.size * c.self.inside.size) c.self.inside.cells) c.args.p)
 stone_is c = stone_is_test c.self.inside c.args.p c.ne.result (on_board c) c.ne.ensures
 
+-- a play on a stone is refused as occupied
 pub returns-then-ne-clause-value : goal.returns-then-ne-clause-value
 returns-then-ne-clause-value c =
     let d = (goal.at.returns-then-ne-clause-value c).After-ne in
     play_occupied (position_of c.self.inside) c.args.c c.args.p (sym (stone_is d) ∙ c.if-ne.true)
     ∙ ap (λ x. play x c.args.c c.args.p) c.self.view_is
 
+-- a play on an empty point that the ban forbids is refused by it
 pub returns-then-bans-clause-value : goal.returns-then-bans-clause-value
 returns-then-bans-clause-value c =
     let d = (goal.at.returns-then-bans-clause-value c).After-ne in
@@ -28,6 +32,7 @@ returns-then-bans-clause-value c =
     (ap (λ x. is_banned x.ban c.args.c c.args.p) c.self.view_is ∙ sym c.bans.ensures ∙ c.if-bans.true)
     ∙ ap (λ x. play x c.args.c c.args.p) c.self.view_is
 
+-- any other play is the one without the ban
 pub returns-clause-value : goal.returns-clause-value
 returns-clause-value c =
     let d = (goal.at.returns-clause-value c).After-ne in

@@ -3,6 +3,7 @@ use Rattle.go_rules.specs.Strings.{string_at}
 use Rattle.go_base.proofs.Held.{whole_after}
 use Rattle.go_base.proofs.position.Position.string.Goals as goal
 
+-- a flood over the position's board finds the string
 pub returns : goal.returns
 returns c =
     let b = c.board-board.ensures in
