@@ -138,10 +138,14 @@ impl Facts {
         if self.size != position.size() {
             return false;
         }
-        for q in 0..position.size().points() {
+        let end = position.size().points();
+        let about = self.about();
+        let mut next = 0;
+        while let Some(q) = about.first_from(next, end) {
             if !self.holds_at(position, q) {
                 return false;
             }
+            next = q + 1;
         }
         true
     }
@@ -150,25 +154,27 @@ impl Facts {
     pub fn points(&self) -> PointSet
         ensures { result ≡ set_below (self.now.size * self.now.size) (is_fact_at self.now) }
     {
+        let end = self.size.points();
+        let about = self.about();
         let mut points = PointSet::new();
-        for q in 0..self.size.points() {
-            if self.is_fact_at(q) {
-                points.add(q);
-            }
+        let mut next = 0;
+        while let Some(q) = about.first_from(next, end) {
+            points.add(q);
+            next = q + 1;
         }
         points
     }
 
-    fn is_fact_at(&self, q: Point) -> bool
-        requires { q < largest_points }
-        ensures { result ≡ is_fact_at self.now q }
+    /// A bit for each point that some fact is about.
+    fn about(&self) -> PointBits
+        ensures { (q : ℕ) → is_marked result q ≡ is_fact_at self.now q }
     {
-        let seen = either(
-            self.empty.has(q),
-            either(self.black.has(q), self.white.has(q)),
-        );
-        let asked = either(self.asked_of_black.has(q), self.asked_of_white.has(q));
-        either(seen, asked)
+        let mut about = self.empty;
+        about.join(&self.black);
+        about.join(&self.white);
+        about.join(&self.asked_of_black);
+        about.join(&self.asked_of_white);
+        about
     }
 }
 
@@ -176,12 +182,6 @@ fn all(a: bool, b: bool, c: bool) -> bool
     ensures { result ≡ (a && b && c) }
 {
     a && b && c
-}
-
-fn either(a: bool, b: bool) -> bool
-    ensures { result ≡ (a || b) }
-{
-    a || b
 }
 
 /// Whether the cell may be what was seen, where it was seen to be empty, to hold a black stone or a white one.
