@@ -1,4 +1,5 @@
 pub mod Marks
+pub mod MarkedBoth
 pub mod Lowest
 pub mod Beside
 pub mod Trailed
@@ -18,5 +19,6 @@ pub mod Closing
 pub mod PlayNear
 pub mod Seeing
 pub mod Standing
+pub mod About
 pub mod LastLiberties
 pub mod Allowed

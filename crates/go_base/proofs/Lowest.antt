@@ -69,37 +69,55 @@ module _ (words : List ℕ) (p from bit : ℕ) (low : p ≤ from) (before : (r :
       → is_marked words (from / 64 * 64 + bit) ≡ true
   is_marked-found small hit = rw (div-mul-add (from / 64) 64 bit small, mod-mul-add (from / 64) 64 bit small, hit) refl
 
-module _ (words : List ℕ) (p q : ℕ) (low : p ≤ q) (before : (r : ℕ) → p ≤ r → r < q → is_marked words r ≡ false) where
-  -- no point before the one found is in the set
-  not_before : (r : ℕ) → p ≤ r → r < q → sets.contains (marked words) r ≡ false
-  not_before r l m = contains-marked words r ∙ ap (λ b. ltb r largest_points && b) (before r l m)
-      ∙ and-false (ltb r largest_points)
+-- the first point from p on that the words mark, if one below the end is marked
+abbrev pub IsFirstMarked : List ℕ → ℕ → ℕ → Option ℕ → Type 0
+IsFirstMarked words p end o =
+    IfSome o (λ x. (p ≤ x) × (x < end) × (is_marked words x ≡ true)
+    × ((r : ℕ) → p ≤ r → r < x → is_marked words r ≡ false))
 
-  -- the first of the set from p on is q, where q is a point
-  pub first_some : is_marked words q ≡ true → (o : Option ℕ) → o ≡ cond (ltb q largest_points) (Some q) None
-      → IfSome o (λ x. (p ≤ x) × (x < largest_points) × (sets.contains (marked words) x ≡ true)
-      × ((r : ℕ) → p ≤ r → r < x → sets.contains (marked words) r ≡ false))
-  first_some hit o e = elim (cases_lt q largest_points) [
-    | inl l ↦ rw (e, lt-ltb q largest_points l) (
-      low,
-      l,
-      contains-marked words q ∙ rw (lt-ltb q largest_points l, hit) refl,
-      not_before,
-    )
-    | inr g ↦ rw (e, le-ltb q largest_points g) tt
+-- where there is none, no point from p on below the end is marked
+abbrev pub NoneMarked : List ℕ → ℕ → ℕ → Option ℕ → Type 0
+NoneMarked words p end o = IfNone o ((r : ℕ) → p ≤ r → r < end → is_marked words r ≡ false)
+
+module _ (words : List ℕ) (p q end : ℕ) (low : p ≤ q)
+    (before : (r : ℕ) → p ≤ r → r < q → is_marked words r ≡ false) where
+  -- the first that is marked from p on is q, where q is below the end
+  pub first_some : is_marked words q ≡ true → (o : Option ℕ) → o ≡ cond (ltb q end) (Some q) None
+      → IsFirstMarked words p end o
+  first_some hit o e = elim (cases_lt q end) [
+    | inl l ↦ rw (e, lt-ltb q end l) (low, l, hit, before)
+    | inr g ↦ rw (e, le-ltb q end g) tt
   ]
 
-  -- and where it is none, the set has no member from p on
-  pub first_none : (o : Option ℕ) → o ≡ cond (ltb q largest_points) (Some q) None
-      → IfNone o ((r : ℕ) → p ≤ r → sets.contains (marked words) r ≡ false)
-  first_none o e = elim (cases_lt q largest_points) [
-    | inl l ↦ rw (e, lt-ltb q largest_points l) tt
-    | inr g ↦ rw (e, le-ltb q largest_points g) (λ r l. elim (cases_lt r q) [
-      | inl m ↦ not_before r l m
-      | inr m ↦ contains-above words r (omega arith)
-    ])
+  -- and where it is not, none is marked
+  pub first_none : (o : Option ℕ) → o ≡ cond (ltb q end) (Some q) None → NoneMarked words p end o
+  first_none o e = elim (cases_lt q end) [
+    | inl l ↦ rw (e, lt-ltb q end l) tt
+    | inr g ↦ rw (e, le-ltb q end g) (λ r l m. before r l (omega arith))
   ]
 
-  -- where every point up to the largest board's last was passed, the set has no member from p on
-  pub none_left : largest_points ≤ q → (r : ℕ) → p ≤ r → sets.contains (marked words) r ≡ false
-  none_left g r l = elim (cases_lt r q) [ inl m ↦ not_before r l m | inr m ↦ contains-above words r (omega arith) ]
+-- a point that is not marked is not in the set
+not_member : (words : List ℕ) (r : ℕ) → is_marked words r ≡ false → sets.contains (marked words) r ≡ false
+not_member words r h =
+    contains-marked words r ∙ ap (λ b. ltb r largest_points && b) h ∙ and-false (ltb r largest_points)
+
+-- the first point that is marked is the first member of the set
+pub first_member : (words : List ℕ) (p : ℕ) (o : Option ℕ) → IsFirstMarked words p largest_points o
+    → IfSome o (λ x. (p ≤ x) × (x < largest_points) × (sets.contains (marked words) x ≡ true)
+    × ((r : ℕ) → p ≤ r → r < x → sets.contains (marked words) r ≡ false))
+first_member words p None h = tt
+first_member words p (Some x) h = (
+  h.0,
+  h.1,
+  contains-marked words x ∙ rw (lt-ltb x largest_points h.1, h.2) refl,
+  λ r l m. not_member words r (h.3 r l m),
+)
+
+-- and where no point of the board is marked from p on, the set has no member there
+pub no_member : (words : List ℕ) (p : ℕ) (o : Option ℕ) → NoneMarked words p largest_points o
+    → IfNone o ((r : ℕ) → p ≤ r → sets.contains (marked words) r ≡ false)
+no_member words p None h = λ r l. elim (cases_lt r largest_points) [
+  | inl m ↦ not_member words r (h r l m)
+  | inr g ↦ contains-above words r g
+]
+no_member words p (Some x) h = tt

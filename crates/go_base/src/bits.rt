@@ -1,9 +1,11 @@
 //! A bit for each point of the largest board.
 
-ghost use Rattle.std.specs.Prelude.{◌≡◌, ◌≢◌, ℕ, ◌<◌, IsTrue, false};
+ghost use Rattle.std.specs.Prelude.{◌≡◌, ◌≢◌, ℕ, ◌<◌, ◌≤◌, ◌||◌, IsTrue, false};
+ghost use Rattle.std.specs.Prelude.{IfSome, IfNone, Some, None, nat_lt, if◌then◌else◌};
 ghost use Rattle.go_rules.specs.Board.{largest_points};
 ghost use Rattle.go_base.specs.Bits.{is_marked};
 
+use crate::points::{WORD_BITS, lowest_bit};
 use crate::size::{MAX_POINTS, Point};
 use std::marker::Model;
 
@@ -50,4 +52,50 @@ impl PointBits {
     {
         self.words[p as usize / 64] |= 1 << (p % 64);
     }
+
+    /// Sets each bit that the other has.
+    pub fn join(&mut self, other: &PointBits)
+        ensures { (q : ℕ) → is_marked self.new q ≡ (is_marked self.old q || is_marked other.now q) }
+    {
+        for i in 0..WORDS {
+            self.words[i] |= other.words[i];
+        }
+    }
+
+    /// The least point from `first` on whose bit is set, None exactly where there is none below `end`.
+    pub fn first_from(&self, first: u16, end: u16) -> Option<Point>
+        requires { end ≤ largest_points }
+        ensures some { IfSome result (λ q. (first ≤ q) × (q < end) × IsTrue (is_marked self.now q)
+            × ((r : ℕ) → first ≤ r → r < q → is_marked self.now r ≡ false)) }
+        ensures none { IfNone result ((r : ℕ) → first ≤ r → r < end → is_marked self.now r ≡ false) }
+    {
+        first_marked(&self.words, first, end)
+    }
+}
+
+/// The least point from `first` on that the words mark, None exactly where there is none below `end`.
+pub(crate) fn first_marked(words: &[u64; WORDS], first: u16, end: u16) -> Option<Point>
+    requires { end ≤ largest_points }
+    ensures some { IfSome result (λ q. (first ≤ q) × (q < end) × IsTrue (is_marked words.now q)
+        × ((r : ℕ) → first ≤ r → r < q → is_marked words.now r ≡ false)) }
+    ensures none { IfNone result ((r : ℕ) → first ≤ r → r < end → is_marked words.now r ≡ false) }
+{
+    let mut from = first;
+    while from < end {
+        let word = from / WORD_BITS;
+        let bit = lowest_bit(words[word as usize], from % WORD_BITS);
+        let q = word * WORD_BITS + bit;
+        if bit < WORD_BITS {
+            return point_below(q, end);
+        }
+        from = q;
+    }
+    None
+}
+
+/// The point, where it is below the end.
+pub(crate) fn point_below(q: u16, end: u16) -> Option<Point>
+    ensures { result ≡ (if nat_lt q end then Some q else None) }
+{
+    if q < end { Some(q) } else { None }
 }

@@ -1,4 +1,5 @@
-//! The recorded facts of a reading: its size, cells of points, and for a point and a colour whether the ko ban forbids the play.
+//! The recorded facts of a reading: its size, cells of points, and for a point and a colour whether the ko ban forbids
+//! the play.
 
 ghost use Rattle.std.specs.Prelude.{◌≡◌, ℕ, ◌*◌, ◌<◌, ◌↔◌, IsTrue, false, not, ◌||◌, ◌&&◌};
 ghost use Rattle.std.specs.FinSet as set;
@@ -18,7 +19,8 @@ use crate::position::Position;
 use crate::size::{MIN_SIZE, Point, Size};
 use go_rules::{Cell, Colour};
 
-/// The facts that were seen of a position, in some 420 bytes. Of the ban it keeps the whole; what counts is what was asked for.
+/// The facts that were seen of a position, in some 420 bytes. Of the ban it keeps the whole; what counts is what was
+/// asked for.
 #[derive(Clone, Copy, Debug)]
 pub struct Facts {
     /// The size, which is always a fact.
@@ -100,7 +102,8 @@ impl Facts {
     /// Whether the cell of q is as it was seen, if it was.
     fn cell_stands(&self, q: Point, cell: Cell) -> bool
         requires { q < largest_points }
-        ensures { result ≡ is_admitted cell (is_marked (seen_as self.now Cell.Empty) q) (is_marked (seen_as self.now Cell.Black) q) (is_marked (seen_as self.now Cell.White) q) }
+        ensures { result ≡ is_admitted cell (is_marked (seen_as self.now Cell.Empty) q)
+            (is_marked (seen_as self.now Cell.Black) q) (is_marked (seen_as self.now Cell.White) q) }
     {
         let empty = self.empty.has(q);
         let black = self.black.has(q);
@@ -111,7 +114,8 @@ impl Facts {
     /// Whether the ban of the colour is as it was seen, if it was.
     fn ban_stands(&self, position: &Position, c: Colour, q: Point) -> bool
         requires { q < largest_points }
-        ensures { result ≡ (not (is_marked (asked_of self.now c) q) || same_bool (is_banned position.now.ban c q) (is_banned self.now.ban c q)) }
+        ensures { result ≡ (not (is_marked (asked_of self.now c) q)
+            || same_bool (is_banned position.now.ban c q) (is_banned self.now.ban c q)) }
     {
         if !self.is_asked(c, q) {
             return true;
@@ -138,10 +142,14 @@ impl Facts {
         if self.size != position.size() {
             return false;
         }
-        for q in 0..position.size().points() {
+        let end = position.size().points();
+        let about = self.about();
+        let mut next = 0;
+        while let Some(q) = about.first_from(next, end) {
             if !self.holds_at(position, q) {
                 return false;
             }
+            next = q + 1;
         }
         true
     }
@@ -150,25 +158,27 @@ impl Facts {
     pub fn points(&self) -> PointSet
         ensures { result ≡ set_below (self.now.size * self.now.size) (is_fact_at self.now) }
     {
+        let end = self.size.points();
+        let about = self.about();
         let mut points = PointSet::new();
-        for q in 0..self.size.points() {
-            if self.is_fact_at(q) {
-                points.add(q);
-            }
+        let mut next = 0;
+        while let Some(q) = about.first_from(next, end) {
+            points.add(q);
+            next = q + 1;
         }
         points
     }
 
-    fn is_fact_at(&self, q: Point) -> bool
-        requires { q < largest_points }
-        ensures { result ≡ is_fact_at self.now q }
+    /// A bit for each point that some fact is about.
+    fn about(&self) -> PointBits
+        ensures { (q : ℕ) → is_marked result q ≡ is_fact_at self.now q }
     {
-        let seen = either(
-            self.empty.has(q),
-            either(self.black.has(q), self.white.has(q)),
-        );
-        let asked = either(self.asked_of_black.has(q), self.asked_of_white.has(q));
-        either(seen, asked)
+        let mut about = self.empty;
+        about.join(&self.black);
+        about.join(&self.white);
+        about.join(&self.asked_of_black);
+        about.join(&self.asked_of_white);
+        about
     }
 }
 
@@ -176,12 +186,6 @@ fn all(a: bool, b: bool, c: bool) -> bool
     ensures { result ≡ (a && b && c) }
 {
     a && b && c
-}
-
-fn either(a: bool, b: bool) -> bool
-    ensures { result ≡ (a || b) }
-{
-    a || b
 }
 
 /// Whether the cell may be what was seen, where it was seen to be empty, to hold a black stone or a white one.

@@ -1,21 +1,37 @@
-use Rattle.std.proofs.Common.{◌≡◌, ap, sym, ◌∙◌, ◌*◌, arith}
+use Rattle.std.proofs.Common.{ℕ, ◌≡◌, ◌<◌, ◌≤◌, false, ap, sym, ◌∙◌, arith}
 use Rattle.std.specs.FinSet as set
 use Rattle.go_rules.specs.Below.{set_below}
-use Rattle.go_rules.proofs.Sets.{set_below-none, set_below-hit, set_below-miss}
+use Rattle.go_rules.proofs.Sets.{set_below-none}
 use Rattle.go_base.specs.Told.{is_fact_at}
+use Rattle.go_base.proofs.About.{set_below-skip, set_below-next}
 use Rattle.go_base.proofs.facts.Facts.points.Goals as goal
-use Rattle.go_base.proofs.facts.Facts.points.Goals.{then-is_fact_at, else-is_fact_at}
 
+-- no point is below 0
 pub loop-q-init : goal.loop-q-init
-loop-q-init c = c.new-points.ensures ∙ set_below-none _
+loop-q-init c = record { within = omega arith; come = c.new-points.ensures ∙ set_below-none _ }
 
+-- the next point came
 pub loop-q-preserved : goal.loop-q-preserved
-loop-q-preserved c = elim c.if-is_fact_at.branch [
-  | then-is_fact_at w ↦ w.points-is ∙ w.add.ensures ∙ ap (λ t. set.insert t c.loop-q.q) c.loop-q.invariant ∙ set_below-hit c.loop-q.q (is_fact_at c.args.self.now) (sym c.is_fact_at.ensures ∙ w.if-is_fact_at.true)
-  | else-is_fact_at w ↦ w.points-is ∙ c.loop-q.invariant ∙ set_below-miss c.loop-q.q (is_fact_at c.args.self.now) (sym c.is_fact_at.ensures ∙ w.if-is_fact_at.false)
-]
+loop-q-preserved c =
+    let next = c.loop-q.next in
+    let q = c.in-Some.q in
+    let about = c.about-about.ensures in
+    let s = c.in-Some.ensures.some in
+    let hit = sym (about q) ∙ s.2 in
+    record {
+      within = omega (arith, s.1);
+      come = c.add.ensures ∙ ap (λ t. set.insert t q) c.loop-q.invariant.come
+          ∙ set_below-next (is_fact_at c.args.self.now) next q s.0 (λ r l m. sym (about r) ∙ s.3 r l m) hit;
+    }
 
+-- no point is left
 pub returns : goal.returns
 returns c =
-    let e : c.loop-q.q ≡ c.args.self.now.size * c.args.self.now.size = omega arith in
-    c.loop-q.invariant ∙ ap (λ n. set_below n (is_fact_at c.args.self.now)) e
+    let f = c.args.self.now in
+    let next = c.loop-q.next in
+    let end = c.points-end.result in
+    let none : (r : ℕ) → next ≤ r → r < end → is_fact_at f r ≡ false =
+    λ r l m. sym (c.about-about.ensures r) ∙ c.in_default.ensures.none r l m in
+    c.loop-q.invariant.come
+    ∙ set_below-skip (is_fact_at f) next end c.loop-q.invariant.within none
+    ∙ ap (λ n. set_below n (is_fact_at f)) c.points-end.ensures.value
