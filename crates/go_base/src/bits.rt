@@ -2,12 +2,15 @@
 
 ghost use Rattle.std.specs.Prelude.{◌≡◌, ◌≢◌, ℕ, ◌<◌, ◌≤◌, ◌||◌, IsTrue, false};
 ghost use Rattle.std.specs.Prelude.{IfSome, IfNone, Some, None, nat_lt, if◌then◌else◌};
+ghost use Rattle.std.specs.Int.{bit_at};
 ghost use Rattle.go_rules.specs.Board.{largest_points};
 ghost use Rattle.go_base.specs.Bits.{is_marked};
 
-use crate::points::{WORD_BITS, lowest_bit};
 use crate::size::{MAX_POINTS, Point};
 use std::marker::Model;
+
+/// How many bits a word has.
+const WORD_BITS: u16 = 64;
 
 /// How many words of 64 bits have a bit for each point of the largest board.
 pub const WORDS: usize = (MAX_POINTS + 63) / 64;
@@ -73,8 +76,8 @@ impl PointBits {
     }
 }
 
-/// The least point from `first` on that the words mark, None exactly where there is none below `end`.
-pub(crate) fn first_marked(words: &[u64; WORDS], first: u16, end: u16) -> Option<Point>
+/// The least point from `first` on that the words mark, None exactly where there is none below `end`. It takes no memory.
+pub fn first_marked(words: &[u64; WORDS], first: u16, end: u16) -> Option<Point>
     requires { end ≤ largest_points }
     ensures some { IfSome result (λ q. (first ≤ q) × (q < end) × IsTrue (is_marked words.now q)
         × ((r : ℕ) → first ≤ r → r < q → is_marked words.now r ≡ false)) }
@@ -93,9 +96,24 @@ pub(crate) fn first_marked(words: &[u64; WORDS], first: u16, end: u16) -> Option
     None
 }
 
-/// The point, where it is below the end.
-pub(crate) fn point_below(q: u16, end: u16) -> Option<Point>
+// The point, where it is below the end.
+fn point_below(q: u16, end: u16) -> Option<Point>
     ensures { result ≡ (if nat_lt q end then Some q else None) }
 {
     if q < end { Some(q) } else { None }
+}
+
+// The place of the lowest set bit that is not below `from`, and 64 where there is none.
+fn lowest_bit(word: u64, from: u16) -> u16
+    requires { from < 64 }
+    ensures bound { result ≤ 64 }
+    ensures hit { result < 64 → bit_at word result ≡ 1 }
+    ensures misses { (k : ℕ) → from ≤ k → k < result → bit_at word k ≡ 0 }
+    ensures low { from ≤ result }
+{
+    let rest = word >> from;
+    if rest == 0 {
+        return WORD_BITS;
+    }
+    from + rest.trailing_zeros() as u16
 }

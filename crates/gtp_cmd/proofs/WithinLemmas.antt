@@ -1,6 +1,6 @@
 -- The points that a line names lie on the board of the machine that reads it, and its depths in their ranges.
-use Rattle.std.proofs.Common.{◌≡◌, ℕ, zero, suc, ◌+◌, ◌-◌, ◌*◌, ◌<◌, ◌≤◌, Bool, true, false, cond, ltb, leb, ◌&&◌, List}
-use Rattle.std.proofs.Common.{[], ◌∷◌, Option, Some, None, IfSome, refl, sym, ap, subst, ◌∙◌, arith}
+use Rattle.std.proofs.Common.{◌≡◌, ℕ, ◌-◌, ◌*◌, ◌<◌, ◌≤◌, Bool, true, false, cond, ltb, leb, ◌&&◌, List}
+use Rattle.std.proofs.Common.{[], ◌∷◌, Option, Some, None, IfSome, refl, arith}
 use Rattle.std.specs.Option.{option_map, option_and_then}
 use Rattle.std.specs.Str.{bytes_eq, str_to_ascii_lowercase}
 use Rattle.std.specs.Prelude.{codes}
@@ -8,13 +8,12 @@ use Rattle.std.proofs.lemmas.Nat.{mul-add-lt}
 use Rattle.std.proofs.lemmas.Bool.Decides.{nat_tests}
 use Rattle.go_rules.specs.declared.Colour.{Colour}
 use Rattle.go_rules.specs.Board.{point_at}
-use Rattle.gtp_cmd.specs.Words.{words_of, cleaned, id_of, number_of}
+use Rattle.gtp_cmd.specs.Words.{number_of}
 use Rattle.gtp_cmd.specs.Vertices.{vertex_of, point_of, column_named, row_number_of, target_of}
 use Rattle.gtp_cmd.specs.Colours.{colour_of}
 use Rattle.gtp_cmd.specs.Komi.{komi_of}
 use Rattle.gtp_cmd.specs.Commands.{first_argument, known_of, size_of, move_of, number_between, most_plies, most_wide}
-use Rattle.gtp_cmd.specs.Commands.{depths_of, command_of, named, asked, called, said, said_with, parsed_words}
-use Rattle.gtp_cmd.specs.Commands.{parsed_of}
+use Rattle.gtp_cmd.specs.Commands.{depths_of, command_of, named, asked, called, said}
 use Rattle.gtp_cmd.specs.declared.commands.CommandName.{CommandName}
 use Rattle.gtp_cmd.specs.declared.commands.CommandName.TheVariants as name
 use Rattle.gtp_cmd.specs.declared.commands.Command.{Command}

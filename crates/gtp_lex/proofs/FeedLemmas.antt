@@ -1,8 +1,8 @@
 -- What one piece does to the line that is held.
-use Rattle.std.proofs.Common.{◌≡◌, ℕ, ◌+◌, ◌<◌, Bool, true, false, eqb, List, [], ◌∷◌, ◌++◌, length, take, get_or, refl}
-use Rattle.std.proofs.Common.{sym, ap, subst, ◌∙◌, arith}
+use Rattle.std.proofs.Common.{◌≡◌, ℕ, ◌+◌, ◌<◌, true, false, eqb, List, ◌++◌, length, take, get_or}
+use Rattle.std.proofs.Common.{sym, ap, ◌∙◌}
 use Rattle.std.specs.List.{All}
-use Rattle.gtp_rules.specs.Lines.{Line, line_of, line_feed}
+use Rattle.gtp_rules.specs.Lines.{line_of, line_feed}
 use Rattle.gtp_lex.specs.Held.{lines_from, held_from}
 use Rattle.gtp_lex.specs.Lines.{LinesState, Feeds}
 use Rattle.gtp_lex.specs.LinesView.{state_of}

@@ -1,5 +1,5 @@
 -- What `take` and `finish` say of the line that they give.
-use Rattle.std.specs.Prelude.{List, [], false}
+use Rattle.std.specs.Prelude.{[], false}
 use Rattle.gtp_rules.specs.Lines.{RawLine, Line, TooLong}
 use Rattle.gtp_lex.specs.Lines.{LinesState, given_of}
 use Rattle.gtp_lex.specs.declared.lines.Taken.{Taken}

@@ -1,6 +1,6 @@
 -- What holds of the texts that bytes are cut into.
-use Rattle.std.proofs.Common.{◌≡◌, ℕ, Bool, true, false, cond, eqb, List, [], ◌∷◌, ◌++◌, refl, sym, ap, subst, ◌∙◌}
-use Rattle.std.specs.List.{slice_split, onto_first}
+use Rattle.std.proofs.Common.{◌≡◌, ℕ, true, false, cond, eqb, List, [], ◌∷◌, ◌++◌, refl, sym, ap, subst}
+use Rattle.std.specs.List.{onto_first}
 use Rattle.gtp_rules.specs.Lines.{line_feed, texts_of, all_but_last, last_text, ended_texts, rest_of}
 
 -- bytes are cut into at least one text

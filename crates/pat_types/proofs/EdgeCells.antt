@@ -1,13 +1,11 @@
 -- The drawn cells of a pattern are its letters and its edges, as a reader of the diagram sees them.
-use Rattle.std.proofs.Common.{◌≡◌, ℕ, ◌+◌, ◌*◌, ◌<◌, Bool, true, false, cond, eqb, ltb, get_or, refl, sym, ap, ◌∙◌, inl, inr, ◌⊎◌, ⊎_elim, arith}
-use Rattle.std.specs.Prelude.{IsTrue, ℤ, pos, negsuc, nat_lt, ◌==◌, ◌&&◌, slice_index_or}
-use Rattle.std.proofs.lemmas.Bool.{cases_eq, lt-ltb, le-ltb, ltb-true, eq-eqb, eqb-true, and_parts}
+use Rattle.std.proofs.Common.{◌≡◌, ℕ, ◌<◌, Bool, true, false, cond, refl, sym, ap, ◌∙◌, inl, inr, ◌⊎◌, arith}
+use Rattle.std.specs.Prelude.{IsTrue, ℤ, pos, negsuc, nat_lt, ◌==◌, ◌&&◌}
+use Rattle.std.proofs.lemmas.Bool.{lt-ltb, le-ltb, ltb-true, eq-eqb, eqb-true}
 use Rattle.pat_types.specs.declared.letter.Letter.{Letter}
-use Rattle.pat_types.specs.declared.letter.Letter.TheVariants.{Friend}
 use Rattle.pat_types.specs.declared.cell.Line.{Line}
 use Rattle.pat_types.specs.declared.cell.Line.TheVariants.{Crosses, Edge, Beyond}
-use Rattle.pat_types.specs.declared.cell.Drawn.{Drawn}
-use Rattle.pat_types.specs.declared.cell.Drawn.TheVariants.{Nothing, OffBoard, Shows}
+use Rattle.pat_types.specs.declared.cell.Drawn.TheVariants.{OffBoard, Shows}
 use Rattle.pat_types.specs.declared.pattern.Pattern.{Pattern}
 use Rattle.pat_types.specs.Cells.{line_at, drawn_by, drawn_at}
 use Rattle.pat_types.specs.Edges.{IsLineOf, IsBefore, IsBehind, IsLetterCell, IsEdgeCell, on_top, at_bottom, on_left, on_right, top_left, top_right, bottom_left, bottom_right, IsDrawnAsSeen}

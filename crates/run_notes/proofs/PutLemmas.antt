@@ -1,5 +1,5 @@
 -- One put after another.
-use Rattle.std.proofs.Common.{◌≡◌, ◌⊎◌, ◌∙◌, ◌<◌, ◌+◌, ◌-◌, ◌++◌, ◌∷◌, ℕ, suc, List, [], Option, Some, None, Result, Ok}
+use Rattle.std.proofs.Common.{◌≡◌, ◌∙◌, ◌<◌, ◌+◌, ◌-◌, ◌++◌, ◌∷◌, ℕ, suc, List, [], Option, Result, Ok}
 use Rattle.std.proofs.Common.{Err, OnOk, OnErr, length, take, drop, get_or, ap, refl, sym, subst, inl, inr}
 use Rattle.std.proofs.Common.{append_assoc, append-nil, drop-cons}
 use Rattle.std.specs.List.{concat}

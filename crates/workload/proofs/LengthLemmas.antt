@@ -4,7 +4,7 @@ use Rattle.std.proofs.Common.{List, ◌++◌, length, refl, sym, ap, subst, ◌�
 use Rattle.std.proofs.lemmas.Fmt.{decimal_digit}
 use Rattle.gtp_cmd.specs.Vertices.{vertex_text}
 use Rattle.workload.specs.GeneratedLines.{rows, number_of_line, point_of_number, colour_of_line, line_with, line_at}
-use Rattle.workload.specs.GeneratedLines.{lines_after, opening_lines, ended, text_of, generated_text}
+use Rattle.workload.specs.GeneratedLines.{lines_after, ended, text_of, generated_text}
 
 -- a vertex of the board has two bytes
 vertex_length : (p : ℕ) → length (vertex_text rows p) ≡ 2

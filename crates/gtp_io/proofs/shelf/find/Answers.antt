@@ -1,5 +1,5 @@
 -- The name was compared with the i-th, and those before it are other names.
-use Rattle.std.proofs.Common.{◌≡◌, ◌∙◌, sym, ap, subst, Bool, false, true, List, ℕ}
+use Rattle.std.proofs.Common.{◌∙◌, sym, ap}
 use Rattle.std.specs.Str.{bytes_eq}
 use Rattle.std.specs.String.{string_bytes}
 use Rattle.gtp_io.proofs.Names.{named-drop, named-here}

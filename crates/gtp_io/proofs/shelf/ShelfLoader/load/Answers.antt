@@ -1,5 +1,5 @@
 -- The call is listed, or the name is not there.
-use Rattle.std.proofs.Common.{◌≡◌, ℕ, List, map, Option, None, rules, inl, inr, ap, ◌∙◌}
+use Rattle.std.proofs.Common.{◌≡◌, ℕ, List, map, None, rules, inl, inr, ap, ◌∙◌}
 use Rattle.std.specs.String.{string_bytes}
 use Rattle.gtp_io.specs.Loading.{named}
 use Rattle.gtp_io.specs.Memory.{ShelfState}

@@ -1,6 +1,6 @@
 use Rattle.std.proofs.Common.{arith}
 use Rattle.go_base.proofs.Lowest.{nothing_left, lowest_from}
-use Rattle.go_base.proofs.points.lowest_bit.Goals as goal
+use Rattle.go_base.proofs.bits.lowest_bit.Goals as goal
 
 -- nothing is left of the word
 pub returns-then-rest-eq0-clause-misses : goal.returns-then-rest-eq0-clause-misses
