@@ -121,6 +121,12 @@ def counts(notes: list[str]) -> dict[str, int]:
     return {words[i]: int(words[i + 1]) for i in range(0, 8, 2)}
 
 
+def command_of(line: str) -> str:
+    """The command of a line, without its id and its arguments."""
+    words = line.split()
+    return words[1] if words[0].isdigit() else words[0]
+
+
 def without(session: Session, place: int) -> Session:
     """The session without the line at a place, with the lines that are left as its input."""
     words = [word for word in session.words if word not in GENERATE]
@@ -139,7 +145,7 @@ def told(gopat: str, session: Session, folder: Path, ample: Ran, ran: Ran) -> tu
         wanted = run(gopat, without(session, refused[0]), folder, None)
         others = ran.replies[: refused[0]] + ran.replies[refused[0] + 1 :]
         fits = others == wanted.replies and counts(ran.notes) == counts(wanted.notes)
-        return f"`{session.lines[refused[0]].split()[-2 if session.lines[refused[0]][0].isdigit() else 0]}` refused", None if fits else f"{ran}"
+        return f"`{command_of(session.lines[refused[0]])}` refused", None if fits else f"{ran}"
     before, after = counts(ample.notes), counts(ran.notes)
     kind = "keeping refused" if after["refused"] == 1 else "no effect"
     fits = ran.replies == ample.replies and before["readings"] == after["readings"] and after["refused"] <= 1

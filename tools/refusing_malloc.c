@@ -24,41 +24,50 @@ static int is_refused(void)
     return 1;
 }
 
-#define NEXT(name, type) \
-    static type next; \
-    if (!next) \
-        next = (type)dlsym(RTLD_NEXT, name)
+typedef void *(*Malloc)(size_t);
+typedef void *(*Realloc)(void *, size_t);
+typedef void *(*AlignedAlloc)(size_t, size_t);
+typedef int (*PosixMemalign)(void **, size_t, size_t);
 
 void *malloc(size_t size)
 {
-    NEXT("malloc", void *(*)(size_t));
+    static Malloc next;
+    if (!next)
+        next = (Malloc)dlsym(RTLD_NEXT, "malloc");
     return is_refused() ? NULL : next(size);
 }
 
 void *realloc(void *old, size_t size)
 {
-    NEXT("realloc", void *(*)(void *, size_t));
+    static Realloc next;
+    if (!next)
+        next = (Realloc)dlsym(RTLD_NEXT, "realloc");
     return is_refused() ? NULL : next(old, size);
 }
 
 void *aligned_alloc(size_t alignment, size_t size)
 {
-    NEXT("aligned_alloc", void *(*)(size_t, size_t));
+    static AlignedAlloc next;
+    if (!next)
+        next = (AlignedAlloc)dlsym(RTLD_NEXT, "aligned_alloc");
     return is_refused() ? NULL : next(alignment, size);
 }
 
 int posix_memalign(void **place, size_t alignment, size_t size)
 {
-    NEXT("posix_memalign", int (*)(void **, size_t, size_t));
+    static PosixMemalign next;
+    if (!next)
+        next = (PosixMemalign)dlsym(RTLD_NEXT, "posix_memalign");
     return is_refused() ? ENOMEM : next(place, alignment, size);
 }
 
 __attribute__((destructor)) static void tell(void)
 {
+    unsigned long made = calls; /* opening the file allocates too */
     const char *name = getenv("COUNT_FILE");
     FILE *file = name ? fopen(name, "w") : NULL;
     if (file) {
-        fprintf(file, "%lu\n", calls);
+        fprintf(file, "%lu\n", made);
         fclose(file);
     }
 }
