@@ -1,9 +1,9 @@
 -- The entries of the map, as they are seen, change as the map does.
-use Rattle.std.proofs.Common.{◌≡◌, ℕ, zero, suc, ◌-◌, Bool, true, false, cond, List, [], ◌∷◌, map, take, Option, Some, None, IsSome, Result, Ok, Err, OnErr, refl, sym, ap, ◌∙◌}
+use Rattle.std.proofs.Common.{◌≡◌, ℕ, zero, suc, ◌-◌, Bool, true, false, cond, List, [], ◌∷◌, take, Option, Some, None, IsSome, Result, Ok, Err, OnErr, refl, sym, ap, ◌∙◌}
 use Rattle.std.specs.Option.{option_map_or}
 use Rattle.std.specs.Map.{lookup, lookup_entry, remove_entry}
 use Rattle.smallvec.specs.SmallVec.{SmallVec}
-use Rattle.lru.specs.LruCache.{LruCache, put_entries}
+use Rattle.lru.specs.LruCache.{LruCache, promoted, put_entries}
 use Rattle.read_cache.specs.Kept.{Kept, IsSound, AreVariants, seen_entries, variants_of, put_first}
 use Rattle.read_cache.proofs.Sound.{found_are}
 use Rattle.go_rules.specs.Position.{BoardState}
@@ -61,6 +61,19 @@ module _ {Q A : Type 0} where
     seen-remove_entry : (es : List (Entry Q A)) → seen_entries (remove_entry test es) ≡ remove_entry test (seen_entries es)
     seen-remove_entry [] = refl
     seen-remove_entry (e ∷ es) = cond-entries (test e.0) es (e ∷ remove_entry test es) ∙ ap (λ rest. cond (test e.0) (seen_entries es) (seen e ∷ rest)) (seen-remove_entry es)
+
+    promoted_by : (es : List (Entry Q A)) (o : Option (Entry Q A))
+        → seen_entries (option_map_or (λ e. e ∷ remove_entry test es) o es)
+        ≡ option_map_or (λ e. e ∷ remove_entry test (seen_entries es)) (seen_option o) (seen_entries es)
+    promoted_by es None = refl
+    promoted_by es (Some e) = ap (λ rest. seen e ∷ rest) (seen-remove_entry es)
+
+    -- the entries with one first
+    pub seen-promoted : (es : List (Entry Q A)) → seen_entries (promoted test es) ≡ promoted test (seen_entries es)
+    seen-promoted es =
+        promoted_by es (lookup_entry test es)
+        ∙ ap (λ o. option_map_or (λ e. e ∷ remove_entry test (seen_entries es)) o (seen_entries es))
+        (sym (seen-lookup_entry es))
 
   module _ (eq : Q → Q → Bool) (c : LruCache Q (SmallVec (Variant A))) (k : Q) (v : SmallVec (Variant A)) where
     by_entry : (o : Option (Entry Q A)) → lookup_entry (eq k) c.entries ≡ o

@@ -1,5 +1,5 @@
 -- What is kept stays right.
-use Rattle.std.proofs.Common.{◌≡◌, ◌∙◌, ◌⊎◌, inl, inr, sym, ap, subst, Bool, true, Contains, List, [], ◌∷◌, ◌++◌, ℕ, suc, ◌+◌, ◌<◌, ◌≤◌, length, take, drop, length-append, lit≤, arith, Option, Some}
+use Rattle.std.proofs.Common.{◌≡◌, ◌∙◌, ◌⊎◌, inl, inr, sym, ap, subst, Bool, true, Contains, List, [], ◌∷◌, ◌++◌, ℕ, suc, ◌+◌, length, take, drop, length-append, lit≤, arith, Some}
 use Rattle.std.proofs.lemmas.List.{length-take}
 use Rattle.std.proofs.lemmas.List.Elements.{Contains-append_left, Contains-append_right, Contains-append_cases}
 use Rattle.std.specs.Map.{lookup}
@@ -8,7 +8,6 @@ use Rattle.lru.proofs.CallerLemmas.{Contains-put_entries, Contains-lookup, Conta
 use Rattle.lru.proofs.Splits.{Contains-head, Contains-tail, Contains-cons, Contains-nil}
 use Rattle.go_rules.specs.Position.{BoardState}
 use Rattle.read_cache.specs.Kept.{Kept, IsRight, AreVariants, IsSound, put_first}
-use Rattle.read_cache.specs.Variants.{IsFirstStanding, most_variants}
 use Rattle.read_cache.specs.declared.variants.Variant.{Variant}
 
 module _ {Q A : Type 0} (meaning : Q → BoardState → A) (eq : Q → Q → Bool) (same : (p q : Q) → eq p q ≡ true → (pos : BoardState) → meaning p pos ≡ meaning q pos) where
@@ -42,29 +41,42 @@ module _ {Q A : Type 0} (meaning : Q → BoardState → A) (eq : Q → Q → Boo
       ]
 
 module _ {A : Type 0} (meaning : BoardState → A) where
-  -- the variants with one of them brought to the front are these variants
-  AreVariants-brought : (pos : BoardState) (vs front : List (Variant A)) (i : ℕ) (first : IsFirstStanding pos vs i)
-      → front ≡ first.found ∷ take i vs ++ drop (i + 1) vs → AreVariants meaning vs → AreVariants meaning front
-  AreVariants-brought pos vs front i first is are = record {
-    right = λ v there. are.right v (elim (Contains-cons first.found (take i vs ++ drop (i + 1) vs) v (subst (λ xs. Contains xs v) is there)) [
-      | inl same ↦ again v (Contains-append_right (take i vs) (first.found ∷ drop (i + 1) vs) v (subst (Contains (first.found ∷ drop (i + 1) vs)) same (Contains-head first.found (drop (i + 1) vs))))
-      | inr other ↦ elim (Contains-append_cases (take i vs) (drop (i + 1) vs) v other) [
-        | inl earlier ↦ again v (Contains-append_left (take i vs) (first.found ∷ drop (i + 1) vs) v earlier)
-        | inr later ↦ again v (Contains-append_right (take i vs) (first.found ∷ drop (i + 1) vs) v (Contains-tail first.found (drop (i + 1) vs) v later))
-      ]
-    ]);
-    some = omega (arith, as_many, are.some);
-    few = omega (arith, as_many, are.few);
-  }
-    where
-      again : (v : Variant A) → Contains (take i vs ++ first.found ∷ drop (i + 1) vs) v → Contains vs v
-      again v there = subst (λ xs. Contains xs v) (sym first.there) there
+  module _ (vs front : List (Variant A)) (i : ℕ) (found : Variant A) (at : vs ≡ take i vs ++ found ∷ drop (i + 1) vs)
+      (is : front ≡ found ∷ take i vs ++ drop (i + 1) vs) where
+    again : (v : Variant A) → Contains (take i vs ++ found ∷ drop (i + 1) vs) v → Contains vs v
+    again v there = subst (λ xs. Contains xs v) (sym at) there
 
-      as_many : length front ≡ length vs
-      as_many =
-          let one = length-append (take i vs) (drop (i + 1) vs) in
-          let all = length-append (take i vs) (first.found ∷ drop (i + 1) vs) in
-          ap length is ∙ (let same : suc (length (take i vs ++ drop (i + 1) vs)) ≡ length (take i vs ++ first.found ∷ drop (i + 1) vs) = omega (arith, one, all) in same) ∙ sym (ap length first.there)
+    -- what is from the place on is one of the variants
+    from_place : (v : Variant A) → Contains (found ∷ drop (i + 1) vs) v → Contains vs v
+    from_place v there = again v (Contains-append_right (take i vs) (found ∷ drop (i + 1) vs) v there)
+
+    -- each variant of the front is one of the variants
+    among : (v : Variant A) → Contains (found ∷ take i vs ++ drop (i + 1) vs) v → Contains vs v
+    among v there = elim (Contains-cons found (take i vs ++ drop (i + 1) vs) v there) [
+      | inl same ↦
+          from_place v (subst (Contains (found ∷ drop (i + 1) vs)) same (Contains-head found (drop (i + 1) vs)))
+      | inr other ↦ elim (Contains-append_cases (take i vs) (drop (i + 1) vs) v other) [
+        | inl earlier ↦ again v (Contains-append_left (take i vs) (found ∷ drop (i + 1) vs) v earlier)
+        | inr later ↦ from_place v (Contains-tail found (drop (i + 1) vs) v later)
+      ]
+    ]
+
+    -- the front has as many as the variants
+    as_many : length front ≡ length vs
+    as_many =
+        let one = length-append (take i vs) (drop (i + 1) vs) in
+        let all = length-append (take i vs) (found ∷ drop (i + 1) vs) in
+        let same : suc (length (take i vs ++ drop (i + 1) vs)) ≡ length (take i vs ++ found ∷ drop (i + 1) vs) =
+        omega (arith, one, all) in
+        ap length is ∙ same ∙ sym (ap length at)
+
+    -- the variants with one of them brought to the front are these variants
+    pub AreVariants-brought : AreVariants meaning vs → AreVariants meaning front
+    AreVariants-brought are = record {
+      right = λ v there. are.right v (among v (subst (λ xs. Contains xs v) is there));
+      some = omega (arith, as_many, are.some);
+      few = omega (arith, as_many, are.few);
+    }
 
   -- a variant that is right before three of the variants
   pub AreVariants-with : (v : Variant A) (vs : List (Variant A)) → IsRight meaning v → AreVariants meaning vs → AreVariants meaning (v ∷ take 3 vs)
@@ -87,20 +99,3 @@ module _ {A : Type 0} (meaning : BoardState → A) where
     some = lit≤ tt;
     few = lit≤ tt;
   }
-
-  -- there are at most four, and the first that stands is one of them
-  pub few_of : (pos : BoardState) (items slice again : List (Variant A)) (place : ℕ) → slice ≡ items → again ≡ items → AreVariants meaning items → IsFirstStanding pos slice place
-      → (place < length again) × (length again ≤ most_variants)
-  few_of pos items slice again place is is_again are first = (
-    subst (λ vs. place < length vs) (is ∙ sym is_again) first.within,
-    subst (λ vs. length vs ≤ most_variants) (sym is_again) are.few,
-  )
-
-  -- the variants with the first that stands brought to the front are these variants
-  pub AreVariants-by : (pos : BoardState) (items slice again front : List (Variant A)) (place : ℕ) → slice ≡ items → again ≡ items → IsFirstStanding pos slice place
-      → ((found : Variant A) → again ≡ take place again ++ found ∷ drop (place + 1) again → front ≡ found ∷ take place again ++ drop (place + 1) again)
-      → AreVariants meaning items → AreVariants meaning front
-  AreVariants-by pos items slice again front place is is_again first brought are =
-      let here = subst (λ vs. IsFirstStanding pos vs place) is first in
-      let family : List (Variant A) → Type 0 = λ vs. (found : Variant A) → vs ≡ take place vs ++ found ∷ drop (place + 1) vs → front ≡ found ∷ take place vs ++ drop (place + 1) vs in
-      AreVariants-brought pos items front place here (subst family is_again brought here.found here.there) are

@@ -1,10 +1,11 @@
 -- Which variants stand, one after another.
-use Rattle.std.proofs.Common.{◌≡◌, ◌∙◌, ◌⊎◌, inl, inr, sym, ap, subst, Contains, List, [], ◌∷◌, ◌++◌, ℕ, ◌+◌, ◌-◌, ◌<◌, le_of_lt, le_refl, arith, length, get_or, take, drop, Bool, Some, None}
+use Rattle.std.proofs.Common.{◌≡◌, ◌∙◌, inl, inr, sym, ap, subst, Contains, List, [], ◌∷◌, ◌++◌, ℕ, ◌+◌, ◌-◌, ◌<◌, le_of_lt, le_refl, arith, length, get_or, take, drop, Bool, Some, None}
 use Rattle.std.proofs.lemmas.List.{take_more, drop_more, take-append-drop, length-take-le, get_or-append_right}
 use Rattle.std.proofs.lemmas.List.Elements.{Contains-append_cases}
 use Rattle.lru.proofs.Splits.{Contains-cons, Contains-nil}
 use Rattle.go_rules.specs.Position.{BoardState}
-use Rattle.read_cache.specs.Kept.{Kept, variants_of, IsBrought, IsMissing}
+use Rattle.read_cache.specs.Kept.{Kept, variants_of, IsMissing}
+use Rattle.read_cache.specs.Places.{StandsAt}
 use Rattle.read_cache.specs.Variants.{Stands, NoneStands, IsFirstStanding}
 use Rattle.read_cache.specs.declared.variants.Variant.{Variant}
 
@@ -14,6 +15,11 @@ found_at {variants} {i} first d =
     let none : i - i ≡ 0 = omega arith in
     ap (λ vs. get_or vs i d) first.there ∙ get_or-append_right (take i variants) (first.found ∷ drop (i + 1) variants) i i d (length-take-le i variants (le_of_lt first.within)) (le_refl i)
     ∙ ap (λ n. get_or (first.found ∷ drop (i + 1) variants) n d) none
+
+-- the answer that is read at the place is that of the first that stands
+pub answer_at : {A : Type 0} {pos : BoardState} {slice vs : List (Variant A)} {i : ℕ} (first : IsFirstStanding pos vs i)
+    (d : Variant A) → slice ≡ vs → (get_or slice i d).answer ≡ first.found.answer
+answer_at {i} first d same = ap (λ xs. (get_or xs i d).answer) same ∙ ap (λ v. v.answer) (found_at first d)
 
 module _ {A : Type 0} (pos : BoardState) (variants : List (Variant A)) (i : ℕ) (found : Variant A) (low : i < length variants) (read : found ≡ get_or variants i found)
     (before : NoneStands pos (take i variants)) where
@@ -41,14 +47,14 @@ module _ {A : Type 0} (pos : BoardState) (variants : List (Variant A)) (i : ℕ)
   }
 
 module _ {Q A : Type 0} (eq : Q → Q → Bool) (q : Q) (pos : BoardState) (old : Kept Q A) where
-  -- the first of the kept variants that stands was brought to the front
-  pub IsBrought-by : (items slice again front : List (Variant A)) (place : ℕ) → variants_of eq q old ≡ Some items → slice ≡ items → again ≡ items → IsFirstStanding pos slice place
-      → ((found : Variant A) → again ≡ take place again ++ found ∷ drop (place + 1) again → front ≡ found ∷ take place again ++ drop (place + 1) again)
-      → IsBrought eq q pos old front
-  IsBrought-by items slice again front place kept is is_again first brought =
+  -- the first of the kept variants that stands, with its answer
+  pub StandsAt-by : (items slice again : List (Variant A)) (place : ℕ) (d : Variant A)
+      → variants_of eq q old ≡ Some items
+      → slice ≡ items → again ≡ items → IsFirstStanding pos slice place
+      → StandsAt eq q old place pos (get_or again place d).answer
+  StandsAt-by items slice again place d kept is is_again first =
       let here = subst (λ vs. IsFirstStanding pos vs place) is first in
-      let family : List (Variant A) → Type 0 = λ vs. (found : Variant A) → vs ≡ take place vs ++ found ∷ drop (place + 1) vs → front ≡ found ∷ take place vs ++ drop (place + 1) vs in
-      record { variants = items; place = place; kept = kept; first = here; front_is = subst family is_again brought here.found here.there }
+      record { variants = items; is_kept = kept; first = here; answer_is = answer_at here d is_again }
 
   -- none of the kept variants stands
   pub IsMissing-by : (items slice : List (Variant A)) → variants_of eq q old ≡ Some items → slice ≡ items → NoneStands pos slice → IsMissing eq q pos old

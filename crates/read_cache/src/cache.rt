@@ -4,7 +4,9 @@ ghost use Rattle.std.specs.Prelude.{◌≡◌, ◌≤◌, ◌∷◌, Some, None,
 ghost use Rattle.go_rules.specs.Position.{BoardState};
 ghost use Rattle.go_base.specs.Facts.{Agrees};
 ghost use Rattle.go_base.specs.Told.{told};
-ghost use Rattle.read_cache.specs.Kept.{no_questions, variants_of, put_first, kept_first, variants_with, IsRight, AreVariants, IsBrought, IsFound, IsMissing};
+ghost use Rattle.read_cache.specs.Kept.{no_questions, variants_of, put_first, kept_first, variants_with};
+ghost use Rattle.read_cache.specs.Kept.{IsRight, AreVariants, IsFound, IsMissing};
+ghost use Rattle.read_cache.specs.Places.{HasAt, StandsAt, front_of};
 
 use crate::question::Question;
 use crate::variants::{Variant, Variants, alone, brought_to_front, first_standing, with_first};
@@ -57,26 +59,53 @@ impl<Q: Question> Cache<Q> {
         // What is found is the question's answer on the position.
         ensures right { IfSome result (λ answer. answer ≡ Q.meaning q.now position.now) }
     {
-        let front = self.brought_to_front(q, position)?;
-        let answer = front.as_slice()[0].answer;
-        match self.put(*q, front) {
-            Ok(()) => Some(answer),
-            Err(_) => unreachable!(),
-        }
+        let (place, answer) = self.standing(q, position)?;
+        self.bring(q, place);
+        Some(answer)
     }
 
-    /// The variants of the question with the first that stands on the position before the others.
-    fn brought_to_front(&self, q: &Q, position: &Position) -> Option<Variants<Q::Answer>>
-        ensures some { IfSome result (λ front. IsBrought Q.eq q.now position.now self.now front.items) }
-        ensures are { IfSome result (λ front. AreVariants (Q.meaning q.now) front.items) }
+    /// The place of the first variant of the question that stands on the position, and its answer.
+    fn standing(&self, q: &Q, position: &Position) -> Option<(usize, Q::Answer)>
+        ensures some { IfSome result (λ found. StandsAt Q.eq q.now self.now found.0 position.now found.1) }
+        ensures right { IfSome result (λ found. found.1 ≡ Q.meaning q.now position.now) }
         ensures none { IfNone result (IsMissing Q.eq q.now position.now self.now) }
     {
         match self.kept.peek(q) {
             Some(kept) => match first_standing(kept.as_slice(), position) {
-                Some(place) => Some(brought_to_front(self.alloc, kept.as_slice(), place)),
+                Some(place) => Some((place, kept.as_slice()[place].answer)),
                 None => None,
             },
             None => None,
+        }
+    }
+
+    /// Puts the question first, and its variant at a place before its others. The variants are copied only where it is
+    /// not the first of them already.
+    fn bring(&mut self, q: &Q, place: usize)
+        requires { HasAt Q.eq q.now self.old place }
+        ensures { (at : HasAt Q.eq q.now self.old place)
+            → self.new ≡ put_first Q.eq q.now (front_of Q.eq q.now self.old place at) self.old }
+    {
+        if place == 0 {
+            self.kept.promote(q);
+            return;
+        }
+        let front = self.brought_to_front(q, place);
+        match self.put(*q, front) {
+            Ok(()) => {}
+            Err(_) => unreachable!(),
+        }
+    }
+
+    /// The variants of the question with the one at a place before the others.
+    fn brought_to_front(&self, q: &Q, place: usize) -> Variants<Q::Answer>
+        requires { HasAt Q.eq q.now self.now place }
+        ensures front { (at : HasAt Q.eq q.now self.now place) → result.items ≡ front_of Q.eq q.now self.now place at }
+        ensures are { AreVariants (Q.meaning q.now) result.items }
+    {
+        match self.kept.peek(q) {
+            Some(kept) => brought_to_front(self.alloc, kept.as_slice(), place),
+            None => unreachable!(),
         }
     }
 

@@ -1,4 +1,4 @@
-use Rattle.std.proofs.Common.{Some, None, [], ◌∷◌, take, subst, sym, ap, ◌∙◌}
+use Rattle.std.proofs.Common.{[], ◌∷◌, take, subst, sym, ap, ◌∙◌}
 use Rattle.std.specs.Option.{option_copied, option_map_or}
 use Rattle.read_cache.specs.Kept.{AreVariants}
 use Rattle.read_cache.proofs.Seen.{variants_of-there, variants_of-none, variants_are}
