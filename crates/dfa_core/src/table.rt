@@ -1,10 +1,12 @@
-//! The flat table of an automaton: four vectors for all rows.
+//! The flat table of an automaton: five vectors for all rows.
 ghost use Rattle.std.specs.Prelude.{◌≡◌, ◌+◌, ◌<◌, ◌≤◌, ◌++◌, ◌∷◌, [], length, take, IfOk};
 ghost use Rattle.dfa_core.specs.Automata.{Row, row_at, step_at};
 ghost use Rattle.dfa_core.specs.Words.{letter_number};
 ghost use Rattle.dfa_core.specs.Tables.{part_of, numbers_of};
+ghost use Rattle.dfa_core.specs.Marks.{mark_at};
 
 use crate::automaton::Seen;
+use crate::mark::{Mark, mark_of};
 use go_base::NoMemory;
 use std::alloc::Global;
 use std::marker::Model;
@@ -20,18 +22,21 @@ pub struct Table {
     numbers: Vec<u16>,
     /// The depth of each row.
     depths: Vec<u16>,
+    /// The mark of each row, which a walk asks for at each step.
+    marks: Vec<Mark>,
 }
 
 impl Model for Table {
     ghost use Rattle.std.specs.Prelude.{List};
     ghost use Rattle.dfa_core.specs.Automata.{Row};
-    ghost use Rattle.dfa_core.specs.Tables.{rows_in, IsFlat};
+    ghost use Rattle.dfa_core.specs.Tables.{rows_in};
+    ghost use Rattle.dfa_core.specs.Marks.{IsMarked};
 
     ghost Value = { List Row };
 
     ghost view = { λ t. rows_in (record { targets = t.targets.items; starts = t.starts.items; numbers = t.numbers.items; depths = t.depths.items }) };
 
-    ghost invariant = { λ t. IsFlat (record { targets = t.targets.items; starts = t.starts.items; numbers = t.numbers.items; depths = t.depths.items }) };
+    ghost invariant = { λ t. IsMarked (record { targets = t.targets.items; starts = t.starts.items; numbers = t.numbers.items; depths = t.depths.items }) t.marks.items };
 }
 
 /// The place of a letter's target among the four of a row.
@@ -63,6 +68,7 @@ impl Table {
             starts,
             numbers: Vec::new(alloc),
             depths: Vec::new(alloc),
+            marks: Vec::new(alloc),
         })
     }
 
@@ -81,17 +87,21 @@ impl Table {
             mut starts,
             mut numbers,
             mut depths,
+            mut marks,
         } = self;
+        let mark = mark_of(depths.len(), targets_of_row, first, second);
         targets.extend_from_slice(&targets_of_row)?;
         numbers.extend_from_slice(first)?;
         numbers.extend_from_slice(second)?;
         starts.push(numbers.len())?;
         depths.push(depth)?;
+        marks.push(mark)?;
         Ok(Table {
             targets,
             starts,
             numbers,
             depths,
+            marks,
         })
     }
 
@@ -116,6 +126,14 @@ impl Table {
         ensures { result ≡ (row_at self.now row).depth }
     {
         self.depths[row as usize]
+    }
+
+    /// The mark of a row.
+    pub fn mark(&self, row: u32) -> Mark
+        requires { row < length self.now }
+        ensures { result ≡ mark_at self.now row }
+    {
+        self.marks[row as usize]
     }
 
     /// The numbers of all rows, one row after the other.

@@ -14,7 +14,8 @@ use Rattle.dfa_match.specs.declared.Hit.{Hit}
 use Rattle.dfa_match.specs.Sights.{seen_at, word_at}
 use Rattle.dfa_match.specs.Hits.{IsHit}
 use Rattle.dfa_match.specs.Fitting.{IsFit}
-use Rattle.dfa_match.proofs.Fitting.{word_length, fits_from_match, match_from_fits}
+use Rattle.dfa_match.proofs.SeenWords.{word_length}
+use Rattle.dfa_match.proofs.Fitting.{fits_from_match, match_from_fits}
 
 -- a number among those from k on is that of a pattern that matches
 pub record IsNumbered (k : ℕ) (ps : List Pattern) (w : Word) (n : ℕ) : Type 0 where
@@ -67,7 +68,7 @@ module _ (patterns : List Pattern) (machine : List Row) (at : BoardState) (frien
       let found = numbered 0 patterns w hit.pattern (accepts.sound w hit.pattern is.accepts) in
       let none : hit.pattern ≡ hit.pattern - 0 = omega arith in
       let long : is.letters ≡ pattern_length found.pattern =
-      sym (word_length found.pattern (seen_at at friend hit.transform hit.anchor) 0 is.letters)
+      sym (word_length (seen_at at friend hit.transform hit.anchor) 0 is.letters)
       ∙ eqb-true _ _ (and_parts (eqb (length w) (pattern_length found.pattern)) (not (is_refuted found.pattern w)) found.matched).0 in
       record {
         transform = is.transform;

@@ -16,7 +16,7 @@ use Rattle.dfa_core.specs.States.{is_matched}
 use Rattle.dfa_core.proofs.Lengths.{length_below-drawn, length_below-blank}
 use Rattle.dfa_match.specs.Sights.{seen_at, seen_at_place, word_from, word_at}
 use Rattle.dfa_match.specs.Fitting.{FitsAt}
-use Rattle.dfa_match.proofs.Walking.{word_from-suc, word_from-zero}
+use Rattle.dfa_match.proofs.SeenWords.{word_from-suc, word_from-zero, word_length}
 use Rattle.dfa_match.proofs.Admitted.{fits_seen}
 use Rattle.dfa_match.proofs.Bounds.{drawn_near}
 
@@ -38,11 +38,6 @@ module _ (p : Pattern) (seen : ℕ → Seen) where
       ap (refuted_from p i) (word_from-suc seen i n)
       ∙ or_from (not (admits p i (seen i))) (refuted_from p (suc i) (word_from seen (suc i) n)) (not_from_true (admits p i (seen i)) (all i (omega arith) (omega arith)))
       (not_refuted (suc i) n (λ k low high. all k (omega arith) (omega arith)))
-
-  -- a word that is read has as many letters as were read
-  pub word_length : (i n : ℕ) → length (word_from seen i n) ≡ n
-  word_length i zero = ap length (word_from-zero seen i)
-  word_length i (suc n) = ap length (word_from-suc seen i n) ∙ ap suc (word_length (suc i) n)
 
 -- an index with a drawn cell is below the length
 drawn_below : (p : Pattern) (n i : ℕ) → i < n → is_drawn (drawn_along p i) ≡ true → i < length_below p n
@@ -116,7 +111,7 @@ module _ (p : Pattern) (at : BoardState) (friend : Colour) (t m : ℕ) where
   pub match_from_fits : FitsAt p at friend t m → is_matched (word_at at friend t m (pattern_length p)) p ≡ true
   match_from_fits fits =
       and_from (eqb (length (word_at at friend t m (pattern_length p))) (pattern_length p)) _
-      (eq-eqb _ _ (word_length p (seen_at at friend t m) 0 (pattern_length p)))
+      (eq-eqb _ _ (word_length (seen_at at friend t m) 0 (pattern_length p)))
       (not_from_false _ (not_refuted p (seen_at at friend t m) 0 (pattern_length p) (λ k low high. along k)))
     where
       along : (k : ℕ) → admits p k (seen_at at friend t m k) ≡ true

@@ -1,5 +1,5 @@
 -- The padded board, as it is filled and read.
-use Rattle.std.proofs.Common.{◌≡◌, ℕ, ◌+◌, ◌*◌, ◌/◌, ◌%◌, ◌<◌, ◌≤◌, cond, Option, Some, None, ℤ, pos, negsuc, ◌+ℤ◌, ◌-ℤ◌, List, length, replicate, get_or, refl, sym, ap, ◌∙◌, subst, arith, inl, inr, length-set, get_or-set_same, get_or-set_other}
+use Rattle.std.proofs.Common.{◌≡◌, ℕ, ◌+◌, ◌*◌, ◌/◌, ◌%◌, ◌<◌, ◌≤◌, zero, suc, cond, Option, Some, None, ℤ, pos, negsuc, ◌+ℤ◌, ◌-ℤ◌, ◌≤ℤ◌, neg_ℤ, List, length, replicate, get_or, refl, sym, ap, ◌∙◌, subst, arith, inl, inr, length-set, get_or-set_same, get_or-set_other}
 use Rattle.std.proofs.Math.ListN.{set}
 use Rattle.std.proofs.lemmas.Int.{ints}
 use Rattle.std.proofs.lemmas.Bool.{cases_lt, cases_eq, lt-ltb, le-ltb}
@@ -9,10 +9,11 @@ use Rattle.go_rules.specs.declared.Colour.{Colour}
 use Rattle.go_rules.specs.Position.{BoardState}
 use Rattle.go_rules.specs.Strings.{cell_at}
 use Rattle.go_rules.specs.Board.{largest_size}
-use Rattle.go_rules.specs.Transform.{Offset, transformed, largest_offset}
+use Rattle.go_rules.specs.Transform.{Offset, transformed, largest_offset, IsNear}
 use Rattle.spiral.specs.Spiral.{offset_at, place_at, line_of, point_of}
 use Rattle.dfa_core.specs.declared.automaton.Seen.{Seen}
 use Rattle.dfa_core.specs.declared.automaton.Seen.TheVariants.{Off}
+use Rattle.dfa_match.specs.Steps.{corner_at, line_by, step_by, last_corner}
 use Rattle.dfa_match.specs.Sights.{seen_of, seen_at, seen_at_place, padded_side, padded_point, seen_below, AreSightsBelow, AreSights}
 
 -- a line of the board is its number
@@ -75,6 +76,24 @@ row_low s q some few low = omega (arith, div_below q s s some low)
 pub column_low : (s q : ℕ) → 0 < s → s ≤ largest_size → q % s + largest_offset < padded_side
 column_low s q some few = omega (arith, mod_below q s some)
 
+-- a board that has a point has a row
+some_size : (s m : ℕ) → m < s * s → 0 < s
+some_size zero m on = absurd (omega (arith, on))
+some_size (suc s) m on = omega arith
+
+-- the line of the square of all offsets is that of the offset, behind the largest one
+pub line_by-is : (z : ℤ) → neg_ℤ (pos largest_offset) ≤ℤ z → pos (line_by z) ≡ z +ℤ pos largest_offset
+line_by-is (pos n) low = omega (arith, ints)
+line_by-is (negsuc n) low = omega (arith, ints, low)
+
+-- no line of that square is past the last
+pub line_by-most : (z : ℤ) → neg_ℤ (pos largest_offset) ≤ℤ z → z ≤ℤ pos largest_offset → line_by z ≤ 2 * largest_offset
+line_by-most z low high = omega (arith, ints, line_by-is z low)
+
+-- the square around a point of a board begins no later than that around the last point of the largest board
+pub corner_at-most : (s m : ℕ) → 0 < s → s ≤ largest_size → m < s * s → corner_at s m ≤ last_corner
+corner_at-most s m some few on = omega (arith, div_below m s s some on, mod_below m s some)
+
 module _ (at : BoardState) (friend : Colour) where
   below_none : (o : Option ℕ) → seen_below 0 at friend o ≡ Off
   below_none None = refl
@@ -122,17 +141,22 @@ module _ (at : BoardState) (friend : Colour) where
     ];
   }
 
-  -- what is read on the padded board is what is seen along the spiral
-  pub letter_seen : (size : ℕ) (letters : List Seen) (t m i : ℕ) (by : Offset) (r c row column : ℕ) (letter : Seen) → AreSights at friend size letters → by ≡ transformed t (offset_at i)
-      → pos r -ℤ pos largest_offset ≡ pos row +ℤ by.0 → pos c -ℤ pos largest_offset ≡ pos column +ℤ by.1 → r < padded_side → c < padded_side → row ≡ m / size → column ≡ m % size
-      → letter ≡ get_or letters (r * padded_side + c) Off → letter ≡ seen_at at friend t m i
+  -- what a walk reads behind its corner is what is seen along the spiral
+  pub letter_seen : (size : ℕ) (letters : List Seen) (t m i step : ℕ) (by : Offset) → AreSights at friend size letters → m < at.size * at.size → IsNear by → by ≡ transformed t (offset_at i) → step ≡ step_by by
+      → get_or letters (corner_at at.size m + step) Off ≡ seen_at at friend t m i
   unfolding seen_at place_at
-  letter_seen size letters t m i by r c row column letter sights moved er ec lr lc rows columns read =
-      let in_row : pos r -ℤ pos largest_offset ≡ pos (m / at.size) +ℤ (transformed t (offset_at i)).0 =
-      er ∙ ap (λ k. pos k +ℤ by.0) (rows ∙ ap (λ n. m / n) sights.same_size) ∙ ap (λ (d : Offset). pos (m / at.size) +ℤ d.0) moved in
-      let in_column : pos c -ℤ pos largest_offset ≡ pos (m % at.size) +ℤ (transformed t (offset_at i)).1 =
-      ec ∙ ap (λ k. pos k +ℤ by.1) (columns ∙ ap (λ n. m % n) sights.same_size) ∙ ap (λ (d : Offset). pos (m % at.size) +ℤ d.1) moved in
-      read ∙ sights.all.each r c lr lc
-      ∙ below_all (at.size * at.size) (padded_point at.size r c) (λ q here. (point_from at.size r c q here).below)
-      ∙ ap (λ z. seen_at_place at friend (point_of at.size (line_of at.size z) (line_of at.size (pos c -ℤ pos largest_offset)))) in_row
-      ∙ ap (λ z. seen_at_place at friend (point_of at.size (line_of at.size (pos (m / at.size) +ℤ (transformed t (offset_at i)).0)) (line_of at.size z))) in_column
+  letter_seen size letters t m i step by sights on near moved is =
+      let some : 0 < at.size = some_size at.size m on in
+      let few : at.size ≤ largest_size = omega (arith, sights.same_size, sights.few) in
+      let in_row = line_by-is by.0 near.row_low in
+      let in_column = line_by-is by.1 near.column_low in
+      let row : m / at.size < at.size = div_below m at.size at.size some on in
+      let column : m % at.size < at.size = mod_below m at.size some in
+      let place : corner_at at.size m + step ≡ (m / at.size + line_by by.0) * padded_side + (m % at.size + line_by by.1) = omega (arith, is) in
+      let row_is : pos (m / at.size + line_by by.0) -ℤ pos largest_offset ≡ pos (m / at.size) +ℤ (transformed t (offset_at i)).0 = omega (arith, ints, in_row, ap (λ (d : Offset). d.0) moved) in
+      let column_is : pos (m % at.size + line_by by.1) -ℤ pos largest_offset ≡ pos (m % at.size) +ℤ (transformed t (offset_at i)).1 = omega (arith, ints, in_column, ap (λ (d : Offset). d.1) moved) in
+      ap (λ k. get_or letters k Off) place
+      ∙ sights.all.each (m / at.size + line_by by.0) (m % at.size + line_by by.1) (omega (arith, ints, in_row, near.row_high)) (omega (arith, ints, in_column, near.column_high))
+      ∙ below_all (at.size * at.size) (padded_point at.size (m / at.size + line_by by.0) (m % at.size + line_by by.1)) (λ q here. (point_from at.size (m / at.size + line_by by.0) (m % at.size + line_by by.1) q here).below)
+      ∙ ap (λ z. seen_at_place at friend (point_of at.size (line_of at.size z) (line_of at.size (pos (m % at.size + line_by by.1) -ℤ pos largest_offset)))) row_is
+      ∙ ap (λ z. seen_at_place at friend (point_of at.size (line_of at.size (pos (m / at.size) +ℤ (transformed t (offset_at i)).0)) (line_of at.size z))) column_is

@@ -1,6 +1,6 @@
 -- Where an automaton accepts the words of a position.
 use Rattle.spiral.specs.Spiral.{offset_count}
-use Rattle.std.specs.Prelude.{◌≡◌, Bool, true, ◌||◌, ◌&&◌, ◌==◌, nat_lt, ℕ, ◌*◌, ◌<◌, ◌≤◌, List, map, Contains}
+use Rattle.std.specs.Prelude.{◌≡◌, ◌⊎◌, ℕ, ◌*◌, ◌<◌, ◌≤◌, List, map, Contains}
 use Rattle.go_rules.specs.declared.Colour.{Colour}
 use Rattle.go_rules.specs.Position.{BoardState}
 use Rattle.go_rules.specs.Transform.{transformations}
@@ -26,12 +26,13 @@ pub record AreHits (machine : List Row) (pos : BoardState) (friend : Colour) (hi
   pub complete : (hit : Hit) → IsHit machine pos friend hit → Contains hits hit
   pub once : AreDistinct hits
 
--- the hits whose transformation and anchor pass the test
-pub record AreHitsWhere (machine : List Row) (pos : BoardState) (friend : Colour) (test : ℕ → ℕ → Bool) (hits : List Hit) : Type 0 where
-  pub sound : (hit : Hit) → Contains hits hit → IsHit machine pos friend hit × (test hit.transform hit.anchor ≡ true)
-  pub complete : (hit : Hit) → IsHit machine pos friend hit → test hit.transform hit.anchor ≡ true → Contains hits hit
-  pub once : AreDistinct hits
+-- a hit under a transformation before t, or one under t whose word has fewer than i letters
+pub record IsHitBefore (machine : List Row) (pos : BoardState) (friend : Colour) (t i : ℕ) (hit : Hit) : Type 0 where
+  pub is : IsHit machine pos friend hit
+  pub before : (hit.transform < t) ⊎ ((hit.transform ≡ t) × (is.letters < i))
 
--- whether the transformation u and the anchor a come before t and m, the transformations first
-abbrev pub comes_before : ℕ → ℕ → ℕ → ℕ → Bool
-comes_before t m u a = nat_lt u t || ((u == t) && nat_lt a m)
+-- the list has exactly these hits, each once
+pub record AreHitsBefore (machine : List Row) (pos : BoardState) (friend : Colour) (t i : ℕ) (hits : List Hit) : Type 0 where
+  pub sound : (hit : Hit) → Contains hits hit → IsHitBefore machine pos friend t i hit
+  pub complete : (hit : Hit) → IsHitBefore machine pos friend t i hit → Contains hits hit
+  pub once : AreDistinct hits

@@ -1,5 +1,6 @@
 -- What is seen along the spiral on a position.
-use Rattle.std.specs.Prelude.{◌≡◌, ℕ, zero, suc, ◌+◌, ◌*◌, ◌<◌, List, [], ◌∷◌, length, slice_index_or, pos as plus, ◌-ℤ◌, nat_lt, Option, Some, None, if◌then◌else◌}
+use Rattle.std.specs.Prelude.{◌≡◌, ℕ, zero, suc, ◌+◌, ◌*◌, ◌<◌, ◌≤◌, List, [], ◌∷◌, length, slice_index_or, pos as plus, ◌-ℤ◌, nat_lt, Option, Some, None, if◌then◌else◌}
+use Rattle.go_rules.specs.Board.{largest_size}
 use Rattle.go_rules.specs.Transform.{largest_offset}
 use Rattle.go_rules.specs.declared.Colour.{Colour}
 use Rattle.go_rules.specs.declared.Colour.TheVariants.{Black as black, White as white}
@@ -60,4 +61,5 @@ pub record AreSightsBelow (n : ℕ) (pos : BoardState) (friend : Colour) (letter
 -- the padded board shows what the friend sees at each point of a board of this size
 pub record AreSights (pos : BoardState) (friend : Colour) (size : ℕ) (letters : List Seen) : Type 0 where
   pub same_size : size ≡ pos.size
+  pub few : size ≤ largest_size
   pub all : AreSightsBelow (pos.size * pos.size) pos friend letters

@@ -1,29 +1,32 @@
 //! The scan of a board: an automaton is run from each point under each transformation.
 //!
 //! A hit is a number that the automaton accepts at the end of a word, which is what is seen along the moved spiral from an
-//! anchor. `scan` gives exactly the hits, each once; it is given no diagrams. Two laws say that a word that is read from an
-//! anchor matches a pattern exactly where the pattern fits there.
+//! anchor. `scan` gives exactly the hits, each once; it is given no diagrams. It reads letter by letter from all anchors at
+//! once: on a padded board each letter of a transformation is one step for all of them, and only where some row accepts
+//! something or is dead are the walks looked at. Two laws say that a word that is read from an anchor matches a pattern
+//! exactly where the pattern fits there.
 //!
 //! After GNU Go Manual, "The DFA pattern matcher".
 #![tactic(auto)]
 
-ghost use Rattle.std.specs.Prelude.{◌≡◌, ◌↔◌, true, List, ℕ, ◌+◌, ◌*◌, ◌/◌, ◌%◌, ◌<◌, ◌++◌, [], IfOk, OnOk, IfSome};
+ghost use Rattle.std.specs.Prelude.{◌≡◌, ◌↔◌, true, List, ℕ, ◌+◌, ◌<◌, ◌++◌, [], IfOk, OnOk};
 ghost use Rattle.go_rules.specs.Position.{BoardState};
 ghost use Rattle.go_rules.specs.Transform.{transformations};
-ghost use Rattle.dfa_core.specs.Automata.{Row, numbers_along};
+ghost use Rattle.dfa_core.specs.Automata.{Row};
 ghost use Rattle.dfa_match.specs.Sights.{word_at, AreSights};
 ghost use Rattle.go_rules.specs.declared.Colour.{Colour as ColourSeen};
 ghost use Rattle.pat_types.specs.declared.pattern.Pattern.{Pattern};
-ghost use Rattle.spiral.specs.Spiral.{offset_count};
 ghost use Rattle.dfa_core.specs.Fits.{pattern_length};
 ghost use Rattle.dfa_core.specs.States.{is_matched, IsMachineOf};
 ghost use Rattle.dfa_match.specs.Fitting.{FitsAt, IsFit};
 ghost use Rattle.dfa_match.specs.declared.Hit.{Hit as HitSeen};
-ghost use Rattle.dfa_match.specs.Hits.{hits_at, IsHit, AreHits, AreHitsWhere, comes_before};
+ghost use Rattle.dfa_match.specs.Hits.{hits_at, IsHit, AreHits, AreHitsBefore};
 
 mod sights;
+mod walks;
 
-use crate::sights::Sights;
+use crate::sights::{Sights, step_of};
+use crate::walks::{first_walks, read_letter, settle};
 use dfa_core::Automaton;
 use go_base::transform::TRANSFORMATIONS;
 use go_base::{Colour, Look, NoMemory, Point, Transform};
@@ -54,36 +57,7 @@ fn add(out: &mut Vec<Hit>, numbers: &[u16], t: Transform, anchor: Point) -> Resu
     Ok(())
 }
 
-/// Runs the automaton from one anchor along the moved spiral, as far as it is alive.
-fn walk(
-    machine: &Automaton,
-    sights: &Sights,
-    spiral: &mut TurnedSpiral,
-    anchor: Point,
-    out: &mut Vec<Hit>,
-) -> Result<(), NoMemory>
-    requires anchor { anchor < sights.now.size * sights.now.size }
-    requires transform { spiral.old < transformations }
-    ensures ok { (at : BoardState) (friend : ColourSeen) → AreSights at friend sights.now.size sights.now.letters → OnOk result (out.new.items ≡ out.old.items ++ hits_at spiral.old anchor (numbers_along machine.now 0 (word_at at friend spiral.old anchor offset_count))) }
-    ensures turned { spiral.new ≡ spiral.old }
-{
-    let _ = machine.rows();
-    let t = spiral.transform();
-    let side = sights.size.get() as u16;
-    let line = (anchor / side) as u8;
-    let column = (anchor % side) as u8;
-    let mut row = 0;
-    'letters: for index in 0..OFFSETS {
-        add(out, machine.accepts(row), t, anchor)?;
-        if machine.is_dead(row) {
-            return Ok(());
-        }
-        row = machine.step(row, sights.letter(spiral, line, column, index));
-    }
-    add(out, machine.accepts(row), t, anchor)
-}
-
-/// Runs the automaton from each anchor under one transformation.
+/// Runs the automaton from all anchors at once under one transformation, until no walk is left.
 fn sweep(
     machine: &Automaton,
     sights: &Sights,
@@ -91,12 +65,18 @@ fn sweep(
     out: &mut Vec<Hit>,
 ) -> Result<(), NoMemory>
     requires transform { t < transformations }
-    ensures ok { (at : BoardState) (friend : ColourSeen) → AreSights at friend sights.now.size sights.now.letters → AreHitsWhere machine.now at friend (comes_before t 0) out.old.items → OnOk result (AreHitsWhere machine.now at friend (comes_before (t + 1) 0) out.new.items) }
+    ensures ok { (at : BoardState) (friend : ColourSeen) → AreSights at friend sights.now.size sights.now.letters → AreHitsBefore machine.now at friend t 0 out.old.items → OnOk result (AreHitsBefore machine.now at friend (t + 1) 0 out.new.items) }
 {
     let _ = machine.rows();
     let mut spiral = TurnedSpiral::new(t);
-    'anchors: for anchor in 0..sights.size.points() {
-        walk(machine, sights, &mut spiral, anchor, out)?;
+    let mut walks = first_walks(*out.allocator(), sights.size)?;
+    settle(machine, t, &mut walks, out)?;
+    'letters: for index in 0..OFFSETS {
+        if walks.is_empty() {
+            return Ok(());
+        }
+        let step = step_of(spiral.moved(index));
+        read_letter(machine, sights, step, t, &mut walks, out)?;
     }
     Ok(())
 }

@@ -1,17 +1,16 @@
 //! What a friend sees on a position, on a board that is padded so that no step from a point leaves it.
-ghost use Rattle.std.specs.Prelude.{◌≡◌, ℕ, ◌+◌, ◌*◌, ◌/◌, ◌%◌, ◌<◌, replicate, pos, ◌+ℤ◌, ◌-ℤ◌, neg_ℤ, ◌≤ℤ◌, slice_index_or, length};
+ghost use Rattle.std.specs.Prelude.{◌≡◌, ℕ, ◌+◌, ◌*◌, ◌/◌, ◌%◌, ◌<◌, ◌≤◌, replicate, pos, neg_ℤ, ◌≤ℤ◌, slice_index_or, length};
 ghost use Rattle.go_rules.specs.Board.{largest_size};
 ghost use Rattle.go_rules.specs.Position.{BoardState};
-ghost use Rattle.go_rules.specs.Transform.{transformations, largest_offset};
+ghost use Rattle.go_rules.specs.Transform.{largest_offset, IsNear};
 ghost use Rattle.go_rules.specs.declared.Colour.{Colour as ColourSeen};
 ghost use Rattle.go_rules.specs.Strings.{cell_at};
-ghost use Rattle.spiral.specs.Spiral.{offset_count};
-ghost use Rattle.dfa_match.specs.Sights.{seen_of, seen_at, padded_side, AreSights};
+ghost use Rattle.dfa_match.specs.Sights.{seen_of, padded_side, AreSights};
+ghost use Rattle.dfa_match.specs.Steps.{line_by, step_by, last_corner, last_step};
 
 use dfa_core::Seen;
 use go_base::size::MAX_OFFSET;
 use go_base::{Cell, Colour, Look, Point, Size};
-use spiral::TurnedSpiral;
 
 /// How many rows and columns the padded board has.
 const SIDE: usize = 73;
@@ -70,15 +69,33 @@ fn place_of(row: u8, column: u8) -> usize
     (row as usize + MAX_OFFSET as usize) * SIDE + column as usize + MAX_OFFSET as usize
 }
 
-/// The line of the padded board that a step leads to from a line of the board.
-fn line_after(line: u8, by: i8) -> usize
-    requires line { line < largest_size }
+/// Where the square of all offsets around the point in a row and a column begins on the padded board.
+pub fn corner_of(row: u8, column: u8) -> u16
+    requires row { row < largest_size }
+    requires column { column < largest_size }
+    ensures value { result ≡ row * padded_side + column }
+    ensures bound { result ≤ last_corner }
+{
+    row as u16 * SIDE as u16 + column as u16
+}
+
+/// The row or the column of the square of all offsets that the part of an offset leads to.
+fn line_in_square(by: i8) -> u16
     requires low { neg_ℤ (pos largest_offset) ≤ℤ by }
     requires high { by ≤ℤ pos largest_offset }
-    ensures value { pos result -ℤ pos largest_offset ≡ pos line +ℤ by }
-    ensures bound { result < padded_side }
+    ensures value { result ≡ line_by by }
+    ensures bound { result ≤ 2 * largest_offset }
 {
-    (line as i16 + MAX_OFFSET as i16 + by as i16) as usize
+    (MAX_OFFSET as i16 + by as i16) as u16
+}
+
+/// How far behind the beginning of the square of all offsets the place of an offset lies, for each anchor the same.
+pub fn step_of(by: (i8, i8)) -> u16
+    requires { IsNear by }
+    ensures value { result ≡ step_by by }
+    ensures bound { result ≤ last_step }
+{
+    line_in_square(by.0) * SIDE as u16 + line_in_square(by.1)
 }
 
 impl Sights {
@@ -97,25 +114,12 @@ impl Sights {
         Sights { size, letters }
     }
 
-    /// The letter in a row and a column of the padded board.
-    fn letter_in(&self, row: usize, column: usize) -> Seen
-        requires row { row < padded_side }
-        requires column { column < padded_side }
-        ensures { result ≡ slice_index_or self.now.letters (row * padded_side + column) Seen.Off }
+    /// The letter that a walk from the anchor with this corner reads at this step.
+    pub fn letter(&self, corner: u16, step: u16) -> Seen
+        requires corner { corner ≤ last_corner }
+        requires step { step ≤ last_step }
+        ensures { result ≡ slice_index_or self.now.letters (corner + step) Seen.Off }
     {
-        self.letters[row * SIDE + column]
-    }
-
-    /// What is seen at an index of the spiral around the anchor in a row and a column.
-    pub fn letter(&self, spiral: &mut TurnedSpiral, row: u8, column: u8, index: u16) -> Seen
-        requires transform { spiral.old < transformations }
-        requires index { index < offset_count }
-        requires row { row < largest_size }
-        requires column { column < largest_size }
-        ensures value { (at : BoardState) (friend : ColourSeen) (anchor : ℕ) → AreSights at friend self.now.size self.now.letters → row ≡ anchor / self.now.size → column ≡ anchor % self.now.size → result ≡ seen_at at friend spiral.old anchor index }
-        ensures turned { spiral.new ≡ spiral.old }
-    {
-        let (dr, dc) = spiral.moved(index);
-        self.letter_in(line_after(row, dr), line_after(column, dc))
+        self.letters[corner as usize + step as usize]
     }
 }

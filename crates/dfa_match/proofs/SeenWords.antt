@@ -1,0 +1,31 @@
+-- What is seen along the spiral, letter by letter.
+use Rattle.std.proofs.Common.{◌≡◌, ℕ, zero, suc, ◌+◌, [], ◌∷◌, ◌++◌, length, refl, sym, ap, ◌∙◌, arith}
+use Rattle.dfa_core.specs.declared.automaton.Seen.{Seen}
+use Rattle.dfa_match.specs.Sights.{word_from}
+
+module _ (seen : ℕ → Seen) where
+  pub word_from-suc : (i n : ℕ) → word_from seen i (suc n) ≡ seen i ∷ word_from seen (suc i) n
+  unfolding word_from
+  word_from-suc i n = refl
+
+  pub word_from-zero : (i : ℕ) → word_from seen i 0 ≡ []
+  unfolding word_from
+  word_from-zero i = refl
+
+  -- as many letters are seen as are asked for
+  pub word_length : (i n : ℕ) → length (word_from seen i n) ≡ n
+  word_length i zero = ap length (word_from-zero i)
+  word_length i (suc n) = ap length (word_from-suc i n) ∙ ap suc (word_length (suc i) n)
+
+  -- the letters that are seen first, and those after them
+  pub word_split : (i n k : ℕ) → word_from seen i (n + k) ≡ word_from seen i n ++ word_from seen (i + n) k
+  word_split i zero k =
+      let sums : 0 + k ≡ k = omega arith in
+      let place : i ≡ i + 0 = omega arith in
+      ap (word_from seen i) sums ∙ ap (λ j. word_from seen j k) place ∙ ap (λ w. w ++ word_from seen (i + 0) k) (sym (word_from-zero i))
+  word_split i (suc n) k =
+      let sums : suc n + k ≡ suc (n + k) = omega arith in
+      let place : suc i + n ≡ i + suc n = omega arith in
+      ap (word_from seen i) sums ∙ word_from-suc i (n + k) ∙ ap (λ w. seen i ∷ w) (word_split (suc i) n k)
+      ∙ ap (λ j. seen i ∷ (word_from seen (suc i) n ++ word_from seen j k)) place
+      ∙ ap (λ w. w ++ word_from seen (i + suc n) k) (sym (word_from-suc i n))
