@@ -1,5 +1,5 @@
 -- A stone with two empty sides has two liberties at least.
-use Rattle.std.proofs.Common.{◌≡◌, ◌≢◌, ℕ, ◌+◌, ◌*◌, ◌/◌, ◌%◌, ◌<◌, ◌||◌, ◌&&◌, Bool, true, false, eqb, Result, Ok, Err, List, refl, sym, ap, subst, arith, inl, inr, ◌∙◌}
+use Rattle.std.proofs.Common.{◌≡◌, ◌≢◌, ℕ, ◌+◌, ◌*◌, ◌/◌, ◌%◌, ◌<◌, ◌||◌, ◌&&◌, Bool, true, false, eqb, ltb, Result, Ok, Err, List, refl, sym, ap, subst, arith, inl, inr, ◌∙◌}
 use Rattle.std.proofs.lemmas.Bool.{cases_Bool, cases_eq, or_cases, eqb-true, and_parts, ltb-true}
 use Rattle.std.specs.Ordering.{nat_cmp}
 use Rattle.std.specs.FinSet as sets
@@ -11,6 +11,8 @@ use Rattle.go_rules.specs.Strings.{start, IsLiberty, is_liberty, liberties, libe
 use Rattle.go_rules.specs.Position.{BoardState}
 use Rattle.go_rules.specs.Play.{play_free}
 use Rattle.go_rules.proofs.Counts.{any_below_gives}
+use Rattle.go_rules.proofs.Sets.{same_nat_set, contains-set_below, len-set_below}
+use Rattle.go_rules.specs.Below.{set_below, count_below}
 use Rattle.go_rules.proofs.Paths.{same_cell-true, is_liberty-from_fact}
 use Rattle.go_rules.proofs.PlayLaws.{others_stay, stone_after}
 use Rattle.go_base.specs.Views.{alone, neighbours_of}
@@ -96,6 +98,27 @@ sides_leave_none pos c l p on other = elim (cases_Bool (leaves_only l p (play_fr
 -- what a set has after points were added to none was added
 pub added_to_none : (old : sets.FinSet nat_cmp) (x : ℕ) (b : Bool) → old ≡ sets.empty → (sets.contains old x || b) ≡ true → b ≡ true
 added_to_none old x b none h = sym (ap (λ y. y || b) (ap (λ t. sets.contains t x) none ∙ sets.contains-empty nat_cmp x)) ∙ h
+
+-- an empty neighbour of l is on the board
+beside_within : (s : ℕ) (cells : List Cell) (l x : ℕ) → is_empty_beside s cells (alone l) x ≡ (ltb x
+    (s * s) && is_empty_beside s cells (alone l) x)
+unfolding is_empty_beside
+beside_within s cells l x = twice (ltb x (s * s)) _ _
+  where
+    twice : (a b c : Bool) → ((a && b) && c) ≡ (a && ((a && b) && c))
+    twice true b c = refl
+    twice false b c = refl
+
+-- the empty neighbours of l that were added to none, counted
+pub sides_counted : (s : ℕ) (cells : List Cell) (l : ℕ) (old found : sets.FinSet nat_cmp) → old ≡ sets.empty
+    → ((x : ℕ) → sets.contains found x ≡ (sets.contains old x || is_empty_beside s cells (alone l) x))
+    → sets.len found ≡ count_below (s * s) (is_empty_beside s cells (alone l))
+sides_counted s cells l old found none added =
+    let test = is_empty_beside s cells (alone l) in
+    ap sets.len (same_nat_set found (set_below (s * s) test) (λ x. added x
+    ∙ ap (λ b. b || test x) (ap (λ t. sets.contains t x) none ∙ sets.contains-empty nat_cmp x)
+    ∙ beside_within s cells l x ∙ sym (contains-set_below (s * s) test x)))
+    ∙ len-set_below (s * s) test
 
 -- where a point fails one of two tests, it does not come by both
 pub none_added : (a x y : Bool) → y ≡ false → a ≡ (a || (x && y))

@@ -7,7 +7,7 @@
 
 pub mod moves;
 
-pub use moves::candidates;
+pub use moves::{candidates, empty_sides};
 pub use read_rules::Depths;
 
 #[cfg(test)]

@@ -1,8 +1,8 @@
 //! The candidates of a target: the points that a reading tries.
 
-ghost use Rattle.std.specs.Prelude.{◌≡◌, ℕ, ◌*◌, ◌<◌, ◌&&◌, ◌||◌, Bool, true, IsTrue, IfSome, nat_lt, length, if◌then◌else◌};
+ghost use Rattle.std.specs.Prelude.{◌≡◌, ℕ, ◌*◌, ◌<◌, ◌≤◌, ◌&&◌, ◌||◌, Bool, true, IsTrue, IfSome, nat_lt, length, if◌then◌else◌};
 ghost use Rattle.std.specs.FinSet as set;
-ghost use Rattle.go_rules.specs.Below.{any_below};
+ghost use Rattle.go_rules.specs.Below.{any_below, count_below};
 ghost use Rattle.go_rules.specs.Board.{largest_points};
 ghost use Rattle.go_rules.specs.Strings.{cell_at, same_cell};
 ghost use Rattle.go_rules.specs.Position.{BoardState};
@@ -152,6 +152,22 @@ fn has_two_empty_sides<L: Look>(board: &mut Trial<L>, l: Point) -> bool
     let mut sides = PointSet::new();
     add_sides(board, l, &mut sides);
     has_two(&sides)
+}
+
+/// How many sides of l are empty.
+pub fn empty_sides<L: Look>(board: &mut Trial<L>, l: Point) -> u16
+    requires { l < (L.shows board.old.look).size * (L.shows board.old.look).size }
+    ensures stays { Stays L.shows L.seen board.old board.new }
+    ensures few { result ≤ largest_points }
+    ensures over { (pos : BoardState) → Agrees (L.seen board.new.look) pos
+        → result ≡ count_below (pos.size * pos.size) (is_empty_beside pos.size (after pos board.old.moves).cells
+        (alone l)) }
+    ensures near { (pos : BoardState) → Agrees (L.seen board.new.look) pos
+        → AddsIn (L.seen board.old.look) (L.seen board.new.look) (neighbours_of pos.size l) }
+{
+    let mut sides = PointSet::new();
+    add_sides(board, l, &mut sides);
+    sides.count()
 }
 
 /// Adds the one liberty that a stone of this colour at l would have, where it is empty now. With two empty sides the stone has two

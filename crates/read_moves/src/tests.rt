@@ -2,7 +2,7 @@
 
 ghost use Rattle.std.specs.Prelude.{◌*◌, ◌<◌, IfSome};
 
-use super::candidates;
+use super::{candidates, empty_sides};
 use go_base::size::MAX_POINTS;
 use go_base::{Colour, Point, PointSet, Position, Size, Watch};
 use std::test::Fail;
@@ -55,6 +55,30 @@ fn wanted(size: Size, names: &str) -> Option<PointSet> {
         }
     }
     Some(points)
+}
+
+/// How many sides of a point of the position are empty.
+fn sides(position: &Position, name: &str) -> Option<u16> {
+    let p = vertex(position.size(), name)?;
+    let mut board = Trial::new(Watch::new(position));
+    let sides = empty_sides(&mut board, p);
+    let _look = board.finish();
+    Some(sides)
+}
+
+#[test]
+fn the_empty_sides_of_a_point_are_counted(rt: HostRuntime) -> Result<(), Fail> {
+    let size = Size::new(9).ok_or("the size is one of a board")?;
+    let position = position(size, "B1 C4", "C2").ok_or("the stones can be played")?;
+    let rows = [
+        ("a corner beside a stone", "A1", 1),
+        ("a point between stones of both colours", "C3", 2),
+        ("a stone beside no other", "C4", 4),
+    ];
+    for (special, name, want) in rows {
+        assert_eq!(rt; sides(&position, name), Some(want), "{special}");
+    }
+    Ok(())
 }
 
 #[test]

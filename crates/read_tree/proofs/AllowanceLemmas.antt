@@ -1,7 +1,7 @@
 -- Sets of ko allowances, and the node under each of them.
-use Rattle.std.proofs.Common.{◌≡◌, ◌≢◌, ℕ, suc, ◌+◌, ◌-◌, ◌*◌, ◌<◌, ◌≤◌, ◌⊎◌, Bool, true, false, not, ◌&&◌, ◌||◌, cond, Option, Some, None, is_some, refl, sym, ap, subst, ◌∙◌, arith, inl, inr}
+use Rattle.std.proofs.Common.{◌≡◌, ◌≢◌, ℕ, suc, ◌-◌, ◌*◌, ◌⊎◌, Bool, true, false, not, ◌&&◌, ◌||◌, cond, Option, Some, None, is_some, refl, sym, ap, subst, ◌∙◌, arith, inl, inr}
 use mathlib.Core.Bool.{beq}
-use Rattle.std.proofs.lemmas.Bool.{cases_Bool, cases_eq, cases_lt, both_ways}
+use Rattle.std.proofs.lemmas.Bool.{cases_Bool, both_ways}
 use Rattle.go_rules.specs.declared.Colour.{Colour}
 use Rattle.go_rules.specs.Position.{BoardState}
 use Rattle.read_rules.specs.declared.node.Node.{Node}
@@ -117,8 +117,14 @@ Tells-own attacker asked there test h e none = record { each = by attacker h e n
     by false h e none attacker_may = and_no asked.attacker (test attacker_may) (none attacker_may (λ w. cc))
 
 -- Each pass of the walk over the candidates.
-pub left_first : (n : ℕ) (turn : Turn) (here : BoardState) (candidate : ℕ → Bool) (asked : Allowances) → IsLeft n turn here candidate 0 asked asked
-left_first n turn here candidate asked = record { asked_for = λ ko h. h; none = λ ko h q l. absurd (omega arith); given = λ ko h m. absurd (both_ways (has asked ko) m h) }
+pub left_first : (n : ℕ) (turn : Turn) (here : BoardState) (candidate tried : ℕ → Bool) (asked : Allowances)
+    → ((q : ℕ) → tried q ≡ false)
+    → IsLeft n turn here candidate tried asked asked
+left_first n turn here candidate tried asked none_yet = record {
+  asked_for = λ ko h. h;
+  none = λ ko h q was. absurd (both_ways (tried q) (none_yet q) was);
+  given = λ ko h m. absurd (both_ways (has asked ko) m h);
+}
 
 -- the parts of a test and the other's opposite
 pub and_parts_not : (a b : Bool) → (a && not b) ≡ true → (a ≡ true) × (b ≡ false)
@@ -131,20 +137,20 @@ pub and_false_right : (a b : Bool) → b ≡ false → (a && b) ≡ false
 and_false_right true b e = e
 and_false_right false b e = refl
 
-pub left_next : (n : ℕ) (turn : Turn) (here : BoardState) (candidate : ℕ → Bool) (next p : ℕ) (asked missing good : Allowances) → IsLeft n turn here candidate next asked missing
-    → candidate p ≡ true → ((q : ℕ) → next ≤ q → q < p → candidate q ≡ false) → Tells missing good (λ ko. succeeds n (under turn ko) here p)
-    → IsLeft n turn here candidate (p + 1) asked (without missing good)
-left_next n turn here candidate next p asked missing good left cand between tells = record {
+pub left_next : (n : ℕ) (turn : Turn) (here : BoardState) (candidate tried now : ℕ → Bool) (p : ℕ) (asked missing good
+    : Allowances)
+    → IsLeft n turn here candidate tried asked missing → candidate p ≡ true → ((q : ℕ) → now q ≡ true
+    → (q ≡ p) ⊎ (tried q ≡ true))
+    → Tells missing good (λ ko. succeeds n (under turn ko) here p) → IsLeft n turn here candidate now asked
+    (without missing good)
+left_next n turn here candidate tried now p asked missing good left cand one_more tells = record {
   asked_for = λ ko h. left.asked_for ko (and_parts_not _ _ (sym (has-without missing good ko) ∙ h)).0;
-  none = λ ko h q l.
+  none = λ ko h q was.
       let parts = and_parts_not _ _ (sym (has-without missing good ko) ∙ h) in
       let fails : succeeds n (under turn ko) here p ≡ false = fails_by (has missing ko) _ (has good ko) (tells.each ko) parts.0 parts.1 in
-      elim (cases_lt_eq q next p (omega arith)) [
-        | inl before ↦ left.none ko parts.0 q before
-        | inr rest ↦ elim rest [
-          | inl mid ↦ ap (λ b. b && succeeds n (under turn ko) here q) (between q mid.0 mid.1)
-          | inr e ↦ and_false_right (candidate q) _ (ap (succeeds n (under turn ko) here) e ∙ fails)
-        ]
+      elim (one_more q was) [
+        | inl e ↦ and_false_right (candidate q) _ (ap (succeeds n (under turn ko) here) e ∙ fails)
+        | inr before ↦ left.none ko parts.0 q before
       ];
   given = λ ko a m. elim (cases_Bool (has missing ko)) [
     | inr f ↦ left.given ko a f
@@ -160,12 +166,6 @@ left_next n turn here candidate next p asked missing good left cand between tell
     passes_by true b true e h f = sym e
     passes_by true b false e h f = cc
     passes_by false b g e h f = cc
-
-    cases_lt_eq : (q next p : ℕ) → q < p + 1 → (q < next) ⊎ (((next ≤ q) × (q < p)) ⊎ (q ≡ p))
-    cases_lt_eq q next p l = elim (cases_lt q next) [
-      | inl b ↦ inl b
-      | inr g ↦ elim (cases_eq q p) [ inl e ↦ inr (inr e) | inr ne ↦ inr (inl (omega arith, omega arith)) ]
-    ]
 
 -- a node under no allowance is one of the trees
 pub neither_nodes : {q : ReadingQuestion} {root here : BoardState} {n : ℕ} {turn : Turn} → IsNodeOf q root n (under turn neither_may) here

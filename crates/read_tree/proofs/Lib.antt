@@ -5,3 +5,4 @@ pub mod LibertyLemmas
 pub mod TakeLemmas
 pub mod StageLemmas
 pub mod CarryLemmas
+pub mod OrderLemmas

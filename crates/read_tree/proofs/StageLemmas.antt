@@ -38,24 +38,26 @@ nothing_near seen S = record { added = λ fact i. inl i }
 -- The walk over a set of points, at one turn.
 module _ (n : ℕ) (turn : Turn) (here : BoardState) (points : ℕ → Bool) where
   -- all that was asked is given
-  pub by_done : (next : ℕ) (asked missing : Allowances) → IsLeft n turn here points next asked missing → has_some missing ≡ false → TellsBy n turn here points asked asked
-  by_done next asked missing left none = record {
+  pub by_done : (tried : ℕ → Bool) (asked missing : Allowances) → IsLeft n turn here points tried asked missing
+      → has_some missing ≡ false → TellsBy n turn here points asked asked
+  by_done tried asked missing left none = record {
     asked_for = λ ko h. h;
     given = λ ko a. left.given ko a (none_of missing ko none);
     none = λ ko a f. absurd (both_ways (has asked ko) f a);
   }
 
   -- no point is left
-  pub by_over : (next : ℕ) (asked missing : Allowances) → IsLeft n turn here points next asked missing → ((q : ℕ) → next ≤ q → points q ≡ false)
+  pub by_over : (tried : ℕ → Bool) (asked missing : Allowances) → IsLeft n turn here points tried asked missing
+      → ((q : ℕ) → tried q ≡ false → points q ≡ false)
       → TellsBy n turn here points asked (without asked missing)
-  by_over next asked missing left rest = record {
+  by_over tried asked missing left rest = record {
     asked_for = λ ko h. (and_parts_not _ _ (sym (has-without asked missing ko) ∙ h)).0;
     given = λ ko h. let parts = and_parts_not _ _ (sym (has-without asked missing ko) ∙ h) in left.given ko parts.0 parts.1;
     none = λ ko a f q.
         let miss = left_of (has asked ko) (has missing ko) a (sym (has-without asked missing ko) ∙ f) in
-        elim (cases_lt q next) [
-          | inl before ↦ left.none ko miss q before
-          | inr past ↦ ap (λ b. b && succeeds n (under turn ko) here q) (rest q past)
+        elim (cases_Bool (tried q)) [
+          | inl was ↦ left.none ko miss q was
+          | inr yet ↦ ap (λ b. b && succeeds n (under turn ko) here q) (rest q yet)
         ];
   }
     where

@@ -71,10 +71,12 @@ pub record IsBest (n : ℕ) (turn : Turn) (here : BoardState) (tried : ℕ → B
   pub no_move : best.code ≡ 0 → best.at ≡ None
   pub move : best.code ≢ 0 → (spot : Spot) × (best.at ≡ Some spot) × (Some spot ≡ first_move n (node_of turn best.code) here)
 
--- what is missing of the asked: no candidate before the next point gives it, and the rest each is given by one
-pub record IsLeft (n : ℕ) (turn : Turn) (here : BoardState) (candidate : ℕ → Bool) (next : ℕ) (asked missing : Allowances) : Type 0 where
+-- what is missing of the asked: no candidate that was tried gives it, and the rest each is given by one
+pub record IsLeft (n : ℕ) (turn : Turn) (here : BoardState) (candidate tried : ℕ → Bool) (asked missing : Allowances)
+    : Type 0 where
   pub asked_for : (ko : Ko) → has missing ko ≡ true → has asked ko ≡ true
-  pub none : (ko : Ko) → has missing ko ≡ true → (q : ℕ) → q < next → (candidate q && succeeds n (under turn ko) here q) ≡ false
+  pub none : (ko : Ko) → has missing ko ≡ true → (q : ℕ) → tried q ≡ true → (candidate q && succeeds n (under turn ko)
+      here q) ≡ false
   pub given : (ko : Ko) → has asked ko ≡ true → has missing ko ≡ false → (q : ℕ) × (candidate q ≡ true) × (succeeds n (under turn ko) here q ≡ true)
 
 -- the outlook is that the target is safe

@@ -10,6 +10,7 @@
 pub mod allowances;
 mod apart;
 pub mod laws;
+mod order;
 pub mod reading;
 pub mod told;
 mod tree;

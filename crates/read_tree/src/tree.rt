@@ -20,6 +20,7 @@ ghost use Rattle.read_tree.specs.Steps.{IsTaken, is_safe, tail_if, Makes, has_wa
 
 use crate::allowances::Allowances;
 use crate::apart::{all_but, apart_from, copy_of};
+use crate::order::next_to_try;
 use crate::turn::Turn;
 use go_base::points::PointSet;
 use go_base::{Cell, Colour, Look, Point};
@@ -285,7 +286,7 @@ pub fn succeeds<L: Look>(
 }
 
 /// Those of the asked under which a play at some point of the set gives the side to play its way, with `plies` plies left after it.
-/// A point is asked only for what those before it left.
+/// The liberties with more empty sides come first, and a point is asked only for what those before it left.
 #[cycle(read)]
 fn some_of<L: Look>(
     board: &mut Trial<L>,
@@ -311,14 +312,14 @@ fn some_of<L: Look>(
         → AddsNear (L.seen board.old.look) (L.seen board.new.look) (InActiveArea q root) }
 {
     let mut missing = asked;
-    let mut next = 0;
-    while let Some(p) = points.first_from(next) {
+    let mut tried = PointSet::new();
+    while let Some(p) = next_to_try(board, points, &tried, known) {
         let good = succeeds(board, turn, p, plies, missing, known);
         missing = missing.without(good);
         if !missing.has_some() {
             return asked;
         }
-        next = p + 1;
+        tried.add(p);
     }
     asked.without(missing)
 }

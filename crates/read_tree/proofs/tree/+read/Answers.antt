@@ -1,6 +1,6 @@
 -- The walk over the game tree answers what the tree says under each of the asked allowances, over every position that agrees with
 -- what was seen.
-use Rattle.std.proofs.Common.{arith, ◌≡◌, ◌⊎◌, ◌∙◌, ◌+◌, ◌-◌, ◌*◌, ◌<◌, ℕ, suc, inl, inr, true, false, List, ap, sym, subst, refl, IfSome, is_some, rules}
+use Rattle.std.proofs.Common.{arith, ◌≡◌, ◌⊎◌, ◌∙◌, ◌-◌, ◌*◌, ◌<◌, ℕ, suc, inl, inr, true, false, List, ap, sym, subst, refl, IfSome, is_some, rules}
 use Rattle.std.specs.FinSet as set
 use Rattle.go_base.specs.Facts.{agrees_before, Grows-refl, Grows-trans, same_size}
 use Rattle.go_rules.specs.declared.Cell.TheVariants.{Empty}
@@ -22,6 +22,7 @@ use Rattle.read_tree.specs.Steps.{AreNodesOf, is_off_liberties}
 use Rattle.read_rules.specs.GameTree.{has_many_liberties, attacker_wins, child_of, succeeds, first_success}
 use Rattle.read_tree.proofs.AllowanceLemmas.{some_of, suits_child, suits_none, Tells-same, Tells-own, Tells-good, Tells-attackers, Tells-all, Tells-none, good_attacker, neither_nodes, pass_nodes, fewer_nodes, without_less, left_first, left_next}
 use Rattle.read_tree.proofs.StageLemmas.{by_done, by_over, by_none, by_same, stage_done, stage_over, none_other, nothing_near, liberty_is_candidate, its_liberty, its_count, known_inside, off_is}
+use Rattle.read_tree.proofs.OrderLemmas.{none_tried, newest_or_before, fewer_left, none_left, order_near}
 use Rattle.read_tree.proofs.LibertyLemmas.{bounded_at, undecided_at}
 use Rattle.read_tree.proofs.TakeLemmas.{whole_after, take_wins}
 use Rattle.read_tree.proofs.CarryLemmas.{carries, made_free}
@@ -171,10 +172,24 @@ pass_saves-returns-clause-near g t c = λ pos a q root tree stands.
     rw c.back.ensures.moves (AddsNear-mono (λ p. (p ≡ turn.target) ⊎ InActiveArea q root p) (InActiveArea q root) (passed (pass_nodes tree stands c.requires.defender))
     (λ p h. elim h [ inl e ↦ area_target q root here (suc c.args.plies) (under turn one.0) (tree.each one.0 one.1) pos.size (size-after pos c.args.board.now.moves) inside stands p e | inr i ↦ i ]))
 
--- a point of the set is on the board
+-- the points of the set are on the board
+pub some_of-next_to_try-requires : goal.some_of-next_to_try-requires
+some_of-next_to_try-requires g t c = λ p h. subst (λ (pos : BoardState). p < pos.size * pos.size)
+    (sym c.loop-p.invariant.stays.shown) (c.requires.on_board p h)
+
 pub some_of-succeeds-good-requires : goal.some_of-succeeds-good-requires
 some_of-succeeds-good-requires g t c κs within =
-    let inside = c.requires.on_board c.in-Some.p c.in-Some.ensures.some.2 in
+    let i = c.loop-p.invariant in
+    let chosen = c.next_to_try.ensures.stays in
+    let still : (p : ℕ) → p < (g.L.Look.shows c.args.board.now.look).size * (g.L.Look.shows c.args.board.now.look).size
+    → p < (g.L.Look.shows c.next_to_try.new.board.look).size * (g.L.Look.shows c.next_to_try.new.board.look).size =
+    λ p h. subst (λ (pos : BoardState). p < pos.size * pos.size) (sym (chosen.shown ∙ i.stays.shown)) h in
+    let inside = still c.in-Some.p (c.requires.on_board c.in-Some.p c.in-Some.ensures.some.1) in
+    let target = still c.args.turn.target c.requires.target in
+    let moves = chosen.moves ∙ i.stays.moves in
+    let liberties : (pos : BoardState) → Agrees (g.L.Look.seen c.next_to_try.new.board.look) pos
+    → c.args.known.now ≡ liberty_points pos.size (after pos c.next_to_try.new.board.moves).cells c.args.turn.target =
+    λ pos a. rw moves (c.requires.liberties pos (agrees_before i.stays.grows (agrees_before chosen.grows a))) in
     search rules
 
 -- nothing was tried
@@ -184,55 +199,116 @@ some_of-loop-p-init g t c = record {
   grows = Grows-refl _;
   some = c.requires.some;
   near = λ pos a q root tree und its. nothing_near _ _;
-  left = λ pos a. left_first c.args.plies c.args.turn (after pos c.args.board.now.moves) (set.contains c.args.points.now) c.args.asked;
+  left = λ pos a. left_first c.args.plies c.args.turn (after pos c.args.board.now.moves)
+      (set.contains c.args.points.now)
+      (set.contains c.new-tried.result) c.args.asked (none_tried c.new-tried.result c.new-tried.ensures);
 }
 
 -- one more point
 pub some_of-loop-p-preserved : goal.some_of-loop-p-preserved
 some_of-loop-p-preserved g t c =
     let i = c.loop-p.invariant in
-    let first = c.in-Some.ensures.some in
+    let chosen = c.next_to_try.ensures.stays in
+    let later = c.succeeds-good.ensures.stays in
     record {
       stays = record {
-        moves = c.succeeds-good.ensures.stays.moves ∙ i.stays.moves;
-        shown = c.succeeds-good.ensures.stays.shown ∙ i.stays.shown;
-        grows = Grows-trans i.stays.grows c.succeeds-good.ensures.stays.grows;
+        moves = later.moves ∙ chosen.moves ∙ i.stays.moves;
+        shown = later.shown ∙ chosen.shown ∙ i.stays.shown;
+        grows = Grows-trans i.stays.grows (Grows-trans chosen.grows later.grows);
       };
-      grows = Grows-trans i.grows c.succeeds-good.ensures.stays.grows;
+      grows = Grows-trans i.grows (Grows-trans chosen.grows later.grows);
       some = sym c.has_some.ensures ∙ c.if-not-has_some.false;
       near = λ pos a q root tree und its.
+          let i = c.loop-p.invariant in
+          let chosen = c.next_to_try.ensures.stays in
           let a1 = agrees_before c.succeeds-good.ensures.stays.grows a in
-          AddsNear-trans (i.near pos a1 q root tree und its)
-          ((rw i.stays.moves at (c.succeeds-good.ensures.near pos a q root)) (fewer_nodes c.loop-p.missing tree (i.left pos a1).asked_for) und (its c.in-Some.p first.2));
+          let a0 = agrees_before chosen.grows a1 in
+          let first = agrees_before i.stays.grows a0 in
+          let here = after pos c.args.board.now.moves in
+          let one = some_of c.args.asked c.requires.some in
+          let inside = target_on pos.size (g.L.Look.shows c.args.board.now.look).size c.args.turn.target (same_size
+          (g.met.L.Look.sized c.args.board.now.look) first) c.requires.target in
+          AddsNear-trans (i.near pos a0 q root tree und its)
+          (AddsNear-trans (AddsNear-in (InActiveArea q root) (c.next_to_try.ensures.near pos a1)
+          (order_near q root here (suc c.args.plies) (under c.args.turn one.0) (tree.each one.0 one.1) pos.size
+          (size-after pos c.args.board.now.moves) inside (und one.0).stands
+          c.args.known.now (c.requires.liberties pos first)))
+          ((rw (chosen.moves ∙ i.stays.moves) at (c.succeeds-good.ensures.near pos a q root))
+          (fewer_nodes c.loop-p.missing tree (i.left pos a0).asked_for) und (its c.in-Some.p
+          c.in-Some.ensures.some.1)));
       left = λ pos a.
-          let a1 = agrees_before c.succeeds-good.ensures.stays.grows a in
-          rw c.without-missing.ensures (left_next c.args.plies c.args.turn (after pos c.args.board.now.moves) (set.contains c.args.points.now) c.loop-p.next c.in-Some.p c.args.asked c.loop-p.missing c.succeeds-good.result
-          (i.left pos a1) first.2 first.3 (rw i.stays.moves at (c.succeeds-good.ensures.over pos a)));
+          let a0 = agrees_before chosen.grows (agrees_before later.grows a) in
+          rw c.without-missing.ensures (left_next c.args.plies c.args.turn (after pos c.args.board.now.moves)
+          (set.contains c.args.points.now)
+          (set.contains c.loop-p.tried) (set.contains c.add.new.self) c.in-Some.p c.args.asked c.loop-p.missing
+          c.succeeds-good.result
+          (i.left pos a0) c.in-Some.ensures.some.1 (newest_or_before c.loop-p.tried c.add.new.self c.in-Some.p
+          c.add.ensures)
+          (rw (chosen.moves ∙ i.stays.moves) at (c.succeeds-good.ensures.over pos a)));
     }
+
+-- fewer points are left
+pub some_of-loop-p-smaller : goal.some_of-loop-p-smaller
+some_of-loop-p-smaller g t c =
+    let first = c.in-Some.ensures.some in
+    fewer_left _ c.loop-p.tried c.add.new.self c.in-Some.p c.add.ensures first.0 first.2
 
 -- all that was asked is given
 pub some_of-returns-then-not-has_some-clause-over : goal.some_of-returns-then-not-has_some-clause-over
 some_of-returns-then-not-has_some-clause-over g t c = λ pos a.
     let i = c.loop-p.invariant in
-    let first = c.in-Some.ensures.some in
-    let a1 = agrees_before c.succeeds-good.ensures.stays.grows a in
-    by_done c.args.plies c.args.turn (after pos c.args.board.now.moves) (set.contains c.args.points.now) (c.in-Some.p + 1) c.args.asked (without c.loop-p.missing c.succeeds-good.result)
-    (left_next c.args.plies c.args.turn (after pos c.args.board.now.moves) (set.contains c.args.points.now) c.loop-p.next c.in-Some.p c.args.asked c.loop-p.missing c.succeeds-good.result
-    (i.left pos a1) first.2 first.3 (rw i.stays.moves at (c.succeeds-good.ensures.over pos a)))
+    let chosen = c.next_to_try.ensures.stays in
+    let a0 = agrees_before chosen.grows (agrees_before c.succeeds-good.ensures.stays.grows a) in
+    let now = set.insert c.loop-p.tried c.in-Some.p in
+    by_done c.args.plies c.args.turn (after pos c.args.board.now.moves) (set.contains c.args.points.now)
+    (set.contains now) c.args.asked (without c.loop-p.missing c.succeeds-good.result)
+    (left_next c.args.plies c.args.turn (after pos c.args.board.now.moves) (set.contains c.args.points.now)
+    (set.contains c.loop-p.tried) (set.contains now) c.in-Some.p c.args.asked c.loop-p.missing
+    c.succeeds-good.result (i.left pos a0) c.in-Some.ensures.some.1 (newest_or_before c.loop-p.tried now c.in-Some.p
+    refl) (rw (chosen.moves ∙ i.stays.moves) at (c.succeeds-good.ensures.over pos a)))
     (sym (c.has_some.ensures ∙ ap has_some c.without-missing.ensures) ∙ c.if-not-has_some.true)
 
 pub some_of-returns-then-not-has_some-clause-near : goal.some_of-returns-then-not-has_some-clause-near
 some_of-returns-then-not-has_some-clause-near g t c = λ pos a q root tree und its.
     let i = c.loop-p.invariant in
+    let chosen = c.next_to_try.ensures.stays in
     let a1 = agrees_before c.succeeds-good.ensures.stays.grows a in
-    AddsNear-trans (i.near pos a1 q root tree und its)
-    ((rw i.stays.moves at (c.succeeds-good.ensures.near pos a q root)) (fewer_nodes c.loop-p.missing tree (i.left pos a1).asked_for) und (its c.in-Some.p c.in-Some.ensures.some.2))
+    let a0 = agrees_before chosen.grows a1 in
+    let first = agrees_before i.stays.grows a0 in
+    let here = after pos c.args.board.now.moves in
+    let one = some_of c.args.asked c.requires.some in
+    let inside = target_on pos.size (g.L.Look.shows c.args.board.now.look).size c.args.turn.target (same_size
+    (g.met.L.Look.sized c.args.board.now.look) first) c.requires.target in
+    AddsNear-trans (i.near pos a0 q root tree und its)
+    (AddsNear-trans (AddsNear-in (InActiveArea q root) (c.next_to_try.ensures.near pos a1)
+    (order_near q root here (suc c.args.plies) (under c.args.turn one.0) (tree.each one.0 one.1) pos.size
+    (size-after pos c.args.board.now.moves) inside (und one.0).stands
+    c.args.known.now (c.requires.liberties pos first)))
+    ((rw (chosen.moves ∙ i.stays.moves) at (c.succeeds-good.ensures.near pos a q root)) (fewer_nodes c.loop-p.missing
+    tree (i.left pos a0).asked_for) und (its c.in-Some.p c.in-Some.ensures.some.1)))
 
 -- no point is left
 pub some_of-returns-clause-over : goal.some_of-returns-clause-over
 some_of-returns-clause-over g t c = λ pos a.
-    rw c.without.ensures (by_over c.args.plies c.args.turn (after pos c.args.board.now.moves) (set.contains c.args.points.now) c.loop-p.next c.args.asked c.loop-p.missing
-    (c.loop-p.invariant.left pos a) c.in_default.ensures.none)
+    rw c.without.ensures (by_over c.args.plies c.args.turn (after pos c.args.board.now.moves)
+    (set.contains c.args.points.now) (set.contains c.loop-p.tried) c.args.asked c.loop-p.missing
+    (c.loop-p.invariant.left pos (agrees_before c.next_to_try.ensures.stays.grows a))
+    (none_left (set.contains c.args.points.now) (set.contains c.loop-p.tried) c.in_default.ensures.none))
+
+pub some_of-returns-clause-near : goal.some_of-returns-clause-near
+some_of-returns-clause-near g t c = λ pos a q root tree und its.
+    let i = c.loop-p.invariant in
+    let a0 = agrees_before c.next_to_try.ensures.stays.grows a in
+    let first = agrees_before i.stays.grows a0 in
+    let here = after pos c.args.board.now.moves in
+    let one = some_of c.args.asked c.requires.some in
+    let inside = target_on pos.size (g.L.Look.shows c.args.board.now.look).size c.args.turn.target (same_size
+    (g.met.L.Look.sized c.args.board.now.look) first) c.requires.target in
+    AddsNear-trans (i.near pos a0 q root tree und its)
+    (AddsNear-in (InActiveArea q root) (c.next_to_try.ensures.near pos a)
+    (order_near q root here (suc c.args.plies) (under c.args.turn one.0) (tree.each one.0 one.1) pos.size
+    (size-after pos c.args.board.now.moves) inside (und one.0).stands
+    c.args.known.now (c.requires.liberties pos first)))
 
 -- a candidate is on the board
 candidate_inside : (shown : BoardState) (moves : List TrialMove) (target wide p : ℕ) → is_candidate (after shown moves) target wide p ≡ true → p < shown.size * shown.size

@@ -1,5 +1,6 @@
-use Rattle.std.proofs.Common.{◌≡◌, ℕ, ◌+◌, ◌-◌, ◌*◌, suc, true}
+use Rattle.std.proofs.Common.{◌≡◌, ℕ, ◌+◌, ◌*◌, suc, true, not}
 use Rattle.std.specs.FinSet as set
+use Rattle.go_rules.specs.Below.{count_below}
 use Rattle.go_rules.specs.Board.{largest_points}
 use Rattle.go_rules.specs.Position.{BoardState}
 use Rattle.go_base.specs.Facts.{Agrees, Grows}
@@ -36,7 +37,7 @@ decreases-some_success g l = 8 * l.plies + 5
 abbrev pub decreases-has_good_move : goal.decreases-has_good_move
 decreases-has_good_move g l = 8 * l.plies + 6
 
--- what is missing is what no point before the next one gave, on any position that agrees
+-- what is missing is what no point that was tried gave, on any position that agrees
 abbrev pub invariant-some_of-loop-p : goal.invariant-some_of-loop-p
 invariant-some_of-loop-p g l = record {
   stays : Stays g.L.Look.shows g.L.Look.seen l.fn.board l.board;
@@ -47,9 +48,10 @@ invariant-some_of-loop-p g l = record {
       → ((p : ℕ) → set.contains l.points p ≡ true → is_candidate (after pos l.fn.board.moves) l.turn.target l.turn.wide p ≡ true)
       → AddsNear (g.L.Look.seen l.fn.board.look) (g.L.Look.seen l.board.look) (InActiveArea q root);
   left : (pos : BoardState) → Agrees (g.L.Look.seen l.board.look) pos
-      → IsLeft l.plies l.turn (after pos l.fn.board.moves) (set.contains l.points) l.next l.asked l.missing;
+      → IsLeft l.plies l.turn (after pos l.fn.board.moves) (set.contains l.points) (set.contains l.tried) l.asked
+      l.missing;
 }
 
 -- how many points are left
 abbrev pub decreases-some_of-loop-p : goal.decreases-some_of-loop-p
-decreases-some_of-loop-p g l = largest_points - l.next
+decreases-some_of-loop-p g l = count_below largest_points (λ q. not (set.contains l.tried q))

@@ -1,0 +1,89 @@
+-- The points of a set are tried one after another, each once.
+use Rattle.std.proofs.Common.{◌≡◌, ℕ, ◌+◌, ◌*◌, ◌<◌, ◌≤◌, ◌⊎◌, ◌↔◌, ◌&&◌, ◌||◌, Bool, true, false, not, eqb, refl, sym, ap, ◌∙◌, arith, inl, inr}
+use Rattle.std.proofs.lemmas.Bool.{cases_Bool, cases_eq, cases_lt, both_ways, or_cases, or_right, or_left, eqb-true, eq-eqb}
+use Rattle.std.specs.Ordering.{nat_cmp}
+use Rattle.std.specs.FinSet as sets
+use Rattle.go_rules.specs.Below.{count_below, any_below}
+use Rattle.go_rules.proofs.Counts.{count_below_less, any_below_from}
+use Rattle.go_rules.proofs.Sets.{contains-insert_nat}
+use Rattle.go_base.specs.Views.{neighbours_of}
+use Rattle.go_rules.specs.Strings.{liberty_points}
+use Rattle.go_rules.specs.Position.{BoardState}
+use Rattle.read_rules.specs.declared.node.Node.{Node}
+use Rattle.read_rules.specs.declared.question.ReadingQuestion.{ReadingQuestion}
+use Rattle.read_rules.specs.GameTree.{is_captured}
+use Rattle.read_rules.specs.ActiveArea.{IsNodeOf, InActiveArea}
+use Rattle.read_rules.proofs.AreaLemmas.{area_candidates}
+use Rattle.read_moves.proofs.CandidateLemmas.{near_liberties}
+
+-- nothing is in the empty set
+pub none_tried : (tried : sets.FinSet nat_cmp) → tried ≡ sets.empty → (q : ℕ) → sets.contains tried q ≡ false
+none_tried tried none q = ap (λ k. sets.contains k q) none ∙ sets.contains-empty nat_cmp q
+
+-- what was tried is the newest point or was tried before
+pub newest_or_before : (old new : sets.FinSet nat_cmp) (p : ℕ) → new ≡ sets.insert old p → (q : ℕ)
+    → sets.contains new q ≡ true
+    → (q ≡ p) ⊎ (sets.contains old q ≡ true)
+newest_or_before old new p is q h =
+    elim (or_cases _ _ (sym (ap (λ k. sets.contains k q) is ∙ contains-insert_nat old p q) ∙ h)) [
+      | inl newest ↦ inl (eqb-true q p newest)
+      | inr before ↦ inr before
+    ]
+
+-- fewer points are left once one more was tried
+pub fewer_left : (n : ℕ) (old new : sets.FinSet nat_cmp) (p : ℕ) → new ≡ sets.insert old p → p < n
+    → sets.contains old p ≡ false
+    → count_below n (λ q. not (sets.contains new q)) < count_below n (λ q. not (sets.contains old q))
+fewer_left n old new p is inside yet =
+    count_below_less n (λ q. not (sets.contains new q)) (λ q. not (sets.contains old q)) (λ k l h. still k h) p inside
+    (ap not (has p ∙ or_left _ _ (eq-eqb p p refl))) (ap not yet)
+  where
+    has : (q : ℕ) → sets.contains new q ≡ (eqb q p || sets.contains old q)
+    has q = ap (λ k. sets.contains k q) is ∙ contains-insert_nat old p q
+
+    still : (q : ℕ) → not (sets.contains new q) ≡ true → not (sets.contains old q) ≡ true
+    still q h = elim (cases_Bool (sets.contains old q)) [
+      | inl t ↦ absurd (both_ways (not (sets.contains new q)) (ap not (has q ∙ or_right (eqb q p) (sets.contains old
+          q) t)) h)
+      | inr f ↦ ap not f
+    ]
+
+-- all points before the next one were tried, and this one too
+pub all_before : (points tried : ℕ → Bool) (next p : ℕ) → ((q : ℕ) → q < next → points q ≡ true → tried q ≡ true)
+    → ((q : ℕ) → next ≤ q → q < p → points q ≡ false) → tried p ≡ true → (q : ℕ) → q < p + 1 → points q ≡ true
+    → tried q ≡ true
+all_before points tried next p before between this q below has = elim (cases_lt q next) [
+  | inl early ↦ before q early has
+  | inr late ↦ elim (cases_eq q p) [
+    | inl e ↦ ap tried e ∙ this
+    | inr ne ↦ absurd (both_ways (points q) (between q late (omega (arith, below, ne))) has)
+  ]
+]
+
+-- a point of rank above 0 was not tried
+pub yet_to_try : (rank : ℕ) (tried : Bool) → (rank ≡ 0 ↔ tried ≡ true) → 0 < rank → tried ≡ false
+yet_to_try rank true both above = let none = both.1 refl in absurd (omega (arith, none, above))
+yet_to_try rank false both above = refl
+
+-- the sides of a known point are sides of the known points
+pub sides_of_known : (s p : ℕ) (known : ℕ → Bool) (r : ℕ) → p < s * s → (known p && neighbours_of s p r) ≡ true
+    → any_below (s * s) (λ k. known k && neighbours_of s k r) ≡ true
+sides_of_known s p known r on h = any_below_from (s * s) (λ k. known k && neighbours_of s k r) p on h
+
+-- where each point was tried, none is left
+pub none_left : (points tried : ℕ → Bool) → ((q : ℕ) → points q ≡ true → tried q ≡ true) → (q : ℕ) → tried q ≡ false
+    → points q ≡ false
+none_left points tried each q yet = elim (cases_Bool (points q)) [
+  | inl t ↦ absurd (both_ways (tried q) yet
+      (each q t))
+  | inr f ↦ f
+]
+
+-- the sides of the liberties are in the active area of each question that has the node in its trees
+pub order_near : (q : ReadingQuestion) (root here : BoardState) (n : ℕ) (node : Node) → IsNodeOf q root n node here
+    → (s : ℕ) → here.size ≡ s
+    → node.target < s * s → is_captured here node.target ≡ false → (known : sets.FinSet nat_cmp)
+    → known ≡ liberty_points s here.cells node.target
+    → (r : ℕ) → any_below (s * s) (λ l. sets.contains known l && neighbours_of s l r) ≡ true → InActiveArea q root r
+order_near q root here n node tree s size on stands known is r h =
+    area_candidates q root here n node tree s size on stands r (near_liberties s here.cells node.target on known r is h)
