@@ -2,9 +2,9 @@
 use Rattle.go_rules.specs.Board.{largest_size}
 use Rattle.std.proofs.Common.{◌≡◌, ℕ, zero, suc, ◌≤◌, Bool, true, false, cond, List, [], ◌∷◌, ◌++◌, length, get_or, map, sym, ap, subst, ◌∙◌, arith, Bor}
 use Rattle.std.proofs.lemmas.List.{map_push}
-use Rattle.db_diagram.specs.declared.marks.Marks.{Marks}
-use Rattle.db_diagram.specs.Reads.{IsMarked}
-use Rattle.db_diagram.proofs.LabelLemmas.{under-nil}
+use Rattle.db_entry.specs.declared.marks.Marks.{Marks}
+use Rattle.db_entry.specs.Reads.{IsMarked}
+use Rattle.db_entry.proofs.LabelLemmas.{under-nil}
 
 -- short words and one more
 pub shorts-push : (words : List (List ℕ)) (word : List ℕ) → ((k : ℕ) → length (get_or words k []) ≤ largest_size)

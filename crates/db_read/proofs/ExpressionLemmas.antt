@@ -8,8 +8,8 @@ use Rattle.cons_parse.specs.Trees.{meaning_of}
 use Rattle.cons_parse.specs.Reading.{expression_in, fault_in}
 use Rattle.cons_parse.specs.Reading as parsing
 use Rattle.db_lex.specs.Lines.{KeptLine}
-use Rattle.db_grammar.specs.Expressions.{blank, text_on, expression_text, kind_told, kind_of_expression, expression_on}
-use Rattle.db_grammar.specs.Faults.{at_line, first_number}
+use Rattle.db_rules.specs.Expressions.{blank, text_on, expression_text, kind_told, kind_of_expression, expression_on}
+use Rattle.db_rules.specs.Faults.{at_line, first_number}
 use Rattle.db_read.specs.declared.draft.ExpressionText.{ExpressionText}
 use Rattle.db_read.specs.Drafts.{KeepsText, IsTextOf, said_by}
 use Rattle.db_read.specs.Reading.{BlamesAt, expression_error}

@@ -4,15 +4,15 @@ use Rattle.std.specs.Prelude.{unwrap_or, true}
 use Rattle.std.specs.List.{position_or_len}
 use Rattle.pat_types.specs.Diagrams.{IsDiagram, is_star}
 use Rattle.pat_types.specs.Kept.{are_labels}
-use Rattle.db_grammar.specs.declared.shape.Shape.{Shape}
-use Rattle.db_grammar.specs.Blocks.{words_in}
-use Rattle.db_grammar.proofs.EntryLemmas.{diagram_of_entry, width_of-shape_in}
-use Rattle.db_grammar.proofs.Labelled.{labels_are_labels}
+use Rattle.db_rules.specs.declared.shape.Shape.{Shape}
+use Rattle.db_rules.specs.Blocks.{words_in}
+use Rattle.db_rules.proofs.EntryLemmas.{diagram_of_entry, width_of-shape_in}
+use Rattle.db_rules.proofs.Labelled.{labels_are_labels}
 use Rattle.db_lex.specs.declared.line.LineKind.TheVariants.{Pattern, Semicolon}
-use Rattle.db_grammar.specs.declared.stage.Stage.{Stage}
-use Rattle.db_grammar.specs.declared.stage.Stage.TheVariants.{Start, Diagram, Labels, Expression, Actions}
-use Rattle.db_grammar.specs.declared.stage.TableCell.TheVariants.{Next}
-use Rattle.db_grammar.specs.Blocks.{Block, SoFar, table}
+use Rattle.db_rules.specs.declared.stage.Stage.{Stage}
+use Rattle.db_rules.specs.declared.stage.Stage.TheVariants.{Start, Diagram, Labels, Expression, Actions}
+use Rattle.db_rules.specs.declared.stage.TableCell.TheVariants.{Next}
+use Rattle.db_rules.specs.Blocks.{Block, SoFar, table}
 use Rattle.db_read.specs.declared.draft.Draft.{Draft}
 use Rattle.db_read.specs.declared.reader.Reader.{Reader}
 use Rattle.db_read.specs.Drafts.{Drafts, IsComplete}

@@ -4,15 +4,15 @@ use Rattle.std.specs.Prelude.{slice_index}
 use Rattle.db_lex.specs.declared.line.LineKind.{LineKind}
 use Rattle.db_lex.specs.declared.line.LineKind.TheVariants.{Pattern, Colon, Semicolon, Action, Other}
 use Rattle.db_lex.specs.Lines.{KeptLine, kind_of}
-use Rattle.db_grammar.specs.declared.fault.LineError.{LineError}
-use Rattle.db_grammar.specs.declared.fault.LineError.TheVariants as line_errors
-use Rattle.db_grammar.specs.declared.stage.TableCell.{TableCell}
-use Rattle.db_grammar.specs.declared.stage.TableCell.TheVariants.{Next, Refused}
-use Rattle.db_grammar.specs.declared.stage.Stage.{Stage}
-use Rattle.db_grammar.specs.declared.stage.Stage.TheVariants.{Start, Diagram, Labels, Expression, Actions}
-use Rattle.db_grammar.specs.Blocks.{Block, SoFar, table, cell_for, end_refused, after_line, with_cell, placed}
-use Rattle.db_grammar.specs.Faults.{Blames, at_line, own_fault, table_fault, closing_fault, found, found_at_end}
-use Rattle.db_grammar.proofs.TableLemmas.{found_closing}
+use Rattle.db_rules.specs.declared.fault.LineError.{LineError}
+use Rattle.db_rules.specs.declared.fault.LineError.TheVariants as line_errors
+use Rattle.db_rules.specs.declared.stage.TableCell.{TableCell}
+use Rattle.db_rules.specs.declared.stage.TableCell.TheVariants.{Next, Refused}
+use Rattle.db_rules.specs.declared.stage.Stage.{Stage}
+use Rattle.db_rules.specs.declared.stage.Stage.TheVariants.{Start, Diagram, Labels, Expression, Actions}
+use Rattle.db_rules.specs.Blocks.{Block, SoFar, table, cell_for, end_refused, after_line, with_cell, placed}
+use Rattle.db_rules.specs.Faults.{Blames, at_line, own_fault, table_fault, closing_fault, found, found_at_end}
+use Rattle.db_rules.proofs.TableLemmas.{found_closing}
 use Rattle.db_read.specs.declared.error.DbError.{DbError}
 use Rattle.db_read.specs.declared.error.DbError.TheVariants as errors
 use Rattle.db_read.specs.declared.reader.Reader.{Reader}

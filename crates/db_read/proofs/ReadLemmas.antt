@@ -6,13 +6,13 @@ use Rattle.db_lex.specs.declared.line.Line.{Line}
 use Rattle.db_lex.specs.Lines.{KeptLine, kind_of, shown}
 use Rattle.db_read.specs.declared.error.DbError.{DbError}
 use Rattle.db_read.specs.declared.error.DbError.TheVariants as errors
-use Rattle.db_grammar.specs.declared.fault.Fault.{Fault}
+use Rattle.db_rules.specs.declared.fault.Fault.{Fault}
 use Rattle.db_read.specs.declared.reader.Reader.{Reader}
-use Rattle.db_grammar.specs.Kinds.{bad_byte}
-use Rattle.db_grammar.specs.Blocks.{SoFar, after_line, end_refused}
-use Rattle.db_grammar.specs.Faults.{at_line, closing_fault, found, found_at_end, first_fault}
+use Rattle.db_rules.specs.Kinds.{bad_byte}
+use Rattle.db_rules.specs.Blocks.{SoFar, after_line, end_refused}
+use Rattle.db_rules.specs.Faults.{at_line, closing_fault, found, found_at_end, first_fault}
 use Rattle.db_read.specs.Reading.{BlamesAt, Shows}
-use Rattle.db_grammar.proofs.Walk.{Reaches-step, Reaches-fault}
+use Rattle.db_rules.proofs.Walk.{Reaches-step, Reaches-fault}
 use Rattle.db_read.proofs.Walked.{Walked}
 
 abbrev bad_of : KeptLine → BadByte

@@ -9,16 +9,16 @@ use Rattle.pat_types.specs.Kept.{is_constraint}
 use Rattle.db_lex.specs.declared.line.LineKind.{LineKind}
 use Rattle.db_lex.specs.declared.line.LineKind.TheVariants.{Pattern, Colon, Semicolon, Action, Other}
 use Rattle.db_lex.specs.Lines.{KeptLine, word_of}
-use Rattle.db_grammar.specs.declared.stage.Stage.{Stage}
-use Rattle.db_grammar.specs.declared.stage.Stage.TheVariants.{Start, Diagram, Labels, Expression, Actions}
-use Rattle.db_grammar.specs.declared.stage.TableCell.TheVariants.{Next}
-use Rattle.db_grammar.specs.Kinds.{first_of, no_diagram, move_count, bad_mark, bad_class, bad_item, unknown_helper, constraint_shape}
-use Rattle.db_grammar.specs.Diagram.{diagram_fault, letters_of, star_count}
-use Rattle.db_grammar.specs.Colon.{colon_fault, fields_fault}
-use Rattle.db_grammar.specs.Labels.{constraint_fault, labels_closing_fault}
-use Rattle.db_grammar.specs.Blocks.{Block, SoFar, words_in, blocks_of, begun_with, placed, table}
-use Rattle.db_grammar.specs.Entries.{entry_of, entry_of_block}
-use Rattle.db_grammar.specs.Faults.{own_fault, at_line, first_number, expression_kind, expression_fault, closes, gathered_fault, closing_fault}
+use Rattle.db_rules.specs.declared.stage.Stage.{Stage}
+use Rattle.db_rules.specs.declared.stage.Stage.TheVariants.{Start, Diagram, Labels, Expression, Actions}
+use Rattle.db_rules.specs.declared.stage.TableCell.TheVariants.{Next}
+use Rattle.db_rules.specs.Kinds.{first_of, no_diagram, move_count, bad_mark, bad_class, bad_item, unknown_helper, constraint_shape}
+use Rattle.db_rules.specs.Diagram.{diagram_fault, letters_of, star_count}
+use Rattle.db_rules.specs.Colon.{colon_fault, fields_fault}
+use Rattle.db_rules.specs.Labels.{constraint_fault, labels_closing_fault}
+use Rattle.db_rules.specs.Blocks.{Block, SoFar, words_in, blocks_of, begun_with, placed, table}
+use Rattle.db_rules.specs.Entries.{entry_of, entry_of_block}
+use Rattle.db_rules.specs.Faults.{own_fault, at_line, first_number, expression_kind, expression_fault, closes, gathered_fault, closing_fault}
 use Rattle.db_read.specs.declared.draft.Draft.{Draft}
 use Rattle.db_read.specs.declared.error.DbError.{DbError}
 use Rattle.db_read.specs.declared.reader.Reader.{Reader}

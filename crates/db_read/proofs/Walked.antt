@@ -1,8 +1,8 @@
 -- What a reader has read of a text, and what is left of it.
 use Rattle.std.proofs.Common.{ℕ, List}
 use Rattle.db_lex.specs.Lines.{KeptLine}
-use Rattle.db_grammar.specs.Blocks.{SoFar}
-use Rattle.db_grammar.proofs.Walk.{Reaches}
+use Rattle.db_rules.specs.Blocks.{SoFar}
+use Rattle.db_rules.proofs.Walk.{Reaches}
 use Rattle.db_read.specs.Reading.{Shows}
 use Rattle.db_read.specs.declared.reader.Reader.{Reader}
 

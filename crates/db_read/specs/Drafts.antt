@@ -6,14 +6,14 @@ use Rattle.pat_types.specs.declared.mark.Mark.TheVariants.{Oh}
 use Rattle.cons_parse.specs.Trees.{Tree, tree_of, meaning_of}
 use Rattle.cons_parse.specs.Reading.{expression_in}
 use Rattle.db_lex.specs.Lines.{KeptLine}
-use Rattle.db_grammar.specs.Accepted.{IsDrawn, IsLabelled}
-use Rattle.db_grammar.specs.Diagram.{letters_of, star_count}
-use Rattle.db_grammar.specs.Colon.{fields_of, mark_of, class_field, class_letters, further, item_of}
-use Rattle.db_grammar.specs.Expressions.{expression_text}
-use Rattle.db_grammar.specs.Blocks.{Block, words_in}
-use Rattle.db_grammar.specs.Entries.{name_on, colon_bytes}
-use Rattle.db_grammar.specs.Faults.{first_number}
-use Rattle.db_diagram.specs.Reads.{Draws, IsMarked}
+use Rattle.db_rules.specs.Accepted.{IsDrawn, IsLabelled}
+use Rattle.db_rules.specs.Diagram.{letters_of, star_count}
+use Rattle.db_rules.specs.Colon.{fields_of, mark_of, class_field, class_letters, further, item_of}
+use Rattle.db_rules.specs.Expressions.{expression_text}
+use Rattle.db_rules.specs.Blocks.{Block, words_in}
+use Rattle.db_rules.specs.Entries.{name_on, colon_bytes}
+use Rattle.db_rules.specs.Faults.{first_number}
+use Rattle.db_entry.specs.Reads.{Draws, IsMarked}
 use Rattle.db_read.specs.declared.draft.Draft.{Draft}
 use Rattle.db_read.specs.declared.draft.ExpressionText.{ExpressionText}
 

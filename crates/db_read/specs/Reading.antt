@@ -3,21 +3,21 @@ use Rattle.std.specs.Prelude.{◌≡◌, ◌≢◌, ℕ, [], length, map, Option
 use Rattle.db_read.specs.declared.draft.Draft.{Draft}
 use Rattle.db_read.specs.declared.error.DbError.{DbError}
 use Rattle.db_read.specs.declared.error.DbError.TheVariants as errors
-use Rattle.db_grammar.specs.declared.fault.LineError.{LineError}
-use Rattle.db_grammar.specs.declared.fault.LineError.TheVariants as line_errors
-use Rattle.db_grammar.specs.declared.fault.Fault.{Fault}
+use Rattle.db_rules.specs.declared.fault.LineError.{LineError}
+use Rattle.db_rules.specs.declared.fault.LineError.TheVariants as line_errors
+use Rattle.db_rules.specs.declared.fault.Fault.{Fault}
 use Rattle.db_read.specs.declared.reader.Reader.{Reader}
-use Rattle.db_grammar.specs.declared.stage.Stage.{Stage}
-use Rattle.db_grammar.specs.declared.stage.Stage.TheVariants.{Start, Diagram, Labels, Expression, Actions}
+use Rattle.db_rules.specs.declared.stage.Stage.{Stage}
+use Rattle.db_rules.specs.declared.stage.Stage.TheVariants.{Start, Diagram, Labels, Expression, Actions}
 use Rattle.cons_parse.specs.declared.error.ConsError.{ConsError}
 use Rattle.cons_parse.specs.declared.error.ConsError.TheVariants as cons_errors
-use Rattle.db_grammar.specs.Kinds.{expr_fault, unknown_label}
+use Rattle.db_rules.specs.Kinds.{expr_fault, unknown_label}
 use Rattle.db_lex.specs.declared.line.LineKind.{LineKind}
 use Rattle.db_lex.specs.declared.line.LineKind.TheVariants.{Semicolon}
-use Rattle.db_grammar.specs.declared.stage.TableCell.TheVariants.{Next}
-use Rattle.db_grammar.specs.Blocks.{Block, SoFar, blocks_of, table}
+use Rattle.db_rules.specs.declared.stage.TableCell.TheVariants.{Next}
+use Rattle.db_rules.specs.Blocks.{Block, SoFar, blocks_of, table}
 use Rattle.db_read.specs.Drafts.{Drafts, HasOneStar, IsUnjudged, IsJudged}
-use Rattle.db_grammar.specs.Entries.{entry_of, entry_of_block}
+use Rattle.db_rules.specs.Entries.{entry_of, entry_of_block}
 
 -- the error is want of memory, or this fault
 abbrev pub BlamesAt : DbError → Option Fault → Type 0

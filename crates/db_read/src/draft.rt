@@ -3,7 +3,7 @@
 ghost use Rattle.go_rules.specs.Board.{largest_size};
 ghost use Rattle.std.specs.Prelude.{◌≡◌, ◌≤◌, ◌<◌, ℕ, [], length, get_or, map, vec_len};
 
-use db_diagram::{Diagram, Marks};
+use db_entry::{Diagram, Marks};
 use pat_types::{Bytes, Expr, Items, Mark};
 
 /// What is kept of the expression lines of an entry.

@@ -2,23 +2,22 @@
 
 ghost use Rattle.std.specs.Prelude.{◌==◌, if◌then◌else◌, ◌≡◌, ◌≤◌, ◌<◌, ◌^◌, ◌++◌, ◌∷◌, [], ℕ, List, length, map, IfOk, IfErr, OnOk, None};
 ghost use Rattle.db_lex.specs.Lines.{KeptLine, word_of};
-ghost use Rattle.db_grammar.specs.Blocks.{Block, begun_with, words_in};
-ghost use Rattle.db_grammar.specs.Colon.{colon_fault};
-ghost use Rattle.db_grammar.specs.Labels.{constraint_fault};
-ghost use Rattle.db_grammar.specs.Diagram.{diagram_fault};
+ghost use Rattle.db_rules.specs.Blocks.{Block, begun_with, words_in};
+ghost use Rattle.db_rules.specs.Colon.{colon_fault};
+ghost use Rattle.db_rules.specs.Labels.{constraint_fault};
+ghost use Rattle.db_rules.specs.Diagram.{diagram_fault};
 ghost use Rattle.db_read.specs.Drafts.{Drafts, KeepsText, IsTextOf, IsUnjudged, IsJudged};
 ghost use Rattle.db_read.specs.Reading.{BlamesAt, expression_error};
-ghost use Rattle.db_grammar.specs.Expressions.{text_on};
-ghost use Rattle.db_grammar.specs.Faults.{Blames, expression_kind, expression_fault};
-ghost use Rattle.db_diagram.specs.Reads.{Draws, IsMarked};
+ghost use Rattle.db_rules.specs.Expressions.{text_on};
+ghost use Rattle.db_rules.specs.Faults.{Blames, expression_kind, expression_fault};
+ghost use Rattle.db_entry.specs.Reads.{Draws, IsMarked};
 
 use crate::draft::{Draft, ExpressionText};
 use crate::error::DbError;
 use crate::names::name_of;
 use cons_parse::{ConsError, parse};
-use db_colon::{bytes_of, read_colon_line};
-use db_diagram::{Diagram, Marks};
-use db_grammar::{EXPR_FAULT, LineError, UNKNOWN_LABEL};
+use db_entry::{Diagram, Marks, bytes_of, read_colon_line};
+use db_rules::{EXPR_FAULT, LineError, UNKNOWN_LABEL};
 use pat_types::{Bytes, Items, Labels, Letters, Mark, NoMemory};
 use std::alloc::Global;
 

@@ -2,11 +2,11 @@
 
 ghost use Rattle.std.specs.Prelude.{IfNone, ◌≡◌, ◌<◌, ◌≤◌, ◌==◌, ◌||◌, not, nat_lt, ℕ, length};
 ghost use Rattle.std.specs.List.{list_all};
-ghost use Rattle.db_grammar.specs.Entries.{name_on};
-ghost use Rattle.db_grammar.specs.Faults.{is_name_char as may_be_in_name, pattern_fault as first_pattern_fault};
+ghost use Rattle.db_rules.specs.Entries.{name_on};
+ghost use Rattle.db_rules.specs.Faults.{is_name_char as may_be_in_name, pattern_fault as first_pattern_fault};
 
-use db_grammar::{NO_NAME, TOO_MANY_PATTERNS};
 use db_lex::{trim, word_len};
+use db_rules::{NO_NAME, TOO_MANY_PATTERNS};
 
 /// The name on a Pattern line: the first word of its rest.
 pub fn name_of(line: &[u8]) -> &[u8]
@@ -36,7 +36,7 @@ fn is_no_name(name: &[u8]) -> bool
 }
 
 /// The first fault of a Pattern line before which so many entries begin.
-#[tactic(auto, unfolding(db_grammar::specs::Faults::pattern_fault))]
+#[tactic(auto, unfolding(db_rules::specs::Faults::pattern_fault))]
 pub fn pattern_fault(entries: usize, line: &[u8]) -> Option<u8>
     ensures value { result ≡ first_pattern_fault entries line.now }
     ensures few { IfNone result (entries < 4096) }

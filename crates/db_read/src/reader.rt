@@ -1,7 +1,7 @@
 //! What is kept while a text is read.
 
 use crate::draft::Draft;
-use db_grammar::Stage;
+use db_rules::Stage;
 use pat_types::Pattern;
 
 /// A reader of a text.

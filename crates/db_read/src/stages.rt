@@ -3,18 +3,18 @@
 ghost use Rattle.std.specs.Prelude.{[], ◌∷◌, ◌≡◌, ◌<◌, ◌^◌, ◌+◌, ◌==◌, ◌&&◌, nat_lt, ℕ, Some, None, unwrap_or, false};
 ghost use Rattle.std.specs.List.{position_or_len};
 ghost use Rattle.pat_types.specs.Diagrams.{is_star};
-ghost use Rattle.db_grammar.specs.Blocks.{Block, table as next_by_table, end_refused};
-ghost use Rattle.db_grammar.specs.Faults.{closes as leaves};
+ghost use Rattle.db_rules.specs.Blocks.{Block, table as next_by_table, end_refused};
+ghost use Rattle.db_rules.specs.Faults.{closes as leaves};
 ghost use Rattle.db_read.specs.Reading.{error_at};
-ghost use Rattle.db_grammar.specs.Kinds.{first_of, constraint_shape};
-ghost use Rattle.db_grammar.specs.Entries.{entry_of, entry_of_block};
+ghost use Rattle.db_rules.specs.Kinds.{first_of, constraint_shape};
+ghost use Rattle.db_rules.specs.Entries.{entry_of, entry_of_block};
 ghost use Rattle.db_read.specs.Drafts.{Drafts, IsComplete};
 
 use crate::draft::Draft;
 use crate::error::DbError;
-use db_diagram::{Diagram, Marks, is_ascii_letter};
-use db_grammar::{CONSTRAINT_SHAPE, LineError, NO_COLON_LINE, STRAY_LINE, Shape, Stage, TableCell};
+use db_entry::{Diagram, Marks, is_ascii_letter};
 use db_lex::LineKind;
+use db_rules::{CONSTRAINT_SHAPE, LineError, NO_COLON_LINE, STRAY_LINE, Shape, Stage, TableCell};
 use pat_types::{Letter, Pattern};
 
 /// The table's cell for a line of this kind and first byte.

@@ -7,16 +7,16 @@ use Rattle.std.specs.Option.{option_map, option_to_list}
 use Rattle.db_lex.specs.declared.line.LineKind.{LineKind}
 use Rattle.db_lex.specs.declared.line.LineKind.TheVariants.{Pattern, Colon, Semicolon, Action, Other}
 use Rattle.db_lex.specs.Lines.{KeptLine, kind_of, kept_lines}
-use Rattle.db_grammar.specs.declared.fault.Fault.{Fault}
-use Rattle.db_grammar.specs.declared.stage.TableCell.{TableCell}
-use Rattle.db_grammar.specs.declared.stage.TableCell.TheVariants.{Next, Refused}
-use Rattle.db_grammar.specs.declared.stage.Stage.{Stage}
-use Rattle.db_grammar.specs.declared.stage.Stage.TheVariants.{Start, Diagram, Labels, Expression, Actions}
-use Rattle.db_grammar.specs.Blocks.{Block, SoFar, blocks_of, begun_with, placed, cell_for, with_cell, after_line, at_start, so_far}
-use Rattle.db_grammar.specs.Entries.{Entry, entry_of_block}
-use Rattle.db_grammar.specs.Kinds.{first_of}
-use Rattle.db_grammar.specs.Faults.{or_else, at_line, pattern_fault, own_fault, table_fault, closing_fault, found, first_fault, end_number, entries}
-use Rattle.db_grammar.proofs.Walk.{walk, first_fault-walk}
+use Rattle.db_rules.specs.declared.fault.Fault.{Fault}
+use Rattle.db_rules.specs.declared.stage.TableCell.{TableCell}
+use Rattle.db_rules.specs.declared.stage.TableCell.TheVariants.{Next, Refused}
+use Rattle.db_rules.specs.declared.stage.Stage.{Stage}
+use Rattle.db_rules.specs.declared.stage.Stage.TheVariants.{Start, Diagram, Labels, Expression, Actions}
+use Rattle.db_rules.specs.Blocks.{Block, SoFar, blocks_of, begun_with, placed, cell_for, with_cell, after_line, at_start, so_far}
+use Rattle.db_rules.specs.Entries.{Entry, entry_of_block}
+use Rattle.db_rules.specs.Kinds.{first_of}
+use Rattle.db_rules.specs.Faults.{or_else, at_line, pattern_fault, own_fault, table_fault, closing_fault, found, first_fault, end_number, entries}
+use Rattle.db_rules.proofs.Walk.{walk, first_fault-walk}
 use Rattle.session.specs.Opening.{most_patterns}
 
 -- there are few blocks

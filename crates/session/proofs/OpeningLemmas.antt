@@ -10,7 +10,7 @@ use Rattle.db_read.specs.declared.error.DbError.{DbError}
 use Rattle.db_read.specs.declared.error.DbError.TheVariants as db
 use Rattle.gtp_io.specs.declared.errors.LoadError.{LoadError}
 use Rattle.gtp_io.specs.declared.errors.LoadError.TheVariants as load
-use Rattle.db_grammar.specs.Faults.{first_fault}
+use Rattle.db_rules.specs.Faults.{first_fault}
 use Rattle.pat_types.specs.declared.pattern.Pattern.{Pattern}
 use Rattle.session.specs.declared.outcome.OpenError.{OpenError}
 use Rattle.session.specs.declared.outcome.OpenError.TheVariants as opening

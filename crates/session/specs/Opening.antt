@@ -7,8 +7,8 @@ use Rattle.gtp_io.specs.declared.errors.LoadError.TheVariants as load
 use Rattle.gtp_cmd.specs.Words.{line_feed}
 use Rattle.pat_types.specs.declared.pattern.Pattern.{Pattern}
 use Rattle.dfa_core.specs.States.{HasStates, HasMoreStates}
-use Rattle.db_grammar.specs.Entries.{entry_of}
-use Rattle.db_grammar.specs.Faults.{first_fault, entries}
+use Rattle.db_rules.specs.Entries.{entry_of}
+use Rattle.db_rules.specs.Faults.{first_fault, entries}
 use Rattle.db_read.specs.declared.error.DbError.{DbError}
 use Rattle.db_read.specs.declared.error.DbError.TheVariants as db
 use Rattle.dfa_join.specs.declared.error.JoinError.{JoinError}

@@ -1,8 +1,8 @@
 //! How a run opens the pattern files that its words name.
 ghost use Rattle.std.specs.Prelude.{◌≡◌, ◌≤◌, ◌++◌, [], length, drop, map, IfOk, OnOk, IfErr, None, string_bytes};
 ghost use Rattle.gtp_io.specs.Loading.{missed_after};
-ghost use Rattle.db_grammar.specs.Entries.{entry_of};
-ghost use Rattle.db_grammar.specs.Faults.{first_fault, entries};
+ghost use Rattle.db_rules.specs.Entries.{entry_of};
+ghost use Rattle.db_rules.specs.Faults.{first_fault, entries};
 ghost use Rattle.db_read.specs.Reading.{BlamesAt};
 ghost use Rattle.go_options.specs.Found.{AreInRange};
 ghost use Rattle.session.specs.Opening.{most_patterns, needs_feed, added_feed, Adds, IsJoined, MissedBy, MissedIn, HasFewStates, RefusesStates, IsRefused};

@@ -1,5 +1,5 @@
 use Rattle.std.proofs.Common.{refl, arith}
-use Rattle.db_grammar.specs.Labels.{labels_under}
+use Rattle.db_rules.specs.Labels.{labels_under}
 use Rattle.db_read.proofs.drafting.empty_marks.Goals as goal
 
 pub returns : goal.returns

@@ -1,6 +1,6 @@
 -- A blank and the text of the line stand behind the text that was kept.
 use Rattle.std.proofs.Common.{◌∙◌, ◌++◌, ◌∷◌, [], ap, sym, subst, refl}
-use Rattle.db_grammar.specs.Expressions.{blank}
+use Rattle.db_rules.specs.Expressions.{blank}
 use Rattle.db_read.specs.Drafts.{KeepsText}
 use Rattle.db_read.proofs.ExpressionLemmas.{more_text}
 use Rattle.db_read.proofs.drafting.with_line.Goals as goal

@@ -5,9 +5,9 @@ use Rattle.std.proofs.lemmas.Result.{IfOk-weaker, IfErr-weaker}
 use Rattle.db_lex.specs.declared.line.BadByte.{BadByte}
 use Rattle.db_lex.specs.declared.line.Line.{Line}
 use Rattle.db_lex.specs.Lines.{Lexed, IsSpelled}
-use Rattle.db_grammar.specs.Faults.{found_at_end}
+use Rattle.db_rules.specs.Faults.{found_at_end}
 use Rattle.db_read.specs.Reading.{BlamesAt}
-use Rattle.db_grammar.proofs.Walk.{Reaches-start, Reaches-end, Reaches-entries}
+use Rattle.db_rules.proofs.Walk.{Reaches-start, Reaches-end, Reaches-entries}
 use Rattle.db_read.proofs.Walked.{Walked}
 use Rattle.db_read.proofs.ReadLemmas.{bad_line, fine_line, found_bad, Walked-step, Walked-fault, Walked-blames}
 use Rattle.db_read.proofs.reading.read.Goals as goal

@@ -1,5 +1,5 @@
 -- A text without a fault has few entries, and its patterns are these.
-use Rattle.db_grammar.specs.Entries.{entry_of}
+use Rattle.db_rules.specs.Entries.{entry_of}
 use Rattle.session.proofs.FewPatterns.{few_read}
 use Rattle.session.proofs.opening.patterns_in.Goals as goal
 

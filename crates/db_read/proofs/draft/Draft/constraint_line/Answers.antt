@@ -2,10 +2,10 @@ use Rattle.std.proofs.Common.{◌≡◌, ◌∙◌, ◌++◌, ◌∷◌, [], sym
 use Rattle.std.proofs.lemmas.Result.{on_ok_weaker}
 use Rattle.std.proofs.lemmas.List.{map_push}
 use Rattle.db_lex.specs.Lines.{word_of}
-use Rattle.db_grammar.specs.Accepted.{IsLabelled, one_line_more}
-use Rattle.db_grammar.specs.Blocks.{words_in}
-use Rattle.db_grammar.specs.Labels.{constraint_fault}
-use Rattle.db_diagram.specs.Reads.{IsMarked}
+use Rattle.db_rules.specs.Accepted.{IsLabelled, one_line_more}
+use Rattle.db_rules.specs.Blocks.{words_in}
+use Rattle.db_rules.specs.Labels.{constraint_fault}
+use Rattle.db_entry.specs.Reads.{IsMarked}
 use Rattle.db_read.proofs.draft.Draft.constraint_line.Goals as goal
 
 -- a line without a fault is one more of the constraint diagram

@@ -2,9 +2,9 @@ use Rattle.std.proofs.Common.{◌≡◌, ◌∙◌, ◌++◌, ◌∷◌, [], Lis
 use Rattle.std.specs.Prelude.{ℕ}
 use Rattle.std.proofs.lemmas.List.{map_push}
 use Rattle.db_lex.specs.Lines.{word_of}
-use Rattle.db_grammar.specs.Accepted.{IsDrawn, IsLabelled, no_line, one_line_more}
-use Rattle.db_grammar.specs.Blocks.{words_in}
-use Rattle.db_diagram.specs.Reads.{Draws}
+use Rattle.db_rules.specs.Accepted.{IsDrawn, IsLabelled, no_line, one_line_more}
+use Rattle.db_rules.specs.Blocks.{words_in}
+use Rattle.db_entry.specs.Reads.{Draws}
 use Rattle.db_read.proofs.DraftLemmas.{shorts-pushed, IsMarked-under}
 use Rattle.db_read.proofs.draft.Draft.diagram_line.Goals as goal
 

@@ -1,6 +1,6 @@
 -- The draft counts the lines of both diagrams.
 use Rattle.std.proofs.Common.{◌∙◌, ap, sym}
-use Rattle.db_grammar.specs.Faults.{at_line}
+use Rattle.db_rules.specs.Faults.{at_line}
 use Rattle.db_read.proofs.ReaderLemmas.{labels_gathered}
 use Rattle.db_read.proofs.reader.Reader.close_labels.Goals as goal
 

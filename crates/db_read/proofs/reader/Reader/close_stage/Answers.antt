@@ -1,7 +1,7 @@
 -- A constraint diagram or an expression is closed, and whatever else stays as it is.
 use Rattle.std.proofs.Common.{◌≡◌, ◌∙◌, sym, subst, true}
-use Rattle.db_grammar.specs.declared.stage.Stage.TheVariants.{Expression}
-use Rattle.db_grammar.specs.Faults.{closes}
+use Rattle.db_rules.specs.declared.stage.Stage.TheVariants.{Expression}
+use Rattle.db_rules.specs.Faults.{closes}
 use Rattle.std.proofs.lemmas.Result.{on_ok_weaker, IfErr-weaker}
 use Rattle.db_read.proofs.ReaderLemmas.{closed_stage, closed_fault, closed_blames}
 use Rattle.db_read.proofs.reader.Reader.close_stage.Goals as goal

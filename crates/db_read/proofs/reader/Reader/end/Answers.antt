@@ -1,8 +1,8 @@
 -- What the end closes is left behind, and the end meets the same there.
 use Rattle.std.proofs.Common.{◌∙◌, ◌++◌, sym, ap, subst, map}
-use Rattle.db_grammar.specs.Blocks.{end_refused}
-use Rattle.db_grammar.specs.Entries.{entry_of_block}
-use Rattle.db_grammar.specs.Faults.{at_line}
+use Rattle.db_rules.specs.Blocks.{end_refused}
+use Rattle.db_rules.specs.Entries.{entry_of_block}
+use Rattle.db_rules.specs.Faults.{at_line}
 use Rattle.std.specs.Option.{option_to_list}
 use Rattle.db_read.specs.Reading.{ReadsNow}
 use Rattle.db_read.proofs.ReaderLemmas.{entries-closed}

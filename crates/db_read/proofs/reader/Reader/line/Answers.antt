@@ -2,10 +2,10 @@
 use Rattle.std.proofs.Common.{◌≡◌, ◌∙◌, sym, ap, subst, Some, None}
 use Rattle.std.specs.Prelude.{ℕ}
 use Rattle.db_read.specs.declared.error.DbError.{DbError}
-use Rattle.db_grammar.specs.Blocks.{cell_for}
-use Rattle.db_grammar.specs.Faults.{closing_fault, found, table_fault, at_line}
+use Rattle.db_rules.specs.Blocks.{cell_for}
+use Rattle.db_rules.specs.Faults.{closing_fault, found, table_fault, at_line}
 use Rattle.db_read.specs.Reading.{BlamesAt, Shows, error_at, settled}
-use Rattle.db_grammar.proofs.TableLemmas.{found_table}
+use Rattle.db_rules.proofs.TableLemmas.{found_table}
 use Rattle.db_read.proofs.LineLemmas.{blames_line, blames_closing, same_behind}
 use Rattle.db_read.proofs.reader.Reader.line.Goals as goal
 

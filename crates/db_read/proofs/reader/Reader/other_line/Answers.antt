@@ -3,11 +3,11 @@ use Rattle.std.specs.Prelude.{ℕ, slice_index}
 use Rattle.std.proofs.lemmas.Result.{on_ok_weaker, IfErr-weaker}
 use Rattle.db_lex.specs.declared.line.LineKind.TheVariants.{Other}
 use Rattle.db_lex.specs.Lines.{word_of}
-use Rattle.db_grammar.specs.declared.stage.TableCell.TheVariants.{Next}
-use Rattle.db_grammar.specs.declared.stage.Stage.TheVariants.{Diagram, Labels}
-use Rattle.db_grammar.specs.Blocks.{placed}
+use Rattle.db_rules.specs.declared.stage.TableCell.TheVariants.{Next}
+use Rattle.db_rules.specs.declared.stage.Stage.TheVariants.{Diagram, Labels}
+use Rattle.db_rules.specs.Blocks.{placed}
 use Rattle.db_read.specs.Reading.{Shows}
-use Rattle.db_grammar.proofs.TableLemmas.{other_diagram, other_labels}
+use Rattle.db_rules.proofs.TableLemmas.{other_diagram, other_labels}
 use Rattle.db_read.proofs.reader.Reader.other_line.Goals as goal
 
 pub returns-in-Diagram-clause-ok : goal.returns-in-Diagram-clause-ok

@@ -1,8 +1,8 @@
 use Rattle.std.proofs.Common.{◌≡◌, ◌∙◌, sym, subst, refl, ap, None, length}
-use Rattle.db_grammar.specs.Blocks.{blocks_of, begun_with}
+use Rattle.db_rules.specs.Blocks.{blocks_of, begun_with}
 use Rattle.db_read.specs.Drafts.{Drafts, IsComplete, IsUnjudged}
 use Rattle.db_read.proofs.FinishLemmas.{complete_at_pattern_line}
-use Rattle.db_grammar.specs.Faults.{pattern_fault}
+use Rattle.db_rules.specs.Faults.{pattern_fault}
 use Rattle.db_read.specs.Reading.{ReadsNow}
 use Rattle.db_read.specs.declared.draft.Draft.{Draft}
 use Rattle.db_read.proofs.ReaderLemmas.{pattern_ok}

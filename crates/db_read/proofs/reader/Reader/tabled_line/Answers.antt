@@ -1,8 +1,8 @@
 use Rattle.std.proofs.Common.{◌≡◌, ◌∙◌, sym, ap, List}
 use Rattle.std.specs.Prelude.{ℕ, slice_index}
 use Rattle.std.proofs.lemmas.Result.{on_ok_weaker}
-use Rattle.db_grammar.specs.declared.stage.TableCell.TheVariants.{Next}
-use Rattle.db_grammar.specs.Blocks.{cell_for, table}
+use Rattle.db_rules.specs.declared.stage.TableCell.TheVariants.{Next}
+use Rattle.db_rules.specs.Blocks.{cell_for, table}
 use Rattle.db_read.proofs.LineLemmas.{tabled_ok}
 use Rattle.db_read.proofs.reader.Reader.tabled_line.Goals as goal
 

@@ -2,13 +2,13 @@ use Rattle.std.proofs.Common.{◌≡◌, ◌∙◌, refl, sym, ap, subst, None, 
 use Rattle.std.specs.Prelude.{slice_index}
 use Rattle.std.proofs.lemmas.Result.{on_ok_weaker, IfErr-weaker}
 use Rattle.db_lex.specs.declared.line.LineKind.TheVariants.{Pattern, Action}
-use Rattle.db_grammar.specs.declared.stage.Stage.TheVariants.{Diagram, Expression, Actions}
-use Rattle.db_grammar.specs.declared.stage.TableCell.TheVariants.{Next}
-use Rattle.db_grammar.specs.Blocks.{placed, table, blocks_of}
-use Rattle.db_grammar.specs.Faults.{own_fault, pattern_fault}
-use Rattle.db_grammar.specs.Faults.{Blames}
+use Rattle.db_rules.specs.declared.stage.Stage.TheVariants.{Diagram, Expression, Actions}
+use Rattle.db_rules.specs.declared.stage.TableCell.TheVariants.{Next}
+use Rattle.db_rules.specs.Blocks.{placed, table, blocks_of}
+use Rattle.db_rules.specs.Faults.{own_fault, pattern_fault}
+use Rattle.db_rules.specs.Faults.{Blames}
 use Rattle.db_read.specs.Reading.{Shows}
-use Rattle.db_grammar.proofs.TableLemmas.{pattern_next}
+use Rattle.db_rules.proofs.TableLemmas.{pattern_next}
 use Rattle.db_read.proofs.LineLemmas.{action_next, action_no_semicolon}
 use Rattle.db_read.proofs.reader.Reader.taken_line.Goals as goal
 

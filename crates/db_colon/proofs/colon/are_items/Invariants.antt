@@ -1,8 +1,0 @@
-use Rattle.std.proofs.Common.{◌≡◌, drop, map}
-use Rattle.std.specs.List.{list_all}
-use Rattle.db_grammar.specs.Colon.{is_item as item}
-use Rattle.db_colon.proofs.colon.are_items.Given as goal
-
-abbrev pub invariant-loop-field : goal.invariant-loop-field
-invariant-loop-field l =
-    list_all item (map (λ f. f.now) (drop l.field-index l.fields)) ≡ list_all item (map (λ f. f.now) l.fields)

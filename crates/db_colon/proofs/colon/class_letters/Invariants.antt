@@ -1,6 +1,0 @@
-use Rattle.std.proofs.Common.{◌≡◌, take}
-use Rattle.db_grammar.specs.Colon.{class_letters as letters_in}
-use Rattle.db_colon.proofs.colon.class_letters.Given as goal
-
-abbrev pub invariant-loop-b : goal.invariant-loop-b
-invariant-loop-b l = l.list ≡ letters_in (take l.b-index l.field)

@@ -1,6 +1,0 @@
-use Rattle.std.proofs.Common.{◌≡◌, take, map}
-use Rattle.db_grammar.specs.Colon.{item_of as item_from}
-use Rattle.db_colon.proofs.colon.items_of.Given as goal
-
-abbrev pub invariant-loop-field : goal.invariant-loop-field
-invariant-loop-field l = l.list ≡ map item_from (map (λ f. f.now) (take l.field-index l.fields))

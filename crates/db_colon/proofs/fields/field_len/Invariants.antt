@@ -1,9 +1,0 @@
-use Rattle.std.proofs.Common.{◌≡◌, ◌≤◌, take, drop}
-use Rattle.db_grammar.specs.Colon.{split_at_commas}
-use Rattle.db_colon.proofs.FieldLemmas.{with_fronts}
-use Rattle.db_colon.proofs.fields.field_len.Given as goal
-
-abbrev pub invariant-loop-i : goal.invariant-loop-i
-invariant-loop-i l =
-    (l.depth ≤ l.i)
-    × (split_at_commas 0 l.text ≡ with_fronts (take l.i l.text) (split_at_commas l.depth (drop l.i l.text)))

@@ -1,2 +1,0 @@
-pub mod DiagramLemmas
-pub mod LabelLemmas

@@ -1,0 +1,80 @@
+-- Splitting at commas, one byte after the other.
+use Rattle.std.proofs.Common.{◌≡◌, ℕ, ◌+◌, ◌<◌, Bool, true, false, cond, List, [], ◌∷◌, ◌++◌, length, get_or, take, drop, refl, sym, ap, ◌∙◌, append_assoc, arith}
+use Rattle.std.specs.Prelude.{◌==◌, ◌&&◌, nat_lt, if◌then◌else◌}
+use Rattle.std.proofs.lemmas.Bool.{lt-ltb, le-ltb}
+use Rattle.std.proofs.lemmas.List.{at_drop_more, at_drop_all, take_more, append-nil}
+use Rattle.db_lex.specs.Lines.{with_front}
+use Rattle.db_rules.specs.Colon.{split_at_commas, depth_after, comma}
+
+-- more bytes in front of the first part
+abbrev pub with_fronts : List ℕ → List (List ℕ) → List (List ℕ)
+with_fronts front [] = front ∷ []
+with_fronts front (part ∷ more) = (front ++ part) ∷ more
+
+with_fronts-push : (front : List ℕ) (b : ℕ) (parts : List (List ℕ))
+    → with_fronts front (with_front b parts) ≡ with_fronts (front ++ b ∷ []) parts
+with_fronts-push front b [] = refl
+with_fronts-push front b (part ∷ more) = ap (λ p. p ∷ more) (sym (append_assoc front (b ∷ []) part))
+
+split-cons : (depth b : ℕ) (bs : List ℕ)
+    → split_at_commas depth (b ∷ bs) ≡ (if b == comma
+    && depth == 0 then [] ∷ split_at_commas 0 bs else with_front b (split_at_commas (depth_after depth b) bs))
+unfolding split_at_commas
+split-cons depth b bs = refl
+
+split-nil : (depth : ℕ) → split_at_commas depth [] ≡ [] ∷ []
+unfolding split_at_commas
+split-nil depth = refl
+
+with_front-some : (b : ℕ) (parts : List (List ℕ)) → with_fronts [] (with_front b parts) ≡ with_front b parts
+with_front-some b [] = refl
+with_front-some b (part ∷ more) = refl
+
+-- there is always a first part
+pub split-some : (text : List ℕ) → split_at_commas 0 text ≡ with_fronts [] (split_at_commas 0 text)
+split-some [] = rw (split-nil 0) refl
+split-some (b ∷ bs) = by_comma (b == comma && 0 == 0) (split-cons 0 b bs)
+  where
+    by_comma : (ends : Bool)
+        → split_at_commas 0 (b ∷ bs) ≡ cond ends ([] ∷ split_at_commas 0 bs)
+        (with_front b (split_at_commas (depth_after 0 b) bs))
+        → split_at_commas 0 (b ∷ bs) ≡ with_fronts [] (split_at_commas 0 (b ∷ bs))
+    by_comma true e = rw e refl
+    by_comma false e = e ∙ sym (ap (with_fronts []) e ∙ with_front-some b (split_at_commas (depth_after 0 b) bs))
+
+-- a byte that doesn't end the first part
+pub split-goes : (text : List ℕ) (i depth : ℕ) → i < length text → (get_or text i 0 == comma && depth == 0) ≡ false
+    → split_at_commas 0 text ≡ with_fronts (take i text) (split_at_commas depth (drop i text))
+    → split_at_commas 0 text ≡ with_fronts (take (i + 1) text)
+    (split_at_commas (depth_after depth (get_or text i 0)) (drop (i + 1) text))
+split-goes text i depth lt goes so_far =
+    let b = get_or text i 0 in
+    let one : split_at_commas depth (drop i text) ≡ with_front b
+    (split_at_commas (depth_after depth b) (drop (i + 1) text)) =
+    at_drop_more (split_at_commas depth) text i 0 lt ∙ split-cons depth b (drop (i + 1) text) ∙ rw goes refl in
+    so_far ∙ ap (with_fronts (take i text)) one
+    ∙ with_fronts-push (take i text) b (split_at_commas (depth_after depth b) (drop (i + 1) text))
+    ∙ ap (λ t. with_fronts t (split_at_commas (depth_after depth b) (drop (i + 1) text))) (sym (take_more text i 0 lt))
+
+-- a comma outside parentheses ends it
+pub split-ends : (text : List ℕ) (i depth : ℕ) → i < length text → (get_or text i 0 == comma && depth == 0) ≡ true
+    → split_at_commas 0 text ≡ with_fronts (take i text) (split_at_commas depth (drop i text))
+    → split_at_commas 0 text ≡ take i text ∷
+    (if nat_lt i (length text) then split_at_commas 0 (drop (i + 1) text) else [])
+split-ends text i depth lt stops so_far =
+    let b = get_or text i 0 in
+    let one : split_at_commas depth (drop i text) ≡ [] ∷ split_at_commas 0 (drop (i + 1) text) =
+    at_drop_more (split_at_commas depth) text i 0 lt ∙ split-cons depth b (drop (i + 1) text) ∙ rw stops refl in
+    rw (lt-ltb i (length text) lt) (so_far ∙ ap (with_fronts (take i text)) one
+    ∙ ap (λ t. t ∷ split_at_commas 0 (drop (i + 1) text)) (append-nil (take i text)))
+
+-- without one the first part is all
+pub split-whole : (text : List ℕ) (i depth : ℕ) → i ≡ length text
+    → split_at_commas 0 text ≡ with_fronts (take i text) (split_at_commas depth (drop i text))
+    → split_at_commas 0 text ≡ take (length text) text ∷
+    (if nat_lt (length text) (length text) then split_at_commas 0 (drop (length text + 1) text) else [])
+split-whole text i depth at_end so_far =
+    let one : split_at_commas depth (drop i text) ≡ [] ∷ [] =
+    at_drop_all (split_at_commas depth) text i (omega arith) ∙ split-nil depth in
+    rw (le-ltb (length text) (length text) (omega arith)) (so_far ∙ ap (with_fronts (take i text)) one
+    ∙ ap (λ t. t ∷ []) (append-nil (take i text) ∙ ap (λ n. take n text) at_end))

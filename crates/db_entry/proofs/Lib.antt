@@ -1,0 +1,4 @@
+pub mod DiagramLemmas
+pub mod LabelLemmas
+pub mod FieldLemmas
+pub mod FewFields

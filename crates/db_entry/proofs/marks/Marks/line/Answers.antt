@@ -1,0 +1,67 @@
+use Rattle.go_rules.specs.Board.{largest_size}
+use Rattle.std.proofs.Common.{◌≡◌, ◌<◌, ◌≤◌, ◌∙◌, ◌+◌, ◌++◌, true, false, List, length, map, subst, sym, ap, refl, arith}
+use Rattle.std.proofs.lemmas.List.{length-map}
+use Rattle.std.specs.Prelude.{ℕ}
+use Rattle.db_rules.specs.Labels.{repeats, labels_of_line}
+use Rattle.pat_types.specs.Kept.{are_apart}
+use Rattle.pat_types.specs.Diagrams.{drawn_line}
+use Rattle.db_entry.proofs.LabelLemmas.{constraint_fault-past, kept_fault_at, kept_push, repeats-same}
+use Rattle.db_entry.proofs.marks.Marks.line.Goals as goal
+
+-- without a main line there is a fault
+pub returns-then-self-mains-clause-err : goal.returns-then-self-mains-clause-err
+returns-then-self-mains-clause-err c = λ words s.
+    constraint_fault-past (map (λ f. f.now) c.args.mains.now) words c.args.word.now
+    (omega (arith, s.lines, length-map c.args.mains.now (λ f. f.now)))
+
+-- a word that does not repeat its main line is a fault
+pub returns-then-not-repeats-clause-err : goal.returns-then-not-repeats-clause-err
+returns-then-not-repeats-clause-err c = λ words s.
+    let fails : repeats c.word_at-main.result.now c.args.word.now ≡ false =
+    sym c.repeats.ensures ∙ c.if-not-repeats.true in
+    kept_fault_at c.args.self.now (map (λ f. f.now) c.args.mains.now) words c.args.word.now c.word_at-main.result.now s
+    (omega (arith, length-map c.args.mains.now (λ f. f.now))) c.word_at-main.ensures
+    ∙ rw fails refl
+
+pub push_labels-requires-clause-same : goal.push_labels-requires-clause-same
+push_labels-requires-clause-same c =
+    repeats-same c.word_at-main.result.now c.args.word.now (sym c.repeats.ensures ∙ c.if-not-repeats.false)
+
+pub push_labels-requires-clause-short : goal.push_labels-requires-clause-short
+push_labels-requires-clause-short c = let short : length c.word_at-main.result.now ≤ largest_size =
+    subst (λ (w : List ℕ). length w ≤ largest_size) (sym c.word_at-main.ensures)
+    (c.requires.short c.args.self.now.lines) in omega arith
+
+-- two labels of one letter are a fault
+pub returns-then-not-are_apart-clause-err : goal.returns-then-not-are_apart-clause-err
+returns-then-not-are_apart-clause-err c = λ words s.
+    let m = c.args.self.now in
+    let passes : repeats c.word_at-main.result.now c.args.word.now ≡ true =
+    sym c.repeats.ensures ∙ c.if-not-repeats.false in
+    let all : c.as_slice.result.now ≡ m.labels ++ labels_of_line m.rows c.word_at-main.result.now c.args.word.now =
+    c.as_slice.ensures ∙ c.in-Ok.ensures in
+    let fails : are_apart (m.labels ++ labels_of_line m.rows c.word_at-main.result.now c.args.word.now) ≡ false =
+    ap are_apart (sym all) ∙ sym c.are_apart.ensures ∙ c.if-not-are_apart.true in
+    kept_fault_at m (map (λ f. f.now) c.args.mains.now) words c.args.word.now c.word_at-main.result.now s
+    (omega (arith, length-map c.args.mains.now (λ f. f.now))) c.word_at-main.ensures
+    ∙ rw (passes, fails) refl
+
+pub returns-clause-ok : goal.returns-clause-ok
+returns-clause-ok c = λ words s.
+    let m = c.args.self.now in
+    let lt : m.lines < length (map (λ f. f.now) c.args.mains.now) =
+    omega (arith, length-map c.args.mains.now (λ f. f.now)) in
+    let passes : repeats c.word_at-main.result.now c.args.word.now ≡ true =
+    sym c.repeats.ensures ∙ c.if-not-repeats.false in
+    let all : c.as_slice.result.now ≡ m.labels ++ labels_of_line m.rows c.word_at-main.result.now c.args.word.now =
+    c.as_slice.ensures ∙ c.in-Ok.ensures in
+    let apart : are_apart (m.labels ++ labels_of_line m.rows c.word_at-main.result.now c.args.word.now) ≡ true =
+    ap are_apart (sym all) ∙ sym c.are_apart.ensures ∙ c.if-not-are_apart.false in (
+      kept_fault_at m
+          (map (λ f. f.now) c.args.mains.now) words c.args.word.now c.word_at-main.result.now s lt
+          c.word_at-main.ensures ∙ rw (passes, apart) refl,
+      kept_push m _
+          (map (λ f. f.now) c.args.mains.now) words c.args.word.now c.word_at-main.result.now s lt
+          c.word_at-main.ensures refl
+          (c.rows_after-self.ensures ∙ ap (λ b. m.rows + drawn_line b) c.is_row.ensures) c.in-Ok.ensures,
+    )

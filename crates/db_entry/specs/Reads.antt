@@ -1,0 +1,38 @@
+-- What the parts of a reader have read of the lines of a block.
+use Rattle.go_rules.specs.Board.{largest_size}
+use Rattle.std.specs.Prelude.{◌≡◌, ◌≤◌, take, ◌*◌, ◌&&◌, ◌||◌, not, nat_lt, nat_le, ℕ, List, [], ◌∷◌, length, Option}
+use Rattle.db_entry.specs.declared.diagram.Diagram.{Diagram}
+use Rattle.db_entry.specs.declared.marks.Marks.{Marks}
+use Rattle.db_rules.specs.Labels.{labels_of}
+use Rattle.db_rules.specs.Kinds.{first_of, bad_letter, edge_place, ragged, too_large}
+use Rattle.db_rules.specs.Diagram.{is_edge_line, is_row, line_shape, other_sides, other_width, rows_of, has_top, has_bottom, wanted, letters_of, width_of}
+
+-- the first fault of a line, by what is kept of the lines before
+abbrev pub kept_fault : Diagram → List ℕ → Option ℕ
+kept_fault d word = first_of (
+    (not (is_edge_line word || is_row word), bad_letter)
+    ∷ (
+      is_edge_line word && not (nat_lt 0 d.rows) && d.top || d.bottom
+          || other_sides (line_shape word) d.shape,
+      edge_place,
+    )
+    ∷ (other_width (line_shape word) d.shape, ragged)
+    ∷ (nat_lt largest_size (length word) || nat_le largest_size d.lines, too_large)
+    ∷ [])
+
+-- what is kept of a diagram is that of these words
+pub record Draws (d : Diagram) (words : List (List ℕ)) : Type 0 where
+  pub lines : d.lines ≡ length words
+  pub rows : d.rows ≡ length (rows_of words)
+  pub top : d.top ≡ has_top words
+  pub bottom : d.bottom ≡ has_bottom words
+  pub shape : d.shape ≡ wanted words
+  pub letters : d.letters ≡ letters_of words
+  pub whole : length (letters_of words) ≡ length (rows_of words) * width_of (wanted words)
+
+-- what is kept of a constraint diagram under a main diagram is that of these words
+pub record IsMarked (m : Marks) (diagram words : List (List ℕ)) : Type 0 where
+  pub lines : m.lines ≡ length words
+  pub within : length words ≤ length diagram
+  pub rows : m.rows ≡ length (rows_of (take (length words) diagram))
+  pub labels : m.labels ≡ labels_of diagram words

@@ -1,7 +1,0 @@
--- Each line of a text without a fault goes to its place in a whole block; and whole blocks are read without a fault.
-use Rattle.db_grammar.proofs.Cut.{faultless_is_database}
-use Rattle.db_grammar.proofs.Whole.{database_is_read}
-use Rattle.db_grammar.proofs.laws.databases_have_no_fault.Goals as goal
-
-pub returns : goal.returns
-returns c = λ helpers text. (faultless_is_database helpers text, λ d. (database_is_read helpers text d).faultless)

@@ -1,0 +1,293 @@
+-- What is true of the main diagram of an entry without a fault.
+use Rattle.std.proofs.Common.{◌≡◌, ℕ, zero, suc, ◌+◌, ◌-◌, ◌*◌, ◌<◌, ◌≤◌, Bool, true, false, not, cond, List, [], ◌∷◌, ◌++◌, length, take, drop, get_or, Option, Some, None, refl, sym, ap, subst, ◌∙◌, arith}
+use Rattle.std.specs.Prelude.{◌&&◌, ◌||◌, ◌==◌, nat_lt, nat_le, slice_index, is_some, IfSome}
+use Rattle.std.specs.List.{list_all}
+use Rattle.std.proofs.lemmas.Bool.{and_parts, or_parts, ltb-false, leb-false, ltb-true, eqb-true, cases_lt}
+use Rattle.std.proofs.Common.{inl, inr}
+use Rattle.std.proofs.Math.ListN.{get_or-append}
+use Rattle.std.proofs.Math.Seq.{get_or-append_seam}
+use Rattle.std.proofs.lemmas.List.{length-append, length-take}
+use Rattle.go_rules.specs.Board.{largest_size}
+use Rattle.pat_types.specs.Diagrams.{drawn_line}
+use Rattle.db_rules.specs.declared.shape.Shape.{Shape}
+use Rattle.db_rules.specs.Kinds.{bad_letter, edge_place, ragged, too_large}
+use Rattle.db_rules.specs.Diagram.{is_letter, is_dash, plus, bar, begins, without_left, ends, inner, is_edge_line, is_row, shape_of, rows_of, has_row, has_top, has_bottom, wanted, wanted_of, line_shape, other_sides, other_width, is_misplaced, diagram_fault, letters_of, width_of}
+use Rattle.db_rules.specs.Accepted.{IsDrawn, no_line, one_line_more}
+use Rattle.db_rules.proofs.OneMoreLine.{none_of_four, length-rows_of-push, has_top-push, ends_in_edge-push, wanted-push, whole-push}
+
+-- the first byte of a front that has a byte, all of which pass, passes
+front_passes : (P : ℕ → Bool) (k b : ℕ) (bs : List ℕ) → nat_lt 0 (length (take k (b ∷ bs))) ≡ true
+    → list_all P (take k (b ∷ bs)) ≡ true → P b ≡ true
+front_passes P zero b bs some all = absurd cc
+front_passes P (suc k) b bs some all = (and_parts (P b) (list_all P (take k bs)) all).0
+
+-- the first byte of a word whose inner part has a byte, all of which pass, is the edge's byte or passes
+first_passes : (P : ℕ → Bool) (m b : ℕ) (bs : List ℕ)
+    → (nat_lt 0 (length (inner m (b ∷ bs))) && list_all P (inner m (b ∷ bs))) ≡ true → (b == m) ≡ false → P b ≡ true
+first_passes P m b bs both apart =
+    let parts = and_parts (nat_lt 0 (length (inner m (b ∷ bs)))) (list_all P (inner m (b ∷ bs))) both in
+    let left : without_left m (b ∷ bs) ≡ b ∷ bs = rw apart refl in
+    front_passes P (length (without_left m (b ∷ bs)) - drawn_line (ends m (b ∷ bs))) b bs
+    (subst (λ w. nat_lt 0
+    (length (take (length (without_left m (b ∷ bs)) - drawn_line (ends m (b ∷ bs))) w)) ≡ true) left parts.0)
+    (subst (λ w. list_all P
+    (take (length (without_left m (b ∷ bs)) - drawn_line (ends m (b ∷ bs))) w) ≡ true) left parts.1)
+
+-- a byte that a row may begin with is none that an edge line may begin with
+begins_one : (b : ℕ) (barred crossed : Bool) → (b == bar) ≡ barred → (b == plus) ≡ crossed
+    → (barred ≡ false → is_letter b ≡ true) → (crossed ≡ false → is_dash b ≡ true) → ⊥
+begins_one b true true e f letter dash =
+    let is_bar : b ≡ 124 = eqb-true b 124 e in
+    let is_plus : b ≡ 43 = eqb-true b 43 f in
+    omega (arith, is_bar, is_plus)
+begins_one b true false e f letter dash =
+    let is_bar : b ≡ 124 = eqb-true b 124 e in
+    let is_minus : b ≡ 45 = eqb-true b 45 (dash refl) in
+    omega (arith, is_bar, is_minus)
+begins_one b false true e f letter dash =
+    let plus_is : is_letter 43 ≡ true = subst (λ x. is_letter x ≡ true) (eqb-true b 43 f) (letter refl) in absurd cc
+begins_one b false false e f letter dash =
+    let minus_is : is_letter 45 ≡ true =
+    subst (λ x. is_letter x ≡ true) (eqb-true b 45 (dash refl)) (letter refl) in absurd cc
+
+-- a test that cannot pass fails
+pub fails : (b : Bool) → (b ≡ true → ⊥) → b ≡ false
+fails true never = absurd (never refl)
+fails false never = refl
+
+-- a row is no edge line
+pub row_is_no_edge_line : (word : List ℕ) → is_row word ≡ true → is_edge_line word ≡ false
+unfolding is_row is_edge_line
+row_is_no_edge_line [] row = absurd cc
+row_is_no_edge_line (b ∷ bs) row =
+    fails _ (λ edge. begins_one b _ _ refl refl (λ apart. first_passes is_letter bar b bs row apart)
+    (λ apart. first_passes is_dash plus b bs edge apart))
+
+-- the inner part of a rest and the byte behind it are within the rest, where the byte is not 0
+pub inner_within : (m : ℕ) (rest : List ℕ) → (0 == m) ≡ false
+    → length (take (length rest - drawn_line (slice_index rest (length rest - 1) == m)) rest) + drawn_line
+    (slice_index rest (length rest - 1) == m) ≤ length rest
+inner_within m [] apart = rw apart (omega arith)
+inner_within m (x ∷ xs) apart = by_end (slice_index (x ∷ xs) (length (x ∷ xs) - 1) == m)
+  where
+    by_end : (b : Bool) → length (take (length (x ∷ xs) - drawn_line b) (x ∷ xs)) + drawn_line b ≤ length (x ∷ xs)
+    by_end true = rw (length-take (length (x ∷ xs) - 1) (x ∷ xs)) (omega arith)
+    by_end false = rw (length-take (length (x ∷ xs) - 0) (x ∷ xs)) (omega arith)
+
+-- a word without its left edge, and that edge, are the word
+pub left_within : (m : ℕ) (word : List ℕ) → (0 == m) ≡ false
+    → drawn_line (begins m word) + length (without_left m word) ≤ length word
+left_within m [] apart = rw apart (omega arith)
+left_within m (b ∷ bs) apart = by_begin (b == m)
+  where
+    by_begin : (c : Bool) → drawn_line c + length (drop (drawn_line c) (b ∷ bs)) ≤ length (b ∷ bs)
+    by_begin true = omega arith
+    by_begin false = omega arith
+
+-- a shape and its edges lie within the word that has it
+pub shape_within : (m : ℕ) (word : List ℕ) → (0 == m) ≡ false
+    → drawn_line (shape_of m word).left + (shape_of m word).width + drawn_line (shape_of m word).right ≤ length word
+unfolding shape_of
+shape_within m word apart = omega (arith, left_within m word apart, inner_within m (without_left m word) apart)
+
+-- the shape has a letter, and lies with its edges within the largest board
+pub record IsFit (s : Shape) : Type 0 where
+  pub some : 0 < s.width
+  pub within : drawn_line s.left + s.width + drawn_line s.right ≤ largest_size
+
+-- a row has a letter
+wide_row : (word : List ℕ) → is_row word ≡ true → 0 < (shape_of bar word).width
+unfolding is_row shape_of
+wide_row word row = ltb-true 0 (length (inner bar word)) (and_parts (nat_lt 0 (length (inner bar word))) _ row).0
+
+-- an edge line has a `-`
+wide_edge : (word : List ℕ) → is_edge_line word ≡ true → 0 < (shape_of plus word).width
+unfolding is_edge_line shape_of
+wide_edge word edge = ltb-true 0 (length (inner plus word)) (and_parts (nat_lt 0 (length (inner plus word))) _ edge).0
+
+-- a row or an edge line that is short enough has a shape that fits
+line_fits : (word : List ℕ) → (is_edge_line word || is_row word) ≡ true → length word ≤ largest_size
+    → IsFit (line_shape word)
+line_fits word line short = by_row (is_row word) (is_edge_line word) refl refl line
+  where
+    by_row : (row edge : Bool) → is_row word ≡ row → is_edge_line word ≡ edge → (edge || row) ≡ true
+        → IsFit (cond row (shape_of bar word) (shape_of plus word))
+    by_row true edge r e some =
+        record { some = wide_row word r; within = omega (arith, short, shape_within bar word refl) }
+    by_row false true r e some =
+        record { some = wide_edge word e; within = omega (arith, short, shape_within plus word refl) }
+    by_row false false r e some = absurd cc
+
+-- what is true of a further line of a diagram that has no fault
+pub record IsFineLine (words : List (List ℕ)) (word : List ℕ) : Type 0 where
+  pub line : (is_edge_line word || is_row word) ≡ true
+  pub no_bottom : has_bottom words ≡ false
+  pub even : other_width (line_shape word) (wanted words) ≡ false
+  pub short : length word ≤ largest_size
+  pub few : length words < largest_size
+
+-- a test that is not the negation's is true
+pub is_true : (b : Bool) → not b ≡ false → b ≡ true
+is_true true e = refl
+is_true false e = absurd cc
+
+-- a further line without a fault passes each test
+pub fine_line : (words : List (List ℕ)) (word : List ℕ) → diagram_fault words word ≡ None → IsFineLine words word
+unfolding diagram_fault is_misplaced
+fine_line words word none =
+    let tests = none_of_four _ _ _ _ bad_letter edge_place ragged too_large none in
+    let placed =
+    or_parts (is_edge_line word && not (has_row words) && has_top words
+    || has_bottom words) (other_sides (line_shape word) (wanted words)) tests.second in
+    let top_or_bottom =
+    or_parts (is_edge_line word && not (has_row words) && has_top words) (has_bottom words) placed.0 in
+    let large = or_parts (nat_lt largest_size (length word)) (nat_le largest_size (length words)) tests.fourth in
+    record {
+      line = is_true (is_edge_line word || is_row word) tests.first;
+      no_bottom = top_or_bottom.1;
+      even = tests.third;
+      short = ltb-false _ _ large.0;
+      few = leb-false _ _ large.1;
+    }
+
+-- a diagram without a fault has at most as many lines as the largest board has rows
+pub drawn_few : (words : List (List ℕ)) → IsDrawn words → length words ≤ largest_size
+drawn_few _ no_line = omega arith
+drawn_few _ (one_line_more words word drawn none) =
+    omega (arith, (fine_line words word none).few, length-append words (word ∷ []))
+
+-- one line more is one row or one edge more, where the bottom edge is not drawn yet
+one_more : (rows lines : ℕ) (row edge top begun rowed : Bool) → (edge || row) ≡ true → (row ≡ true → edge ≡ false)
+    → (begun ≡ false → lines ≡ 0) → (rowed ≡ true → 0 < rows + drawn_line row)
+    → rows + drawn_line top ≤ lines
+    → rows + drawn_line row + drawn_line (cond begun top edge) + drawn_line (rowed && edge) ≤ lines + 1
+one_more rows lines true true top begun rowed line apart first some counted = absurd (cc (apart refl))
+one_more rows lines true false top true true line apart first some counted = omega (arith, counted)
+one_more rows lines true false top true false line apart first some counted = omega (arith, counted)
+one_more rows lines true false top false true line apart first some counted = omega (arith, counted)
+one_more rows lines true false top false false line apart first some counted = omega (arith, counted)
+one_more rows lines false true top true true line apart first some counted = omega (arith, counted)
+one_more rows lines false true top true false line apart first some counted = omega (arith, counted)
+one_more rows lines false true top false true line apart first some counted =
+    omega (arith, counted, first refl, some refl)
+one_more rows lines false true top false false line apart first some counted = omega (arith, counted, first refl)
+one_more rows lines false false top begun rowed line apart first some counted = absurd cc
+
+-- its rows and its edges at the top and the bottom are lines of it
+pub drawn_lines : (words : List (List ℕ)) → IsDrawn words
+    → length (rows_of words) + drawn_line (has_top words) + drawn_line (has_bottom words) ≤ length words
+drawn_lines _ no_line = omega arith
+drawn_lines _ (one_line_more words word drawn none) =
+    let fine = fine_line words word none in
+    let before : length (rows_of words) + drawn_line (has_top words) ≤ length words =
+    omega (arith, drawn_lines words drawn) in
+    let rows = length-rows_of-push words word in
+    let all =
+    one_more (length (rows_of words)) (length words) (is_row word) (is_edge_line word) (has_top words)
+    (nat_lt 0 (length words)) (nat_lt 0 (length (rows_of words) + drawn_line (is_row word)))
+    fine.line (row_is_no_edge_line word) (λ e. omega (arith, ltb-false _ _ e)) (ltb-true 0 _) before in
+    rw (rows, has_top-push words word, ends_in_edge-push words word, length-append words (word ∷ [])) all
+
+-- its letters are as many as its rows times its width
+pub drawn_whole : (words : List (List ℕ)) → IsDrawn words
+    → length (letters_of words) ≡ length (rows_of words) * width_of (wanted words)
+drawn_whole _ no_line = omega arith
+drawn_whole _ (one_line_more words word drawn none) =
+    whole-push words word (drawn_whole words drawn) (fine_line words word none).even
+
+-- its shape fits, where it has one
+pub drawn_fits : (words : List (List ℕ)) → IsDrawn words → IfSome (wanted words) IsFit
+unfolding wanted
+drawn_fits _ no_line = tt
+drawn_fits _ (one_line_more words word drawn none) =
+    let fine = fine_line words word none in
+    subst (λ o. IfSome o IsFit) (sym (wanted-push words word)) (by_first (nat_lt 0 (length (rows_of words))
+    || not (is_row word) && nat_lt 0 (length words)) (drawn_fits words drawn) (line_fits word fine.line fine.short))
+  where
+    by_first : (b : Bool) → IfSome (wanted words) IsFit → IsFit (line_shape word)
+        → IfSome (cond b (wanted words) (Some (line_shape word))) IsFit
+    by_first true before now = before
+    by_first false before now = now
+
+-- a diagram with a line has a shape
+has_shape : (words : List (List ℕ)) → 0 < length words → is_some (wanted words) ≡ true
+unfolding wanted
+has_shape words some = by_rows (rows_of words) words some
+  where
+    by_rows : (rows lines : List (List ℕ)) → 0 < length lines → is_some (wanted_of rows lines) ≡ true
+    by_rows (row ∷ rows) lines some = refl
+    by_rows [] (line ∷ lines) some = refl
+    by_rows [] [] some = absurd (omega arith)
+
+-- a shape of the same width leaves the width
+same_width : (kept : Bool) (s : Shape) (o : Option Shape) → is_some o ≡ true → other_width s o ≡ false
+    → width_of (cond kept o (Some s)) ≡ width_of o
+same_width true s o there even = refl
+same_width false s None there even = absurd cc
+same_width false s (Some w) there even = eqb-true _ _ (is_true (s.width == w.width) even)
+
+-- the shape that is kept has the width of the further line
+width_now : (kept : Bool) (s : Shape) (o : Option Shape) → (kept ≡ true → is_some o ≡ true) → other_width s o ≡ false
+    → s.width ≡ width_of (cond kept o (Some s))
+width_now true s None there even = absurd (cc (there refl))
+width_now true s (Some w) there even = eqb-true _ _ (is_true (s.width == w.width) even)
+width_now false s o there even = refl
+
+-- whether the shape so far is kept behind a further line
+abbrev is_kept : List (List ℕ) → List ℕ → Bool
+is_kept words word = nat_lt 0 (length (rows_of words)) || not (is_row word) && nat_lt 0 (length words)
+
+-- a shape that is kept is there
+kept_there : (words : List (List ℕ)) (word : List ℕ) → is_kept words word ≡ true → is_some (wanted words) ≡ true
+kept_there [] word kept = absurd (by_row (is_row word) kept)
+  where
+    by_row : (row : Bool) → (false || not row && false) ≡ true → ⊥
+    by_row true e = cc e
+    by_row false e = cc e
+kept_there (w ∷ words) word kept = has_shape (w ∷ words) (omega arith)
+
+-- a further line that is no first one leaves the width
+width_stays : (words : List (List ℕ)) (word : List ℕ) → 0 < length words → IsFineLine words word
+    → width_of (wanted (words ++ word ∷ [])) ≡ width_of (wanted words)
+width_stays words word some fine =
+    ap width_of (wanted-push words word)
+    ∙ same_width (is_kept words word) (line_shape word) (wanted words) (has_shape words some) fine.even
+
+-- the shape of a row is its shape as a line
+line_shape-row : (word : List ℕ) → is_row word ≡ true → shape_of bar word ≡ line_shape word
+line_shape-row word row = rw row refl
+
+-- each row of the diagram has its width
+pub drawn_even : (words : List (List ℕ)) → IsDrawn words → (k : ℕ) → k < length words
+    → is_row (get_or words k []) ≡ true → (shape_of bar (get_or words k [])).width ≡ width_of (wanted words)
+drawn_even _ no_line k lt row = absurd (omega arith)
+drawn_even _ (one_line_more words word drawn none) k lt row = elim (cases_lt k (length words)) [
+  | inl before ↦
+      let there = get_or-append words (word ∷ []) [] k before in
+      let was = drawn_even words drawn k before (subst (λ w. is_row w ≡ true) there row) in
+      ap (λ w. (shape_of bar w).width) there ∙ was
+      ∙ sym (width_stays words word (omega arith) (fine_line words word none))
+  | inr last ↦
+      let is_last : k ≡ length words = omega (arith, length-append words (word ∷ [])) in
+      let there : get_or (words ++ word ∷ []) k [] ≡ word =
+      ap (λ n. get_or (words ++ word ∷ []) n []) is_last ∙ get_or-append_seam words word [] [] in
+      ap (λ w. (shape_of bar w).width) there
+      ∙ ap (λ (s : Shape). s.width) (line_shape-row word (subst (λ w. is_row w ≡ true) there row))
+      ∙ width_now (is_kept words word) (line_shape word) (wanted words) (kept_there words word)
+      (fine_line words word none).even
+      ∙ ap width_of (sym (wanted-push words word))
+]
+
+-- each line of the diagram is an edge line or a row
+pub drawn_line_kinds : (words : List (List ℕ)) → IsDrawn words → (k : ℕ) → k < length words
+    → (is_edge_line (get_or words k []) || is_row (get_or words k [])) ≡ true
+drawn_line_kinds _ no_line k lt = absurd (omega arith)
+drawn_line_kinds _ (one_line_more words word drawn none) k lt = elim (cases_lt k (length words)) [
+  | inl before ↦ ap (λ w. is_edge_line w || is_row w) (get_or-append words (word ∷ []) [] k before)
+      ∙ drawn_line_kinds words drawn k before
+  | inr last ↦
+      let is_last : k ≡ length words = omega (arith, length-append words (word ∷ [])) in
+      ap (λ n. is_edge_line (get_or (words ++ word ∷ []) n []) || is_row (get_or (words ++ word ∷ []) n [])) is_last
+      ∙ ap (λ w. is_edge_line w || is_row w) (get_or-append_seam words word [] [])
+      ∙ (fine_line words word none).line
+]

@@ -1,0 +1,116 @@
+-- The blocks of a database: each is a Pattern line and the lines that belong to it, by the table of stages.
+use Rattle.std.specs.Prelude.{ℕ, List, [], ◌∷◌, ◌++◌, map, fold, slice_index, Option, Some, None, if◌then◌else◌}
+use Rattle.std.specs.Option.{option_map, option_to_list}
+use Rattle.db_lex.specs.declared.line.LineKind.{LineKind}
+use Rattle.db_lex.specs.declared.line.LineKind.TheVariants.{Pattern, Colon, Semicolon, Action, Other}
+use Rattle.db_lex.specs.Lines.{KeptLine, kind_of, word_of}
+use Rattle.db_rules.specs.Kinds.{stray_line, no_colon_line}
+use Rattle.db_rules.specs.Colon.{is_ascii_letter}
+use Rattle.db_rules.specs.declared.stage.TableCell.{TableCell}
+use Rattle.db_rules.specs.declared.stage.TableCell.TheVariants.{Next, Refused}
+use Rattle.db_rules.specs.declared.stage.Stage.{Stage}
+use Rattle.db_rules.specs.declared.stage.Stage.TheVariants.{Start, Diagram, Labels, Expression, Actions}
+
+-- the table of stages; at the start the first byte of another line counts
+abbrev pub table : Stage → LineKind → ℕ → TableCell
+table Start Pattern b = Next Diagram
+table Start Colon b = Refused stray_line
+table Start Semicolon b = Refused stray_line
+table Start Action b = Refused stray_line
+table Start Other b = if is_ascii_letter b then Next Start else Refused stray_line
+table Diagram Pattern b = Refused no_colon_line
+table Diagram Colon b = Next Labels
+table Diagram Semicolon b = Refused no_colon_line
+table Diagram Action b = Refused no_colon_line
+table Diagram Other b = Next Diagram
+table Labels Pattern b = Next Diagram
+table Labels Colon b = Refused stray_line
+table Labels Semicolon b = Next Expression
+table Labels Action b = Next Actions
+table Labels Other b = Next Labels
+table Expression Pattern b = Next Diagram
+table Expression Colon b = Refused stray_line
+table Expression Semicolon b = Next Expression
+table Expression Action b = Next Actions
+table Expression Other b = Refused stray_line
+table Actions Pattern b = Next Diagram
+table Actions Colon b = Refused stray_line
+table Actions Semicolon b = Refused stray_line
+table Actions Action b = Next Actions
+table Actions Other b = Refused stray_line
+
+-- the table's last column: the fault at the end of the text
+abbrev pub end_refused : Stage → Option ℕ
+end_refused Diagram = Some no_colon_line
+end_refused _ = None
+
+-- a block of whole lines
+pub record Block : Type 0 where
+  pub head : KeptLine
+  pub diagram : List KeptLine
+  pub colon : List KeptLine
+  pub constraint : List KeptLine
+  pub expression : List KeptLine
+  pub actions : List KeptLine
+
+-- the lines of a block in their order
+abbrev pub lines_in : Block → List KeptLine
+lines_in b = b.head ∷ (b.diagram ++ b.colon ++ b.constraint ++ b.expression ++ b.actions)
+
+-- the words of lines
+abbrev pub words_in : List KeptLine → List (List ℕ)
+words_in lines = map (λ l. word_of l.bytes) lines
+
+-- what some lines of a text come to: the stage after them, the lines before the first Pattern line, the blocks that
+-- another follows, and the block that may go on
+pub record SoFar : Type 0 where
+  pub stage : Stage
+  pub front : List KeptLine
+  pub done : List Block
+  pub now : Option Block
+
+-- the blocks in their order
+abbrev pub blocks_of : SoFar → List Block
+blocks_of s = s.done ++ option_to_list s.now
+
+-- a block that begins with this line
+abbrev pub begun_with : KeptLine → Block
+begun_with line = record { head = line; diagram = []; colon = []; constraint = []; expression = []; actions = [] }
+
+-- the same, with a change of the block that may go on
+abbrev pub with_now : Stage → SoFar → (Block → Block) → SoFar
+with_now stage s f = record { stage = stage; front = s.front; done = s.done; now = option_map f s.now }
+
+-- where a line of each kind goes
+abbrev pub placed : KeptLine → Stage → SoFar → LineKind → SoFar
+placed line stage s Pattern =
+    record { stage = stage; front = s.front; done = blocks_of s; now = Some (begun_with line) }
+placed line stage s Colon = with_now stage s (λ b. record b { colon = b.colon ++ line ∷ [] })
+placed line stage s Semicolon = with_now stage s (λ b. record b { expression = b.expression ++ line ∷ [] })
+placed line stage s Action = with_now stage s (λ b. record b { actions = b.actions ++ line ∷ [] })
+placed line Start s Other = record { stage = Start; front = s.front ++ line ∷ []; done = s.done; now = s.now }
+placed line Diagram s Other = with_now Diagram s (λ b. record b { diagram = b.diagram ++ line ∷ [] })
+placed line Labels s Other = with_now Labels s (λ b. record b { constraint = b.constraint ++ line ∷ [] })
+placed line Expression s Other = s
+placed line Actions s Other = s
+
+-- the table's cell for a line
+abbrev pub cell_for : Stage → KeptLine → TableCell
+cell_for stage line = table stage (kind_of line.bytes) (slice_index line.bytes 0)
+
+-- the same lines and one more; a line that the table refuses changes nothing
+abbrev pub with_cell : SoFar → KeptLine → TableCell → SoFar
+with_cell s line (Next stage) = placed line stage s (kind_of line.bytes)
+with_cell s line (Refused kind) = s
+
+-- the same lines and one more, which goes where the table takes it
+unfoldable pub after_line : SoFar → KeptLine → SoFar
+after_line s line = with_cell s line (cell_for s.stage line)
+
+-- what no line comes to
+abbrev pub at_start : SoFar
+at_start = record { stage = Start; front = []; done = []; now = None }
+
+-- what some lines come to
+unfoldable pub so_far : List KeptLine → SoFar
+so_far lines = fold after_line at_start lines

@@ -1,0 +1,68 @@
+-- The constraint diagram: lines that repeat the main diagram, with labels over some of its letters.
+use Rattle.std.specs.Prelude.{ℕ, ◌+◌, Bool, true, false, ◌&&◌, ◌||◌, not, ◌==◌, nat_lt, List, [], ◌∷◌, ◌++◌, length, slice_get, Option, Some, None, if◌then◌else◌}
+use Rattle.pat_types.specs.declared.pattern.LabelAt.{LabelAt}
+use Rattle.pat_types.specs.Kept.{are_apart}
+use Rattle.pat_types.specs.Diagrams.{drawn_line}
+use Rattle.db_rules.specs.Kinds.{constraint_shape, first_of}
+use Rattle.db_rules.specs.Diagram.{is_letter, is_row, bar}
+use Rattle.db_rules.specs.Colon.{is_ascii_letter}
+
+-- an ASCII letter other than `O X o x`
+abbrev pub is_label : ℕ → Bool
+is_label b = is_ascii_letter b && not (is_letter b)
+
+-- the words have one length, and where they differ a label stands over one of the seven letters
+abbrev pub repeats : List ℕ → List ℕ → Bool
+repeats [] [] = true
+repeats [] (w ∷ ws) = false
+repeats (m ∷ ms) [] = false
+repeats (m ∷ ms) (w ∷ ws) = (w == m || is_label w && is_letter m) && repeats ms ws
+
+-- the labels of a line: the bytes in which it differs from the main line; its row is given, and the column of its first
+-- byte
+abbrev pub labels_from : ℕ → ℕ → List ℕ → List ℕ → List LabelAt
+labels_from row col [] word = []
+labels_from row col (m ∷ ms) [] = []
+labels_from row col (m ∷ ms) (w ∷ ws) =
+    if w == m then labels_from row (col + 1) ms ws else record {
+      letter = w;
+      row = row;
+      col =
+          col;
+    } ∷ labels_from row (col + 1) ms ws
+
+-- the labels of the line that repeats this main line, which stands in this row; a `|` at its front is no column
+abbrev pub labels_of_line : ℕ → List ℕ → List ℕ → List LabelAt
+labels_of_line row (m ∷ ms) (w ∷ ws) = if m == bar then labels_from row 0 ms ws else labels_from row 0 (m ∷ ms) (w ∷ ws)
+labels_of_line row [] word = []
+labels_of_line row (m ∷ ms) [] = []
+
+-- the labels of a constraint diagram under a main diagram, where so many rows stand above
+unfoldable pub labels_under : ℕ → List (List ℕ) → List (List ℕ) → List LabelAt
+labels_under row [] words = []
+labels_under row (main ∷ mains) [] = []
+labels_under row (main ∷ mains) (word ∷ words) =
+    labels_of_line row main word ++ labels_under (row + drawn_line (is_row main)) mains words
+
+-- the labels of a constraint diagram
+abbrev pub labels_of : List (List ℕ) → List (List ℕ) → List LabelAt
+labels_of diagram words = labels_under 0 diagram words
+
+-- there is a main line for a further line, which repeats it
+abbrev pub repeats_main : Option (List ℕ) → List ℕ → Bool
+repeats_main None word = false
+repeats_main (Some main) word = repeats main word
+
+-- the first fault of a further line of a constraint diagram with these lines so far
+unfoldable pub constraint_fault : List (List ℕ) → List (List ℕ) → List ℕ → Option ℕ
+constraint_fault diagram words word = first_of ((
+  not (repeats_main (slice_get diagram (length words)) word
+      && are_apart (labels_of diagram (words ++ word ∷ []))),
+  constraint_shape,
+)
+    ∷ [])
+
+-- the fault of a constraint diagram that is closed: it has a line, and fewer than the main diagram
+unfoldable pub labels_closing_fault : List (List ℕ) → List (List ℕ) → Option ℕ
+labels_closing_fault diagram words =
+    first_of ((nat_lt 0 (length words) && nat_lt (length words) (length diagram), constraint_shape) ∷ [])
