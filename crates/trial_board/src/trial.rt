@@ -16,6 +16,7 @@ ghost use Rattle.trial_board.specs.declared.moves.TrialMove.{TrialMove};
 ghost use Rattle.trial_board.specs.declared.moves.TrialPlay.{TrialPlay};
 ghost use Rattle.trial_board.specs.Trials.{Trying, Stays, Moved, IsNoted, Put, most_moves, after, tried, tried_free, made_or_suicide, tail, is_some_move};
 
+use crate::captured::{MAX_CAPTURED, note, nothing_captured, points_in};
 use crate::kept::{Kept, nothing_kept};
 use crate::moves::{MAX_TRIAL_MOVES, TrialMove, TrialPlay, Tried};
 use crate::overlay::{Change, Overlay};
@@ -32,7 +33,7 @@ use std::marker::Model;
 
 /// A position with trial moves that can be taken back, GNU Go's `trymove` and `popgo`. It holds its view of the position, and
 /// asks it for a point only when a string or a play needs it. A move is kept by what it took, so that taking it back puts the
-/// captured stones again; everything is kept in place, in some 21 KB, and nothing takes memory.
+/// captured stones again; everything is kept in place, in some 6 KB, and nothing takes memory.
 pub struct Trial<L: Look> {
     /// The view, and what the standing moves changed over it.
     board: Overlay<L>,
@@ -41,6 +42,9 @@ pub struct Trial<L: Look> {
     /// The first `standing` of these are the moves that stand, the oldest first, each with what it took and the ban before it.
     kept: [Kept; MAX_TRIAL_MOVES],
     standing: u8,
+    /// The first `captured` of these are the points of the stones that the standing moves took, move by move.
+    row: [Point; MAX_CAPTURED],
+    captured: u16,
     /// How many plays were tried.
     trials: u64,
 }
@@ -54,7 +58,7 @@ impl<L: Look> Model for Trial<L> {
 
     ghost view = { λ t. record { look = t.board.look; moves = newest_first t.kept t.standing; count = t.trials } };
 
-    ghost invariant = { λ t. IsStanding (L.seen t.board.look) t.board.changed t.ban t.kept t.standing };
+    ghost invariant = { λ t. IsStanding (L.seen t.board.look) t.board.changed t.ban t.kept t.row t.captured t.standing };
 }
 
 /// No point is touched.
@@ -84,6 +88,8 @@ impl<L: Look> Trial<L> {
             ban: None,
             kept: nothing_kept(),
             standing: 0,
+            row: nothing_captured(),
+            captured: 0,
             trials: 0,
         }
     }
@@ -97,6 +103,8 @@ impl<L: Look> Trial<L> {
             ban: _,
             kept: _,
             standing: _,
+            row: _,
+            captured: _,
             trials: _,
         } = self;
         let Overlay { look, changed: _ } = board;
@@ -197,7 +205,8 @@ impl<L: Look> Trial<L> {
         self.kept[self.standing as usize] = Kept {
             made: TrialMove::Pass,
             ban: self.ban,
-            taken: PointSet::new(),
+            first: self.captured,
+            taken: 0,
         };
         self.standing += 1;
         self.ban = None;
@@ -212,17 +221,11 @@ impl<L: Look> Trial<L> {
             return false;
         }
         self.standing -= 1;
-        let Trial {
-            board,
-            ban,
-            kept,
-            standing,
-            ..
-        } = self;
-        let kept = &*kept;
-        let last = &kept[*standing as usize];
-        last.take_back(board);
-        *ban = last.ban;
+        let last = self.kept[self.standing as usize];
+        let taken = points_in(&self.row, last.first, last.taken);
+        last.take_back(&taken, &mut self.board);
+        self.captured = last.first;
+        self.ban = last.ban;
         true
     }
 
@@ -249,6 +252,12 @@ impl<L: Look> Trial<L> {
     {
         match play_on(&mut self.board, c, p) {
             Ok(played) => {
+                let taken = note(
+                    &mut self.row,
+                    self.captured,
+                    &played.taken,
+                    &self.board.changed,
+                );
                 self.kept[self.standing as usize] = Kept {
                     made: TrialMove::Play(TrialPlay {
                         colour: c,
@@ -256,9 +265,11 @@ impl<L: Look> Trial<L> {
                         dropped,
                     }),
                     ban: self.ban,
-                    taken: played.taken,
+                    first: self.captured,
+                    taken,
                 };
                 self.standing += 1;
+                self.captured += taken;
                 self.ban = played.ban;
                 true
             }

@@ -1,0 +1,260 @@
+-- The row of captured stones: what a play writes there, and that there is room for it.
+use Rattle.std.proofs.Common.{◌≡◌, ◌≢◌, ℕ, zero, suc, ◌+◌, ◌<◌, ◌≤◌, ◌&&◌, ◌||◌, Bool, IsTrue, true, false, cond, eqb}
+use Rattle.std.proofs.Common.{List, length, refl, sym, ap, subst, arith, inl, inr, ◌∙◌, get_or-set_same}
+use Rattle.std.proofs.Common.{get_or-set_other}
+use Rattle.std.specs.Prelude.{slice_index_or}
+use Rattle.std.proofs.Math.ListN.{set, length-set}
+use Rattle.std.proofs.lemmas.Bool.{cases_Bool, cases_eq, eq-eqb}
+use Rattle.std.specs.Ordering.{nat_cmp}
+use Rattle.std.specs.FinSet as sets
+use Rattle.go_rules.specs.Board.{largest_points}
+use Rattle.go_rules.specs.Below.{count_below, set_below}
+use Rattle.go_rules.proofs.Counts.{count_below_mono, count_below_at_most}
+use Rattle.go_rules.proofs.Sets.{contains-insert_nat, len-set_below, set_below-hit}
+use Rattle.trial_board.specs.declared.overlay.Change.{Change}
+use Rattle.trial_board.specs.declared.overlay.Change.TheVariants.{Untouched}
+use Rattle.trial_board.specs.Captured.{points_in, is_off, off_points, is_emptied, most_captured}
+
+-- rows that are the same at some places have the same points there
+pub points_in-same : (a b : List ℕ) (first n : ℕ)
+    → ((i : ℕ) → i < first + n → slice_index_or a i 0 ≡ slice_index_or b i 0)
+    → points_in a first n ≡ points_in b first n
+points_in-same a b first zero h = refl
+points_in-same a b first (suc n) h =
+    ap (λ t. sets.insert t (slice_index_or a (first + n) 0)) (points_in-same a b first n (λ i l. h i (omega arith)))
+    ∙ ap (sets.insert (points_in b first n)) (h (first + n) (omega arith))
+
+-- one place more has one point more
+pub points_in-more : (row : List ℕ) (first n : ℕ) → sets.insert (points_in row first n)
+    (slice_index_or row (first + n) 0) ≡ points_in row first (n + 1)
+points_in-more row first n = let one : suc n ≡ n + 1 = omega arith in ap (points_in row first) one
+
+-- each of the places has one of the points
+pub points_in-has : (row : List ℕ) (first n i : ℕ) → i < n
+    → IsTrue (sets.contains (points_in row first n) (slice_index_or row (first + i) 0))
+points_in-has row first zero i h = absurd (omega arith)
+points_in-has row first (suc n) i h =
+    let x = slice_index_or row (first + n) 0 in
+    elim (cases_eq i n) [
+      | inl e ↦ ap (λ m. sets.contains (points_in row first (suc n)) (slice_index_or row (first + m) 0)) e
+          ∙ contains-insert_nat (points_in row first n) x x ∙ ap (λ b. b || sets.contains (points_in row first n) x)
+          (eq-eqb x x refl)
+      | inr ne ↦
+          let y = slice_index_or row (first + i) 0 in
+          contains-insert_nat (points_in row first n) x y
+          ∙ ap (λ b. eqb y x || b) (points_in-has row first n i (omega arith)) ∙ or_true (eqb y x)
+    ]
+  where
+    or_true : (b : Bool) → (b || true) ≡ true
+    or_true true = refl
+    or_true false = refl
+
+-- where no number from n on passes, the set is whole
+pub set_below-rest : (n m : ℕ) (test : ℕ → Bool) → n ≤ m → ((k : ℕ) → n ≤ k → k < m → test k ≡ false)
+    → set_below n test ≡ set_below m test
+unfolding set_below
+set_below-rest n zero test l h = let e : n ≡ zero = omega arith in ap (λ k. set_below k test) e
+set_below-rest n (suc m) test l h = elim (cases_eq n (suc m)) [
+  | inl e ↦ ap (λ k. set_below k test) e
+  | inr ne ↦
+      let miss : test m ≡ false = h m (omega arith) (omega arith) in
+      set_below-rest n m test (omega arith) (λ k i j. h k i (omega arith))
+      ∙ sym (ap (λ b. cond b (sets.insert (set_below m test) m) (set_below m test)) miss)
+]
+
+-- and so is the count
+pub count_below-rest : (n m : ℕ) (test : ℕ → Bool) → n ≤ m → ((k : ℕ) → n ≤ k → k < m → test k ≡ false)
+    → count_below n test ≡ count_below m test
+count_below-rest n zero test l h = let e : n ≡ zero = omega arith in ap (λ k. count_below k test) e
+count_below-rest n (suc m) test l h = elim (cases_eq n (suc m)) [
+  | inl e ↦ ap (λ k. count_below k test) e
+  | inr ne ↦
+      let miss : test m ≡ false = h m (omega arith) (omega arith) in
+      let rest = count_below-rest n m test (omega arith) (λ k i j. h k i (omega arith)) in
+      rw miss (omega (arith, rest))
+]
+
+-- a number that passes is counted
+pub count_below-hit : (n : ℕ) (test : ℕ → Bool) → test n ≡ true → count_below (suc n) test ≡ suc (count_below n test)
+count_below-hit n test t = ap (λ b. cond b 1 0 + count_below n test) t
+    ∙ (let e : 1 + count_below n test ≡ suc (count_below n test) = omega arith in e)
+
+-- fewer numbers are counted below a lesser bound
+pub count_below-less : (n m : ℕ) (test : ℕ → Bool) → n ≤ m → count_below n test ≤ count_below m test
+count_below-less n zero test l = let e : n ≡ zero = omega arith in rw e (omega arith)
+count_below-less n (suc m) test l = elim (cases_eq n (suc m)) [
+  | inl e ↦ rw e (omega arith)
+  | inr ne ↦ let rest = count_below-less n m test (omega arith) in elim
+      (cases_Bool (test m)) [ inl t ↦ rw t (omega (arith, rest)) | inr f ↦ rw f (omega (arith, rest)) ]
+]
+
+-- two tests of which no number passes both, each within a third
+pub count_below-two : (n : ℕ) (a b all : ℕ → Bool) → ((k : ℕ) → k < n → a k ≡ true → (b k ≡ false) × (all k ≡ true))
+    → ((k : ℕ) → k < n → b k ≡ true → all k ≡ true)
+    → count_below n a + count_below n b ≤ count_below n all
+count_below-two zero a b all h i = omega arith
+count_below-two (suc n) a b all h i =
+    let rest : count_below n a + count_below n b ≤ count_below n all = count_below-two n a b all
+    (λ k l. h k (omega arith)) (λ k l. i k (omega arith)) in
+    elim (cases_Bool (a n)) [
+      | inl t ↦ let both = h n (omega arith) t in rw (t, both.0, both.1) (omega (arith, rest))
+      | inr f ↦ elim (cases_Bool (b n)) [
+        | inl t ↦ rw (f, t, i n (omega arith) t) (omega (arith, rest))
+        | inr g ↦ elim (cases_Bool (all n)) [
+          | inl t ↦ rw (f, g, t) (omega (arith, rest))
+          | inr o ↦ rw (f, g, o)
+              (omega (arith, rest))
+        ]
+      ]
+    ]
+
+-- a test that differs from another at one number counts at most one more
+pub count_below-one : (n p : ℕ) (a b : ℕ → Bool) → ((k : ℕ) → k < n → k ≢ p → a k ≡ true → b k ≡ true)
+    → count_below n a ≤ count_below n b + 1
+count_below-one zero p a b h = omega arith
+count_below-one (suc n) p a b h = elim (cases_eq n p) [
+  | inl e ↦
+      let rest : count_below n a ≤ count_below n b = count_below_mono n a b (λ k l. h k (omega arith) (omega arith)) in
+      elim (cases_Bool (a n)) [
+        | inl t ↦ elim (cases_Bool (b n)) [
+          | inl u ↦ rw (t, u) (omega (arith, rest))
+          | inr g ↦ rw (t, g)
+              (omega (arith, rest))
+        ]
+        | inr f ↦ elim (cases_Bool (b n)) [
+          | inl u ↦ rw (f, u) (omega (arith, rest))
+          | inr g ↦ rw (f, g)
+              (omega (arith, rest))
+        ]
+      ]
+  | inr ne ↦
+      let rest : count_below n a ≤ count_below n b + 1 = count_below-one n p a b (λ k l. h k (omega arith)) in
+      elim (cases_Bool (a n)) [
+        | inl t ↦ rw (t, h n (omega arith) ne t) (omega (arith, rest))
+        | inr f ↦ elim (cases_Bool (b n)) [
+          | inl u ↦ rw (f, u) (omega (arith, rest))
+          | inr g ↦ rw (f, g)
+              (omega (arith, rest))
+        ]
+      ]
+]
+
+-- the points of the test below n are written into the row from the place `first` on, and what stands before it is as it
+-- was
+pub record Noted (test : ℕ → Bool) (first : ℕ) (old new : List ℕ) (count n : ℕ) : Type 0 where
+  pub whole : length new ≡ length old
+  pub counted : count ≡ count_below n test
+  pub points : points_in new first count ≡ set_below n test
+  pub before : (i : ℕ) → i < first → slice_index_or new i 0 ≡ slice_index_or old i 0
+
+-- nothing is written of the points below 0
+pub Noted-none : (test : ℕ → Bool) (first : ℕ) (row : List ℕ) → Noted test first row row 0 0
+unfolding set_below
+Noted-none test first row = record { whole = refl; counted = refl; points = refl; before = λ i l. refl }
+
+-- no point of the test stands between
+pub Noted-jump : {test : ℕ → Bool} {first : ℕ} {old new : List ℕ} {count n : ℕ} (m : ℕ)
+    → Noted test first old new count n → n ≤ m → ((k : ℕ) → n ≤ k → k < m → test k ≡ false)
+    → Noted test first old new count m
+Noted-jump {test = test} {n = n} m noted l none = record {
+  whole = noted.whole;
+  counted = noted.counted ∙ count_below-rest n m test l none;
+  points = noted.points ∙ set_below-rest n m test l none;
+  before = noted.before;
+}
+
+-- one more point of the test was written
+Noted-hit : {test : ℕ → Bool} {first : ℕ} {old new : List ℕ} {count n : ℕ} → Noted test first old new count n
+    → first + count < length new → test n ≡ true → Noted test first old (set new (first + count) n) (count + 1) (n + 1)
+Noted-hit {test} {first} {old} {new} {count} {n} noted room hit = record {
+  whole = length-set new (first + count) n ∙ noted.whole;
+  counted = let one : n + 1 ≡ suc n = omega arith in omega (
+    arith,
+    noted.counted,
+    count_below-hit n test hit,
+    ap
+        (λ k. count_below k test) one,
+  );
+  points =
+      let one : count + 1 ≡ suc count = omega arith in
+      ap (points_in (set new (first + count) n) first) one
+      ∙ ap (λ t. sets.insert t (slice_index_or (set new (first + count) n) (first + count) 0))
+      (points_in-same (set new (first + count) n) new first count (λ i l. get_or-set_other new (first + count) i n 0
+      (λ e. omega arith)) ∙ noted.points)
+      ∙ ap (sets.insert (set_below n test)) (get_or-set_same new (first + count) n 0 room) ∙ set_below-hit n test hit;
+  before = λ i l. get_or-set_other new (first + count) i n 0 (λ e. omega arith) ∙ noted.before i l;
+}
+
+-- a point was come to, with none of the test before it, and was written where it passes
+pub Noted-next : {test : ℕ → Bool} {first : ℕ} {old row : List ℕ} {count n : ℕ} (q : ℕ) (hit : Bool) (new : List ℕ)
+    (one : ℕ) → Noted test first old row count n → n ≤ q
+    → ((k : ℕ) → n ≤ k → k < q → test k ≡ false) → test q ≡ hit → (hit ≡ true → first + count < length row)
+    → new ≡ cond hit (set row (first + count) q) row → one ≡ cond hit 1 0
+    → Noted test first old new (count + one) (q + 1)
+Noted-next {test} {first} {old} {row} {count} {n} q true new one noted l none is room new_is one_is =
+    subst (λ t. Noted test first old t (count + one) (q + 1)) (sym new_is)
+    (subst (λ k. Noted test first old (set row (first + count) q) (count + k) (q + 1)) (sym one_is)
+    (Noted-hit (Noted-jump q noted l none) (room refl) is))
+Noted-next {test} {first} {old} {row} {count} {n} q false new one noted l none is room new_is one_is =
+    let same : count + one ≡ count = omega (arith, one_is) in
+    subst (λ t. Noted test first old t (count + one) (q + 1)) (sym new_is)
+    (subst (λ k. Noted test first old row k (q + 1)) (sym same)
+    (Noted-jump (q + 1) noted (omega arith)
+    (λ k i j. elim (cases_eq k q) [ inl e ↦ ap test e ∙ is | inr ne ↦ none k i (omega arith) ])))
+
+-- there is a place for a point that passes, where there are places for all below m that do
+pub Noted-room : {test : ℕ → Bool} {first : ℕ} {old row : List ℕ} {count n : ℕ} (q m places : ℕ)
+    → Noted test first old row count n → n ≤ q
+    → ((k : ℕ) → n ≤ k → k < q → test k ≡ false) → test q ≡ true → q < m
+    → first + sets.len (set_below m test) ≤ places → first + count < places
+Noted-room {test = test} {n = n} q m places noted l none hit within room =
+    omega (
+      arith,
+      noted.counted,
+      count_below-rest n q test l none,
+      count_below-hit q test hit,
+      count_below-less
+          (suc q) m test within,
+      len-set_below m test,
+    )
+
+-- no more were written than there are
+pub Noted-few : {test : ℕ → Bool} {first : ℕ} {old row : List ℕ} {count n : ℕ} (m : ℕ)
+    → Noted test first old row count n → n ≤ m → count ≤ sets.len (set_below m test)
+Noted-few {test = test} {n = n} m noted l = omega (
+  arith,
+  noted.counted,
+  count_below-less n m test l,
+  len-set_below m
+      test,
+)
+
+-- a point that is none of the points is not taken off
+pub off-none : (points : sets.FinSet nat_cmp) (changed : List Change) (k : ℕ) → sets.contains points k ≡ false
+    → is_off points changed k ≡ false
+off-none points changed k none = ap (λ b. b && is_emptied (slice_index_or changed k Untouched)) none
+
+-- one of the points is taken off where it was emptied
+pub off-is : (points : sets.FinSet nat_cmp) (changed : List Change) (q : ℕ) → sets.contains points q ≡ true
+    → is_off points changed q ≡ is_emptied (slice_index_or changed q Untouched)
+off-is points changed q is = ap (λ b. b && is_emptied (slice_index_or changed q Untouched)) is
+
+-- there is a place for the next of the points that were emptied
+pub off-place : (points : sets.FinSet nat_cmp) (changed : List Change) {first : ℕ} {old row : List ℕ} {count n : ℕ}
+    (q : ℕ) → Noted (is_off points changed) first old row count n → n ≤ q
+    → ((k : ℕ) → n ≤ k → k < q → sets.contains points k ≡ false) → sets.contains points q ≡ true → q < largest_points
+    → first + sets.len (off_points points changed) ≤ most_captured → length old ≡ most_captured
+    → is_emptied (slice_index_or changed q Untouched) ≡ true → first + count < length row
+off-place points changed q noted l none is small room whole emptied =
+    let place = Noted-room q largest_points most_captured noted l (λ k i j. off-none points changed k (none k i j))
+    (off-is points changed q is ∙ emptied) small room in
+    omega (arith, place, noted.whole, whole)
+
+-- no more numbers pass than there are
+pub len_at_most : (n : ℕ) (test : ℕ → Bool) → sets.len (set_below n test) ≤ n
+len_at_most n test = omega (arith, len-set_below n test, count_below_at_most n test)
+
+-- a test counts for one at most
+pub at_most_one : (b : Bool) → cond b 1 0 ≤ 1
+at_most_one true = omega arith
+at_most_one false = omega arith

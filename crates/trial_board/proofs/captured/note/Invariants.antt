@@ -1,0 +1,14 @@
+use Rattle.std.proofs.Common.{◌≤◌, ◌-◌}
+use Rattle.go_rules.specs.Board.{largest_points}
+use Rattle.trial_board.specs.Captured.{is_off}
+use Rattle.trial_board.proofs.CapturedLemmas.{Noted}
+use Rattle.trial_board.proofs.captured.note.Given as goal
+
+-- the points below the next one are written
+abbrev pub invariant-loop-q : goal.invariant-loop-q
+invariant-loop-q l = Noted (is_off l.fn.points l.fn.changed) l.fn.first l.initial.row l.row l.count l.next ×
+    (l.next ≤ largest_points)
+
+-- how many points are left
+abbrev pub decreases-loop-q : goal.decreases-loop-q
+decreases-loop-q l = largest_points - l.next
