@@ -1,6 +1,7 @@
-//! The order in which the points of a node are tried: the liberties of the target with more empty sides first.
+//! The order in which the points of a node are tried: the attacker's play that had its way last, and then the
+//! liberties of the target with more empty sides.
 
-ghost use Rattle.std.specs.Prelude.{◌≡◌, ℕ, ◌*◌, ◌<◌, ◌&&◌, ◌↔◌, false, IsTrue, IfSome, IfNone};
+ghost use Rattle.std.specs.Prelude.{◌≡◌, ℕ, ◌*◌, ◌<◌, ◌&&◌, ◌↔◌, false, IsTrue, IfSome, IfNone, if◌then◌else◌};
 ghost use Rattle.std.specs.FinSet as set;
 ghost use Rattle.go_rules.specs.Below.{any_below};
 ghost use Rattle.go_rules.specs.Board.{largest_points};
@@ -15,20 +16,33 @@ use go_base::{Look, Point};
 use read_moves::empty_sides;
 use trial_board::Trial;
 
-/// The rank of p: 0 where it was tried, and else 1 and, for a liberty of the target, its empty sides.
-fn rank<L: Look>(board: &mut Trial<L>, p: Point, tried: &PointSet, known: &PointSet) -> u16
+/// The rank of the first point, which is greater than that of a point with four empty sides.
+const FIRST_RANK: u16 = 1000;
+
+/// The rank of p: 0 where it was tried, the greatest for the one that is to come first, and else 1 and, for a liberty
+/// of the target, its empty sides.
+fn rank<L: Look>(
+    board: &mut Trial<L>,
+    p: Point,
+    tried: &PointSet,
+    known: &PointSet,
+    first: Point,
+) -> u16
     requires on_board { p < (L.shows board.old.look).size * (L.shows board.old.look).size }
     requires small { p < largest_points }
     ensures stays { Stays L.shows L.seen board.old board.new }
     ensures tried { (result ≡ 0) ↔ IsTrue (set.contains tried.now p) }
     ensures over { (pos : BoardState) → Agrees (L.seen board.new.look) pos
-        → result ≡ rank_of pos.size (after pos board.old.moves).cells tried.now known.now p }
+        → result ≡ rank_of pos.size (after pos board.old.moves).cells tried.now known.now first p }
     ensures near { (pos : BoardState) → Agrees (L.seen board.new.look) pos
         → AddsIn (L.seen board.old.look) (L.seen board.new.look) (λ r. set.contains known.now p && neighbours_of
         pos.size p r) }
 {
     if tried.has(p) {
         return 0;
+    }
+    if p == first {
+        return FIRST_RANK;
     }
     if !known.has(p) {
         return 1;
@@ -43,6 +57,7 @@ pub fn next_to_try<L: Look>(
     points: &PointSet,
     tried: &PointSet,
     known: &PointSet,
+    first: Point,
 ) -> Option<Point>
     requires { (p : ℕ) → IsTrue (set.contains points.now p)
         → p < (L.shows board.old.look).size * (L.shows board.old.look).size }
@@ -58,7 +73,7 @@ pub fn next_to_try<L: Look>(
     let mut most = 0;
     let mut next = 0;
     while let Some(p) = points.first_from(next) {
-        let rank = rank(board, p, tried, known);
+        let rank = rank(board, p, tried, known, first);
         if rank > most {
             best = p;
             most = rank;
@@ -66,4 +81,11 @@ pub fn next_to_try<L: Look>(
         next = p + 1;
     }
     if most == 0 { None } else { Some(best) }
+}
+
+/// The attacker's play that had its way last: p, where he made it, and else the one before.
+pub fn last_reply(attacker: bool, p: Point, before: Point) -> Point
+    ensures { result ≡ (if attacker then p else before) }
+{
+    if attacker { p } else { before }
 }

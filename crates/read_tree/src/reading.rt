@@ -62,6 +62,7 @@ fn best_point<L: Look>(
     plies: u8,
     first: Answer,
     known: &PointSet,
+    reply: &mut Point,
 ) -> Answer
     requires room { length board.old.moves + plies < most_moves }
     requires target { turn.target < (L.shows board.old.look).size * (L.shows board.old.look).size }
@@ -87,7 +88,7 @@ fn best_point<L: Look>(
     let mut next = 0;
     while let Some(p) = candidates.first_from(next) {
         let asked = Allowances::above(best.code, turn.attacker_to_play);
-        let good = succeeds(board, turn, p, plies, asked, known);
+        let good = succeeds(board, turn, p, plies, asked, known, reply);
         best = better(best, turn.attacker_to_play, good, Spot::At(p));
         if best.code == 3 {
             return best;
@@ -136,15 +137,16 @@ fn read<L: Look>(board: &mut Trial<L>, question: &ReadingQuestion) -> Answer
         return unread(turn.attacker_to_play);
     }
     let known = board.liberties(turn.target);
+    let mut reply = turn.target;
     if turn.attacker_to_play {
-        return best_point(board, turn, plies, nothing, &known);
+        return best_point(board, turn, plies, nothing, &known, &mut reply);
     }
-    let saved = pass_saves(board, turn, plies, Allowances::all(), &known);
+    let saved = pass_saves(board, turn, plies, Allowances::all(), &known, &mut reply);
     let best = better(nothing, turn.attacker_to_play, saved, Spot::Pass);
     if best.code == 3 {
         return best;
     }
-    best_point(board, turn, plies, best, &known)
+    best_point(board, turn, plies, best, &known, &mut reply)
 }
 
 /// The colour of a stone.

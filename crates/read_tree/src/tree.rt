@@ -20,7 +20,7 @@ ghost use Rattle.read_tree.specs.Steps.{IsTaken, is_safe, tail_if, Makes, has_wa
 
 use crate::allowances::Allowances;
 use crate::apart::{all_but, apart_from, copy_of};
-use crate::order::next_to_try;
+use crate::order::{last_reply, next_to_try};
 use crate::turn::Turn;
 use go_base::points::PointSet;
 use go_base::{Cell, Colour, Look, Point};
@@ -225,6 +225,7 @@ fn has_way<L: Look>(
     plies: u8,
     asked: Allowances,
     known: Option<PointSet>,
+    reply: &mut Point,
 ) -> Allowances
     requires room { length board.old.moves + plies ≤ most_moves }
     requires target { turn.target < (L.shows board.old.look).size * (L.shows board.old.look).size }
@@ -238,7 +239,7 @@ fn has_way<L: Look>(
         → AreNodesOf q root plies (next_turn turn) asked (after pos board.old.moves)
         → AddsNear (L.seen board.old.look) (L.seen board.new.look) (λ p. (p ≡ turn.target) ⊎ InActiveArea q root p) }
 {
-    let won = attacker_wins(board, turn.next(), plies, asked, known);
+    let won = attacker_wins(board, turn.next(), plies, asked, known, reply);
     attackers(turn.attacker_to_play, asked, won)
 }
 
@@ -251,6 +252,7 @@ pub fn succeeds<L: Look>(
     plies: u8,
     asked: Allowances,
     known: &PointSet,
+    reply: &mut Point,
 ) -> Allowances
     requires room { length board.old.moves + plies < most_moves }
     requires target { turn.target < (L.shows board.old.look).size * (L.shows board.old.look).size }
@@ -272,13 +274,13 @@ pub fn succeeds<L: Look>(
         Made::Not => Allowances::none(),
         Made::Legal => {
             let next = liberties_after(board, turn, p, known);
-            let good = has_way(board, turn, plies, asked, next);
+            let good = has_way(board, turn, plies, asked, next, reply);
             board.back();
             good
         }
         Made::Allowed => {
             let next = liberties_after(board, turn, p, known);
-            let good = has_way(board, turn, plies, Allowances::neither_alone(), next);
+            let good = has_way(board, turn, plies, Allowances::neither_alone(), next, reply);
             board.back();
             Allowances::own_where(turn.attacker_to_play, good.neither)
         }
@@ -286,7 +288,8 @@ pub fn succeeds<L: Look>(
 }
 
 /// Those of the asked under which a play at some point of the set gives the side to play its way, with `plies` plies left after it.
-/// The liberties with more empty sides come first, and a point is asked only for what those before it left.
+/// The attacker's play that had its way last comes first, and then the liberties with more empty sides. A point is
+/// asked only for what those before it left.
 #[cycle(read)]
 fn some_of<L: Look>(
     board: &mut Trial<L>,
@@ -295,6 +298,7 @@ fn some_of<L: Look>(
     asked: Allowances,
     points: &PointSet,
     known: &PointSet,
+    reply: &mut Point,
 ) -> Allowances
     requires room { length board.old.moves + plies < most_moves }
     requires target { turn.target < (L.shows board.old.look).size * (L.shows board.old.look).size }
@@ -311,12 +315,14 @@ fn some_of<L: Look>(
         → ((p : ℕ) → IsTrue (set.contains points.now p) → IsTrue (is_candidate (after pos board.old.moves) turn.target turn.wide p))
         → AddsNear (L.seen board.old.look) (L.seen board.new.look) (InActiveArea q root) }
 {
+    let first = *reply;
     let mut missing = asked;
     let mut tried = PointSet::new();
-    while let Some(p) = next_to_try(board, points, &tried, known) {
-        let good = succeeds(board, turn, p, plies, missing, known);
+    while let Some(p) = next_to_try(board, points, &tried, known, first) {
+        let good = succeeds(board, turn, p, plies, missing, known, reply);
         missing = missing.without(good);
         if !missing.has_some() {
+            *reply = last_reply(turn.attacker_to_play, p, *reply);
             return asked;
         }
         tried.add(p);
@@ -340,6 +346,7 @@ fn some_other<L: Look>(
     plies: u8,
     asked: Allowances,
     known: &PointSet,
+    reply: &mut Point,
 ) -> Allowances
     requires room { length board.old.moves + plies < most_moves }
     requires target { turn.target < (L.shows board.old.look).size * (L.shows board.old.look).size }
@@ -359,7 +366,7 @@ fn some_other<L: Look>(
     }
     let candidates = candidates(board, turn.target, turn.wide);
     let others = apart_from(&candidates, known);
-    some_of(board, turn, plies, asked, &others, known)
+    some_of(board, turn, plies, asked, &others, known, reply)
 }
 
 /// Those of the asked under which some candidate gives the side to play its way, with `plies` plies left after it. The liberties of the
@@ -371,6 +378,7 @@ fn some_success<L: Look>(
     plies: u8,
     asked: Allowances,
     known: &PointSet,
+    reply: &mut Point,
 ) -> Allowances
     requires room { length board.old.moves + plies < most_moves }
     requires target { turn.target < (L.shows board.old.look).size * (L.shows board.old.look).size }
@@ -385,12 +393,12 @@ fn some_success<L: Look>(
         → ((ko : Ko) → IsUndecided (under turn ko) (after pos board.old.moves))
         → AddsNear (L.seen board.old.look) (L.seen board.new.look) (InActiveArea q root) }
 {
-    let good = some_of(board, turn, plies, asked, known, known);
+    let good = some_of(board, turn, plies, asked, known, known, reply);
     let missing = asked.without(good);
     if !missing.has_some() {
         return asked;
     }
-    let rest = some_other(board, turn, plies, missing, known);
+    let rest = some_other(board, turn, plies, missing, known, reply);
     asked.without(missing.without(rest))
 }
 
@@ -402,6 +410,7 @@ pub fn pass_saves<L: Look>(
     plies: u8,
     asked: Allowances,
     known: &PointSet,
+    reply: &mut Point,
 ) -> Allowances
     requires room { length board.old.moves + plies < most_moves }
     requires target { turn.target < (L.shows board.old.look).size * (L.shows board.old.look).size }
@@ -417,7 +426,7 @@ pub fn pass_saves<L: Look>(
         → AddsNear (L.seen board.old.look) (L.seen board.new.look) (InActiveArea q root) }
 {
     board.pass();
-    let good = has_way(board, turn, plies, asked, Some(copy_of(known)));
+    let good = has_way(board, turn, plies, asked, Some(copy_of(known)), reply);
     board.back();
     good
 }
@@ -430,6 +439,7 @@ fn has_good_move<L: Look>(
     plies: u8,
     asked: Allowances,
     known: &PointSet,
+    reply: &mut Point,
 ) -> Allowances
     requires room { length board.old.moves + plies < most_moves }
     requires target { turn.target < (L.shows board.old.look).size * (L.shows board.old.look).size }
@@ -445,13 +455,13 @@ fn has_good_move<L: Look>(
         → AddsNear (L.seen board.old.look) (L.seen board.new.look) (InActiveArea q root) }
 {
     if turn.attacker_to_play {
-        return some_success(board, turn, plies, asked, known);
+        return some_success(board, turn, plies, asked, known, reply);
     }
-    let lost = asked.without(pass_saves(board, turn, plies, asked, known));
+    let lost = asked.without(pass_saves(board, turn, plies, asked, known, reply));
     if !lost.has_some() {
         return asked;
     }
-    asked.without(lost.without(some_success(board, turn, plies, lost, known)))
+    asked.without(lost.without(some_success(board, turn, plies, lost, known, reply)))
 }
 
 /// Those of the asked under which the target is captured, with `plies` plies left.
@@ -462,6 +472,7 @@ fn attacker_wins<L: Look>(
     plies: u8,
     asked: Allowances,
     known: Option<PointSet>,
+    reply: &mut Point,
 ) -> Allowances
     requires room { length board.old.moves + plies ≤ most_moves }
     requires target { turn.target < (L.shows board.old.look).size * (L.shows board.old.look).size }
@@ -486,7 +497,7 @@ fn attacker_wins<L: Look>(
         Outlook::Safe => Allowances::none(),
         Outlook::Taken => asked,
         Outlook::Open => {
-            let good = has_good_move(board, turn, plies - 1, asked, &known);
+            let good = has_good_move(board, turn, plies - 1, asked, &known, reply);
             attackers(turn.attacker_to_play, asked, good)
         }
     }
