@@ -1,0 +1,109 @@
+"""Times questions that gopat and GNU Go answer from what they have kept, and measures the largest cache full of real readings.
+
+usage: python3 tools/time_kept.py GOPAT GNUGO REGRESSION [QUESTIONS [REPEATS]]
+
+REGRESSION is the folder with *.tst in GNU Go's source: its attack and defend questions are asked in the positions of its game
+records, as tools/compare_readings.py finds them, QUESTIONS of them (60). Each is asked for the first time; REPEATS times again
+(5000); and after each of a row of moves that are far from its string, as many as find room there. The time of a session that
+makes the same moves and does not ask is taken off; all times are the processor's, and the shortest of three counts. Then
+questions about every stone of random boards, at several depths, fill a cache of 65,536 questions.
+"""
+
+import pathlib
+import random
+import sys
+from typing import Iterator, NamedTuple
+
+import compare_readings
+import cost
+import sgf
+
+LARGEST_CACHE = 65_536
+
+
+class Timed(NamedTuple):
+    """A kind of asking: the lines that ask, and the same lines without the questions."""
+
+    name: str
+    asking: list[str]
+    plain: list[str]
+    questions: int
+
+
+def far_moves(asked: compare_readings.Asked) -> list[str]:
+    """Plays by both colours in turn at empty points that are far from the target, the farthest first, none beside another."""
+    taken = set(asked.black) | set(asked.white)
+    target = asked.question.split()[1]
+    column, row = sgf.COLUMNS.index(target[0]), int(target[1:])
+    places = [(x, y) for x in range(asked.size) for y in range(1, asked.size + 1) if (x + y) % 2]
+    far = [at for at in places if abs(at[0] - column) + abs(at[1] - row) > asked.size]
+    far.sort(key=lambda at: -abs(at[0] - column) - abs(at[1] - row))
+    vertices = [f"{sgf.COLUMNS[x]}{y}" for x, y in far]
+    free = [vertex for vertex in vertices if vertex not in taken]
+    return [f"play {'bw'[number % 2]} {vertex}" for number, vertex in enumerate(free)]
+
+
+def joined(rows: Iterator[list[str]]) -> list[str]:
+    """The lines of all rows."""
+    return [line for row in rows for line in row]
+
+
+def kinds_of_asking(questions: list[compare_readings.Asked], repeats: int) -> list[Timed]:
+    """Each kind over all questions, in one session each."""
+    rows = [(compare_readings.set_up(asked), asked.question, far_moves(asked)) for asked in questions]
+    first = joined(there + [text] for there, text, _ in rows)
+    again = joined(there + [text] * (1 + repeats) for there, text, _ in rows)
+    silent = joined(there + [text] + moves for there, text, moves in rows)
+    distant = joined(there + [text] + joined([move, text] for move in moves) for there, text, moves in rows)
+    return [
+        Timed("the first time", first, joined(there for there, _, _ in rows), len(rows)),
+        Timed("the same again", again, first, len(rows) * repeats),
+        Timed("after a distant move", distant, silent, sum(len(moves) for _, _, moves in rows)),
+    ]
+
+
+def microseconds(command: list[str], kind: Timed) -> float:
+    """The microseconds of a question."""
+    asking, plain = (min(cost.of(command, some).seconds for _ in range(3)) for some in (kind.asking, kind.plain))
+    return (asking - plain) * 1e6 / kind.questions
+
+
+def full_board(luck: random.Random, size: int) -> list[str]:
+    """The lines of a random board with stones on most of its points."""
+    points = [f"{sgf.COLUMNS[x]}{y + 1}" for x in range(size) for y in range(size)]
+    luck.shuffle(points)
+    return [f"boardsize {size}", *(f"play {luck.choice('bw')} {point}" for point in points[: len(points) * 2 // 3])]
+
+
+def filling(luck: random.Random) -> Iterator[str]:
+    """Lines that ask attack and defend about every point of random boards, at depths that differ: more than the cache keeps."""
+    asked = 0
+    while asked < 2 * LARGEST_CACHE:
+        for size in range(19, 8, -1):
+            there = full_board(luck, size)
+            yield from there
+            stones = [line.split()[2] for line in there[1:]]
+            for plies, wide in ((plies, wide) for plies in range(2, 6) for wide in range(2)):
+                yield f"depths {plies} {wide}"
+                yield from (f"{kind} {stone}" for stone in stones for kind in ("attack", "defend"))
+                asked += 2 * len(stones)
+
+
+def main(gopat: str, gnugo: str, regression: str, wanted: str = "60", repeats: str = "5000"):
+    questions = [asked for asked in compare_readings.asked_of_gnugo(gnugo, pathlib.Path(regression)) if asked.theirs.ok]
+    random.Random(1).shuffle(questions)
+    questions = questions[: int(wanted)]
+    print(f"{len(questions)} questions, at the depths of the options")
+    for kind in kinds_of_asking(questions, int(repeats)):
+        ours = microseconds([gopat], kind)
+        theirs = microseconds([gnugo, "--mode", "gtp", "--quiet"], kind)
+        print(f"{kind.name:22} {ours:9.2f} us by gopat, {theirs:9.2f} us by GNU Go: {ours / theirs:.2f} of its time")
+    largest = [gopat, "--cache", str(LARGEST_CACHE)]
+    full, empty = cost.of(largest, filling(random.Random(1))), cost.of(largest)
+    print(f"a cache of {LARGEST_CACHE}: {full.megabytes:.0f} MB when it is full, {empty.megabytes:.0f} MB when it is empty")
+
+
+if __name__ == "__main__":
+    if not 4 <= len(sys.argv) <= 6:
+        sys.exit(__doc__)
+    main(*sys.argv[1:])

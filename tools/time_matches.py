@@ -1,0 +1,173 @@
+"""Times gopat's matches and those of GNU Go's own automaton over the same patterns, in one run, and what both compilers take.
+
+usage: python3 tools/time_matches.py GOPAT BUILD PATTERNS.db RECORDS [POSITIONS [REPEATS [SEED]]]
+
+BUILD is GNU Go's source after ./configure and make; RECORDS a folder that is searched for *.sgf. The entries are taken as
+diagrams alone with the class letter `s`, without their constraints, so that neither program reads; one with the mark O or
+without a stone is left out, as by tools/compare_matches.py. GNU Go's matcher is linked with a callback that only counts: it tests
+no legality and sorts nothing. gopat's time is that of its whole reply, without what a session takes that sets the positions up
+and asks nothing. A call is one position and one colour; all times are the processor's.
+"""
+
+import collections
+import pathlib
+import random
+import re
+import subprocess
+import sys
+import tempfile
+from typing import Iterator
+
+import compare_matches
+import cost
+import cut_patterns
+
+# Answers lines `size N`, `put b D4` and `match b N`, and at its end prints how many matches a call gives, and its microseconds.
+DRIVER = r"""
+#include <stdio.h>
+#include <string.h>
+#include <time.h>
+#include "liberty.h"
+#include "patterns.h"
+extern struct pattern_db timed_db;
+static const char letters[] = "ABCDEFGHJKLMNOPQRST";
+static long matches, calls;
+static void found(int anchor, int color, struct pattern *p, int ll, void *data) { matches++; }
+static double now(void) {
+  struct timespec at;
+  clock_gettime(CLOCK_PROCESS_CPUTIME_ID, &at);
+  return at.tv_sec * 1e6 + at.tv_nsec / 1e3;
+}
+int main(void) {
+  char line[80], colour, column;
+  int number;
+  double spent = 0;
+  init_gnugo(8, 1);
+  while (fgets(line, sizeof line, stdin)) {
+    if (sscanf(line, "size %d", &number) == 1) {
+      gnugo_clear_board(number);
+    } else if (sscanf(line, "put %c %c%d", &colour, &column, &number) == 3) {
+      int at = POS(board_size - number, (int) (strchr(letters, column) - letters));
+      add_stone(at, colour == 'b' ? BLACK : WHITE);
+    } else if (sscanf(line, "match %c %d", &colour, &number) == 2) {
+      double start = now();
+      for (calls += number; number > 0; number--)
+        matchpat(found, colour == 'b' ? BLACK : WHITE, &timed_db, NULL, NULL);
+      spent += now() - start;
+    }
+  }
+  printf("%ld %f\n", matches / (calls ? calls : 1), spent / (calls ? calls : 1));
+  return 0;
+}
+"""
+
+
+# GNU Go's compiler of patterns, and its libraries.
+COMPILER = ["mkpat.c", "transform.c", "dfa.c"]
+LIBRARIES = ["engine/libengine.a", "patterns/libpatterns.a", "engine/libboard.a", "sgf/libsgf.a", "utils/libutils.a"]
+
+
+def diagrams_of(path: pathlib.Path) -> Iterator[bytes]:
+    """The entries as diagrams alone."""
+    for entry in cut_patterns.entries_of(path.read_bytes()):
+        lines = [line.rstrip() for line in entry.split(b"\n")]
+        colon = next(at for at, line in enumerate(lines) if line.startswith(b":"))
+        words = [line.split()[0] for line in lines[1:colon] if line.strip() and not line.startswith(b"#")]
+        mark = lines[colon][1:2]
+        if mark != b"O" and any(letter in word for word in words for letter in (b"O", b"X")):
+            yield b"\n".join([b" ".join(lines[0].split()[:2]), b"", *words, b"", b":" + mark + b",s", b"", b""])
+
+
+def widened(folder: pathlib.Path, room: pathlib.Path):
+    """Copies what GNU Go's automata are made and read by, with numbers of 32 bits: 16 are too few for so many patterns."""
+    for path in (*(folder / "patterns").glob("*.h"), *(folder / "patterns" / name for name in COMPILER)):
+        text = path.read_text(encoding="latin-1")
+        if path.name == "dfa.h":
+            text = text.replace("  short ", "  int ").replace("(8 * 24)", "(8 * 1024)")
+        if path.name == "dfa.c":
+            text = text.replace("32768", "2000000000").replace("65535", "2000000000")
+        (room / path.name).write_text(text, encoding="latin-1")
+
+
+def compile_c(folder: pathlib.Path, room: pathlib.Path, files: list[pathlib.Path], names: list[str], made: pathlib.Path):
+    """Compiles files, with the copied headers before GNU Go's own, and links GNU Go's libraries of these names."""
+    includes = [f"-I{room}", *(f"-I{folder / name}" for name in ("", "engine", "patterns", "utils", "sgf"))]
+    libraries = ["-Wl,--start-group", *(folder / name for name in names), "-Wl,--end-group"]
+    found = re.search(r"^LIBS = (.*)$", (folder / "Makefile").read_text(encoding="latin-1"), re.MULTILINE)
+    libraries += found[1].split() if found else ["-lm"]
+    options = ["-O2", "-w", "-fcommon", "-DHAVE_CONFIG_H"]
+    subprocess.run(["cc", *options, *includes, *files, "-o", made, *libraries], check=True)
+
+
+def compiled_by_gnugo(folder: pathlib.Path, room: pathlib.Path, database: pathlib.Path) -> cost.Cost:
+    """Makes GNU Go's automaton of the entries, as C, and says what its compiler of patterns took."""
+    widened(folder, room)
+    compile_c(folder, room, [room / name for name in COMPILER], ["utils/libutils.a"], room / "mkpat")
+    command = [room / "mkpat", "-D", "-m", "-b", "-i", database, "-o", room / "timed.c", "timed"]
+    return cost.of([str(word) for word in command])
+
+
+def matcher_of(folder: pathlib.Path, room: pathlib.Path) -> pathlib.Path:
+    """GNU Go's matcher over that automaton."""
+    (room / "driver.c").write_text(DRIVER, encoding="ascii")
+    files = [room / "driver.c", room / "timed.c", folder / "engine/matchpat.c"]
+    compile_c(folder, room, files, LIBRARIES, room / "matcher")
+    return room / "matcher"
+
+
+def microseconds_of_gnugo(matcher: pathlib.Path, asked: list[compare_matches.Position], repeats: int) -> tuple[int, float]:
+    """How many matches a call gives, and its microseconds."""
+    lines = []
+    for position in asked:
+        lines += [f"size {position.size}", *(f"put {stone}" for stone in position.stones)]
+        lines += [f"match {colour} {repeats}" for colour in "bw"]
+    done = subprocess.run([matcher], input="\n".join(lines) + "\n", capture_output=True, text=True, check=True)
+    matches, microseconds = done.stdout.split()[-2:]
+    return int(matches), float(microseconds)
+
+
+def microseconds_of_gopat(command: list[str], asked: list[compare_matches.Position], repeats: int) -> float:
+    """The microseconds of a call. The shortest of three sessions counts."""
+    without, lines = [], []
+    for position in asked:
+        there = [f"boardsize {position.size}", *(f"play {stone}" for stone in position.stones), "play b pass"]
+        without += there
+        lines += there + ["match_patterns b", "match_patterns w"] * repeats
+    spent, plain = (min(cost.of(command, some).seconds for _ in range(3)) for some in (lines, without))
+    return (spent - plain) * 1e6 / (2 * repeats * len(asked))
+
+
+def matches_of_gopat(command: list[str], asked: list[compare_matches.Position]) -> int:
+    """How many matches a call gives."""
+    found = compare_matches.by_gopat(command[0], pathlib.Path(command[-1]), asked).lists
+    return compare_matches.count(found) // len(found)
+
+
+def main(gopat: str, build: str, patterns: str, records: str, wanted: str = "120", repeats: str = "20", seed: str = "1"):
+    luck, folder = random.Random(int(seed)), pathlib.Path(build).resolve()
+    places = compare_matches.positions(pathlib.Path(records), int(wanted), luck)
+    asked = [compare_matches.Position(one.size, compare_matches.stones_left(gopat, one)) for one in places]
+    entries = compare_matches.numbered(diagrams_of(pathlib.Path(patterns)))
+    sizes = collections.Counter(one.size for one in asked)
+    print(f"{len(entries)} patterns on {len(asked)} positions, {sizes[19]} of them 19 by 19")
+    with tempfile.TemporaryDirectory() as name:
+        room = pathlib.Path(name)
+        database = room / "timed.db"
+        database.write_bytes(b"".join(entries))
+        command = [gopat, "--states", "1000000", str(database)]
+        theirs = compiled_by_gnugo(folder, room, database)
+        ours, empty = cost.of(command), cost.of([gopat])
+        print(f"compiled by gopat   {ours.seconds:.2f} s, {ours.megabytes:.1f} MB ({empty.megabytes:.1f} MB without patterns)")
+        print(f"compiled by GNU Go  {theirs.seconds:.2f} s, {theirs.megabytes:.1f} MB")
+        matches, microseconds = microseconds_of_gnugo(matcher_of(folder, room), asked, int(repeats))
+        called = microseconds_of_gopat(command, asked, int(repeats))
+        alone = microseconds_of_gopat([gopat], asked, int(repeats))
+        print(f"a call of gopat     {called:.1f} us, {matches_of_gopat(command, asked)} matches")
+        print(f"a call of GNU Go    {microseconds:.1f} us, {matches} matches: {called / microseconds:.2f} times its time")
+        print(f"without patterns    {alone:.1f} us")
+
+
+if __name__ == "__main__":
+    if not 5 <= len(sys.argv) <= 8:
+        sys.exit(__doc__)
+    main(*sys.argv[1:])
