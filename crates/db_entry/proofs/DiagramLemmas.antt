@@ -6,17 +6,19 @@ use Rattle.std.proofs.lemmas.List.{length-append}
 use Rattle.pat_types.specs.Diagrams.{drawn_line}
 use Rattle.db_entry.specs.declared.diagram.Diagram.{Diagram}
 use Rattle.db_rules.specs.declared.shape.Shape.{Shape}
-use Rattle.db_rules.specs.Kinds.{first_of, bad_letter, edge_place, ragged, too_large}
+use Rattle.db_rules.specs.declared.kind.FaultKind.{FaultKind}
+use Rattle.db_rules.specs.declared.kind.FaultKind.TheVariants.{BadLetter, EdgePlace, Ragged, TooLarge}
+use Rattle.db_rules.specs.Kinds.{first_of}
 use Rattle.db_rules.specs.Diagram.{is_edge_line, is_row, rows_of, has_top, has_bottom, wanted, line_shape, other_sides, other_width, is_misplaced, diagram_fault, letters_of_row}
 use Rattle.db_rules.proofs.OneMoreLine.{none_of_four, length-rows_of-push, has_top-push, ends_in_edge-push, wanted-push, letters_of-push, whole-push}
 use Rattle.db_entry.specs.Reads.{Draws, kept_fault}
 
-by_parts : ℕ → ℕ → Bool → Bool → Option Shape → List ℕ → Option ℕ
+by_parts : ℕ → ℕ → Bool → Bool → Option Shape → List ℕ → Option FaultKind
 by_parts lines rows top bottom shape word = first_of (
-    (not (is_edge_line word || is_row word), bad_letter)
-    ∷ (is_edge_line word && not (nat_lt 0 rows) && top || bottom || other_sides (line_shape word) shape, edge_place)
-    ∷ (other_width (line_shape word) shape, ragged)
-    ∷ (nat_lt largest_size (length word) || nat_le largest_size lines, too_large)
+    (not (is_edge_line word || is_row word), BadLetter)
+    ∷ (is_edge_line word && not (nat_lt 0 rows) && top || bottom || other_sides (line_shape word) shape, EdgePlace)
+    ∷ (other_width (line_shape word) shape, Ragged)
+    ∷ (nat_lt largest_size (length word) || nat_le largest_size lines, TooLarge)
     ∷ [])
 
 by_parts-is : (words : List (List ℕ)) (word : List ℕ)
@@ -51,7 +53,7 @@ pub Draws-push : (d n : Diagram) (words : List (List ℕ)) (word : List ℕ) →
     → n.letters ≡ d.letters ++ cond (is_row word) (letters_of_row word) []
     → Draws n (words ++ word ∷ [])
 Draws-push d n words word s none lines rows top bottom shape letters =
-    let tests = none_of_four _ _ _ _ bad_letter edge_place ragged too_large none in
+    let tests = none_of_four _ _ _ _ BadLetter EdgePlace Ragged TooLarge none in
     let now_rows : n.rows ≡ length (rows_of (words ++ word ∷ [])) =
     rows ∙ ap (λ m. m + drawn_line (is_row word)) s.rows ∙ sym (length-rows_of-push words word) in
     record {

@@ -7,7 +7,8 @@ use Rattle.std.proofs.lemmas.Option.{slice_get-get_or, slice_get_past}
 use Rattle.pat_types.specs.Kept.{are_apart}
 use Rattle.pat_types.specs.Diagrams.{drawn_line}
 use Rattle.db_entry.specs.declared.marks.Marks.{Marks}
-use Rattle.db_rules.specs.Kinds.{first_of, constraint_shape}
+use Rattle.db_rules.specs.declared.kind.FaultKind.TheVariants.{ConstraintShape}
+use Rattle.db_rules.specs.Kinds.{first_of}
 use Rattle.db_rules.specs.Diagram.{is_row, is_letter, rows_of}
 use Rattle.db_rules.specs.Labels.{is_label, repeats, labels_of_line, labels_under, labels_of, constraint_fault}
 use Rattle.db_entry.specs.Reads.{IsMarked}
@@ -90,7 +91,7 @@ labels_of-push mains words word lt =
 
 -- the fault of a further line, by what is kept
 pub constraint_fault-past : (mains words : List (List ℕ)) (word : List ℕ) → length mains ≤ length words
-    → constraint_fault mains words word ≡ Some constraint_shape
+    → constraint_fault mains words word ≡ Some ConstraintShape
 unfolding constraint_fault
 constraint_fault-past mains words word past = rw (slice_get_past mains (length words) past) refl
 
@@ -98,7 +99,7 @@ pub constraint_fault-at : (mains words : List (List ℕ)) (word : List ℕ) → 
     → constraint_fault mains words word ≡ first_of ((
       not (repeats (get_or mains (length words) []) word
           && are_apart (labels_of mains (words ++ word ∷ []))),
-      constraint_shape,
+      ConstraintShape,
     ) ∷ [])
 unfolding constraint_fault
 constraint_fault-at mains words word lt = rw (slice_get-get_or mains (length words) [] lt) refl
@@ -139,7 +140,7 @@ pub kept_fault_at : (m : Marks) (mains words : List (List ℕ)) (word main : Lis
     → constraint_fault mains words word ≡ first_of ((
       not (repeats main word
           && are_apart (m.labels ++ labels_of_line m.rows main word)),
-      constraint_shape,
+      ConstraintShape,
     ) ∷ [])
 kept_fault_at m mains words word main s lt main_is =
     let there : main ≡ get_or mains (length words) [] = main_is ∙ ap (λ k. get_or mains k []) s.lines in
@@ -147,12 +148,12 @@ kept_fault_at m mains words word main s lt main_is =
     ∙ ap (λ w. first_of ((
       not (repeats w word
           && are_apart (labels_of mains (words ++ word ∷ []))),
-      constraint_shape,
+      ConstraintShape,
     ) ∷ [])) (sym there)
     ∙ ap (λ l. first_of ((
       not (repeats main word
           && are_apart l),
-      constraint_shape,
+      ConstraintShape,
     ) ∷ [])) (sym (kept_labels m mains words word main s lt main_is))
 
 -- what is kept after a further line

@@ -4,20 +4,22 @@ use Rattle.std.specs.Prelude.{◌≡◌, ◌≤◌, take, ◌*◌, ◌&&◌, ◌
 use Rattle.db_entry.specs.declared.diagram.Diagram.{Diagram}
 use Rattle.db_entry.specs.declared.marks.Marks.{Marks}
 use Rattle.db_rules.specs.Labels.{labels_of}
-use Rattle.db_rules.specs.Kinds.{first_of, bad_letter, edge_place, ragged, too_large}
+use Rattle.db_rules.specs.declared.kind.FaultKind.{FaultKind}
+use Rattle.db_rules.specs.declared.kind.FaultKind.TheVariants.{BadLetter, EdgePlace, Ragged, TooLarge}
+use Rattle.db_rules.specs.Kinds.{first_of}
 use Rattle.db_rules.specs.Diagram.{is_edge_line, is_row, line_shape, other_sides, other_width, rows_of, has_top, has_bottom, wanted, letters_of, width_of}
 
 -- the first fault of a line, by what is kept of the lines before
-abbrev pub kept_fault : Diagram → List ℕ → Option ℕ
+abbrev pub kept_fault : Diagram → List ℕ → Option FaultKind
 kept_fault d word = first_of (
-    (not (is_edge_line word || is_row word), bad_letter)
+    (not (is_edge_line word || is_row word), BadLetter)
     ∷ (
       is_edge_line word && not (nat_lt 0 d.rows) && d.top || d.bottom
           || other_sides (line_shape word) d.shape,
-      edge_place,
+      EdgePlace,
     )
-    ∷ (other_width (line_shape word) d.shape, ragged)
-    ∷ (nat_lt largest_size (length word) || nat_le largest_size d.lines, too_large)
+    ∷ (other_width (line_shape word) d.shape, Ragged)
+    ∷ (nat_lt largest_size (length word) || nat_le largest_size d.lines, TooLarge)
     ∷ [])
 
 -- what is kept of a diagram is that of these words

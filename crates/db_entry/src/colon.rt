@@ -6,7 +6,8 @@ ghost use Rattle.std.specs.Str.{bytes_eq};
 ghost use Rattle.db_lex.specs.Lines.{trimmed};
 ghost use Rattle.pat_types.specs.Diagrams.{is_star};
 ghost use Rattle.db_rules.specs.Diagram.{star_count as stars};
-ghost use Rattle.db_rules.specs.Kinds.{first_of, no_diagram, move_count, bad_mark, bad_class, bad_item, unknown_helper};
+ghost use Rattle.db_rules.specs.declared.kind.FaultKind.{FaultKind};
+ghost use Rattle.db_rules.specs.Kinds.{first_of};
 ghost use Rattle.db_rules.specs.Colon.{fields_of as all_fields, mark_of as mark_in, class_field as second_field, further as others, is_item as item, item_of as item_from, names_nothing as nothing_named, class_letters as letters_in, null, are_classes as classes, fields_fault as first_fields_fault, colon_fault};
 ghost use Rattle.db_rules.specs.Faults.{Blames};
 ghost use Rattle.db_entry.specs.Says.{Says, most_fields};
@@ -15,7 +16,7 @@ ghost use Rattle.db_entry.specs.Reads.{Draws};
 use crate::diagram::Diagram;
 use crate::fields::{are_classes, field_len, is_item, is_name, mark_by, name_before, text_after};
 use db_lex::trim;
-use db_rules::{BAD_CLASS, BAD_ITEM, BAD_MARK, LineError, MOVE_COUNT, NO_DIAGRAM, UNKNOWN_HELPER};
+use db_rules::{FaultKind, LineError};
 use go_base::{Bytes, NoMemory};
 use pat_types::{Item, Items, Letter, Mark};
 use std::alloc::Global;
@@ -174,30 +175,30 @@ fn first_kind(
     class: bool,
     items: bool,
     helper: bool,
-) -> Option<u8>
+) -> Option<FaultKind>
     ensures { result ≡ first_of
-        ((no_row, no_diagram) ∷ (stars, move_count) ∷ (mark, bad_mark) ∷ (class, bad_class) ∷ (items, bad_item) ∷
-        (helper, unknown_helper) ∷ []) }
+        ((no_row, FaultKind.NoDiagram) ∷ (stars, FaultKind.MoveCount) ∷ (mark, FaultKind.BadMark)
+        ∷ (class, FaultKind.BadClass) ∷ (items, FaultKind.BadItem) ∷ (helper, FaultKind.UnknownHelper) ∷ []) }
 {
     if no_row {
-        Some(NO_DIAGRAM)
+        Some(FaultKind::NoDiagram)
     } else if stars {
-        Some(MOVE_COUNT)
+        Some(FaultKind::MoveCount)
     } else if mark {
-        Some(BAD_MARK)
+        Some(FaultKind::BadMark)
     } else if class {
-        Some(BAD_CLASS)
+        Some(FaultKind::BadClass)
     } else if items {
-        Some(BAD_ITEM)
+        Some(FaultKind::BadItem)
     } else if helper {
-        Some(UNKNOWN_HELPER)
+        Some(FaultKind::UnknownHelper)
     } else {
         None
     }
 }
 
 /// The first fault of a colon line with these fields after a diagram.
-fn fields_fault(helpers: &[Bytes], diagram: &Diagram, fields: &[&[u8]]) -> Option<u8>
+fn fields_fault(helpers: &[Bytes], diagram: &Diagram, fields: &[&[u8]]) -> Option<FaultKind>
     ensures { (words : List (List ℕ)) → Draws diagram.now words →
         result ≡ first_fields_fault helpers.now words (map (λ f. f.now) fields.now) }
 {

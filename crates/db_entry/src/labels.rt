@@ -12,7 +12,7 @@ ghost use Rattle.db_entry.specs.Reads.{IsMarked};
 
 use crate::marks::Marks;
 use crate::words::{is_ascii_letter, is_row, letter};
-use db_rules::{CONSTRAINT_SHAPE, LineError};
+use db_rules::{FaultKind, LineError};
 use pat_types::{LabelAt, Labels, NoMemory};
 
 fn is_label(b: u8) -> bool
@@ -118,18 +118,18 @@ impl Marks {
             Blames e (constraint_fault (map (λ f. f.now) mains.now) words word.now)) }
     {
         if self.lines >= mains.len() {
-            return Err(LineError::Kind(CONSTRAINT_SHAPE));
+            return Err(LineError::Kind(FaultKind::ConstraintShape));
         }
         let main = word_at(mains, self.lines);
         if !repeats(main, word) {
-            return Err(LineError::Kind(CONSTRAINT_SHAPE));
+            return Err(LineError::Kind(FaultKind::ConstraintShape));
         }
         match push_labels(&mut self.labels, self.rows, main, word) {
             Ok(()) => {}
             Err(_) => return Err(LineError::NoMemory),
         }
         if !are_apart(self.labels.as_slice()) {
-            return Err(LineError::Kind(CONSTRAINT_SHAPE));
+            return Err(LineError::Kind(FaultKind::ConstraintShape));
         }
         self.rows = rows_after(self.rows, is_row(main));
         self.lines += 1;

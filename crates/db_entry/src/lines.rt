@@ -4,14 +4,15 @@ ghost use Rattle.go_rules.specs.Board.{largest_size};
 ghost use Rattle.std.specs.Prelude.{◌≡◌, ◌∷◌, [], ◌++◌, ◌&&◌, ◌||◌, not, nat_lt, nat_le, ℕ, List, OnOk, OnErr, IfErr, length, Some, None, ◌+◌, ◌<◌, ◌≤◌, ◌^◌, if◌then◌else◌};
 ghost use Rattle.std.specs.List.{filter_map};
 ghost use Rattle.pat_types.specs.Diagrams.{drawn_line};
-ghost use Rattle.db_rules.specs.Kinds.{first_of, bad_letter, edge_place, ragged as uneven, too_large};
+ghost use Rattle.db_rules.specs.declared.kind.FaultKind.{FaultKind};
+ghost use Rattle.db_rules.specs.Kinds.{first_of};
 ghost use Rattle.db_rules.specs.Diagram.{diagram_fault, letter_of, letters_of_row, line_shape, other_sides, other_width};
 ghost use Rattle.db_rules.specs.Faults.{Blames};
 ghost use Rattle.db_entry.specs.Reads.{Draws, kept_fault};
 
 use crate::diagram::Diagram;
 use crate::words::{is_edge_line, is_row, letter, parts};
-use db_rules::{BAD_LETTER, EDGE_PLACE, LineError, RAGGED, Shape, TOO_LARGE};
+use db_rules::{FaultKind, LineError, Shape};
 use go_base::size::MAX_SIZE;
 use pat_types::{Letters, NoMemory};
 
@@ -63,18 +64,19 @@ fn is_too_large(bytes: usize, lines: usize) -> bool
 }
 
 /// The kind of the first fault that a diagram line has, by what was tested.
-fn first_kind(no_line: bool, misplaced: bool, ragged: bool, large: bool) -> Option<u8>
+fn first_kind(no_line: bool, misplaced: bool, ragged: bool, large: bool) -> Option<FaultKind>
     ensures { result ≡ first_of
-        ((no_line, bad_letter) ∷ (misplaced, edge_place) ∷ (ragged, uneven) ∷ (large, too_large) ∷ []) }
+        ((no_line, FaultKind.BadLetter) ∷ (misplaced, FaultKind.EdgePlace) ∷ (ragged, FaultKind.Ragged)
+        ∷ (large, FaultKind.TooLarge) ∷ []) }
 {
     if no_line {
-        Some(BAD_LETTER)
+        Some(FaultKind::BadLetter)
     } else if misplaced {
-        Some(EDGE_PLACE)
+        Some(FaultKind::EdgePlace)
     } else if ragged {
-        Some(RAGGED)
+        Some(FaultKind::Ragged)
     } else if large {
-        Some(TOO_LARGE)
+        Some(FaultKind::TooLarge)
     } else {
         None
     }
@@ -140,7 +142,7 @@ fn push_row(letters: &mut Letters, row: bool, word: &[u8]) -> Result<(), NoMemor
 
 impl Diagram {
     /// The first fault of a further line.
-    pub fn fault(&self, word: &[u8]) -> Option<u8>
+    pub fn fault(&self, word: &[u8]) -> Option<FaultKind>
         ensures kept { result ≡ kept_fault self.now word.now }
         ensures exact { (words : List (List ℕ)) → Draws self.now words → result ≡ diagram_fault words word.now }
     {

@@ -8,7 +8,8 @@ use Rattle.db_read.specs.declared.error.DbError.{DbError}
 use Rattle.db_read.specs.declared.error.DbError.TheVariants as errors
 use Rattle.db_rules.specs.declared.fault.Fault.{Fault}
 use Rattle.db_read.specs.declared.reader.Reader.{Reader}
-use Rattle.db_rules.specs.Kinds.{bad_byte}
+use Rattle.db_rules.specs.declared.kind.FaultKind.TheVariants as kinds
+use Rattle.db_rules.specs.Kinds.{number_of}
 use Rattle.db_rules.specs.Blocks.{SoFar, after_line, end_refused}
 use Rattle.db_rules.specs.Faults.{at_line, closing_fault, found, found_at_end, first_fault}
 use Rattle.db_read.specs.Reading.{BlamesAt, Shows}
@@ -58,7 +59,7 @@ pub fine_line : (k : KeptLine) (l : Line) → shown k ≡ Ok l → IsFineLine k 
 fine_line k l e = fine_by_test k.is_bad k l refl (sym (shown-by_test k) ∙ e)
 
 pub found_bad : (helpers : List (List ℕ)) (s : SoFar) (k : KeptLine) (b : BadByte) → IsBadLine k b
-    → found helpers s k ≡ Some (record { line = b.number; kind = bad_byte })
+    → found helpers s k ≡ Some (record { line = b.number; kind = number_of kinds.BadByte })
 unfolding found
 found_bad helpers s k b h = rw (h.bad, h.number) refl
 

@@ -12,7 +12,9 @@ use Rattle.db_lex.specs.Lines.{KeptLine, word_of}
 use Rattle.db_rules.specs.declared.stage.Stage.{Stage}
 use Rattle.db_rules.specs.declared.stage.Stage.TheVariants.{Start, Diagram, Labels, Expression, Actions}
 use Rattle.db_rules.specs.declared.stage.TableCell.TheVariants.{Next}
-use Rattle.db_rules.specs.Kinds.{first_of, no_diagram, move_count, bad_mark, bad_class, bad_item, unknown_helper, constraint_shape}
+use Rattle.db_rules.specs.declared.kind.FaultKind.{FaultKind}
+use Rattle.db_rules.specs.declared.kind.FaultKind.TheVariants.{NoDiagram, MoveCount, BadMark, BadClass, BadItem, UnknownHelper, ConstraintShape}
+use Rattle.db_rules.specs.Kinds.{first_of}
 use Rattle.db_rules.specs.Diagram.{diagram_fault, letters_of, star_count}
 use Rattle.db_rules.specs.Colon.{colon_fault, fields_fault}
 use Rattle.db_rules.specs.Labels.{constraint_fault, labels_closing_fault}
@@ -46,7 +48,7 @@ unjudged-rest : (old new : Draft) → (new.expression ≡ old.expression) × (ne
 unjudged-rest old new rest h = record { no_line = rest.0 ∙ h.no_line; no_constraint = rest.1 ∙ h.no_constraint }
 
 -- the tests of a list of six faults of which none fits
-none_of_six : (a b c d e f : Bool) (k l m n o p : ℕ)
+none_of_six : (a b c d e f : Bool) (k l m n o p : FaultKind)
     → first_of ((a, k) ∷ (b, l) ∷ (c, m) ∷ (d, n) ∷ (e, o) ∷ (f, p) ∷ []) ≡ None → b ≡ false
 none_of_six true b c d e f k l m n o p h = absurd cc
 none_of_six false true c d e f k l m n o p h = absurd cc
@@ -59,7 +61,7 @@ unfolding fields_fault
 colon_one_star helpers diagram line none =
     eqb-true _ 1
     (not-false (star_count (letters_of diagram) == 1)
-    (none_of_six _ _ _ _ _ _ no_diagram move_count bad_mark bad_class bad_item unknown_helper none))
+    (none_of_six _ _ _ _ _ _ NoDiagram MoveCount BadMark BadClass BadItem UnknownHelper none))
 
 module _ (r n : Reader) (stage : Stage) (front : List KeptLine) (done : List Block) (k : KeptLine) where
   -- what the draft has of the expression stays
@@ -217,7 +219,7 @@ pub labels_gathered : (r : Reader) (number : ℕ) (stage : Stage) (front : List 
     ≡ at_line number (first_of ((
       nat_lt 0 r.draft.marks.lines
           && nat_lt r.draft.marks.lines r.draft.diagram.lines,
-      constraint_shape,
+      ConstraintShape,
     ) ∷ []))
 unfolding labels_closing_fault
 labels_gathered r number stage front done None stage_is s = absurd (cc (s.draft, stage_is))

@@ -11,7 +11,9 @@ use Rattle.db_rules.specs.declared.stage.Stage.{Stage}
 use Rattle.db_rules.specs.declared.stage.Stage.TheVariants.{Start, Diagram, Labels, Expression, Actions}
 use Rattle.cons_parse.specs.declared.error.ConsError.{ConsError}
 use Rattle.cons_parse.specs.declared.error.ConsError.TheVariants as cons_errors
-use Rattle.db_rules.specs.Kinds.{expr_fault, unknown_label}
+use Rattle.db_rules.specs.declared.kind.FaultKind.{FaultKind}
+use Rattle.db_rules.specs.Kinds.{number_of}
+use Rattle.db_rules.specs.Expressions.{kind_told}
 use Rattle.db_lex.specs.declared.line.LineKind.{LineKind}
 use Rattle.db_lex.specs.declared.line.LineKind.TheVariants.{Semicolon}
 use Rattle.db_rules.specs.declared.stage.TableCell.TheVariants.{Next}
@@ -24,19 +26,19 @@ abbrev pub BlamesAt : DbError → Option Fault → Type 0
 BlamesAt errors.NoMemory fault = Unit {0}
 BlamesAt (errors.Fault line kind) fault = fault ≡ Some (record { line = line; kind = kind })
 
+-- the error that a fault of this kind at a line is told as
+abbrev pub fault_told : ℕ → FaultKind → DbError
+fault_told line kind = errors.Fault line (number_of kind)
+
 -- an error of a line of this number
 abbrev pub error_at : ℕ → LineError → DbError
 error_at number line_errors.NoMemory = errors.NoMemory
-error_at number (line_errors.Kind kind) = errors.Fault number kind
+error_at number (line_errors.Kind kind) = fault_told number kind
 
 -- the error that a fault of an expression is told as, which begins at the line of this number
 abbrev pub expression_error : ℕ → ConsError → DbError
 expression_error line cons_errors.NoMemory = errors.NoMemory
-expression_error line cons_errors.Syntax = errors.Fault line expr_fault
-expression_error line cons_errors.TooDeep = errors.Fault line expr_fault
-expression_error line cons_errors.UnknownFunction = errors.Fault line expr_fault
-expression_error line cons_errors.Arity = errors.Fault line expr_fault
-expression_error line cons_errors.UnknownLabel = errors.Fault line unknown_label
+expression_error line e = fault_told line (kind_told e)
 
 -- the stage behind what a line of this kind, or the end, closes: a closed expression is left behind
 abbrev pub settled_stage : Stage → Option LineKind → Stage

@@ -15,9 +15,10 @@ ghost use Rattle.db_entry.specs.Reads.{Draws, IsMarked};
 use crate::draft::{Draft, ExpressionText};
 use crate::error::DbError;
 use crate::names::name_of;
+use crate::stages::fault_at;
 use cons_parse::{ConsError, parse};
 use db_entry::{Diagram, Marks, bytes_of, read_colon_line};
-use db_rules::{EXPR_FAULT, LineError, UNKNOWN_LABEL};
+use db_rules::{FaultKind, LineError};
 use pat_types::{Bytes, Items, Labels, Letters, Mark, NoMemory};
 use std::alloc::Global;
 
@@ -188,15 +189,9 @@ fn error_of(line: u64, e: ConsError) -> DbError
 {
     match e {
         ConsError::NoMemory => DbError::NoMemory,
-        ConsError::UnknownLabel => DbError::Fault {
-            line,
-            kind: UNKNOWN_LABEL,
-        },
+        ConsError::UnknownLabel => fault_at(line, FaultKind::UnknownLabel),
         ConsError::Syntax | ConsError::TooDeep | ConsError::UnknownFunction | ConsError::Arity => {
-            DbError::Fault {
-                line,
-                kind: EXPR_FAULT,
-            }
+            fault_at(line, FaultKind::ExprFault)
         }
     }
 }

@@ -18,9 +18,9 @@ use crate::drafting::begin;
 use crate::error::DbError;
 use crate::names::pattern_fault;
 use crate::reader::Reader;
-use crate::stages::{at, closes, end_kind, finish, labels_fault, table};
+use crate::stages::{at, closes, end_kind, fault_at, finish, labels_fault, table};
 use db_lex::{LineKind, line_count, lines, word_len};
-use db_rules::{BAD_BYTE, LineError, Stage, TableCell};
+use db_rules::{FaultKind, LineError, Stage, TableCell};
 use pat_types::{Bytes, NoMemory, Pattern};
 use std::alloc::Global;
 use std::mem;
@@ -78,7 +78,7 @@ impl<'a> Reader<'a> {
     {
         match labels_fault(self.draft.diagram.lines, self.draft.marks.lines) {
             None => Ok(()),
-            Some(kind) => Err(DbError::Fault { line: number, kind }),
+            Some(kind) => Err(fault_at(number, kind)),
         }
     }
 
@@ -307,7 +307,7 @@ impl<'a> Reader<'a> {
             Err(e) => return Err(e),
         }
         if let Some(kind) = end_kind(self.stage) {
-            return Err(DbError::Fault { line: number, kind });
+            return Err(fault_at(number, kind));
         }
         let Reader {
             stage,
@@ -360,10 +360,7 @@ pub fn read(
     while let Some(told) = lexer.next() {
         match told {
             Err(bad) => {
-                return Err(DbError::Fault {
-                    line: bad.number,
-                    kind: BAD_BYTE,
-                });
+                return Err(fault_at(bad.number, FaultKind::BadByte));
             }
             Ok(line) => {
                 let bytes = &text[line.from..line.to];

@@ -9,6 +9,7 @@ use Rattle.std.proofs.lemmas.List.Concat.{flat_map-append}
 use Rattle.pat_types.specs.declared.letter.Letter.{Letter}
 use Rattle.pat_types.specs.Diagrams.{drawn_line}
 use Rattle.db_rules.specs.declared.shape.Shape.{Shape}
+use Rattle.db_rules.specs.declared.kind.FaultKind.{FaultKind}
 use Rattle.db_rules.specs.Kinds.{first_of}
 use Rattle.db_rules.specs.Diagram.{is_edge_line, is_row, rows_of, has_top, wanted, line_shape, other_width, letters_of, letters_of_row, letter_of, is_letter, ends_in_edge, wanted_of, shape_of, inner, bar, width_of}
 
@@ -19,7 +20,7 @@ pub record AreFalse (a b c d : Bool) : Type 0 where
   pub third : c ≡ false
   pub fourth : d ≡ false
 
-pub none_of_four : (a b c d : Bool) (k l m n : ℕ) → first_of ((a, k) ∷ (b, l) ∷ (c, m) ∷ (d, n) ∷ []) ≡ None
+pub none_of_four : (a b c d : Bool) (k l m n : FaultKind) → first_of ((a, k) ∷ (b, l) ∷ (c, m) ∷ (d, n) ∷ []) ≡ None
     → AreFalse a b c d
 none_of_four true b c d k l m n e = absurd cc
 none_of_four false true c d k l m n e = absurd cc

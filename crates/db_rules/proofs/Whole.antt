@@ -14,6 +14,7 @@ use Rattle.db_rules.specs.declared.stage.TableCell.{TableCell}
 use Rattle.db_rules.specs.declared.stage.TableCell.TheVariants.{Next}
 use Rattle.db_rules.specs.declared.stage.Stage.{Stage}
 use Rattle.db_rules.specs.declared.stage.Stage.TheVariants.{Start, Diagram, Labels, Expression, Actions}
+use Rattle.db_rules.specs.declared.kind.FaultKind.{FaultKind}
 use Rattle.db_rules.specs.Diagram.{diagram_fault}
 use Rattle.db_rules.specs.Labels.{constraint_fault, labels_closing_fault}
 use Rattle.db_rules.specs.Colon.{is_ascii_letter, colon_fault}
@@ -28,12 +29,12 @@ use Rattle.db_rules.proofs.TableLemmas.{found_table}
 use Rattle.db_rules.proofs.Walk.{walk, first_fault-walk}
 
 -- each of these words has no fault below the words above it
-abbrev AreBelow : (List (List ℕ) → List ℕ → Option ℕ) → List (List ℕ) → List (List ℕ) → Type 0
+abbrev AreBelow : (List (List ℕ) → List ℕ → Option FaultKind) → List (List ℕ) → List (List ℕ) → Type 0
 AreBelow fault above [] = Unit {0}
 AreBelow fault above (word ∷ words) = (fault above word ≡ None) × AreBelow fault (above ++ word ∷ []) words
 
 -- a word without a fault below the others may follow them
-below-push : (fault : List (List ℕ) → List ℕ → Option ℕ) (above words : List (List ℕ)) (word : List ℕ)
+below-push : (fault : List (List ℕ) → List ℕ → Option FaultKind) (above words : List (List ℕ)) (word : List ℕ)
     → AreBelow fault above words → fault (above ++ words) word ≡ None → AreBelow fault above (words ++ word ∷ [])
 below-push fault above [] word below none = (subst (λ a. fault a word ≡ None) (append-nil above) none, tt)
 below-push fault above (w ∷ words) word below none =
@@ -124,7 +125,7 @@ fine_anywhere Fine above (line ∷ lines) all =
     (All-head Fine line lines all, fine_anywhere Fine (above ++ line ∷ []) lines (All-tail Fine line lines all))
 
 -- other lines of which no word has a fault below the words above it
-fine_below : (fault : List (List ℕ) → List ℕ → Option ℕ) (above lines : List KeptLine) → All (IsLineOf Other) lines
+fine_below : (fault : List (List ℕ) → List ℕ → Option FaultKind) (above lines : List KeptLine) → All (IsLineOf Other) lines
     → AreBelow fault (words_in above) (words_in lines)
     → AreFine (λ above line. IsLineOf Other line × (fault (words_in above) (word_of line.bytes) ≡ None)) above lines
 unfolding AreFine

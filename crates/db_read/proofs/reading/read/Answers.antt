@@ -5,7 +5,8 @@ use Rattle.std.proofs.lemmas.Result.{IfOk-weaker, IfErr-weaker}
 use Rattle.db_lex.specs.declared.line.BadByte.{BadByte}
 use Rattle.db_lex.specs.declared.line.Line.{Line}
 use Rattle.db_lex.specs.Lines.{Lexed, IsSpelled}
-use Rattle.db_rules.specs.Faults.{found_at_end}
+use Rattle.db_rules.specs.Faults.{first_fault, found_at_end}
+use Rattle.db_read.specs.declared.error.DbError.{DbError}
 use Rattle.db_read.specs.Reading.{BlamesAt}
 use Rattle.db_rules.proofs.Walk.{Reaches-start, Reaches-end, Reaches-entries}
 use Rattle.db_read.proofs.Walked.{Walked}
@@ -32,9 +33,10 @@ returns-in-Err-clause-err c =
     let w : Walked c.args.helpers.now c.args.text.now c.loop-told.reader (h.line ∷ c.next.new.self.left) =
     subst (λ left. Walked c.args.helpers.now c.args.text.now c.loop-told.reader left) h.first
     c.loop-told.invariant.1 in
-    Walked-fault c.args.helpers.now c.args.text.now c.loop-told.reader h.line c.next.new.self.left _ w
+    subst (λ (e : DbError). BlamesAt e (first_fault c.args.helpers.now c.args.text.now)) (sym c.fault_at.ensures)
+    (Walked-fault c.args.helpers.now c.args.text.now c.loop-told.reader h.line c.next.new.self.left _ w
     (found_bad c.args.helpers.now w.so_far h.line c.in-Err.bad (bad_line h.line c.in-Err.bad (sym h.told_is
-    ∙ c.in-Err.is)))
+    ∙ c.in-Err.is))))
 
 -- a line without a fault is one more
 pub loop-told-preserved : goal.loop-told-preserved

@@ -4,7 +4,7 @@ use Rattle.pat_types.specs.Diagrams.{drawn_line}
 use Rattle.db_rules.specs.Diagram.{letters_of_row}
 use Rattle.std.specs.Prelude.{nat_lt, nat_le}
 use Rattle.std.proofs.lemmas.Bool.{or_parts, ltb-false, leb-false}
-use Rattle.db_rules.specs.Kinds.{bad_letter, edge_place, ragged, too_large}
+use Rattle.db_rules.specs.declared.kind.FaultKind.TheVariants.{BadLetter, EdgePlace, Ragged, TooLarge}
 use Rattle.db_rules.proofs.OneMoreLine.{none_of_four}
 use Rattle.db_entry.proofs.DiagramLemmas.{Draws-push, fault_is}
 use Rattle.db_entry.specs.Reads.{kept_fault}
@@ -28,7 +28,7 @@ returns-clause-ok c = λ words s.
 pub returns-clause-few : goal.returns-clause-few
 returns-clause-few c =
     let none : kept_fault c.args.self.now c.args.word.now ≡ None = sym c.in_default.ensures.kept in
-    let tests = none_of_four _ _ _ _ bad_letter edge_place ragged too_large none in
+    let tests = none_of_four _ _ _ _ BadLetter EdgePlace Ragged TooLarge none in
     let both =
     or_parts (nat_lt largest_size (length c.args.word.now))
     (nat_le largest_size c.args.self.now.lines) tests.fourth in
