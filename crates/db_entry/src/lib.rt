@@ -8,8 +8,6 @@
 mod colon;
 mod diagram;
 mod fields;
-mod labels;
-mod lines;
 mod marks;
 mod words;
 

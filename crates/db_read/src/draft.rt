@@ -3,7 +3,10 @@
 ghost use Rattle.go_rules.specs.Board.{largest_size};
 ghost use Rattle.std.specs.Prelude.{◌≡◌, ◌≤◌, ◌<◌, ℕ, [], length, get_or, map, vec_len};
 
+mod lines;
+
 use db_entry::{Diagram, Marks};
+pub use lines::begin;
 use pat_types::{Bytes, Expr, Items, Mark};
 
 /// What is kept of the expression lines of an entry.
@@ -18,13 +21,19 @@ pub struct ExpressionText {
 /// An entry so far.
 #[derive(Drop)]
 pub struct Draft<'a> {
+    /// The name on the Pattern line.
     pub name: Bytes,
     /// The words of the main diagram lines.
     pub words: Vec<&'a [u8]>,
+    /// The main diagram so far.
     pub diagram: Diagram,
+    /// The mark on the colon line.
     pub mark: Mark,
+    /// The class letters on the colon line.
     pub classes: Bytes,
+    /// The further fields of the colon line.
     pub items: Items,
+    /// The constraint diagram so far.
     pub marks: Marks,
     /// What is kept of the expression lines, where there is one.
     pub expression: Option<ExpressionText>,

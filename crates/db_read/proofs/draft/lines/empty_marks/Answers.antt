@@ -1,6 +1,6 @@
 use Rattle.std.proofs.Common.{refl, arith}
 use Rattle.db_rules.specs.Labels.{labels_under}
-use Rattle.db_read.proofs.drafting.empty_marks.Goals as goal
+use Rattle.db_read.proofs.draft.lines.empty_marks.Goals as goal
 
 pub returns : goal.returns
 unfolding labels_under

@@ -11,7 +11,7 @@ use Rattle.db_read.specs.Reading.{BlamesAt}
 use Rattle.db_rules.proofs.Walk.{Reaches-start, Reaches-end, Reaches-entries}
 use Rattle.db_read.proofs.Walked.{Walked}
 use Rattle.db_read.proofs.ReadLemmas.{bad_line, fine_line, found_bad, Walked-step, Walked-fault, Walked-blames}
-use Rattle.db_read.proofs.reading.read.Goals as goal
+use Rattle.db_read.proofs.reader.read.Goals as goal
 
 pub loop-told-init : goal.loop-told-init
 loop-told-init c =

@@ -1,6 +1,6 @@
 use Rattle.std.proofs.Common.{◌≡◌, ◌++◌, drop}
 use Rattle.db_rules.specs.Labels.{labels_from}
-use Rattle.db_entry.proofs.labels.push_from.Given as goal
+use Rattle.db_entry.proofs.marks.lines.push_from.Given as goal
 
 abbrev pub invariant-loop-i : goal.invariant-loop-i
 invariant-loop-i l =

@@ -1,6 +1,6 @@
 use Rattle.std.proofs.Common.{refl, arith}
 use Rattle.db_rules.specs.Diagram.{wanted}
-use Rattle.db_read.proofs.drafting.empty_diagram.Goals as goal
+use Rattle.db_read.proofs.draft.lines.empty_diagram.Goals as goal
 
 pub returns-clause-drawn : goal.returns-clause-drawn
 unfolding wanted

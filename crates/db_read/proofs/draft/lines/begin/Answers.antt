@@ -2,7 +2,7 @@ use Rattle.std.proofs.Common.{◌∙◌, sym, refl, ap, map}
 use Rattle.db_rules.specs.Colon.{split_at_commas}
 use Rattle.db_rules.specs.Accepted.{no_line}
 use Rattle.db_rules.specs.Entries.{name_on}
-use Rattle.db_read.proofs.drafting.begin.Goals as goal
+use Rattle.db_read.proofs.draft.lines.begin.Goals as goal
 
 pub returns-clause-begun : goal.returns-clause-begun
 unfolding split_at_commas

@@ -1,4 +1,4 @@
-//! The constraint diagram of an entry, line by line.
+//! What a further line does to a constraint diagram.
 
 ghost use Rattle.go_rules.specs.Board.{largest_size};
 ghost use Rattle.std.specs.Prelude.{◌≡◌, ◌≤◌, ◌<◌, get_or, ◌==◌, ◌&&◌, ◌||◌, ◌+◌, not, ℕ, List, [], ◌∷◌, ◌++◌, length, map, drop, OnOk, IfErr, None};

@@ -3,7 +3,7 @@ use Rattle.std.proofs.Common.{◌∙◌, ◌++◌, ◌∷◌, [], ap, sym, subst
 use Rattle.db_rules.specs.Expressions.{blank}
 use Rattle.db_read.specs.Drafts.{KeepsText}
 use Rattle.db_read.proofs.ExpressionLemmas.{more_text}
-use Rattle.db_read.proofs.drafting.with_line.Goals as goal
+use Rattle.db_read.proofs.draft.lines.with_line.Goals as goal
 
 pub returns-in_ok-extend-in-Some : goal.returns-in_ok-extend-in-Some
 returns-in_ok-extend-in-Some c = λ lines k number text keeps.
