@@ -8,6 +8,7 @@
 mod colon;
 mod diagram;
 mod fields;
+mod line;
 mod marks;
 mod words;
 

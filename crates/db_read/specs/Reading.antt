@@ -18,7 +18,7 @@ use Rattle.db_lex.specs.declared.line.LineKind.{LineKind}
 use Rattle.db_lex.specs.declared.line.LineKind.TheVariants.{Semicolon}
 use Rattle.db_rules.specs.declared.stage.TableCell.TheVariants.{Next}
 use Rattle.db_rules.specs.Blocks.{Block, SoFar, blocks_of, table}
-use Rattle.db_read.specs.Drafts.{Drafts, HasOneStar, IsUnjudged, IsJudged}
+use Rattle.db_read.specs.Drafts.{Drafts, IsPastColon, IsUnjudged, IsJudged}
 use Rattle.db_rules.specs.Entries.{entry_of, entry_of_block}
 
 -- the error is want of memory, or this fault
@@ -53,14 +53,14 @@ settled_stage Actions _ = Actions
 abbrev pub settled : Option LineKind → SoFar → SoFar
 settled kind s = record { stage = settled_stage s.stage kind; front = s.front; done = s.done; now = s.now }
 
--- in the stage Diagram a block has neither a colon line nor a constraint diagram, and in a later one its diagram has
--- one star; its expression is judged once the stage Expression is left
+-- in the stage Diagram a block has neither a colon line nor a constraint diagram, and in a later one it has a colon
+-- line, behind a diagram with one star; its expression is judged once the stage Expression is left
 abbrev pub IsAtStage : Stage → Draft → Block → Type 0
 IsAtStage Start d b = Unit {0}
 IsAtStage Diagram d b = (b.colon ≡ []) × (b.constraint ≡ []) × IsUnjudged d
-IsAtStage Labels d b = HasOneStar b × IsUnjudged d
-IsAtStage Expression d b = HasOneStar b × (d.constraint ≡ None)
-IsAtStage Actions d b = HasOneStar b × IsJudged d
+IsAtStage Labels d b = IsPastColon b × IsUnjudged d
+IsAtStage Expression d b = IsPastColon b × (d.constraint ≡ None)
+IsAtStage Actions d b = IsPastColon b × IsJudged d
 
 -- the draft is that of the block that may go on; there is none at the start alone
 abbrev pub ReadsNow : Draft → Stage → Option Block → Type 0

@@ -5,9 +5,9 @@ ghost use Rattle.std.specs.Prelude.{◌≡◌, ◌≤◌, ◌<◌, ℕ, [], leng
 
 mod lines;
 
-use db_entry::{Diagram, Marks};
+use db_entry::{ColonLine, Diagram, Marks};
 pub use lines::begin;
-use pat_types::{Bytes, Expr, Items, Mark};
+use pat_types::{Bytes, Expr};
 
 /// What is kept of the expression lines of an entry.
 #[derive(Debug, Drop)]
@@ -27,12 +27,8 @@ pub struct Draft<'a> {
     pub words: Vec<&'a [u8]>,
     /// The main diagram so far.
     pub diagram: Diagram,
-    /// The mark on the colon line.
-    pub mark: Mark,
-    /// The class letters on the colon line.
-    pub classes: Bytes,
-    /// The further fields of the colon line.
-    pub items: Items,
+    /// What the colon line says, once it is read.
+    pub colon: Option<ColonLine>,
     /// The constraint diagram so far.
     pub marks: Marks,
     /// What is kept of the expression lines, where there is one.

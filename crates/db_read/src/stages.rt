@@ -1,6 +1,6 @@
 //! The table of stages, and what leaving a stage closes.
 
-ghost use Rattle.std.specs.Prelude.{[], ◌∷◌, ◌≡◌, ◌<◌, ◌^◌, ◌+◌, ◌==◌, ◌&&◌, nat_lt, ℕ, Some, None, unwrap_or, false};
+ghost use Rattle.std.specs.Prelude.{[], ◌∷◌, ◌≡◌, ◌<◌, ◌^◌, ◌+◌, ◌==◌, ◌&&◌, nat_lt, ℕ, Some, None};
 ghost use Rattle.std.specs.List.{position_or_len};
 ghost use Rattle.pat_types.specs.Diagrams.{is_star};
 ghost use Rattle.db_rules.specs.Blocks.{Block, table as next_by_table, end_refused};
@@ -13,7 +13,7 @@ ghost use Rattle.db_read.specs.Drafts.{Drafts, IsComplete};
 
 use crate::draft::Draft;
 use crate::error::DbError;
-use db_entry::{Diagram, Marks, is_ascii_letter};
+use db_entry::{ColonLine, Diagram, Marks, is_ascii_letter};
 use db_lex::LineKind;
 use db_rules::{FaultKind, LineError, Shape, Stage, TableCell};
 use pat_types::{Letter, Pattern};
@@ -109,19 +109,6 @@ fn star_index(letters: &[Letter]) -> usize
     letters.len()
 }
 
-fn shape_or_none(shape: Option<Shape>) -> Shape
-    ensures { result ≡ unwrap_or shape (record { left = false; right = false; width = 0 }) }
-{
-    match shape {
-        None => Shape {
-            left: false,
-            right: false,
-            width: 0,
-        },
-        Some(s) => s,
-    }
-}
-
 /// The pattern that was read, where the colon line had no fault.
 pub fn finish(draft: Draft<'_>) -> Pattern
     requires { IsComplete draft }
@@ -131,9 +118,7 @@ pub fn finish(draft: Draft<'_>) -> Pattern
         name,
         words: _,
         diagram,
-        mark,
-        classes,
-        items,
+        colon,
         marks,
         expression: _,
         constraint,
@@ -152,7 +137,12 @@ pub fn finish(draft: Draft<'_>) -> Pattern
         labels,
     } = marks;
     let star = star_index(letters.as_slice());
-    let Shape { left, right, width } = shape_or_none(shape);
+    let Shape { left, right, width } = shape.unwrap();
+    let ColonLine {
+        mark,
+        classes,
+        items,
+    } = colon.unwrap();
     Pattern {
         name,
         rows: rows as u8,

@@ -6,12 +6,13 @@ ghost use Rattle.std.specs.List.{filter_map};
 ghost use Rattle.pat_types.specs.Diagrams.{drawn_line};
 ghost use Rattle.db_rules.specs.declared.kind.FaultKind.{FaultKind};
 ghost use Rattle.db_rules.specs.Kinds.{first_of};
-ghost use Rattle.db_rules.specs.Diagram.{diagram_fault, letter_of, letters_of_row, line_shape, other_sides, other_width};
+ghost use Rattle.db_rules.specs.Diagram.{diagram_fault, letter_of, letters_of_row, other_sides, other_width};
 ghost use Rattle.db_rules.specs.Faults.{Blames};
 ghost use Rattle.db_entry.specs.Reads.{Draws, kept_fault};
 
 use crate::diagram::Diagram;
-use crate::words::{is_edge_line, is_row, letter, parts};
+use crate::line::DiagramLine;
+use crate::words::{letter, row_letters};
 use db_rules::{FaultKind, LineError, Shape};
 use go_base::size::MAX_SIZE;
 use pat_types::{Letters, NoMemory};
@@ -38,19 +39,6 @@ fn is_ragged(a: Option<Shape>, s: Shape) -> bool
     }
 }
 
-fn shape_of_line(word: &[u8]) -> Shape
-    ensures { result ≡ line_shape word.now }
-{
-    let mark = if is_row(word) { b'|' } else { b'+' };
-    parts(mark, word).0
-}
-
-fn is_none_of_both(edge: bool, row: bool) -> bool
-    ensures { result ≡ not (edge || row) }
-{
-    !(edge || row)
-}
-
 fn is_out_of_place(edge: bool, has_row: bool, top: bool, bottom: bool, differs: bool) -> bool
     ensures { result ≡ (edge && not has_row && top || bottom || differs) }
 {
@@ -64,14 +52,11 @@ fn is_too_large(bytes: usize, lines: usize) -> bool
 }
 
 /// The kind of the first fault that a diagram line has, by what was tested.
-fn first_kind(no_line: bool, misplaced: bool, ragged: bool, large: bool) -> Option<FaultKind>
+fn first_kind(misplaced: bool, ragged: bool, large: bool) -> Option<FaultKind>
     ensures { result ≡ first_of
-        ((no_line, FaultKind.BadLetter) ∷ (misplaced, FaultKind.EdgePlace) ∷ (ragged, FaultKind.Ragged)
-        ∷ (large, FaultKind.TooLarge) ∷ []) }
+        ((misplaced, FaultKind.EdgePlace) ∷ (ragged, FaultKind.Ragged) ∷ (large, FaultKind.TooLarge) ∷ []) }
 {
-    if no_line {
-        Some(FaultKind::BadLetter)
-    } else if misplaced {
+    if misplaced {
         Some(FaultKind::EdgePlace)
     } else if ragged {
         Some(FaultKind::Ragged)
@@ -137,32 +122,29 @@ fn push_row(letters: &mut Letters, row: bool, word: &[u8]) -> Result<(), NoMemor
     if !row {
         return Ok(());
     }
-    push_inner(letters, parts(b'|', word).1)
+    push_inner(letters, row_letters(word))
 }
 
 impl Diagram {
-    /// The first fault of a further line.
-    pub fn fault(&self, word: &[u8]) -> Option<FaultKind>
-        ensures kept { result ≡ kept_fault self.now word.now }
-        ensures exact { (words : List (List ℕ)) → Draws self.now words → result ≡ diagram_fault words word.now }
+    /// The first fault of a further line of so many bytes.
+    fn fault(&self, line: DiagramLine, bytes: usize) -> Option<FaultKind>
+        ensures { result ≡ kept_fault self.now line bytes }
     {
-        let edge = is_edge_line(word);
-        let row = is_row(word);
-        let shape = shape_of_line(word);
+        let shape = line.shape();
         let has_row = 0 < self.rows;
         first_kind(
-            is_none_of_both(edge, row),
             is_out_of_place(
-                edge,
+                line.is_edge(),
                 has_row,
                 self.top,
                 self.bottom,
                 differs(self.shape, shape),
             ),
             is_ragged(self.shape, shape),
-            is_too_large(word.len(), self.lines),
+            is_too_large(bytes, self.lines),
         )
     }
+
     /// Reads a further line. After an `Err` nothing is known of the diagram.
     pub fn line(&mut self, word: &[u8]) -> Result<(), LineError>
         ensures ok { OnOk result ((words : List (List ℕ)) → Draws self.old words →
@@ -173,16 +155,20 @@ impl Diagram {
             × (self.new.lines ≡ self.old.lines + 1)) }
         ensures same { OnErr result (self.new.lines ≡ self.old.lines) }
     {
-        if let Some(kind) = self.fault(word) {
+        let line = match DiagramLine::of(word) {
+            Some(line) => line,
+            None => return Err(LineError::Kind(FaultKind::BadLetter)),
+        };
+        if let Some(kind) = self.fault(line, word.len()) {
             return Err(LineError::Kind(kind));
         }
-        let edge = is_edge_line(word);
-        let row = is_row(word);
+        let edge = line.is_edge();
+        let row = line.is_row();
         match push_row(&mut self.letters, row, word) {
             Ok(()) => {}
             Err(_) => return Err(LineError::NoMemory),
         }
-        self.shape = shape_after(self.shape, self.rows, self.lines, row, shape_of_line(word));
+        self.shape = shape_after(self.shape, self.rows, self.lines, row, line.shape());
         self.top = top_after(self.top, self.lines, edge);
         self.rows = rows_after(self.rows, row);
         self.bottom = bottom_after(self.rows, edge);

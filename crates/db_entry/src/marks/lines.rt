@@ -11,7 +11,7 @@ ghost use Rattle.db_rules.specs.Faults.{Blames};
 ghost use Rattle.db_entry.specs.Reads.{IsMarked};
 
 use crate::marks::Marks;
-use crate::words::{is_ascii_letter, is_row, letter};
+use crate::words::{is_ascii_letter, letter, row_shape};
 use db_rules::{FaultKind, LineError};
 use pat_types::{LabelAt, Labels, NoMemory};
 
@@ -131,7 +131,7 @@ impl Marks {
         if !are_apart(self.labels.as_slice()) {
             return Err(LineError::Kind(FaultKind::ConstraintShape));
         }
-        self.rows = rows_after(self.rows, is_row(main));
+        self.rows = rows_after(self.rows, row_shape(main).is_some());
         self.lines += 1;
         Ok(())
     }

@@ -19,7 +19,7 @@ use crate::stages::fault_at;
 use cons_parse::{ConsError, parse};
 use db_entry::{Diagram, Marks, bytes_of, read_colon_line};
 use db_rules::{FaultKind, LineError};
-use pat_types::{Bytes, Items, Labels, Letters, Mark, NoMemory};
+use pat_types::{Bytes, Labels, Letters, NoMemory};
 use std::alloc::Global;
 
 fn empty_diagram(alloc: Global) -> Diagram
@@ -56,9 +56,7 @@ pub fn begin<'a>(alloc: Global, line: &[u8]) -> Result<Draft<'a>, NoMemory>
         name,
         words: Vec::new(alloc),
         diagram: empty_diagram(alloc),
-        mark: Mark::Oh,
-        classes: Bytes::new(alloc),
-        items: Items::new(alloc),
+        colon: None,
         marks: empty_marks(alloc),
         expression: None,
         constraint: None,
@@ -99,9 +97,7 @@ impl<'a> Draft<'a> {
         ensures rest { (self.new.expression ≡ self.old.expression) × (self.new.constraint ≡ self.old.constraint) }
     {
         let colon = read_colon_line(alloc, helpers, &self.diagram, line)?;
-        self.mark = colon.mark;
-        self.classes = colon.classes;
-        self.items = colon.items;
+        self.colon = Some(colon);
         Ok(())
     }
 

@@ -1,18 +1,14 @@
 use Rattle.std.proofs.Common.{◌∙◌, sym, refl, ap, map}
-use Rattle.db_rules.specs.Colon.{split_at_commas}
 use Rattle.db_rules.specs.Accepted.{no_line}
 use Rattle.db_rules.specs.Entries.{name_on}
 use Rattle.db_read.proofs.draft.lines.begin.Goals as goal
 
 pub returns-clause-begun : goal.returns-clause-begun
-unfolding split_at_commas
 returns-clause-begun c = λ k e. record {
   name = c.in_ok-name.ensures ∙ c.name_of.ensures.value ∙ ap name_on (sym e);
   words = ap (map (λ w. w.now)) c.new.ensures.items;
   diagram = c.empty_diagram.ensures.drawn;
-  mark = refl;
-  classes = c.new-2.ensures;
-  items = c.new-3.ensures;
+  colon = refl;
   marks = c.empty_marks.ensures;
   expression = refl;
   drawn = no_line;
