@@ -167,50 +167,20 @@ fn is_not_one(stars: usize) -> bool
     stars != 1
 }
 
-/// The kind of the first fault that a colon line has, by what was tested.
-fn first_kind(
-    no_row: bool,
-    stars: bool,
-    mark: bool,
-    class: bool,
-    items: bool,
-    helper: bool,
-) -> Option<FaultKind>
-    ensures { result ≡ first_of
-        ((no_row, FaultKind.NoDiagram) ∷ (stars, FaultKind.MoveCount) ∷ (mark, FaultKind.BadMark)
-        ∷ (class, FaultKind.BadClass) ∷ (items, FaultKind.BadItem) ∷ (helper, FaultKind.UnknownHelper) ∷ []) }
-{
-    if no_row {
-        Some(FaultKind::NoDiagram)
-    } else if stars {
-        Some(FaultKind::MoveCount)
-    } else if mark {
-        Some(FaultKind::BadMark)
-    } else if class {
-        Some(FaultKind::BadClass)
-    } else if items {
-        Some(FaultKind::BadItem)
-    } else if helper {
-        Some(FaultKind::UnknownHelper)
-    } else {
-        None
-    }
-}
-
 /// The first fault of a colon line with these fields after a diagram.
 fn fields_fault(helpers: &[Bytes], diagram: &Diagram, fields: &[&[u8]]) -> Option<FaultKind>
     ensures { (words : List (List ℕ)) → Draws diagram.now words →
         result ≡ first_fields_fault helpers.now words (map (λ f. f.now) fields.now) }
 {
     let stars = star_count(diagram.letters.as_slice());
-    first_kind(
-        has_no_row(diagram.rows),
-        is_not_one(stars),
-        is_no_mark(fields),
-        are_bad_classes(fields),
-        are_bad_items(fields),
-        is_unknown_helper(helpers, fields),
-    )
+    FaultKind::first_of(&[
+        (has_no_row(diagram.rows), FaultKind::NoDiagram),
+        (is_not_one(stars), FaultKind::MoveCount),
+        (is_no_mark(fields), FaultKind::BadMark),
+        (are_bad_classes(fields), FaultKind::BadClass),
+        (are_bad_items(fields), FaultKind::BadItem),
+        (is_unknown_helper(helpers, fields), FaultKind::UnknownHelper),
+    ])
 }
 
 /// These bytes in a list of their own.

@@ -1,7 +1,7 @@
 //! The kinds of fault of a database text.
 
 ghost use Rattle.std.specs.Prelude.{◌≡◌};
-ghost use Rattle.db_rules.specs.Kinds.{number_of};
+ghost use Rattle.db_rules.specs.Kinds.{number_of, first_of as first_that_fits};
 
 /// What is at fault in a database text. Each kind has a number from 1 to 18, by which it is told.
 #[derive(Clone, Copy, Debug, PartialEq, Eq)]
@@ -45,6 +45,18 @@ pub enum FaultKind {
 }
 
 impl FaultKind {
+    /// The kind of the first test that passes.
+    pub fn first_of(tests: &[(bool, FaultKind)]) -> Option<FaultKind>
+        ensures { result ≡ first_that_fits tests.now }
+    {
+        for (fits, kind) in tests {
+            if *fits {
+                return Some(*kind);
+            }
+        }
+        None
+    }
+
     /// The number by which the kind is told, from 1 to 18.
     pub fn number(self) -> u8
         ensures { result ≡ number_of self }

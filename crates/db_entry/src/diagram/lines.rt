@@ -51,22 +51,6 @@ fn is_too_large(bytes: usize, lines: usize) -> bool
     bytes > LONGEST || lines >= LONGEST
 }
 
-/// The kind of the first fault that a diagram line has, by what was tested.
-fn first_kind(misplaced: bool, ragged: bool, large: bool) -> Option<FaultKind>
-    ensures { result ≡ first_of
-        ((misplaced, FaultKind.EdgePlace) ∷ (ragged, FaultKind.Ragged) ∷ (large, FaultKind.TooLarge) ∷ []) }
-{
-    if misplaced {
-        Some(FaultKind::EdgePlace)
-    } else if ragged {
-        Some(FaultKind::Ragged)
-    } else if large {
-        Some(FaultKind::TooLarge)
-    } else {
-        None
-    }
-}
-
 /// The shape of the first row, or else of the top edge, after a further line.
 fn shape_after(
     shape: Option<Shape>,
@@ -132,17 +116,18 @@ impl Diagram {
     {
         let shape = line.shape();
         let has_row = 0 < self.rows;
-        first_kind(
-            is_out_of_place(
-                line.is_edge(),
-                has_row,
-                self.top,
-                self.bottom,
-                differs(self.shape, shape),
-            ),
-            is_ragged(self.shape, shape),
-            is_too_large(bytes, self.lines),
-        )
+        let misplaced = is_out_of_place(
+            line.is_edge(),
+            has_row,
+            self.top,
+            self.bottom,
+            differs(self.shape, shape),
+        );
+        FaultKind::first_of(&[
+            (misplaced, FaultKind::EdgePlace),
+            (is_ragged(self.shape, shape), FaultKind::Ragged),
+            (is_too_large(bytes, self.lines), FaultKind::TooLarge),
+        ])
     }
 
     /// Reads a further line. After an `Err` nothing is known of the diagram.
