@@ -33,6 +33,7 @@ unfolding diagram_fault is_misplaced by_parts
 by_parts-is words word line =
     sym (first-passes (is_edge_line word || is_row word) BadLetter (later_tests words word) line)
 
+-- what is kept of a diagram are these parts
 kept-by_parts : (d : Diagram) (line : DiagramLine) (bytes : ℕ)
     → kept_fault d line bytes
     ≡ by_parts d.lines d.rows d.top d.bottom d.shape (is_edge line) (shape_on line) bytes
@@ -65,6 +66,7 @@ pub record AreThreeFalse (a b c : Bool) : Type 0 where
   pub second : b ≡ false
   pub third : c ≡ false
 
+-- where no fault of a list of three fits, no test passes
 pub none_of_three : (a b c : Bool) (k l m : FaultKind) → first_of ((a, k) ∷ (b, l) ∷ (c, m) ∷ []) ≡ None
     → AreThreeFalse a b c
 none_of_three true b c k l m e = absurd cc

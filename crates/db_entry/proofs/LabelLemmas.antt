@@ -35,17 +35,20 @@ repeats-same (m ∷ ms) (w ∷ ws) e =
     tail_of true h = h
     tail_of false h = absurd cc
 
+-- a constraint diagram without lines has no labels
 pub under-nil : (row : ℕ) (mains : List (List ℕ)) → labels_under row mains [] ≡ []
 unfolding labels_under
 under-nil row [] = refl
 under-nil row (main ∷ mains) = refl
 
+-- the labels of the first line stand before those of the lines below it
 under-cons : (row : ℕ) (main : List ℕ) (mains : List (List ℕ)) (word : List ℕ) (words : List (List ℕ))
     → labels_under row (main ∷ mains) (word ∷ words) ≡ labels_of_line row main word ++ labels_under
     (row + drawn_line (is_row main)) mains words
 unfolding labels_under
 under-cons row main mains word words = refl
 
+-- the first line of a diagram is one more of its rows where it is a row
 length-rows_of-cons : (main : List ℕ) (mains : List (List ℕ))
     → length (rows_of (main ∷ mains)) ≡ drawn_line (is_row main) + length (rows_of mains)
 length-rows_of-cons main mains = by_row (is_row main)
@@ -54,6 +57,7 @@ length-rows_of-cons main mains = by_row (is_row main)
     by_row true = omega arith
     by_row false = omega arith
 
+-- the labels of the last line stand behind those of the lines above it
 labels_under-push : (row : ℕ) (mains words : List (List ℕ)) (word : List ℕ) → length words < length mains
     → labels_under row mains (words ++ word ∷ []) ≡ labels_under row mains words ++ labels_of_line
     (row + length (rows_of (take (length words) mains))) (get_or mains (length words) []) word
@@ -89,12 +93,13 @@ labels_of-push mains words word lt =
     (let e : 0 + length (rows_of (take (length words) mains)) ≡ length (rows_of (take (length words) mains)) =
     omega arith in e)
 
--- the fault of a further line, by what is kept
+-- a further line that has no main line is at fault
 pub constraint_fault-past : (mains words : List (List ℕ)) (word : List ℕ) → length mains ≤ length words
     → constraint_fault mains words word ≡ Some ConstraintShape
 unfolding constraint_fault
 constraint_fault-past mains words word past = rw (slice_get_past mains (length words) past) refl
 
+-- a further line that has a main line is at fault by that line
 pub constraint_fault-at : (mains words : List (List ℕ)) (word : List ℕ) → length words < length mains
     → constraint_fault mains words word ≡ first_of ((
       not (repeats (get_or mains (length words) []) word

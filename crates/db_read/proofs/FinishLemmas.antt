@@ -1,16 +1,14 @@
 -- The pattern that a complete draft makes is one.
-use Rattle.std.proofs.Common.{◌≡◌, ℕ, ◌/◌, ◌%◌, ◌<◌, List, length, Option, Some, None, refl, sym, ap, subst, ◌∙◌, arith}
+use Rattle.std.proofs.Common.{◌≡◌, ℕ, ◌/◌, ◌%◌, List, Option, Some, None, refl, sym, ap, ◌∙◌}
 use Rattle.std.specs.Prelude.{unwrap_or, true}
 use Rattle.std.specs.List.{position_or_len}
 use Rattle.pat_types.specs.Diagrams.{IsDiagram, is_star}
 use Rattle.pat_types.specs.Kept.{are_labels}
 use Rattle.db_rules.specs.declared.shape.Shape.{Shape}
-use Rattle.db_lex.specs.Lines.{KeptLine}
-use Rattle.db_rules.specs.Diagram.{wanted, width_of}
+use Rattle.db_rules.specs.Diagram.{wanted}
 use Rattle.db_rules.specs.Entries.{shape_in}
 use Rattle.db_rules.specs.Blocks.{words_in}
 use Rattle.db_rules.proofs.EntryLemmas.{no_shape, diagram_of_entry, width_of-shape_in}
-use Rattle.db_entry.specs.declared.colon.ColonLine.{ColonLine}
 use Rattle.db_rules.proofs.Labelled.{labels_are_labels}
 use Rattle.db_lex.specs.declared.line.LineKind.TheVariants.{Pattern, Semicolon}
 use Rattle.db_rules.specs.declared.stage.Stage.{Stage}
@@ -19,7 +17,7 @@ use Rattle.db_rules.specs.declared.stage.TableCell.TheVariants.{Next}
 use Rattle.db_rules.specs.Blocks.{Block, SoFar, table}
 use Rattle.db_read.specs.declared.draft.Draft.{Draft}
 use Rattle.db_read.specs.declared.reader.Reader.{Reader}
-use Rattle.db_read.specs.Drafts.{Drafts, IsComplete, KeepsColon}
+use Rattle.db_read.specs.Drafts.{Drafts, IsComplete}
 use Rattle.db_read.specs.Reading.{IsAtStage, ReadsNow, Shows, IsTaking}
 use Rattle.db_read.proofs.ReaderLemmas.{judged_without}
 

@@ -47,11 +47,13 @@ abbrev after_by : SoFar → KeptLine → LineKind → TableCell → SoFar
 after_by s line kind (Next stage) = placed line stage s kind
 after_by s line kind (Refused fault) = s
 
+-- the fault of a line by its cell is the one by its kind
 fault-by : (helpers : List (List ℕ)) (s : SoFar) (line : KeptLine) (cell : TableCell)
     → table_fault helpers s line cell ≡ fault_by helpers s line (kind_of line.bytes) cell
 fault-by helpers s line (Refused fault) = refl
 fault-by helpers s line (Next stage) = refl
 
+-- what the lines come to with a line by its cell is what they come to by its kind
 after-by : (s : SoFar) (line : KeptLine) (cell : TableCell)
     → with_cell s line cell ≡ after_by s line (kind_of line.bytes) cell
 after-by s line (Next stage) = refl
@@ -97,6 +99,7 @@ pub record IsSame (helpers : List (List ℕ)) (kind : LineKind) (s : SoFar) (lin
   pub after : table_fault helpers s line (cell_for s.stage line) ≡ None
       → after_line (settled (Some kind) s) line ≡ after_line s line
 
+-- each line meets the same behind what it closes
 pub same_behind : (helpers : List (List ℕ)) (kind : LineKind) (s : SoFar) (line : KeptLine) → kind ≡ kind_of line.bytes
     → IsSame helpers kind s line
 unfolding after_line

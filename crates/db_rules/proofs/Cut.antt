@@ -1,6 +1,6 @@
 -- The lines of a text without a fault are a front and then whole blocks, each line in its place.
-use Rattle.std.proofs.Common.{◌≡◌, ◌≢◌, ℕ, ◌+◌, ◌<◌, ◌≤◌, Bool, true, false, cond, List, [], ◌∷◌, ◌++◌, length, Option, Some, None, refl, sym, ap, subst, ◌∙◌, append_assoc, arith}
-use Rattle.std.specs.Prelude.{IsTrue, fold, slice_index, nat_le}
+use Rattle.std.proofs.Common.{◌≡◌, ◌≢◌, ℕ, ◌<◌, ◌≤◌, Bool, true, false, cond, List, [], ◌∷◌, ◌++◌, length, Option, Some, None, refl, sym, ap, subst, ◌∙◌, append_assoc, arith}
+use Rattle.std.specs.Prelude.{fold, slice_index, nat_le}
 use Rattle.std.specs.List.{All, flat_map}
 use Rattle.std.specs.Option.{option_to_list}
 use Rattle.std.proofs.lemmas.Bool.{leb-false}
@@ -186,6 +186,7 @@ record IsFine (helpers : List (List ℕ)) (s : SoFar) (line : KeptLine) : Type 0
   cell : cell_for s.stage line ≡ Next next
   own : own_fault helpers s line (kind_of line.bytes) ≡ None
 
+-- a line at which nothing is found is fine in each of these ways
 nothing_found : (helpers : List (List ℕ)) (s : SoFar) (line : KeptLine) → found helpers s line ≡ None
     → IsFine helpers s line
 unfolding found

@@ -1,5 +1,5 @@
 -- The expression of a block: the text of its lines, its first fault, and what it says.
-use Rattle.std.specs.Prelude.{ℕ, List, [], ◌∷◌, ◌++◌, drop, Option, Some, None}
+use Rattle.std.specs.Prelude.{ℕ, List, [], ◌∷◌, ◌++◌, drop, Option, None}
 use Rattle.std.specs.Option.{option_map}
 use Rattle.pat_types.specs.declared.pattern.LabelAt.{LabelAt}
 use Rattle.cons_parse.specs.declared.error.ConsError.{ConsError}

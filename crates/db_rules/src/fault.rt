@@ -6,8 +6,10 @@ ghost use Rattle.db_rules.specs.declared.fault.LineError.TheVariants.{NoMemory a
 use crate::kind::FaultKind;
 use go_base::NoMemory;
 
-/// The first fault of a text. A fault at the end of the text has as its line the number of lines plus one; a fault of an
-/// expression has the line of its first `;`.
+/// The first fault of a text.
+///
+/// A fault at the end of the text has as its line the number of lines plus one; a fault of an expression has the line
+/// of its first `;`.
 #[derive(Clone, Copy, Debug, PartialEq, Eq)]
 pub struct Fault {
     /// The number of the line, counted from 1.

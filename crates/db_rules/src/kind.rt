@@ -34,7 +34,8 @@ pub enum FaultKind {
     BadItem,
     /// A constraint diagram that does not repeat the main diagram.
     ConstraintShape,
-    /// A constraint expression that is not in the grammar, is too deep, or calls no function or calls one as it may not be.
+    /// A constraint expression that is not in the grammar, is too deep, or calls no function or calls one as it may not
+    /// be.
     ExprFault,
     /// An argument of a constraint expression that is no label of the constraint diagram.
     UnknownLabel,

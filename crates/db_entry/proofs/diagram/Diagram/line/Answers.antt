@@ -1,11 +1,10 @@
 use Rattle.go_rules.specs.Board.{largest_size}
-use Rattle.std.proofs.Common.{◌≡◌, ◌+◌, length, arith, sym, ap, refl, ◌∙◌, None, Some, false, cond, [], ◌++◌}
+use Rattle.std.proofs.Common.{◌≡◌, ◌+◌, length, arith, sym, ap, refl, ◌∙◌, None, false, cond, [], ◌++◌}
 use Rattle.pat_types.specs.Diagrams.{drawn_line}
 use Rattle.db_rules.specs.Diagram.{letters_of_row, other_width, line_shape}
 use Rattle.std.specs.Prelude.{nat_lt, nat_le}
 use Rattle.std.proofs.lemmas.Bool.{or_parts, ltb-false, leb-false}
 use Rattle.db_rules.specs.declared.kind.FaultKind.TheVariants.{EdgePlace, Ragged, TooLarge}
-use Rattle.db_entry.specs.DiagramLines.{line_of}
 use Rattle.db_entry.specs.Reads.{kept_fault}
 use Rattle.db_entry.proofs.LineLemmas.{line_classifies, no_line_fault}
 use Rattle.db_entry.proofs.DiagramLemmas.{Draws-push, fault_is, none_of_three}
