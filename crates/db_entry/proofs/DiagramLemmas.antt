@@ -1,48 +1,82 @@
 -- What is kept of a main diagram decides what a further line does to it.
 use Rattle.go_rules.specs.Board.{largest_size}
-use Rattle.std.proofs.Common.{◌≡◌, ℕ, ◌+◌, Bool, not, cond, List, [], ◌∷◌, ◌++◌, length, Option, Some, None, refl, sym, ap, ◌∙◌, arith}
+use Rattle.std.proofs.Common.{◌≡◌, ℕ, ◌+◌, Bool, true, false, not, cond, List, [], ◌∷◌, ◌++◌, length, Option, Some, None, refl, sym, ap, ◌∙◌, arith}
 use Rattle.std.specs.Prelude.{◌&&◌, ◌||◌, nat_lt, nat_le}
 use Rattle.std.proofs.lemmas.List.{length-append}
 use Rattle.pat_types.specs.Diagrams.{drawn_line}
 use Rattle.db_entry.specs.declared.diagram.Diagram.{Diagram}
 use Rattle.db_rules.specs.declared.shape.Shape.{Shape}
-use Rattle.db_rules.specs.Kinds.{first_of, bad_letter, edge_place, ragged, too_large}
+use Rattle.db_rules.specs.declared.kind.FaultKind.{FaultKind}
+use Rattle.db_rules.specs.declared.kind.FaultKind.TheVariants.{BadLetter, EdgePlace, Ragged, TooLarge}
+use Rattle.db_rules.specs.Kinds.{first_of}
 use Rattle.db_rules.specs.Diagram.{is_edge_line, is_row, rows_of, has_top, has_bottom, wanted, line_shape, other_sides, other_width, is_misplaced, diagram_fault, letters_of_row}
-use Rattle.db_rules.proofs.OneMoreLine.{none_of_four, length-rows_of-push, has_top-push, ends_in_edge-push, wanted-push, letters_of-push, whole-push}
+use Rattle.db_rules.proofs.OneMoreLine.{length-rows_of-push, has_top-push, ends_in_edge-push, wanted-push, letters_of-push, whole-push}
+use Rattle.db_entry.specs.declared.line.DiagramLine.{DiagramLine}
+use Rattle.db_entry.specs.DiagramLines.{is_edge, shape_on}
 use Rattle.db_entry.specs.Reads.{Draws, kept_fault}
+use Rattle.db_entry.proofs.LineLemmas.{Classifies, first-passes, later_tests}
 
-by_parts : ℕ → ℕ → Bool → Bool → Option Shape → List ℕ → Option ℕ
-by_parts lines rows top bottom shape word = first_of (
-    (not (is_edge_line word || is_row word), bad_letter)
-    ∷ (is_edge_line word && not (nat_lt 0 rows) && top || bottom || other_sides (line_shape word) shape, edge_place)
-    ∷ (other_width (line_shape word) shape, ragged)
-    ∷ (nat_lt largest_size (length word) || nat_le largest_size lines, too_large)
+-- the faults of a line that is one, by what the lines before come to
+by_parts : ℕ → ℕ → Bool → Bool → Option Shape → Bool → Shape → ℕ → Option FaultKind
+by_parts lines rows top bottom wants edge shape bytes = first_of (
+    (edge && not (nat_lt 0 rows) && top || bottom || other_sides shape wants, EdgePlace)
+    ∷ (other_width shape wants, Ragged)
+    ∷ (nat_lt largest_size bytes || nat_le largest_size lines, TooLarge)
     ∷ [])
 
-by_parts-is : (words : List (List ℕ)) (word : List ℕ)
-    → by_parts (length words) (length (rows_of words)) (has_top words) (has_bottom words)
-    (wanted words) word ≡ diagram_fault words word
+-- the first fault of a word that is a line is one of these
+by_parts-is : (words : List (List ℕ)) (word : List ℕ) → (is_edge_line word || is_row word) ≡ true
+    → by_parts (length words) (length (rows_of words)) (has_top words) (has_bottom words) (wanted words)
+    (is_edge_line word) (line_shape word) (length word)
+    ≡ diagram_fault words word
 unfolding diagram_fault is_misplaced by_parts
-by_parts-is words word = refl
+by_parts-is words word line =
+    sym (first-passes (is_edge_line word || is_row word) BadLetter (later_tests words word) line)
 
-kept-by_parts : (d : Diagram) (word : List ℕ) → kept_fault d word ≡ by_parts d.lines d.rows d.top d.bottom d.shape word
+-- what is kept of a diagram are these parts
+kept-by_parts : (d : Diagram) (line : DiagramLine) (bytes : ℕ)
+    → kept_fault d line bytes
+    ≡ by_parts d.lines d.rows d.top d.bottom d.shape (is_edge line) (shape_on line) bytes
 unfolding by_parts
-kept-by_parts d word = refl
+kept-by_parts d line bytes = refl
 
 -- what is kept is enough
-pub fault_is : (d : Diagram) (words : List (List ℕ)) (word : List ℕ) → Draws d words
-    → kept_fault d word ≡ diagram_fault words word
-fault_is d words word s =
-    kept-by_parts d word
-    ∙ ap (λ n. by_parts n d.rows d.top d.bottom d.shape word) s.lines
-    ∙ ap (λ n. by_parts (length words) n d.top d.bottom d.shape word) s.rows
-    ∙ ap (λ b. by_parts (length words) (length (rows_of words)) b d.bottom d.shape word) s.top
-    ∙ ap (λ b. by_parts (length words) (length (rows_of words)) (has_top words) b d.shape word) s.bottom
-    ∙ ap (λ o. by_parts (length words) (length (rows_of words)) (has_top words) (has_bottom words) o word) s.shape
-    ∙ by_parts-is words word
+pub fault_is : (d : Diagram) (words : List (List ℕ)) (word : List ℕ) (line : DiagramLine) → Draws d words
+    → Classifies line word → kept_fault d line (length word) ≡ diagram_fault words word
+fault_is d words word line s is =
+    let bytes = length word in
+    let count = length words in
+    let rows = length (rows_of words) in
+    let edge = is_edge line in
+    let shape = shape_on line in
+    kept-by_parts d line bytes
+    ∙ ap (λ n. by_parts n d.rows d.top d.bottom d.shape edge shape bytes) s.lines
+    ∙ ap (λ n. by_parts count n d.top d.bottom d.shape edge shape bytes) s.rows
+    ∙ ap (λ b. by_parts count rows b d.bottom d.shape edge shape bytes) s.top
+    ∙ ap (λ b. by_parts count rows (has_top words) b d.shape edge shape bytes) s.bottom
+    ∙ ap (λ o. by_parts count rows (has_top words) (has_bottom words) o edge shape bytes) s.shape
+    ∙ ap (λ b. by_parts count rows (has_top words) (has_bottom words) (wanted words) b shape bytes) is.edge
+    ∙ ap (λ t. by_parts count rows (has_top words) (has_bottom words) (wanted words) (is_edge_line word) t bytes)
+    is.shape
+    ∙ by_parts-is words word is.some
+
+-- the tests of a list of three faults of which none fits
+pub record AreThreeFalse (a b c : Bool) : Type 0 where
+  pub first : a ≡ false
+  pub second : b ≡ false
+  pub third : c ≡ false
+
+-- where no fault of a list of three fits, no test passes
+pub none_of_three : (a b c : Bool) (k l m : FaultKind) → first_of ((a, k) ∷ (b, l) ∷ (c, m) ∷ []) ≡ None
+    → AreThreeFalse a b c
+none_of_three true b c k l m e = absurd cc
+none_of_three false true c k l m e = absurd cc
+none_of_three false false true k l m e = absurd cc
+none_of_three false false false k l m e = record { first = refl; second = refl; third = refl }
 
 -- what is kept after a line that has no fault
-pub Draws-push : (d n : Diagram) (words : List (List ℕ)) (word : List ℕ) → Draws d words → kept_fault d word ≡ None
+pub Draws-push : (d n : Diagram) (words : List (List ℕ)) (word : List ℕ) → Draws d words
+    → other_width (line_shape word) d.shape ≡ false
     → n.lines ≡ d.lines + 1
     → n.rows ≡ d.rows + drawn_line (is_row word)
     → n.top ≡ cond (nat_lt 0 d.lines) d.top (is_edge_line word)
@@ -50,8 +84,7 @@ pub Draws-push : (d n : Diagram) (words : List (List ℕ)) (word : List ℕ) →
     → n.shape ≡ cond (nat_lt 0 d.rows || not (is_row word) && nat_lt 0 d.lines) d.shape (Some (line_shape word))
     → n.letters ≡ d.letters ++ cond (is_row word) (letters_of_row word) []
     → Draws n (words ++ word ∷ [])
-Draws-push d n words word s none lines rows top bottom shape letters =
-    let tests = none_of_four _ _ _ _ bad_letter edge_place ragged too_large none in
+Draws-push d n words word s even lines rows top bottom shape letters =
     let now_rows : n.rows ≡ length (rows_of (words ++ word ∷ [])) =
     rows ∙ ap (λ m. m + drawn_line (is_row word)) s.rows ∙ sym (length-rows_of-push words word) in
     record {
@@ -64,5 +97,5 @@ Draws-push d n words word s none lines rows top bottom shape letters =
       letters =
           letters ∙ ap (λ l. l ++ cond (is_row word) (letters_of_row word) []) s.letters
           ∙ sym (letters_of-push words word);
-      whole = whole-push words word s.whole (ap (other_width (line_shape word)) (sym s.shape) ∙ tests.third);
+      whole = whole-push words word s.whole (ap (other_width (line_shape word)) (sym s.shape) ∙ even);
     }

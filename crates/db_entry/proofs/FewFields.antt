@@ -1,14 +1,14 @@
 -- Of a colon line with too many fields the first 19 show the fault.
-use Rattle.std.proofs.Common.{◌≡◌, ℕ, ◌+◌, ◌-◌, ◌<◌, ◌≤◌, Bool, true, false, List, [], ◌∷◌, ◌++◌, length, map, take, drop, Option, Some, None, refl, sym, ap, subst, ◌∙◌, ⊎_elim, arith}
-use Rattle.std.specs.Prelude.{◌==◌, ◌||◌, not, nat_lt, is_none}
-use Rattle.std.specs.List.{list_all, list_any}
+use Rattle.std.proofs.Common.{◌≡◌, ℕ, ◌<◌, ◌≤◌, Bool, true, false, List, [], ◌∷◌, ◌++◌, length, map, take, drop, None, refl, sym, ap, subst, ◌∙◌, ⊎_elim, arith}
+use Rattle.std.specs.Prelude.{◌||◌, nat_lt}
 use Rattle.std.proofs.lemmas.Bool.{lt-ltb, ltb-false, cases_lt}
 use Rattle.std.proofs.Math.Seq.{take-append_seam}
 use Rattle.std.proofs.lemmas.List.{length-append, length-take, length-drop, take_all}
 use Rattle.db_lex.specs.Lines.{trimmed}
-use Rattle.db_rules.specs.Kinds.{first_of, no_diagram, move_count, bad_mark, bad_class, bad_item, unknown_helper}
-use Rattle.db_rules.specs.Diagram.{has_row, letters_of, star_count}
-use Rattle.db_rules.specs.Colon.{mark_of, class_field, further, are_classes, is_item, names_nothing, fields_fault}
+use Rattle.db_rules.specs.declared.kind.FaultKind.{FaultKind}
+use Rattle.db_rules.specs.declared.kind.FaultKind.TheVariants.{NoDiagram, MoveCount, BadMark, BadClass, BadItem, UnknownHelper}
+use Rattle.db_rules.specs.Kinds.{first_of}
+use Rattle.db_rules.specs.Colon.{mark_of, further, fields_fault}
 use Rattle.db_entry.specs.Says.{most_fields}
 
 -- the first field alone decides the mark
@@ -39,7 +39,7 @@ faults_of_few helpers diagram all =
     (cases_lt (length all) most_fields)
 
 -- of six tests of which none passes the fifth does not
-fifth_of_six : (a b c d e f : Bool) (k l m n o p : ℕ)
+fifth_of_six : (a b c d e f : Bool) (k l m n o p : FaultKind)
     → first_of ((a, k) ∷ (b, l) ∷ (c, m) ∷ (d, n) ∷ (e, o) ∷ (f, p) ∷ []) ≡ None → e ≡ false
 fifth_of_six true b c d e f k l m n o p none = absurd cc
 fifth_of_six false true c d e f k l m n o p none = absurd cc
@@ -59,7 +59,7 @@ pub few_are_all : (helpers diagram all : List (List ℕ)) → fields_fault helpe
 unfolding fields_fault
 few_are_all helpers diagram all none =
     let few = first_of_or (nat_lt 16 (length (further (take most_fields all)))) _
-    (fifth_of_six _ _ _ _ _ _ no_diagram move_count bad_mark bad_class bad_item unknown_helper none) in
+    (fifth_of_six _ _ _ _ _ _ NoDiagram MoveCount BadMark BadClass BadItem UnknownHelper none) in
     let further_few : length (drop 2 (take most_fields all)) ≤ 16 =
     ltb-false 16 (length (drop 2 (take most_fields all))) few in
     take_all most_fields all

@@ -11,21 +11,25 @@ abbrev pub with_fronts : List ℕ → List (List ℕ) → List (List ℕ)
 with_fronts front [] = front ∷ []
 with_fronts front (part ∷ more) = (front ++ part) ∷ more
 
+-- a byte in front of the first part, behind more bytes, is the last of these bytes
 with_fronts-push : (front : List ℕ) (b : ℕ) (parts : List (List ℕ))
     → with_fronts front (with_front b parts) ≡ with_fronts (front ++ b ∷ []) parts
 with_fronts-push front b [] = refl
 with_fronts-push front b (part ∷ more) = ap (λ p. p ∷ more) (sym (append_assoc front (b ∷ []) part))
 
+-- the first byte of a text ends the first part, or stands in front of it
 split-cons : (depth b : ℕ) (bs : List ℕ)
     → split_at_commas depth (b ∷ bs) ≡ (if b == comma
     && depth == 0 then [] ∷ split_at_commas 0 bs else with_front b (split_at_commas (depth_after depth b) bs))
 unfolding split_at_commas
 split-cons depth b bs = refl
 
+-- a text of no bytes has one part of no bytes
 split-nil : (depth : ℕ) → split_at_commas depth [] ≡ [] ∷ []
 unfolding split_at_commas
 split-nil depth = refl
 
+-- parts of which the first begins with a byte have a first part
 with_front-some : (b : ℕ) (parts : List (List ℕ)) → with_fronts [] (with_front b parts) ≡ with_front b parts
 with_front-some b [] = refl
 with_front-some b (part ∷ more) = refl

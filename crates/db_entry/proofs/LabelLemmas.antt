@@ -7,7 +7,8 @@ use Rattle.std.proofs.lemmas.Option.{slice_get-get_or, slice_get_past}
 use Rattle.pat_types.specs.Kept.{are_apart}
 use Rattle.pat_types.specs.Diagrams.{drawn_line}
 use Rattle.db_entry.specs.declared.marks.Marks.{Marks}
-use Rattle.db_rules.specs.Kinds.{first_of, constraint_shape}
+use Rattle.db_rules.specs.declared.kind.FaultKind.TheVariants.{ConstraintShape}
+use Rattle.db_rules.specs.Kinds.{first_of}
 use Rattle.db_rules.specs.Diagram.{is_row, is_letter, rows_of}
 use Rattle.db_rules.specs.Labels.{is_label, repeats, labels_of_line, labels_under, labels_of, constraint_fault}
 use Rattle.db_entry.specs.Reads.{IsMarked}
@@ -34,17 +35,20 @@ repeats-same (m ∷ ms) (w ∷ ws) e =
     tail_of true h = h
     tail_of false h = absurd cc
 
+-- a constraint diagram without lines has no labels
 pub under-nil : (row : ℕ) (mains : List (List ℕ)) → labels_under row mains [] ≡ []
 unfolding labels_under
 under-nil row [] = refl
 under-nil row (main ∷ mains) = refl
 
+-- the labels of the first line stand before those of the lines below it
 under-cons : (row : ℕ) (main : List ℕ) (mains : List (List ℕ)) (word : List ℕ) (words : List (List ℕ))
     → labels_under row (main ∷ mains) (word ∷ words) ≡ labels_of_line row main word ++ labels_under
     (row + drawn_line (is_row main)) mains words
 unfolding labels_under
 under-cons row main mains word words = refl
 
+-- the first line of a diagram is one more of its rows where it is a row
 length-rows_of-cons : (main : List ℕ) (mains : List (List ℕ))
     → length (rows_of (main ∷ mains)) ≡ drawn_line (is_row main) + length (rows_of mains)
 length-rows_of-cons main mains = by_row (is_row main)
@@ -53,6 +57,7 @@ length-rows_of-cons main mains = by_row (is_row main)
     by_row true = omega arith
     by_row false = omega arith
 
+-- the labels of the last line stand behind those of the lines above it
 labels_under-push : (row : ℕ) (mains words : List (List ℕ)) (word : List ℕ) → length words < length mains
     → labels_under row mains (words ++ word ∷ []) ≡ labels_under row mains words ++ labels_of_line
     (row + length (rows_of (take (length words) mains))) (get_or mains (length words) []) word
@@ -88,17 +93,18 @@ labels_of-push mains words word lt =
     (let e : 0 + length (rows_of (take (length words) mains)) ≡ length (rows_of (take (length words) mains)) =
     omega arith in e)
 
--- the fault of a further line, by what is kept
+-- a further line that has no main line is at fault
 pub constraint_fault-past : (mains words : List (List ℕ)) (word : List ℕ) → length mains ≤ length words
-    → constraint_fault mains words word ≡ Some constraint_shape
+    → constraint_fault mains words word ≡ Some ConstraintShape
 unfolding constraint_fault
 constraint_fault-past mains words word past = rw (slice_get_past mains (length words) past) refl
 
+-- a further line that has a main line is at fault by that line
 pub constraint_fault-at : (mains words : List (List ℕ)) (word : List ℕ) → length words < length mains
     → constraint_fault mains words word ≡ first_of ((
       not (repeats (get_or mains (length words) []) word
           && are_apart (labels_of mains (words ++ word ∷ []))),
-      constraint_shape,
+      ConstraintShape,
     ) ∷ [])
 unfolding constraint_fault
 constraint_fault-at mains words word lt = rw (slice_get-get_or mains (length words) [] lt) refl
@@ -139,7 +145,7 @@ pub kept_fault_at : (m : Marks) (mains words : List (List ℕ)) (word main : Lis
     → constraint_fault mains words word ≡ first_of ((
       not (repeats main word
           && are_apart (m.labels ++ labels_of_line m.rows main word)),
-      constraint_shape,
+      ConstraintShape,
     ) ∷ [])
 kept_fault_at m mains words word main s lt main_is =
     let there : main ≡ get_or mains (length words) [] = main_is ∙ ap (λ k. get_or mains k []) s.lines in
@@ -147,12 +153,12 @@ kept_fault_at m mains words word main s lt main_is =
     ∙ ap (λ w. first_of ((
       not (repeats w word
           && are_apart (labels_of mains (words ++ word ∷ []))),
-      constraint_shape,
+      ConstraintShape,
     ) ∷ [])) (sym there)
     ∙ ap (λ l. first_of ((
       not (repeats main word
           && are_apart l),
-      constraint_shape,
+      ConstraintShape,
     ) ∷ [])) (sym (kept_labels m mains words word main s lt main_is))
 
 -- what is kept after a further line

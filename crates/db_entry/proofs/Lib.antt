@@ -1,3 +1,4 @@
+pub mod LineLemmas
 pub mod DiagramLemmas
 pub mod LabelLemmas
 pub mod FieldLemmas

@@ -1,2 +1,3 @@
+pub mod DiagramLines
 pub mod Reads
 pub mod Says

@@ -4,20 +4,21 @@ use Rattle.std.specs.Prelude.{◌≡◌, ◌≤◌, take, ◌*◌, ◌&&◌, ◌
 use Rattle.db_entry.specs.declared.diagram.Diagram.{Diagram}
 use Rattle.db_entry.specs.declared.marks.Marks.{Marks}
 use Rattle.db_rules.specs.Labels.{labels_of}
-use Rattle.db_rules.specs.Kinds.{first_of, bad_letter, edge_place, ragged, too_large}
-use Rattle.db_rules.specs.Diagram.{is_edge_line, is_row, line_shape, other_sides, other_width, rows_of, has_top, has_bottom, wanted, letters_of, width_of}
+use Rattle.db_rules.specs.declared.kind.FaultKind.{FaultKind}
+use Rattle.db_rules.specs.declared.kind.FaultKind.TheVariants.{EdgePlace, Ragged, TooLarge}
+use Rattle.db_rules.specs.Kinds.{first_of}
+use Rattle.db_entry.specs.declared.line.DiagramLine.{DiagramLine}
+use Rattle.db_entry.specs.DiagramLines.{is_edge, shape_on}
+use Rattle.db_rules.specs.Diagram.{other_sides, other_width, rows_of, has_top, has_bottom, wanted, letters_of, width_of}
 
--- the first fault of a line, by what is kept of the lines before
-abbrev pub kept_fault : Diagram → List ℕ → Option ℕ
-kept_fault d word = first_of (
-    (not (is_edge_line word || is_row word), bad_letter)
-    ∷ (
-      is_edge_line word && not (nat_lt 0 d.rows) && d.top || d.bottom
-          || other_sides (line_shape word) d.shape,
-      edge_place,
-    )
-    ∷ (other_width (line_shape word) d.shape, ragged)
-    ∷ (nat_lt largest_size (length word) || nat_le largest_size d.lines, too_large)
+-- the first fault of a line of so many bytes, by what is kept of the lines before
+abbrev pub kept_fault : Diagram → DiagramLine → ℕ → Option FaultKind
+kept_fault d line bytes = first_of ((
+  is_edge line && not (nat_lt 0 d.rows) && d.top || d.bottom || other_sides (shape_on line) d.shape,
+  EdgePlace,
+)
+    ∷ (other_width (shape_on line) d.shape, Ragged)
+    ∷ (nat_lt largest_size bytes || nat_le largest_size d.lines, TooLarge)
     ∷ [])
 
 -- what is kept of a diagram is that of these words

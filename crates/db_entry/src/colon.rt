@@ -6,7 +6,8 @@ ghost use Rattle.std.specs.Str.{bytes_eq};
 ghost use Rattle.db_lex.specs.Lines.{trimmed};
 ghost use Rattle.pat_types.specs.Diagrams.{is_star};
 ghost use Rattle.db_rules.specs.Diagram.{star_count as stars};
-ghost use Rattle.db_rules.specs.Kinds.{first_of, no_diagram, move_count, bad_mark, bad_class, bad_item, unknown_helper};
+ghost use Rattle.db_rules.specs.declared.kind.FaultKind.{FaultKind};
+ghost use Rattle.db_rules.specs.Kinds.{first_of};
 ghost use Rattle.db_rules.specs.Colon.{fields_of as all_fields, mark_of as mark_in, class_field as second_field, further as others, is_item as item, item_of as item_from, names_nothing as nothing_named, class_letters as letters_in, null, are_classes as classes, fields_fault as first_fields_fault, colon_fault};
 ghost use Rattle.db_rules.specs.Faults.{Blames};
 ghost use Rattle.db_entry.specs.Says.{Says, most_fields};
@@ -15,7 +16,7 @@ ghost use Rattle.db_entry.specs.Reads.{Draws};
 use crate::diagram::Diagram;
 use crate::fields::{are_classes, field_len, is_item, is_name, mark_by, name_before, text_after};
 use db_lex::trim;
-use db_rules::{BAD_CLASS, BAD_ITEM, BAD_MARK, LineError, MOVE_COUNT, NO_DIAGRAM, UNKNOWN_HELPER};
+use db_rules::{FaultKind, LineError};
 use go_base::{Bytes, NoMemory};
 use pat_types::{Item, Items, Letter, Mark};
 use std::alloc::Global;
@@ -166,50 +167,20 @@ fn is_not_one(stars: usize) -> bool
     stars != 1
 }
 
-/// The kind of the first fault that a colon line has, by what was tested.
-fn first_kind(
-    no_row: bool,
-    stars: bool,
-    mark: bool,
-    class: bool,
-    items: bool,
-    helper: bool,
-) -> Option<u8>
-    ensures { result ≡ first_of
-        ((no_row, no_diagram) ∷ (stars, move_count) ∷ (mark, bad_mark) ∷ (class, bad_class) ∷ (items, bad_item) ∷
-        (helper, unknown_helper) ∷ []) }
-{
-    if no_row {
-        Some(NO_DIAGRAM)
-    } else if stars {
-        Some(MOVE_COUNT)
-    } else if mark {
-        Some(BAD_MARK)
-    } else if class {
-        Some(BAD_CLASS)
-    } else if items {
-        Some(BAD_ITEM)
-    } else if helper {
-        Some(UNKNOWN_HELPER)
-    } else {
-        None
-    }
-}
-
 /// The first fault of a colon line with these fields after a diagram.
-fn fields_fault(helpers: &[Bytes], diagram: &Diagram, fields: &[&[u8]]) -> Option<u8>
+fn fields_fault(helpers: &[Bytes], diagram: &Diagram, fields: &[&[u8]]) -> Option<FaultKind>
     ensures { (words : List (List ℕ)) → Draws diagram.now words →
         result ≡ first_fields_fault helpers.now words (map (λ f. f.now) fields.now) }
 {
     let stars = star_count(diagram.letters.as_slice());
-    first_kind(
-        has_no_row(diagram.rows),
-        is_not_one(stars),
-        is_no_mark(fields),
-        are_bad_classes(fields),
-        are_bad_items(fields),
-        is_unknown_helper(helpers, fields),
-    )
+    FaultKind::first_of(&[
+        (has_no_row(diagram.rows), FaultKind::NoDiagram),
+        (is_not_one(stars), FaultKind::MoveCount),
+        (is_no_mark(fields), FaultKind::BadMark),
+        (are_bad_classes(fields), FaultKind::BadClass),
+        (are_bad_items(fields), FaultKind::BadItem),
+        (is_unknown_helper(helpers, fields), FaultKind::UnknownHelper),
+    ])
 }
 
 /// These bytes in a list of their own.

@@ -2,6 +2,8 @@
 
 ghost use Rattle.std.specs.Prelude.{◌≤◌};
 
+mod lines;
+
 use db_rules::Shape;
 use pat_types::Letters;
 

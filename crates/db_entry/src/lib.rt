@@ -8,8 +8,7 @@
 mod colon;
 mod diagram;
 mod fields;
-mod labels;
-mod lines;
+mod line;
 mod marks;
 mod words;
 

@@ -1,9 +1,9 @@
-//! The words of diagram lines: rows and edge lines.
+//! The words of diagram lines: letters, rows and edge lines.
 
-ghost use Rattle.std.specs.Prelude.{◌≡◌, ◌≤◌, ◌-◌, ◌==◌, length, slice_index};
+ghost use Rattle.std.specs.Prelude.{◌≡◌, ◌≤◌, ◌-◌, ◌==◌, ◌&&◌, nat_lt, length, slice_index, Some, None, if◌then◌else◌};
 ghost use Rattle.std.specs.List.{list_all};
 ghost use Rattle.db_rules.specs.Colon.{is_ascii_letter as ascii_letter};
-ghost use Rattle.db_rules.specs.Diagram.{letter_of, is_dash, is_letter as is_one_letter, begins, ends, inner as inside, is_edge_line as edge_line, is_row as row, shape_of};
+ghost use Rattle.db_rules.specs.Diagram.{letter_of, is_dash, is_letter as is_one_letter, begins, inner as inside, is_edge_line as edge_line, is_row as row, shape_of, bar, plus};
 
 use db_rules::Shape;
 use pat_types::Letter;
@@ -54,7 +54,7 @@ fn stops(b: u8, word: &[u8]) -> bool
 
 /// The shape and the inner part of a word that may have this byte at either end.
 #[tactic(auto, unfolding(db_rules::specs::Diagram::shape_of))]
-pub fn parts(b: u8, word: &[u8]) -> (Shape, &[u8])
+fn parts(b: u8, word: &[u8]) -> (Shape, &[u8])
     requires { 1 ≤ b }
     ensures shape { result.0 ≡ shape_of b word.now }
     ensures inner { result.1.now ≡ inside b word.now }
@@ -79,22 +79,45 @@ fn are_letters(bytes: &[u8]) -> bool
     bytes.iter().all(|b| is_letter(*b))
 }
 
-/// Whether a word is an optional `+`, one or more `-`, and an optional `+`.
-#[tactic(auto, unfolding(db_rules::specs::Diagram::is_edge_line))]
-pub fn is_edge_line(word: &[u8]) -> bool
-    ensures { result ≡ edge_line word.now }
+fn is_dashed(inner: &[u8]) -> bool
+    ensures { result ≡ (nat_lt 0 (length inner.now) && list_all is_dash inner.now) }
 {
-    let (_, inner) = parts(b'+', word);
     0 < inner.len() && are_dashes(inner)
 }
 
-/// Whether a word is an optional `|`, one or more letters, and an optional `|`.
-#[tactic(auto, unfolding(db_rules::specs::Diagram::is_row))]
-pub fn is_row(word: &[u8]) -> bool
-    ensures { result ≡ row word.now }
+fn is_lettered(inner: &[u8]) -> bool
+    ensures { result ≡ (nat_lt 0 (length inner.now) && list_all is_one_letter inner.now) }
 {
-    let (_, inner) = parts(b'|', word);
     0 < inner.len() && are_letters(inner)
+}
+
+/// The shape of a word that is an optional `+`, one or more `-`, and an optional `+`.
+#[tactic(auto, unfolding(db_rules::specs::Diagram::is_edge_line))]
+pub fn edge_shape(word: &[u8]) -> Option<Shape>
+    ensures { result ≡ (if edge_line word.now then Some (shape_of plus word.now) else None) }
+{
+    let (shape, inner) = parts(b'+', word);
+    if is_dashed(inner) { Some(shape) } else { None }
+}
+
+/// The shape of a word that is an optional `|`, one or more letters, and an optional `|`.
+#[tactic(auto, unfolding(db_rules::specs::Diagram::is_row))]
+pub fn row_shape(word: &[u8]) -> Option<Shape>
+    ensures { result ≡ (if row word.now then Some (shape_of bar word.now) else None) }
+{
+    let (shape, inner) = parts(b'|', word);
+    if is_lettered(inner) {
+        Some(shape)
+    } else {
+        None
+    }
+}
+
+/// The letters of a row, between its edges.
+pub fn row_letters(word: &[u8]) -> &[u8]
+    ensures { result.now ≡ inside bar word.now }
+{
+    parts(b'|', word).1
 }
 
 /// Whether a byte is an ASCII letter.

@@ -1,12 +1,14 @@
 -- The pattern that a complete draft makes is one.
-use Rattle.std.proofs.Common.{◌≡◌, ℕ, ◌/◌, ◌%◌, false, Option, Some, None, refl, sym, ◌∙◌}
+use Rattle.std.proofs.Common.{◌≡◌, ℕ, ◌/◌, ◌%◌, List, Option, Some, None, refl, sym, ap, ◌∙◌}
 use Rattle.std.specs.Prelude.{unwrap_or, true}
 use Rattle.std.specs.List.{position_or_len}
 use Rattle.pat_types.specs.Diagrams.{IsDiagram, is_star}
 use Rattle.pat_types.specs.Kept.{are_labels}
 use Rattle.db_rules.specs.declared.shape.Shape.{Shape}
+use Rattle.db_rules.specs.Diagram.{wanted}
+use Rattle.db_rules.specs.Entries.{shape_in}
 use Rattle.db_rules.specs.Blocks.{words_in}
-use Rattle.db_rules.proofs.EntryLemmas.{diagram_of_entry, width_of-shape_in}
+use Rattle.db_rules.proofs.EntryLemmas.{no_shape, diagram_of_entry, width_of-shape_in}
 use Rattle.db_rules.proofs.Labelled.{labels_are_labels}
 use Rattle.db_lex.specs.declared.line.LineKind.TheVariants.{Pattern, Semicolon}
 use Rattle.db_rules.specs.declared.stage.Stage.{Stage}
@@ -19,27 +21,30 @@ use Rattle.db_read.specs.Drafts.{Drafts, IsComplete}
 use Rattle.db_read.specs.Reading.{IsAtStage, ReadsNow, Shows, IsTaking}
 use Rattle.db_read.proofs.ReaderLemmas.{judged_without}
 
--- the shape of no line
-abbrev no_shape : Shape
-no_shape = record { left = false; right = false; width = 0 }
+-- the shape of its rows is the one that is kept
+shape_is_kept : (words : List (List ℕ)) (shape : Shape) → wanted words ≡ Some shape → shape_in words ≡ shape
+shape_is_kept words shape same = ap (λ o. unwrap_or o no_shape) same
 
 -- its diagram is one that a pattern may have
 pub finished_diagram : (d : Draft) (shape : Shape) (star : ℕ) → IsComplete d
-    → shape ≡ unwrap_or d.diagram.shape no_shape → star ≡ position_or_len is_star d.diagram.letters
+    → d.diagram.shape ≡ Some shape → star ≡ position_or_len is_star d.diagram.letters
     → IsDiagram d.diagram.rows shape.width d.diagram.letters d.diagram.top d.diagram.bottom shape.left shape.right
     (star / shape.width, star % shape.width)
 finished_diagram d shape star whole shape_is star_is =
     let drawn = whole.drafts.diagram in
-    rw (shape_is, star_is, drawn.rows, drawn.letters, drawn.top, drawn.bottom, drawn.shape)
-    (diagram_of_entry (words_in whole.block.diagram) whole.drafts.drawn whole.one_star)
+    let words = words_in whole.block.diagram in
+    let same : shape ≡ shape_in words = sym (shape_is_kept words shape (sym drawn.shape ∙ shape_is)) in
+    rw (same, star_is, drawn.rows, drawn.letters, drawn.top, drawn.bottom)
+    (diagram_of_entry words whole.drafts.drawn whole.past_colon.0)
 
 -- its labels lie in the diagram and have different letters
-pub finished_labels : (d : Draft) (shape : Shape) → IsComplete d → shape ≡ unwrap_or d.diagram.shape no_shape
+pub finished_labels : (d : Draft) (shape : Shape) → IsComplete d → d.diagram.shape ≡ Some shape
     → are_labels d.diagram.rows shape.width d.marks.labels ≡ true
 finished_labels d shape whole shape_is =
     let drawn = whole.drafts.diagram in
     let words = words_in whole.block.diagram in
-    rw (shape_is, drawn.rows, drawn.shape, whole.drafts.marks.labels, sym (width_of-shape_in words))
+    let same : shape ≡ shape_in words = sym (shape_is_kept words shape (sym drawn.shape ∙ shape_is)) in
+    rw (same, drawn.rows, whole.drafts.marks.labels, sym (width_of-shape_in words))
     (labels_are_labels words (words_in whole.block.constraint) whole.drafts.drawn whole.drafts.labelled)
 
 -- the draft of a block that is left is complete: it has one star, and no expression is open
@@ -48,10 +53,10 @@ pub complete_at : (stage : Stage) (d : Draft) (b : Block) → (stage ≡ Start �
 complete_at Start d b on left closed drafts there = absurd (on refl)
 complete_at Diagram d b on left closed drafts there = absurd (left refl)
 complete_at Labels d b on left closed drafts there =
-    record { block = b; drafts = drafts; one_star = there.0; judged = judged_without d there.1 }
+    record { block = b; drafts = drafts; past_colon = there.0; judged = judged_without d there.1 }
 complete_at Expression d b on left closed drafts there = absurd (closed refl)
 complete_at Actions d b on left closed drafts there =
-    record { block = b; drafts = drafts; one_star = there.0; judged = there.1 }
+    record { block = b; drafts = drafts; past_colon = there.0; judged = there.1 }
 
 -- a draft that is left is complete, unless there is none
 pub complete_draft : (r : Reader) (s : SoFar) → Shows r s → (r.stage ≡ Start → ⊥) → (r.stage ≡ Diagram → ⊥)

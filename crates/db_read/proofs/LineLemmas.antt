@@ -5,6 +5,7 @@ use Rattle.db_lex.specs.declared.line.LineKind.{LineKind}
 use Rattle.db_lex.specs.declared.line.LineKind.TheVariants.{Pattern, Colon, Semicolon, Action, Other}
 use Rattle.db_lex.specs.Lines.{KeptLine, kind_of}
 use Rattle.db_rules.specs.declared.fault.LineError.{LineError}
+use Rattle.db_rules.specs.declared.kind.FaultKind.{FaultKind}
 use Rattle.db_rules.specs.declared.fault.LineError.TheVariants as line_errors
 use Rattle.db_rules.specs.declared.stage.TableCell.{TableCell}
 use Rattle.db_rules.specs.declared.stage.TableCell.TheVariants.{Next, Refused}
@@ -31,13 +32,13 @@ tabled_ok helpers s k kind next n kind_is cell read =
     subst (λ c. (table_fault helpers s k c ≡ None) × Shows n (with_cell s k c)) (sym cell) there
 
 -- the error of a line of this number
-pub blames_line : (number : ℕ) (e : LineError) (kind : Option ℕ) → Blames e kind
+pub blames_line : (number : ℕ) (e : LineError) (kind : Option FaultKind) → Blames e kind
     → BlamesAt (error_at number e) (at_line number kind)
 blames_line number line_errors.NoMemory kind h = tt
 blames_line number (line_errors.Kind k) kind h = ap (at_line number) h
 
 -- the fault of a line of this kind by its cell
-abbrev fault_by : List (List ℕ) → SoFar → KeptLine → LineKind → TableCell → Option ℕ
+abbrev fault_by : List (List ℕ) → SoFar → KeptLine → LineKind → TableCell → Option FaultKind
 fault_by helpers s line kind (Refused fault) = Some fault
 fault_by helpers s line kind (Next stage) = own_fault helpers s line kind
 
@@ -46,11 +47,13 @@ abbrev after_by : SoFar → KeptLine → LineKind → TableCell → SoFar
 after_by s line kind (Next stage) = placed line stage s kind
 after_by s line kind (Refused fault) = s
 
+-- the fault of a line by its cell is the one by its kind
 fault-by : (helpers : List (List ℕ)) (s : SoFar) (line : KeptLine) (cell : TableCell)
     → table_fault helpers s line cell ≡ fault_by helpers s line (kind_of line.bytes) cell
 fault-by helpers s line (Refused fault) = refl
 fault-by helpers s line (Next stage) = refl
 
+-- what the lines come to with a line by its cell is what they come to by its kind
 after-by : (s : SoFar) (line : KeptLine) (cell : TableCell)
     → with_cell s line cell ≡ after_by s line (kind_of line.bytes) cell
 after-by s line (Next stage) = refl
@@ -96,6 +99,7 @@ pub record IsSame (helpers : List (List ℕ)) (kind : LineKind) (s : SoFar) (lin
   pub after : table_fault helpers s line (cell_for s.stage line) ≡ None
       → after_line (settled (Some kind) s) line ≡ after_line s line
 
+-- each line meets the same behind what it closes
 pub same_behind : (helpers : List (List ℕ)) (kind : LineKind) (s : SoFar) (line : KeptLine) → kind ≡ kind_of line.bytes
     → IsSame helpers kind s line
 unfolding after_line

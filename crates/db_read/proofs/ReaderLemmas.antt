@@ -1,5 +1,5 @@
 -- A reader with one line more.
-use Rattle.std.proofs.Common.{◌≡◌, ◌≢◌, ℕ, ◌+◌, Bool, true, false, List, [], ◌∷◌, ◌++◌, map, Option, Some, None, refl, sym, ap, subst, ◌∙◌, arith}
+use Rattle.std.proofs.Common.{◌≡◌, ◌≢◌, ℕ, ◌+◌, ◌<◌, Bool, true, false, List, [], ◌∷◌, ◌++◌, length, map, Option, Some, None, refl, sym, ap, subst, ◌∙◌, arith}
 use Rattle.std.specs.Prelude.{◌==◌, ◌&&◌, nat_lt}
 use Rattle.std.specs.Option.{option_to_list}
 use Rattle.std.proofs.lemmas.Bool.{eqb-true, not-false}
@@ -12,7 +12,9 @@ use Rattle.db_lex.specs.Lines.{KeptLine, word_of}
 use Rattle.db_rules.specs.declared.stage.Stage.{Stage}
 use Rattle.db_rules.specs.declared.stage.Stage.TheVariants.{Start, Diagram, Labels, Expression, Actions}
 use Rattle.db_rules.specs.declared.stage.TableCell.TheVariants.{Next}
-use Rattle.db_rules.specs.Kinds.{first_of, no_diagram, move_count, bad_mark, bad_class, bad_item, unknown_helper, constraint_shape}
+use Rattle.db_rules.specs.declared.kind.FaultKind.{FaultKind}
+use Rattle.db_rules.specs.declared.kind.FaultKind.TheVariants.{NoDiagram, MoveCount, BadMark, BadClass, BadItem, UnknownHelper, ConstraintShape}
+use Rattle.db_rules.specs.Kinds.{first_of}
 use Rattle.db_rules.specs.Diagram.{diagram_fault, letters_of, star_count}
 use Rattle.db_rules.specs.Colon.{colon_fault, fields_fault}
 use Rattle.db_rules.specs.Labels.{constraint_fault, labels_closing_fault}
@@ -22,7 +24,7 @@ use Rattle.db_rules.specs.Faults.{own_fault, at_line, first_number, expression_k
 use Rattle.db_read.specs.declared.draft.Draft.{Draft}
 use Rattle.db_read.specs.declared.error.DbError.{DbError}
 use Rattle.db_read.specs.declared.reader.Reader.{Reader}
-use Rattle.db_read.specs.Drafts.{Drafts, HasOneStar, IsUnjudged, IsJudged}
+use Rattle.db_read.specs.Drafts.{Drafts, IsPastColon, IsUnjudged, IsJudged}
 use Rattle.db_read.specs.Reading.{BlamesAt, IsAtStage, ReadsNow, Shows, settled_stage, settled}
 
 -- what some lines come to, of these parts
@@ -40,13 +42,17 @@ Shows-now r n stage next front done b d s stage_is done_is begun_is drafts fresh
   draft = (drafts, fresh, on);
 }
 
+-- lines with one line more are some
+some-pushed : (lines : List KeptLine) (line : KeptLine) → 0 < length (lines ++ line ∷ [])
+some-pushed lines line = omega (arith, length-append lines (line ∷ []))
+
 -- a draft with the expression and the constraint of another is unjudged where that is
 unjudged-rest : (old new : Draft) → (new.expression ≡ old.expression) × (new.constraint ≡ old.constraint)
     → IsUnjudged old → IsUnjudged new
 unjudged-rest old new rest h = record { no_line = rest.0 ∙ h.no_line; no_constraint = rest.1 ∙ h.no_constraint }
 
 -- the tests of a list of six faults of which none fits
-none_of_six : (a b c d e f : Bool) (k l m n o p : ℕ)
+none_of_six : (a b c d e f : Bool) (k l m n o p : FaultKind)
     → first_of ((a, k) ∷ (b, l) ∷ (c, m) ∷ (d, n) ∷ (e, o) ∷ (f, p) ∷ []) ≡ None → b ≡ false
 none_of_six true b c d e f k l m n o p h = absurd cc
 none_of_six false true c d e f k l m n o p h = absurd cc
@@ -59,7 +65,7 @@ unfolding fields_fault
 colon_one_star helpers diagram line none =
     eqb-true _ 1
     (not-false (star_count (letters_of diagram) == 1)
-    (none_of_six _ _ _ _ _ _ no_diagram move_count bad_mark bad_class bad_item unknown_helper none))
+    (none_of_six _ _ _ _ _ _ NoDiagram MoveCount BadMark BadClass BadItem UnknownHelper none))
 
 module _ (r n : Reader) (stage : Stage) (front : List KeptLine) (done : List Block) (k : KeptLine) where
   -- what the draft has of the expression stays
@@ -82,7 +88,7 @@ module _ (r n : Reader) (stage : Stage) (front : List KeptLine) (done : List Blo
       let one_star = colon_one_star helpers (words_in b.diagram) bytes read.0 in (
         ap (colon_fault helpers (words_in b.diagram)) e ∙ read.0,
         Shows-now r n stage Labels front done b (record b { colon = b.colon ++ k ∷ [] }) s ns nd nb read.1
-            (one_star, unjudged-rest r.draft n.draft rest fresh.2) (λ h. absurd cc),
+            ((one_star, some-pushed b.colon k), unjudged-rest r.draft n.draft rest fresh.2) (λ h. absurd cc),
       )
 
   -- a line of the main diagram is read
@@ -124,9 +130,9 @@ module _ (r n : Reader) (stage : Stage) (front : List KeptLine) (done : List Blo
             (fresh.0, unjudged-rest r.draft n.draft rest fresh.1) (λ h. absurd cc),
       )
 
--- where an expression line is taken the diagram has one star, and there is no constraint
+-- where an expression line is taken there is a colon line, and there is no constraint
 at_expression_line : (stage : Stage) (byte : ℕ) (d : Draft) (b : Block) → table stage Semicolon byte ≡ Next Expression
-    → IsAtStage stage d b → HasOneStar b × (d.constraint ≡ None)
+    → IsAtStage stage d b → IsPastColon b × (d.constraint ≡ None)
 at_expression_line Start byte d b next there = absurd cc
 at_expression_line Diagram byte d b next there = absurd cc
 at_expression_line Labels byte d b next there = (there.0, there.1.no_constraint)
@@ -163,9 +169,9 @@ judged_without d h = record {
   kept = ap (is_constraint d.marks.labels) h.no_constraint;
 }
 
--- where an action line is taken behind a closed expression the diagram has one star, and the draft is judged
+-- where an action line is taken behind a closed expression there is a colon line, and the draft is judged
 at_action_line : (stage : Stage) (byte : ℕ) (d : Draft) (b : Block) → table stage Action byte ≡ Next Actions
-    → (stage ≡ Expression → ⊥) → IsAtStage stage d b → HasOneStar b × IsJudged d
+    → (stage ≡ Expression → ⊥) → IsAtStage stage d b → IsPastColon b × IsJudged d
 at_action_line Start byte d b next left there = absurd cc
 at_action_line Diagram byte d b next left there = absurd cc
 at_action_line Labels byte d b next left there = (there.0, judged_without d there.1)
@@ -201,9 +207,7 @@ action_ok r n stage front done k (Some b) byte next left s ns nd nb same =
       name = h.name;
       words = h.words;
       diagram = h.diagram;
-      mark = h.mark;
-      classes = h.classes;
-      items = h.items;
+      colon = h.colon;
       marks = h.marks;
       expression = h.expression;
       drawn = h.drawn;
@@ -217,7 +221,7 @@ pub labels_gathered : (r : Reader) (number : ℕ) (stage : Stage) (front : List 
     ≡ at_line number (first_of ((
       nat_lt 0 r.draft.marks.lines
           && nat_lt r.draft.marks.lines r.draft.diagram.lines,
-      constraint_shape,
+      ConstraintShape,
     ) ∷ []))
 unfolding labels_closing_fault
 labels_gathered r number stage front done None stage_is s = absurd (cc (s.draft, stage_is))

@@ -1,19 +1,19 @@
 -- What a draft has read of a block, and when it is complete.
-use Rattle.std.specs.Prelude.{◌≡◌, ◌<◌, IsTrue, List, [], length, map, unwrap_or, Option, Some, None}
+use Rattle.std.specs.Prelude.{◌≡◌, ◌<◌, IsTrue, List, [], length, map, Option, Some, None}
 use Rattle.std.specs.Option.{option_map}
 use Rattle.pat_types.specs.Kept.{is_constraint}
-use Rattle.pat_types.specs.declared.mark.Mark.TheVariants.{Oh}
 use Rattle.cons_parse.specs.Trees.{Tree, tree_of, meaning_of}
 use Rattle.cons_parse.specs.Reading.{expression_in}
 use Rattle.db_lex.specs.Lines.{KeptLine}
 use Rattle.db_rules.specs.Accepted.{IsDrawn, IsLabelled}
 use Rattle.db_rules.specs.Diagram.{letters_of, star_count}
-use Rattle.db_rules.specs.Colon.{fields_of, mark_of, class_field, class_letters, further, item_of}
 use Rattle.db_rules.specs.Expressions.{expression_text}
 use Rattle.db_rules.specs.Blocks.{Block, words_in}
 use Rattle.db_rules.specs.Entries.{name_on, colon_bytes}
 use Rattle.db_rules.specs.Faults.{first_number}
+use Rattle.db_entry.specs.declared.colon.ColonLine.{ColonLine}
 use Rattle.db_entry.specs.Reads.{Draws, IsMarked}
+use Rattle.db_entry.specs.Says.{Says}
 use Rattle.db_read.specs.declared.draft.Draft.{Draft}
 use Rattle.db_read.specs.declared.draft.ExpressionText.{ExpressionText}
 
@@ -28,14 +28,17 @@ abbrev pub KeepsText : Option ExpressionText → List KeptLine → Type 0
 KeepsText None lines = lines ≡ []
 KeepsText (Some kept) lines = IsTextOf kept lines
 
+-- what is kept of these colon lines: nothing where there is none, or else what the first says
+abbrev pub KeepsColon : Option ColonLine → List KeptLine → Type 0
+KeepsColon None lines = lines ≡ []
+KeepsColon (Some colon) lines = Says colon (colon_bytes lines)
+
 -- the draft has read these lines of a block
 pub record Drafts (d : Draft) (b : Block) : Type 0 where
   pub name : d.name ≡ name_on b.head.bytes
   pub words : map (λ w. w.now) d.words.items ≡ words_in b.diagram
   pub diagram : Draws d.diagram (words_in b.diagram)
-  pub mark : d.mark ≡ unwrap_or (mark_of (fields_of (colon_bytes b.colon))) Oh
-  pub classes : d.classes ≡ class_letters (class_field (fields_of (colon_bytes b.colon)))
-  pub items : d.items ≡ map item_of (further (fields_of (colon_bytes b.colon)))
+  pub colon : KeepsColon d.colon b.colon
   pub marks : IsMarked d.marks (words_in b.diagram) (words_in b.constraint)
   pub expression : KeepsText d.expression b.expression
   pub drawn : IsDrawn (words_in b.diagram)
@@ -44,6 +47,10 @@ pub record Drafts (d : Draft) (b : Block) : Type 0 where
 -- the diagram of the block has exactly one star
 abbrev pub HasOneStar : Block → Type 0
 HasOneStar b = star_count (letters_of (words_in b.diagram)) ≡ 1
+
+-- the block has a colon line, behind a diagram with one star
+abbrev pub IsPastColon : Block → Type 0
+IsPastColon b = HasOneStar b × (0 < length b.colon)
 
 -- what the text that is kept says
 abbrev pub said_by : Option ExpressionText → Option Tree
@@ -64,5 +71,5 @@ pub record IsJudged (d : Draft) : Type 0 where
 pub record IsComplete (d : Draft) : Type 0 where
   pub block : Block
   pub drafts : Drafts d block
-  pub one_star : HasOneStar block
+  pub past_colon : IsPastColon block
   pub judged : IsJudged d

@@ -11,12 +11,14 @@ use Rattle.db_rules.specs.declared.stage.Stage.{Stage}
 use Rattle.db_rules.specs.declared.stage.Stage.TheVariants.{Start, Diagram, Labels, Expression, Actions}
 use Rattle.cons_parse.specs.declared.error.ConsError.{ConsError}
 use Rattle.cons_parse.specs.declared.error.ConsError.TheVariants as cons_errors
-use Rattle.db_rules.specs.Kinds.{expr_fault, unknown_label}
+use Rattle.db_rules.specs.declared.kind.FaultKind.{FaultKind}
+use Rattle.db_rules.specs.Kinds.{number_of}
+use Rattle.db_rules.specs.Expressions.{kind_told}
 use Rattle.db_lex.specs.declared.line.LineKind.{LineKind}
 use Rattle.db_lex.specs.declared.line.LineKind.TheVariants.{Semicolon}
 use Rattle.db_rules.specs.declared.stage.TableCell.TheVariants.{Next}
 use Rattle.db_rules.specs.Blocks.{Block, SoFar, blocks_of, table}
-use Rattle.db_read.specs.Drafts.{Drafts, HasOneStar, IsUnjudged, IsJudged}
+use Rattle.db_read.specs.Drafts.{Drafts, IsPastColon, IsUnjudged, IsJudged}
 use Rattle.db_rules.specs.Entries.{entry_of, entry_of_block}
 
 -- the error is want of memory, or this fault
@@ -24,19 +26,19 @@ abbrev pub BlamesAt : DbError → Option Fault → Type 0
 BlamesAt errors.NoMemory fault = Unit {0}
 BlamesAt (errors.Fault line kind) fault = fault ≡ Some (record { line = line; kind = kind })
 
+-- the error that a fault of this kind at a line is told as
+abbrev pub fault_told : ℕ → FaultKind → DbError
+fault_told line kind = errors.Fault line (number_of kind)
+
 -- an error of a line of this number
 abbrev pub error_at : ℕ → LineError → DbError
 error_at number line_errors.NoMemory = errors.NoMemory
-error_at number (line_errors.Kind kind) = errors.Fault number kind
+error_at number (line_errors.Kind kind) = fault_told number kind
 
 -- the error that a fault of an expression is told as, which begins at the line of this number
 abbrev pub expression_error : ℕ → ConsError → DbError
 expression_error line cons_errors.NoMemory = errors.NoMemory
-expression_error line cons_errors.Syntax = errors.Fault line expr_fault
-expression_error line cons_errors.TooDeep = errors.Fault line expr_fault
-expression_error line cons_errors.UnknownFunction = errors.Fault line expr_fault
-expression_error line cons_errors.Arity = errors.Fault line expr_fault
-expression_error line cons_errors.UnknownLabel = errors.Fault line unknown_label
+expression_error line e = fault_told line (kind_told e)
 
 -- the stage behind what a line of this kind, or the end, closes: a closed expression is left behind
 abbrev pub settled_stage : Stage → Option LineKind → Stage
@@ -51,14 +53,14 @@ settled_stage Actions _ = Actions
 abbrev pub settled : Option LineKind → SoFar → SoFar
 settled kind s = record { stage = settled_stage s.stage kind; front = s.front; done = s.done; now = s.now }
 
--- in the stage Diagram a block has neither a colon line nor a constraint diagram, and in a later one its diagram has
--- one star; its expression is judged once the stage Expression is left
+-- in the stage Diagram a block has neither a colon line nor a constraint diagram, and in a later one it has a colon
+-- line, behind a diagram with one star; its expression is judged once the stage Expression is left
 abbrev pub IsAtStage : Stage → Draft → Block → Type 0
 IsAtStage Start d b = Unit {0}
 IsAtStage Diagram d b = (b.colon ≡ []) × (b.constraint ≡ []) × IsUnjudged d
-IsAtStage Labels d b = HasOneStar b × IsUnjudged d
-IsAtStage Expression d b = HasOneStar b × (d.constraint ≡ None)
-IsAtStage Actions d b = HasOneStar b × IsJudged d
+IsAtStage Labels d b = IsPastColon b × IsUnjudged d
+IsAtStage Expression d b = IsPastColon b × (d.constraint ≡ None)
+IsAtStage Actions d b = IsPastColon b × IsJudged d
 
 -- the draft is that of the block that may go on; there is none at the start alone
 abbrev pub ReadsNow : Draft → Stage → Option Block → Type 0

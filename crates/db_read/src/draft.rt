@@ -3,8 +3,11 @@
 ghost use Rattle.go_rules.specs.Board.{largest_size};
 ghost use Rattle.std.specs.Prelude.{◌≡◌, ◌≤◌, ◌<◌, ℕ, [], length, get_or, map, vec_len};
 
-use db_entry::{Diagram, Marks};
-use pat_types::{Bytes, Expr, Items, Mark};
+mod lines;
+
+use db_entry::{ColonLine, Diagram, Marks};
+pub use lines::begin;
+use pat_types::{Bytes, Expr};
 
 /// What is kept of the expression lines of an entry.
 #[derive(Debug, Drop)]
@@ -18,13 +21,15 @@ pub struct ExpressionText {
 /// An entry so far.
 #[derive(Drop)]
 pub struct Draft<'a> {
+    /// The name on the Pattern line.
     pub name: Bytes,
     /// The words of the main diagram lines.
     pub words: Vec<&'a [u8]>,
+    /// The main diagram so far.
     pub diagram: Diagram,
-    pub mark: Mark,
-    pub classes: Bytes,
-    pub items: Items,
+    /// What the colon line says, once it is read.
+    pub colon: Option<ColonLine>,
+    /// The constraint diagram so far.
     pub marks: Marks,
     /// What is kept of the expression lines, where there is one.
     pub expression: Option<ExpressionText>,

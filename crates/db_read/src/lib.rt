@@ -7,14 +7,12 @@
 #![tactic(auto)]
 
 mod draft;
-mod drafting;
 mod error;
 mod names;
 mod reader;
-mod reading;
 mod stages;
 #[cfg(test)]
 mod tests;
 
 pub use error::DbError;
-pub use reading::read;
+pub use reader::read;

@@ -6,7 +6,7 @@ ghost use Rattle.db_rules.specs.Entries.{name_on};
 ghost use Rattle.db_rules.specs.Faults.{is_name_char as may_be_in_name, pattern_fault as first_pattern_fault};
 
 use db_lex::{trim, word_len};
-use db_rules::{NO_NAME, TOO_MANY_PATTERNS};
+use db_rules::FaultKind;
 
 /// The name on a Pattern line: the first word of its rest.
 pub fn name_of(line: &[u8]) -> &[u8]
@@ -37,15 +37,15 @@ fn is_no_name(name: &[u8]) -> bool
 
 /// The first fault of a Pattern line before which so many entries begin.
 #[tactic(auto, unfolding(db_rules::specs::Faults::pattern_fault))]
-pub fn pattern_fault(entries: usize, line: &[u8]) -> Option<u8>
+pub fn pattern_fault(entries: usize, line: &[u8]) -> Option<FaultKind>
     ensures value { result ≡ first_pattern_fault entries line.now }
     ensures few { IfNone result (entries < 4096) }
 {
     if entries >= 4096 {
-        return Some(TOO_MANY_PATTERNS);
+        return Some(FaultKind::TooManyPatterns);
     }
     if is_no_name(name_of(line)) {
-        return Some(NO_NAME);
+        return Some(FaultKind::NoName);
     }
     None
 }

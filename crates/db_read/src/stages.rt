@@ -1,20 +1,21 @@
 //! The table of stages, and what leaving a stage closes.
 
-ghost use Rattle.std.specs.Prelude.{[], ◌∷◌, ◌≡◌, ◌<◌, ◌^◌, ◌+◌, ◌==◌, ◌&&◌, nat_lt, ℕ, Some, None, unwrap_or, false};
+ghost use Rattle.std.specs.Prelude.{[], ◌∷◌, ◌≡◌, ◌<◌, ◌^◌, ◌+◌, ◌==◌, ◌&&◌, nat_lt, ℕ, Some, None};
 ghost use Rattle.std.specs.List.{position_or_len};
 ghost use Rattle.pat_types.specs.Diagrams.{is_star};
 ghost use Rattle.db_rules.specs.Blocks.{Block, table as next_by_table, end_refused};
 ghost use Rattle.db_rules.specs.Faults.{closes as leaves};
-ghost use Rattle.db_read.specs.Reading.{error_at};
-ghost use Rattle.db_rules.specs.Kinds.{first_of, constraint_shape};
+ghost use Rattle.db_read.specs.Reading.{error_at, fault_told};
+ghost use Rattle.db_rules.specs.declared.kind.FaultKind.{FaultKind};
+ghost use Rattle.db_rules.specs.Kinds.{first_of};
 ghost use Rattle.db_rules.specs.Entries.{entry_of, entry_of_block};
 ghost use Rattle.db_read.specs.Drafts.{Drafts, IsComplete};
 
 use crate::draft::Draft;
 use crate::error::DbError;
-use db_entry::{Diagram, Marks, is_ascii_letter};
+use db_entry::{ColonLine, Diagram, Marks, is_ascii_letter};
 use db_lex::LineKind;
-use db_rules::{CONSTRAINT_SHAPE, LineError, NO_COLON_LINE, STRAY_LINE, Shape, Stage, TableCell};
+use db_rules::{FaultKind, LineError, Shape, Stage, TableCell};
 use pat_types::{Letter, Pattern};
 
 /// The table's cell for a line of this kind and first byte.
@@ -27,20 +28,20 @@ pub fn table(stage: Stage, kind: LineKind, first: u8) -> TableCell
             if is_ascii_letter(first) {
                 TableCell::Next(Stage::Start)
             } else {
-                TableCell::Refused(STRAY_LINE)
+                TableCell::Refused(FaultKind::StrayLine)
             }
         }
-        (Stage::Start, _) => TableCell::Refused(STRAY_LINE),
+        (Stage::Start, _) => TableCell::Refused(FaultKind::StrayLine),
         (Stage::Diagram, LineKind::Colon) => TableCell::Next(Stage::Labels),
         (Stage::Diagram, LineKind::Other) => TableCell::Next(Stage::Diagram),
-        (Stage::Diagram, _) => TableCell::Refused(NO_COLON_LINE),
+        (Stage::Diagram, _) => TableCell::Refused(FaultKind::NoColonLine),
         (_, LineKind::Pattern) => TableCell::Next(Stage::Diagram),
-        (_, LineKind::Colon) => TableCell::Refused(STRAY_LINE),
-        (Stage::Actions, LineKind::Semicolon) => TableCell::Refused(STRAY_LINE),
+        (_, LineKind::Colon) => TableCell::Refused(FaultKind::StrayLine),
+        (Stage::Actions, LineKind::Semicolon) => TableCell::Refused(FaultKind::StrayLine),
         (_, LineKind::Semicolon) => TableCell::Next(Stage::Expression),
         (_, LineKind::Action) => TableCell::Next(Stage::Actions),
         (Stage::Labels, LineKind::Other) => TableCell::Next(Stage::Labels),
-        (_, LineKind::Other) => TableCell::Refused(STRAY_LINE),
+        (_, LineKind::Other) => TableCell::Refused(FaultKind::StrayLine),
     }
 }
 
@@ -56,23 +57,33 @@ pub fn closes(stage: Stage, kind: Option<LineKind>) -> bool
 }
 
 /// The fault of a constraint diagram that is closed, by the numbers of its lines and of the main lines.
-pub fn labels_fault(mains: usize, lines: usize) -> Option<u8>
-    ensures { result ≡ first_of ((nat_lt 0 lines && nat_lt lines mains, constraint_shape) ∷ []) }
+pub fn labels_fault(mains: usize, lines: usize) -> Option<FaultKind>
+    ensures { result ≡ first_of ((nat_lt 0 lines && nat_lt lines mains, FaultKind.ConstraintShape) ∷ []) }
 {
     if 0 < lines && lines < mains {
-        Some(CONSTRAINT_SHAPE)
+        Some(FaultKind::ConstraintShape)
     } else {
         None
     }
 }
 
 /// The fault at the end of the text, by the table.
-pub fn end_kind(stage: Stage) -> Option<u8>
+pub fn end_kind(stage: Stage) -> Option<FaultKind>
     ensures { result ≡ end_refused stage }
 {
     match stage {
-        Stage::Diagram => Some(NO_COLON_LINE),
+        Stage::Diagram => Some(FaultKind::NoColonLine),
         _ => None,
+    }
+}
+
+/// The error of a fault at the line of this number: here its kind becomes the number that callers see.
+pub fn fault_at(line: u64, kind: FaultKind) -> DbError
+    ensures { result ≡ fault_told line kind }
+{
+    DbError::Fault {
+        line,
+        kind: kind.number(),
     }
 }
 
@@ -82,7 +93,7 @@ pub fn at(number: u64, e: LineError) -> DbError
 {
     match e {
         LineError::NoMemory => DbError::NoMemory,
-        LineError::Kind(kind) => DbError::Fault { line: number, kind },
+        LineError::Kind(kind) => fault_at(number, kind),
     }
 }
 
@@ -98,19 +109,6 @@ fn star_index(letters: &[Letter]) -> usize
     letters.len()
 }
 
-fn shape_or_none(shape: Option<Shape>) -> Shape
-    ensures { result ≡ unwrap_or shape (record { left = false; right = false; width = 0 }) }
-{
-    match shape {
-        None => Shape {
-            left: false,
-            right: false,
-            width: 0,
-        },
-        Some(s) => s,
-    }
-}
-
 /// The pattern that was read, where the colon line had no fault.
 pub fn finish(draft: Draft<'_>) -> Pattern
     requires { IsComplete draft }
@@ -120,9 +118,7 @@ pub fn finish(draft: Draft<'_>) -> Pattern
         name,
         words: _,
         diagram,
-        mark,
-        classes,
-        items,
+        colon,
         marks,
         expression: _,
         constraint,
@@ -141,7 +137,12 @@ pub fn finish(draft: Draft<'_>) -> Pattern
         labels,
     } = marks;
     let star = star_index(letters.as_slice());
-    let Shape { left, right, width } = shape_or_none(shape);
+    let Shape { left, right, width } = shape.unwrap();
+    let ColonLine {
+        mark,
+        classes,
+        items,
+    } = colon.unwrap();
     Pattern {
         name,
         rows: rows as u8,

@@ -1,6 +1,6 @@
 -- The lines of a text without a fault are a front and then whole blocks, each line in its place.
-use Rattle.std.proofs.Common.{◌≡◌, ◌≢◌, ℕ, ◌+◌, ◌<◌, ◌≤◌, Bool, true, false, cond, List, [], ◌∷◌, ◌++◌, length, Option, Some, None, refl, sym, ap, subst, ◌∙◌, append_assoc, arith}
-use Rattle.std.specs.Prelude.{IsTrue, fold, slice_index, nat_le}
+use Rattle.std.proofs.Common.{◌≡◌, ◌≢◌, ℕ, ◌<◌, ◌≤◌, Bool, true, false, cond, List, [], ◌∷◌, ◌++◌, length, Option, Some, None, refl, sym, ap, subst, ◌∙◌, append_assoc, arith}
+use Rattle.std.specs.Prelude.{fold, slice_index, nat_le}
 use Rattle.std.specs.List.{All, flat_map}
 use Rattle.std.specs.Option.{option_to_list}
 use Rattle.std.proofs.lemmas.Bool.{leb-false}
@@ -15,7 +15,9 @@ use Rattle.db_rules.specs.declared.stage.TableCell.{TableCell}
 use Rattle.db_rules.specs.declared.stage.TableCell.TheVariants.{Next, Refused}
 use Rattle.db_rules.specs.declared.stage.Stage.{Stage}
 use Rattle.db_rules.specs.declared.stage.Stage.TheVariants.{Start, Diagram, Labels, Expression, Actions}
-use Rattle.db_rules.specs.Kinds.{bad_byte, stray_line, no_name, too_many_patterns, first_of}
+use Rattle.db_rules.specs.declared.kind.FaultKind.{FaultKind}
+use Rattle.db_rules.specs.declared.kind.FaultKind.TheVariants.{BadByte, StrayLine, NoName, TooManyPatterns}
+use Rattle.db_rules.specs.Kinds.{first_of}
 use Rattle.db_rules.specs.Diagram.{diagram_fault}
 use Rattle.db_rules.specs.Labels.{constraint_fault, labels_closing_fault, labels_of}
 use Rattle.db_rules.specs.Expressions.{kind_of_expression}
@@ -105,7 +107,7 @@ action_line_ends b line =
     ap (λ t. b.head ∷ t) (at_end (b.diagram ++ b.colon ++ b.constraint ++ b.expression) b.actions line)
 
 -- what is no fault at a line is none
-no_kind : (number : ℕ) (kind : Option ℕ) → at_line number kind ≡ None → kind ≡ None
+no_kind : (number : ℕ) (kind : Option FaultKind) → at_line number kind ≡ None → kind ≡ None
 no_kind number None none = refl
 no_kind number (Some kind) none = absurd cc
 
@@ -115,7 +117,7 @@ or_none None b none = (refl, none)
 or_none (Some a) b none = absurd cc
 
 -- neither of two tests passes
-none_of_two : (a b : Bool) (k l : ℕ) → first_of ((a, k) ∷ (b, l) ∷ []) ≡ None → (a ≡ false) × (b ≡ false)
+none_of_two : (a b : Bool) (k l : FaultKind) → first_of ((a, k) ∷ (b, l) ∷ []) ≡ None → (a ≡ false) × (b ≡ false)
 none_of_two true b k l none = absurd cc
 none_of_two false true k l none = absurd cc
 none_of_two false false k l none = (refl, refl)
@@ -125,7 +127,7 @@ few_and_named : (entries : ℕ) (line : List ℕ) → pattern_fault entries line
     × (is_unnamed line ≡ false)
 unfolding pattern_fault
 few_and_named entries line none =
-    let both = none_of_two (nat_le most_entries entries) (is_unnamed line) too_many_patterns no_name none in
+    let both = none_of_two (nat_le most_entries entries) (is_unnamed line) TooManyPatterns NoName none in
     (leb-false most_entries entries both.0, both.1)
 
 -- the stage that the table has is the one it has
@@ -142,7 +144,7 @@ pattern_taken Expression next byte e = (cc, λ same. absurd cc)
 pattern_taken Actions next byte e = (cc, λ same. absurd cc)
 
 -- another line that is taken at the start begins with a letter, and stays there
-letter_taken : (letter : Bool) (next : Stage) → cond letter (Next Start) (Refused stray_line) ≡ Next next
+letter_taken : (letter : Bool) (next : Stage) → cond letter (Next Start) (Refused StrayLine) ≡ Next next
     → (letter ≡ true) × (next ≡ Start)
 letter_taken true next e = (refl, cc)
 letter_taken false next e = absurd cc
@@ -184,6 +186,7 @@ record IsFine (helpers : List (List ℕ)) (s : SoFar) (line : KeptLine) : Type 0
   cell : cell_for s.stage line ≡ Next next
   own : own_fault helpers s line (kind_of line.bytes) ≡ None
 
+-- a line at which nothing is found is fine in each of these ways
 nothing_found : (helpers : List (List ℕ)) (s : SoFar) (line : KeptLine) → found helpers s line ≡ None
     → IsFine helpers s line
 unfolding found
@@ -197,11 +200,7 @@ nothing_found helpers s line none = by_bad line.is_bad refl none
     by_cell clean closing (Refused kind) cell own = absurd cc
 
     by_bad : (bad : Bool) → line.is_bad ≡ bad
-        → cond bad (Some (record {
-          line = line.number;
-          kind =
-              bad_byte;
-        }))
+        → cond bad (at_line line.number (Some BadByte))
         (or_else (closing_fault line.number (Some (kind_of line.bytes)) s)
         (at_line line.number (table_fault helpers s line (cell_for s.stage line)))) ≡ None
         → IsFine helpers s line

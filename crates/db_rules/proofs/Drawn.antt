@@ -10,7 +10,7 @@ use Rattle.std.proofs.lemmas.List.{length-append, length-take}
 use Rattle.go_rules.specs.Board.{largest_size}
 use Rattle.pat_types.specs.Diagrams.{drawn_line}
 use Rattle.db_rules.specs.declared.shape.Shape.{Shape}
-use Rattle.db_rules.specs.Kinds.{bad_letter, edge_place, ragged, too_large}
+use Rattle.db_rules.specs.declared.kind.FaultKind.TheVariants.{BadLetter, EdgePlace, Ragged, TooLarge}
 use Rattle.db_rules.specs.Diagram.{is_letter, is_dash, plus, bar, begins, without_left, ends, inner, is_edge_line, is_row, shape_of, rows_of, has_row, has_top, has_bottom, wanted, wanted_of, line_shape, other_sides, other_width, is_misplaced, diagram_fault, letters_of, width_of}
 use Rattle.db_rules.specs.Accepted.{IsDrawn, no_line, one_line_more}
 use Rattle.db_rules.proofs.OneMoreLine.{none_of_four, length-rows_of-push, has_top-push, ends_in_edge-push, wanted-push, whole-push}
@@ -135,7 +135,7 @@ is_true false e = absurd cc
 pub fine_line : (words : List (List ℕ)) (word : List ℕ) → diagram_fault words word ≡ None → IsFineLine words word
 unfolding diagram_fault is_misplaced
 fine_line words word none =
-    let tests = none_of_four _ _ _ _ bad_letter edge_place ragged too_large none in
+    let tests = none_of_four _ _ _ _ BadLetter EdgePlace Ragged TooLarge none in
     let placed =
     or_parts (is_edge_line word && not (has_row words) && has_top words
     || has_bottom words) (other_sides (line_shape word) (wanted words)) tests.second in

@@ -12,7 +12,7 @@ use Rattle.db_rules.proofs.Drawn.{IsFit, drawn_few, drawn_lines, drawn_whole, dr
 use Rattle.db_rules.proofs.Starred.{star_within, one_star_at}
 
 -- the shape of no line
-abbrev no_shape : Shape
+abbrev pub no_shape : Shape
 no_shape = record { left = false; right = false; width = 0 }
 
 -- the width that is wanted is that of the shape

@@ -10,7 +10,9 @@ use Rattle.std.proofs.lemmas.List.Folds.{list_all-append}
 use Rattle.std.proofs.lemmas.Option.{slice_get-get_or, slice_get_past}
 use Rattle.pat_types.specs.Diagrams.{drawn_line}
 use Rattle.pat_types.specs.Kept.{is_in, are_apart, are_labels}
-use Rattle.db_rules.specs.Kinds.{constraint_shape, first_of}
+use Rattle.db_rules.specs.declared.kind.FaultKind.{FaultKind}
+use Rattle.db_rules.specs.declared.kind.FaultKind.TheVariants.{ConstraintShape}
+use Rattle.db_rules.specs.Kinds.{first_of}
 use Rattle.db_rules.specs.Diagram.{is_letter, is_dash, plus, bar, ends, without_left, inner, is_edge_line, is_row, shape_of, rows_of, wanted, width_of}
 use Rattle.db_rules.specs.Labels.{is_label, repeats, labels_from, labels_of_line, labels_under, labels_of, repeats_main, constraint_fault}
 use Rattle.db_rules.specs.Accepted.{IsDrawn, IsLabelled, no_line, one_line_more}
@@ -253,7 +255,7 @@ labels_under_in row total cols (main ∷ mains) (word ∷ words) same fine few =
     (labels_under (row + drawn_line (is_row main)) mains words) ∙ rw (first, rest) refl
 
 -- the only fault of a list does not fit
-none_of_one : (b : Bool) (k : ℕ) → first_of ((b, k) ∷ []) ≡ None → b ≡ false
+none_of_one : (b : Bool) (k : FaultKind) → first_of ((b, k) ∷ []) ≡ None → b ≡ false
 none_of_one true k e = absurd cc
 none_of_one false k e = refl
 
@@ -270,7 +272,7 @@ unfolding constraint_fault
 fine_label_line diagram words word none =
     let both =
     and_parts (repeats_main (slice_get diagram (length words)) word)
-    (are_apart (labels_of diagram (words ++ word ∷ []))) (is_true _ (none_of_one _ constraint_shape none)) in
+    (are_apart (labels_of diagram (words ++ word ∷ []))) (is_true _ (none_of_one _ ConstraintShape none)) in
     elim (cases_lt (length words) (length diagram)) [
       | inl within ↦ record {
         within = within;

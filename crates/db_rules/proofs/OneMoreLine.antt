@@ -9,6 +9,7 @@ use Rattle.std.proofs.lemmas.List.Concat.{flat_map-append}
 use Rattle.pat_types.specs.declared.letter.Letter.{Letter}
 use Rattle.pat_types.specs.Diagrams.{drawn_line}
 use Rattle.db_rules.specs.declared.shape.Shape.{Shape}
+use Rattle.db_rules.specs.declared.kind.FaultKind.{FaultKind}
 use Rattle.db_rules.specs.Kinds.{first_of}
 use Rattle.db_rules.specs.Diagram.{is_edge_line, is_row, rows_of, has_top, wanted, line_shape, other_width, letters_of, letters_of_row, letter_of, is_letter, ends_in_edge, wanted_of, shape_of, inner, bar, width_of}
 
@@ -19,7 +20,8 @@ pub record AreFalse (a b c d : Bool) : Type 0 where
   pub third : c ≡ false
   pub fourth : d ≡ false
 
-pub none_of_four : (a b c d : Bool) (k l m n : ℕ) → first_of ((a, k) ∷ (b, l) ∷ (c, m) ∷ (d, n) ∷ []) ≡ None
+-- where no fault of a list of four fits, no test passes
+pub none_of_four : (a b c d : Bool) (k l m n : FaultKind) → first_of ((a, k) ∷ (b, l) ∷ (c, m) ∷ (d, n) ∷ []) ≡ None
     → AreFalse a b c d
 none_of_four true b c d k l m n e = absurd cc
 none_of_four false true c d k l m n e = absurd cc
@@ -27,6 +29,7 @@ none_of_four false false true d k l m n e = absurd cc
 none_of_four false false false true k l m n e = absurd cc
 none_of_four false false false false k l m n e = record { first = refl; second = refl; third = refl; fourth = refl }
 
+-- a further line is one more of the rows where it is a row
 pub rows_of-push : (words : List (List ℕ)) (word : List ℕ)
     → rows_of (words ++ word ∷ []) ≡ rows_of words ++ cond (is_row word) (word ∷ []) []
 rows_of-push words word = filter-append is_row words (word ∷ []) ∙ ap (λ r. rows_of words ++ r) (one (is_row word))
@@ -34,6 +37,7 @@ rows_of-push words word = filter-append is_row words (word ∷ []) ∙ ap (λ r.
     one : (b : Bool) → cond b (word ∷ []) [] ≡ cond b (word ∷ []) []
     one b = refl
 
+-- a further line is counted as a row where it is one
 pub length-rows_of-push : (words : List (List ℕ)) (word : List ℕ)
     → length (rows_of (words ++ word ∷ [])) ≡ length (rows_of words) + drawn_line (is_row word)
 length-rows_of-push words word =
@@ -44,16 +48,19 @@ length-rows_of-push words word =
     one true = refl
     one false = refl
 
+-- the first line alone decides whether there is a top edge
 pub has_top-push : (words : List (List ℕ)) (word : List ℕ)
     → has_top (words ++ word ∷ []) ≡ cond (nat_lt 0 (length words)) (has_top words) (is_edge_line word)
 has_top-push [] word = refl
 has_top-push (w ∷ ws) word = rw (lt-ltb 0 (length (w ∷ ws)) (omega arith)) refl
 
+-- a diagram ends in an edge line where its last line is one
 pub ends_in_edge-push : (words : List (List ℕ)) (word : List ℕ) → ends_in_edge (words ++ word ∷ []) ≡ is_edge_line word
 ends_in_edge-push [] word = refl
 ends_in_edge-push (w ∷ []) word = refl
 ends_in_edge-push (w ∷ v ∷ ws) word = ends_in_edge-push (v ∷ ws) word
 
+-- the shape that is wanted is given by the first row, or else by the first line
 wanted_of-push : (rows words : List (List ℕ)) (word : List ℕ) (row : Bool) → is_row word ≡ row
     → wanted_of (rows ++ cond row (word ∷ []) []) (words ++ word ∷ []) ≡ cond (nat_lt 0 (length rows) || not row
     && nat_lt 0 (length words)) (wanted_of rows words) (Some (line_shape word))
@@ -62,6 +69,7 @@ wanted_of-push [] words word true e = rw e refl
 wanted_of-push [] [] word false e = rw e refl
 wanted_of-push [] (w ∷ ws) word false e = rw (lt-ltb 0 (length (w ∷ ws)) (omega arith)) refl
 
+-- a further line gives the shape that is wanted where it is the first row or the first line
 pub wanted-push : (words : List (List ℕ)) (word : List ℕ)
     → wanted (words ++ word ∷ []) ≡ cond (nat_lt 0 (length (rows_of words)) || not (is_row word)
     && nat_lt 0 (length words)) (wanted words) (Some (line_shape word))
@@ -70,6 +78,7 @@ wanted-push words word =
     ap (λ r. wanted_of r (words ++ word ∷ [])) (rows_of-push words word)
     ∙ wanted_of-push (rows_of words) words word (is_row word) refl
 
+-- the letters of a further row stand behind those of the rows above it
 pub letters_of-push : (words : List (List ℕ)) (word : List ℕ)
     → letters_of (words ++ word ∷ []) ≡ letters_of words ++ cond (is_row word) (letters_of_row word) []
 letters_of-push words word =
@@ -82,6 +91,7 @@ letters_of-push words word =
     one true = ap (λ l. letters_of words ++ l) (append-nil (letters_of_row word))
     one false = refl
 
+-- bytes that are letters come to as many letters
 length-letters : (bytes : List ℕ) → list_all is_letter bytes ≡ true → length (filter_map letter_of bytes) ≡ length bytes
 length-letters [] e = refl
 length-letters (b ∷ bs) e =
@@ -93,10 +103,12 @@ length-letters (b ∷ bs) e =
     by_letter None h k = absurd cc
     by_letter (Some l) h k = ap (λ (n : ℕ). suc n) k
 
+-- what stands between the edges of a row are letters
 pub row_letters : (word : List ℕ) → is_row word ≡ true → list_all is_letter (inner bar word) ≡ true
 unfolding is_row
 row_letters word e = (and_parts (nat_lt 0 (length (inner bar word))) (list_all is_letter (inner bar word)) e).1
 
+-- a shape is as wide as what stands between its edges
 pub shape_of-width : (b : ℕ) (word : List ℕ) → (shape_of b word).width ≡ length (inner b word)
 unfolding shape_of
 shape_of-width b word = refl
@@ -109,6 +121,7 @@ length-letters_of_row word e =
     length-letters (inner bar word) (row_letters word e) ∙ sym (shape_of-width bar word)
     ∙ ap (λ (s : Shape). s.width) (sym shape)
 
+-- with one line more there are still as many letters as the rows and the width of a row come to
 count_letters : (rows words : List (List ℕ)) (letters : ℕ) (s : Shape) (row : Bool)
     → letters ≡ length rows * width_of (wanted_of rows words) → other_width s (wanted_of rows words) ≡ false
     → letters + cond row s.width 0 ≡ (length rows + drawn_line row) * width_of (cond (nat_lt 0 (length rows) || not row
@@ -125,6 +138,7 @@ count_letters (r ∷ rows) words letters s row whole even =
     by_row true e = omega arith
     by_row false e = omega arith
 
+-- with a further line as wide as is wanted a diagram has as many letters as its rows and its width come to
 pub whole-push : (words : List (List ℕ)) (word : List ℕ)
     → length (letters_of words) ≡ length (rows_of words) * width_of (wanted words)
     → other_width (line_shape word) (wanted words) ≡ false

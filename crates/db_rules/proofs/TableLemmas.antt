@@ -7,7 +7,7 @@ use Rattle.db_rules.specs.declared.fault.Fault.{Fault}
 use Rattle.db_rules.specs.declared.stage.TableCell.TheVariants.{Next, Refused}
 use Rattle.db_rules.specs.declared.stage.Stage.{Stage}
 use Rattle.db_rules.specs.declared.stage.Stage.TheVariants.{Start, Diagram, Labels, Expression, Actions}
-use Rattle.db_rules.specs.Kinds.{stray_line}
+use Rattle.db_rules.specs.declared.kind.FaultKind.TheVariants.{StrayLine}
 use Rattle.db_rules.specs.Colon.{is_ascii_letter}
 use Rattle.db_rules.specs.Blocks.{SoFar, table, cell_for}
 use Rattle.db_rules.specs.Faults.{at_line, table_fault, closing_fault, found}
@@ -21,7 +21,7 @@ pattern_next Expression next b e = cc
 pattern_next Actions next b e = cc
 
 -- another line that is taken at the start leaves the reader there
-pub at_start_only : (letter : Bool) (next : Stage) → cond letter (Next Start) (Refused stray_line) ≡ Next next
+pub at_start_only : (letter : Bool) (next : Stage) → cond letter (Next Start) (Refused StrayLine) ≡ Next next
     → next ≡ Start
 at_start_only true next e = cc
 at_start_only false next e = absurd cc

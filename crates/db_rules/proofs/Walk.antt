@@ -16,14 +16,17 @@ walk helpers end s (line ∷ lines) = or_else (found helpers s line) (walk helpe
 at_from : List (List ℕ) → ℕ → SoFar → List KeptLine → ℕ → Option Fault
 at_from helpers end s lines k = fault_at_place helpers end (fold after_line s (take k lines)) (slice_get lines k)
 
+-- the first of three faults is the same, however they are paired
 or_else-assoc : (a b c : Option Fault) → or_else (or_else a b) c ≡ or_else a (or_else b c)
 or_else-assoc None b c = refl
 or_else-assoc (Some a) b c = refl
 
+-- no fault behind a fault changes nothing
 or_else-none : (a : Option Fault) → or_else a None ≡ a
 or_else-none None = refl
 or_else-none (Some a) = refl
 
+-- the first place has the least fault, or else the places behind it have it
 least-shift : (at : ℕ → Option Fault) (n : ℕ)
     → least_fault at (suc n) ≡ or_else (at 0) (least_fault (λ k. at (suc k)) n)
 unfolding least_fault
@@ -32,10 +35,12 @@ least-shift at (suc n) =
     ap (λ f. or_else f (at (suc n))) (least-shift at n)
     ∙ or_else-assoc (at 0) (least_fault (λ k. at (suc k)) n) (at (suc n))
 
+-- below the first place there is no fault
 least-zero : (at : ℕ → Option Fault) → least_fault at 0 ≡ None
 unfolding least_fault
 least-zero at = refl
 
+-- going over the lines finds the fault at the least place
 least-walk : (helpers : List (List ℕ)) (end : ℕ) (s : SoFar) (lines : List KeptLine)
     → least_fault (at_from helpers end s lines) (suc (length lines)) ≡ walk helpers end s lines
 unfolding at_from walk
@@ -59,6 +64,7 @@ pub record Reaches (helpers : List (List ℕ)) (text : List ℕ) (s : SoFar) (le
   pub fault : walk helpers (end_number text) s left ≡ first_fault helpers text
   pub all : fold after_line s left ≡ so_far (kept_lines text)
 
+-- before the first line all lines are left
 pub Reaches-start : (helpers : List (List ℕ)) (text : List ℕ) → Reaches helpers text at_start (kept_lines text)
 unfolding so_far
 Reaches-start helpers text = record { fault = sym (first_fault-walk helpers text); all = refl }
@@ -87,6 +93,7 @@ pub Reaches-end : (helpers : List (List ℕ)) (text : List ℕ) (s : SoFar) → 
 unfolding walk
 Reaches-end helpers text s r = sym r.fault
 
+-- where no line is left, the entries are those of the blocks so far
 pub Reaches-entries : (helpers : List (List ℕ)) (text : List ℕ) (s : SoFar) → Reaches helpers text s []
     → entries text ≡ map entry_of_block (blocks_of s)
 unfolding entries

@@ -1,8 +1,7 @@
 -- A front and whole blocks have no fault, and are read as what they are.
-use Rattle.std.proofs.Common.{◌≡◌, ℕ, ◌+◌, ◌<◌, ◌≤◌, Bool, true, false, cond, List, [], ◌∷◌, ◌++◌, length, map, Option, Some, None, refl, sym, ap, subst, ◌∙◌, append_assoc, arith, inl, inr}
-use Rattle.std.specs.Prelude.{fold, slice_index, nat_le}
+use Rattle.std.proofs.Common.{◌≡◌, ℕ, ◌+◌, ◌<◌, ◌≤◌, Bool, true, false, cond, List, [], ◌∷◌, ◌++◌, length, map, Option, Some, None, refl, sym, ap, subst, ◌∙◌, append_assoc, arith}
+use Rattle.std.specs.Prelude.{fold, slice_index}
 use Rattle.std.specs.List.{All, flat_map}
-use Rattle.std.specs.Option.{option_to_list}
 use Rattle.std.proofs.lemmas.Bool.{lt-leb}
 use Rattle.std.proofs.lemmas.List.{append-nil, length-append, map-append, length-map}
 use Rattle.std.proofs.lemmas.List.Elements.{All-head, All-tail}
@@ -10,17 +9,16 @@ use Rattle.db_lex.specs.declared.line.LineKind.{LineKind}
 use Rattle.db_lex.specs.declared.line.LineKind.TheVariants.{Pattern, Colon, Semicolon, Action, Other}
 use Rattle.db_lex.specs.Lines.{KeptLine, kept_lines, kind_of, word_of}
 use Rattle.db_rules.specs.declared.fault.Fault.{Fault}
-use Rattle.db_rules.specs.declared.stage.TableCell.{TableCell}
 use Rattle.db_rules.specs.declared.stage.TableCell.TheVariants.{Next}
 use Rattle.db_rules.specs.declared.stage.Stage.{Stage}
 use Rattle.db_rules.specs.declared.stage.Stage.TheVariants.{Start, Diagram, Labels, Expression, Actions}
+use Rattle.db_rules.specs.declared.kind.FaultKind.{FaultKind}
 use Rattle.db_rules.specs.Diagram.{diagram_fault}
 use Rattle.db_rules.specs.Labels.{constraint_fault, labels_closing_fault}
-use Rattle.db_rules.specs.Colon.{is_ascii_letter, colon_fault}
 use Rattle.db_rules.specs.Accepted.{IsDrawn, IsLabelled}
 use Rattle.db_rules.specs.Accepted as accepted
 use Rattle.db_rules.specs.Blocks.{Block, SoFar, blocks_of, lines_in, words_in, begun_with, placed, table, cell_for, with_cell, after_line, end_refused, at_start, so_far}
-use Rattle.db_rules.specs.Faults.{or_else, at_line, first_number, most_entries, is_unnamed, expression_kind, pattern_fault, own_fault, table_fault, closes, gathered_fault, closing_fault, found, found_at_end, first_fault, end_number, entries}
+use Rattle.db_rules.specs.Faults.{or_else, at_line, first_number, most_entries, is_unnamed, expression_kind, pattern_fault, own_fault, table_fault, closes, closing_fault, found, found_at_end, first_fault, end_number, entries}
 use Rattle.db_rules.specs.Database.{IsLineOf, IsInFront, IsColonLine, IsBlock, IsDatabase}
 use Rattle.db_rules.specs.Entries.{entry_of_block}
 use Rattle.db_rules.proofs.Cut.{faultless_is_database}
@@ -28,12 +26,12 @@ use Rattle.db_rules.proofs.TableLemmas.{found_table}
 use Rattle.db_rules.proofs.Walk.{walk, first_fault-walk}
 
 -- each of these words has no fault below the words above it
-abbrev AreBelow : (List (List ℕ) → List ℕ → Option ℕ) → List (List ℕ) → List (List ℕ) → Type 0
+abbrev AreBelow : (List (List ℕ) → List ℕ → Option FaultKind) → List (List ℕ) → List (List ℕ) → Type 0
 AreBelow fault above [] = Unit {0}
 AreBelow fault above (word ∷ words) = (fault above word ≡ None) × AreBelow fault (above ++ word ∷ []) words
 
 -- a word without a fault below the others may follow them
-below-push : (fault : List (List ℕ) → List ℕ → Option ℕ) (above words : List (List ℕ)) (word : List ℕ)
+below-push : (fault : List (List ℕ) → List ℕ → Option FaultKind) (above words : List (List ℕ)) (word : List ℕ)
     → AreBelow fault above words → fault (above ++ words) word ≡ None → AreBelow fault above (words ++ word ∷ [])
 below-push fault above [] word below none = (subst (λ a. fault a word ≡ None) (append-nil above) none, tt)
 below-push fault above (w ∷ words) word below none =
@@ -124,7 +122,8 @@ fine_anywhere Fine above (line ∷ lines) all =
     (All-head Fine line lines all, fine_anywhere Fine (above ++ line ∷ []) lines (All-tail Fine line lines all))
 
 -- other lines of which no word has a fault below the words above it
-fine_below : (fault : List (List ℕ) → List ℕ → Option ℕ) (above lines : List KeptLine) → All (IsLineOf Other) lines
+fine_below : (fault : List (List ℕ) → List ℕ → Option FaultKind) (above lines : List KeptLine)
+    → All (IsLineOf Other) lines
     → AreBelow fault (words_in above) (words_in lines)
     → AreFine (λ above line. IsLineOf Other line × (fault (words_in above) (word_of line.bytes) ≡ None)) above lines
 unfolding AreFine

@@ -4,7 +4,8 @@ use Rattle.std.specs.Option.{option_map, option_to_list}
 use Rattle.db_lex.specs.declared.line.LineKind.{LineKind}
 use Rattle.db_lex.specs.declared.line.LineKind.TheVariants.{Pattern, Colon, Semicolon, Action, Other}
 use Rattle.db_lex.specs.Lines.{KeptLine, kind_of, word_of}
-use Rattle.db_rules.specs.Kinds.{stray_line, no_colon_line}
+use Rattle.db_rules.specs.declared.kind.FaultKind.{FaultKind}
+use Rattle.db_rules.specs.declared.kind.FaultKind.TheVariants.{StrayLine, NoColonLine}
 use Rattle.db_rules.specs.Colon.{is_ascii_letter}
 use Rattle.db_rules.specs.declared.stage.TableCell.{TableCell}
 use Rattle.db_rules.specs.declared.stage.TableCell.TheVariants.{Next, Refused}
@@ -14,34 +15,34 @@ use Rattle.db_rules.specs.declared.stage.Stage.TheVariants.{Start, Diagram, Labe
 -- the table of stages; at the start the first byte of another line counts
 abbrev pub table : Stage → LineKind → ℕ → TableCell
 table Start Pattern b = Next Diagram
-table Start Colon b = Refused stray_line
-table Start Semicolon b = Refused stray_line
-table Start Action b = Refused stray_line
-table Start Other b = if is_ascii_letter b then Next Start else Refused stray_line
-table Diagram Pattern b = Refused no_colon_line
+table Start Colon b = Refused StrayLine
+table Start Semicolon b = Refused StrayLine
+table Start Action b = Refused StrayLine
+table Start Other b = if is_ascii_letter b then Next Start else Refused StrayLine
+table Diagram Pattern b = Refused NoColonLine
 table Diagram Colon b = Next Labels
-table Diagram Semicolon b = Refused no_colon_line
-table Diagram Action b = Refused no_colon_line
+table Diagram Semicolon b = Refused NoColonLine
+table Diagram Action b = Refused NoColonLine
 table Diagram Other b = Next Diagram
 table Labels Pattern b = Next Diagram
-table Labels Colon b = Refused stray_line
+table Labels Colon b = Refused StrayLine
 table Labels Semicolon b = Next Expression
 table Labels Action b = Next Actions
 table Labels Other b = Next Labels
 table Expression Pattern b = Next Diagram
-table Expression Colon b = Refused stray_line
+table Expression Colon b = Refused StrayLine
 table Expression Semicolon b = Next Expression
 table Expression Action b = Next Actions
-table Expression Other b = Refused stray_line
+table Expression Other b = Refused StrayLine
 table Actions Pattern b = Next Diagram
-table Actions Colon b = Refused stray_line
-table Actions Semicolon b = Refused stray_line
+table Actions Colon b = Refused StrayLine
+table Actions Semicolon b = Refused StrayLine
 table Actions Action b = Next Actions
-table Actions Other b = Refused stray_line
+table Actions Other b = Refused StrayLine
 
 -- the table's last column: the fault at the end of the text
-abbrev pub end_refused : Stage → Option ℕ
-end_refused Diagram = Some no_colon_line
+abbrev pub end_refused : Stage → Option FaultKind
+end_refused Diagram = Some NoColonLine
 end_refused _ = None
 
 -- a block of whole lines

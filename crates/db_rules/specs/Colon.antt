@@ -7,7 +7,9 @@ use Rattle.pat_types.specs.declared.mark.Mark.TheVariants.{Eight, Bar, Dash, Sla
 use Rattle.pat_types.specs.declared.pattern.Item.{Item}
 use Rattle.db_rules.specs.Diagram.{star_count}
 use Rattle.db_lex.specs.Lines.{trimmed, with_front}
-use Rattle.db_rules.specs.Kinds.{no_diagram, move_count, bad_mark, bad_class, bad_item, unknown_helper, first_of}
+use Rattle.db_rules.specs.declared.kind.FaultKind.{FaultKind}
+use Rattle.db_rules.specs.declared.kind.FaultKind.TheVariants.{NoDiagram, MoveCount, BadMark, BadClass, BadItem, UnknownHelper}
+use Rattle.db_rules.specs.Kinds.{first_of}
 use Rattle.db_rules.specs.Diagram.{has_row, letters_of}
 
 -- the byte between two fields
@@ -135,16 +137,16 @@ abbrev pub names_nothing : List (List ℕ) → List ℕ → Bool
 names_nothing helpers field = is_name field && not (bytes_eq field null || list_any (bytes_eq field) helpers)
 
 -- the first fault of a colon line with these fields that stands after this diagram
-unfoldable pub fields_fault : List (List ℕ) → List (List ℕ) → List (List ℕ) → Option ℕ
+unfoldable pub fields_fault : List (List ℕ) → List (List ℕ) → List (List ℕ) → Option FaultKind
 fields_fault helpers diagram fields = first_of (
-    (not (has_row diagram), no_diagram)
-    ∷ (not (star_count (letters_of diagram) == 1), move_count)
-    ∷ (is_none (mark_of fields), bad_mark)
-    ∷ (not (are_classes (class_field fields)), bad_class)
-    ∷ (nat_lt 16 (length (further fields)) || not (list_all is_item (further fields)), bad_item)
-    ∷ (list_any (names_nothing helpers) (further fields), unknown_helper)
+    (not (has_row diagram), NoDiagram)
+    ∷ (not (star_count (letters_of diagram) == 1), MoveCount)
+    ∷ (is_none (mark_of fields), BadMark)
+    ∷ (not (are_classes (class_field fields)), BadClass)
+    ∷ (nat_lt 16 (length (further fields)) || not (list_all is_item (further fields)), BadItem)
+    ∷ (list_any (names_nothing helpers) (further fields), UnknownHelper)
     ∷ [])
 
 -- the first fault of a colon line that stands after this diagram
-abbrev pub colon_fault : List (List ℕ) → List (List ℕ) → List ℕ → Option ℕ
+abbrev pub colon_fault : List (List ℕ) → List (List ℕ) → List ℕ → Option FaultKind
 colon_fault helpers diagram line = fields_fault helpers diagram (fields_of line)

@@ -1,5 +1,5 @@
 -- The form of a database without a fault, as whole blocks: nothing here goes from line to line.
-use Rattle.std.specs.Prelude.{◌≡◌, ℕ, ◌≤◌, IsTrue, Bool, false, List, [], ◌∷◌, ◌++◌, length, slice_index, None}
+use Rattle.std.specs.Prelude.{◌≡◌, ℕ, ◌≤◌, IsTrue, false, List, [], ◌∷◌, ◌++◌, length, slice_index, None}
 use Rattle.std.specs.List.{All, flat_map}
 use Rattle.db_lex.specs.declared.line.LineKind.{LineKind}
 use Rattle.db_lex.specs.declared.line.LineKind.TheVariants.{Pattern, Colon, Semicolon, Action, Other}

@@ -7,7 +7,9 @@ use Rattle.pat_types.specs.declared.letter.Letter.TheVariants.{Friend, Enemy, Em
 use Rattle.go_rules.specs.Board.{largest_size}
 use Rattle.pat_types.specs.Diagrams.{drawn_line, is_star}
 use Rattle.db_rules.specs.declared.shape.Shape.{Shape}
-use Rattle.db_rules.specs.Kinds.{bad_letter, edge_place, ragged, too_large, first_of}
+use Rattle.db_rules.specs.declared.kind.FaultKind.{FaultKind}
+use Rattle.db_rules.specs.declared.kind.FaultKind.TheVariants.{BadLetter, EdgePlace, Ragged, TooLarge}
+use Rattle.db_rules.specs.Kinds.{first_of}
 
 -- `O X . o x ? *`
 abbrev pub letter_of : ℕ → Option Letter
@@ -120,12 +122,12 @@ is_misplaced diagram word =
     || other_sides (line_shape word) (wanted diagram)
 
 -- the first fault of a further line of a diagram
-unfoldable pub diagram_fault : List (List ℕ) → List ℕ → Option ℕ
+unfoldable pub diagram_fault : List (List ℕ) → List ℕ → Option FaultKind
 diagram_fault diagram word = first_of (
-    (not (is_edge_line word || is_row word), bad_letter)
-    ∷ (is_misplaced diagram word, edge_place)
-    ∷ (other_width (line_shape word) (wanted diagram), ragged)
-    ∷ (nat_lt largest_size (length word) || nat_le largest_size (length diagram), too_large)
+    (not (is_edge_line word || is_row word), BadLetter)
+    ∷ (is_misplaced diagram word, EdgePlace)
+    ∷ (other_width (line_shape word) (wanted diagram), Ragged)
+    ∷ (nat_lt largest_size (length word) || nat_le largest_size (length diagram), TooLarge)
     ∷ [])
 
 -- the letters of a row

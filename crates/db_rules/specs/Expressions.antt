@@ -1,5 +1,5 @@
 -- The expression of a block: the text of its lines, its first fault, and what it says.
-use Rattle.std.specs.Prelude.{ℕ, List, [], ◌∷◌, ◌++◌, drop, Option, Some, None}
+use Rattle.std.specs.Prelude.{ℕ, List, [], ◌∷◌, ◌++◌, drop, Option, None}
 use Rattle.std.specs.Option.{option_map}
 use Rattle.pat_types.specs.declared.pattern.LabelAt.{LabelAt}
 use Rattle.cons_parse.specs.declared.error.ConsError.{ConsError}
@@ -7,7 +7,8 @@ use Rattle.cons_parse.specs.declared.error.ConsError.TheVariants.{Syntax, TooDee
 use Rattle.cons_parse.specs.Trees.{Tree, meaning_of}
 use Rattle.cons_parse.specs.Reading.{expression_in, fault_in}
 use Rattle.db_lex.specs.Lines.{KeptLine}
-use Rattle.db_rules.specs.Kinds.{expr_fault, unknown_label}
+use Rattle.db_rules.specs.declared.kind.FaultKind.{FaultKind}
+use Rattle.db_rules.specs.declared.kind.FaultKind.TheVariants as kinds
 
 -- the blank that joins the lines of an expression
 abbrev pub blank : ℕ
@@ -24,16 +25,16 @@ expression_text (line ∷ []) = text_on line
 expression_text (line ∷ next ∷ more) = text_on line ++ blank ∷ expression_text (next ∷ more)
 
 -- the kind that a fault of an expression is told as: an unknown label has its own, the others have one
-abbrev pub kind_told : ConsError → ℕ
-kind_told UnknownLabel = unknown_label
-kind_told Syntax = expr_fault
-kind_told TooDeep = expr_fault
-kind_told UnknownFunction = expr_fault
-kind_told Arity = expr_fault
-kind_told NoMemory = expr_fault
+abbrev pub kind_told : ConsError → FaultKind
+kind_told UnknownLabel = kinds.UnknownLabel
+kind_told Syntax = kinds.ExprFault
+kind_told TooDeep = kinds.ExprFault
+kind_told UnknownFunction = kinds.ExprFault
+kind_told Arity = kinds.ExprFault
+kind_told NoMemory = kinds.ExprFault
 
 -- the kind of the first fault of the expression on these lines, where these are the labels; no line has none
-abbrev pub kind_of_expression : List LabelAt → List KeptLine → Option ℕ
+abbrev pub kind_of_expression : List LabelAt → List KeptLine → Option FaultKind
 kind_of_expression labels [] = None
 kind_of_expression labels (line ∷ lines) = option_map kind_told (fault_in labels (expression_text (line ∷ lines)))
 

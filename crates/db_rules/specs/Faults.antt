@@ -5,7 +5,9 @@ use Rattle.std.specs.Option.{option_map}
 use Rattle.db_lex.specs.declared.line.LineKind.{LineKind}
 use Rattle.db_lex.specs.declared.line.LineKind.TheVariants.{Pattern, Colon, Semicolon, Action, Other}
 use Rattle.db_lex.specs.Lines.{KeptLine, kept_lines, lines_of, kind_of, word_of}
-use Rattle.db_rules.specs.Kinds.{bad_byte, no_name, too_many_patterns, first_of}
+use Rattle.db_rules.specs.declared.kind.FaultKind.{FaultKind}
+use Rattle.db_rules.specs.declared.kind.FaultKind.TheVariants.{BadByte, NoName, TooManyPatterns}
+use Rattle.db_rules.specs.Kinds.{number_of, first_of}
 use Rattle.db_rules.specs.Diagram.{diagram_fault}
 use Rattle.db_rules.specs.Colon.{colon_fault}
 use Rattle.db_rules.specs.Labels.{constraint_fault, labels_closing_fault, labels_of}
@@ -39,15 +41,15 @@ is_unnamed line =
     length (name_on line) == 0 || nat_lt 80 (length (name_on line)) || not (list_all is_name_char (name_on line))
 
 -- the first fault of a Pattern line before which so many entries begin
-unfoldable pub pattern_fault : ℕ → List ℕ → Option ℕ
+unfoldable pub pattern_fault : ℕ → List ℕ → Option FaultKind
 pattern_fault entries line = first_of (
-    (nat_le most_entries entries, too_many_patterns)
-    ∷ (is_unnamed line, no_name)
+    (nat_le most_entries entries, TooManyPatterns)
+    ∷ (is_unnamed line, NoName)
     ∷ [])
 
--- a fault of this kind at a line
-abbrev pub at_line : ℕ → Option ℕ → Option Fault
-at_line line kind = option_map (λ k. record { line = line; kind = k }) kind
+-- a fault of this kind at a line, which is told by its number
+abbrev pub at_line : ℕ → Option FaultKind → Option Fault
+at_line line kind = option_map (λ k. record { line = line; kind = number_of k }) kind
 
 -- the number of the first of some lines
 abbrev pub first_number : List KeptLine → ℕ
@@ -55,7 +57,7 @@ first_number [] = 0
 first_number (line ∷ more) = line.number
 
 -- the kind of the fault of a block's expression
-abbrev pub expression_kind : Block → Option ℕ
+abbrev pub expression_kind : Block → Option FaultKind
 expression_kind b = kind_of_expression (labels_of (words_in b.diagram) (words_in b.constraint)) b.expression
 
 -- the fault of a block's expression, which is told at its first line
@@ -93,27 +95,27 @@ label_words None = []
 label_words (Some b) = words_in b.constraint
 
 -- the first fault in the list of a line's kind
-abbrev pub own_fault : List (List ℕ) → SoFar → KeptLine → LineKind → Option ℕ
+abbrev pub own_fault : List (List ℕ) → SoFar → KeptLine → LineKind → Option FaultKind
 own_fault helpers s line Pattern = pattern_fault (length (blocks_of s)) line.bytes
 own_fault helpers s line Colon = colon_fault helpers (main_words s.now) line.bytes
 own_fault helpers s line Semicolon = None
 own_fault helpers s line Action = None
 own_fault helpers s line Other = other_fault s.stage
   where
-    other_fault : Stage → Option ℕ
+    other_fault : Stage → Option FaultKind
     other_fault Diagram = diagram_fault (main_words s.now) (word_of line.bytes)
     other_fault Labels = constraint_fault (main_words s.now) (label_words s.now) (word_of line.bytes)
     other_fault _ = None
 
 -- the fault of the table of stages, or else the first fault in the list of the line's kind
-abbrev pub table_fault : List (List ℕ) → SoFar → KeptLine → TableCell → Option ℕ
+abbrev pub table_fault : List (List ℕ) → SoFar → KeptLine → TableCell → Option FaultKind
 table_fault helpers s line (Refused kind) = Some kind
 table_fault helpers s line (Next stage) = own_fault helpers s line (kind_of line.bytes)
 
 -- the first fault that fits at a line that stands after these
 unfoldable pub found : List (List ℕ) → SoFar → KeptLine → Option Fault
 found helpers s line =
-    if line.is_bad then Some (record { line = line.number; kind = bad_byte })
+    if line.is_bad then at_line line.number (Some BadByte)
     else or_else (closing_fault line.number (Some (kind_of line.bytes)) s)
     (at_line line.number (table_fault helpers s line (cell_for s.stage line)))
 
@@ -150,6 +152,6 @@ unfoldable pub entries : List ℕ → List Entry
 entries text = map entry_of_block (blocks_of (so_far (kept_lines text)))
 
 -- the error of a line is want of memory, or tells this kind of fault
-abbrev pub Blames : LineError → Option ℕ → Type 0
+abbrev pub Blames : LineError → Option FaultKind → Type 0
 Blames errors.NoMemory fault = Unit {0}
 Blames (errors.Kind kind) fault = fault ≡ Some kind

@@ -3,7 +3,9 @@ use Rattle.std.specs.Prelude.{ℕ, ◌+◌, Bool, true, false, ◌&&◌, ◌||�
 use Rattle.pat_types.specs.declared.pattern.LabelAt.{LabelAt}
 use Rattle.pat_types.specs.Kept.{are_apart}
 use Rattle.pat_types.specs.Diagrams.{drawn_line}
-use Rattle.db_rules.specs.Kinds.{constraint_shape, first_of}
+use Rattle.db_rules.specs.declared.kind.FaultKind.{FaultKind}
+use Rattle.db_rules.specs.declared.kind.FaultKind.TheVariants.{ConstraintShape}
+use Rattle.db_rules.specs.Kinds.{first_of}
 use Rattle.db_rules.specs.Diagram.{is_letter, is_row, bar}
 use Rattle.db_rules.specs.Colon.{is_ascii_letter}
 
@@ -54,15 +56,15 @@ repeats_main None word = false
 repeats_main (Some main) word = repeats main word
 
 -- the first fault of a further line of a constraint diagram with these lines so far
-unfoldable pub constraint_fault : List (List ℕ) → List (List ℕ) → List ℕ → Option ℕ
+unfoldable pub constraint_fault : List (List ℕ) → List (List ℕ) → List ℕ → Option FaultKind
 constraint_fault diagram words word = first_of ((
   not (repeats_main (slice_get diagram (length words)) word
       && are_apart (labels_of diagram (words ++ word ∷ []))),
-  constraint_shape,
+  ConstraintShape,
 )
     ∷ [])
 
 -- the fault of a constraint diagram that is closed: it has a line, and fewer than the main diagram
-unfoldable pub labels_closing_fault : List (List ℕ) → List (List ℕ) → Option ℕ
+unfoldable pub labels_closing_fault : List (List ℕ) → List (List ℕ) → Option FaultKind
 labels_closing_fault diagram words =
-    first_of ((nat_lt 0 (length words) && nat_lt (length words) (length diagram), constraint_shape) ∷ [])
+    first_of ((nat_lt 0 (length words) && nat_lt (length words) (length diagram), ConstraintShape) ∷ [])

@@ -7,15 +7,13 @@
 #![tactic(auto)]
 
 mod fault;
+mod kind;
 mod laws;
 mod shape;
 mod stage;
 
-pub use fault::{
-    BAD_BYTE, BAD_CLASS, BAD_ITEM, BAD_LETTER, BAD_MARK, CONSTRAINT_SHAPE, EDGE_PLACE, EXPR_FAULT,
-    Fault, LineError, MOVE_COUNT, NO_COLON_LINE, NO_DIAGRAM, NO_NAME, RAGGED, STRAY_LINE,
-    TOO_LARGE, TOO_MANY_PATTERNS, UNKNOWN_HELPER, UNKNOWN_LABEL,
-};
+pub use fault::{Fault, LineError};
+pub use kind::FaultKind;
 pub use laws::{databases_have_no_fault, entries_are_those_of_the_blocks};
 pub use shape::Shape;
 pub use stage::{Stage, TableCell};

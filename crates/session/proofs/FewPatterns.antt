@@ -8,6 +8,7 @@ use Rattle.db_lex.specs.declared.line.LineKind.{LineKind}
 use Rattle.db_lex.specs.declared.line.LineKind.TheVariants.{Pattern, Colon, Semicolon, Action, Other}
 use Rattle.db_lex.specs.Lines.{KeptLine, kind_of, kept_lines}
 use Rattle.db_rules.specs.declared.fault.Fault.{Fault}
+use Rattle.db_rules.specs.declared.kind.FaultKind.{FaultKind}
 use Rattle.db_rules.specs.declared.stage.TableCell.{TableCell}
 use Rattle.db_rules.specs.declared.stage.TableCell.TheVariants.{Next, Refused}
 use Rattle.db_rules.specs.declared.stage.Stage.{Stage}
@@ -24,7 +25,7 @@ abbrev Few : SoFar → Type 0
 Few s = length (blocks_of s) ≤ most_patterns
 
 -- the first of two tests fails where neither passes
-first-fails : (a b : Bool) (k l : ℕ) → first_of ((a, k) ∷ (b, l) ∷ []) ≡ None → a ≡ false
+first-fails : (a b : Bool) (k l : FaultKind) → first_of ((a, k) ∷ (b, l) ∷ []) ≡ None → a ≡ false
 first-fails true b k l none = absurd cc
 first-fails false b k l none = refl
 
@@ -68,7 +69,7 @@ placed-few helpers s line next Action few none = changed-few s.done _ s.now few
 placed-few helpers s line next Other few none = other-few s line next few
 
 -- what there is not has no line
-at_line-none : (number : ℕ) (kind : Option ℕ) → at_line number kind ≡ None → kind ≡ None
+at_line-none : (number : ℕ) (kind : Option FaultKind) → at_line number kind ≡ None → kind ≡ None
 at_line-none number None none = refl
 at_line-none number (Some k) none = absurd cc
 

@@ -7,7 +7,7 @@ pub returns : goal.returns
 unfolding fields_fault
 returns c = λ words s.
     rw (
-      c.first_kind.ensures,
+      c.first_of.ensures,
       c.has_no_row.ensures,
       c.is_not_one.ensures,
       c.star_count-stars.ensures,

@@ -8,7 +8,7 @@ use Rattle.db_read.proofs.stages.finish.Goals as goal
 pub overflow_cast-result-2 : goal.overflow_cast-result-2
 overflow_cast-result-2 c =
     let diagram =
-    finished_diagram c.args.draft _ _ c.requires c.shape_or_none-left.ensures (c.star_index-star.ensures
+    finished_diagram c.args.draft _ _ c.requires c.unwrap-left.ensures (c.star_index-star.ensures
     ∙ ap (position_or_len is_star) c.as_slice.ensures) in
     omega (arith, diagram.columns_to)
 
@@ -16,7 +16,7 @@ overflow_cast-result-2 c =
 pub overflow_cast-result-3 : goal.overflow_cast-result-3
 overflow_cast-result-3 c =
     let diagram =
-    finished_diagram c.args.draft _ _ c.requires c.shape_or_none-left.ensures (c.star_index-star.ensures
+    finished_diagram c.args.draft _ _ c.requires c.unwrap-left.ensures (c.star_index-star.ensures
     ∙ ap (position_or_len is_star) c.as_slice.ensures) in
     omega (arith, diagram.star_row, diagram.rows_to)
 
@@ -24,7 +24,7 @@ overflow_cast-result-3 c =
 pub overflow_cast-result-4 : goal.overflow_cast-result-4
 overflow_cast-result-4 c =
     let diagram =
-    finished_diagram c.args.draft _ _ c.requires c.shape_or_none-left.ensures (c.star_index-star.ensures
+    finished_diagram c.args.draft _ _ c.requires c.unwrap-left.ensures (c.star_index-star.ensures
     ∙ ap (position_or_len is_star) c.as_slice.ensures) in
     omega (arith, diagram.star_column, diagram.columns_to)
 
@@ -32,8 +32,8 @@ overflow_cast-result-4 c =
 pub invariant_of-result : goal.invariant_of-result
 invariant_of-result c = record {
   diagram =
-      finished_diagram c.args.draft _ _ c.requires c.shape_or_none-left.ensures (c.star_index-star.ensures
+      finished_diagram c.args.draft _ _ c.requires c.unwrap-left.ensures (c.star_index-star.ensures
       ∙ ap (position_or_len is_star) c.as_slice.ensures);
-  labelled = finished_labels c.args.draft _ c.requires c.shape_or_none-left.ensures;
+  labelled = finished_labels c.args.draft _ c.requires c.unwrap-left.ensures;
   constrained = c.requires.judged.kept;
 }

@@ -1,10 +1,12 @@
 use Rattle.go_rules.specs.Board.{largest_size}
 use Rattle.std.proofs.Common.{◌≡◌, ◌<◌, ◌≤◌, ◌∙◌, ◌+◌, ◌++◌, true, false, List, length, map, subst, sym, ap, refl, arith}
 use Rattle.std.proofs.lemmas.List.{length-map}
-use Rattle.std.specs.Prelude.{ℕ}
+use Rattle.std.specs.Prelude.{ℕ, is_some}
+use Rattle.db_rules.specs.Diagram.{is_row, shape_of, bar}
 use Rattle.db_rules.specs.Labels.{repeats, labels_of_line}
 use Rattle.pat_types.specs.Kept.{are_apart}
 use Rattle.pat_types.specs.Diagrams.{drawn_line}
+use Rattle.db_entry.proofs.LineLemmas.{is_some-where}
 use Rattle.db_entry.proofs.LabelLemmas.{constraint_fault-past, kept_fault_at, kept_push, repeats-same}
 use Rattle.db_entry.proofs.marks.Marks.line.Goals as goal
 
@@ -55,6 +57,9 @@ returns-clause-ok c = λ words s.
     sym c.repeats.ensures ∙ c.if-not-repeats.false in
     let all : c.as_slice.result.now ≡ m.labels ++ labels_of_line m.rows c.word_at-main.result.now c.args.word.now =
     c.as_slice.ensures ∙ c.in-Ok.ensures in
+    let row : c.is_some.result ≡ is_row c.word_at-main.result.now =
+    c.is_some.ensures ∙ ap is_some c.row_shape.ensures
+    ∙ is_some-where (is_row c.word_at-main.result.now) (shape_of bar c.word_at-main.result.now) in
     let apart : are_apart (m.labels ++ labels_of_line m.rows c.word_at-main.result.now c.args.word.now) ≡ true =
     ap are_apart (sym all) ∙ sym c.are_apart.ensures ∙ c.if-not-are_apart.false in (
       kept_fault_at m
@@ -63,5 +68,5 @@ returns-clause-ok c = λ words s.
       kept_push m _
           (map (λ f. f.now) c.args.mains.now) words c.args.word.now c.word_at-main.result.now s lt
           c.word_at-main.ensures refl
-          (c.rows_after-self.ensures ∙ ap (λ b. m.rows + drawn_line b) c.is_row.ensures) c.in-Ok.ensures,
+          (c.rows_after-self.ensures ∙ ap (λ b. m.rows + drawn_line b) row) c.in-Ok.ensures,
     )

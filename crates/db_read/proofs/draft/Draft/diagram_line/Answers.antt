@@ -26,9 +26,7 @@ returns-in-Ok-clause-ok c = λ b k word_is no_labels d.
             ∙ map_push (λ w. w.now) c.args.self.now.words.items c.args.word
             ∙ ap (λ (ws : List (List ℕ)). ws ++ c.args.word.now ∷ []) d.words ∙ sym words;
         diagram = subst (λ ws. Draws c.line.new.self ws) (sym words) read.1;
-        mark = d.mark;
-        classes = d.classes;
-        items = d.items;
+        colon = d.colon;
         marks = IsMarked-under _ (words_in b.diagram) (words_in (b.diagram ++ k ∷ [])) (words_in b.constraint)
             (ap words_in no_labels) d.marks;
         expression = d.expression;

@@ -2,9 +2,10 @@
 use Rattle.std.proofs.Common.{◌∙◌, ◌++◌, sym, ap, subst, map}
 use Rattle.db_rules.specs.Blocks.{end_refused}
 use Rattle.db_rules.specs.Entries.{entry_of_block}
-use Rattle.db_rules.specs.Faults.{at_line}
+use Rattle.db_rules.specs.Faults.{at_line, found_at_end}
 use Rattle.std.specs.Option.{option_to_list}
-use Rattle.db_read.specs.Reading.{ReadsNow}
+use Rattle.db_read.specs.declared.error.DbError.{DbError}
+use Rattle.db_read.specs.Reading.{BlamesAt, ReadsNow}
 use Rattle.db_read.proofs.ReaderLemmas.{entries-closed}
 use Rattle.db_read.proofs.ReadLemmas.{end_table}
 use Rattle.db_read.proofs.LineLemmas.{blames_end, same_end}
@@ -18,9 +19,10 @@ returns-in-Err-clause-err c = λ s h. blames_end c.args.number s c.in-Err.e (c.i
 pub returns-in-Some-clause-err : goal.returns-in-Some-clause-err
 returns-in-Some-clause-err c = λ s h.
     let closed = c.in-Ok.ensures.ok s h in
-    end_table c.args.number s closed.0
+    subst (λ (e : DbError). BlamesAt e (found_at_end c.args.number s)) (sym c.fault_at.ensures)
+    (end_table c.args.number s closed.0
     ∙ ap (at_line c.args.number) (sym (same_end s.stage) ∙ ap end_refused (sym closed.1.stage) ∙ sym c.end_kind.ensures
-    ∙ c.in-Some.is)
+    ∙ c.in-Some.is))
 
 -- the entries are those that are done and the one that the end closes
 pub returns-clause-ok : goal.returns-clause-ok

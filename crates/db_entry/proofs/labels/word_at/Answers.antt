@@ -1,6 +1,0 @@
-use Rattle.std.proofs.Common.{sym}
-use Rattle.std.proofs.lemmas.List.{get_or-map}
-use Rattle.db_entry.proofs.labels.word_at.Goals as goal
-
-pub returns : goal.returns
-returns c = sym (get_or-map _ c.args.words.now c.args.i _ _ c.requires)

@@ -1,0 +1,97 @@
+use Rattle.std.proofs.Common.{◌≡◌, ◌∙◌, ◌+◌, sym, ap, subst, refl, List, [], ◌∷◌, Result}
+use Rattle.std.specs.Prelude.{ℕ, IfOk}
+use Rattle.std.specs.List.{slice_range}
+use Rattle.std.proofs.lemmas.Result.{IfOk-weaker, IfErr-weaker}
+use Rattle.db_lex.specs.declared.line.BadByte.{BadByte}
+use Rattle.db_lex.specs.declared.line.Line.{Line}
+use Rattle.db_lex.specs.Lines.{Lexed, IsSpelled}
+use Rattle.db_rules.specs.Faults.{first_fault, found_at_end}
+use Rattle.db_read.specs.declared.error.DbError.{DbError}
+use Rattle.db_read.specs.Reading.{BlamesAt}
+use Rattle.db_rules.proofs.Walk.{Reaches-start, Reaches-end, Reaches-entries}
+use Rattle.db_read.proofs.Walked.{Walked}
+use Rattle.db_read.proofs.ReadLemmas.{bad_line, fine_line, found_bad, Walked-step, Walked-fault, Walked-blames}
+use Rattle.db_read.proofs.reader.read.Goals as goal
+
+pub loop-told-init : goal.loop-told-init
+loop-told-init c =
+    subst (λ (x : Lexed). (x.text ≡ c.args.text.now)
+    × Walked c.args.helpers.now c.args.text.now c.in_ok-reader.reader x.left) (sym c.lines-lexer.ensures) (
+      refl,
+      record {
+        so_far = _;
+        shown = c.in_ok-reader.ensures.ok;
+        reaches =
+            Reaches-start c.args.helpers.now c.args.text.now;
+      },
+    )
+
+-- a bad byte is the first fault
+pub returns-in-Err-clause-err : goal.returns-in-Err-clause-err
+returns-in-Err-clause-err c =
+    let h = c.in-Some.ensures.next in
+    let w : Walked c.args.helpers.now c.args.text.now c.loop-told.reader (h.line ∷ c.next.new.self.left) =
+    subst (λ left. Walked c.args.helpers.now c.args.text.now c.loop-told.reader left) h.first
+    c.loop-told.invariant.1 in
+    subst (λ (e : DbError). BlamesAt e (first_fault c.args.helpers.now c.args.text.now)) (sym c.fault_at.ensures)
+    (Walked-fault c.args.helpers.now c.args.text.now c.loop-told.reader h.line c.next.new.self.left _ w
+    (found_bad c.args.helpers.now w.so_far h.line c.in-Err.bad (bad_line h.line c.in-Err.bad (sym h.told_is
+    ∙ c.in-Err.is))))
+
+-- a line without a fault is one more
+pub loop-told-preserved : goal.loop-told-preserved
+loop-told-preserved c =
+    let h = c.in-Some.ensures.next in
+    let w : Walked c.args.helpers.now c.args.text.now c.loop-told.reader (h.line ∷ c.next.new.self.left) =
+    subst (λ left. Walked c.args.helpers.now c.args.text.now c.loop-told.reader left) h.first
+    c.loop-told.invariant.1 in
+    let fine = fine_line h.line c.in-Ok.line (sym h.told_is ∙ c.in-Ok.is) in
+    let spelled : IsSpelled c.loop-told.lexer.text c.in-Ok.line h.line.bytes =
+    subst (λ (r : Result Line BadByte). IfOk r
+    (λ l. IsSpelled c.loop-told.lexer.text l h.line.bytes)) c.in-Ok.is h.spelled in
+    let bytes : h.line.bytes ≡ slice_range c.args.text.now c.in-Ok.line.from c.in-Ok.line.to =
+    sym spelled.there
+    ∙ ap (λ (t : List ℕ). slice_range t c.in-Ok.line.from c.in-Ok.line.to) c.loop-told.invariant.0 in (
+      c.in-Some.ensures.text ∙ c.loop-told.invariant.0,
+      Walked-step c.args.helpers.now c.args.text.now c.loop-told.reader c.line.new.self h.line c.next.new.self.left w
+          (c.in-Ok-line.ensures.ok w.so_far h.line fine.number fine.fine bytes fine.kind w.shown),
+    )
+
+-- a line with a fault is the first that has one
+pub returns-in-Err-line-clause-err : goal.returns-in-Err-line-clause-err
+returns-in-Err-line-clause-err c =
+    let h = c.in-Some.ensures.next in
+    let w : Walked c.args.helpers.now c.args.text.now c.loop-told.reader (h.line ∷ c.next.new.self.left) =
+    subst (λ left. Walked c.args.helpers.now c.args.text.now c.loop-told.reader left) h.first
+    c.loop-told.invariant.1 in
+    let fine = fine_line h.line c.in-Ok.line (sym h.told_is ∙ c.in-Ok.is) in
+    let spelled : IsSpelled c.loop-told.lexer.text c.in-Ok.line h.line.bytes =
+    subst (λ (r : Result Line BadByte). IfOk r
+    (λ l. IsSpelled c.loop-told.lexer.text l h.line.bytes)) c.in-Ok.is h.spelled in
+    let bytes : h.line.bytes ≡ slice_range c.args.text.now c.in-Ok.line.from c.in-Ok.line.to =
+    sym spelled.there
+    ∙ ap (λ (t : List ℕ). slice_range t c.in-Ok.line.from c.in-Ok.line.to) c.loop-told.invariant.0 in
+    Walked-blames c.args.helpers.now c.args.text.now c.loop-told.reader h.line c.next.new.self.left c.in-Err-line.e w
+    (c.in-Err-line.ensures.err w.so_far h.line fine.number fine.fine bytes fine.kind w.shown)
+
+pub returns-clause-ok : goal.returns-clause-ok
+returns-clause-ok c =
+    let w : Walked c.args.helpers.now c.args.text.now c.loop-told.reader [] =
+    subst (λ left. Walked c.args.helpers.now c.args.text.now c.loop-told.reader left) c.in_default.ensures.next.0
+    c.loop-told.invariant.1 in
+    IfOk-weaker c.end.result _ _ (λ v read.
+    let at_end = read w.so_far w.shown in (
+      Reaches-end c.args.helpers.now c.args.text.now w.so_far w.reaches
+          ∙ ap (λ (n : ℕ). found_at_end (n + 1) w.so_far) (sym c.line_count.ensures.value) ∙ at_end.0,
+      at_end.1 ∙ sym (Reaches-entries c.args.helpers.now c.args.text.now w.so_far w.reaches),
+    )) c.end.ensures.ok
+
+pub returns-clause-err : goal.returns-clause-err
+returns-clause-err c =
+    let w : Walked c.args.helpers.now c.args.text.now c.loop-told.reader [] =
+    subst (λ left. Walked c.args.helpers.now c.args.text.now c.loop-told.reader left) c.in_default.ensures.next.0
+    c.loop-told.invariant.1 in
+    IfErr-weaker c.end.result _ _ (λ e blames.
+    subst (λ f. BlamesAt e f) (ap (λ (n : ℕ). found_at_end (n + 1) w.so_far) c.line_count.ensures.value
+    ∙ sym (Reaches-end c.args.helpers.now c.args.text.now w.so_far w.reaches))
+    (blames w.so_far w.shown)) c.end.ensures.err
