@@ -7,7 +7,8 @@ use Rattle.dfa_core.specs.Tables.{Flat, rows_in, IsFlat}
 
 -- whether each of the four targets is row r
 abbrev pub stays_at : ℕ → List ℕ → Bool
-stays_at r targets = (slice_index_or targets 0 0 == r) && (slice_index_or targets 1 0 == r) && (slice_index_or targets 2 0 == r) && (slice_index_or targets 3 0 == r)
+stays_at r targets = (slice_index_or targets 0 0 == r) && (slice_index_or targets 1 0 == r) &&
+    (slice_index_or targets 2 0 == r) && (slice_index_or targets 3 0 == r)
 
 -- the mark of row r with these targets and numbers
 abbrev pub mark_with : ℕ → List ℕ → List ℕ → Mark

@@ -36,7 +36,12 @@ impl Model for Table {
 
     ghost view = { λ t. rows_in (record { targets = t.targets.items; starts = t.starts.items; numbers = t.numbers.items; depths = t.depths.items }) };
 
-    ghost invariant = { λ t. IsMarked (record { targets = t.targets.items; starts = t.starts.items; numbers = t.numbers.items; depths = t.depths.items }) t.marks.items };
+    ghost invariant = { λ t. IsMarked (record {
+      targets = t.targets.items;
+      starts = t.starts.items;
+      numbers = t.numbers.items;
+      depths = t.depths.items;
+    }) t.marks.items };
 }
 
 /// The place of a letter's target among the four of a row.

@@ -39,46 +39,56 @@ module _ (machine : List Row) (size : ℕ) (row : ℕ → ℕ) (walks : List Wal
     rising = AllPairs-filter (λ v w. v.anchor < w.anchor) (goes_on machine) walks are.rising;
   }
     where
-      kept : (m : ℕ) → Contains walks (walk_at size (row m) m) → (b : Bool) → is_alive (mark_at machine (row m)) ≡ b → IsDead machine (row m) ⊎ Contains (filter (goes_on machine) walks) (walk_at size (row m) m)
+      kept : (m : ℕ) → Contains walks (walk_at size (row m) m) → (b : Bool) → is_alive (mark_at machine (row m)) ≡ b
+          → IsDead machine (row m) ⊎ Contains (filter (goes_on machine) walks) (walk_at size (row m) m)
       kept m there true is = inr (Contains-filter_from (goes_on machine) walks (walk_at size (row m) m) there is)
       kept m there false is = inl (mark-dead machine (row m) (not_alive (mark_at machine (row m)) is))
 
 -- a walk stands at a row and on the padded board after a letter too
-pub within_letter : (machine : List Row) (letters : List Seen) (step : ℕ) (walks : List Walk) → IsAutomaton machine → All (IsWithin (length machine)) walks
+pub within_letter : (machine : List Row) (letters : List Seen) (step : ℕ) (walks : List Walk) → IsAutomaton machine
+    → All (IsWithin (length machine)) walks
     → All (IsWithin (length machine)) (map (after_letter machine letters step) walks)
 within_letter machine letters step walks good within =
     All-map (IsWithin (length machine)) (after_letter machine letters step) walks
     (λ k d low. record {
-      row = good.targets (get_or walks k d).row (get_or letters ((get_or walks k d).corner + step) Off) (within k d low).row;
+      row = good.targets (get_or walks k d).row (get_or letters ((get_or walks k d).corner + step) Off)
+          (within k d low).row;
       corner = (within k d low).corner;
     })
 
 -- so do those that go on
-pub within_after : (machine : List Row) (letters : List Seen) (step : ℕ) (walks : List Walk) → IsAutomaton machine → All (IsWithin (length machine)) walks
+pub within_after : (machine : List Row) (letters : List Seen) (step : ℕ) (walks : List Walk) → IsAutomaton machine
+    → All (IsWithin (length machine)) walks
     → All (IsWithin (length machine)) (filter (goes_on machine) (map (after_letter machine letters step) walks))
 within_after machine letters step walks good within =
-    All-filter (goes_on machine) (IsWithin (length machine)) (map (after_letter machine letters step) walks) (within_letter machine letters step walks good within)
+    All-filter (goes_on machine) (IsWithin (length machine)) (map (after_letter machine letters step) walks)
+    (within_letter machine letters step walks good within)
 
 -- walks at rows that are not marked give out nothing
-pub hits_of-plain : (machine : List Row) (t : ℕ) (walks : List Walk) → All (IsPlain machine) walks → hits_of machine t walks ≡ []
+pub hits_of-plain : (machine : List Row) (t : ℕ) (walks : List Walk) → All (IsPlain machine) walks
+    → hits_of machine t walks ≡ []
 hits_of-plain machine t [] plain = refl
 hits_of-plain machine t (w ∷ walks) plain =
     ap (λ ns. hits_at t w.anchor ns ++ hits_of machine t walks) (mark-plain machine w.row (plain 0 w (omega arith)))
     ∙ hits_of-plain machine t walks (λ k d low. plain (suc k) d (omega arith))
 
 -- and all of them go on
-pub alive-plain : (machine : List Row) (walks : List Walk) → All (IsPlain machine) walks → filter (goes_on machine) walks ≡ walks
+pub alive-plain : (machine : List Row) (walks : List Walk) → All (IsPlain machine) walks
+    → filter (goes_on machine) walks ≡ walks
 alive-plain machine [] plain = refl
 alive-plain machine (w ∷ walks) plain =
     let on : goes_on machine w ≡ true = ap is_alive (plain 0 w (omega arith)) in
-    let rest : filter (goes_on machine) walks ≡ walks = alive-plain machine walks (λ k d low. plain (suc k) d (omega arith)) in
+    let rest : filter (goes_on machine) walks ≡ walks =
+    alive-plain machine walks (λ k d low. plain (suc k) d (omega arith)) in
     rw on (ap (λ ws. w ∷ ws) rest)
 
 module _ (machine : List Row) (pos : BoardState) (friend : Colour) (t : ℕ) where
   -- before the first letter there is a walk from each point, at the start
-  pub walks_first : AreWalks machine pos.size (row_after machine pos friend t 0) (map (walk_at pos.size 0) (range_with_len 0 (pos.size * pos.size)))
+  pub walks_first : AreWalks machine pos.size (row_after machine pos friend t 0)
+      (map (walk_at pos.size 0) (range_with_len 0 (pos.size * pos.size)))
   walks_first =
-      let start : (m : ℕ) → 0 ≡ row_after machine pos friend t 0 m = λ m. sym (ap (reach machine) (word_from-zero (seen_at pos friend t m) 0)) in
+      let start : (m : ℕ) → 0 ≡ row_after machine pos friend t 0 m =
+      λ m. sym (ap (reach machine) (word_from-zero (seen_at pos friend t m) 0)) in
       record {
         each = λ w there.
             let from = Contains-map (walk_at pos.size 0) (range_with_len 0 (pos.size * pos.size)) w there in
@@ -86,36 +96,54 @@ module _ (machine : List Row) (pos : BoardState) (friend : Colour) (t : ℕ) whe
               subst (λ m. m < pos.size * pos.size) anchor (Contains-below (pos.size * pos.size) from.0 from.1),
               sym from.2 ∙ ap (walk_at pos.size 0) anchor ∙ ap (λ r. walk_at pos.size r w.anchor) (start w.anchor),
             );
-        all = λ m low. inr (subst (λ r. Contains (map (walk_at pos.size 0) (range_with_len 0 (pos.size * pos.size))) (walk_at pos.size r m)) (start m)
-            (Contains-map_from (walk_at pos.size 0) (range_with_len 0 (pos.size * pos.size)) m (Contains-below_from (pos.size * pos.size) m low)));
-        rising = AllPairs-map (λ v w. v.anchor < w.anchor) (walk_at pos.size 0) (range_with_len 0 (pos.size * pos.size)) (range_rises 0 (pos.size * pos.size));
+        all = λ m low. inr (subst (λ r. Contains (map (walk_at pos.size 0) (range_with_len 0 (pos.size * pos.size)))
+            (walk_at pos.size r m)) (start m)
+            (Contains-map_from (walk_at pos.size 0) (range_with_len 0 (pos.size * pos.size)) m
+            (Contains-below_from (pos.size * pos.size) m low)));
+        rising = AllPairs-map (λ v w. v.anchor < w.anchor) (walk_at pos.size 0)
+            (range_with_len 0 (pos.size * pos.size)) (range_rises 0 (pos.size * pos.size));
       }
 
   -- the row of a point after one letter more
-  row_next : (i m : ℕ) → step_at machine (row_after machine pos friend t i m) (seen_at pos friend t m i) ≡ row_after machine pos friend t (i + 1) m
+  row_next : (i m : ℕ)
+      → step_at machine (row_after machine pos friend t i m)
+      (seen_at pos friend t m i) ≡ row_after machine pos friend t (i + 1) m
   row_next i m =
       let seen : ℕ → Seen = seen_at pos friend t m in
       let here : i ≡ 0 + i = omega arith in
-      let one : word_from seen (0 + i) 1 ≡ seen i ∷ [] = word_from-suc seen (0 + i) 0 ∙ ap (λ w. seen (0 + i) ∷ w) (word_from-zero seen (suc (0 + i))) ∙ ap (λ j. seen j ∷ []) (sym here) in
-      sym (ap (reach machine) (word_split seen 0 i 1 ∙ ap (λ w. word_from seen 0 i ++ w) one) ∙ reach_from-push machine 0 (word_from seen 0 i) (seen i))
+      let one : word_from seen (0 + i) 1 ≡ seen i ∷ [] = word_from-suc seen (0 + i) 0
+      ∙ ap (λ w. seen (0 + i) ∷ w) (word_from-zero seen (suc (0 + i))) ∙ ap (λ j. seen j ∷ []) (sym here) in
+      sym (ap (reach machine) (word_split seen 0 i 1 ∙ ap (λ w. word_from seen 0 i ++ w) one)
+      ∙ reach_from-push machine 0 (word_from seen 0 i) (seen i))
 
   -- each walk has read the letter of its anchor
-  pub walks_after : (i step : ℕ) (letters : List Seen) (walks : List Walk) → ((m : ℕ) → m < pos.size * pos.size → get_or letters (corner_at pos.size m + step) Off ≡ seen_at pos friend t m i)
-      → AreWalks machine pos.size (row_after machine pos friend t i) walks → AreWalks machine pos.size (row_after machine pos friend t (i + 1)) (map (after_letter machine letters step) walks)
+  pub walks_after : (i step : ℕ) (letters : List Seen) (walks : List Walk)
+      → ((m : ℕ) → m < pos.size * pos.size
+      → get_or letters (corner_at pos.size m + step) Off ≡ seen_at pos friend t m i)
+      → AreWalks machine pos.size (row_after machine pos friend t i) walks
+      → AreWalks machine pos.size (row_after machine pos friend t (i + 1))
+      (map (after_letter machine letters step) walks)
   walks_after i step letters walks read are =
-      let on : (m : ℕ) → m < pos.size * pos.size → after_letter machine letters step (walk_at pos.size (row_after machine pos friend t i m) m) ≡ walk_at pos.size (row_after machine pos friend t (i + 1) m) m =
-      λ m low. ap (λ r. walk_at pos.size r m) (ap (step_at machine (row_after machine pos friend t i m)) (read m low) ∙ row_next i m) in
+      let on : (m : ℕ) → m < pos.size * pos.size
+      → after_letter machine letters step
+      (walk_at pos.size (row_after machine pos friend t i m) m) ≡ walk_at pos.size
+      (row_after machine pos friend t (i + 1) m) m =
+      λ m low. ap (λ r. walk_at pos.size r m) (ap (step_at machine (row_after machine pos friend t i m)) (read m low)
+      ∙ row_next i m) in
       record {
         each = λ w there.
             let from = Contains-map (after_letter machine letters step) walks w there in
             let was = are.each from.0 from.1 in
             let anchor : from.0.anchor ≡ w.anchor = ap (λ (v : Walk). v.anchor) from.2 in (
               subst (λ m. m < pos.size * pos.size) anchor was.0,
-              sym from.2 ∙ ap (after_letter machine letters step) was.1 ∙ on from.0.anchor was.0 ∙ ap (λ m. walk_at pos.size (row_after machine pos friend t (i + 1) m) m) anchor,
+              sym from.2 ∙ ap (after_letter machine letters step) was.1 ∙ on from.0.anchor was.0
+                  ∙ ap (λ m. walk_at pos.size (row_after machine pos friend t (i + 1) m) m) anchor,
             );
         all = λ m low. elim (are.all m low) [
           | inl dead ↦ inl (subst (IsDead machine) (sym (dead.stays (seen_at pos friend t m i)) ∙ row_next i m) dead)
-          | inr there ↦ inr (subst (Contains (map (after_letter machine letters step) walks)) (on m low) (Contains-map_from (after_letter machine letters step) walks (walk_at pos.size (row_after machine pos friend t i m) m) there))
+          | inr there ↦ inr (subst (Contains (map (after_letter machine letters step) walks)) (on m low)
+              (Contains-map_from (after_letter machine letters step) walks
+              (walk_at pos.size (row_after machine pos friend t i m) m) there))
         ];
         rising = AllPairs-map (λ v w. v.anchor < w.anchor) (after_letter machine letters step) walks are.rising;
       }

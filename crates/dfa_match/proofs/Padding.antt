@@ -142,7 +142,8 @@ module _ (at : BoardState) (friend : Colour) where
   }
 
   -- what a walk reads behind its corner is what is seen along the spiral
-  pub letter_seen : (size : ℕ) (letters : List Seen) (t m i step : ℕ) (by : Offset) → AreSights at friend size letters → m < at.size * at.size → IsNear by → by ≡ transformed t (offset_at i) → step ≡ step_by by
+  pub letter_seen : (size : ℕ) (letters : List Seen) (t m i step : ℕ) (by : Offset) → AreSights at friend size letters
+      → m < at.size * at.size → IsNear by → by ≡ transformed t (offset_at i) → step ≡ step_by by
       → get_or letters (corner_at at.size m + step) Off ≡ seen_at at friend t m i
   unfolding seen_at place_at
   letter_seen size letters t m i step by sights on near moved is =
@@ -152,11 +153,20 @@ module _ (at : BoardState) (friend : Colour) where
       let in_column = line_by-is by.1 near.column_low in
       let row : m / at.size < at.size = div_below m at.size at.size some on in
       let column : m % at.size < at.size = mod_below m at.size some in
-      let place : corner_at at.size m + step ≡ (m / at.size + line_by by.0) * padded_side + (m % at.size + line_by by.1) = omega (arith, is) in
-      let row_is : pos (m / at.size + line_by by.0) -ℤ pos largest_offset ≡ pos (m / at.size) +ℤ (transformed t (offset_at i)).0 = omega (arith, ints, in_row, ap (λ (d : Offset). d.0) moved) in
-      let column_is : pos (m % at.size + line_by by.1) -ℤ pos largest_offset ≡ pos (m % at.size) +ℤ (transformed t (offset_at i)).1 = omega (arith, ints, in_column, ap (λ (d : Offset). d.1) moved) in
+      let place : corner_at at.size m + step ≡ (m / at.size + line_by by.0) * padded_side +
+      (m % at.size + line_by by.1) = omega (arith, is) in
+      let row_is : pos (m / at.size + line_by by.0) -ℤ pos largest_offset ≡ pos (m / at.size) +ℤ
+      (transformed t (offset_at i)).0 = omega (arith, ints, in_row, ap (λ (d : Offset). d.0) moved) in
+      let column_is : pos (m % at.size + line_by by.1) -ℤ pos largest_offset ≡ pos (m % at.size) +ℤ
+      (transformed t (offset_at i)).1 = omega (arith, ints, in_column, ap (λ (d : Offset). d.1) moved) in
       ap (λ k. get_or letters k Off) place
-      ∙ sights.all.each (m / at.size + line_by by.0) (m % at.size + line_by by.1) (omega (arith, ints, in_row, near.row_high)) (omega (arith, ints, in_column, near.column_high))
-      ∙ below_all (at.size * at.size) (padded_point at.size (m / at.size + line_by by.0) (m % at.size + line_by by.1)) (λ q here. (point_from at.size (m / at.size + line_by by.0) (m % at.size + line_by by.1) q here).below)
-      ∙ ap (λ z. seen_at_place at friend (point_of at.size (line_of at.size z) (line_of at.size (pos (m % at.size + line_by by.1) -ℤ pos largest_offset)))) row_is
-      ∙ ap (λ z. seen_at_place at friend (point_of at.size (line_of at.size (pos (m / at.size) +ℤ (transformed t (offset_at i)).0)) (line_of at.size z))) column_is
+      ∙ sights.all.each (m / at.size + line_by by.0) (m % at.size + line_by by.1)
+      (omega (arith, ints, in_row, near.row_high)) (omega (arith, ints, in_column, near.column_high))
+      ∙ below_all (at.size * at.size) (padded_point at.size (m / at.size + line_by by.0) (m % at.size + line_by by.1))
+      (λ q here. (point_from at.size (m / at.size + line_by by.0) (m % at.size + line_by by.1) q here).below)
+      ∙ ap (λ z. seen_at_place at friend
+      (point_of at.size (line_of at.size z)
+      (line_of at.size (pos (m % at.size + line_by by.1) -ℤ pos largest_offset)))) row_is
+      ∙ ap (λ z. seen_at_place at friend
+      (point_of at.size (line_of at.size (pos (m / at.size) +ℤ (transformed t (offset_at i)).0))
+      (line_of at.size z))) column_is

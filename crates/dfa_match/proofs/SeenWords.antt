@@ -22,7 +22,8 @@ module _ (seen : ℕ → Seen) where
   word_split i zero k =
       let sums : 0 + k ≡ k = omega arith in
       let place : i ≡ i + 0 = omega arith in
-      ap (word_from seen i) sums ∙ ap (λ j. word_from seen j k) place ∙ ap (λ w. w ++ word_from seen (i + 0) k) (sym (word_from-zero i))
+      ap (word_from seen i) sums ∙ ap (λ j. word_from seen j k) place ∙ ap (λ w. w ++ word_from seen (i + 0) k)
+      (sym (word_from-zero i))
   word_split i (suc n) k =
       let sums : suc n + k ≡ suc (n + k) = omega arith in
       let place : suc i + n ≡ i + suc n = omega arith in

@@ -32,7 +32,8 @@ pub record IsHitBefore (machine : List Row) (pos : BoardState) (friend : Colour)
   pub before : (hit.transform < t) ⊎ ((hit.transform ≡ t) × (is.letters < i))
 
 -- the list has exactly these hits, each once
-pub record AreHitsBefore (machine : List Row) (pos : BoardState) (friend : Colour) (t i : ℕ) (hits : List Hit) : Type 0 where
+pub record AreHitsBefore (machine : List Row) (pos : BoardState) (friend : Colour) (t i : ℕ)
+    (hits : List Hit) : Type 0 where
   pub sound : (hit : Hit) → Contains hits hit → IsHitBefore machine pos friend t i hit
   pub complete : (hit : Hit) → IsHitBefore machine pos friend t i hit → Contains hits hit
   pub once : AreDistinct hits

@@ -1,6 +1,6 @@
 -- Walks of an automaton from all anchors at once, letter by letter.
-use Rattle.std.specs.Prelude.{◌≡◌, ◌⊎◌, ℕ, ◌+◌, ◌*◌, ◌<◌, ◌≤◌, Bool, true, false, List, slice_index_or, Contains, AllPairs}
-use Rattle.std.specs.List.{flat_map}
+use Rattle.std.specs.Prelude.{◌≡◌, ◌⊎◌, ℕ, ◌+◌, ◌*◌, ◌<◌, ◌≤◌, Bool, true, false, List, map, slice_index_or, Contains, AllPairs}
+use Rattle.std.specs.List.{flat_map, range_with_len}
 use Rattle.go_rules.specs.declared.Colour.{Colour}
 use Rattle.go_rules.specs.Position.{BoardState}
 use Rattle.dfa_core.specs.declared.automaton.Seen.{Seen}
@@ -19,9 +19,19 @@ use Rattle.dfa_match.specs.Steps.{corner_at, last_corner}
 abbrev pub walk_at : ℕ → ℕ → ℕ → Walk
 walk_at s r m = record { row = r; corner = corner_at s m; anchor = m }
 
+-- the walks from all points of a board of size s, before the first letter
+abbrev pub first_walks_of : ℕ → List Walk
+first_walks_of s = map (walk_at s 0) (range_with_len 0 (s * s))
+
 -- the walk after one letter more, which it reads at this step behind its corner
 abbrev pub after_letter : List Row → List Seen → ℕ → Walk → Walk
-after_letter machine letters step w = record { row = step_at machine w.row (slice_index_or letters (w.corner + step) Off); corner = w.corner; anchor = w.anchor }
+after_letter machine letters step w =
+    record {
+      row = step_at machine w.row (slice_index_or letters (w.corner + step) Off);
+      corner = w.corner;
+      anchor =
+          w.anchor;
+    }
 
 -- the walk stands at one of so many rows, and reads on the padded board
 pub record IsWithin (rows : ℕ) (w : Walk) : Type 0 where
@@ -50,7 +60,8 @@ hits_of machine t walks = flat_map (λ w. hits_at t w.anchor (row_at machine w.r
 abbrev pub row_after : List Row → BoardState → Colour → ℕ → ℕ → ℕ → ℕ
 row_after machine pos friend t i m = reach machine (word_at pos friend t m i)
 
--- the list has, by rising anchors, the walk of each point of a board of this size at the row of that point, but for points whose row is dead
+-- the list has, by rising anchors, the walk of each point of a board of this size at the row of that point, but for
+-- points whose row is dead
 pub record AreWalks (machine : List Row) (size : ℕ) (row : ℕ → ℕ) (walks : List Walk) : Type 0 where
   pub each : (w : Walk) → Contains walks w → (w.anchor < size * size) × (w ≡ walk_at size (row w.anchor) w.anchor)
   pub all : (m : ℕ) → m < size * size → IsDead machine (row m) ⊎ Contains walks (walk_at size (row m) m)

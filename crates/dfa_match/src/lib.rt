@@ -1,15 +1,15 @@
 //! The scan of a board: an automaton is run from each point under each transformation.
 //!
 //! A hit is a number that the automaton accepts at the end of a word, which is what is seen along the moved spiral from an
-//! anchor. `scan` gives exactly the hits, each once; it is given no diagrams. It reads letter by letter from all anchors at
-//! once: on a padded board each letter of a transformation is one step for all of them, and only where some row accepts
-//! something or is dead are the walks looked at. Two laws say that a word that is read from an anchor matches a pattern
-//! exactly where the pattern fits there.
+//! anchor. `scan` gives exactly the hits, each once; it is given no diagrams. It reads letter by letter from all anchors
+//! at once: on a padded board each letter of a transformation is one step for all of them, and only where some row
+//! accepts something or is dead are the walks looked at. Two laws say that a word that is read from an anchor matches a
+//! pattern exactly where the pattern fits there.
 //!
 //! After GNU Go Manual, "The DFA pattern matcher".
 #![tactic(auto)]
 
-ghost use Rattle.std.specs.Prelude.{◌≡◌, ◌↔◌, true, List, ℕ, ◌+◌, ◌<◌, ◌++◌, [], IfOk, OnOk};
+ghost use Rattle.std.specs.Prelude.{◌≡◌, ◌↔◌, true, List, ℕ, ◌+◌, ◌<◌, ◌++◌, [], length, All, IfOk, OnOk};
 ghost use Rattle.go_rules.specs.Position.{BoardState};
 ghost use Rattle.go_rules.specs.Transform.{transformations};
 ghost use Rattle.dfa_core.specs.Automata.{Row};
@@ -21,12 +21,13 @@ ghost use Rattle.dfa_core.specs.States.{is_matched, IsMachineOf};
 ghost use Rattle.dfa_match.specs.Fitting.{FitsAt, IsFit};
 ghost use Rattle.dfa_match.specs.declared.Hit.{Hit as HitSeen};
 ghost use Rattle.dfa_match.specs.Hits.{hits_at, IsHit, AreHits, AreHitsBefore};
+ghost use Rattle.dfa_match.specs.Walks.{IsWithin, first_walks_of};
 
 mod sights;
 mod walks;
 
 use crate::sights::{Sights, step_of};
-use crate::walks::{first_walks, read_letter, settle};
+use crate::walks::{Walk, copied, first_walks, read_letter, settle};
 use dfa_core::Automaton;
 use go_base::transform::TRANSFORMATIONS;
 use go_base::{Colour, Look, NoMemory, Point, Transform};
@@ -57,19 +58,25 @@ fn add(out: &mut Vec<Hit>, numbers: &[u16], t: Transform, anchor: Point) -> Resu
     Ok(())
 }
 
-/// Runs the automaton from all anchors at once under one transformation, until no walk is left.
+/// Runs the automaton from all anchors at once under one transformation, until no walk is left. `first` are the walks
+/// before the first letter, which are the same under each transformation.
 fn sweep(
     machine: &Automaton,
     sights: &Sights,
+    first: &[Walk],
     t: Transform,
     out: &mut Vec<Hit>,
 ) -> Result<(), NoMemory>
     requires transform { t < transformations }
-    ensures ok { (at : BoardState) (friend : ColourSeen) → AreSights at friend sights.now.size sights.now.letters → AreHitsBefore machine.now at friend t 0 out.old.items → OnOk result (AreHitsBefore machine.now at friend (t + 1) 0 out.new.items) }
+    requires first { first.now ≡ first_walks_of sights.now.size }
+    requires within { All (IsWithin (length machine.now)) first.now }
+    ensures ok { (at : BoardState) (friend : ColourSeen) → AreSights at friend sights.now.size sights.now.letters
+        → AreHitsBefore machine.now at friend t 0 out.old.items
+        → OnOk result (AreHitsBefore machine.now at friend (t + 1) 0 out.new.items) }
 {
     let _ = machine.rows();
     let mut spiral = TurnedSpiral::new(t);
-    let mut walks = first_walks(*out.allocator(), sights.size)?;
+    let mut walks = copied(*out.allocator(), first)?;
     settle(machine, t, &mut walks, out)?;
     'letters: for index in 0..OFFSETS {
         if walks.is_empty() {
@@ -96,9 +103,10 @@ pub fn scan<L: Look>(
     let _ = machine.rows();
     let mut out = out;
     let sights = Sights::of(look, friend);
+    let first = first_walks(*out.allocator(), sights.size)?;
     'transforms: for n in 0..TRANSFORMATIONS {
         if let Some(t) = Transform::new(n) {
-            sweep(machine, &sights, t, &mut out)?;
+            sweep(machine, &sights, &first, t, &mut out)?;
         }
     }
     Ok(out)

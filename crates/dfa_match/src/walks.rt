@@ -1,16 +1,16 @@
 //! The walks of an automaton from all anchors at once, letter by letter.
-ghost use Rattle.std.specs.Prelude.{◌≡◌, ℕ, ◌+◌, ◌*◌, ◌/◌, ◌%◌, ◌<◌, ◌≤◌, ◌++◌, false, length, map, filter, All, IfOk, OnOk};
+ghost use Rattle.std.specs.Prelude.{◌≡◌, ℕ, ◌+◌, ◌*◌, ◌/◌, ◌%◌, ◌<◌, ◌≤◌, ◌++◌, false, slice_index_or, length, map, filter, All, IfOk, OnOk};
 ghost use Rattle.std.specs.List.{range_with_len};
 ghost use Rattle.go_rules.specs.Board.{largest_size};
-ghost use Rattle.dfa_core.specs.Automata.{row_at};
+ghost use Rattle.dfa_core.specs.Automata.{row_at, step_at};
 ghost use Rattle.dfa_core.specs.Marks.{mark_at};
 ghost use Rattle.dfa_match.specs.Hits.{hits_at};
-ghost use Rattle.dfa_match.specs.Steps.{last_step};
+ghost use Rattle.dfa_match.specs.Steps.{last_corner, last_step};
 ghost use Rattle.dfa_match.specs.Walks.{walk_at, after_letter, IsWithin, goes_on, IsPlain, hits_of};
 
 use crate::sights::{Sights, corner_of};
 use crate::{Hit, add};
-use dfa_core::{Automaton, Mark};
+use dfa_core::{Automaton, Mark, Seen};
 use go_base::{NoMemory, Point, Size, Transform};
 use std::alloc::Global;
 
@@ -53,19 +53,24 @@ pub fn first_walks(alloc: Global, size: Size) -> Result<Vec<Walk>, NoMemory>
     Ok(walks)
 }
 
-/// A walk after one letter more.
-fn after(machine: &Automaton, sights: &Sights, step: u16, walk: Walk) -> Walk
-    requires within { IsWithin (length machine.now) walk }
-    requires step { step ≤ last_step }
-    ensures value { result ≡ after_letter machine.now sights.now.letters step walk }
-    ensures row { result.row < length machine.now }
+/// A list of the same walks. Takes memory.
+pub fn copied(alloc: Global, walks: &[Walk]) -> Result<Vec<Walk>, NoMemory>
+    ensures { IfOk result (λ copy. copy.items ≡ walks.now) }
 {
-    let letter = sights.letter(walk.corner, step);
-    Walk {
-        row: machine.step(walk.row, letter),
-        corner: walk.corner,
-        anchor: walk.anchor,
-    }
+    let mut copy = Vec::with_capacity(alloc, walks.len())?;
+    copy.extend_from_slice(walks)?;
+    Ok(copy)
+}
+
+/// The row where a walk stands after one letter more, which it reads at this step behind its corner.
+fn next_row(machine: &Automaton, sights: &Sights, step: u16, row: u32, corner: u16) -> u32
+    requires row { row < length machine.now }
+    requires corner { corner ≤ last_corner }
+    requires step { step ≤ last_step }
+    ensures value { result ≡ step_at machine.now row (slice_index_or sights.now.letters (corner + step) Seen.Off) }
+    ensures bound { result < length machine.now }
+{
+    machine.step(row, sights.letter(corner, step))
 }
 
 /// Whether a row accepts something or is dead.
@@ -80,7 +85,8 @@ fn is_marked(machine: &Automaton, row: u32) -> bool
     }
 }
 
-/// Reads one letter more on each walk, and answers whether some walk then stands at a row that accepts something or is dead.
+/// Reads one letter more on each walk, and answers whether some walk then stands at a row that accepts
+/// something or is dead.
 fn read_on(machine: &Automaton, sights: &Sights, step: u16, walks: &mut [Walk]) -> bool
     requires within { All (IsWithin (length machine.now)) walks.old }
     requires step { step ≤ last_step }
@@ -89,9 +95,9 @@ fn read_on(machine: &Automaton, sights: &Sights, step: u16, walks: &mut [Walk]) 
 {
     let mut marked = false;
     'walks: for walk in walks.iter_mut() {
-        let next = after(machine, sights, step, *walk);
-        *walk = next;
-        marked |= is_marked(machine, next.row);
+        let row = next_row(machine, sights, step, walk.row, walk.corner);
+        walk.row = row;
+        marked |= is_marked(machine, row);
     }
     marked
 }
@@ -104,7 +110,8 @@ fn give_out(
     out: &mut Vec<Hit>,
 ) -> Result<bool, NoMemory>
     requires { walk.row < length machine.now }
-    ensures hits { OnOk result (out.new.items ≡ out.old.items ++ hits_at t walk.anchor (row_at machine.now walk.row).numbers) }
+    ensures hits { OnOk result
+        (out.new.items ≡ out.old.items ++ hits_at t walk.anchor (row_at machine.now walk.row).numbers) }
     ensures alive { IfOk result (λ b. b ≡ goes_on machine.now walk) }
 {
     match machine.mark(walk.row) {
@@ -151,8 +158,12 @@ pub fn read_letter(
 ) -> Result<(), NoMemory>
     requires within { All (IsWithin (length machine.now)) walks.old.items }
     requires step { step ≤ last_step }
-    ensures hits { OnOk result (out.new.items ≡ out.old.items ++ hits_of machine.now t (map (after_letter machine.now sights.now.letters step) walks.old.items)) }
-    ensures alive { OnOk result (walks.new.items ≡ filter (goes_on machine.now) (map (after_letter machine.now sights.now.letters step) walks.old.items)) }
+    ensures hits { OnOk result
+        (out.new.items ≡ out.old.items ++ hits_of machine.now t
+        (map (after_letter machine.now sights.now.letters step) walks.old.items)) }
+    ensures alive { OnOk result
+        (walks.new.items ≡ filter (goes_on machine.now)
+        (map (after_letter machine.now sights.now.letters step) walks.old.items)) }
 {
     let _ = machine.rows();
     if read_on(machine, sights, step, walks) {

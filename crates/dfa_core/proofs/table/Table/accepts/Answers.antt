@@ -23,14 +23,18 @@ from_start : (c : After-index-to) → c.index-from.result.now ≡ get_or c.self.
 from_start c =
     let t : Flat = flat_with c.self.inside.targets.items c.self.inside.starts.items c.self.inside.numbers.items c.self.inside.depths.items in
     let low = row_below t c.args.self.now c.args.row c.self.view_is c.requires in
-    get_or_read_under c.self.inside.starts.items c.args.row c.self.inside.starts.len c.index-from.result.now 0 c.index-from.ensures (omega (arith, c.self.inside.starts.ok.0, c.self.invariant.flat.starts)) c.self.inside.starts.ok.0
+    get_or_read_under c.self.inside.starts.items c.args.row c.self.inside.starts.len c.index-from.result.now 0
+    c.index-from.ensures
+    (omega (arith, c.self.inside.starts.ok.0, c.self.invariant.flat.starts)) c.self.inside.starts.ok.0
 
 -- where they end
 to_start : (c : After-index-to) → c.index-to.result.now ≡ get_or c.self.inside.starts.items (c.args.row + 1) 0
 to_start c =
     let t : Flat = flat_with c.self.inside.targets.items c.self.inside.starts.items c.self.inside.numbers.items c.self.inside.depths.items in
     let low = row_below t c.args.self.now c.args.row c.self.view_is c.requires in
-    get_or_read_under c.self.inside.starts.items (c.args.row + 1) c.self.inside.starts.len c.index-to.result.now 0 c.index-to.ensures (omega (arith, c.self.inside.starts.ok.0, c.self.invariant.flat.starts)) c.self.inside.starts.ok.0
+    get_or_read_under c.self.inside.starts.items
+    (c.args.row + 1) c.self.inside.starts.len c.index-to.result.now 0 c.index-to.ensures
+    (omega (arith, c.self.inside.starts.ok.0, c.self.invariant.flat.starts)) c.self.inside.starts.ok.0
 
 pub between-requires-clause-order : goal.between-requires-clause-order
 between-requires-clause-order c =
@@ -44,7 +48,13 @@ between-requires-clause-within c =
     let t : Flat = flat_with c.self.inside.targets.items c.self.inside.starts.items c.self.inside.numbers.items c.self.inside.depths.items in
     let low = row_below t c.args.self.now c.args.row c.self.view_is c.requires in
     let at = (goal.at.between-requires-clause-within c).After-index-to in
-    omega (arith, to_start at, c.self.invariant.flat.within (c.args.row + 1) (omega arith), ap length c.deref.ensures.value)
+    omega (
+      arith,
+      to_start at,
+      c.self.invariant.flat.within (c.args.row + 1)
+          (omega arith),
+      ap length c.deref.ensures.value,
+    )
 
 -- the numbers of the row stand between
 pub returns : goal.returns

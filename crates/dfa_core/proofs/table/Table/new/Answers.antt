@@ -12,6 +12,9 @@ pub invariant_of-result : goal.invariant_of-result
 invariant_of-result c =
     let table : Flat = flat_with c.new.result.items c.push.new.self.items c.new-2.result.items c.new-3.result.items in
     record {
-      flat = IsFlat-none table c.new.ensures.items (c.in_ok-push.ensures.items ∙ ap (λ starts. starts ++ 0 ∷ []) c.new-starts.ensures.items) c.new-2.ensures.items c.new-3.ensures.items;
-      marked = AreMarks-none (rows_in table) c.new-4.result.items (rows_in-none table c.new-3.ensures.items) c.new-4.ensures.items;
+      flat = IsFlat-none table c.new.ensures.items
+          (c.in_ok-push.ensures.items
+          ∙ ap (λ starts. starts ++ 0 ∷ []) c.new-starts.ensures.items) c.new-2.ensures.items c.new-3.ensures.items;
+      marked = AreMarks-none (rows_in table) c.new-4.result.items
+          (rows_in-none table c.new-3.ensures.items) c.new-4.ensures.items;
     }

@@ -21,13 +21,19 @@ pub returns-clause-from : goal.returns-clause-from
 returns-clause-from c =
     let t : Flat = flat_with c.self.inside.targets.items c.self.inside.starts.items c.self.inside.numbers.items c.self.inside.depths.items in
     let low = row_below t c.args.self.now c.args.row c.self.view_is c.requires in
-    get_or_read_under c.self.inside.starts.items c.args.row c.self.inside.starts.len c.index.result.now 0 c.index.ensures (omega (arith, c.self.inside.starts.ok.0, c.self.invariant.flat.starts)) c.self.inside.starts.ok.0
-    ∙ start-counts t c.self.invariant.flat c.args.row (omega arith) ∙ ap (λ rows. length (numbers_of (take c.args.row rows))) c.self.view_is
+    get_or_read_under c.self.inside.starts.items c.args.row c.self.inside.starts.len c.index.result.now 0
+    c.index.ensures (omega (arith, c.self.inside.starts.ok.0, c.self.invariant.flat.starts))
+    c.self.inside.starts.ok.0
+    ∙ start-counts t c.self.invariant.flat c.args.row (omega arith)
+    ∙ ap (λ rows. length (numbers_of (take c.args.row rows))) c.self.view_is
 
 -- and end where those of the next begin
 pub returns-clause-to : goal.returns-clause-to
 returns-clause-to c =
     let t : Flat = flat_with c.self.inside.targets.items c.self.inside.starts.items c.self.inside.numbers.items c.self.inside.depths.items in
     let low = row_below t c.args.self.now c.args.row c.self.view_is c.requires in
-    get_or_read_under c.self.inside.starts.items (c.args.row + 1) c.self.inside.starts.len c.index-2.result.now 0 c.index-2.ensures (omega (arith, c.self.inside.starts.ok.0, c.self.invariant.flat.starts)) c.self.inside.starts.ok.0
-    ∙ start-counts t c.self.invariant.flat (c.args.row + 1) (omega arith) ∙ ap (λ rows. length (numbers_of (take (c.args.row + 1) rows))) c.self.view_is
+    get_or_read_under c.self.inside.starts.items
+    (c.args.row + 1) c.self.inside.starts.len c.index-2.result.now 0 c.index-2.ensures
+    (omega (arith, c.self.inside.starts.ok.0, c.self.invariant.flat.starts)) c.self.inside.starts.ok.0
+    ∙ start-counts t c.self.invariant.flat (c.args.row + 1) (omega arith)
+    ∙ ap (λ rows. length (numbers_of (take (c.args.row + 1) rows))) c.self.view_is

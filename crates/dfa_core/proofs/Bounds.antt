@@ -14,7 +14,7 @@ use Rattle.pat_types.specs.Cells.{line_at, drawn_by, drawn_at, is_stone, anchor_
 use Rattle.dfa_core.specs.Fits.{is_drawn}
 
 -- the line crosses the letters or is an edge
-abbrev is_line : Line → Bool
+abbrev pub is_line : Line → Bool
 is_line (Crosses k) = true
 is_line Edge = true
 is_line Beyond = false
@@ -24,7 +24,8 @@ pub record IsAround (n : ℕ) (before after : Bool) (z : ℤ) : Type 0 where
   pub low : neg_ℤ (pos (drawn_line before)) ≤ℤ z
   pub high : z ≤ℤ (pos (n + drawn_line after) -ℤ pos 1)
 
-line_around : (n : ℕ) (before after : Bool) (z : ℤ) → is_line (line_at n before after z) ≡ true → IsAround n before after z
+-- a line that crosses the letters or is an edge is around them
+pub line_around : (n : ℕ) (before after : Bool) (z : ℤ) → is_line (line_at n before after z) ≡ true → IsAround n before after z
 line_around n before after (pos k) e =
     elim (cases_Bool (ltb k n)) [
       | inl low ↦ record { low = omega (arith, ints); high = omega (arith, ints, ltb-true k n low) }
@@ -47,7 +48,8 @@ line_around n before after (negsuc k) e =
       | inr none ↦ absurd (false≢true (sym (ap (λ t. is_line (cond t Edge Beyond)) none) ∙ e))
     ]
 
-drawn_lines : (p : Pattern) (row column : Line) → is_drawn (drawn_by p row column) ≡ true → (is_line row ≡ true) × (is_line column ≡ true)
+-- both lines that meet at a drawn cell cross the letters or are edges
+pub drawn_lines : (p : Pattern) (row column : Line) → is_drawn (drawn_by p row column) ≡ true → (is_line row ≡ true) × (is_line column ≡ true)
 drawn_lines p Beyond column e = absurd (false≢true e)
 drawn_lines p Edge Beyond e = absurd (false≢true e)
 drawn_lines p Edge Edge e = (refl, refl)
@@ -67,6 +69,7 @@ anchor_within p = by (position is_stone p.letters) refl
         let at = position-Some is_stone p.letters i Friend e in
         (div_below i p.cols p.rows (omega (arith, p.diagram.columns_from)) (omega (arith, at.0, p.diagram.size)), omega (arith, p.diagram.columns_from))
 
+-- a drawn cell lies within the largest offset of the anchor
 pub drawn_near : (p : Pattern) (r c : ℤ) → is_drawn (drawn_at p r c) ≡ true → IsNear (r -ℤ pos (anchor_of p).0, c -ℤ pos (anchor_of p).1)
 unfolding drawn_at
 drawn_near p r c e =

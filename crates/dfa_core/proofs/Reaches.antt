@@ -1,0 +1,96 @@
+-- How far from the anchor the cells of a pattern are drawn, and so how long it can be.
+use Rattle.std.proofs.Common.{◌≡◌, ℕ, zero, suc, ◌+◌, ◌*◌, ◌<◌, ◌≤◌, Bool, true, false, nat_lt, max, min, ℤ, pos, negsuc, ◌+ℤ◌, ◌≤ℤ◌, neg_ℤ, nat_abs, refl, sym, ap, ◌∙◌, arith, inl, inr}
+use Rattle.std.proofs.lemmas.Bool.{cases_Bool, cases_lt, agree_below, agree_below_at, ltb-true}
+use Rattle.std.proofs.lemmas.Int.{ints}
+use Rattle.std.proofs.Math.Nat.{mul-le-mul_left, mul-le-mul_right}
+use Rattle.go_rules.specs.Transform.{Offset, largest_offset}
+use Rattle.spiral.specs.Spiral.{ring_start, offset_at, offset_count}
+use Rattle.pat_types.specs.declared.pattern.Pattern.{Pattern}
+use Rattle.pat_types.specs.Diagrams.{drawn_line}
+use Rattle.pat_types.specs.Cells.{line_at, drawn_at, anchor_of}
+use Rattle.dfa_core.specs.Fits.{drawn_along, is_drawn, length_below, pattern_length}
+use Rattle.dfa_core.proofs.Bounds.{IsAround, line_around, drawn_lines, anchor_within}
+use Rattle.dfa_core.proofs.Lengths.{length_below-blank}
+
+-- the ring of an offset
+abbrev ring_of : Offset → ℕ
+ring_of d = max (nat_abs d.0) (nat_abs d.1)
+
+all_inside : agree_below (λ i. nat_lt i (ring_start (suc (ring_of (offset_at i))))) (λ _. true) offset_count ≡ true
+unfolding offset_at
+all_inside = refl
+
+-- no part of an integer between two opposite ones is greater than they
+nat_abs-most : (z : ℤ) (k : ℕ) → neg_ℤ (pos k) ≤ℤ z → z ≤ℤ pos k → nat_abs z ≤ k
+nat_abs-most (pos n) k low high = omega (arith, ints, high)
+nat_abs-most (negsuc n) k low high = omega (arith, ints, low)
+
+-- the index of an offset is one of the square that it lies in
+index_inside : (i k : ℕ) → i < offset_count → nat_abs (offset_at i).0 ≤ k → nat_abs (offset_at i).1 ≤ k
+    → i < (2 * k + 1) * (2 * k + 1)
+index_inside i k low row column =
+    let r : ℕ = ring_of (offset_at i) in
+    let here : i < (2 * r + 1) * (2 * r + 1) =
+    ltb-true i (ring_start (suc r))
+    (agree_below_at (λ n. nat_lt n (ring_start (suc (ring_of (offset_at n)))))
+    (λ _. true) offset_count i all_inside low) in
+    let inside : 2 * r + 1 ≤ 2 * k + 1 = omega (arith, row, column) in
+    omega (arith, here, mul-le-mul_left (2 * r + 1) inside, mul-le-mul_right (2 * k + 1) inside)
+
+-- an edge is one line
+line_most : (b : Bool) → drawn_line b ≤ 1
+line_most true = omega arith
+line_most false = omega arith
+
+-- a drawn line is no farther from a line of the letters than there are letters
+line_near : (n a k : ℕ) (before after : Bool) (z : ℤ) → IsAround n before after (pos a +ℤ z) → a < n → n ≤ k
+    → nat_abs z ≤ k
+line_near n a k before after z around on few =
+    nat_abs-most z k (omega (arith, ints, around.low, line_most before))
+    (omega (arith, ints, around.high, line_most after))
+
+-- past the square of a pattern nothing is drawn
+blank_outside : (p : Pattern) (k i : ℕ) → p.rows ≤ k → p.cols ≤ k → (2 * k + 1) * (2 * k + 1) ≤ i → i < offset_count
+    → is_drawn (drawn_along p i) ≡ false
+unfolding drawn_along drawn_at
+blank_outside p k i rows columns past low =
+    elim (cases_Bool (is_drawn (drawn_along p i))) [
+      | inr blank ↦ blank
+      | inl drawn ↦
+          let lines = drawn_lines p (line_at p.rows p.top p.bottom (pos (anchor_of p).0 +ℤ (offset_at i).0))
+          (line_at p.cols p.left p.right (pos (anchor_of p).1 +ℤ (offset_at i).1)) drawn in
+          let anchor = anchor_within p in
+          let row = line_near p.rows (anchor_of p).0 k p.top p.bottom (offset_at i).0
+          (line_around p.rows p.top p.bottom (pos (anchor_of p).0 +ℤ (offset_at i).0) lines.0) anchor.0 rows in
+          let column = line_near p.cols (anchor_of p).1 k p.left p.right (offset_at i).1
+          (line_around p.cols p.left p.right (pos (anchor_of p).1 +ℤ (offset_at i).1) lines.1) anchor.1 columns in
+          absurd (omega (arith, past, index_inside i k low row column))
+    ]
+
+-- indices at which nothing is drawn add nothing to the length
+length_below-blanks : (p : Pattern) (n m : ℕ) → n ≤ m → ((i : ℕ) → n ≤ i → i < m → is_drawn (drawn_along p i) ≡ false)
+    → length_below p n ≡ length_below p m
+length_below-blanks p n zero low blank = ap (length_below p) (omega (arith, low))
+length_below-blanks p n (suc m) low blank =
+    elim (cases_lt m n) [
+      | inl all ↦ ap (length_below p) (omega (arith, low, all))
+      | inr more ↦ length_below-blanks p n m more (λ i from to. blank i from (omega (arith, to)))
+          ∙ sym (length_below-blank p m (blank m more (omega arith)))
+    ]
+
+-- the length of a pattern is found below the end of its square
+pub length-inside : (p : Pattern) (k n : ℕ) → k ≡ min (max p.rows p.cols) largest_offset
+    → n ≡ (2 * k + 1) * (2 * k + 1) → length_below p n ≡ pattern_length p
+unfolding pattern_length
+length-inside p k n is square =
+    elim (cases_lt k largest_offset) [
+      | inr all ↦
+          let same : k ≡ largest_offset = omega (arith, is, all) in
+          ap (length_below p) (square ∙ ap (λ j. (2 * j + 1) * (2 * j + 1)) same)
+      | inl inside ↦
+          let few : 2 * k + 1 ≤ 2 * largest_offset + 1 = omega (arith, inside) in
+          ap (length_below p) square
+          ∙ length_below-blanks p ((2 * k + 1) * (2 * k + 1)) offset_count
+          (omega (arith, mul-le-mul_left (2 * k + 1) few, mul-le-mul_right (2 * largest_offset + 1) few))
+          (λ i from to. blank_outside p k i (omega (arith, is, inside)) (omega (arith, is, inside)) from to)
+    ]
