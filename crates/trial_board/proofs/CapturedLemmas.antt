@@ -1,5 +1,6 @@
 -- The row of captured stones: what a play writes there, and that there is room for it.
-use Rattle.std.proofs.Common.{◌≡◌, ◌≢◌, ℕ, zero, suc, ◌+◌, ◌<◌, ◌≤◌, ◌&&◌, ◌||◌, Bool, IsTrue, true, false, cond, eqb}
+use Rattle.std.proofs.Common.{ltb, ◌≡◌, ◌≢◌, ℕ, zero, suc, ◌+◌, ◌<◌, ◌≤◌, ◌&&◌, ◌||◌, Bool, IsTrue, true, false, cond}
+use Rattle.std.proofs.Common.{eqb}
 use Rattle.std.proofs.Common.{List, length, refl, sym, ap, subst, arith, inl, inr, ◌∙◌, get_or-set_same}
 use Rattle.std.proofs.Common.{get_or-set_other}
 use Rattle.std.specs.Prelude.{slice_index_or}
@@ -10,6 +11,7 @@ use Rattle.std.specs.FinSet as sets
 use Rattle.go_rules.specs.Board.{largest_points}
 use Rattle.go_rules.specs.Below.{count_below, set_below}
 use Rattle.go_rules.proofs.Counts.{count_below_mono, count_below_at_most}
+use Rattle.go_rules.proofs.Sets.{same_nat_set, contains-set_below}
 use Rattle.go_rules.proofs.Sets.{contains-insert_nat, len-set_below, set_below-hit}
 use Rattle.trial_board.specs.declared.overlay.Change.{Change}
 use Rattle.trial_board.specs.declared.overlay.Change.TheVariants.{Untouched}
@@ -249,6 +251,21 @@ off-place points changed q noted l none is small room whole emptied =
     let place = Noted-room q largest_points most_captured noted l (λ k i j. off-none points changed k (none k i j))
     (off-is points changed q is ∙ emptied) small room in
     omega (arith, place, noted.whole, whole)
+
+-- of no points none were emptied
+pub off_empty : (points : sets.FinSet nat_cmp) (changed : List Change) → sets.len points ≡ 0
+    → sets.empty ≡ off_points points changed
+off_empty points changed none = same_nat_set sets.empty (off_points points changed) (λ q.
+    let not_in : sets.contains points q ≡ false =
+    ap (λ t. sets.contains t q) (sets.empty_of_len points none) ∙ sets.contains-empty nat_cmp q in
+    sets.contains-empty nat_cmp q
+    ∙ sym (contains-set_below largest_points (is_off points changed) q ∙ ap (λ b. ltb q largest_points && b)
+    (off-none points changed q not_in)
+    ∙ and_false (ltb q largest_points)))
+  where
+    and_false : (b : Bool) → (b && false) ≡ false
+    and_false true = refl
+    and_false false = refl
 
 -- no more numbers pass than there are
 pub len_at_most : (n : ℕ) (test : ℕ → Bool) → sets.len (set_below n test) ≤ n

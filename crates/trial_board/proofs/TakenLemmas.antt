@@ -2,7 +2,7 @@
 use Rattle.std.proofs.Common.{◌≡◌, ◌≢◌, ℕ, ◌+◌, ◌*◌, ◌<◌, ◌≤◌, ◌&&◌, IsTrue, true, false, cond, eqb, List, length, Ok}
 use Rattle.std.proofs.Common.{Err, refl, sym, ap, arith, inl, inr, ◌∙◌}
 use Rattle.std.specs.Prelude.{slice_index_or}
-use Rattle.std.proofs.Math.ListN.{set}
+use Rattle.std.proofs.Math.ListN.{set, length-set}
 use Rattle.std.proofs.lemmas.Bool.{cases_Bool, cases_eq, eq-eqb, ne_eqb, eqb-true, eqb-false, lt-ltb, both_ways}
 use Rattle.std.proofs.lemmas.Bool.{and_parts}
 use Rattle.std.proofs.lemmas.List.FromFn.{get_or-map-range_with_len, fill_by_all}
@@ -24,7 +24,7 @@ use Rattle.go_base.specs.TakenBack.{before_play}
 use Rattle.trial_board.specs.declared.overlay.Change.{Change}
 use Rattle.trial_board.specs.declared.overlay.Change.TheVariants.{Untouched}
 use Rattle.trial_board.specs.Overlays.{over, overlaid, StaysChanged}
-use Rattle.trial_board.specs.Captured.{is_off, is_emptied, off_points, stones_on}
+use Rattle.trial_board.specs.Captured.{points_in, is_off, is_emptied, off_points, stones_on}
 use Rattle.trial_board.proofs.OverlayLemmas.{at_overlaid, length_overlaid, empty_by, emptied_is}
 use Rattle.trial_board.proofs.CapturedLemmas.{count_below-rest, count_below-two, count_below-one}
 
@@ -57,6 +57,18 @@ unfolding before_play
 before_all s c p taken now old whole h = sym
     (fill_by_all (λ q. cond (eqb q p) Empty (cond (sets.contains taken q) (stone_of (other c)) (cell_at now q))) old
     (s * s) Empty whole h)
+
+-- before a play that took nothing its point was empty, and each other was as it is
+pub empty_before : (s : ℕ) (c : Colour) (p : ℕ) (row : List ℕ) (first n : ℕ) (now : List Cell) → n ≡ 0
+    → length now ≡ s * s
+    → set now p Empty ≡ before_play s c p (points_in row first n) now
+empty_before s c p row first n now none l =
+    let empty : points_in row first n ≡ sets.empty = ap (points_in row first) none in
+    sym (before_all s c p (points_in row first n) now (set now p Empty) (length-set now p Empty ∙ l) (λ q h.
+    elim (cases_eq q p) [
+      | inl e ↦ rw (eq-eqb q p e) (ap (cell_at (set now p Empty)) e ∙ at_put_same now p Empty (omega (arith, l, h, e)))
+      | inr ne ↦ rw (ne_eqb q p ne, empty, sets.contains-empty nat_cmp q) (at_put_other now p q Empty ne)
+    ]))
 
 -- A play of c at p took the changes to the new ones on a board of s rows over these cells, and told these stones as
 -- taken.

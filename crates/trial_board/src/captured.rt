@@ -44,8 +44,8 @@ fn note_one(row: &mut [Point; MAX_CAPTURED], place: u16, q: Point, change: Chang
     0
 }
 
-/// Writes those of the points that were emptied into the row from the place `first` on; how many they are.
-pub fn note(
+/// Goes over the points, and writes those that were emptied into the row from the place `first` on; how many they are.
+fn note_each(
     row: &mut [Point; MAX_CAPTURED],
     first: u16,
     points: &PointSet,
@@ -65,6 +65,27 @@ pub fn note(
         next = q + 1;
     }
     count
+}
+
+/// Writes those of the points that were emptied into the row from the place `first` on; how many they are. Most moves take
+/// nothing, so that is asked first.
+pub fn note(
+    row: &mut [Point; MAX_CAPTURED],
+    first: u16,
+    points: &PointSet,
+    changed: &[Change; MAX_POINTS],
+) -> u16
+    requires row_whole { length row.old ≡ most_captured }
+    requires room { first + set.len (off_points points.now changed.now) ≤ most_captured }
+    ensures row_whole { length row.new ≡ most_captured }
+    ensures count { result ≡ set.len (off_points points.now changed.now) }
+    ensures noted { points_in row.new first result ≡ off_points points.now changed.now }
+    ensures before { (i : ℕ) → i < first → slice_index_or row.new i 0 ≡ slice_index_or row.old i 0 }
+{
+    if points.count() == 0 {
+        return 0;
+    }
+    note_each(row, first, points, changed)
 }
 
 /// The n points in the row from the place `first` on.

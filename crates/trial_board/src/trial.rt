@@ -16,7 +16,7 @@ ghost use Rattle.trial_board.specs.declared.moves.TrialMove.{TrialMove};
 ghost use Rattle.trial_board.specs.declared.moves.TrialPlay.{TrialPlay};
 ghost use Rattle.trial_board.specs.Trials.{Trying, Stays, Moved, IsNoted, Put, most_moves, after, tried, tried_free, made_or_suicide, tail, is_some_move};
 
-use crate::captured::{MAX_CAPTURED, note, nothing_captured, points_in};
+use crate::captured::{MAX_CAPTURED, note, nothing_captured};
 use crate::kept::{Kept, nothing_kept};
 use crate::moves::{MAX_TRIAL_MOVES, TrialMove, TrialPlay, Tried};
 use crate::overlay::{Change, Overlay};
@@ -58,7 +58,8 @@ impl<L: Look> Model for Trial<L> {
 
     ghost view = { λ t. record { look = t.board.look; moves = newest_first t.kept t.standing; count = t.trials } };
 
-    ghost invariant = { λ t. IsStanding (L.seen t.board.look) t.board.changed t.ban t.kept t.row t.captured t.standing };
+    ghost invariant = { λ t.
+        IsStanding (L.seen t.board.look) t.board.changed t.ban t.kept t.row t.captured t.standing };
 }
 
 /// No point is touched.
@@ -222,8 +223,7 @@ impl<L: Look> Trial<L> {
         }
         self.standing -= 1;
         let last = self.kept[self.standing as usize];
-        let taken = points_in(&self.row, last.first, last.taken);
-        last.take_back(&taken, &mut self.board);
+        last.take_back(&self.row, &mut self.board);
         self.captured = last.first;
         self.ban = last.ban;
         true

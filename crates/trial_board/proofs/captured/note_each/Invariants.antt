@@ -2,7 +2,7 @@ use Rattle.std.proofs.Common.{◌≤◌, ◌-◌}
 use Rattle.go_rules.specs.Board.{largest_points}
 use Rattle.trial_board.specs.Captured.{is_off}
 use Rattle.trial_board.proofs.CapturedLemmas.{Noted}
-use Rattle.trial_board.proofs.captured.note.Given as goal
+use Rattle.trial_board.proofs.captured.note_each.Given as goal
 
 -- the points below the next one are written
 abbrev pub invariant-loop-q : goal.invariant-loop-q
