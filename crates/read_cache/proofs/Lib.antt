@@ -1,4 +1,5 @@
 pub mod Each
+pub mod Lasting
 pub mod Seen
 pub mod Sizes
 pub mod Sound
