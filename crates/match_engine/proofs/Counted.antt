@@ -4,13 +4,21 @@ use Rattle.match_engine.specs.Readings.{ReadingsView, raised, codes_at, codes_of
 
 -- no reading changes nothing
 pub Follows-refl : (r : ReadingsView) → Follows r r
-Follows-refl r = record { plies = refl; wide = refl; fresh = omega arith; trials = omega arith; refused = omega arith }
+Follows-refl r = record {
+  plies = refl;
+  wide = refl;
+  capacity = refl;
+  fresh = omega arith;
+  trials = omega arith;
+  refused = omega arith;
+}
 
 -- readings after readings
 pub Follows-trans : (a b c : ReadingsView) → Follows a b → Follows b c → Follows a c
 Follows-trans a b c first next = record {
   plies = next.plies ∙ first.plies;
   wide = next.wide ∙ first.wide;
+  capacity = next.capacity ∙ first.capacity;
   fresh = omega (arith, first.fresh, next.fresh);
   trials = omega (arith, first.trials, next.trials);
   refused = omega (arith, first.refused, next.refused);

@@ -1,4 +1,5 @@
 pub mod Reading
+pub mod Again
 pub mod Places
 pub mod Corners
 pub mod Sorting

@@ -9,11 +9,12 @@ use Rattle.match_rules.specs.Conditions.{meanings_at}
 use Rattle.match_engine.specs.declared.asking.Asking.{Asking}
 use Rattle.match_engine.specs.Readings.{ReadingsView, codes_of}
 
--- the meanings of the pattern at m under t, by the codes of the present readings; the depths of these stay, and their counts may rise
+-- The meanings of the pattern at m under t, by the codes of the present readings. The depths of these stay, and how
+-- many questions may be kept, and their counts may rise.
 abbrev pub asked : Pattern → BoardState → Colour → ℕ → ℕ → ReadingsView → EnvView
 asked p board friend t m r = record {
   meanings = meanings_at (codes_of r) p board friend t m;
-  fixed = r.plies ∷ r.wide ∷ [];
+  fixed = r.plies ∷ r.wide ∷ r.kept.1 ∷ [];
   counts = r.fresh ∷ r.trials ∷ r.refused ∷ [];
 }
 

@@ -112,10 +112,12 @@ pub record HasRead (key : Key) (pos : BoardState) (answer : Answer) (old new : R
   pub wide : new.wide ≡ old.wide
   pub read : WasFresh key pos answer old new ⊎ WasKept key pos answer old new
 
--- new is old after any number of readings: the depths are the same, and no count has fallen
+-- new is old after any number of readings: the depths are the same, as many questions may be kept, and no count has
+-- fallen
 pub record Follows (old new : ReadingsView) : Type 0 where
   pub plies : new.plies ≡ old.plies
   pub wide : new.wide ≡ old.wide
+  pub capacity : new.kept.1 ≡ old.kept.1
   pub fresh : old.fresh ≤ new.fresh
   pub trials : old.trials ≤ new.trials
   pub refused : old.refused ≤ new.refused

@@ -1,5 +1,5 @@
 -- What a run says where the source tells what it has left and the output what it holds.
-use Rattle.std.proofs.Common.{◌≡◌, ℕ, Bool, List, Option, Some, None, ap}
+use Rattle.std.proofs.Common.{◌≡◌, ℕ, List, Option, Some, None, ap}
 use Rattle.gtp_rules.specs.Lines.{RawLine}
 use Rattle.gtp_rules.specs.Steps.{Step}
 use Rattle.helpers.specs.Asking.{SlotState}
@@ -34,19 +34,18 @@ module _ (input : List ℕ) (last hurt : ℕ) (old : List ℕ) (torn : ℕ) (res
       (cc, cc)
 
   -- the lines were served, those of the feed or generated ones
-  either : {M : Type 0} (step : M → RawLine → Step M) (asks : M → RawLine → Bool) (first : M) (generate : Option ℕ)
-      (end : End) (tally : Tally)
-      → ServesLines generate step asks first (telling input last hurt old torn)
+  either : {M : Type 0} (step : M → RawLine → Step M) (first : M) (generate : Option ℕ) (end : End) (tally : Tally M)
+      → ServesLines generate step first (telling input last hurt old torn)
       (telling rest piece fault new cut) end tally
       → ServesEither generate step first input rest old new piece end
-  either step asks first None end tally serves = record {
+  either step first None end tally serves = record {
     taken = serves.taken;
     put = tally.out;
     reads = serves.reads;
     writes = serves.writes;
     right = serves.right;
   }
-  either step asks first (Some n) end tally serves =
+  either step first (Some n) end tally serves =
       let left = serves.left in
       let lines = serves.generated in (
         cc,
@@ -76,5 +75,5 @@ module _ (input : List ℕ) (last hurt : ℕ) (old : List ℕ) (torn : ℕ) (res
     given = came.1;
     patterns = came.2.patterns;
     opened = came.2.opened;
-    serves = either _ _ _ came.0.generate end came.2.tally came.2.serves;
+    serves = either _ _ came.0.generate end came.2.tally came.2.serves;
   }

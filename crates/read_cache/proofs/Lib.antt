@@ -1,5 +1,6 @@
 pub mod Each
 pub mod Places
+pub mod Lasting
 pub mod Seen
 pub mod Sizes
 pub mod Sound

@@ -1,5 +1,5 @@
 -- Sessions that find matches by an automaton, and the plain machine.
-use Rattle.std.proofs.Common.{◌≡◌, ℕ, List, Option, refl, subst}
+use Rattle.std.proofs.Common.{ℕ, ◌≤◌, List, Option, refl, subst}
 use Rattle.std.proofs.lemmas.Option.{slice_get_within}
 use Rattle.go_rules.specs.declared.Colour.{Colour}
 use Rattle.go_rules.specs.Position.{BoardState}
@@ -9,12 +9,11 @@ use Rattle.dfa_core.specs.States.{IsMachineOf}
 use Rattle.match_engine.specs.MachineMatches.{machine_matches, is_machine_match}
 use Rattle.match_rules.proofs.Orders.{by-has}
 use Rattle.match_engine.proofs.Patterns.{same_by_machine}
-use Rattle.session.specs.Machine.{first_machine, position_of}
+use Rattle.session.specs.Machine.{Machine, first_machine, position_of}
 use Rattle.match_rules.specs.Conditions.{Advice}
 use Rattle.session.specs.Matcher.{Matcher, plain_matcher, codes_of}
 use Rattle.cons_eval.specs.Readings.{Codes}
 use Rattle.session.specs.Answering.{step}
-use Rattle.session.specs.Counting.{is_read_line}
 use Rattle.session.specs.Tallies.{Tally}
 use Rattle.session.specs.Kept.{Kept, machine_of, matcher_with, first_kept}
 use Rattle.session.specs.Opened.{IsPlainWith}
@@ -32,12 +31,14 @@ AreAmong-found code advice rows patterns board friend = λ z there.
     (slice_get_within patterns z.pattern by.pattern by.number, by.at)
 
 -- with the automaton of its patterns a session is plain before its first line
-pub plain-first : (advice : Advice) (patterns : List Pattern) (rows : List Row) (plies wide capacity : ℕ) → IsMachineOf patterns rows
+pub plain-first : (advice : Advice) (patterns : List Pattern) (rows : List Row) (plies wide capacity : ℕ)
+    → 8 ≤ capacity → IsMachineOf patterns rows
     → IsPlainWith advice patterns plies wide (first_kept patterns rows plies wide capacity)
     (matcher_with advice (first_kept patterns rows plies wide capacity))
-plain-first advice patterns rows plies wide capacity accepts = record {
+plain-first advice patterns rows plies wide capacity room accepts = record {
   machine = refl;
   counts = refl;
+  room = room;
   matches = λ i. record {
     patterns = patterns;
     matches = λ machine friend. same_by_machine (codes_of machine) advice patterns rows (position_of machine) friend
@@ -47,13 +48,10 @@ plain-first advice patterns rows plies wide capacity accepts = record {
 
 -- a session that is plain with some patterns served the lines as the plain machine does
 pub ServesLines-plain : (advice : Advice) (patterns : List Pattern) (plies wide : ℕ) (session : Kept) (matcher : Matcher)
-    (generate : Option ℕ) (before after : Streams) (end : End) (tally : Tally)
+    (generate : Option ℕ) (before after : Streams) (end : End) (tally : Tally Machine)
     → IsPlainWith advice patterns plies wide session matcher
-    → ServesLines generate (step matcher) is_read_line (machine_of session) before after end tally
-    → ServesLines generate (step (plain_matcher advice patterns)) is_read_line
-    (first_machine plies wide) before after end tally
+    → ServesLines generate (step matcher) (machine_of session) before after end tally
+    → ServesLines generate (step (plain_matcher advice patterns)) (first_machine plies wide) before after end tally
 ServesLines-plain advice patterns plies wide session matcher generate before after end tally plain serves =
-    subst (λ m. ServesLines generate (step (plain_matcher advice patterns)) is_read_line m before after end tally)
-    plain.machine
-    (subst (λ k. ServesLines generate (step k) is_read_line
-    (machine_of session) before after end tally) plain.matches serves)
+    subst (λ m. ServesLines generate (step (plain_matcher advice patterns)) m before after end tally) plain.machine
+    (subst (λ k. ServesLines generate (step k) (machine_of session) before after end tally) plain.matches serves)

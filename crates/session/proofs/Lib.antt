@@ -13,3 +13,6 @@ pub mod FewPatterns
 pub mod Finding
 pub mod Running
 pub mod Helped
+pub mod Named
+pub mod CertainHits
+pub mod CountsTold

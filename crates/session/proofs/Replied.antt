@@ -1,5 +1,5 @@
 -- A reply as it is put on the output.
-use Rattle.std.proofs.Common.{◌≡◌, ℕ, Bool, true, false, List, [], length, Option, refl, sym, ap, subst, ◌∙◌, inl, inr}
+use Rattle.std.proofs.Common.{◌≡◌, ℕ, Bool, false, List, [], length, Option, refl, sym, ap, subst, ◌∙◌, inl, inr}
 use Rattle.std.specs.Io.KnownBytes.{Appends}
 use Rattle.gtp_rules.specs.Lines.{RawLine}
 use Rattle.gtp_rules.specs.Steps.{Step}
@@ -10,7 +10,9 @@ use Rattle.session.specs.Answering.{step}
 use Rattle.session.specs.Matcher.{Matcher}
 use Rattle.session.specs.Kept.{Kept, machine_of}
 use Rattle.session.specs.Counting.{counted, is_read_line}
-use Rattle.session.specs.Tallies.{kept_sum, reading_count, reply_count}
+use Rattle.session.specs.Asking.{ReadsAs, IsAfterLine, asks_of_line}
+use Rattle.session.specs.Turns.{IsAlong}
+use Rattle.session.specs.Tallies.{kept_sum, one_turn, reply_count}
 use Rattle.session.specs.Serving.{PutsPart, PutsReply, Replies, RepliesPart, progress_of}
 use Rattle.session.specs.Replies.{IsReply, IsReplyTo, IsRefusal, IsSound, reply_bytes, reply_ends}
 use Rattle.session.specs.declared.reply.Reply.{Reply}
@@ -40,31 +42,27 @@ IsReply-some old given (Short text quit) new is none = cc
 IsReply-some old given (Text bytes) new is none = cc
 IsReply-some old given (NoMemory id) new is none = cc
 
--- what a line counted, as a sum
-counted-sum : (count : ℕ) (more : Bool) → counted count more ≡ kept_sum count (reading_count more)
-counted-sum count true = refl
-counted-sum count false = refl
-
 -- The session answered a line with a reply of some bytes.
 module _ (matcher : Matcher) (old new : Kept) (line : RawLine) (reply : Reply)
     (answers : IsReplyTo (machine_of old) (step matcher (machine_of old) line) reply (machine_of new))
     (readings : new.counts.readings ≡ counted old.counts.readings (is_read_line (machine_of old) line))
+    (read : ReadsAs (asks_of_line (machine_of old) line) old new)
     (w0 w1 : Option (List ℕ)) (s0 s1 : Sent) where
-  -- how much it counted
-  readings_sum : new.counts.readings ≡ kept_sum old.counts.readings (reading_count (is_read_line (machine_of old) line))
-  readings_sum = readings ∙ counted-sum old.counts.readings (is_read_line (machine_of old) line)
+  -- what it keeps went along the line
+  along : IsAlong IsAfterLine old (one_turn (machine_of old) line) new
+  along = (new, record { machine = refl; readings = readings; read = read }, refl)
 
   -- the bytes went out whole
   pub Replies-whole : (sent : List ℕ) → sent ≡ reply_bytes reply → reply_count (reply_bytes reply) ≡ 1
       → PutsReply w0 w1 s0 s1 sent
-      → Replies (step matcher) is_read_line (machine_of old) line (machine_of new) (reply_ends reply)
+      → Replies (step matcher) IsAfterLine (machine_of old) line (machine_of new) (reply_ends reply)
       (progress_of w0 old s0) (progress_of w1 new s1)
   Replies-whole sent same some puts = record {
     reply = reply_bytes reply;
     answers = MayGive-reply (machine_of old) (step matcher (machine_of old) line) reply (machine_of new) answers;
     advances = record {
       writes = subst (Appends w0 w1) same puts.writes;
-      readings = readings_sum;
+      along = along;
       replies = puts.lines ∙ ap (kept_sum s0.lines) (sym some);
       bytes = puts.bytes_sent ∙ ap (λ l. kept_sum s0.bytes (length l)) same;
     };
@@ -72,7 +70,7 @@ module _ (matcher : Matcher) (old new : Kept) (line : RawLine) (reply : Reply)
 
   -- a front of the bytes went out
   pub Replies-part : (sent : List ℕ) → sent ≡ reply_bytes reply → PutsPart w0 w1 s0 s1 sent
-      → RepliesPart (step matcher) is_read_line (machine_of old) line (progress_of w0 old s0) (progress_of w1 new s1)
+      → RepliesPart (step matcher) IsAfterLine (machine_of old) line (progress_of w0 old s0) (progress_of w1 new s1)
   Replies-part sent same put = record {
     part = put.part;
     missing = put.missing;
@@ -84,7 +82,7 @@ module _ (matcher : Matcher) (old new : Kept) (line : RawLine) (reply : Reply)
     proper = put.proper;
     advances = record {
       writes = put.puts.writes;
-      readings = readings_sum;
+      along = along;
       replies = put.puts.lines;
       bytes = put.puts.bytes_sent;
     };
@@ -94,14 +92,15 @@ module _ (matcher : Matcher) (old new : Kept) (line : RawLine) (reply : Reply)
 pub Replies-nothing : (matcher : Matcher) (old new : Kept) (line : RawLine) (w : Option (List ℕ)) (s : Sent)
     → IsReplyTo (machine_of old) (step matcher (machine_of old) line) Nothing (machine_of new)
     → new.counts.readings ≡ counted old.counts.readings (is_read_line (machine_of old) line)
-    → Replies (step matcher) is_read_line (machine_of old) line (machine_of new) false (progress_of w old s)
+    → ReadsAs (asks_of_line (machine_of old) line) old new
+    → Replies (step matcher) IsAfterLine (machine_of old) line (machine_of new) false (progress_of w old s)
     (progress_of w new s)
-Replies-nothing matcher old new line w s answers readings = record {
+Replies-nothing matcher old new line w s answers readings read = record {
   reply = [];
   answers = MayGive-reply (machine_of old) (step matcher (machine_of old) line) Nothing (machine_of new) answers;
   advances = record {
     writes = Appends-nil w;
-    readings = readings ∙ counted-sum old.counts.readings (is_read_line (machine_of old) line);
+    along = (new, record { machine = refl; readings = readings; read = read }, refl);
     replies = refl;
     bytes = refl;
   };

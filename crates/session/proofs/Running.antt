@@ -1,5 +1,5 @@
 -- How a run of a command line came to its end, by how it read its options, opened its files and served its lines.
-use Rattle.std.proofs.Common.{◌≡◌, ◌≢◌, ℕ, ◌+◌, Bool, true, false, cond, List, ◌++◌, length, Option, Some, None, refl, sym, ap, subst, ◌∙◌, inr, ◌≤◌, ◌<◌, lit<, arith}
+use Rattle.std.proofs.Common.{◌≡◌, ◌≢◌, ℕ, ◌+◌, Bool, true, false, cond, List, ◌++◌, length, Option, Some, None, refl, sym, ap, subst, ◌∙◌, inr, ◌≤◌, ◌<◌, arith}
 use Rattle.std.proofs.lemmas.List.{length-append}
 use Rattle.std.specs.Prelude.{option_map}
 use Rattle.gtp_lex.specs.Lines.{LinesState}
@@ -8,7 +8,9 @@ use Rattle.go_options.specs.Found.{AreFound}
 use Rattle.go_options.specs.declared.options.Options.{Options}
 use Rattle.run_notes.specs.declared.notes.Counts.{Counts}
 use Rattle.run_notes.specs.declared.notes.Sent.{Sent}
-use Rattle.session.specs.Counting.{is_read_line}
+use Rattle.session.specs.Machine.{Machine}
+use Rattle.session.specs.Turns.{Turn}
+use Rattle.session.specs.Asking.{IsAfterLine}
 use Rattle.session.specs.Tallies.{Tally, Progress, kept_sum}
 use Rattle.gtp_rules.specs.Lines.{RawLine}
 use Rattle.gtp_rules.specs.Steps.{Step}
@@ -23,22 +25,22 @@ use Rattle.session.specs.Opening.{IsRefused, MissedIn}
 use Rattle.session.specs.Opened.{Opens, CameBy, ServesCounting}
 use Rattle.session.specs.Outcomes.{Phase, NotTaken, NotOpened, Served}
 use Rattle.session.specs.Ends.{Streams, IsRight, most_taken}
-use Rattle.session.specs.Headline.{Came, AreCounts, IsSent, IsCauseOf, MissedAfter, files_in}
-use Rattle.session.specs.Serving.{HasFewFresh, progress_of}
+use Rattle.session.specs.Headline.{Came, AreCounts, AreCountsOf, IsSent, IsCauseOf, MissedAfter, files_in}
+use Rattle.session.specs.Serving.{progress_of}
 use Rattle.session.specs.declared.outcome.End.{End}
 use Rattle.session.specs.declared.outcome.End.TheVariants.{InputTooLong}
 use Rattle.session.specs.declared.outcome.OpenError.{OpenError}
+use Rattle.session.proofs.CountsTold.{counts_of, served-few}
 use Rattle.session.proofs.Finding.{ServesLines-plain}
 
 -- the counts of a session are told where they are asked for
-counts-told : (asked : Bool) (counts : Counts) (tally : Tally) → counts.readings ≡ kept_sum 0 tally.readings
-    → HasFewFresh counts
+counts-told : (asked : Bool) (counts : Counts) (tally : Tally Machine) → AreCountsOf tally.turns counts
     → AreCounts asked (cond asked (Some counts) None) tally
-counts-told true counts tally readings afresh = (readings, afresh.few)
-counts-told false counts tally readings afresh = refl
+counts-told true counts tally are = are
+counts-told false counts tally are = refl
 
 -- what was sent is told where lines were generated
-sent-told : (generate : Option ℕ) (sent : Sent) (tally : Tally) → sent.lines ≡ kept_sum 0 tally.replies
+sent-told : {M : Type 0} (generate : Option ℕ) (sent : Sent) (tally : Tally M) → sent.lines ≡ kept_sum 0 tally.replies
     → sent.bytes ≡ kept_sum 0 (length tally.out) → IsSent generate (option_map (λ _. sent) generate) tally
 sent-told None sent tally lines bytes = refl
 sent-told (Some n) sent tally lines bytes = (lines, bytes)
@@ -49,15 +51,16 @@ pub came-served : (helpers : List SlotState) (contents : List ℕ → Option (Li
     (before after : Streams) (end : End) (w0 w1 : Option (List ℕ)) (sent : Sent) (told : Option Counts)
     (noted : Option Sent)
     (phase : Phase) → Opens helpers contents options session matcher lines
-    → ServesCounting options.generate (step matcher) is_read_line (machine_of session) before after end
+    → ServesCounting options.generate (step matcher) IsAfterLine (machine_of session) before after end
     (progress_of w0 session (record { lines = 0; bytes = 0 })) (progress_of w1 now sent)
-    → (HasFewFresh session.counts → HasFewFresh now.counts)
     → told ≡ cond options.stats (Some now.counts) None → noted ≡ option_map (λ _. sent) options.generate
     → phase ≡ Served end → CameBy helpers options contents before after told noted phase
-came-served helpers contents options session now matcher lines before after end w0 w1 sent told noted phase opens counting afresh tells notes is =
-    let none = opens.plain.counts in
-    let start : HasFewFresh session.counts = subst HasFewFresh (sym none) (record { few = omega arith; small = lit< tt }) in
-    let readings = counting.advances.readings ∙ ap (λ (k : Counts). kept_sum k.readings counting.tally.readings) none in
+came-served helpers contents options session now matcher lines before after end w0 w1 sent told noted phase opens
+    counting tells notes is =
+    let lines = served-few (step matcher) options.generate
+    (machine_of session) before after end counting.tally counting.serves in
+    let counts = counts_of session now counting.tally.turns counting.advances.along opens.plain.counts opens.plain.room
+    lines in
     subst (CameBy helpers options contents before after told noted) (sym is) (record {
       patterns = opens.patterns;
       opened = opens.opened;
@@ -65,7 +68,7 @@ came-served helpers contents options session now matcher lines before after end 
       serves = ServesLines-plain (says_yes helpers) opens.patterns options.depth options.branch session matcher options.generate before after end
           counting.tally opens.plain counting.serves;
       counted = subst (λ o. AreCounts options.stats o counting.tally) (sym tells)
-          (counts-told options.stats now.counts counting.tally readings (afresh start));
+          (counts-told options.stats now.counts counting.tally counts);
       told = subst (λ o. IsSent options.generate o counting.tally) (sym notes)
           (sent-told options.generate sent counting.tally counting.advances.replies counting.advances.bytes);
     })
@@ -107,20 +110,22 @@ not_too_long step first left text rest taken put piece n end few is reads right 
     omega (arith, taken_all, short, parts)
 
 -- generated lines were served in place of the source
-pub serves-generated : {M : Type 0} (n : ℕ) (step : M → RawLine → Step M) (asks : M → RawLine → Bool) (first : M)
+pub serves-generated : {M : Type 0} (n : ℕ) (step : M → RawLine → Step M) (goes : Kept → Turn M → Kept → Type 0)
+    (first : M)
     (left : Option (List ℕ)) (piece faults : ℕ) (w0 w1 : Option (List ℕ)) (c0 c1 f0 f1 p : ℕ) (text rest : List ℕ)
     (last : ℕ)
     (end : End) (old new : Progress) (generate : Option ℕ) → generate ≡ Some n → n ≤ 100000
-    → text ≡ generated_text n → ServesCounting None step asks first
+    → text ≡ generated_text n → ServesCounting None step goes first
     (record { left = Some text; piece = p; input_faults = f0; written = w0; output_faults = c0 })
     (record { left = Some rest; piece = last; input_faults = f1; written = w1; output_faults = c1 }) end old new
-    → ServesCounting generate step asks first
+    → ServesCounting generate step goes first
     (record { left = left; piece = piece; input_faults = faults; written = w0; output_faults = c0 })
     (record { left = left; piece = piece; input_faults = faults; written = w1; output_faults = c1 }) end old new
-serves-generated n step asks first left piece faults w0 w1 c0 c1 f0 f1 p text rest last end old new generate some few is counting =
+serves-generated n step goes first left piece faults w0 w1 c0 c1 f0 f1 p text rest last end old new generate some few
+    is counting =
     let before : Streams = record { left = left; piece = piece; input_faults = faults; written = w0; output_faults = c0 } in
     let after : Streams = record { left = left; piece = piece; input_faults = faults; written = w1; output_faults = c1 } in
-    subst (λ o. ServesCounting o step asks first before after end old new) (sym some) (record {
+    subst (λ o. ServesCounting o step goes first before after end old new) (sym some) (record {
       tally = counting.tally;
       serves = record {
         left = refl;

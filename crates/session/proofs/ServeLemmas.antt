@@ -14,6 +14,8 @@ use Rattle.run_notes.specs.declared.notes.Sent.{Sent}
 use Rattle.session.specs.Machine.{Machine}
 use Rattle.session.specs.Matcher.{Matcher}
 use Rattle.session.specs.Answering as answering
+use Rattle.session.specs.Kept.{Kept}
+use Rattle.session.specs.Turns.{Turn}
 use Rattle.session.specs.Tallies.{Progress, kept_sum, IsTallied, tally_of, cut_tally, no_tally, together}
 use Rattle.session.specs.Serving.{Puts, Replies, RepliesPart, RunsTo, RunsPart}
 use Rattle.session.proofs.Tallying.{kept_sum-twice, Advances-none, Advances-trans, IsTallied-nil, IsTallied-one, IsTallied-append, IsTallied-ended, BreaksOff-one, BreaksOff-after, BreaksOff-more, BreaksOff-is}
@@ -135,104 +137,104 @@ on_err_map (Ok x) words p = tt
 on_err_map (Err e) words p = words p
 
 -- Two sessions that find matches in one way answer by one step.
-module _ (asks : Machine → RawLine → Bool) (now first : Matcher) (same : now ≡ first) where
+module _ (goes : Kept → Turn Machine → Kept → Type 0) (now first : Matcher) (same : now ≡ first) where
   -- lines that were answered whole
   pub RunsTo-by : (from : Machine) (lines : List RawLine) (to : Machine) (ended : Bool) (a b : Progress)
-      → RunsTo (answering.step now) asks from lines to ended a b → RunsTo
-      (answering.step first) asks from lines to ended a b
-  RunsTo-by from lines to ended a b runs = subst (λ m. RunsTo (answering.step m) asks from lines to ended a b) same runs
+      → RunsTo (answering.step now) goes from lines to ended a b → RunsTo
+      (answering.step first) goes from lines to ended a b
+  RunsTo-by from lines to ended a b runs = subst (λ m. RunsTo (answering.step m) goes from lines to ended a b) same runs
 
   -- lines of which one broke off
   pub RunsPart-by : (from : Machine) (lines : List RawLine) (a b : Progress)
-      → RunsPart (answering.step now) asks from lines a b → RunsPart (answering.step first) asks from lines a b
-  RunsPart-by from lines a b runs = subst (λ m. RunsPart (answering.step m) asks from lines a b) same runs
+      → RunsPart (answering.step now) goes from lines a b → RunsPart (answering.step first) goes from lines a b
+  RunsPart-by from lines a b runs = subst (λ m. RunsPart (answering.step m) goes from lines a b) same runs
 
-module _ (M : Type 0) (step : M → RawLine → Step M) (asks : M → RawLine → Bool) where
+module _ (M : Type 0) (step : M → RawLine → Step M) (goes : Kept → Turn M → Kept → Type 0) where
   -- one line, answered whole
   pub RunsTo-one : (from : M) (line : RawLine) (to : M) (ends : Bool) (a b : Progress) (lines : List RawLine)
       → lines ≡ line ∷ []
-      → Replies step asks from line to ends a b → RunsTo step asks from lines to ends a b
+      → Replies step goes from line to ends a b → RunsTo step goes from lines to ends a b
   RunsTo-one from line to ends a b lines one replies = record {
-    tally = tally_of (asks from line) replies.reply;
-    run = subst (λ l. IsTallied step asks from l (tally_of (asks from line) replies.reply) to ends) (sym one)
-        (IsTallied-one M step asks from line replies.reply to ends replies.answers);
+    tally = tally_of from line replies.reply;
+    run = subst (λ l. IsTallied step from l (tally_of from line replies.reply) to ends) (sym one)
+        (IsTallied-one M step from line replies.reply to ends replies.answers);
     advances = replies.advances;
   }
 
   -- no line
-  pub RunsTo-nil : (from : M) (a : Progress) → RunsTo step asks from [] from false a a
-  RunsTo-nil from a = record { tally = no_tally; run = IsTallied-nil M step asks from; advances = Advances-none a }
+  pub RunsTo-nil : (from : M) (a : Progress) → RunsTo step goes from [] from false a a
+  RunsTo-nil from a = record { tally = no_tally; run = IsTallied-nil M step from; advances = Advances-none goes a }
 
   -- one line, whose reply broke off, and lines after it
   pub RunsPart-one : (from : M) (line : RawLine) (a b : Progress) (lines more : List RawLine) → lines
       ≡ line ∷ more
-      → RepliesPart step asks from line a b → RunsPart step asks from lines a b
+      → RepliesPart step goes from line a b → RunsPart step goes from lines a b
   RunsPart-one from line a b lines more first replies = record {
-    tally = cut_tally (asks from line) replies.part;
-    cut = BreaksOff-is M step asks from lines (line ∷ more) (cut_tally (asks from line) replies.part) first
-        (BreaksOff-one M step asks from line more replies.part replies.missing replies.next replies.ends replies.answers
+    tally = cut_tally from line replies.part;
+    cut = BreaksOff-is M step from lines (line ∷ more) (cut_tally from line replies.part) first
+        (BreaksOff-one M step from line more replies.part replies.missing replies.next replies.ends replies.answers
         replies.proper);
     advances = replies.advances;
   }
 
   -- lines after lines
   pub RunsTo-append : (from mid to : M) (xs ys : List RawLine) (ended : Bool) (a b c : Progress)
-      → RunsTo step asks from xs mid false a b → RunsTo step asks mid ys to ended b c → RunsTo step asks from
+      → RunsTo step goes from xs mid false a b → RunsTo step goes mid ys to ended b c → RunsTo step goes from
       (xs ++ ys) to ended a c
   RunsTo-append from mid to xs ys ended a b c earlier later = record {
     tally = together earlier.tally later.tally;
-    run = IsTallied-append M step asks from xs ys earlier.tally later.tally mid to ended earlier.run later.run;
-    advances = Advances-trans a b c earlier.tally later.tally earlier.advances later.advances;
+    run = IsTallied-append M step from xs ys earlier.tally later.tally mid to ended earlier.run later.run;
+    advances = Advances-trans goes a b c earlier.tally later.tally earlier.advances later.advances;
   }
 
   -- after a line that ends the session nothing is answered
-  pub RunsTo-ended : (from to : M) (xs ys : List RawLine) (a b : Progress) → RunsTo step asks from xs to true a b
-      → RunsTo step asks from (xs ++ ys) to true a b
+  pub RunsTo-ended : (from to : M) (xs ys : List RawLine) (a b : Progress) → RunsTo step goes from xs to true a b
+      → RunsTo step goes from (xs ++ ys) to true a b
   RunsTo-ended from to xs ys a b runs =
       record {
         tally = runs.tally;
-        run = IsTallied-ended M step asks from xs ys runs.tally to runs.run;
+        run = IsTallied-ended M step from xs ys runs.tally to runs.run;
         advances = runs.advances;
       }
 
   -- lines that broke off, after lines answered whole
   pub RunsPart-after : (from mid : M) (xs ys : List RawLine) (a b c : Progress)
-      → RunsTo step asks from xs mid false a b → RunsPart step asks mid ys b c → RunsPart step asks from (xs ++ ys) a c
+      → RunsTo step goes from xs mid false a b → RunsPart step goes mid ys b c → RunsPart step goes from (xs ++ ys) a c
   RunsPart-after from mid xs ys a b c earlier later = record {
     tally = together earlier.tally later.tally;
-    cut = BreaksOff-after M step asks from xs ys earlier.tally later.tally mid earlier.run later.cut;
-    advances = Advances-trans a b c earlier.tally later.tally earlier.advances later.advances;
+    cut = BreaksOff-after M step from xs ys earlier.tally later.tally mid earlier.run later.cut;
+    advances = Advances-trans goes a b c earlier.tally later.tally earlier.advances later.advances;
   }
 
   -- lines that broke off, before other lines
-  pub RunsPart-more : (from : M) (xs ys : List RawLine) (a b : Progress) → RunsPart step asks from xs a b
-      → RunsPart step asks from (xs ++ ys) a b
+  pub RunsPart-more : (from : M) (xs ys : List RawLine) (a b : Progress) → RunsPart step goes from xs a b
+      → RunsPart step goes from (xs ++ ys) a b
   RunsPart-more from xs ys a b runs = record {
     tally = runs.tally;
-    cut = BreaksOff-more M step asks from xs ys runs.tally runs.cut;
+    cut = BreaksOff-more M step from xs ys runs.tally runs.cut;
     advances = runs.advances;
   }
 
   -- the same lines
   pub RunsTo-is : (from to : M) (xs ys : List RawLine) (ended : Bool) (a b : Progress) → xs ≡ ys
-      → RunsTo step asks from ys to ended a b → RunsTo step asks from xs to ended a b
-  RunsTo-is from to xs ys ended a b same runs = subst (λ l. RunsTo step asks from l to ended a b) (sym same) runs
+      → RunsTo step goes from ys to ended a b → RunsTo step goes from xs to ended a b
+  RunsTo-is from to xs ys ended a b same runs = subst (λ l. RunsTo step goes from l to ended a b) (sym same) runs
 
   -- the same lines, of which one broke off
-  pub RunsPart-is : (from : M) (xs ys : List RawLine) (a b : Progress) → xs ≡ ys → RunsPart step asks from ys a b
-      → RunsPart step asks from xs a b
-  RunsPart-is from xs ys a b same runs = subst (λ l. RunsPart step asks from l a b) (sym same) runs
+  pub RunsPart-is : (from : M) (xs ys : List RawLine) (a b : Progress) → xs ≡ ys → RunsPart step goes from ys a b
+      → RunsPart step goes from xs a b
+  RunsPart-is from xs ys a b same runs = subst (λ l. RunsPart step goes from l a b) (sym same) runs
 
   -- a flag that says whether the session ended
   pub RunsTo-flag : (from to : M) (lines : List RawLine) (ended flag : Bool) (a b : Progress) → ended ≡ flag
-      → RunsTo step asks from lines to ended a b → RunsTo step asks from lines to flag a b
-  RunsTo-flag from to lines ended flag a b same runs = subst (λ t. RunsTo step asks from lines to t a b) same runs
+      → RunsTo step goes from lines to ended a b → RunsTo step goes from lines to flag a b
+  RunsTo-flag from to lines ended flag a b same runs = subst (λ t. RunsTo step goes from lines to t a b) same runs
 
   -- the line that was taken broke off, so the lines of the rest did
   pub taken_part : (from : M) (held line : RawLine) (rest : List ℕ) (n : ℕ) (a b : Progress)
       → lines_from held (take n rest) ≡ line ∷ [] → held_from held (take n rest) ≡ Line []
-      → RepliesPart step asks from line a b
-      → RunsPart step asks from (lines_from held rest) a b
+      → RepliesPart step goes from line a b
+      → RunsPart step goes from (lines_from held rest) a b
   taken_part from held line rest n a b one none replies =
       let more = lines_from (Line []) (take (length rest - n) (drop n rest)) in
       RunsPart-one from line a b (lines_from held rest) more
@@ -242,19 +244,19 @@ module _ (M : Type 0) (step : M → RawLine → Step M) (asks : M → RawLine �
   -- Of a piece some lines were answered, and those of the rest are left.
   module _ (from mid : M) (held0 held : RawLine) (piece rest : List ℕ) (lines : List RawLine) (a b c : Progress)
       (whole : lines_from held0 piece ≡ lines ++ lines_from held rest)
-      (answered : RunsTo step asks from lines mid false a b) where
+      (answered : RunsTo step goes from lines mid false a b) where
     -- a line of the rest broke off
-    pub piece_part : RunsPart step asks mid (lines_from held rest) b c → RunsPart step asks from
+    pub piece_part : RunsPart step goes mid (lines_from held rest) b c → RunsPart step goes from
         (lines_from held0 piece) a c
     piece_part later = RunsPart-is from _ _ a c whole
         (RunsPart-after from mid lines (lines_from held rest) a b c answered later)
 
     -- n bytes more were taken, and their lines were answered
     module _ (to : M) (held' : RawLine) (n : ℕ) (ended : Bool)
-        (later : RunsTo step asks mid (lines_from held (take n rest)) to ended b c)
+        (later : RunsTo step goes mid (lines_from held (take n rest)) to ended b c)
         (after : held' ≡ held_from held (take n rest)) where
       -- one of them ended the session
-      pub piece_ended : ended ≡ true → RunsTo step asks from (lines_from held0 piece) to true a c
+      pub piece_ended : ended ≡ true → RunsTo step goes from (lines_from held0 piece) to true a c
       piece_ended is =
           let next = lines_from held (take n rest) in
           let more = lines_from held' (take (length rest - n) (drop n rest)) in
@@ -268,7 +270,7 @@ module _ (M : Type 0) (step : M → RawLine → Step M) (asks : M → RawLine �
       pub piece_more : ended ≡ false
           → (done : List RawLine) × (lines_from held0 piece ≡ done ++ lines_from held'
           (take (length rest - n) (drop n rest)))
-          × RunsTo step asks from done to false a c
+          × RunsTo step goes from done to false a c
       piece_more is =
           let next = lines_from held (take n rest) in
           let more = lines_from held' (take (length rest - n) (drop n rest)) in (
@@ -281,14 +283,14 @@ module _ (M : Type 0) (step : M → RawLine → Step M) (asks : M → RawLine �
   -- the last line was answered whole
   pub last_whole : {E : Type 0} (from to : M) (line : RawLine) (lines : List RawLine) (a b : Progress)
       (result : Result Bool E) → lines ≡ line ∷ []
-      → IfOk result (λ ends. Replies step asks from line to ends a b) → IfOk result
-      (λ ends. RunsTo step asks from lines to ends a b)
+      → IfOk result (λ ends. Replies step goes from line to ends a b) → IfOk result
+      (λ ends. RunsTo step goes from lines to ends a b)
   last_whole from to line lines a b (Ok ends) one replies = RunsTo-one from line to ends a b lines one replies
   last_whole from to line lines a b (Err x) one replies = tt
 
   -- the last line broke off
   pub last_part : {T E : Type 0} (from : M) (line : RawLine) (lines : List RawLine) (a b : Progress)
       (result : Result T E) → lines ≡ line ∷ []
-      → OnErr result (RepliesPart step asks from line a b) → OnErr result (RunsPart step asks from lines a b)
+      → OnErr result (RepliesPart step goes from line a b) → OnErr result (RunsPart step goes from lines a b)
   last_part from line lines a b (Ok x) one replies = tt
   last_part from line lines a b (Err x) one replies = RunsPart-one from line a b lines [] one replies

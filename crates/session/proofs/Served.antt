@@ -9,6 +9,8 @@ use Rattle.gtp_rules.specs.Transcript.{GoesOn}
 use Rattle.gtp_rules.proofs.Runs.{Cut-front}
 use Rattle.gtp_lex.specs.Held.{lines_from, held_from, held_line}
 use Rattle.gtp_lex.proofs.HeldLemmas.{lines_from-append, held_from-append, lines_of-lines_from, lines_with_rest-lines_from}
+use Rattle.session.specs.Kept.{Kept}
+use Rattle.session.specs.Turns.{Turn}
 use Rattle.session.specs.Tallies.{Tally, Progress, Advances, IsTallied, no_tally, together}
 use Rattle.session.specs.Serving.{RunsTo, RunsPart}
 use Rattle.session.specs.Ends.{most_taken, Streams, earlier}
@@ -18,22 +20,22 @@ use Rattle.session.specs.declared.outcome.End.TheVariants.{Done, InputFault, Out
 
 -- some bytes were taken and some put, each line that ended was answered, the rest is held, and room bytes may still
 -- be taken
-pub record Served {M : Type 0} (step : M → RawLine → Step M) (asks : M → RawLine → Bool) (first now : M)
+pub record Served {M : Type 0} (step : M → RawLine → Step M) (goes : Kept → Turn M → Kept → Type 0) (first now : M)
     (left_old left_new : Option (List ℕ)) (old new : Progress) (held : RawLine) (room : ℕ) : Type 0 where
   pub taken : List ℕ
-  pub tally : Tally
+  pub tally : Tally M
   pub reads : Consumes left_old left_new taken
-  pub advances : Advances old new tally
-  pub run : IsTallied step asks first (lines_from (Line []) taken) tally now false
+  pub advances : Advances goes old new tally
+  pub run : IsTallied step first (lines_from (Line []) taken) tally now false
   pub held_is : held ≡ held_from (Line []) taken
   pub few : length taken + room ≡ most_taken
 
 -- what was answered of the lines from the front was answered of the lines of the bytes
-tallied_lines : {M : Type 0} (step : M → RawLine → Step M) (asks : M → RawLine → Bool) (taken : List ℕ) (first now : M)
-    (tally : Tally) (ended : Bool) → IsTallied step asks first (lines_from (Line []) taken) tally now ended
-    → IsTallied step asks first (lines_of taken) tally now ended
-tallied_lines step asks taken first now tally ended run =
-    subst (λ l. IsTallied step asks first l tally now ended) (sym (lines_of-lines_from taken)) run
+tallied_lines : {M : Type 0} (step : M → RawLine → Step M) (taken : List ℕ) (first now : M)
+    (tally : Tally M) (ended : Bool) → IsTallied step first (lines_from (Line []) taken) tally now ended
+    → IsTallied step first (lines_of taken) tally now ended
+tallied_lines step taken first now tally ended run =
+    subst (λ l. IsTallied step first l tally now ended) (sym (lines_of-lines_from taken)) run
 
 -- the lines of the bytes taken so far and of a piece more
 lines_of-append : (taken part : List ℕ) (held : RawLine) → held ≡ held_from (Line []) taken
@@ -49,52 +51,54 @@ earlier-append taken part piece len =
     ∙ take_at taken part (length taken) refl
 
 -- before the first byte
-pub served_start : (M : Type 0) (step : M → RawLine → Step M) (asks : M → RawLine → Bool) (m : M) (l : Option (List ℕ))
-    (p : Progress) → Served step asks m m l l p p (Line []) most_taken
-served_start M step asks m l p = record {
+pub served_start : (M : Type 0) (step : M → RawLine → Step M) (goes : Kept → Turn M → Kept → Type 0) (m : M)
+    (l : Option (List ℕ))
+    (p : Progress) → Served step goes m m l l p p (Line []) most_taken
+served_start M step goes m l p = record {
   taken = [];
   tally = no_tally;
   reads = Consumes-nil l;
-  advances = Advances-none p;
-  run = IsTallied-nil M step asks m;
+  advances = Advances-none goes p;
+  run = IsTallied-nil M step m;
   held_is = refl;
   few = refl;
 }
 
 -- The source gave a piece, its lines were answered, and none ended the session.
-pub served_more : (M : Type 0) (step : M → RawLine → Step M) (asks : M → RawLine → Bool) (first now : M)
+pub served_more : (M : Type 0) (step : M → RawLine → Step M) (goes : Kept → Turn M → Kept → Type 0) (first now : M)
     (l0 l1 : Option (List ℕ)) (p0 p1 : Progress) (held : RawLine) (room : ℕ)
-    → Served step asks first now l0 l1 p0 p1 held room → (l2 : Option (List ℕ)) (p2 : Progress) (part : List ℕ)
+    → Served step goes first now l0 l1 p0 p1 held room → (l2 : Option (List ℕ)) (p2 : Progress) (part : List ℕ)
     → Consumes l1 l2 part → (n : ℕ) (new : M) (held' : RawLine) → length part ≡ n → n ≤ room
-    → RunsTo step asks now (lines_from held part) new false p1 p2
-    → held' ≡ held_from held part → Served step asks first new l0 l2 p0 p2 held' (room - n)
-served_more M step asks first now l0 l1 p0 p1 held room s l2 p2 part reads n new held' len within runs is = record {
+    → RunsTo step goes now (lines_from held part) new false p1 p2
+    → held' ≡ held_from held part → Served step goes first new l0 l2 p0 p2 held' (room - n)
+served_more M step goes first now l0 l1 p0 p1 held room s l2 p2 part reads n new held' len within runs is = record {
   taken = s.taken ++ part;
   tally = together s.tally runs.tally;
   reads = Consumes-trans l0 l1 l2 s.taken part s.reads reads;
-  advances = Advances-trans p0 p1 p2 s.tally runs.tally s.advances runs.advances;
+  advances = Advances-trans goes p0 p1 p2 s.tally runs.tally s.advances runs.advances;
   run =
-      subst (λ l. IsTallied step asks first l (together s.tally runs.tally) new false)
+      subst (λ l. IsTallied step first l (together s.tally runs.tally) new false)
       (sym (lines_from-append (Line []) s.taken part ∙ ap (λ h. lines_from (Line []) s.taken ++ lines_from h part)
       (sym s.held_is)))
-      (IsTallied-append M step asks first _ _ s.tally runs.tally now new false s.run runs.run);
+      (IsTallied-append M step first _ _ s.tally runs.tally now new false s.run runs.run);
   held_is = is ∙ ap (λ h. held_from h part) s.held_is ∙ sym (held_from-append (Line []) s.taken part);
   few = let few = s.few in let both = length-append s.taken part in omega (arith, few, both);
 }
 
-module _ (M : Type 0) (step : M → RawLine → Step M) (asks : M → RawLine → Bool) (first now : M) (before : Streams)
+module _ (M : Type 0) (step : M → RawLine → Step M) (goes : Kept → Turn M → Kept → Type 0) (first now : M)
+    (before : Streams)
     (l1 : Option (List ℕ)) (p0 p1 : Progress) (held : RawLine) (room : ℕ)
-    (s : Served step asks first now before.left l1 p0 p1 held room) (opened : before.written ≡ p0.written) where
+    (s : Served step goes first now before.left l1 p0 p1 held room) (opened : before.written ≡ p0.written) where
   -- every line of the bytes so far was answered, and none ended the session
-  tallied : IsTallied step asks first (lines_of s.taken) s.tally now false
-  tallied = tallied_lines step asks s.taken first now s.tally false s.run
+  tallied : IsTallied step first (lines_of s.taken) s.tally now false
+  tallied = tallied_lines step s.taken first now s.tally false s.run
 
   -- so they are in a transcript
   answered : GoesOn step first (lines_of s.taken) s.tally.out
-  answered = (now, IsTallied-run M step asks first (lines_of s.taken) s.tally now false tallied)
+  answered = (now, IsTallied-run M step first (lines_of s.taken) s.tally now false tallied)
 
   -- bytes that were put since the run began
-  put_since : (after : Streams) (p : Progress) (tally : Tally) → p.written ≡ after.written → Advances p0 p tally
+  put_since : (after : Streams) (p : Progress) (tally : Tally M) → p.written ≡ after.written → Advances goes p0 p tally
       → Appends before.written after.written tally.out
   put_since after p tally is advances =
       subst (λ w. Appends w after.written tally.out) (sym opened)
@@ -102,7 +106,7 @@ module _ (M : Type 0) (step : M → RawLine → Step M) (asks : M → RawLine �
 
   -- the source failed
   pub served_fault : (after : Streams) → Keeps l1 after.left → p1.written ≡ after.written → 0 < room
-      → ServesCounting None step asks first before after InputFault p0 p1
+      → ServesCounting None step goes first before after InputFault p0 p1
   served_fault after kept same some = record {
     tally = s.tally;
     serves = record {
@@ -117,7 +121,7 @@ module _ (M : Type 0) (step : M → RawLine → Step M) (asks : M → RawLine �
 
   -- no byte more may be taken
   pub served_too_long : (after : Streams) → l1 ≡ after.left → p1.written ≡ after.written → room ≡ 0
-      → ServesCounting None step asks first before after InputTooLong p0 p1
+      → ServesCounting None step goes first before after InputTooLong p0 p1
   served_too_long after unread unput none = record {
     tally = s.tally;
     serves = record {
@@ -144,13 +148,13 @@ module _ (M : Type 0) (step : M → RawLine → Step M) (asks : M → RawLine �
         (sym s.held_is)
 
     -- the rest was answered as a last line
-    pub served_end : (new : M) (ended : Bool) → 0 < room → RunsTo step asks now (held_line held) new ended p1 p2
-        → ServesCounting None step asks first before after Done p0 p2
+    pub served_end : (new : M) (ended : Bool) → 0 < room → RunsTo step goes now (held_line held) new ended p1 p2
+        → ServesCounting None step goes first before after Done p0 p2
     served_end new ended some runs =
         let tally = together s.tally runs.tally in
-        let both = Advances-trans p0 p1 p2 s.tally runs.tally s.advances runs.advances in
-        let whole = subst (λ l. IsTallied step asks first l tally new ended) (sym with_held)
-        (IsTallied-append M step asks first _ _ s.tally runs.tally now new ended s.run runs.run) in
+        let both = Advances-trans goes p0 p1 p2 s.tally runs.tally s.advances runs.advances in
+        let whole = subst (λ l. IsTallied step first l tally new ended) (sym with_held)
+        (IsTallied-append M step first _ _ s.tally runs.tally now new ended s.run runs.run) in
         record {
           tally = tally;
           serves = record {
@@ -164,7 +168,7 @@ module _ (M : Type 0) (step : M → RawLine → Step M) (asks : M → RawLine �
               transcript = (
                 new,
                 ended,
-                IsTallied-run M step asks first
+                IsTallied-run M step first
                     (lines_with_rest s.taken) tally new ended whole,
               );
               none_ended = (s.tally.out, (runs.tally.out, refl), answered);
@@ -175,15 +179,15 @@ module _ (M : Type 0) (step : M → RawLine → Step M) (asks : M → RawLine �
         }
 
     -- the reply to the rest broke off
-    pub served_cut_end : RunsPart step asks now (held_line held) p1 p2
-        → ServesCounting None step asks first before after OutputFault p0 p2
+    pub served_cut_end : RunsPart step goes now (held_line held) p1 p2
+        → ServesCounting None step goes first before after OutputFault p0 p2
     served_cut_end runs =
         let tally = together s.tally runs.tally in
-        let both = Advances-trans p0 p1 p2 s.tally runs.tally s.advances runs.advances in
-        let off = BreaksOff-is M step asks first _ _ tally with_held
-        (BreaksOff-after M step asks first (lines_from (Line []) s.taken) (held_line held) s.tally runs.tally now s.run
+        let both = Advances-trans goes p0 p1 p2 s.tally runs.tally s.advances runs.advances in
+        let off = BreaksOff-is M step first _ _ tally with_held
+        (BreaksOff-after M step first (lines_from (Line []) s.taken) (held_line held) s.tally runs.tally now s.run
         runs.cut) in
-        let broken = BreaksOff-cut M step asks first _ tally off in
+        let broken = BreaksOff-cut M step first _ tally off in
         let none_later : earlier s.taken after.piece ≡ s.taken =
         ap (λ n. take n s.taken) (omega arith) ∙ take_all (length s.taken) s.taken (omega arith) in
         record {
@@ -218,14 +222,14 @@ module _ (M : Type 0) (step : M → RawLine → Step M) (asks : M → RawLine �
 
     -- one of its lines ended the session
     pub served_ended : (new : M) → length part ≡ after.piece → after.piece ≤ room
-        → RunsTo step asks now (lines_from held part) new true p1 p2
-        → ServesCounting None step asks first before after Done p0 p2
+        → RunsTo step goes now (lines_from held part) new true p1 p2
+        → ServesCounting None step goes first before after Done p0 p2
     served_ended new len within runs =
         let tally = together s.tally runs.tally in
-        let both = Advances-trans p0 p1 p2 s.tally runs.tally s.advances runs.advances in
-        let whole = subst (λ l. IsTallied step asks first l tally new true)
+        let both = Advances-trans goes p0 p1 p2 s.tally runs.tally s.advances runs.advances in
+        let whole = subst (λ l. IsTallied step first l tally new true)
         (sym (lines_of-append s.taken part held s.held_is))
-        (IsTallied-append M step asks first _ _ s.tally runs.tally now new true s.run runs.run) in
+        (IsTallied-append M step first _ _ s.tally runs.tally now new true s.run runs.run) in
         record {
           tally = tally;
           serves = record {
@@ -234,7 +238,7 @@ module _ (M : Type 0) (step : M → RawLine → Step M) (asks : M → RawLine �
             writes = put_since after p2 tally holds both;
             right = inr (record {
               few = let few = s.few in let lens = length-append s.taken part in omega (arith, few, lens);
-              ended = (new, IsTallied-run M step asks first (lines_of (s.taken ++ part)) tally new true whole);
+              ended = (new, IsTallied-run M step first (lines_of (s.taken ++ part)) tally new true whole);
               in_last = (
                 s.tally.out,
                 (runs.tally.out, refl),
@@ -249,20 +253,20 @@ module _ (M : Type 0) (step : M → RawLine → Step M) (asks : M → RawLine �
         }
 
     -- the reply to one of its lines broke off
-    pub served_cut : length part ≡ after.piece → after.piece ≤ room → RunsPart step asks now
+    pub served_cut : length part ≡ after.piece → after.piece ≤ room → RunsPart step goes now
         (lines_from held part) p1 p2
-        → ServesCounting None step asks first before after OutputFault p0 p2
+        → ServesCounting None step goes first before after OutputFault p0 p2
     served_cut len within runs =
         let tally = together s.tally runs.tally in
-        let both = Advances-trans p0 p1 p2 s.tally runs.tally s.advances runs.advances in
+        let both = Advances-trans goes p0 p1 p2 s.tally runs.tally s.advances runs.advances in
         let answered_lines = lines_from (Line []) s.taken in
         let rest = rest_line (rest_of (s.taken ++ part)) in
         let same = lines_of-append s.taken part held s.held_is in
-        let cut = BreaksOff-after M step asks first answered_lines
+        let cut = BreaksOff-after M step first answered_lines
         (lines_from held part) s.tally runs.tally now s.run runs.cut in
-        let off = BreaksOff-is M step asks first _ _ tally (ap (λ l. l ++ rest) same)
-        (BreaksOff-more M step asks first (answered_lines ++ lines_from held part) rest tally cut) in
-        let broken = BreaksOff-cut M step asks first _ tally off in
+        let off = BreaksOff-is M step first _ _ tally (ap (λ l. l ++ rest) same)
+        (BreaksOff-more M step first (answered_lines ++ lines_from held part) rest tally cut) in
+        let broken = BreaksOff-cut M step first _ tally off in
         record {
           tally = tally;
           serves = record {

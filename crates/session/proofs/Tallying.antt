@@ -1,4 +1,4 @@
--- Tallies one after another, and the runs and cuts of a transcript that they are.
+-- Tallies one after another, what is kept along them, and the runs and cuts of a transcript that they are.
 use Rattle.std.specs.Prelude.{min}
 use Rattle.std.proofs.KnownBytes.{Appends-nil, Appends-trans}
 use Rattle.std.proofs.Math.Nat.{min-eq_left, min-eq_right}
@@ -7,32 +7,33 @@ use Rattle.std.proofs.Common.{◌≡◌, ⊎_elim, ℕ, zero, suc, ◌+◌, ◌-
 use Rattle.gtp_rules.specs.Lines.{RawLine}
 use Rattle.gtp_rules.specs.Steps.{Step}
 use Rattle.gtp_rules.specs.Transcript.{Answers, IsRun, Cut}
+use Rattle.session.specs.Kept.{Kept}
+use Rattle.session.specs.Turns.{Turn, IsAlong}
 use Rattle.session.specs.Tallies.{Tally, no_tally, together, tally_of, cut_tally, kept_sum, Progress, Advances, IsTallied, BreaksOff}
 
 -- three tallies, in either grouping
-pub together-assoc : (a b c : Tally) → together (together a b) c ≡ together a (together b c)
+pub together-assoc : {M : Type 0} (a b c : Tally M) → together (together a b) c ≡ together a (together b c)
 together-assoc a b c = λ i. record {
   out = append_assoc a.out b.out c.out i;
   replies = (let same : (a.replies + b.replies) + c.replies ≡ a.replies +
       (b.replies + c.replies) = omega arith in same i);
-  readings = (let same : (a.readings + b.readings) + c.readings ≡ a.readings +
-      (b.readings + c.readings) = omega arith in same i);
+  turns = append_assoc a.turns b.turns c.turns i;
 }
 
 -- a tally and nothing
-pub together-none : (a : Tally) → together a no_tally ≡ a
+pub together-none : {M : Type 0} (a : Tally M) → together a no_tally ≡ a
 together-none a = λ i. record {
   out = append-nil a.out i;
   replies = (let same : a.replies + 0 ≡ a.replies = omega arith in same i);
-  readings = (let same : a.readings + 0 ≡ a.readings = omega arith in same i);
+  turns = append-nil a.turns i;
 }
 
 -- nothing and a tally
-pub none-together : (a : Tally) → together no_tally a ≡ a
+pub none-together : {M : Type 0} (a : Tally M) → together no_tally a ≡ a
 none-together a = λ i. record {
   out = a.out;
   replies = (let same : 0 + a.replies ≡ a.replies = omega arith in same i);
-  readings = (let same : 0 + a.readings ≡ a.readings = omega arith in same i);
+  turns = a.turns;
 }
 
 -- adding to a number that stands still at k, and once more
@@ -58,16 +59,30 @@ kept_sum-is count zero small =
     ∙ min-eq_left (let h : count ≤ 2 ^ 64 - 1 = omega (arith, small) in h)
 kept_sum-is count (suc n) small = refl
 
+-- what is kept goes along lines and then along others
+pub IsAlong-append : {K M : Type 0} (goes : K → Turn M → K → Type 0) (a b c : K) (xs ys : List (Turn M))
+    → IsAlong goes a xs b → IsAlong goes b ys c → IsAlong goes a (xs ++ ys) c
+IsAlong-append goes a b c [] ys none later = subst (λ k. IsAlong goes k ys c) none later
+IsAlong-append goes a b c (x ∷ xs) ys (mid, first, rest) later =
+    (mid, first, IsAlong-append goes mid b c xs ys rest later)
+
+-- what is kept goes along some lines and then along the others
+pub IsAlong-split : {K M : Type 0} (goes : K → Turn M → K → Type 0) (a c : K) (xs ys : List (Turn M))
+    → IsAlong goes a (xs ++ ys) c → (b : K) × IsAlong goes a xs b × IsAlong goes b ys c
+IsAlong-split goes a c [] ys along = (a, refl, along)
+IsAlong-split goes a c (x ∷ xs) ys (mid, first, rest) =
+    let parts = IsAlong-split goes mid c xs ys rest in (parts.0, (mid, first, parts.1), parts.2)
+
 -- nothing was put
-pub Advances-none : (a : Progress) → Advances a a no_tally
-Advances-none a = record { writes = Appends-nil a.written; readings = refl; replies = refl; bytes = refl }
+pub Advances-none : {M : Type 0} (goes : Kept → Turn M → Kept → Type 0) (a : Progress) → Advances goes a a no_tally
+Advances-none goes a = record { writes = Appends-nil a.written; along = refl; replies = refl; bytes = refl }
 
 -- one tally was put and then another
-pub Advances-trans : (a b c : Progress) (s t : Tally) → Advances a b s → Advances b c t → Advances a c (together s t)
-Advances-trans a b c s t earlier later = record {
+pub Advances-trans : {M : Type 0} (goes : Kept → Turn M → Kept → Type 0) (a b c : Progress) (s t : Tally M)
+    → Advances goes a b s → Advances goes b c t → Advances goes a c (together s t)
+Advances-trans goes a b c s t earlier later = record {
   writes = Appends-trans a.written b.written c.written s.out t.out earlier.writes later.writes;
-  readings = later.readings ∙ ap (λ n. kept_sum n t.readings) earlier.readings
-      ∙ kept_sum-twice a.readings s.readings t.readings;
+  along = IsAlong-append goes a.kept b.kept c.kept s.turns t.turns earlier.along later.along;
   replies = later.replies ∙ ap (λ n. kept_sum n t.replies) earlier.replies
       ∙ kept_sum-twice a.replies s.replies t.replies;
   bytes = later.bytes ∙ ap (λ n. kept_sum n (length t.out)) earlier.bytes ∙ kept_sum-twice a.bytes (length s.out)
@@ -75,28 +90,28 @@ Advances-trans a b c s t earlier later = record {
       ∙ ap (kept_sum a.bytes) (sym (length-append s.out t.out));
 }
 
-module _ (M : Type 0) (step : M → RawLine → Step M) (asks : M → RawLine → Bool) where
+module _ (M : Type 0) (step : M → RawLine → Step M) where
   -- no line
-  pub IsTallied-nil : (m : M) → IsTallied step asks m [] no_tally m false
+  pub IsTallied-nil : (m : M) → IsTallied step m [] no_tally m false
   IsTallied-nil m = (refl, refl, refl)
 
   -- one line
   pub IsTallied-one : (old : M) (line : RawLine) (out : List ℕ) (new : M) (ends : Bool)
       → Answers step old line out new ends
-      → IsTallied step asks old (line ∷ []) (tally_of (asks old line) out) new ends
+      → IsTallied step old (line ∷ []) (tally_of old line out) new ends
   IsTallied-one old line out new true a =
-      (out, no_tally, new, true, a, sym (together-none (tally_of (asks old line) out)), (refl, refl, refl))
+      (out, no_tally, new, true, a, sym (together-none (tally_of old line out)), (refl, refl, refl))
   IsTallied-one old line out new false a =
-      (out, no_tally, new, false, a, sym (together-none (tally_of (asks old line) out)), (refl, refl, refl))
+      (out, no_tally, new, false, a, sym (together-none (tally_of old line out)), (refl, refl, refl))
 
   -- lines after lines
-  pub IsTallied-append : (old : M) (xs ys : List RawLine) (a b : Tally) (mid new : M) (ended : Bool)
-      → IsTallied step asks old xs a mid false → IsTallied step asks mid ys b new ended
-      → IsTallied step asks old (xs ++ ys) (together a b) new ended
+  pub IsTallied-append : (old : M) (xs ys : List RawLine) (a b : Tally M) (mid new : M) (ended : Bool)
+      → IsTallied step old xs a mid false → IsTallied step mid ys b new ended
+      → IsTallied step old (xs ++ ys) (together a b) new ended
   IsTallied-append old [] ys a b mid new ended p q =
       let same : together a b ≡ b = ap (λ t. together t b) p.0 ∙ none-together b in
-      subst (λ t. IsTallied step asks old ys t new ended) (sym same)
-      (subst (λ m. IsTallied step asks m ys b new ended) p.1 q)
+      subst (λ t. IsTallied step old ys t new ended) (sym same)
+      (subst (λ m. IsTallied step m ys b new ended) p.1 q)
   IsTallied-append old (x ∷ xs) ys a b mid new ended (first, rest, m, true, answers, joined, h) q =
       absurd (let e = h.2 in cc)
   IsTallied-append old (x ∷ xs) ys a b mid new ended (first, rest, m, false, answers, joined, h) q = (
@@ -105,13 +120,13 @@ module _ (M : Type 0) (step : M → RawLine → Step M) (asks : M → RawLine �
     m,
     false,
     answers,
-    ap (λ t. together t b) joined ∙ together-assoc (tally_of (asks old x) first) rest b,
+    ap (λ t. together t b) joined ∙ together-assoc (tally_of old x first) rest b,
     IsTallied-append m xs ys rest b mid new ended h q,
   )
 
   -- after the line that ends the session nothing is answered
-  pub IsTallied-ended : (old : M) (xs ys : List RawLine) (a : Tally) (new : M) → IsTallied step asks old xs a new true
-      → IsTallied step asks old (xs ++ ys) a new true
+  pub IsTallied-ended : (old : M) (xs ys : List RawLine) (a : Tally M) (new : M) → IsTallied step old xs a new true
+      → IsTallied step old (xs ++ ys) a new true
   IsTallied-ended old [] ys a new p = absurd (let e = p.2 in cc)
   IsTallied-ended old (x ∷ xs) ys a new (first, rest, m, true, answers, joined, h) =
       (first, rest, m, true, answers, joined, h)
@@ -119,18 +134,25 @@ module _ (M : Type 0) (step : M → RawLine → Step M) (asks : M → RawLine �
       (first, rest, m, false, answers, joined, IsTallied-ended m xs ys rest new h)
 
   -- the lines were answered as in a transcript
-  pub IsTallied-run : (old : M) (lines : List RawLine) (tally : Tally) (new : M) (ended : Bool)
-      → IsTallied step asks old lines tally new ended → IsRun step old lines tally.out new ended
-  IsTallied-run old [] tally new ended p = (ap (λ (t : Tally). t.out) p.0, p.1, p.2)
-  IsTallied-run old (x ∷ xs) tally new ended (first, rest, m, true, answers, joined, h) =
-      (first, rest.out, m, true, answers, ap (λ (t : Tally). t.out) joined, (ap (λ (t : Tally). t.out) h.0, h.1, h.2))
+  pub IsTallied-run : (old : M) (lines : List RawLine) (tally : Tally M) (new : M) (ended : Bool)
+      → IsTallied step old lines tally new ended → IsRun step old lines tally.out new ended
+  IsTallied-run old [] tally new ended p = (ap (λ (t : Tally M). t.out) p.0, p.1, p.2)
+  IsTallied-run old (x ∷ xs) tally new ended (first, rest, m, true, answers, joined, h) = (
+    first,
+    rest.out,
+    m,
+    true,
+    answers,
+    ap (λ (t : Tally M). t.out) joined,
+    (ap (λ (t : Tally M). t.out) h.0, h.1, h.2),
+  )
   IsTallied-run old (x ∷ xs) tally new ended (first, rest, m, false, answers, joined, h) =
-      (first, rest.out, m, false, answers, ap (λ (t : Tally). t.out) joined, IsTallied-run m xs rest new ended h)
+      (first, rest.out, m, false, answers, ap (λ (t : Tally M). t.out) joined, IsTallied-run m xs rest new ended h)
 
   -- the first of some lines broke off
   abbrev pub BreaksOff-one : (from : M) (line : RawLine) (more : List RawLine) (part missing : List ℕ) (next : M) (ends : Bool)
       → Answers step from line (part ++ missing) next ends → 0 < length missing
-      → BreaksOff step asks from (line ∷ more) (cut_tally (asks from line) part)
+      → BreaksOff step from (line ∷ more) (cut_tally from line part)
   BreaksOff-one from line more part missing next ends answers proper = record {
     before = [];
     line = line;
@@ -145,13 +167,13 @@ module _ (M : Type 0) (step : M → RawLine → Step M) (asks : M → RawLine �
     answered = IsTallied-nil from;
     reply = answers;
     proper = proper;
-    tallied = sym (none-together (cut_tally (asks from line) part));
+    tallied = sym (none-together (cut_tally from line part));
   }
 
   -- a line broke off in the later lines, after the earlier ones were answered
-  abbrev pub BreaksOff-after : (old : M) (xs ys : List RawLine) (a b : Tally) (mid : M)
-      → IsTallied step asks old xs a mid false
-      → BreaksOff step asks mid ys b → BreaksOff step asks old (xs ++ ys) (together a b)
+  abbrev pub BreaksOff-after : (old : M) (xs ys : List RawLine) (a b : Tally M) (mid : M)
+      → IsTallied step old xs a mid false
+      → BreaksOff step mid ys b → BreaksOff step old (xs ++ ys) (together a b)
   BreaksOff-after old xs ys a b mid run cut = record {
     before = xs ++ cut.before;
     line = cut.line;
@@ -170,8 +192,8 @@ module _ (M : Type 0) (step : M → RawLine → Step M) (asks : M → RawLine �
   }
 
   -- a line broke off in the earlier of some lines
-  abbrev pub BreaksOff-more : (old : M) (xs ys : List RawLine) (a : Tally) → BreaksOff step asks old xs a
-      → BreaksOff step asks old (xs ++ ys) a
+  abbrev pub BreaksOff-more : (old : M) (xs ys : List RawLine) (a : Tally M) → BreaksOff step old xs a
+      → BreaksOff step old (xs ++ ys) a
   BreaksOff-more old xs ys a cut = record {
     before = cut.before;
     line = cut.line;
@@ -190,8 +212,8 @@ module _ (M : Type 0) (step : M → RawLine → Step M) (asks : M → RawLine �
   }
 
   -- the same lines
-  abbrev pub BreaksOff-is : (first : M) (xs ys : List RawLine) (a : Tally) → xs ≡ ys → BreaksOff step asks first ys a
-      → BreaksOff step asks first xs a
+  abbrev pub BreaksOff-is : (first : M) (xs ys : List RawLine) (a : Tally M) → xs ≡ ys → BreaksOff step first ys a
+      → BreaksOff step first xs a
   BreaksOff-is first xs ys a same cut = record {
     before = cut.before;
     line = cut.line;
@@ -210,7 +232,7 @@ module _ (M : Type 0) (step : M → RawLine → Step M) (asks : M → RawLine �
   }
 
   -- what broke off is a cut
-  abbrev pub BreaksOff-cut : (first : M) (lines : List RawLine) (tally : Tally) → BreaksOff step asks first lines tally
+  abbrev pub BreaksOff-cut : (first : M) (lines : List RawLine) (tally : Tally M) → BreaksOff step first lines tally
       → Cut step first lines tally.out
   BreaksOff-cut first lines tally cut = record {
     before = cut.before;
@@ -226,5 +248,5 @@ module _ (M : Type 0) (step : M → RawLine → Step M) (asks : M → RawLine �
     answered = IsTallied-run first cut.before cut.whole cut.mid false cut.answered;
     reply = cut.reply;
     proper = cut.proper;
-    out = ap (λ (t : Tally). t.out) cut.tallied;
+    out = ap (λ (t : Tally M). t.out) cut.tallied;
   }

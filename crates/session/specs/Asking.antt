@@ -1,6 +1,7 @@
 -- What a line asks of the readings, and what the session counts of it.
-use Rattle.std.specs.Prelude.{◌≡◌, ℕ, ◌+◌, ◌-◌, ◌^◌, ◌≤◌, min, Bool, true, Option, Some, None, if◌then◌else◌}
+use Rattle.std.specs.Prelude.{◌≡◌, ℕ, ◌+◌, ◌-◌, ◌^◌, ◌≤◌, min, Option, Some, None, if◌then◌else◌}
 use Rattle.std.specs.Option.{is_some}
+use Rattle.go_rules.specs.Position.{IsPosition}
 use Rattle.gtp_rules.specs.Lines.{RawLine, Line, TooLong}
 use Rattle.gtp_cmd.specs.Commands.{parsed_of}
 use Rattle.gtp_cmd.specs.declared.commands.Command.{Command}
@@ -11,11 +12,11 @@ use Rattle.read_rules.specs.declared.question.Kind.{Kind}
 use Rattle.read_rules.specs.declared.question.Kind.TheVariants.{Attack, Defend}
 use Rattle.read_rules.specs.Answer.{asked_on}
 use Rattle.match_engine.specs.declared.keys.Key.{Key}
-use Rattle.match_engine.specs.Readings.{HasRead}
+use Rattle.match_engine.specs.Readings.{HasRead, AllRest}
 use Rattle.session.specs.Machine.{Machine, position_of}
 use Rattle.session.specs.Kept.{Kept, machine_of}
-use Rattle.session.specs.Counting.{has_stone, counted}
-use Rattle.session.specs.ReadingCommands.{reading_of}
+use Rattle.session.specs.Counting.{has_stone, counted, is_read_line}
+use Rattle.session.specs.Turns.{Turn}
 use Rattle.read_rules.specs.declared.question.Answer.{Answer}
 
 -- what is asked of the readings
@@ -64,12 +65,27 @@ abbrev pub after_trials : ℕ → Option ℕ → ℕ
 after_trials count None = count
 after_trials count (Some n) = min (count + n) (2 ^ 64 - 1)
 
--- One call of the readings was made, for this question. It counts as fresh, with its trial plays, exactly where the readings say so.
+-- the session counts as many refused keepings as its readings
+abbrev pub CountsRefused : Kept → Type 0
+CountsRefused session = session.counts.refused ≡ session.readings.refused
+
+-- One call of the readings was made, for this question. It counts as fresh, with its trial plays, exactly where the
+-- readings say so. The board is a position, and each kept answer rests on its facts.
 pub record ReadsOnce (key : Key) (old new : Kept) : Type 0 where
   pub answer : Answer
   pub read : HasRead key (position_of (machine_of old)) answer old.readings new.readings
+  pub board : IsPosition (position_of (machine_of old))
+  pub rest : AllRest new.readings.kept
+  pub refused_before : CountsRefused old
+  pub refused : CountsRefused new
   pub fresh : new.counts.fresh ≡ counted old.counts.fresh (is_some new.readings.last)
   pub trials : new.counts.trials ≡ after_trials old.counts.trials new.readings.last
+
+-- Any number of readings was made for patterns, none of which counts as that of a line. As many questions may be kept
+-- as before.
+pub record ReadsMany (old new : Kept) : Type 0 where
+  pub counts : KeepsCounts old new
+  pub capacity : new.readings.kept.1 ≡ old.readings.kept.1
 
 -- no reading was made, and what is kept stays
 pub record ReadsNothing (old new : Kept) : Type 0 where
@@ -80,4 +96,11 @@ pub record ReadsNothing (old new : Kept) : Type 0 where
 abbrev pub ReadsAs : Asks → Kept → Kept → Type 0
 ReadsAs Nothing old new = ReadsNothing old new
 ReadsAs (One key) old new = ReadsOnce key old new
-ReadsAs Many old new = KeepsCounts old new
+ReadsAs Many old new = ReadsMany old new
+
+-- A session that keeps old keeps new after a line that came to its machine: the line is counted where it asks for a
+-- reading and is answered with a code, and what it asks was read.
+pub record IsAfterLine (old : Kept) (turn : Turn Machine) (new : Kept) : Type 0 where
+  pub machine : turn.machine ≡ machine_of old
+  pub readings : new.counts.readings ≡ counted old.counts.readings (is_read_line turn.machine turn.line)
+  pub read : ReadsAs (asks_of_line turn.machine turn.line) old new

@@ -1,5 +1,5 @@
 -- What a session counts.
-use Rattle.std.specs.Prelude.{ℕ, ◌+◌, ◌-◌, ◌^◌, min, Bool, false, if◌then◌else◌}
+use Rattle.std.specs.Prelude.{ℕ, ◌+◌, ◌-◌, ◌^◌, min, Bool, false, List, count_by, if◌then◌else◌}
 use Rattle.go_rules.specs.Strings.{cell_at, is_stone}
 use Rattle.gtp_rules.specs.Lines.{RawLine, Line, TooLong}
 use Rattle.gtp_cmd.specs.Commands.{parsed_of}
@@ -8,6 +8,7 @@ use Rattle.gtp_cmd.specs.declared.commands.Command.TheVariants as command
 use Rattle.gtp_cmd.specs.declared.commands.Parsed.{Parsed}
 use Rattle.gtp_cmd.specs.declared.commands.Parsed.TheVariants as parsed
 use Rattle.session.specs.Machine.{Machine, position_of}
+use Rattle.session.specs.Turns.{Turn}
 
 -- a stone stands at the point, so that a question about it is answered with a code
 abbrev pub has_stone : Machine → ℕ → Bool
@@ -28,6 +29,10 @@ is_parsed_read machine _ = false
 unfoldable pub is_read_line : Machine → RawLine → Bool
 is_read_line machine TooLong = false
 is_read_line machine (Line text) = is_parsed_read machine (parsed_of text machine.size)
+
+-- how many of the lines ask for a reading and are answered with a code
+abbrev pub readings_in : List (Turn Machine) → ℕ
+readings_in turns = count_by (λ turn. is_read_line turn.machine turn.line) turns
 
 -- a count after one more, where there is one; it stands still at the greatest value of a u64
 abbrev pub counted : ℕ → Bool → ℕ

@@ -68,23 +68,22 @@ IsRight step first left taken put piece InputTooLong = GoesOn step first (lines_
 IsRight step first left taken put piece OutputFault = IsCutOff step first left taken put piece
 
 -- by its end, which lines were answered, with their tally
-abbrev pub AreTallied : {M : Type 0} → (M → RawLine → Step M) → (M → RawLine → Bool) → M → List ℕ → Tally → End → Type 0
-AreTallied {M} step asks first taken tally Done =
-    ((last : M) × (ended : Bool) × IsTallied step asks first (lines_with_rest taken) tally last ended)
-    ⊎ ((last : M) × IsTallied step asks first (lines_of taken) tally last true)
-AreTallied {M} step asks first taken tally InputFault = (last : M) × IsTallied step asks first
+abbrev pub AreTallied : {M : Type 0} → (M → RawLine → Step M) → M → List ℕ → Tally M → End → Type 0
+AreTallied {M} step first taken tally Done =
+    ((last : M) × (ended : Bool) × IsTallied step first (lines_with_rest taken) tally last ended)
+    ⊎ ((last : M) × IsTallied step first (lines_of taken) tally last true)
+AreTallied {M} step first taken tally InputFault = (last : M) × IsTallied step first
     (lines_of taken) tally last false
-AreTallied {M} step asks first taken tally InputTooLong = (last : M) × IsTallied step asks first
+AreTallied {M} step first taken tally InputTooLong = (last : M) × IsTallied step first
     (lines_of taken) tally last false
-AreTallied step asks first taken tally OutputFault = BreaksOff step asks first (lines_with_rest taken) tally
+AreTallied step first taken tally OutputFault = BreaksOff step first (lines_with_rest taken) tally
 
 -- A run took some bytes from the source and put those of its tally on the output, as its end says. Where the source
 -- tells what it has left and the output what it holds, these are those bytes.
-pub record Serves {M : Type 0} (step : M → RawLine → Step M) (asks : M → RawLine → Bool) (first : M)
-    (before after : Streams)
-    (end : End) (tally : Tally) : Type 0 where
+pub record Serves {M : Type 0} (step : M → RawLine → Step M) (first : M) (before after : Streams) (end : End)
+    (tally : Tally M) : Type 0 where
   pub taken : List ℕ
   pub reads : Consumes before.left after.left taken
   pub writes : Appends before.written after.written tally.out
   pub right : IsRight step first after.left taken tally.out after.piece end
-  pub tallied : AreTallied step asks first taken tally end
+  pub tallied : AreTallied step first taken tally end

@@ -1,14 +1,16 @@
 -- The claim of `run`: by its outcome, what its files are, what it took from its source, put on its output and noted.
-use Rattle.std.specs.Prelude.{◌≡◌, ◌≢◌, ◌⊎◌, ℕ, ◌<◌, ◌≤◌, Bool, true, false, MatchBool, List, length, Option, Some, None, IsSomeAnd, MatchOption, Result, Ok, Err, codes}
+use Rattle.std.specs.Prelude.{◌≡◌, ◌≢◌, ◌⊎◌, ℕ, ◌+◌, ◌<◌, ◌≤◌, Bool, true, false, MatchBool, List, [], length, Option, Some, None, IsSomeAnd, MatchOption, Result, Ok, Err, codes}
 use Rattle.gtp_io.specs.Outside.{Rose}
 use Rattle.gtp_rules.specs.Lines.{RawLine}
 use Rattle.gtp_rules.specs.Steps.{Step}
 use Rattle.pat_types.specs.declared.pattern.Pattern.{Pattern}
 use Rattle.helpers.specs.Asking.{SlotState, says_yes}
-use Rattle.session.specs.Machine.{first_machine}
+use Rattle.session.specs.Machine.{Machine, first_machine}
 use Rattle.session.specs.Matcher.{plain_matcher}
 use Rattle.session.specs.Answering.{step}
-use Rattle.session.specs.Counting.{is_read_line}
+use Rattle.session.specs.Turns.{Turn}
+use Rattle.session.specs.Counting.{readings_in}
+use Rattle.session.specs.CertainHit.{HaveCertainHits}
 use Rattle.session.specs.Tallies.{Tally, kept_sum}
 use Rattle.session.specs.Ends.{Streams, Serves}
 use Rattle.session.specs.Opening.{IsOpened, IsRefused, MissedIn}
@@ -52,30 +54,35 @@ IsUnopened helpers words contents error =
     × IsRefused (helper_names helpers) contents options.files options.states error)
 
 -- Generated lines were served in place of the source, which stays as it was. They are fewer bytes than the longest input.
-pub record ServesGenerated {M : Type 0} (n : ℕ) (step : M → RawLine → Step M) (asks : M → RawLine → Bool) (first : M)
-    (before after : Streams) (end : End) (tally : Tally) : Type 0 where
+pub record ServesGenerated {M : Type 0} (n : ℕ) (step : M → RawLine → Step M) (first : M) (before after : Streams)
+    (end : End) (tally : Tally M) : Type 0 where
   pub left : after.left ≡ before.left
   pub piece : after.piece ≡ before.piece
   pub input_faults : after.input_faults ≡ before.input_faults
-  pub generated : (rest : List ℕ) × (last : ℕ) × Serves step asks first
+  pub generated : (rest : List ℕ) × (last : ℕ) × Serves step first
       (record before { left = Some (generated_text n); piece = 0 })
       (record after { left = Some rest; piece = last }) end tally
   pub not_too_long : end ≢ InputTooLong
 
 -- the lines of the source were served, or where so many lines are to be generated, these
-abbrev pub ServesLines : {M : Type 0} → Option ℕ → (M → RawLine → Step M) → (M → RawLine → Bool) → M → Streams
-    → Streams → End
-    → Tally → Type 0
-ServesLines None step asks first before after end tally = Serves step asks first before after end tally
-ServesLines (Some n) step asks first before after end tally = ServesGenerated n step asks first before after end tally
+abbrev pub ServesLines : {M : Type 0} → Option ℕ → (M → RawLine → Step M) → M → Streams → Streams → End → Tally M
+    → Type 0
+ServesLines None step first before after end tally = Serves step first before after end tally
+ServesLines (Some n) step first before after end tally = ServesGenerated n step first before after end tally
 
--- the counts are told where they are asked for: the readings of the tally, of which no more than all were made afresh
-abbrev pub AreCounts : Bool → Option Counts → Tally → Type 0
-AreCounts asked counts tally = MatchBool asked (IsSomeAnd counts (λ c. (c.readings ≡ kept_sum 0 tally.readings)
-    × (c.fresh ≤ c.readings))) (counts ≡ None)
+-- The counts are those of these lines: each that asks for a reading and is answered with a code is counted, and no more
+-- are fresh. Where no keeping was refused, a certain hit is not fresh: n of them leave only the other readings to be.
+pub record AreCountsOf (turns : List (Turn Machine)) (counts : Counts) : Type 0 where
+  pub readings : counts.readings ≡ readings_in turns
+  pub fresh : counts.fresh ≤ counts.readings
+  pub hits : counts.refused ≡ 0 → (n : ℕ) → HaveCertainHits [] turns n → counts.fresh + n ≤ counts.readings
+
+-- the counts are told where they are asked for: those of the lines of the tally
+abbrev pub AreCounts : Bool → Option Counts → Tally Machine → Type 0
+AreCounts asked counts tally = MatchBool asked (IsSomeAnd counts (AreCountsOf tally.turns)) (counts ≡ None)
 
 -- what was sent is told where lines are generated: the replies of the tally that went out whole, and its bytes
-abbrev pub IsSent : Option ℕ → Option Sent → Tally → Type 0
+abbrev pub IsSent : {M : Type 0} → Option ℕ → Option Sent → Tally M → Type 0
 IsSent generate sent tally = MatchOption generate (sent ≡ None) (λ n. IsSomeAnd sent
     (λ s. (s.lines ≡ kept_sum 0 tally.replies) × (s.bytes ≡ kept_sum 0 (length tally.out))))
 
@@ -86,10 +93,9 @@ pub record IsServed (helpers : List SlotState) (options : Options) (contents : L
     (counts : Option Counts) (sent : Option Sent) : Type 0 where
   pub patterns : List Pattern
   pub opened : IsOpened (helper_names helpers) contents options.files options.states patterns
-  pub tally : Tally
-  pub serves : ServesLines options.generate (step (plain_matcher (says_yes helpers) patterns)) is_read_line
-      (first_machine options.depth options.branch)
-      before after end tally
+  pub tally : Tally Machine
+  pub serves : ServesLines options.generate (step (plain_matcher (says_yes helpers) patterns))
+      (first_machine options.depth options.branch) before after end tally
   pub counted : AreCounts options.stats counts tally
   pub told : IsSent options.generate sent tally
 

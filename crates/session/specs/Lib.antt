@@ -1,4 +1,6 @@
 pub mod Asking
+pub mod Turns
+pub mod CertainHit
 pub mod Machine
 pub mod Matcher
 pub mod BoardText

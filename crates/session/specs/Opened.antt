@@ -1,5 +1,5 @@
 -- The session with which a run begins to serve lines.
-use Rattle.std.specs.Prelude.{◌≡◌, ℕ, Bool, List, Option}
+use Rattle.std.specs.Prelude.{◌≡◌, ℕ, ◌≤◌, List, Option}
 use Rattle.pat_types.specs.declared.pattern.Pattern.{Pattern}
 use Rattle.gtp_lex.specs.Lines.{LinesState, no_line}
 use Rattle.go_options.specs.declared.options.Options.{Options}
@@ -13,6 +13,7 @@ use Rattle.session.specs.Opening.{IsOpened, IsRefused}
 use Rattle.session.specs.Outcomes.{Phase, NotTaken, NotOpened, Served}
 use Rattle.session.specs.Ends.{Streams}
 use Rattle.session.specs.Headline.{ServesLines, IsServed, IsUntouched}
+use Rattle.session.specs.Turns.{Turn}
 use Rattle.session.specs.Tallies.{Tally, Progress, Advances}
 use Rattle.gtp_rules.specs.Lines.{RawLine}
 use Rattle.gtp_rules.specs.Steps.{Step}
@@ -21,11 +22,12 @@ use Rattle.run_notes.specs.declared.notes.Counts.{Counts}
 use Rattle.run_notes.specs.declared.notes.Sent.{Sent}
 
 -- the session is the first machine with these plies and wide plies, its matcher finds the matches of these patterns as
--- the plain one does, by what the helpers say, and it has counted nothing
+-- the plain one does, by what the helpers say, it has counted nothing, and eight questions and more may be kept
 pub record IsPlainWith (advice : Advice) (patterns : List Pattern) (plies wide : ℕ) (session : Kept)
     (matcher : Matcher) : Type 0 where
   pub machine : machine_of session ≡ first_machine plies wide
   pub counts : session.counts ≡ no_counts
+  pub room : 8 ≤ session.readings.kept.1
   pub matches : matcher ≡ plain_matcher advice patterns
 
 -- the files of the options were opened, in which the helpers may be named, the session is plain with their patterns, and
@@ -45,10 +47,10 @@ CameBy helpers options contents before after counts sent (NotOpened error) =
     IsRefused (helper_names helpers) contents options.files options.states error × IsUntouched before after counts sent
 CameBy helpers options contents before after counts sent (Served end) = IsServed helpers options contents before after end counts sent
 
--- the lines were served with a tally, by which the counts rose
+-- the lines were served with a tally, by which the counts rose, and along which what is kept went on
 pub record ServesCounting {M : Type 0} (generate : Option ℕ) (step : M → RawLine → Step M)
-    (asks : M → RawLine → Bool) (first : M)
-    (before after : Streams) (end : End) (old new : Progress) : Type 0 where
-  pub tally : Tally
-  pub serves : ServesLines generate step asks first before after end tally
-  pub advances : Advances old new tally
+    (goes : Kept → Turn M → Kept → Type 0) (first : M) (before after : Streams) (end : End)
+    (old new : Progress) : Type 0 where
+  pub tally : Tally M
+  pub serves : ServesLines generate step first before after end tally
+  pub advances : Advances goes old new tally

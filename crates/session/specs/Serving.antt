@@ -1,5 +1,5 @@
 -- What the loops of a run say of the lines that they answer, of the bytes that they put and of what they count, by any
--- machine M, any step, and any test of the lines that are counted as readings.
+-- machine M, any step, and any relation that says how what is kept goes on with a line.
 use Rattle.std.specs.Prelude.{◌≡◌, ℕ, ◌^◌, ◌<◌, ◌≤◌, Bool, List, ◌++◌, length, Option}
 use Rattle.std.specs.Io.KnownBytes.{Appends}
 use Rattle.gtp_rules.specs.Lines.{RawLine}
@@ -8,6 +8,7 @@ use Rattle.gtp_rules.specs.Transcript.{Answers}
 use Rattle.run_notes.specs.declared.notes.Counts.{Counts}
 use Rattle.run_notes.specs.declared.notes.Sent.{Sent}
 use Rattle.session.specs.Kept.{Kept}
+use Rattle.session.specs.Turns.{Turn}
 use Rattle.session.specs.Tallies.{Tally, Progress, Advances, IsTallied, BreaksOff, tally_of, cut_tally, kept_sum}
 
 -- no more readings were made afresh than were counted, which a u64 counts
@@ -15,10 +16,10 @@ pub record HasFewFresh (counts : Counts) : Type 0 where
   pub few : counts.fresh ≤ counts.readings
   pub small : counts.readings < 2 ^ 64
 
--- how far a run is: what its output holds, what its session counted, and what was sent
+-- how far a run is: what its output holds, what its session keeps, and what was sent
 abbrev pub progress_of : Option (List ℕ) → Kept → Sent → Progress
 progress_of written session sent =
-    record { written = written; readings = session.counts.readings; replies = sent.lines; bytes = sent.bytes }
+    record { written = written; kept = session; replies = sent.lines; bytes = sent.bytes }
 
 -- the bytes were put and counted
 pub record Puts (old new : Option (List ℕ)) (before now : Sent) (bytes : List ℕ) : Type 0 where
@@ -41,34 +42,33 @@ pub record PutsReply (old new : Option (List ℕ)) (before now : Sent) (bytes : 
   pub bytes_sent : now.bytes ≡ kept_sum before.bytes (length bytes)
 
 -- the line was answered, and its reply was put whole
-pub record Replies {M : Type 0} (step : M → RawLine → Step M) (asks : M → RawLine → Bool) (from : M) (line : RawLine)
-    (to : M) (ends : Bool) (old new : Progress) : Type 0 where
+pub record Replies {M : Type 0} (step : M → RawLine → Step M) (goes : Kept → Turn M → Kept → Type 0) (from : M)
+    (line : RawLine) (to : M) (ends : Bool) (old new : Progress) : Type 0 where
   pub reply : List ℕ
   pub answers : Answers step from line reply to ends
-  pub advances : Advances old new (tally_of (asks from line) reply)
+  pub advances : Advances goes old new (tally_of from line reply)
 
 -- the line was answered, and its reply was put in part
-pub record RepliesPart {M : Type 0} (step : M → RawLine → Step M) (asks : M → RawLine → Bool) (from : M)
-    (line : RawLine)
-    (old new : Progress) : Type 0 where
+pub record RepliesPart {M : Type 0} (step : M → RawLine → Step M) (goes : Kept → Turn M → Kept → Type 0) (from : M)
+    (line : RawLine) (old new : Progress) : Type 0 where
   pub part : List ℕ
   pub missing : List ℕ
   pub next : M
   pub ends : Bool
   pub answers : Answers step from line (part ++ missing) next ends
   pub proper : 0 < length missing
-  pub advances : Advances old new (cut_tally (asks from line) part)
+  pub advances : Advances goes old new (cut_tally from line part)
 
 -- the lines were answered, and their replies were put whole
-pub record RunsTo {M : Type 0} (step : M → RawLine → Step M) (asks : M → RawLine → Bool) (from : M)
+pub record RunsTo {M : Type 0} (step : M → RawLine → Step M) (goes : Kept → Turn M → Kept → Type 0) (from : M)
     (lines : List RawLine) (to : M) (ended : Bool) (old new : Progress) : Type 0 where
-  pub tally : Tally
-  pub run : IsTallied step asks from lines tally to ended
-  pub advances : Advances old new tally
+  pub tally : Tally M
+  pub run : IsTallied step from lines tally to ended
+  pub advances : Advances goes old new tally
 
 -- the lines were answered up to one, whose reply was put in part
-pub record RunsPart {M : Type 0} (step : M → RawLine → Step M) (asks : M → RawLine → Bool) (from : M)
+pub record RunsPart {M : Type 0} (step : M → RawLine → Step M) (goes : Kept → Turn M → Kept → Type 0) (from : M)
     (lines : List RawLine) (old new : Progress) : Type 0 where
-  pub tally : Tally
-  pub cut : BreaksOff step asks from lines tally
-  pub advances : Advances old new tally
+  pub tally : Tally M
+  pub cut : BreaksOff step from lines tally
+  pub advances : Advances goes old new tally

@@ -86,6 +86,7 @@ pub(crate) fn matches_text(
         position.now friend)) }
     ensures depths { SameDepths readings.old readings.new }
     ensures refused { readings.old.refused ≤ readings.new.refused }
+    ensures capacity { readings.new.kept.1 ≡ readings.old.kept.1 }
     ensures helpers { without_calls (states_of state helpers.new) ≡ without_calls (states_of state helpers.old) }
 {
     let found = matches(

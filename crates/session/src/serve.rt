@@ -8,13 +8,13 @@ ghost use Rattle.gtp_lex.specs.Held.{lines_from, held_from, held_line};
 ghost use Rattle.gtp_lex.specs.Lines.{no_line};
 ghost use Rattle.gtp_lex.specs.LinesTaken.{taken_of, given_state};
 ghost use Rattle.gtp_lex.specs.Raw.{raw_line};
-ghost use Rattle.session.specs.Counting.{is_read_line};
+ghost use Rattle.session.specs.Asking.{IsAfterLine};
 ghost use Rattle.session.specs.Headline.{IsCauseOf};
 ghost use Rattle.session.specs.Opened.{ServesCounting};
 ghost use Rattle.session.specs.Kept.{machine_of};
 ghost use Rattle.session.specs.Sessions.{matcher_of, step_of};
 ghost use Rattle.session.specs.Tallies.{kept_sum};
-ghost use Rattle.session.specs.Serving.{HasFewFresh, Puts, PutsPart, PutsReply, progress_of, Replies, RepliesPart, RunsTo, RunsPart};
+ghost use Rattle.session.specs.Serving.{Puts, PutsPart, PutsReply, progress_of, Replies, RepliesPart, RunsTo, RunsPart};
 
 use crate::outcome::End;
 use crate::reply::Reply;
@@ -70,16 +70,15 @@ fn answer<K: Sink>(
     output: &mut K,
     sent: &mut Sent,
 ) -> Result<bool, Failed>
-    ensures ok { IfOk result (λ ends. Replies (step_of state session.old) is_read_line (machine_of session.old.engine)
+    ensures ok { IfOk result (λ ends. Replies (step_of state session.old) IsAfterLine (machine_of session.old.engine)
         (raw_line raw.entry)
         (machine_of session.new.engine) ends (progress_of (K.written output.old) session.old.engine sent.old)
         (progress_of (K.written output.new) session.new.engine sent.new)) }
-    ensures part { OnErr result (RepliesPart (step_of state session.old) is_read_line (machine_of session.old.engine)
+    ensures part { OnErr result (RepliesPart (step_of state session.old) IsAfterLine (machine_of session.old.engine)
         (raw_line raw.entry)
         (progress_of (K.written output.old) session.old.engine sent.old)
         (progress_of (K.written output.new) session.new.engine sent.new)) }
     ensures same { matcher_of state session.new ≡ matcher_of state session.old }
-    ensures few_fresh { HasFewFresh session.old.engine.counts → HasFewFresh session.new.engine.counts }
     ensures cause { IsCounted (K.faults output.old) (K.faults output.new) result }
 {
     match session.line(raw) {
@@ -113,15 +112,14 @@ fn answer_taken<K: Sink>(
 ) -> Result<bool, Failed>
     requires { (held : RawLine) × (lines.now ≡ given_state held) × (taken ≡ taken_of held) }
     ensures ok { (held : RawLine) → lines.now ≡ given_state held → taken ≡ taken_of held → IfOk result
-        (λ ends. Replies (step_of state session.old) is_read_line (machine_of session.old.engine) held
+        (λ ends. Replies (step_of state session.old) IsAfterLine (machine_of session.old.engine) held
         (machine_of session.new.engine) ends (progress_of (K.written output.old) session.old.engine sent.old)
         (progress_of (K.written output.new) session.new.engine sent.new)) }
     ensures part { (held : RawLine) → lines.now ≡ given_state held → taken ≡ taken_of held → OnErr result
-        (RepliesPart (step_of state session.old) is_read_line (machine_of session.old.engine) held
+        (RepliesPart (step_of state session.old) IsAfterLine (machine_of session.old.engine) held
         (progress_of (K.written output.old) session.old.engine sent.old)
         (progress_of (K.written output.new) session.new.engine sent.new)) }
     ensures same { matcher_of state session.new ≡ matcher_of state session.old }
-    ensures few_fresh { HasFewFresh session.old.engine.counts → HasFewFresh session.new.engine.counts }
     ensures cause { IsCounted (K.faults output.old) (K.faults output.new) result }
 {
     match taken {
@@ -141,18 +139,17 @@ fn answer_next<K: Sink>(
 ) -> Result<(usize, bool), Failed>
     requires { lines.old.waits ≡ false }
     ensures bound { IfOk result (λ turn. (turn.0 ≤ length rest.now) × (0 < length rest.now → 0 < turn.0)) }
-    ensures ok { IfOk result (λ turn. RunsTo (step_of state session.old) is_read_line (machine_of session.old.engine)
+    ensures ok { IfOk result (λ turn. RunsTo (step_of state session.old) IsAfterLine (machine_of session.old.engine)
         (lines_from lines.old.held (take turn.0 rest.now)) (machine_of session.new.engine) turn.1
         (progress_of (K.written output.old) session.old.engine sent.old)
         (progress_of (K.written output.new) session.new.engine sent.new)) }
     ensures held { IfOk result (λ turn. (lines.new.held ≡ held_from lines.old.held (take turn.0 rest.now))
         × (lines.new.waits ≡ false)) }
-    ensures part { OnErr result (RunsPart (step_of state session.old) is_read_line (machine_of session.old.engine)
+    ensures part { OnErr result (RunsPart (step_of state session.old) IsAfterLine (machine_of session.old.engine)
         (lines_from lines.old.held rest.now)
         (progress_of (K.written output.old) session.old.engine sent.old)
         (progress_of (K.written output.new) session.new.engine sent.new)) }
     ensures same { matcher_of state session.new ≡ matcher_of state session.old }
-    ensures few_fresh { HasFewFresh session.old.engine.counts → HasFewFresh session.new.engine.counts }
     ensures cause { IsCounted (K.faults output.old) (K.faults output.new) result }
 {
     let count = lines.feed(rest);
@@ -174,18 +171,17 @@ fn answer_piece<K: Sink>(
     sent: &mut Sent,
 ) -> Result<bool, Failed>
     requires { lines.old.waits ≡ false }
-    ensures ok { IfOk result (λ ended. RunsTo (step_of state session.old) is_read_line (machine_of session.old.engine)
+    ensures ok { IfOk result (λ ended. RunsTo (step_of state session.old) IsAfterLine (machine_of session.old.engine)
         (lines_from lines.old.held piece.now)
         (machine_of session.new.engine) ended (progress_of (K.written output.old) session.old.engine sent.old)
         (progress_of (K.written output.new) session.new.engine sent.new)) }
     ensures held { IfOk result (λ ended. ended ≡ false →
         (lines.new.held ≡ held_from lines.old.held piece.now) × (lines.new.waits ≡ false)) }
-    ensures part { OnErr result (RunsPart (step_of state session.old) is_read_line (machine_of session.old.engine)
+    ensures part { OnErr result (RunsPart (step_of state session.old) IsAfterLine (machine_of session.old.engine)
         (lines_from lines.old.held piece.now)
         (progress_of (K.written output.old) session.old.engine sent.old)
         (progress_of (K.written output.new) session.new.engine sent.new)) }
     ensures same { matcher_of state session.new ≡ matcher_of state session.old }
-    ensures few_fresh { HasFewFresh session.old.engine.counts → HasFewFresh session.new.engine.counts }
     ensures cause { IsCounted (K.faults output.old) (K.faults output.new) result }
 {
     let mut rest = piece;
@@ -207,15 +203,14 @@ fn answer_rest<K: Sink>(
     sent: &mut Sent,
 ) -> Result<bool, Failed>
     requires { lines.old.waits ≡ false }
-    ensures ok { IfOk result (λ ended. RunsTo (step_of state session.old) is_read_line (machine_of session.old.engine)
+    ensures ok { IfOk result (λ ended. RunsTo (step_of state session.old) IsAfterLine (machine_of session.old.engine)
         (held_line lines.old.held)
         (machine_of session.new.engine) ended (progress_of (K.written output.old) session.old.engine sent.old)
         (progress_of (K.written output.new) session.new.engine sent.new)) }
-    ensures part { OnErr result (RunsPart (step_of state session.old) is_read_line (machine_of session.old.engine)
+    ensures part { OnErr result (RunsPart (step_of state session.old) IsAfterLine (machine_of session.old.engine)
         (held_line lines.old.held)
         (progress_of (K.written output.old) session.old.engine sent.old)
         (progress_of (K.written output.new) session.new.engine sent.new)) }
-    ensures few_fresh { HasFewFresh session.old.engine.counts → HasFewFresh session.new.engine.counts }
     ensures cause { IsCounted (K.faults output.old) (K.faults output.new) result }
 {
     match lines.finish() {
@@ -247,7 +242,7 @@ pub(crate) fn serve<S: Source, K: Sink>(
     sent: &mut Sent,
 ) -> End
     requires { lines.old ≡ no_line }
-    ensures serves { ServesCounting None (step_of state session.old) is_read_line (machine_of session.old.engine)
+    ensures serves { ServesCounting None (step_of state session.old) IsAfterLine (machine_of session.old.engine)
         (record {
           left = S.left input.old;
           piece = S.piece input.old;
@@ -264,7 +259,6 @@ pub(crate) fn serve<S: Source, K: Sink>(
         }) result
         (progress_of (K.written output.old) session.old.engine sent.old)
         (progress_of (K.written output.new) session.new.engine sent.new) }
-    ensures few_fresh { HasFewFresh session.old.engine.counts → HasFewFresh session.new.engine.counts }
     ensures input { IsCauseOf (result ≡ End.InputFault) (S.faults input.old) (S.faults input.new) }
     ensures output { IsCauseOf (result ≡ End.OutputFault) (K.faults output.old) (K.faults output.new) }
 {

@@ -2,9 +2,9 @@
 ghost use Rattle.std.specs.Prelude.{◌≡◌, ◌↔◌, MatchOption, Option, None, Some, ℕ, if◌then◌else◌, option_map, map, string_bytes};
 ghost use Rattle.session.specs.Headline.{Came, IsCauseOf, MissedAfter, Runs, RunsHad, files_in};
 ghost use Rattle.session.specs.Opened.{CameBy, ServesCounting};
-ghost use Rattle.session.specs.Serving.{HasFewFresh, progress_of};
+ghost use Rattle.session.specs.Serving.{progress_of};
 ghost use Rattle.go_options.specs.Found.{AreInRange, IsFrom};
-ghost use Rattle.session.specs.Counting.{is_read_line};
+ghost use Rattle.session.specs.Asking.{IsAfterLine};
 ghost use Rattle.session.specs.Kept.{machine_of};
 ghost use Rattle.session.specs.Sessions.{step_of};
 ghost use Rattle.helpers.specs.Slots.{states_of};
@@ -72,7 +72,8 @@ fn serve_lines<S: Source, K: Sink>(
 ) -> End
     requires none { opened.old.lines ≡ no_line }
     requires few { MatchOption generate (Unit {0}) (IsFrom 1 100000) }
-    ensures serves { ServesCounting generate (step_of state opened.old.session) is_read_line (machine_of opened.old.session.engine)
+    ensures serves { ServesCounting generate (step_of state opened.old.session) IsAfterLine
+        (machine_of opened.old.session.engine)
         (record {
           left = S.left input.old;
           piece = S.piece input.old;
@@ -89,7 +90,6 @@ fn serve_lines<S: Source, K: Sink>(
         }) result
         (progress_of (K.written output.old) opened.old.session.engine sent.old)
         (progress_of (K.written output.new) opened.new.session.engine sent.new) }
-    ensures few_fresh { HasFewFresh opened.old.session.engine.counts → HasFewFresh opened.new.session.engine.counts }
     ensures input { IsCauseOf (result ≡ End.InputFault) (S.faults input.old) (S.faults input.new) }
     ensures output { IsCauseOf (result ≡ End.OutputFault) (K.faults output.old) (K.faults output.new) }
 {

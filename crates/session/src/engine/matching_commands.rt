@@ -8,7 +8,7 @@ ghost use Rattle.session.specs.Effects.{Grown};
 ghost use Rattle.session.specs.MatchingCommands.{matches_listed};
 ghost use Rattle.session.specs.PatternTexts.{patterns_text};
 ghost use Rattle.session.specs.Answers.{IsAnswer};
-ghost use Rattle.session.specs.Asking.{KeepsCounts};
+ghost use Rattle.session.specs.Asking.{ReadsMany};
 
 use crate::answer::{Answer, grown};
 use crate::engine::Engine;
@@ -24,7 +24,7 @@ impl Engine {
             result (machine_of self.new) }
         ensures patterns { self.new.patterns ≡ self.old.patterns }
         ensures same { self.new.automaton ≡ self.old.automaton }
-        ensures counts { KeepsCounts self.old self.new }
+        ensures read { ReadsMany self.old self.new }
         ensures helpers { without_calls (states_of state helpers.new) ≡ without_calls (states_of state helpers.old) }
     {
         let position = self.position();

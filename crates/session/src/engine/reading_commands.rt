@@ -5,7 +5,7 @@ ghost use Rattle.session.specs.ReadingCommands.{read, deepened};
 ghost use Rattle.gtp_cmd.specs.Within.{AreDepths};
 ghost use Rattle.session.specs.Answers.{IsAnswer};
 ghost use Rattle.session.specs.Counting.{counted, has_stone};
-ghost use Rattle.session.specs.Asking.{ReadsAs, asks_at, after_trials};
+ghost use Rattle.session.specs.Asking.{ReadsAs, CountsRefused, asks_at, after_trials};
 
 use crate::answer::{Answer, told};
 use crate::engine::Engine;
@@ -26,6 +26,7 @@ impl Engine {
         ensures fresh { self.new.counts.fresh ≡ counted self.old.counts.fresh (is_some tried) }
         ensures trials { self.new.counts.trials ≡ after_trials self.old.counts.trials tried }
         ensures kept { self.new.readings ≡ self.old.readings }
+        ensures refused { CountsRefused self.new }
     {
         self.counts.readings = self.counts.readings.saturating_add(1);
         if let Some(trials) = tried {

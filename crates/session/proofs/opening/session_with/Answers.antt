@@ -26,4 +26,4 @@ returns-clause-ok g c =
     (matcher_with (says_yes (states_of (λ z. (goal.Helper-dyn g z).state z.1) h)) session.engine))
     (sym c.in_ok-new.ensures.helpers)
     (subst (λ k. IsPlainWith advice patterns plies wide k (matcher_with advice k)) (sym c.in_ok-new.ensures.engine)
-    (plain-first advice patterns rows plies wide c.args.options.now.cache accepts))
+    (plain-first advice patterns rows plies wide c.args.options.now.cache c.requires.ranges.cache.0 accepts))

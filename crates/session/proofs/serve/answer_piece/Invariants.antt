@@ -1,22 +1,22 @@
 use Rattle.std.proofs.Common.{◌≡◌, List, ◌++◌, length, false}
 use Rattle.gtp_rules.specs.Lines.{RawLine}
 use Rattle.gtp_lex.specs.Held.{lines_from, held_from}
-use Rattle.session.specs.Counting.{is_read_line}
+use Rattle.session.specs.Asking.{IsAfterLine}
 use Rattle.session.specs.Kept.{machine_of}
 use Rattle.session.specs.Sessions.{matcher_of, step_of}
-use Rattle.session.specs.Serving.{HasFewFresh, RunsTo, progress_of}
+use Rattle.session.specs.Serving.{RunsTo, progress_of}
 use Rattle.session.proofs.serve.answer_piece.Given as goal
 
 -- some of the piece's lines were answered, and those of the rest are left
 abbrev pub invariant-loop-rest : goal.invariant-loop-rest
 invariant-loop-rest g l = record {
   answered : (lines : List RawLine) × (lines_from l.fn.lines.held l.fn.piece ≡ lines ++ lines_from l.lines.held l.rest)
-      × RunsTo (step_of (λ z. (goal.Helper-dyn g z).state z.1) l.fn.session) is_read_line (machine_of l.fn.session.engine) lines (machine_of l.session.engine) false
+      × RunsTo (step_of (λ z. (goal.Helper-dyn g z).state z.1) l.fn.session) IsAfterLine
+      (machine_of l.fn.session.engine) lines (machine_of l.session.engine) false
       (progress_of (g.K.Sink.written l.fn.output) l.fn.session.engine l.fn.sent)
       (progress_of (g.K.Sink.written l.output) l.session.engine l.sent);
   held : held_from l.fn.lines.held l.fn.piece ≡ held_from l.lines.held l.rest;
   same : matcher_of (λ z. (goal.Helper-dyn g z).state z.1) l.session ≡ matcher_of (λ z. (goal.Helper-dyn g z).state z.1) l.fn.session;
-  few_fresh : HasFewFresh l.fn.session.engine.counts → HasFewFresh l.session.engine.counts;
   open_ended : l.lines.waits ≡ false;
   faults : g.K.Sink.faults l.output ≡ g.K.Sink.faults l.fn.output;
 }

@@ -1,20 +1,20 @@
 use Rattle.std.proofs.Common.{◌≡◌, length, false}
-use Rattle.session.specs.Counting.{is_read_line}
+use Rattle.session.specs.Asking.{IsAfterLine}
 use Rattle.session.specs.Kept.{machine_of}
 use Rattle.session.specs.Sessions.{matcher_of, step_of}
-use Rattle.session.specs.Serving.{HasFewFresh, progress_of}
+use Rattle.session.specs.Serving.{progress_of}
 use Rattle.session.proofs.Served.{Served}
 use Rattle.session.proofs.serve.serve.Given as goal
 
 -- the lines of the bytes taken so far were answered up to the one that is held, and nothing failed
 abbrev pub invariant-loop-room : goal.invariant-loop-room
 invariant-loop-room g l = record {
-  served : Served (step_of (λ z. (goal.Helper-dyn g z).state z.1) l.fn.session) is_read_line (machine_of l.fn.session.engine) (machine_of l.session.engine)
+  served : Served (step_of (λ z. (goal.Helper-dyn g z).state z.1) l.fn.session) IsAfterLine
+      (machine_of l.fn.session.engine) (machine_of l.session.engine)
       (g.S.Source.left l.fn.input) (g.S.Source.left l.input)
       (progress_of (g.K.Sink.written l.fn.output) l.fn.session.engine l.fn.sent)
       (progress_of (g.K.Sink.written l.output) l.session.engine l.sent) l.lines.held l.room;
   same : matcher_of (λ z. (goal.Helper-dyn g z).state z.1) l.session ≡ matcher_of (λ z. (goal.Helper-dyn g z).state z.1) l.fn.session;
-  few_fresh : HasFewFresh l.fn.session.engine.counts → HasFewFresh l.session.engine.counts;
   open_ended : l.lines.waits ≡ false;
   buffer : length l.buf ≡ 4096;
   input_faults : g.S.Source.faults l.input ≡ g.S.Source.faults l.fn.input;

@@ -11,6 +11,6 @@ returns-clause-came g c =
     let served = c.serve_lines-end in
     came-served _ _ options c.in-Ok.opened.session.engine served.new.opened.session.engine _ c.in-Ok.opened.lines _ _ served.result _ _
     served.new.sent c.served.result.counts c.served.result.sent (phase_of c.served.result.outcome) c.in-Ok.ensures.ok
-    served.ensures.serves served.ensures.few_fresh
+    served.ensures.serves
     (c.served.ensures.counts ∙ ap (λ (k : Counts). cond options.stats (Some k) None) c.stats.ensures)
     c.served.ensures.sent c.served.ensures.phase

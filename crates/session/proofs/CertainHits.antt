@@ -1,0 +1,210 @@
+-- No certain hit is fresh: what was read at an earlier line is still kept, and its facts still hold.
+use Rattle.std.proofs.Common.{◌≡◌, ℕ, suc, ◌+◌, ◌^◌, ◌<◌, ◌≤◌, Bool, true, false, cond, List, [], ◌∷◌, ◌++◌, length, Option, refl, sym, ap, subst, ◌∙◌, arith, inl, inr}
+use Rattle.std.specs.Option.{is_some}
+use Rattle.std.proofs.lemmas.List.Sums.{sum_by-cons}
+use Rattle.go_rules.specs.Position.{BoardState}
+use Rattle.read_rules.specs.ActiveArea.{InActiveArea, AgreeOn}
+use Rattle.gtp_cmd.specs.declared.commands.CommandName.{CommandName}
+use Rattle.run_notes.specs.declared.notes.Counts.{Counts}
+use Rattle.match_engine.specs.declared.keys.Key.{Key}
+use Rattle.match_engine.specs.Readings.{KeptReadings}
+use Rattle.match_engine.proofs.Again.{IsAtHand, IsAtHand-first, IsAtHand-later, IsAtHand-kept, HasRead-capacity, HasRead-refused}
+use Rattle.session.specs.Machine.{Machine, position_of}
+use Rattle.session.specs.Kept.{Kept, machine_of}
+use Rattle.session.specs.Counting.{counted, is_read_line}
+use Rattle.session.specs.Asking.{Asks, Nothing, One, Many, ReadsAs, ReadsOnce, IsAfterLine, asks_of_line}
+use Rattle.session.specs.Turns.{Turn, IsAlong}
+use Rattle.session.specs.CertainHit.{IsCertainHit, HaveCertainHits, board_at, is_reading, is_matching, named_in, reading_lines, matching_lines}
+use Rattle.session.proofs.Named.{Fits, Fits-line, is_read_line-one}
+use Rattle.session.proofs.Tallying.{IsAlong-append, IsAlong-split}
+
+-- how many questions may be kept
+abbrev room_of : Kept → ℕ
+room_of session = session.readings.kept.1
+
+-- 1 where a test is passed
+abbrev one_if : Bool → ℕ
+one_if passes = cond passes 1 0
+
+-- a count of nothing
+none_passes : (passes : Bool) (rest : ℕ) → one_if passes + rest ≡ 0 → (passes ≡ false) × (rest ≡ 0)
+none_passes true rest none = absurd (let some : 1 + rest ≡ 0 = none in omega arith)
+none_passes false rest none = (refl, (let same : 0 + rest ≡ 0 = none in omega arith))
+
+module _ (old new : Kept) where
+  -- where no refused keeping is counted after a line, none was before it
+  unrefused : (asks : Asks) → ReadsAs asks old new → new.counts.refused ≡ 0 → old.counts.refused ≡ 0
+  unrefused Nothing read none = sym (ap (λ (c : Counts). c.refused) read.counts) ∙ none
+  unrefused (One key) read none =
+      read.refused_before ∙ HasRead-refused key
+      (position_of (machine_of old)) read.answer old.readings new.readings read.read
+      (sym read.refused ∙ none)
+  unrefused Many read none = let fewer = read.counts.refused in omega (arith, fewer, none)
+
+  -- as many questions may be kept after a line as before it
+  same_room : (asks : Asks) → ReadsAs asks old new → room_of new ≡ room_of old
+  same_room Nothing read = ap (λ (k : KeptReadings). k.1) read.kept
+  same_room (One key) read =
+      HasRead-capacity key (position_of (machine_of old)) read.answer old.readings new.readings read.read
+  same_room Many read = read.capacity
+
+  -- a line that is no `match_patterns` moves what is at hand back by one place at most, and only an `attack` or
+  -- `defend` does
+  still_at_hand : (key : Key) (pos : BoardState) (n : ℕ) (asks : Asks) (name : Option CommandName)
+      → ReadsAs asks old new → Fits asks name
+      → is_matching name ≡ false → new.counts.refused ≡ 0 → n + one_if (is_reading name) ≤ 4 → 8 ≤ room_of old
+      → IsAtHand key pos n old.readings.kept
+      → (m : ℕ) × (m ≤ n + one_if (is_reading name)) × IsAtHand key pos m new.readings.kept
+  still_at_hand key pos n Nothing name read fits apart none few room hand =
+      (n, omega arith, subst (IsAtHand key pos n) (sym read.kept) hand)
+  still_at_hand key pos n (One other) name read fits apart none few room hand =
+      let one : one_if (is_reading name) ≡ 1 = ap one_if fits in (
+        suc n,
+        omega (arith, one),
+        IsAtHand-later key pos n other (position_of (machine_of old)) read.answer old.readings new.readings read.read
+            (sym read.refused ∙ none) (omega (arith, one, few)) room hand,
+      )
+  still_at_hand key pos n Many name read fits apart none few room hand =
+      absurd (let both : true ≡ false = sym fits ∙ apart in cc)
+
+-- where no refused keeping is counted after some lines, none was before them
+unrefused_along : (turns : List (Turn Machine)) (a b : Kept) → IsAlong IsAfterLine a turns b → b.counts.refused ≡ 0
+    → a.counts.refused ≡ 0
+unrefused_along [] a b along none = subst (λ (k : Kept). k.counts.refused ≡ 0) along none
+unrefused_along (turn ∷ turns) a b (mid, first, rest) none =
+    unrefused a mid (asks_of_line turn.machine turn.line) first.read (unrefused_along turns mid b rest none)
+
+-- as many questions may be kept after some lines as before them
+same_room_along : (turns : List (Turn Machine)) (a b : Kept) → IsAlong IsAfterLine a turns b → room_of b ≡ room_of a
+same_room_along [] a b along = ap room_of along
+same_room_along (turn ∷ turns) a b (mid, first, rest) =
+    same_room_along turns mid b rest ∙ same_room a mid (asks_of_line turn.machine turn.line) first.read
+
+-- a line names no `match_patterns`, and so do those after it
+matching_lines-cons : (turn : Turn Machine) (turns : List (Turn Machine)) → matching_lines (turn ∷ turns) ≡ 0
+    → (is_matching (named_in turn.line) ≡ false) × (matching_lines turns ≡ 0)
+matching_lines-cons turn turns none =
+    none_passes (is_matching (named_in turn.line)) (matching_lines turns)
+    (sym (sum_by-cons (λ (t : Turn Machine). cond (is_matching (named_in t.line)) 1 0) turn turns) ∙ none)
+
+-- an `attack` or `defend` line, and those after it
+reading_lines-cons : (turn : Turn Machine) (turns : List (Turn Machine))
+    → reading_lines (turn ∷ turns) ≡ one_if (is_reading (named_in turn.line)) + reading_lines turns
+reading_lines-cons turn turns = sum_by-cons (λ (t : Turn Machine). cond (is_reading (named_in t.line)) 1 0) turn turns
+
+-- so what is at hand stays so along few `attack` and `defend` lines and no `match_patterns` line
+at_hand_along : (key : Key) (pos : BoardState) (turns : List (Turn Machine)) (n : ℕ) (a b : Kept)
+    → IsAlong IsAfterLine a turns b
+    → b.counts.refused ≡ 0 → 8 ≤ room_of a → matching_lines turns ≡ 0 → n + reading_lines turns ≤ 4
+    → IsAtHand key pos n a.readings.kept
+    → (m : ℕ) × IsAtHand key pos m b.readings.kept
+at_hand_along key pos [] n a b along none room apart few hand =
+    (n, subst (λ (k : Kept). IsAtHand key pos n k.readings.kept) (sym along) hand)
+at_hand_along key pos (turn ∷ turns) n a b (mid, first, rest) none room apart few hand =
+    let here = matching_lines-cons turn turns apart in
+    let count = reading_lines-cons turn turns in
+    let asks = asks_of_line turn.machine turn.line in
+    let later = still_at_hand a mid key pos n asks (named_in turn.line) first.read
+    (Fits-line turn.machine turn.line) here.0
+    (unrefused_along turns mid b rest none) (omega (arith, few, count)) room hand in
+    at_hand_along key pos turns later.0 mid b rest none (omega (arith, room, same_room a mid asks first.read)) here.1
+    (omega (arith, few, count, later.1)) later.2
+
+-- what is asked of two machines that are one
+module _ (k0 k new : Kept) (before : List (Turn Machine)) (now : Turn Machine) (along : IsAlong IsAfterLine k0 before k)
+    (line : IsAfterLine k now new) (none : new.counts.refused ≡ 0) (room : 8 ≤ room_of k0) where
+  -- a certain hit is not fresh
+  pub hit_is_kept : IsCertainHit before now → new.counts.fresh ≡ k.counts.fresh
+  hit_is_kept hit =
+      let key : Key = record { question = hit.question } in
+      let parts = IsAlong-split IsAfterLine k0 k hit.first (hit.earlier ∷ hit.between)
+      (subst (λ ts. IsAlong IsAfterLine k0 ts k) hit.place along) in
+      let a = parts.0 in
+      let b = parts.2.0 in
+      let read : ReadsOnce key a b = subst (λ asks. ReadsAs asks a b) hit.asked parts.2.1.read in
+      let again : ReadsOnce key k new = subst (λ asks. ReadsAs asks k new) hit.again line.read in
+      let unrefused_now : k.counts.refused ≡ 0 = unrefused k new (asks_of_line now.machine now.line) line.read none in
+      let unrefused_then : b.counts.refused ≡ 0 = unrefused_along hit.between b k parts.2.2 unrefused_now in
+      let there = position_of (machine_of a) in
+      let hand = IsAtHand-first key there read.answer a.readings b.readings read.read read.rest
+      (sym read.refused ∙ unrefused_then) in
+      let rooms : 8 ≤ room_of b =
+      (let same = same_room a b (One key) read in let earlier = same_room_along hit.first k0 a parts.1 in
+      omega (arith, room, same, earlier)) in
+      let few = hit.few in
+      let kept = at_hand_along key there hit.between 1 b k parts.2.2 unrefused_now rooms hit.no_matching
+      (omega (arith, few)) hand in
+      let moved : AgreeOn (InActiveArea hit.question there) there (position_of (machine_of k)) =
+      subst (λ (m : Machine). AgreeOn (InActiveArea hit.question (position_of m)) (position_of m)
+      (position_of (machine_of k))) parts.2.1.machine
+      (subst (λ (m : Machine). AgreeOn (InActiveArea hit.question (board_at hit.earlier)) (board_at hit.earlier)
+      (position_of m)) line.machine hit.agree) in
+      let last = IsAtHand-kept key there kept.0
+      (position_of (machine_of k)) again.answer k.readings new.readings kept.1 again.board moved again.read in
+      again.fresh ∙ ap (λ (o : Option ℕ). counted k.counts.fresh (is_some o)) last
+
+  -- and is counted
+  pub hit_is_counted : IsCertainHit before now → new.counts.readings ≡ counted k.counts.readings true
+  hit_is_counted hit =
+      line.readings ∙ ap (counted k.counts.readings)
+      (is_read_line-one now.machine now.line (record { question = hit.question }) hit.again)
+
+-- A line that is counted may be fresh; no other is.
+module _ (old new : Kept) (m : ℕ) where
+  -- by what is asked
+  gap_by : (asks : Asks) (counts : Bool) → ((key : Key) → asks ≡ One key → counts ≡ true) → ReadsAs asks old new
+      → new.counts.readings ≡ counted old.counts.readings counts → old.counts.readings + 1 < 2 ^ 64
+      → old.counts.fresh + m ≤ old.counts.readings → (new.counts.fresh + m ≤ new.counts.readings)
+      × (new.counts.readings ≤ old.counts.readings + 1)
+  gap_by Nothing counts one read readings small gap =
+      let fresh = ap (λ (c : Counts). c.fresh) read.counts in
+      let same = ap (λ (c : Counts). c.readings) read.counts in
+      (omega (arith, fresh, same, gap), omega (arith, same))
+  gap_by (One key) counts one read readings small gap =
+      let more : new.counts.readings ≡ old.counts.readings + 1 =
+      (let is = readings ∙ ap (counted old.counts.readings) (one key refl) in omega (arith, is, small)) in
+      let fresher = fresher_by (is_some new.readings.last) read.fresh in
+      (omega (arith, more, fresher, gap), omega (arith, more))
+    where
+      fresher_by : (fresh : Bool) → new.counts.fresh ≡ counted old.counts.fresh fresh
+          → new.counts.fresh ≤ old.counts.fresh + 1
+      fresher_by true is = omega (arith, is)
+      fresher_by false is = omega (arith, is)
+  gap_by Many counts one read readings small gap =
+      let fresh = read.counts.fresh in
+      let same = read.counts.readings in
+      (omega (arith, fresh, same, gap), omega (arith, same))
+
+  -- after a line as many readings are not fresh as before it
+  gap_after : (turn : Turn Machine) → IsAfterLine old turn new → old.counts.readings + 1 < 2 ^ 64
+      → old.counts.fresh + m ≤ old.counts.readings → (new.counts.fresh + m ≤ new.counts.readings)
+      × (new.counts.readings ≤ old.counts.readings + 1)
+  gap_after turn line small gap =
+      gap_by (asks_of_line turn.machine turn.line) (is_read_line turn.machine turn.line)
+      (is_read_line-one turn.machine turn.line) line.read
+      line.readings small gap
+
+-- n certain hits among the lines leave n readings more that are not fresh
+pub hits_are_kept : (k0 : Kept) (before turns : List (Turn Machine)) (k b : Kept) (m n : ℕ)
+    → IsAlong IsAfterLine k0 before k
+    → IsAlong IsAfterLine k turns b → 8 ≤ room_of k0 → b.counts.refused ≡ 0 → HaveCertainHits before turns n
+    → k.counts.fresh + m ≤ k.counts.readings → k.counts.readings + length turns < 2 ^ 64
+    → b.counts.fresh + (m + n) ≤ b.counts.readings
+hits_are_kept k0 before [] k b m n earlier along room none hits gap small =
+    let fresh = ap (λ (s : Kept). s.counts.fresh) along in
+    let readings = ap (λ (s : Kept). s.counts.readings) along in
+    omega (arith, fresh, readings, hits, gap)
+hits_are_kept k0 before (turn ∷ turns) k b m n earlier (mid, first, rest) room none (inl later) gap small =
+    let next = gap_after k mid m turn first (omega (arith, small)) gap in
+    hits_are_kept k0 (before ++ turn ∷ []) turns mid b m n
+    (IsAlong-append IsAfterLine k0 k mid before (turn ∷ []) earlier (mid, first, refl)) rest room none later next.0
+    (omega (arith, small, next.1))
+hits_are_kept k0 before (turn ∷ turns) k b m n earlier (mid, first, rest) room none
+    (inr (j, more, hit, later)) gap small =
+    let unrefused_then = unrefused_along turns mid b rest none in
+    let fresh = hit_is_kept k0 k mid before turn earlier first unrefused_then room hit in
+    let readings = hit_is_counted k0 k mid before turn earlier first unrefused_then room hit in
+    let all = hits_are_kept k0 (before ++ turn ∷ []) turns mid b (m + 1) j
+    (IsAlong-append IsAfterLine k0 k mid before (turn ∷ []) earlier (mid, first, refl)) rest room none later
+    (omega (arith, fresh, readings, gap, small)) (omega (arith, readings, small)) in
+    omega (arith, all, more)

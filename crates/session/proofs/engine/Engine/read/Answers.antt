@@ -1,0 +1,22 @@
+-- One call of the readings was made on the session's board, and was counted.
+use Rattle.std.proofs.Common.{◌≡◌, true, refl, ap, subst, rules}
+use Rattle.session.specs.Kept.{Kept, machine_of}
+use Rattle.session.specs.Counting.{has_stone}
+use Rattle.session.specs.Asking.{CountsRefused}
+use Rattle.session.proofs.Asked.{ReadsAs-once}
+use Rattle.session.proofs.engine.Engine.read.Goals as goal
+
+pub returns-clause-read : goal.returns-clause-read
+returns-clause-read c =
+    let old = c.args.self.now in
+    let new = c.count_reading.new.self in
+    let read = c.read-answer in
+    let board = c.position-position.ensures.value in
+    let view = c.self.view_is in
+    let stone : has_stone (machine_of old) c.args.p ≡ true = search rules in
+    ReadsAs-once old new c.args.kind c.args.p c.position-position.result read.result c.self.inside.readings
+    read.new.self
+    board (ap (λ (k : Kept). k.readings) view) (ap (λ (k : Kept). k.plies) view)
+    (ap (λ (k : Kept). k.wide) view) c.count_reading.ensures.kept read.ensures.read c.size.ensures.position
+    read.ensures.rest
+    (subst CountsRefused view refl) c.count_reading.ensures.refused (search rules) (search rules) stone
