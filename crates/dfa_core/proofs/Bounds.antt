@@ -25,31 +25,41 @@ pub record IsAround (n : ℕ) (before after : Bool) (z : ℤ) : Type 0 where
   pub high : z ≤ℤ (pos (n + drawn_line after) -ℤ pos 1)
 
 -- a line that crosses the letters or is an edge is around them
-pub line_around : (n : ℕ) (before after : Bool) (z : ℤ) → is_line (line_at n before after z) ≡ true → IsAround n before after z
+pub line_around : (n : ℕ) (before after : Bool) (z : ℤ) → is_line (line_at n before after z) ≡ true
+    → IsAround n before after z
 line_around n before after (pos k) e =
     elim (cases_Bool (ltb k n)) [
       | inl low ↦ record { low = omega (arith, ints); high = omega (arith, ints, ltb-true k n low) }
       | inr high ↦ at_end after (cases_Bool (eqb k n && after)) high
     ]
   where
-    at_end : (b : Bool) → ((eqb k n && after) ≡ true) ⊎ ((eqb k n && after) ≡ false) → ltb k n ≡ false → IsAround n before after (pos k)
+    at_end : (b : Bool) → ((eqb k n && after) ≡ true) ⊎ ((eqb k n && after) ≡ false) → ltb k n ≡ false
+        → IsAround n before after (pos k)
     at_end b (inl edge) high =
         let parts = and_parts (eqb k n) after edge in
         let same = eqb-true k n parts.0 in
-        record { low = omega (arith, ints); high = subst (λ a. pos k ≤ℤ (pos (n + drawn_line a) -ℤ pos 1)) (sym parts.1) (omega (arith, ints, same)) }
+        record {
+          low = omega (arith, ints);
+          high = subst (λ a. pos k ≤ℤ (pos (n + drawn_line a) -ℤ pos 1)) (sym parts.1) (omega (arith, ints, same));
+        }
     at_end b (inr none) high =
-        absurd (false≢true (sym (ap (λ t. is_line (cond t (Crosses k) (cond (eqb k n && after) Edge Beyond))) high ∙ ap (λ t. is_line (cond t Edge Beyond)) none) ∙ e))
+        absurd (false≢true (sym (ap (λ t. is_line (cond t (Crosses k) (cond (eqb k n && after) Edge Beyond))) high
+        ∙ ap (λ t. is_line (cond t Edge Beyond)) none) ∙ e))
 line_around n before after (negsuc k) e =
     elim (cases_Bool (eqb k 0 && before)) [
       | inl edge ↦
           let parts = and_parts (eqb k 0) before edge in
           let same = eqb-true k 0 parts.0 in
-          record { low = subst (λ b. neg_ℤ (pos (drawn_line b)) ≤ℤ negsuc k) (sym parts.1) (omega (arith, ints, same)); high = omega (arith, ints) }
+          record {
+            low = subst (λ b. neg_ℤ (pos (drawn_line b)) ≤ℤ negsuc k) (sym parts.1) (omega (arith, ints, same));
+            high = omega (arith, ints);
+          }
       | inr none ↦ absurd (false≢true (sym (ap (λ t. is_line (cond t Edge Beyond)) none) ∙ e))
     ]
 
 -- both lines that meet at a drawn cell cross the letters or are edges
-pub drawn_lines : (p : Pattern) (row column : Line) → is_drawn (drawn_by p row column) ≡ true → (is_line row ≡ true) × (is_line column ≡ true)
+pub drawn_lines : (p : Pattern) (row column : Line) → is_drawn (drawn_by p row column) ≡ true
+    → (is_line row ≡ true) × (is_line column ≡ true)
 drawn_lines p Beyond column e = absurd (false≢true e)
 drawn_lines p Edge Beyond e = absurd (false≢true e)
 drawn_lines p Edge Edge e = (refl, refl)
@@ -63,14 +73,18 @@ pub anchor_within : (p : Pattern) → ((anchor_of p).0 < p.rows) × ((anchor_of 
 unfolding anchor_of
 anchor_within p = by (position is_stone p.letters) refl
   where
-    by : (o : Option ℕ) → position is_stone p.letters ≡ o → ((anchor_from p o).0 < p.rows) × ((anchor_from p o).1 < p.cols)
+    by : (o : Option ℕ) → position is_stone p.letters ≡ o
+        → ((anchor_from p o).0 < p.rows) × ((anchor_from p o).1 < p.cols)
     by None e = (p.diagram.star_row, p.diagram.star_column)
     by (Some i) e =
-        let at = position-Some is_stone p.letters i Friend e in
-        (div_below i p.cols p.rows (omega (arith, p.diagram.columns_from)) (omega (arith, at.0, p.diagram.size)), omega (arith, p.diagram.columns_from))
+        let at = position-Some is_stone p.letters i Friend e in (
+          div_below i p.cols p.rows (omega (arith, p.diagram.columns_from)) (omega (arith, at.0, p.diagram.size)),
+          omega (arith, p.diagram.columns_from),
+        )
 
 -- a drawn cell lies within the largest offset of the anchor
-pub drawn_near : (p : Pattern) (r c : ℤ) → is_drawn (drawn_at p r c) ≡ true → IsNear (r -ℤ pos (anchor_of p).0, c -ℤ pos (anchor_of p).1)
+pub drawn_near : (p : Pattern) (r c : ℤ) → is_drawn (drawn_at p r c) ≡ true
+    → IsNear (r -ℤ pos (anchor_of p).0, c -ℤ pos (anchor_of p).1)
 unfolding drawn_at
 drawn_near p r c e =
     let lines = drawn_lines p (line_at p.rows p.top p.bottom r) (line_at p.cols p.left p.right c) e in

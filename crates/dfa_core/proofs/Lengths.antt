@@ -9,7 +9,8 @@ use Rattle.pat_types.specs.Cells.{drawn_at, anchor_of}
 use Rattle.dfa_core.specs.Fits.{drawn_along, is_drawn, length_below, pattern_length}
 
 -- the anchor and the offset give the cell
-pub drawn_along_at : (p : Pattern) (i : ℕ) (d : Drawn) (a : ℕ × ℕ) (o : Offset) (r c : ℤ) → a ≡ anchor_of p → o ≡ offset_at i → r ≡ pos a.0 +ℤ o.0 → c ≡ pos a.1 +ℤ o.1
+pub drawn_along_at : (p : Pattern) (i : ℕ) (d : Drawn) (a : ℕ × ℕ) (o : Offset) (r c : ℤ) → a ≡ anchor_of p
+    → o ≡ offset_at i → r ≡ pos a.0 +ℤ o.0 → c ≡ pos a.1 +ℤ o.1
     → d ≡ drawn_at p r c → d ≡ drawn_along p i
 unfolding drawn_along
 drawn_along_at p i d a o r c anchor offset row column e = rw (e, row, column, anchor, offset) refl
@@ -20,7 +21,8 @@ unfolding length_below
 length_below-drawn p i e = ap (λ b. cond b (suc i) (length_below p i)) e
 
 -- and where none is, the last is one before
-pub length_below-blank : (p : Pattern) (i : ℕ) → is_drawn (drawn_along p i) ≡ false → length_below p (suc i) ≡ length_below p i
+pub length_below-blank : (p : Pattern) (i : ℕ) → is_drawn (drawn_along p i) ≡ false
+    → length_below p (suc i) ≡ length_below p i
 unfolding length_below
 length_below-blank p i e = ap (λ b. cond b (suc i) (length_below p i)) e
 
@@ -36,9 +38,11 @@ length_at_drawn p (suc i) more drawn = at_suc (ap (λ k. is_drawn (drawn_along p
     at_suc e = sym (length_below-drawn p i e)
 
 -- and where none is, one index fewer does
-pub length_at_blank : (p : Pattern) (n : ℕ) → 0 < n → is_drawn (drawn_along p (n - 1)) ≡ false → length_below p (n - 1) ≡ length_below p n
+pub length_at_blank : (p : Pattern) (n : ℕ) → 0 < n → is_drawn (drawn_along p (n - 1)) ≡ false
+    → length_below p (n - 1) ≡ length_below p n
 length_at_blank p zero more blank = absurd (omega arith)
-length_at_blank p (suc i) more blank = ap (length_below p) (sym less) ∙ sym (length_below-blank p i (ap (λ k. is_drawn (drawn_along p k)) less ∙ blank))
+length_at_blank p (suc i) more blank =
+    ap (length_below p) (sym less) ∙ sym (length_below-blank p i (ap (λ k. is_drawn (drawn_along p k)) less ∙ blank))
   where
     less : i ≡ suc i - 1
     less = omega arith

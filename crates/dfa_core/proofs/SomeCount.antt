@@ -1,5 +1,5 @@
--- Every list of patterns has a number of states: the words that are longer than every pattern reach the sink, and the others are
--- finitely many.
+-- Every list of patterns has a number of states: the words that are longer than every pattern reach the sink, and the
+-- others are finitely many.
 use Rattle.std.proofs.Common.{◌≡◌, ℕ, zero, suc, ◌+◌, ◌<◌, ◌≤◌, ◌⊎◌, inl, inr, Bool, true, false, not, cond, eqb, List, [], ◌∷◌, length, map, drop, replicate, get_or, refl, sym, ap, ◌∙◌, arith}
 use Rattle.std.proofs.lemmas.Bool.{cases_eq, cases_lt, eq-eqb, ne_eqb, and_left, lt-leb, true≢false, false≢true}
 use Rattle.std.proofs.lemmas.List.{length-replicate}
@@ -24,7 +24,8 @@ HasSome f P = (n : ℕ) × TakesOn f P n
 
 module _ {X : Type 0} (f : Word → X) (same_or_not : (x y : X) → (x ≡ y) ⊎ (x ≡ y → ⊥)) where
   -- a value is one of the first n, or none of them
-  found_or_new : (word : ℕ → Word) (x : X) (n : ℕ) → ((i : ℕ) × (i < n) × (x ≡ f (word i))) ⊎ ((i : ℕ) → i < n → x ≡ f (word i) → ⊥)
+  found_or_new : (word : ℕ → Word) (x : X) (n : ℕ)
+      → ((i : ℕ) × (i < n) × (x ≡ f (word i))) ⊎ ((i : ℕ) → i < n → x ≡ f (word i) → ⊥)
   found_or_new word x zero = inr (λ i l e. absurd (omega (arith, l)))
   found_or_new word x (suc n) =
       elim (found_or_new word x n) [
@@ -59,7 +60,10 @@ module _ {X : Type 0} (f : Word → X) (same_or_not : (x y : X) → (x ≡ y) �
           record {
             word = t.word;
             apart = t.apart;
-            all = λ w either. elim either [ inl before ↦ t.all w before | inr as_v ↦ (found.0, found.1, as_v ∙ found.2) ];
+            all = λ w either. elim either [
+              | inl before ↦ t.all w before
+              | inr as_v ↦ (found.0, found.1, as_v ∙ found.2)
+            ];
           },
         )
         | inr new ↦ (
@@ -68,20 +72,25 @@ module _ {X : Type 0} (f : Word → X) (same_or_not : (x y : X) → (x ≡ y) �
             word = with_last t.word n v;
             apart = λ i j p q e. elim (cases_lt i n) [
               | inl low ↦ elim (cases_lt j n) [
-                | inl low' ↦ t.apart i j low low' (sym (ap f (with_last-below t.word n v i low)) ∙ e ∙ ap f (with_last-below t.word n v j low'))
+                | inl low' ↦ t.apart i j low low' (sym (ap f (with_last-below t.word n v i low)) ∙ e
+                    ∙ ap f (with_last-below t.word n v j low'))
                 | inr high' ↦
                     let at : j ≡ n = omega (arith, q, high') in
-                    absurd (new i low (sym (ap f (with_last-at t.word n v)) ∙ ap (λ k. f (with_last t.word n v k)) (sym at) ∙ sym e ∙ ap f (with_last-below t.word n v i low)))
+                    absurd (new i low (sym (ap f (with_last-at t.word n v))
+                    ∙ ap (λ k. f (with_last t.word n v k)) (sym at) ∙ sym e
+                    ∙ ap f (with_last-below t.word n v i low)))
               ]
               | inr high ↦ elim (cases_lt j n) [
                 | inl low' ↦
                     let at : i ≡ n = omega (arith, p, high) in
-                    absurd (new j low' (sym (ap f (with_last-at t.word n v)) ∙ ap (λ k. f (with_last t.word n v k)) (sym at) ∙ e ∙ ap f (with_last-below t.word n v j low')))
+                    absurd (new j low' (sym (ap f (with_last-at t.word n v))
+                    ∙ ap (λ k. f (with_last t.word n v k)) (sym at) ∙ e ∙ ap f (with_last-below t.word n v j low')))
                 | inr high' ↦ omega (arith, p, q, high, high')
               ]
             ];
             all = λ w either. elim either [
-              | inl before ↦ let r = t.all w before in (r.0, omega (arith, r.1), r.2 ∙ sym (ap f (with_last-below t.word n v r.0 r.1)))
+              | inl before ↦ let r = t.all w before in
+                  (r.0, omega (arith, r.1), r.2 ∙ sym (ap f (with_last-below t.word n v r.0 r.1)))
               | inr as_v ↦ (n, omega arith, as_v ∙ sym (ap f (with_last-at t.word n v)))
             ];
           },
@@ -93,10 +102,16 @@ module _ {X : Type 0} (f : Word → X) (same_or_not : (x y : X) → (x ≡ y) �
   HasSome-fewer P Q fewer (n, t) = (n, record { word = t.word; apart = t.apart; all = λ w q. t.all w (fewer w q) })
 
   -- m words more
-  add_many : (P : Word → Type 0) (v : ℕ → Word) (m : ℕ) → HasSome f P → HasSome f (λ w. P w ⊎ ((i : ℕ) × (i < m) × (f w ≡ f (v i))))
-  add_many P v zero some = HasSome-fewer P (λ w. P w ⊎ ((i : ℕ) × (i < 0) × (f w ≡ f (v i)))) (λ w either. elim either [ inl p ↦ p | inr none ↦ absurd (omega (arith, none.1)) ]) some
+  add_many : (P : Word → Type 0) (v : ℕ → Word) (m : ℕ) → HasSome f P
+      → HasSome f (λ w. P w ⊎ ((i : ℕ) × (i < m) × (f w ≡ f (v i))))
+  add_many P v zero some = HasSome-fewer P (λ w. P w
+      ⊎ ((i : ℕ) × (i < 0) × (f w ≡ f (v i)))) (λ w either. elim either [
+        | inl p ↦ p
+        | inr none ↦ absurd (omega (arith, none.1))
+      ]) some
   add_many P v (suc m) some =
-      HasSome-fewer (λ w. (P w ⊎ ((i : ℕ) × (i < m) × (f w ≡ f (v i)))) ⊎ (f w ≡ f (v m))) (λ w. P w ⊎ ((i : ℕ) × (i < suc m) × (f w ≡ f (v i))))
+      HasSome-fewer (λ w. (P w ⊎ ((i : ℕ) × (i < m) × (f w ≡ f (v i)))) ⊎ (f w ≡ f (v m))) (λ w. P w
+      ⊎ ((i : ℕ) × (i < suc m) × (f w ≡ f (v i))))
       (λ w either. elim either [
         | inl p ↦ inl (inl p)
         | inr one ↦ elim (cases_lt one.0 m) [
@@ -106,8 +121,11 @@ module _ {X : Type 0} (f : Word → X) (same_or_not : (x y : X) → (x ≡ y) �
       ])
       (add_one (λ w. P w ⊎ ((i : ℕ) × (i < m) × (f w ≡ f (v i)))) (v m) (add_many P v m some))
 
-module _ {X : Type 0} (same_or_not : (x y : X) → (x ≡ y) ⊎ (x ≡ y → ⊥)) (k : ℕ) (f : Word → X) (friend : HasSome (λ w. f (Friend ∷ w)) (λ w. length w ≤ k))
-    (enemy : HasSome (λ w. f (Enemy ∷ w)) (λ w. length w ≤ k)) (empty : HasSome (λ w. f (Empty ∷ w)) (λ w. length w ≤ k)) (off : HasSome (λ w. f (Off ∷ w)) (λ w. length w ≤ k)) where
+module _ {X : Type 0} (same_or_not : (x y : X) → (x ≡ y) ⊎ (x ≡ y → ⊥)) (k : ℕ) (f : Word
+    → X) (friend : HasSome (λ w. f (Friend ∷ w)) (λ w. length w ≤ k))
+    (enemy : HasSome (λ w. f (Enemy ∷ w)) (λ w. length w ≤ k))
+    (empty : HasSome (λ w. f (Empty ∷ w)) (λ w. length w ≤ k))
+    (off : HasSome (λ w. f (Off ∷ w)) (λ w. length w ≤ k)) where
   -- the word is empty
   abbrev IsNone : Word → Type 0
   IsNone w = w ≡ []
@@ -138,7 +156,14 @@ module _ {X : Type 0} (same_or_not : (x y : X) → (x ≡ y) ⊎ (x ≡ y → �
 
   -- the empty word has one value
   some_none : HasSome f IsNone
-  some_none = (1, record { word = λ _. []; apart = λ i j p q e. omega (arith, p, q); all = λ w is. (0, omega arith, ap f is) })
+  some_none = (
+    1,
+    record {
+      word = λ _. [];
+      apart = λ i j p q e. omega (arith, p, q);
+      all = λ w is. (0, omega arith, ap f is);
+    },
+  )
 
   -- the words of one letter more have some number of values
   one_longer : HasSome f (λ w. length w ≤ suc k)
@@ -155,11 +180,19 @@ none_short [] short = refl
 none_short (x ∷ w) short = absurd (omega (arith, short))
 
 -- the words of at most k letters have some number of values
-some_short : {X : Type 0} (same_or_not : (x y : X) → (x ≡ y) ⊎ (x ≡ y → ⊥)) (k : ℕ) (f : Word → X) → HasSome f (λ w. length w ≤ k)
-some_short same_or_not zero f =
-    (1, record { word = λ _. []; apart = λ i j p q e. omega (arith, p, q); all = λ w short. (0, omega arith, ap f (none_short w short)) })
+some_short : {X : Type 0} (same_or_not : (x y : X) → (x ≡ y) ⊎ (x ≡ y → ⊥)) (k : ℕ) (f : Word → X)
+    → HasSome f (λ w. length w ≤ k)
+some_short same_or_not zero f = (
+  1,
+  record {
+    word = λ _. [];
+    apart = λ i j p q e. omega (arith, p, q);
+    all = λ w short. (0, omega arith, ap f (none_short w short));
+  },
+)
 some_short same_or_not (suc k) f =
-    one_longer same_or_not k f (some_short same_or_not k (λ w. f (Friend ∷ w))) (some_short same_or_not k (λ w. f (Enemy ∷ w)))
+    one_longer same_or_not k f (some_short same_or_not k (λ w. f (Friend ∷ w)))
+    (some_short same_or_not k (λ w. f (Enemy ∷ w)))
     (some_short same_or_not k (λ w. f (Empty ∷ w))) (some_short same_or_not k (λ w. f (Off ∷ w)))
 
 -- two lists of Booleans are one or not
@@ -167,8 +200,10 @@ cases_lives : (xs ys : List Bool) → (xs ≡ ys) ⊎ (xs ≡ ys → ⊥)
 cases_lives [] [] = inl refl
 cases_lives [] (y ∷ ys) = inr (λ e. absurd (omega (arith, ap length e)))
 cases_lives (x ∷ xs) [] = inr (λ e. absurd (omega (arith, ap length e)))
-cases_lives (true ∷ xs) (true ∷ ys) = elim (cases_lives xs ys) [ inl e ↦ inl (ap (λ zs. true ∷ zs) e) | inr ne ↦ inr (λ e. ne (ap (drop 1) e)) ]
-cases_lives (false ∷ xs) (false ∷ ys) = elim (cases_lives xs ys) [ inl e ↦ inl (ap (λ zs. false ∷ zs) e) | inr ne ↦ inr (λ e. ne (ap (drop 1) e)) ]
+cases_lives (true ∷ xs) (true ∷ ys) =
+    elim (cases_lives xs ys) [ inl e ↦ inl (ap (λ zs. true ∷ zs) e) | inr ne ↦ inr (λ e. ne (ap (drop 1) e)) ]
+cases_lives (false ∷ xs) (false ∷ ys) =
+    elim (cases_lives xs ys) [ inl e ↦ inl (ap (λ zs. false ∷ zs) e) | inr ne ↦ inr (λ e. ne (ap (drop 1) e)) ]
 cases_lives (true ∷ xs) (false ∷ ys) = inr (λ e. true≢false (ap (λ zs. get_or zs 0 true) e))
 cases_lives (false ∷ xs) (true ∷ ys) = inr (λ e. false≢true (ap (λ zs. get_or zs 0 true) e))
 
@@ -186,7 +221,8 @@ cases_state s t = elim (cases_eq s.0 t.0) [
 none_live : (ps : List Pattern) (w : Word) → offset_count < length w → map (is_live w) ps ≡ map (λ _. false) ps
 none_live [] w long = refl
 none_live (p ∷ ps) w long =
-    ap (λ b. b ∷ map (is_live w) ps) (and_left _ (not (is_refuted p w)) (lt-leb (length w) (pattern_length p) (omega (arith, long, pattern_length-most p))))
+    ap (λ b. b ∷ map (is_live w) ps) (and_left _ (not (is_refuted p w))
+    (lt-leb (length w) (pattern_length p) (omega (arith, long, pattern_length-most p))))
     ∙ ap (λ bs. false ∷ bs) (none_live ps w long)
 
 some_live-none : (ps : List Pattern) → some_live (map (λ _. false) ps) ≡ false
@@ -194,7 +230,8 @@ some_live-none [] = refl
 some_live-none (p ∷ ps) = some_live-none ps
 
 -- two words that are longer than the spiral reach one state
-long_same : (ps : List Pattern) (u v : Word) → offset_count < length u → offset_count < length v → state_of ps u ≡ state_of ps v
+long_same : (ps : List Pattern) (u v : Word) → offset_count < length u → offset_count < length v
+    → state_of ps u ≡ state_of ps v
 long_same ps u v long long' =
     state_same ps u v (none_live ps u long ∙ sym (none_live ps v long'))
     (λ some. absurd (false≢true (sym (some_live-none ps) ∙ ap some_live (sym (none_live ps u long)) ∙ some)))

@@ -9,7 +9,8 @@ use Rattle.dfa_core.specs.Tables.{Flat, part_of, start_of, row_in, first_rows, r
 
 -- the table of four lists
 abbrev pub flat_with : List ℕ → List ℕ → List ℕ → List ℕ → Flat
-flat_with targets starts numbers depths = record { targets = targets; starts = starts; numbers = numbers; depths = depths }
+flat_with targets starts numbers depths =
+    record { targets = targets; starts = starts; numbers = numbers; depths = depths }
 
 -- there is a row for each depth
 length-first_rows : (t : Flat) (n : ℕ) → length (first_rows t n) ≡ n
@@ -25,7 +26,8 @@ first_rows-at : (t : Flat) (n r : ℕ) → r < n → row_at (first_rows t n) r �
 first_rows-at t zero r low = absurd (omega arith)
 first_rows-at t (suc n) r low =
     elim (cases_lt r n) [
-      | inl before ↦ get_or_append_left (first_rows t n) (row_in t n ∷ []) no_row r (omega (arith, length-first_rows t n)) ∙ first_rows-at t n r before
+      | inl before ↦ get_or_append_left (first_rows t n) (row_in t n ∷ []) no_row r
+          (omega (arith, length-first_rows t n)) ∙ first_rows-at t n r before
       | inr last ↦
           let same : n ≡ r = omega arith in
           get_or_push (first_rows t n) (row_in t n) no_row r (length-first_rows t n ∙ same) ∙ ap (row_in t) same
@@ -38,17 +40,24 @@ row_at-rows t r low = first_rows-at t (length t.depths) r low
 -- a part of a list is as before when more comes behind
 part-old : (xs ys : List ℕ) (from to : ℕ) → from ≤ to → to ≤ length xs → part_of (xs ++ ys) from to ≡ part_of xs from to
 part-old xs ys from to order low =
-    ap (take (to - from)) (drop-append-le from xs ys (omega arith)) ∙ take-append-le (to - from) (drop from xs) ys (omega (arith, length-drop from xs))
+    ap (take (to - from)) (drop-append-le from xs ys (omega arith))
+    ∙ take-append-le (to - from) (drop from xs) ys (omega (arith, length-drop from xs))
 
 -- the part that comes behind
 part-new : (xs ys : List ℕ) (from to : ℕ) → length xs ≡ from → from + length ys ≡ to → part_of (xs ++ ys) from to ≡ ys
 part-new xs ys from to first last =
-    ap (λ n. take (to - n) (drop n (xs ++ ys))) (sym first) ∙ ap (take (to - length xs)) (drop-append_seam xs ys) ∙ take_all (to - length xs) ys (omega arith)
+    ap (λ n. take (to - n) (drop n (xs ++ ys))) (sym first) ∙ ap (take (to - length xs)) (drop-append_seam xs ys)
+    ∙ take_all (to - length xs) ys (omega arith)
 
 module _ (t : Flat) (ts ns : List ℕ) (d : ℕ) (good : IsFlat t) (four : length ts ≡ 4) where
   -- the lists with one row more
   abbrev more : Flat
-  more = record { targets = t.targets ++ ts; starts = t.starts ++ length (t.numbers ++ ns) ∷ []; numbers = t.numbers ++ ns; depths = t.depths ++ d ∷ [] }
+  more = record {
+    targets = t.targets ++ ts;
+    starts = t.starts ++ length (t.numbers ++ ns) ∷ [];
+    numbers = t.numbers ++ ns;
+    depths = t.depths ++ d ∷ [];
+  }
 
   old_start : (r : ℕ) → r ≤ length t.depths → start_of more r ≡ start_of t r
   old_start r low = get_or_append_left t.starts (length (t.numbers ++ ns) ∷ []) 0 r (omega (arith, good.starts))
@@ -58,18 +67,22 @@ module _ (t : Flat) (ts ns : List ℕ) (d : ℕ) (good : IsFlat t) (four : lengt
 
   old_row : (r : ℕ) → r < length t.depths → row_in more r ≡ row_in t r
   old_row r low =
-      let targets : part_of more.targets (4 * r) (4 * r + 4) ≡ part_of t.targets (4 * r) (4 * r + 4) = part-old t.targets ts (4 * r) (4 * r + 4) (omega arith) (omega (arith, good.targets)) in
-      let numbers : part_of more.numbers (start_of more r) (start_of more (r + 1)) ≡ part_of t.numbers (start_of t r) (start_of t (r + 1)) =
+      let targets : part_of more.targets (4 * r) (4 * r + 4) ≡ part_of t.targets (4 * r) (4 * r + 4) =
+      part-old t.targets ts (4 * r) (4 * r + 4) (omega arith) (omega (arith, good.targets)) in
+      let numbers : part_of more.numbers (start_of more r) (start_of more (r + 1))
+      ≡ part_of t.numbers (start_of t r) (start_of t (r + 1)) =
       ap (λ n. part_of more.numbers n (start_of more (r + 1))) (old_start r (omega arith))
       ∙ ap (part_of more.numbers (start_of t r)) (old_start (r + 1) (omega arith))
-      ∙ part-old t.numbers ns (start_of t r) (start_of t (r + 1)) (good.ordered r low) (good.within (r + 1) (omega arith)) in
+      ∙ part-old t.numbers ns (start_of t r) (start_of t (r + 1)) (good.ordered r low)
+      (good.within (r + 1) (omega arith)) in
       let depth : get_or more.depths r 0 ≡ get_or t.depths r 0 = get_or_append_left t.depths (d ∷ []) 0 r low in
       λ i. record { targets = targets i; numbers = numbers i; depth = depth i }
 
   new_row : row_in more (length t.depths) ≡ record { targets = ts; numbers = ns; depth = d }
   new_row =
       let n : ℕ = length t.depths in
-      let targets : part_of more.targets (4 * n) (4 * n + 4) ≡ ts = part-new t.targets ts (4 * n) (4 * n + 4) good.targets (omega (arith, four)) in
+      let targets : part_of more.targets (4 * n) (4 * n + 4) ≡ ts =
+      part-new t.targets ts (4 * n) (4 * n + 4) good.targets (omega (arith, four)) in
       let numbers : part_of more.numbers (start_of more n) (start_of more (n + 1)) ≡ ns =
       part-new t.numbers ns (start_of more n) (start_of more (n + 1)) (sym (old_start n (omega arith) ∙ good.last))
       (omega (arith, old_start n (omega arith), good.last, new_start, length-append t.numbers ns)) in
@@ -78,14 +91,16 @@ module _ (t : Flat) (ts ns : List ℕ) (d : ℕ) (good : IsFlat t) (four : lengt
 
   old_rows : (n : ℕ) → n ≤ length t.depths → first_rows more n ≡ first_rows t n
   old_rows zero low = refl
-  old_rows (suc n) low = ap (λ rows. rows ++ row_in more n ∷ []) (old_rows n (omega arith)) ∙ ap (λ row. first_rows t n ++ row ∷ []) (old_row n (omega arith))
+  old_rows (suc n) low = ap (λ rows. rows ++ row_in more n ∷ []) (old_rows n (omega arith))
+      ∙ ap (λ row. first_rows t n ++ row ∷ []) (old_row n (omega arith))
 
   -- one row more comes behind the others
   pub rows_in-more : rows_in more ≡ rows_in t ++ (record { targets = ts; numbers = ns; depth = d }) ∷ []
   unfolding rows_in
   rows_in-more =
       let count : length more.depths ≡ suc (length t.depths) = omega (arith, length_push t.depths d) in
-      ap (first_rows more) count ∙ ap (λ rows. rows ++ row_in more (length t.depths) ∷ []) (old_rows (length t.depths) (omega arith)) ∙ ap (λ row. first_rows t (length t.depths) ++ row ∷ []) new_row
+      ap (first_rows more) count ∙ ap (λ rows. rows ++ row_in more (length t.depths) ∷ [])
+      (old_rows (length t.depths) (omega arith)) ∙ ap (λ row. first_rows t (length t.depths) ++ row ∷ []) new_row
 
   -- and the lists still belong together
   pub IsFlat-more : IsFlat more
@@ -97,10 +112,22 @@ module _ (t : Flat) (ts ns : List ℕ) (d : ℕ) (good : IsFlat t) (four : lengt
         first = old_start 0 (omega arith) ∙ good.first;
         last = ap (start_of more) count ∙ new_start;
         ordered = λ r low. elim (cases_lt r (length t.depths)) [
-          | inl before ↦ omega (arith, old_start r (omega arith), old_start (r + 1) (omega arith), good.ordered r before)
+          | inl before ↦ omega (
+            arith,
+            old_start r (omega arith),
+            old_start (r + 1) (omega arith),
+            good.ordered r before,
+          )
           | inr at_end ↦
               let same : r ≡ length t.depths = omega (arith, count, low) in
-              omega (arith, old_start r (omega arith), good.within r (omega arith), ap (λ n. start_of more (n + 1)) same, new_start, length-append t.numbers ns)
+              omega (
+                arith,
+                old_start r (omega arith),
+                good.within r (omega arith),
+                ap (λ n. start_of more (n + 1)) same,
+                new_start,
+                length-append t.numbers ns,
+              )
         ];
         within = λ r low. elim (cases_lt (length t.depths) r) [
           | inl at_end ↦
@@ -110,14 +137,17 @@ module _ (t : Flat) (ts ns : List ℕ) (d : ℕ) (good : IsFlat t) (four : lengt
         ];
       }
 
-module _ (old new : Flat) (ts mid first second : List ℕ) (d n : ℕ) (good : IsFlat old) (four : length ts ≡ 4) (targets : new.targets ≡ old.targets ++ ts)
-    (starts : new.starts ≡ old.starts ++ n ∷ []) (count : n ≡ length new.numbers) (front : mid ≡ old.numbers ++ first) (numbers : new.numbers ≡ mid ++ second) (depths : new.depths ≡ old.depths ++ d ∷ []) where
+module _ (old new : Flat) (ts mid first second : List ℕ) (d n : ℕ) (good : IsFlat old) (four : length ts ≡ 4)
+    (targets : new.targets ≡ old.targets ++ ts)
+    (starts : new.starts ≡ old.starts ++ n ∷ []) (count : n ≡ length new.numbers) (front : mid ≡ old.numbers ++ first)
+    (numbers : new.numbers ≡ mid ++ second) (depths : new.depths ≡ old.depths ++ d ∷ []) where
   all_numbers : old.numbers ++ (first ++ second) ≡ new.numbers
   all_numbers = sym (append_assoc old.numbers first second) ∙ ap (λ xs. xs ++ second) (sym front) ∙ sym numbers
 
   grown : more old ts (first ++ second) d good four ≡ new
   grown =
-      let begins : old.starts ++ length (old.numbers ++ (first ++ second)) ∷ [] ≡ new.starts = ap (λ k. old.starts ++ k ∷ []) (ap length all_numbers ∙ sym count) ∙ sym starts in
+      let begins : old.starts ++ length (old.numbers ++ (first ++ second)) ∷ [] ≡ new.starts =
+      ap (λ k. old.starts ++ k ∷ []) (ap length all_numbers ∙ sym count) ∙ sym starts in
       λ i. record { targets = sym targets i; starts = begins i; numbers = all_numbers i; depths = sym depths i }
 
   -- where each list has grown by one row, that row comes behind the others
@@ -151,17 +181,22 @@ module _ (t : Flat) (good : IsFlat t) where
   take-first_rows zero r low = let none : r ≡ 0 = omega arith in ap (λ k. take k []) none ∙ sym (ap (first_rows t) none)
   take-first_rows (suc n) r low =
       elim (cases_lt r (suc n)) [
-        | inl before ↦ take-append-le r (first_rows t n) (row_in t n ∷ []) (omega (arith, length-first_rows t n)) ∙ take-first_rows n r (omega arith)
-        | inr all ↦ let same : r ≡ suc n = omega arith in take_all r (first_rows t (suc n)) (omega (arith, length-first_rows t (suc n))) ∙ sym (ap (first_rows t) same)
+        | inl before ↦ take-append-le r (first_rows t n) (row_in t n ∷ []) (omega (arith, length-first_rows t n))
+            ∙ take-first_rows n r (omega arith)
+        | inr all ↦ let same : r ≡ suc n = omega arith in
+            take_all r (first_rows t (suc n)) (omega (arith, length-first_rows t (suc n)))
+            ∙ sym (ap (first_rows t) same)
       ]
 
   -- the numbers of the first rows are those before the start of the next
   first_numbers : (r : ℕ) → r ≤ length t.depths → numbers_of (first_rows t r) ≡ take (start_of t r) t.numbers
   first_numbers zero low = sym (ap (λ n. take n t.numbers) good.first)
   first_numbers (suc r) low =
-      let here : start_of t r + (start_of t (r + 1) - start_of t r) ≡ start_of t (suc r) = omega (arith, good.ordered r (omega arith), ap (start_of t) (add-one r)) in
+      let here : start_of t r + (start_of t (r + 1) - start_of t r) ≡ start_of t (suc r) =
+      omega (arith, good.ordered r (omega arith), ap (start_of t) (add-one r)) in
       flat_map-append (λ row. row.numbers) (first_rows t r) (row_in t r ∷ [])
-      ∙ ap (λ ns. numbers_of (first_rows t r) ++ ns) (append-nil (part_of t.numbers (start_of t r) (start_of t (r + 1))))
+      ∙ ap (λ ns. numbers_of (first_rows t r) ++ ns)
+      (append-nil (part_of t.numbers (start_of t r) (start_of t (r + 1))))
       ∙ ap (λ ns. ns ++ part_of t.numbers (start_of t r) (start_of t (r + 1))) (first_numbers r (omega arith))
       ∙ sym (take-add (start_of t r) (start_of t (r + 1) - start_of t r) t.numbers)
       ∙ ap (λ n. take n t.numbers) here
@@ -169,19 +204,23 @@ module _ (t : Flat) (good : IsFlat t) where
   -- the list has the numbers of all rows
   pub numbers-all : t.numbers ≡ numbers_of (rows_in t)
   unfolding rows_in
-  numbers-all = sym (first_numbers (length t.depths) (omega arith) ∙ ap (λ n. take n t.numbers) good.last ∙ take_all (length t.numbers) t.numbers (omega arith))
+  numbers-all = sym (first_numbers (length t.depths) (omega arith) ∙ ap (λ n. take n t.numbers) good.last
+      ∙ take_all (length t.numbers) t.numbers (omega arith))
 
   -- the numbers of a row begin behind those of the rows before
   pub start-counts : (r : ℕ) → r ≤ length t.depths → start_of t r ≡ length (numbers_of (take r (rows_in t)))
   unfolding rows_in
   start-counts r low =
-      sym (ap (λ rows. length (numbers_of rows)) (take-first_rows (length t.depths) r low) ∙ ap length (first_numbers r low) ∙ length-take-le (start_of t r) t.numbers (good.within r low))
+      sym (ap (λ rows. length (numbers_of rows)) (take-first_rows (length t.depths) r low)
+      ∙ ap length (first_numbers r low) ∙ length-take-le (start_of t r) t.numbers (good.within r low))
 
   -- a target is found by its row and its letter
-  pub target-at : (r k : ℕ) → r < length t.depths → k < 4 → get_or t.targets (4 * r + k) 0 ≡ get_or (row_at (rows_in t) r).targets k 0
+  pub target-at : (r k : ℕ) → r < length t.depths → k < 4
+      → get_or t.targets (4 * r + k) 0 ≡ get_or (row_at (rows_in t) r).targets k 0
   target-at r k low letter =
       let four : k < 4 * r + 4 - 4 * r = omega arith in
-      sym (ap (λ row. get_or row.targets k 0) (row_at-rows t r low) ∙ get_or-take (4 * r + 4 - 4 * r) (drop (4 * r) t.targets) k 0 four ∙ get_or-drop (4 * r) t.targets k 0)
+      sym (ap (λ row. get_or row.targets k 0) (row_at-rows t r low)
+      ∙ get_or-take (4 * r + 4 - 4 * r) (drop (4 * r) t.targets) k 0 four ∙ get_or-drop (4 * r) t.targets k 0)
 
 -- a row of the table has a depth
 pub row_below : (t : Flat) (rows : List Row) (r : ℕ) → rows_in t ≡ rows → r < length rows → r < length t.depths

@@ -3,7 +3,8 @@ use Rattle.std.specs.Prelude.{◌≡◌, ℕ, zero, suc, ◌+◌, ◌-◌, ◌*�
 use Rattle.std.specs.List.{flat_map}
 use Rattle.dfa_core.specs.Automata.{Row}
 
--- four targets for each row, where the numbers of each row begin and where those of the last end, the numbers of all rows, and the depths
+-- four targets for each row, where the numbers of each row begin and where those of the last end, the numbers of all
+-- rows, and the depths
 pub record Flat : Type 0 where
   pub targets : List ℕ
   pub starts : List ℕ
@@ -35,7 +36,8 @@ first_rows table (suc n) = first_rows table n ++ row_in table n ∷ []
 unfoldable pub rows_in : Flat → List Row
 rows_in table = first_rows table (length table.depths)
 
--- the lists belong together: four targets a row, and the numbers of the rows stand one after another, from the first number to the last
+-- the lists belong together: four targets a row, and the numbers of the rows stand one after another, from the first
+-- number to the last
 pub record IsFlat (table : Flat) : Type 0 where
   pub targets : length table.targets ≡ 4 * length table.depths
   pub starts : length table.starts ≡ length table.depths + 1

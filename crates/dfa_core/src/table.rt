@@ -34,7 +34,12 @@ impl Model for Table {
 
     ghost Value = { List Row };
 
-    ghost view = { λ t. rows_in (record { targets = t.targets.items; starts = t.starts.items; numbers = t.numbers.items; depths = t.depths.items }) };
+    ghost view = { λ t. rows_in (record {
+      targets = t.targets.items;
+      starts = t.starts.items;
+      numbers = t.numbers.items;
+      depths = t.depths.items;
+    }) };
 
     ghost invariant = { λ t. IsMarked (record {
       targets = t.targets.items;
@@ -85,7 +90,11 @@ impl Table {
         second: &[u16],
         depth: u16,
     ) -> Result<Table, NoMemory>
-        ensures { IfOk result (λ t. t ≡ self ++ (record { targets = targets_of_row; numbers = first.now ++ second.now; depth = depth }) ∷ []) }
+        ensures { IfOk result (λ t. t ≡ self ++ (record {
+          targets = targets_of_row;
+          numbers = first.now ++ second.now;
+          depth = depth;
+        }) ∷ []) }
     {
         let Table {
             mut targets,

@@ -53,12 +53,17 @@ never_off white_stone black = refl
 never_off white_stone white = refl
 
 -- a letter admits a cell where it admits what is seen there
-admits_seen : (l : Letter) (cell : Cell) (friend : Colour) → admits l cell friend ≡ letter_admits l (seen_of friend cell)
+admits_seen : (l : Letter) (cell : Cell) (friend : Colour)
+    → admits l cell friend ≡ letter_admits l (seen_of friend cell)
 admits_seen Friend cell friend = friend_seen cell friend
 admits_seen Enemy cell friend = enemy_seen cell friend
 admits_seen Empty cell friend = empty_seen cell friend
-admits_seen FriendOrEmpty cell friend = ap (λ b. b || same_cell cell empty_cell) (friend_seen cell friend) ∙ ap (λ b. is_friend (seen_of friend cell) || b) (empty_seen cell friend)
-admits_seen EnemyOrEmpty cell friend = ap (λ b. b || same_cell cell empty_cell) (enemy_seen cell friend) ∙ ap (λ b. is_enemy (seen_of friend cell) || b) (empty_seen cell friend)
+admits_seen FriendOrEmpty cell friend =
+    ap (λ b. b || same_cell cell empty_cell) (friend_seen cell friend)
+    ∙ ap (λ b. is_friend (seen_of friend cell) || b) (empty_seen cell friend)
+admits_seen EnemyOrEmpty cell friend =
+    ap (λ b. b || same_cell cell empty_cell) (enemy_seen cell friend)
+    ∙ ap (λ b. is_enemy (seen_of friend cell) || b) (empty_seen cell friend)
 admits_seen Any cell friend = sym (ap not (never_off cell friend))
 admits_seen Star cell friend = empty_seen cell friend
 
@@ -73,7 +78,8 @@ off_refused Any = refl
 off_refused Star = refl
 
 -- what is drawn fits at a place exactly where it admits what is seen there
-pub fits_seen : (d : Drawn) (board : BoardState) (friend : Colour) (o : Option ℕ) → drawn_fits d board friend o ≡ drawn_admits d (seen_at_place board friend o)
+pub fits_seen : (d : Drawn) (board : BoardState) (friend : Colour) (o : Option ℕ)
+    → drawn_fits d board friend o ≡ drawn_admits d (seen_at_place board friend o)
 fits_seen Nothing board friend o = refl
 fits_seen OffBoard board friend None = refl
 fits_seen OffBoard board friend (Some q) = sym (never_off (cell_at board.cells q) friend)

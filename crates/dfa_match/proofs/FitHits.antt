@@ -33,22 +33,30 @@ numbered k (p ∷ ps) w n here =
       | inr later ↦
           let there = numbered (suc k) ps w n later in
           let next : n - k ≡ suc (n - suc k) = omega (arith, there.from) in
-          record { pattern = there.pattern; from = omega (arith, there.from); number = ap (slice_get (p ∷ ps)) next ∙ there.number; matched = there.matched }
+          record {
+            pattern = there.pattern;
+            from = omega (arith, there.from);
+            number = ap (slice_get (p ∷ ps)) next ∙ there.number;
+            matched = there.matched;
+          }
     ]
   where
     one : Contains (k ∷ []) n → n ≡ k
     one (zero, l, e) = sym e
     one (suc i, l, e) = absurd (omega (arith, l))
 
-    now : (is_matched w p ≡ true) ⊎ (is_matched w p ≡ false) → Contains (cond (is_matched w p) (k ∷ []) []) n → IsNumbered k (p ∷ ps) w n
+    now : (is_matched w p ≡ true) ⊎ (is_matched w p ≡ false) → Contains (cond (is_matched w p) (k ∷ []) []) n
+        → IsNumbered k (p ∷ ps) w n
     now (inl hit) at =
         let same = one (subst (λ b. Contains (cond b (k ∷ []) []) n) hit at) in
         let none : n - k ≡ 0 = omega (arith, same) in
         record { pattern = p; from = omega (arith, same); number = ap (slice_get (p ∷ ps)) none; matched = hit }
-    now (inr miss) at = let none : Contains [] n = subst (λ b. Contains (cond b (k ∷ []) []) n) miss at in absurd (omega (arith, none.1))
+    now (inr miss) at = let none : Contains [] n = subst (λ b. Contains (cond b (k ∷ []) []) n) miss at in
+        absurd (omega (arith, none.1))
 
 -- and each pattern that matches has its number among them
-number_of : (k : ℕ) (ps : List Pattern) (w : Word) (i : ℕ) (p : Pattern) → slice_get ps i ≡ Some p → is_matched w p ≡ true → Contains (matched_from k ps w) (k + i)
+number_of : (k : ℕ) (ps : List Pattern) (w : Word) (i : ℕ) (p : Pattern) → slice_get ps i ≡ Some p
+    → is_matched w p ≡ true → Contains (matched_from k ps w) (k + i)
 number_of k [] w i p at matched = absurd (let h : ⊥ = cc in h)
 number_of k (q ∷ ps) w zero p at matched =
     let same : q ≡ p = cc in
@@ -60,7 +68,8 @@ number_of k (q ∷ ps) w (suc i) p at matched =
     Contains-append_right (cond (is_matched w q) (k ∷ []) []) (matched_from (suc k) ps w) (k + suc i)
     (subst (Contains (matched_from (suc k) ps w)) sums (number_of (suc k) ps w i p at matched))
 
-module _ (patterns : List Pattern) (machine : List Row) (at : BoardState) (friend : Colour) (hit : Hit) (accepts : IsMachineOf patterns machine) where
+module _ (patterns : List Pattern) (machine : List Row) (at : BoardState) (friend : Colour) (hit : Hit)
+    (accepts : IsMachineOf patterns machine) where
   -- what the machine accepts is a pattern that fits
   pub fit_from_hit : IsHit machine at friend hit → IsFit patterns at friend hit
   fit_from_hit is =
@@ -69,14 +78,16 @@ module _ (patterns : List Pattern) (machine : List Row) (at : BoardState) (frien
       let none : hit.pattern ≡ hit.pattern - 0 = omega arith in
       let long : is.letters ≡ pattern_length found.pattern =
       sym (word_length (seen_at at friend hit.transform hit.anchor) 0 is.letters)
-      ∙ eqb-true _ _ (and_parts (eqb (length w) (pattern_length found.pattern)) (not (is_refuted found.pattern w)) found.matched).0 in
+      ∙ eqb-true _ _ (and_parts (eqb (length w) (pattern_length found.pattern))
+      (not (is_refuted found.pattern w)) found.matched).0 in
       record {
         transform = is.transform;
         anchor = is.anchor;
         pattern = found.pattern;
         number = ap (slice_get patterns) none ∙ found.number;
         fits = fits_from_match found.pattern at friend hit.transform hit.anchor
-            (subst (λ n. is_matched (word_at at friend hit.transform hit.anchor n) found.pattern ≡ true) long found.matched);
+            (subst (λ n. is_matched (word_at at friend hit.transform hit.anchor n) found.pattern ≡ true) long
+            found.matched);
       }
 
   -- and the other way round
@@ -90,5 +101,6 @@ module _ (patterns : List Pattern) (machine : List Row) (at : BoardState) (frien
         anchor = is.anchor;
         letters = pattern_length is.pattern;
         spiral = pattern_length-most is.pattern;
-        accepts = accepts.complete w hit.pattern (subst (Contains (matched_from 0 patterns w)) none (number_of 0 patterns w hit.pattern is.pattern is.number matched));
+        accepts = accepts.complete w hit.pattern (subst (Contains (matched_from 0 patterns w)) none
+            (number_of 0 patterns w hit.pattern is.pattern is.number matched));
       }

@@ -24,7 +24,8 @@ line_from s (pos n) k e =
           let here : Some n ≡ Some k = sym (ap (λ b. cond b (Some n) None) (lt-ltb n s low)) ∙ e in
           let same : n ≡ k = cc in
           (ap pos same, omega arith)
-      | inr high ↦ let none : None ≡ Some k = sym (ap (λ b. cond b (Some n) None) (le-ltb n s high)) ∙ e in absurd (let h : ⊥ = cc in h)
+      | inr high ↦ let none : None ≡ Some k = sym (ap (λ b. cond b (Some n) None) (le-ltb n s high)) ∙ e in
+          absurd (let h : ⊥ = cc in h)
     ]
 line_from s (negsuc n) k e = absurd (let h : ⊥ = cc in h)
 
@@ -42,7 +43,8 @@ record HasParts (s : ℕ) (a b : Option ℕ) (q : ℕ) : Type 0 where
 point_parts : (s : ℕ) (a b : Option ℕ) (q : ℕ) → point_of s a b ≡ Some q → HasParts s a b q
 point_parts s None b q e = absurd (let h : ⊥ = cc in h)
 point_parts s (Some r) None q e = absurd (let h : ⊥ = cc in h)
-point_parts s (Some r) (Some c) q e = record { row = r; column = c; in_row = refl; in_column = refl; number = let same : r * s + c ≡ q = cc in same }
+point_parts s (Some r) (Some c) q e =
+    record { row = r; column = c; in_row = refl; in_column = refl; number = let same : r * s + c ≡ q = cc in same }
 
 -- a point of the padded board stands in the row and the column of its number
 record IsThere (s r c q : ℕ) : Type 0 where
@@ -55,8 +57,10 @@ point_from s r c q e =
     let parts = point_parts s (line_of s (pos r -ℤ pos largest_offset)) (line_of s (pos c -ℤ pos largest_offset)) q e in
     let row = line_from s (pos r -ℤ pos largest_offset) parts.row parts.in_row in
     let column = line_from s (pos c -ℤ pos largest_offset) parts.column parts.in_column in
-    let at_row : parts.row ≡ q / s = sym (div-mul-add parts.row s parts.column column.1) ∙ ap (λ n. n / s) parts.number in
-    let at_column : parts.column ≡ q % s = sym (mod-mul-add parts.row s parts.column column.1) ∙ ap (λ n. n % s) parts.number in
+    let at_row : parts.row ≡ q / s =
+    sym (div-mul-add parts.row s parts.column column.1) ∙ ap (λ n. n / s) parts.number in
+    let at_column : parts.column ≡ q % s =
+    sym (mod-mul-add parts.row s parts.column column.1) ∙ ap (λ n. n % s) parts.number in
     record {
       row = omega (arith, ints, row.0, at_row);
       column = omega (arith, ints, column.0, at_column);
@@ -65,9 +69,12 @@ point_from s r c q e =
 
 point_there : (s q : ℕ) → 0 < s → q < s * s → padded_point s (q / s + largest_offset) (q % s + largest_offset) ≡ Some q
 point_there s q some low =
-    let row : line_of s (pos (q / s + largest_offset) -ℤ pos largest_offset) ≡ Some (q / s) = line_there s (q / s) _ (omega (arith, ints)) (div_below q s s some low) in
-    let column : line_of s (pos (q % s + largest_offset) -ℤ pos largest_offset) ≡ Some (q % s) = line_there s (q % s) _ (omega (arith, ints)) (mod_below q s some) in
-    ap (λ o. point_of s o (line_of s (pos (q % s + largest_offset) -ℤ pos largest_offset))) row ∙ ap (point_of s (Some (q / s))) column ∙ ap (λ n. Some n) (div-add-mod' q s)
+    let row : line_of s (pos (q / s + largest_offset) -ℤ pos largest_offset) ≡ Some (q / s) =
+    line_there s (q / s) _ (omega (arith, ints)) (div_below q s s some low) in
+    let column : line_of s (pos (q % s + largest_offset) -ℤ pos largest_offset) ≡ Some (q % s) =
+    line_there s (q % s) _ (omega (arith, ints)) (mod_below q s some) in
+    ap (λ o. point_of s o (line_of s (pos (q % s + largest_offset) -ℤ pos largest_offset))) row
+    ∙ ap (point_of s (Some (q / s))) column ∙ ap (λ n. Some n) (div-add-mod' q s)
 
 -- the row and the column of a point lie on the padded board
 pub row_low : (s q : ℕ) → 0 < s → s ≤ largest_size → q < s * s → q / s + largest_offset < padded_side
@@ -105,39 +112,57 @@ module _ (at : BoardState) (friend : Colour) where
       elim (cases_eq q n) [
         | inl same ↦ absurd (other (ap (λ k. Some k) same))
         | inr apart ↦ elim (cases_lt q n) [
-          | inl low ↦ ap (λ b. cond b (seen_of friend (cell_at at.cells q)) Off) (lt-ltb q n low ∙ sym (lt-ltb q (n + 1) (omega arith)))
-          | inr high ↦ ap (λ b. cond b (seen_of friend (cell_at at.cells q)) Off) (le-ltb q n high ∙ sym (le-ltb q (n + 1) (omega arith)))
+          | inl low ↦ ap (λ b. cond b (seen_of friend (cell_at at.cells q)) Off)
+              (lt-ltb q n low ∙ sym (lt-ltb q (n + 1) (omega arith)))
+          | inr high ↦ ap (λ b. cond b (seen_of friend (cell_at at.cells q)) Off)
+              (le-ltb q n high ∙ sym (le-ltb q (n + 1) (omega arith)))
         ]
       ]
 
-  below_all : (n : ℕ) (o : Option ℕ) → ((q : ℕ) → o ≡ Some q → q < n) → seen_below n at friend o ≡ seen_at_place at friend o
+  below_all : (n : ℕ) (o : Option ℕ) → ((q : ℕ) → o ≡ Some q → q < n)
+      → seen_below n at friend o ≡ seen_at_place at friend o
   below_all n None low = refl
   below_all n (Some q) low = ap (λ b. cond b (seen_of friend (cell_at at.cells q)) Off) (lt-ltb q n (low q refl))
 
   -- at first nothing is seen
-  pub sights_none : (letters : List Seen) → letters ≡ replicate (padded_side * padded_side) Off → AreSightsBelow 0 at friend letters
+  pub sights_none : (letters : List Seen) → letters ≡ replicate (padded_side * padded_side) Off
+      → AreSightsBelow 0 at friend letters
   sights_none letters e = record {
     length = ap length e ∙ length-replicate (padded_side * padded_side) Off;
-    each = λ r c low low'. ap (λ xs. get_or xs (r * padded_side + c) Off) e ∙ get_or-replicate (padded_side * padded_side) (r * padded_side + c) Off Off (mul-add-lt r padded_side c padded_side low low') ∙ sym (below_none (padded_point at.size r c));
+    each = λ r c low low'. ap (λ xs. get_or xs (r * padded_side + c) Off) e
+        ∙ get_or-replicate (padded_side * padded_side) (r * padded_side + c) Off Off
+        (mul-add-lt r padded_side c padded_side low low') ∙ sym (below_none (padded_point at.size r c));
   }
 
   -- one point more is seen
-  pub sights_more : (n w : ℕ) (letters : List Seen) (x : Seen) → AreSightsBelow n at friend letters → 0 < at.size → n < at.size * at.size
-      → w ≡ (n / at.size + largest_offset) * padded_side + (n % at.size + largest_offset) → w < padded_side * padded_side → n / at.size + largest_offset < padded_side → n % at.size + largest_offset < padded_side
+  pub sights_more : (n w : ℕ) (letters : List Seen) (x : Seen) → AreSightsBelow n at friend letters → 0 < at.size
+      → n < at.size * at.size
+      → w ≡ (n / at.size + largest_offset) * padded_side + (n % at.size + largest_offset)
+      → w < padded_side * padded_side → n / at.size + largest_offset < padded_side
+      → n % at.size + largest_offset < padded_side
       → x ≡ seen_of friend (cell_at at.cells n) → AreSightsBelow (n + 1) at friend (set letters w x)
   sights_more n w letters x before some low place within row_low column_low is = record {
     length = length-set letters w x ∙ before.length;
     each = λ r c lr lc. elim (cases_eq (r * padded_side + c) w) [
       | inl same ↦
-          let row : r ≡ n / at.size + largest_offset = sym (div-mul-add r padded_side c lc) ∙ ap (λ k. k / padded_side) (same ∙ place) ∙ div-mul-add (n / at.size + largest_offset) padded_side (n % at.size + largest_offset) column_low in
-          let column : c ≡ n % at.size + largest_offset = sym (mod-mul-add r padded_side c lc) ∙ ap (λ k. k % padded_side) (same ∙ place) ∙ mod-mul-add (n / at.size + largest_offset) padded_side (n % at.size + largest_offset) column_low in
-          ap (λ k. get_or (set letters w x) k Off) same ∙ get_or-set_same letters w x Off (omega (arith, before.length)) ∙ is
+          let row : r ≡ n / at.size + largest_offset =
+          sym (div-mul-add r padded_side c lc) ∙ ap (λ k. k / padded_side) (same ∙ place)
+          ∙ div-mul-add (n / at.size + largest_offset) padded_side (n % at.size + largest_offset) column_low in
+          let column : c ≡ n % at.size + largest_offset =
+          sym (mod-mul-add r padded_side c lc) ∙ ap (λ k. k % padded_side) (same ∙ place)
+          ∙ mod-mul-add (n / at.size + largest_offset) padded_side (n % at.size + largest_offset) column_low in
+          ap (λ k. get_or (set letters w x) k Off) same ∙ get_or-set_same letters w x Off (omega (arith, before.length))
+          ∙ is
           ∙ sym (ap (λ b. cond b (seen_of friend (cell_at at.cells n)) Off) (lt-ltb n (n + 1) (omega arith)))
-          ∙ ap (seen_below (n + 1) at friend) (sym (ap (λ k. padded_point at.size k c) row ∙ ap (padded_point at.size (n / at.size + largest_offset)) column ∙ point_there at.size n some low))
+          ∙ ap (seen_below (n + 1) at friend)
+          (sym (ap (λ k. padded_point at.size k c) row ∙ ap (padded_point at.size (n / at.size + largest_offset)) column
+          ∙ point_there at.size n some low))
       | inr other ↦
           get_or-set_other letters w (r * padded_side + c) x Off other ∙ before.each r c lr lc
           ∙ below_more n (padded_point at.size r c)
-          (λ here. let there = point_from at.size r c n here in other (ap (λ k. k * padded_side + c) there.row ∙ ap (λ k. (n / at.size + largest_offset) * padded_side + k) there.column ∙ sym place))
+          (λ here. let there = point_from at.size r c n here in
+          other (ap (λ k. k * padded_side + c) there.row
+          ∙ ap (λ k. (n / at.size + largest_offset) * padded_side + k) there.column ∙ sym place))
     ];
   }
 

@@ -40,7 +40,8 @@ word_from seen i (suc n) = seen i ∷ word_from seen (suc i) n
 abbrev pub word_at : BoardState → Colour → ℕ → ℕ → ℕ → Word
 word_at pos friend t m n = word_from (seen_at pos friend t m) 0 n
 
--- how many rows and columns the padded board has: those of the largest board, and the largest offset before and behind them
+-- how many rows and columns the padded board has: those of the largest board, and the largest offset before and behind
+-- them
 abbrev pub padded_side : ℕ
 padded_side = 73
 
@@ -56,7 +57,8 @@ seen_below n pos friend (Some q) = if nat_lt q n then seen_of friend (cell_at po
 -- the padded board shows what the friend sees at the points below n, and is off the board elsewhere
 pub record AreSightsBelow (n : ℕ) (pos : BoardState) (friend : Colour) (letters : List Seen) : Type 0 where
   pub length : length letters ≡ padded_side * padded_side
-  pub each : (r c : ℕ) → r < padded_side → c < padded_side → slice_index_or letters (r * padded_side + c) Off ≡ seen_below n pos friend (padded_point pos.size r c)
+  pub each : (r c : ℕ) → r < padded_side → c < padded_side
+      → slice_index_or letters (r * padded_side + c) Off ≡ seen_below n pos friend (padded_point pos.size r c)
 
 -- the padded board shows what the friend sees at each point of a board of this size
 pub record AreSights (pos : BoardState) (friend : Colour) (size : ℕ) (letters : List Seen) : Type 0 where

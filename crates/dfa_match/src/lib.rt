@@ -1,10 +1,10 @@
 //! The scan of a board: an automaton is run from each point under each transformation.
 //!
-//! A hit is a number that the automaton accepts at the end of a word, which is what is seen along the moved spiral from an
-//! anchor. `scan` gives exactly the hits, each once; it is given no diagrams. It reads letter by letter from all anchors
-//! at once: on a padded board each letter of a transformation is one step for all of them, and only where some row
-//! accepts something or is dead are the walks looked at. Two laws say that a word that is read from an anchor matches a
-//! pattern exactly where the pattern fits there.
+//! A hit is a number that the automaton accepts at the end of a word, which is what is seen along the moved spiral from
+//! an anchor. `scan` gives exactly the hits, each once; it is given no diagrams. It reads letter by letter from all
+//! anchors at once: on a padded board each letter of a transformation is one step for all of them, and only where some
+//! row accepts something or is dead are the walks looked at. Two laws say that a word that is read from an anchor
+//! matches a pattern exactly where the pattern fits there.
 //!
 //! After GNU Go Manual, "The DFA pattern matcher".
 #![tactic(auto)]
@@ -88,8 +88,8 @@ fn sweep(
     Ok(())
 }
 
-/// The hits of an automaton on the position of a look: each number that it accepts along the spiral from some anchor under some
-/// transformation, once. `out` must be empty, and gives the allocator. Takes memory.
+/// The hits of an automaton on the position of a look: each number that it accepts along the spiral from some anchor
+/// under some transformation, once. `out` must be empty, and gives the allocator. Takes memory.
 pub fn scan<L: Look>(
     machine: &Automaton,
     look: &mut L,

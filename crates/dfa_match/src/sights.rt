@@ -15,7 +15,8 @@ use go_base::{Cell, Colour, Look, Point, Size};
 /// How many rows and columns the padded board has.
 const SIDE: usize = 73;
 
-/// The letters that a friend sees, row by row, with the largest offset before the first row and column and behind the last ones.
+/// The letters that a friend sees, row by row, with the largest offset before the first row and column and behind the
+/// last ones.
 #[derive(Drop)]
 pub struct Sights {
     /// The size of the board.

@@ -13,18 +13,23 @@ use Rattle.match_rules.specs.declared.found.Match.{Match}
 use Rattle.match_engine.specs.MachineMatches.{is_agreed_at}
 use Rattle.match_engine.specs.HelperCalls.{names_of, plays_of, after_matches}
 
-module _ (slots : List SlotState) (patterns : List Pattern) (board : BoardState) (friend : Colour) (old : List Match) (n : ℕ)
-    (z : Match) (p : Pattern) (now after : List SlotState) (answer : Bool) (low : n < length old) (read : z ≡ get_or old n z)
-    (number : slice_get patterns z.pattern ≡ Some p) (so_far : now ≡ after_matches slots patterns (take n old) board friend)
+module _ (slots : List SlotState) (patterns : List Pattern) (board : BoardState) (friend : Colour) (old : List Match)
+    (n : ℕ)
+    (z : Match) (p : Pattern) (now after : List SlotState) (answer : Bool) (low : n < length old)
+    (read : z ≡ get_or old n z)
+    (number : slice_get patterns z.pattern ≡ Some p)
+    (so_far : now ≡ after_matches slots patterns (take n old) board friend)
     (asked : IsAskedFor now (helper_names p.items) board z.at friend answer after) where
   -- the answer is that of the helpers as they were at first
   pub answer_is : answer ≡ is_agreed_at (says_yes slots) board friend (slice_get patterns z.pattern) z
   answer_is =
-      answer_over-more slots board friend (plays_of patterns (take n old)) (helper_names p.items) z.at now after answer so_far asked
+      answer_over-more slots board friend (plays_of patterns (take n old))
+      (helper_names p.items) z.at now after answer so_far asked
       ∙ sym (ap (λ o. is_agreed_at (says_yes slots) board friend o z) number)
 
   -- the plays up to this one
-  plays_more : plays_of patterns (take n old) ++ (helper_names p.items, z.at) ∷ [] ≡ plays_of patterns (take (n + 1) old)
+  plays_more : plays_of patterns (take n old) ++ (helper_names p.items, z.at) ∷ []
+      ≡ plays_of patterns (take (n + 1) old)
   plays_more =
       ap (λ o. plays_of patterns (take n old) ++ (names_of o, z.at) ∷ []) (sym number)
       ∙ ap (λ y. plays_of patterns (take n old) ++ (names_of (slice_get patterns y.pattern), y.at) ∷ []) read
@@ -34,5 +39,6 @@ module _ (slots : List SlotState) (patterns : List Pattern) (board : BoardState)
   -- and the calls are those about the matches up to this one
   pub calls_are : after ≡ after_matches slots patterns (take (n + 1) old) board friend
   calls_are =
-      asked_over-more slots board friend (plays_of patterns (take n old)) (helper_names p.items) z.at now after answer so_far asked
+      asked_over-more slots board friend (plays_of patterns (take n old))
+      (helper_names p.items) z.at now after answer so_far asked
       ∙ ap (λ plays. raised (asks_over slots plays board friend) slots) plays_more

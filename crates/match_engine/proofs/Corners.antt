@@ -30,21 +30,27 @@ module _ (p : Pattern) (s t m : ℕ) where
   pub on_each : lies_on_board p s t m ≡ true → (r c : ℕ) → r < p.rows → c < p.cols → is_on r c ≡ true
   on_each all r c low low' =
       passes_each (λ k. is_on r k) (range_with_len 0 p.cols)
-      (passes_each (λ k. list_all (is_on k) (range_with_len 0 p.cols)) (range_with_len 0 p.rows) all r (Contains-below_from p.rows r low))
+      (passes_each (λ k. list_all (is_on k) (range_with_len 0 p.cols)) (range_with_len 0 p.rows) all r
+      (Contains-below_from p.rows r low))
       c (Contains-below_from p.cols c low')
 
   -- and the other way round
   pub on_all : ((r c : ℕ) → r < p.rows → c < p.cols → is_on r c ≡ true) → lies_on_board p s t m ≡ true
   on_all each =
       passes_all (λ k. list_all (is_on k) (range_with_len 0 p.cols)) (range_with_len 0 p.rows)
-      (λ r there. passes_all (is_on r) (range_with_len 0 p.cols) (λ c here. each r c (Contains-below p.rows r there) (Contains-below p.cols c here)))
+      (λ r there. passes_all (is_on r) (range_with_len 0 p.cols)
+      (λ c here. each r c (Contains-below p.rows r there) (Contains-below p.cols c here)))
 
   -- where the first and the last letter lie on the board, each does
-  between_corners : t < transformations → is_on 0 0 ≡ true → is_on (p.rows - 1) (p.cols - 1) ≡ true → (r c : ℕ) → r < p.rows → c < p.cols → is_on r c ≡ true
+  between_corners : t < transformations → is_on 0 0 ≡ true → is_on (p.rows - 1) (p.cols - 1) ≡ true → (r c : ℕ)
+      → r < p.rows → c < p.cols → is_on r c ≡ true
   between_corners low first last r c row column =
       let a = some_value (place_of_cell p s t m (pos 0) (pos 0)) first in
       let b = some_value (place_of_cell p s t m (pos (p.rows - 1)) (pos (p.cols - 1))) last in
-      let found = placed_between s t m a.0 b.0 (pos 0 -ℤ pos p.star.0, pos 0 -ℤ pos p.star.1) (pos r -ℤ pos p.star.0, pos c -ℤ pos p.star.1) (pos (p.rows - 1) -ℤ pos p.star.0, pos (p.cols - 1) -ℤ pos p.star.1)
+      let found = placed_between s t m a.0 b.0 (pos 0 -ℤ pos p.star.0, pos 0 -ℤ pos p.star.1) (
+        pos r -ℤ pos p.star.0,
+        pos c -ℤ pos p.star.1,
+      ) (pos (p.rows - 1) -ℤ pos p.star.0, pos (p.cols - 1) -ℤ pos p.star.1)
       low a.1 b.1 (record {
         above = omega (arith, ints);
         below = omega (arith, ints, row);
@@ -58,7 +64,8 @@ module _ (p : Pattern) (s t m : ℕ) where
   last_decides low first =
       same_test (is_on (p.rows - 1) (p.cols - 1)) (lies_on_board p s t m)
       (λ last. on_all (between_corners low first last))
-      (λ all. on_each all (p.rows - 1) (p.cols - 1) (omega (arith, p.diagram.rows_from)) (omega (arith, p.diagram.columns_from)))
+      (λ all. on_each all (p.rows - 1) (p.cols - 1) (omega (arith, p.diagram.rows_from))
+      (omega (arith, p.diagram.columns_from)))
 
   -- where the first letter does not, the diagram does not
   pub first_decides : is_on 0 0 ≡ false → false ≡ lies_on_board p s t m

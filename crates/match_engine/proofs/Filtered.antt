@@ -20,7 +20,8 @@ and_yes true y is = is
 and_yes false y is = refl
 
 -- a test is passed after two others, the second of which is beside one that is passed
-pub asked_last : (found allowed y agreed : Bool) → y ≡ true → (found && (allowed && agreed)) ≡ ((found && (allowed && y)) && agreed)
+pub asked_last : (found allowed y agreed : Bool) → y ≡ true
+    → (found && (allowed && agreed)) ≡ ((found && (allowed && y)) && agreed)
 asked_last true true y agreed is = sym (ap (λ b. b && agreed) is)
 asked_last true false y agreed is = refl
 asked_last false allowed y agreed is = refl
@@ -42,11 +43,19 @@ module _ (patterns : List Pattern) (s : ℕ) (test after : ℕ → Pattern → �
         number = by.number;
         transform = by.transform;
         at = by.at;
-        passes = is z by.pattern by.number ∙ and_from (test z.pattern by.pattern z.transform z.at) (keep z) by.passes kept.1;
+        passes = is z by.pattern by.number ∙ and_from (test z.pattern by.pattern z.transform z.at)
+            (keep z) by.passes kept.1;
       }))
       (λ z there.
       let by = by-has after patterns s z there in
-      let parts = and_parts (test z.pattern by.pattern z.transform z.at) (keep z) (sym (is z by.pattern by.number) ∙ by.passes) in
+      let parts = and_parts (test z.pattern by.pattern z.transform z.at) (keep z)
+      (sym (is z by.pattern by.number) ∙ by.passes) in
       Contains-filter_from keep (matches_by test patterns s) z
-      (by-from test patterns s z (record { pattern = by.pattern; number = by.number; transform = by.transform; at = by.at; passes = parts.0 }))
+      (by-from test patterns s z (record {
+        pattern = by.pattern;
+        number = by.number;
+        transform = by.transform;
+        at = by.at;
+        passes = parts.0;
+      }))
       parts.1)

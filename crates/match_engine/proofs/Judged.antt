@@ -10,16 +10,21 @@ module _ (code : Codes) (p : Pattern) (board : BoardState) (friend : Colour) (t 
   -- a friend's stone that is not safe settles it
   pub unsafe_refused : is_safe code p board friend m ≡ false → false ≡ is_allowed code p board friend t m
   unfolding is_allowed
-  unsafe_refused e = sym (ap (λ b. b && (is_enemy_safe code p board friend m && is_constraint_true code p board friend t m)) e)
+  unsafe_refused e = sym (ap
+      (λ b. b && (is_enemy_safe code p board friend m && is_constraint_true code p board friend t m)) e)
 
   -- so does an enemy's
-  pub enemy_refused : is_safe code p board friend m ≡ true → is_enemy_safe code p board friend m ≡ false → false ≡ is_allowed code p board friend t m
+  pub enemy_refused : is_safe code p board friend m ≡ true → is_enemy_safe code p board friend m ≡ false
+      → false ≡ is_allowed code p board friend t m
   unfolding is_allowed
   enemy_refused safe e =
-      sym (ap (λ b. b && (is_enemy_safe code p board friend m && is_constraint_true code p board friend t m)) safe ∙ ap (λ b. b && is_constraint_true code p board friend t m) e)
+      sym (ap (λ b. b && (is_enemy_safe code p board friend m && is_constraint_true code p board friend t m)) safe
+      ∙ ap (λ b. b && is_constraint_true code p board friend t m) e)
 
   -- else the constraint does
-  pub by_constraint : is_safe code p board friend m ≡ true → is_enemy_safe code p board friend m ≡ true → is_constraint_true code p board friend t m ≡ is_allowed code p board friend t m
+  pub by_constraint : is_safe code p board friend m ≡ true → is_enemy_safe code p board friend m ≡ true
+      → is_constraint_true code p board friend t m ≡ is_allowed code p board friend t m
   unfolding is_allowed
   by_constraint safe enemy =
-      sym (ap (λ b. b && (is_enemy_safe code p board friend m && is_constraint_true code p board friend t m)) safe ∙ ap (λ b. b && is_constraint_true code p board friend t m) enemy)
+      sym (ap (λ b. b && (is_enemy_safe code p board friend m && is_constraint_true code p board friend t m)) safe
+      ∙ ap (λ b. b && is_constraint_true code p board friend t m) enemy)

@@ -4,7 +4,8 @@ use Rattle.std.proofs.lemmas.List.{take_more, take_more_set, take_all, drop-drop
 use Rattle.std.proofs.lemmas.List.Elements.{filter-append, Contains-get_or}
 use Rattle.match_rules.specs.declared.found.Match.{Match}
 
--- of the first n elements of a list the first k places have those that pass the test, and the rest of the list is as it was
+-- of the first n elements of a list the first k places have those that pass the test, and the rest of the list is as it
+-- was
 pub record KeepsFirst (test : Match → Bool) (old now : List Match) (k n : ℕ) : Type 0 where
   pub fewer : k ≤ n
   pub few : n ≤ length old
@@ -14,18 +15,22 @@ pub record KeepsFirst (test : Match → Bool) (old now : List Match) (k n : ℕ)
 
 -- of no element none is kept
 pub KeepsFirst-none : (test : Match → Bool) (old : List Match) → KeepsFirst test old old 0 0
-KeepsFirst-none test old = record { fewer = omega arith; few = omega arith; same_length = refl; kept = refl; rest = refl }
+KeepsFirst-none test old =
+    record { fewer = omega arith; few = omega arith; same_length = refl; kept = refl; rest = refl }
 
-module _ (test : Match → Bool) (old now : List Match) (k n : ℕ) (z : Match) (before : KeepsFirst test old now k n) (low : n < length old) (read : z ≡ get_or now n z) where
+module _ (test : Match → Bool) (old now : List Match) (k n : ℕ) (z : Match) (before : KeepsFirst test old now k n)
+    (low : n < length old) (read : z ≡ get_or now n z) where
   -- the element that is read is the one of before
   pub read_old : z ≡ get_or old n z
   read_old =
       let first : n + 0 ≡ n = omega arith in
-      read ∙ ap (λ i. get_or now i z) (sym first) ∙ sym (get_or-drop n now 0 z) ∙ ap (λ xs. get_or xs 0 z) before.rest ∙ get_or-drop n old 0 z ∙ ap (λ i. get_or old i z) first
+      read ∙ ap (λ i. get_or now i z) (sym first) ∙ sym (get_or-drop n now 0 z) ∙ ap (λ xs. get_or xs 0 z) before.rest
+      ∙ get_or-drop n old 0 z ∙ ap (λ i. get_or old i z) first
 
   -- one element more is kept where it passes
   one_more : filter test (take (n + 1) old) ≡ filter test (take n old) ++ cond (test z) (z ∷ []) []
-  one_more = ap (filter test) (take_more old n z low ∙ ap (λ y. take n old ++ y ∷ []) (sym read_old)) ∙ filter-append test (take n old) (z ∷ [])
+  one_more = ap (filter test) (take_more old n z low ∙ ap (λ y. take n old ++ y ∷ []) (sym read_old))
+      ∙ filter-append test (take n old) (z ∷ [])
 
   -- the rest loses its first
   rest_later : (xs : List Match) → drop n xs ≡ drop n old → drop (n + 1) xs ≡ drop (n + 1) old
@@ -38,7 +43,8 @@ module _ (test : Match → Bool) (old now : List Match) (k n : ℕ) (z : Match) 
     few = omega (arith, low);
     same_length = length-set now k z ∙ before.same_length;
     kept =
-        take_more_set now k z (omega (arith, before.fewer, low, before.same_length)) ∙ ap (λ xs. xs ++ z ∷ []) before.kept
+        take_more_set now k z (omega (arith, before.fewer, low, before.same_length))
+        ∙ ap (λ xs. xs ++ z ∷ []) before.kept
         ∙ ap (λ b. filter test (take n old) ++ cond b (z ∷ []) []) (sym passes) ∙ sym one_more;
     rest = drop-set-lt (n + 1) now k z (omega (arith, before.fewer)) ∙ rest_later now before.rest;
   }
@@ -49,19 +55,28 @@ module _ (test : Match → Bool) (old now : List Match) (k n : ℕ) (z : Match) 
     fewer = omega (arith, before.fewer);
     few = omega (arith, low);
     same_length = before.same_length;
-    kept = before.kept ∙ sym (append-nil (filter test (take n old))) ∙ ap (λ b. filter test (take n old) ++ cond b (z ∷ []) []) (sym fails) ∙ sym one_more;
+    kept = before.kept ∙ sym (append-nil (filter test (take n old)))
+        ∙ ap (λ b. filter test (take n old) ++ cond b (z ∷ []) []) (sym fails) ∙ sym one_more;
     rest = rest_later now before.rest;
   }
 
   -- whichever it does
-  pub kept_next : (b : Bool) (after : List Match) (j : ℕ) → b ≡ test z → after ≡ cond b (set now k z) now → j ≡ cond b (k + 1) k → KeepsFirst test old after j (n + 1)
-  kept_next true after j is now_is count = subst (λ i. KeepsFirst test old after i (n + 1)) (sym count) (subst (λ xs. KeepsFirst test old xs (k + 1) (n + 1)) (sym now_is) (kept_one (sym is)))
-  kept_next false after j is now_is count = subst (λ i. KeepsFirst test old after i (n + 1)) (sym count) (subst (λ xs. KeepsFirst test old xs k (n + 1)) (sym now_is) (passed_over (sym is)))
+  pub kept_next : (b : Bool) (after : List Match) (j : ℕ) → b ≡ test z → after ≡ cond b (set now k z) now
+      → j ≡ cond b (k + 1) k → KeepsFirst test old after j (n + 1)
+  kept_next true after j is now_is count =
+      subst (λ i. KeepsFirst test old after i (n + 1)) (sym count)
+      (subst (λ xs. KeepsFirst test old xs (k + 1) (n + 1)) (sym now_is) (kept_one (sym is)))
+  kept_next false after j is now_is count =
+      subst (λ i. KeepsFirst test old after i (n + 1)) (sym count)
+      (subst (λ xs. KeepsFirst test old xs k (n + 1)) (sym now_is) (passed_over (sym is)))
 
 -- at the end the first places have all that pass
-pub all_kept : (test : Match → Bool) (old now : List Match) (k n : ℕ) → KeepsFirst test old now k n → length old ≤ n → take k now ≡ filter test old
+pub all_kept : (test : Match → Bool) (old now : List Match) (k n : ℕ) → KeepsFirst test old now k n → length old ≤ n
+    → take k now ≡ filter test old
 all_kept test old now k n is end = is.kept ∙ ap (filter test) (take_all n old end)
 
 -- the element that is read next is one of the list
-pub kept_there : (test : Match → Bool) (old now : List Match) (k n : ℕ) (z : Match) → KeepsFirst test old now k n → n < length old → z ≡ get_or now n z → Contains old z
-kept_there test old now k n z before low read = subst (Contains old) (sym (read_old test old now k n z before low read)) (Contains-get_or old n z low)
+pub kept_there : (test : Match → Bool) (old now : List Match) (k n : ℕ) (z : Match) → KeepsFirst test old now k n
+    → n < length old → z ≡ get_or now n z → Contains old z
+kept_there test old now k n z before low read =
+    subst (Contains old) (sym (read_old test old now k n z before low read)) (Contains-get_or old n z low)

@@ -34,11 +34,14 @@ use Rattle.match_engine.proofs.Places.{sum_of, placed_on, place_at-sum, place_at
 use Rattle.match_engine.proofs.Sorting.{match_cmp, sorted-in_order, AreDistinct-permutation, AreDistinct-filter_map}
 
 -- one hit more, and the match that it is
-pub among_more : (f : Hit → Option Match) (hits : List Hit) (i : ℕ) (hit : Hit) (before after : List Match) → i < length hits → hit ≡ get_or hits i hit
-    → before ≡ filter_map f (take i hits) → after ≡ before ++ option_to_list (f hit) → after ≡ filter_map f (take (i + 1) hits)
+pub among_more : (f : Hit → Option Match) (hits : List Hit) (i : ℕ) (hit : Hit) (before after : List Match)
+    → i < length hits → hit ≡ get_or hits i hit
+    → before ≡ filter_map f (take i hits) → after ≡ before ++ option_to_list (f hit)
+    → after ≡ filter_map f (take (i + 1) hits)
 among_more f hits i hit before after low read was now =
     now ∙ ap (λ zs. zs ++ option_to_list (f hit)) was ∙ ap (λ zs. filter_map f (take i hits) ++ zs) (alone (f hit))
-    ∙ sym (ap (filter_map f) (take_more hits i hit low ∙ ap (λ h. take i hits ++ h ∷ []) (sym read)) ∙ filter_map-append f (take i hits) (hit ∷ []))
+    ∙ sym (ap (filter_map f) (take_more hits i hit low ∙ ap (λ h. take i hits ++ h ∷ []) (sym read))
+    ∙ filter_map-append f (take i hits) (hit ∷ []))
   where
     alone : (o : Option Match) → option_to_list o ≡ filter_map (λ (x : Option Match). x) (o ∷ [])
     alone None = refl
@@ -56,7 +59,8 @@ count_within Ex = omega arith
 count_within Oh = omega arith
 
 -- a hit of the pattern with the number is the match z
-pub record IsMade (patterns : List Pattern) (board : BoardState) (friend : Colour) (hit : Hit) (z : Match) : Type 0 where
+pub record IsMade (patterns : List Pattern) (board : BoardState) (friend : Colour) (hit : Hit)
+    (z : Match) : Type 0 where
   pub pattern : Pattern
   pub number : slice_get patterns hit.pattern ≡ Some pattern
   pub transform : hit.transform < count_of pattern.mark
@@ -75,11 +79,13 @@ module _ (patterns : List Pattern) (board : BoardState) (friend : Colour) where
   pub made-Some : (hit : Hit) (z : Match) → made hit ≡ Some z → IsMade patterns board friend hit z
   made-Some hit z e = by_pattern (slice_get patterns hit.pattern) refl e
     where
-      by_star : (p : Pattern) (star : Option ℕ) → slice_get patterns hit.pattern ≡ Some p → hit.transform < count_of p.mark → place_of_star p board.size hit.transform hit.anchor ≡ star
+      by_star : (p : Pattern) (star : Option ℕ) → slice_get patterns hit.pattern ≡ Some p
+          → hit.transform < count_of p.mark → place_of_star p board.size hit.transform hit.anchor ≡ star
           → match_at p board friend hit.pattern hit.transform star ≡ Some z → IsMade patterns board friend hit z
       by_star p None number low at found = absurd (none-some z found)
       by_star p (Some m) number low at found =
-          let parts = cond_some (lies_on_board p board.size hit.transform m && is_legal board friend m) (record { pattern = hit.pattern; transform = hit.transform; at = m }) z found in
+          let parts = cond_some (lies_on_board p board.size hit.transform m && is_legal board friend m)
+          (record { pattern = hit.pattern; transform = hit.transform; at = m }) z found in
           let both = and_parts (lies_on_board p board.size hit.transform m) (is_legal board friend m) parts.0 in
           let same : m ≡ z.at = ap (λ (y : Match). y.at) parts.1 in
           record {
@@ -93,12 +99,17 @@ module _ (patterns : List Pattern) (board : BoardState) (friend : Colour) where
             same_transform = ap (λ (y : Match). y.transform) parts.1;
           }
 
-      by_test : (p : Pattern) (b : Bool) → slice_get patterns hit.pattern ≡ Some p → ltb hit.transform (count_of p.mark) ≡ b
-          → cond b (match_at p board friend hit.pattern hit.transform (place_of_star p board.size hit.transform hit.anchor)) None ≡ Some z → IsMade patterns board friend hit z
-      by_test p true number low found = by_star p (place_of_star p board.size hit.transform hit.anchor) number (ltb-true hit.transform (count_of p.mark) low) refl found
+      by_test : (p : Pattern) (b : Bool) → slice_get patterns hit.pattern ≡ Some p
+          → ltb hit.transform (count_of p.mark) ≡ b
+          → cond b (match_at p board friend hit.pattern hit.transform
+          (place_of_star p board.size hit.transform hit.anchor)) None ≡ Some z → IsMade patterns board friend hit z
+      by_test p true number low found =
+          by_star p (place_of_star p board.size hit.transform hit.anchor) number
+          (ltb-true hit.transform (count_of p.mark) low) refl found
       by_test p false number low found = absurd (none-some z found)
 
-      by_pattern : (o : Option Pattern) → slice_get patterns hit.pattern ≡ o → match_from o board friend hit ≡ Some z → IsMade patterns board friend hit z
+      by_pattern : (o : Option Pattern) → slice_get patterns hit.pattern ≡ o → match_from o board friend hit ≡ Some z
+          → IsMade patterns board friend hit z
       by_pattern None number found = absurd (none-some z found)
       by_pattern (Some p) number found = by_test p (ltb hit.transform (count_of p.mark)) number refl found
 
@@ -106,86 +117,132 @@ module _ (patterns : List Pattern) (board : BoardState) (friend : Colour) where
   pub made-from : (hit : Hit) (z : Match) → IsMade patterns board friend hit z → made hit ≡ Some z
   made-from hit z is =
       ap (λ o. match_from o board friend hit) is.number
-      ∙ ap (λ b. cond b (match_at is.pattern board friend hit.pattern hit.transform (place_of_star is.pattern board.size hit.transform hit.anchor)) None) (lt-ltb hit.transform (count_of is.pattern.mark) is.transform)
+      ∙ ap (λ b. cond b (match_at is.pattern board friend hit.pattern hit.transform
+      (place_of_star is.pattern board.size hit.transform hit.anchor)) None)
+      (lt-ltb hit.transform (count_of is.pattern.mark) is.transform)
       ∙ ap (match_at is.pattern board friend hit.pattern hit.transform) is.star
-      ∙ ap (λ b. cond b (Some (record { pattern = hit.pattern; transform = hit.transform; at = z.at })) None) (and_from (lies_on_board is.pattern board.size hit.transform z.at) (is_legal board friend z.at) is.whole is.legal)
+      ∙ ap (λ b. cond b (Some (record { pattern = hit.pattern; transform = hit.transform; at = z.at })) None)
+      (and_from (lies_on_board is.pattern board.size hit.transform z.at) (is_legal board friend z.at) is.whole is.legal)
       ∙ ap Some (λ i. record { pattern = is.same_pattern i; transform = is.same_transform i; at = z.at })
 
 module _ (p : Pattern) (s t : ℕ) where
   -- an offset and the one back lead nowhere
-  there_and_back : (x y : ℕ × ℕ) → sum_of (pos x.0 -ℤ pos y.0, pos x.1 -ℤ pos y.1) (pos y.0 -ℤ pos x.0, pos y.1 -ℤ pos x.1) ≡ (pos 0, pos 0)
+  there_and_back : (x y : ℕ × ℕ)
+      → sum_of (pos x.0 -ℤ pos y.0, pos x.1 -ℤ pos y.1) (pos y.0 -ℤ pos x.0, pos y.1 -ℤ pos x.1) ≡ (pos 0, pos 0)
   there_and_back x y =
       let row : (pos x.0 -ℤ pos y.0) +ℤ (pos y.0 -ℤ pos x.0) ≡ pos 0 = omega (arith, ints) in
       let column : (pos x.1 -ℤ pos y.1) +ℤ (pos y.1 -ℤ pos x.1) ≡ pos 0 = omega (arith, ints) in
       λ i. (row i, column i)
 
   -- from the anchor of a star the star is found
-  pub star_of_anchor : (m a : ℕ) → t < transformations → m < s * s → place_of_anchor p s t m ≡ Some a → place_of_star p s t a ≡ Some m
+  pub star_of_anchor : (m a : ℕ) → t < transformations → m < s * s → place_of_anchor p s t m ≡ Some a
+      → place_of_star p s t a ≡ Some m
   star_of_anchor m a low on at =
-      place_at-sum s t m (pos (anchor_of p).0 -ℤ pos p.star.0, pos (anchor_of p).1 -ℤ pos p.star.1) (pos p.star.0 -ℤ pos (anchor_of p).0, pos p.star.1 -ℤ pos (anchor_of p).1) a low at
+      place_at-sum s t m (
+        pos (anchor_of p).0 -ℤ pos p.star.0,
+        pos (anchor_of p).1 -ℤ pos p.star.1,
+      ) (
+        pos p.star.0 -ℤ pos (anchor_of p).0,
+        pos p.star.1 -ℤ pos (anchor_of p).1,
+      ) a low at
       ∙ ap (place_at s t m) (there_and_back (anchor_of p) p.star) ∙ place_at-none s t m low on
 
   -- and the other way round
-  pub anchor_of_star : (a m : ℕ) → t < transformations → a < s * s → place_of_star p s t a ≡ Some m → place_of_anchor p s t m ≡ Some a
+  pub anchor_of_star : (a m : ℕ) → t < transformations → a < s * s → place_of_star p s t a ≡ Some m
+      → place_of_anchor p s t m ≡ Some a
   anchor_of_star a m low on at =
-      place_at-sum s t a (pos p.star.0 -ℤ pos (anchor_of p).0, pos p.star.1 -ℤ pos (anchor_of p).1) (pos (anchor_of p).0 -ℤ pos p.star.0, pos (anchor_of p).1 -ℤ pos p.star.1) m low at
+      place_at-sum s t a (
+        pos p.star.0 -ℤ pos (anchor_of p).0,
+        pos p.star.1 -ℤ pos (anchor_of p).1,
+      ) (
+        pos (anchor_of p).0 -ℤ pos p.star.0,
+        pos (anchor_of p).1 -ℤ pos p.star.1,
+      ) m low at
       ∙ ap (place_at s t a) (there_and_back p.star (anchor_of p)) ∙ place_at-none s t a low on
 
 module _ (machine : List Row) (board : BoardState) (friend : Colour) where
   -- what the machine accepts from an anchor is a hit
-  pub hit_of_accept : (number t a : ℕ) → t < transformations → a < board.size * board.size → accepts_from machine board friend number t a ≡ true
+  pub hit_of_accept : (number t a : ℕ) → t < transformations → a < board.size * board.size
+      → accepts_from machine board friend number t a ≡ true
       → IsHit machine board friend (record { pattern = number; transform = t; anchor = a })
   unfolding accepts_from
   hit_of_accept number t a low on accepts =
-      let front = any_below_gives (offset_count + 1) (λ n. list_any (λ k. eqb k number) (accepted machine (word_at board friend t a n))) accepts in
+      let front = any_below_gives (offset_count + 1)
+      (λ n. list_any (λ k. eqb k number) (accepted machine (word_at board friend t a n))) accepts in
       let found = Any-from_list_any (λ k. eqb k number) (accepted machine (word_at board friend t a front.0)) front.2 in
       record {
         transform = low;
         anchor = on;
         letters = front.0;
         spiral = omega (arith, front.1);
-        accepts = subst (Contains (accepted machine (word_at board friend t a front.0))) (eqb-true found.1 number found.4) (found.0, found.2, found.3);
+        accepts = subst (Contains (accepted machine (word_at board friend t a front.0)))
+            (eqb-true found.1 number found.4) (found.0, found.2, found.3);
       }
 
   -- and the other way round
-  pub accept_of_hit : (hit : Hit) → IsHit machine board friend hit → accepts_from machine board friend hit.pattern hit.transform hit.anchor ≡ true
+  pub accept_of_hit : (hit : Hit) → IsHit machine board friend hit
+      → accepts_from machine board friend hit.pattern hit.transform hit.anchor ≡ true
   unfolding accepts_from
   accept_of_hit hit is =
-      any_below_from (offset_count + 1) (λ n. list_any (λ k. eqb k hit.pattern) (accepted machine (word_at board friend hit.transform hit.anchor n))) is.letters (omega (arith, is.spiral))
-      (list_any-from_Any (λ k. eqb k hit.pattern) (accepted machine (word_at board friend hit.transform hit.anchor is.letters)) (is.accepts.0, hit.pattern, is.accepts.1, is.accepts.2, eq-eqb hit.pattern hit.pattern refl))
+      any_below_from (offset_count + 1) (λ n. list_any (λ k. eqb k hit.pattern)
+      (accepted machine (word_at board friend hit.transform hit.anchor n))) is.letters (omega (arith, is.spiral))
+      (list_any-from_Any (λ k. eqb k hit.pattern)
+      (accepted machine (word_at board friend hit.transform hit.anchor is.letters)) (
+        is.accepts.0,
+        hit.pattern,
+        is.accepts.1,
+        is.accepts.2,
+        eq-eqb hit.pattern hit.pattern refl,
+      ))
 
   -- a hit at an anchor that is there
-  pub has_hit-true : (number t : ℕ) (anchor : Option ℕ) → has_hit machine board friend number t anchor ≡ true → (a : ℕ) × (anchor ≡ Some a) × (accepts_from machine board friend number t a ≡ true)
+  pub has_hit-true : (number t : ℕ) (anchor : Option ℕ) → has_hit machine board friend number t anchor ≡ true
+      → (a : ℕ) × (anchor ≡ Some a) × (accepts_from machine board friend number t a ≡ true)
   has_hit-true number t None e = absurd (false≢true e)
   has_hit-true number t (Some a) e = (a, refl, e)
 
   module _ (patterns : List Pattern) where
     -- the match of a hit is one by the machine
-    by_of_hit : (hit : Hit) (z : Match) → IsHit machine board friend hit → IsMade patterns board friend hit z → IsBy (is_found machine board friend) patterns board.size z
+    by_of_hit : (hit : Hit) (z : Match) → IsHit machine board friend hit → IsMade patterns board friend hit z
+        → IsBy (is_found machine board friend) patterns board.size z
     by_of_hit hit z is made =
         let low : hit.transform < transformations = is.transform in
         let anchor = anchor_of_star made.pattern board.size hit.transform hit.anchor z.at low is.anchor made.star in
         let test : is_found machine board friend hit.pattern made.pattern hit.transform z.at ≡ true =
-        and_from (has_hit machine board friend hit.pattern hit.transform (place_of_anchor made.pattern board.size hit.transform z.at)) (lies_on_board made.pattern board.size hit.transform z.at && is_legal board friend z.at)
+        and_from (has_hit machine board friend hit.pattern hit.transform
+        (place_of_anchor made.pattern board.size hit.transform z.at))
+        (lies_on_board made.pattern board.size hit.transform z.at && is_legal board friend z.at)
         (ap (has_hit machine board friend hit.pattern hit.transform) anchor ∙ accept_of_hit hit is)
-        (and_from (lies_on_board made.pattern board.size hit.transform z.at) (is_legal board friend z.at) made.whole made.legal) in
+        (and_from (lies_on_board made.pattern board.size hit.transform z.at)
+        (is_legal board friend z.at) made.whole made.legal) in
         record {
           pattern = made.pattern;
           number = ap (slice_get patterns) (sym made.same_pattern) ∙ made.number;
           transform = subst (λ t. t < count_of made.pattern.mark) made.same_transform made.transform;
-          at = placed_on board.size hit.transform hit.anchor (pos made.pattern.star.0 -ℤ pos (anchor_of made.pattern).0, pos made.pattern.star.1 -ℤ pos (anchor_of made.pattern).1) z.at made.star;
-          passes = subst (λ t. is_found machine board friend z.pattern made.pattern t z.at ≡ true) made.same_transform (subst (λ n. is_found machine board friend n made.pattern hit.transform z.at ≡ true) made.same_pattern test);
+          at = placed_on board.size hit.transform hit.anchor (
+            pos made.pattern.star.0 -ℤ pos (anchor_of made.pattern).0,
+            pos made.pattern.star.1 -ℤ pos (anchor_of made.pattern).1,
+          ) z.at made.star;
+          passes = subst (λ t. is_found machine board friend z.pattern made.pattern t z.at ≡ true) made.same_transform
+              (subst (λ n. is_found machine board friend n made.pattern hit.transform z.at ≡ true) made.same_pattern
+              test);
         }
 
     -- a match by the machine is that of a hit
-    hit_of_by : (z : Match) → IsBy (is_found machine board friend) patterns board.size z → (hit : Hit) × IsHit machine board friend hit × IsMade patterns board friend hit z
+    hit_of_by : (z : Match) → IsBy (is_found machine board friend) patterns board.size z
+        → (hit : Hit) × IsHit machine board friend hit × IsMade patterns board friend hit z
     hit_of_by z by =
         let p : Pattern = by.pattern in
-        let parts = and_parts (has_hit machine board friend z.pattern z.transform (place_of_anchor p board.size z.transform z.at)) (lies_on_board p board.size z.transform z.at && is_legal board friend z.at) by.passes in
+        let parts = and_parts (has_hit machine board friend z.pattern z.transform
+        (place_of_anchor p board.size z.transform z.at))
+        (lies_on_board p board.size z.transform z.at && is_legal board friend z.at) by.passes in
         let both = and_parts (lies_on_board p board.size z.transform z.at) (is_legal board friend z.at) parts.1 in
         let found = has_hit-true z.pattern z.transform (place_of_anchor p board.size z.transform z.at) parts.0 in
         let low : z.transform < transformations = omega (arith, by.transform, count_within p.mark) in
-        let on = placed_on board.size z.transform z.at (pos (anchor_of p).0 -ℤ pos p.star.0, pos (anchor_of p).1 -ℤ pos p.star.1) found.0 found.1 in (
+        let on = placed_on board.size z.transform z.at (
+          pos (anchor_of p).0 -ℤ pos p.star.0,
+          pos (anchor_of p).1 -ℤ pos p.star.1,
+        ) found.0 found.1 in (
           record { pattern = z.pattern; transform = z.transform; anchor = found.0 },
           hit_of_accept z.pattern z.transform found.0 low on found.2,
           record {
@@ -201,37 +258,49 @@ module _ (machine : List Row) (board : BoardState) (friend : Colour) where
         )
 
     -- two hits that are one match are one hit
-    one_hit : (g h : Hit) (z : Match) → IsMade patterns board friend g z → IsMade patterns board friend h z → IsHit machine board friend g → IsHit machine board friend h → g ≡ h
+    one_hit : (g h : Hit) (z : Match) → IsMade patterns board friend g z → IsMade patterns board friend h z
+        → IsHit machine board friend g → IsHit machine board friend h → g ≡ h
     one_hit g h z made other is_g is_h =
         let patterns_same : g.pattern ≡ h.pattern = made.same_pattern ∙ sym other.same_pattern in
         let transforms_same : g.transform ≡ h.transform = made.same_transform ∙ sym other.same_transform in
-        let one : made.pattern ≡ other.pattern = same_Some made.pattern other.pattern (sym made.number ∙ ap (slice_get patterns) patterns_same ∙ other.number) in
+        let one : made.pattern ≡ other.pattern =
+        same_Some made.pattern other.pattern (sym made.number ∙ ap (slice_get patterns) patterns_same
+        ∙ other.number) in
         let anchors : Some g.anchor ≡ Some h.anchor =
         sym (anchor_of_star made.pattern board.size g.transform g.anchor z.at is_g.transform is_g.anchor made.star)
-        ∙ ap (λ t. place_of_anchor made.pattern board.size t z.at) transforms_same ∙ ap (λ p. place_of_anchor p board.size h.transform z.at) one
+        ∙ ap (λ t. place_of_anchor made.pattern board.size t z.at) transforms_same
+        ∙ ap (λ p. place_of_anchor p board.size h.transform z.at) one
         ∙ anchor_of_star other.pattern board.size h.transform h.anchor z.at is_h.transform is_h.anchor other.star in
         let anchor : g.anchor ≡ h.anchor = same_Some g.anchor h.anchor anchors in
         λ i. record { pattern = patterns_same i; transform = transforms_same i; anchor = anchor i }
 
     -- the matches that the hits are differ
-    made-distinct : (hits : List Hit) → AreHits machine board friend hits → AreDistinct (filter_map (made patterns board friend) hits)
+    made-distinct : (hits : List Hit) → AreHits machine board friend hits
+        → AreDistinct (filter_map (made patterns board friend) hits)
     made-distinct hits are =
         AreDistinct-filter_map (made patterns board friend) hits
-        (λ g h z in_g in_h e f. one_hit g h z (made-Some patterns board friend g z e) (made-Some patterns board friend h z f) (are.sound g in_g) (are.sound h in_h)) are.once
+        (λ g h z in_g in_h e f. one_hit g h z (made-Some patterns board friend g z e)
+        (made-Some patterns board friend h z f) (are.sound g in_g) (are.sound h in_h)) are.once
 
     -- the matches of the hits, sorted, are what the machine finds
-    pub sorted_matches : (hits : List Hit) (found sorted : List Match) → AreHits machine board friend hits → found ≡ filter_map (made patterns board friend) hits
+    pub sorted_matches : (hits : List Hit) (found sorted : List Match) → AreHits machine board friend hits
+        → found ≡ filter_map (made patterns board friend) hits
         → IsPermutation found sorted → IsSorted match_cmp sorted → sorted ≡ found_by machine patterns board friend
     unfolding found_by
     sorted_matches hits found sorted are from moved order =
         same_matches sorted (found_by machine patterns board friend)
-        (sorted-in_order sorted order (AreDistinct-permutation found sorted moved (subst AreDistinct (sym from) (made-distinct hits are))))
+        (sorted-in_order sorted order (AreDistinct-permutation found sorted moved
+        (subst AreDistinct (sym from) (made-distinct hits are))))
         (by-in_order (is_found machine board friend) patterns board.size)
         (λ z there.
-        let here : Contains (filter_map (made patterns board friend) hits) z = subst (λ zs. Contains zs z) from (Contains-permutation sorted found z (IsPermutation-sym found sorted moved) there) in
+        let here : Contains (filter_map (made patterns board friend) hits) z =
+        subst (λ zs. Contains zs z) from (Contains-permutation sorted found z
+        (IsPermutation-sym found sorted moved) there) in
         let of = Contains-filter_map (made patterns board friend) hits z here in
-        by-from (is_found machine board friend) patterns board.size z (by_of_hit of.0 z (are.sound of.0 of.1) (made-Some patterns board friend of.0 z of.2)))
+        by-from (is_found machine board friend) patterns board.size z
+        (by_of_hit of.0 z (are.sound of.0 of.1) (made-Some patterns board friend of.0 z of.2)))
         (λ z there.
         let of = hit_of_by z (by-has (is_found machine board friend) patterns board.size z there) in
         Contains-permutation found sorted z moved
-        (subst (λ zs. Contains zs z) (sym from) (Contains-filter_map_from (made patterns board friend) hits of.0 z (are.complete of.0 of.1) (made-from patterns board friend of.0 z of.2))))
+        (subst (λ zs. Contains zs z) (sym from) (Contains-filter_map_from (made patterns board friend) hits of.0 z
+        (are.complete of.0 of.1) (made-from patterns board friend of.0 z of.2))))

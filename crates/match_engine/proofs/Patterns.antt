@@ -30,14 +30,25 @@ use Rattle.match_engine.proofs.Filtered.{matches_by-filter, all_agreed, and_yes,
 use Rattle.match_rules.proofs.Orders.{IsBy, by-has, by-from, by-in_order, same_matches}
 use Rattle.match_engine.proofs.Places.{sum_of, placed_on, place_at-sum}
 
-module _ (p : Pattern) (board : BoardState) (friend : Colour) (t m a : ℕ) (low : t < transformations) (anchor : place_of_anchor p board.size t m ≡ Some a) where
+module _ (p : Pattern) (board : BoardState) (friend : Colour) (t m a : ℕ) (low : t < transformations)
+    (anchor : place_of_anchor p board.size t m ≡ Some a) where
   -- a cell's place is the same from the anchor and from the star
-  same_place : (r c : ℤ) → place_at board.size t a (r -ℤ pos (anchor_of p).0, c -ℤ pos (anchor_of p).1) ≡ place_of_cell p board.size t m r c
+  same_place : (r c : ℤ) → place_at board.size t a (r -ℤ pos (anchor_of p).0, c -ℤ pos (anchor_of p).1)
+      ≡ place_of_cell p board.size t m r c
   same_place r c =
-      let row : (pos (anchor_of p).0 -ℤ pos p.star.0) +ℤ (r -ℤ pos (anchor_of p).0) ≡ r -ℤ pos p.star.0 = omega (arith, ints) in
-      let column : (pos (anchor_of p).1 -ℤ pos p.star.1) +ℤ (c -ℤ pos (anchor_of p).1) ≡ c -ℤ pos p.star.1 = omega (arith, ints) in
-      let sum : sum_of (pos (anchor_of p).0 -ℤ pos p.star.0, pos (anchor_of p).1 -ℤ pos p.star.1) (r -ℤ pos (anchor_of p).0, c -ℤ pos (anchor_of p).1) ≡ (r -ℤ pos p.star.0, c -ℤ pos p.star.1) = λ i. (row i, column i) in
-      place_at-sum board.size t m (pos (anchor_of p).0 -ℤ pos p.star.0, pos (anchor_of p).1 -ℤ pos p.star.1) (r -ℤ pos (anchor_of p).0, c -ℤ pos (anchor_of p).1) a low anchor
+      let row : (pos (anchor_of p).0 -ℤ pos p.star.0) +ℤ (r -ℤ pos (anchor_of p).0) ≡ r -ℤ pos p.star.0 =
+      omega (arith, ints) in
+      let column : (pos (anchor_of p).1 -ℤ pos p.star.1) +ℤ (c -ℤ pos (anchor_of p).1) ≡ c -ℤ pos p.star.1 =
+      omega (arith, ints) in
+      let sum : sum_of (
+        pos (anchor_of p).0 -ℤ pos p.star.0,
+        pos (anchor_of p).1 -ℤ pos p.star.1,
+      ) (r -ℤ pos (anchor_of p).0, c -ℤ pos (anchor_of p).1)
+      ≡ (r -ℤ pos p.star.0, c -ℤ pos p.star.1) = λ i. (row i, column i) in
+      place_at-sum board.size t m (
+        pos (anchor_of p).0 -ℤ pos p.star.0,
+        pos (anchor_of p).1 -ℤ pos p.star.1,
+      ) (r -ℤ pos (anchor_of p).0, c -ℤ pos (anchor_of p).1) a low anchor
       ∙ ap (place_at board.size t m) sum
 
   -- a pattern that fits at its anchor fits at its star
@@ -52,7 +63,8 @@ module _ (p : Pattern) (board : BoardState) (friend : Colour) (t m a : ℕ) (low
     cells = λ r c. ap (drawn_fits (drawn_at p r c) board friend) (same_place r c) ∙ each_cell p board friend t m is r c;
   }
 
-module _ (code : Codes) (advice : Advice) (patterns : List Pattern) (machine : List Row) (board : BoardState) (friend : Colour) (accepts : IsMachineOf patterns machine) where
+module _ (code : Codes) (advice : Advice) (patterns : List Pattern) (machine : List Row) (board : BoardState)
+    (friend : Colour) (accepts : IsMachineOf patterns machine) where
   -- the test of a match, and that of a match by the machine
   abbrev matched : ℕ → Pattern → ℕ → ℕ → Bool
   matched number p t m = is_match code advice p board friend t m
@@ -64,35 +76,52 @@ module _ (code : Codes) (advice : Advice) (patterns : List Pattern) (machine : L
   match_of_machine : (z : Match) → IsBy by_machine patterns board.size z → IsBy matched patterns board.size z
   match_of_machine z by =
       let p : Pattern = by.pattern in
-      let judged = and_parts (is_found machine board friend z.pattern p z.transform z.at) (is_agreed code advice p board friend z.transform z.at) by.passes in
-      let parts = and_parts (has_hit machine board friend z.pattern z.transform (place_of_anchor p board.size z.transform z.at)) (lies_on_board p board.size z.transform z.at && is_legal board friend z.at) judged.0 in
+      let judged = and_parts (is_found machine board friend z.pattern p z.transform z.at)
+      (is_agreed code advice p board friend z.transform z.at) by.passes in
+      let parts = and_parts (has_hit machine board friend z.pattern z.transform
+      (place_of_anchor p board.size z.transform z.at))
+      (lies_on_board p board.size z.transform z.at && is_legal board friend z.at) judged.0 in
       let legal = (and_parts (lies_on_board p board.size z.transform z.at) (is_legal board friend z.at) parts.1).1 in
-      let found = has_hit-true machine board friend z.pattern z.transform (place_of_anchor p board.size z.transform z.at) parts.0 in
+      let found = has_hit-true machine board friend z.pattern z.transform
+      (place_of_anchor p board.size z.transform z.at) parts.0 in
       let low : z.transform < transformations = omega (arith, by.transform, count_within p.mark) in
-      let on = placed_on board.size z.transform z.at (pos (anchor_of p).0 -ℤ pos p.star.0, pos (anchor_of p).1 -ℤ pos p.star.1) found.0 found.1 in
+      let on = placed_on board.size z.transform z.at (
+        pos (anchor_of p).0 -ℤ pos p.star.0,
+        pos (anchor_of p).1 -ℤ pos p.star.1,
+      ) found.0 found.1 in
       let hit : Hit = record { pattern = z.pattern; transform = z.transform; anchor = found.0 } in
-      let fit = fit_from_hit patterns machine board friend hit accepts (hit_of_accept machine board friend z.pattern z.transform found.0 low on found.2) in
+      let fit = fit_from_hit patterns machine board friend hit accepts
+      (hit_of_accept machine board friend z.pattern z.transform found.0 low on found.2) in
       let same : fit.pattern ≡ p = same_Some fit.pattern p (sym fit.number ∙ by.number) in
       record {
         pattern = p;
         number = by.number;
         transform = by.transform;
         at = by.at;
-        passes = and_from (fits p board friend z.transform z.at) (is_legal board friend z.at && is_agreed code advice p board friend z.transform z.at)
-            (fits_at_star p board friend z.transform z.at found.0 low found.1 (subst (λ q. FitsAt q board friend z.transform found.0) same fit.fits))
-            (and_from (is_legal board friend z.at) (is_agreed code advice p board friend z.transform z.at) legal judged.1);
+        passes = and_from (fits p board friend z.transform z.at)
+            (is_legal board friend z.at && is_agreed code advice p board friend z.transform z.at)
+            (fits_at_star p board friend z.transform z.at found.0 low found.1
+            (subst (λ q. FitsAt q board friend z.transform found.0) same fit.fits))
+            (and_from (is_legal board friend z.at) (is_agreed code advice p board friend z.transform z.at) legal
+            judged.1);
       }
 
   -- and the other way round
   machine_of_match : (z : Match) → IsBy matched patterns board.size z → IsBy by_machine patterns board.size z
   machine_of_match z by =
       let p : Pattern = by.pattern in
-      let parts = and_parts (fits p board friend z.transform z.at) (is_legal board friend z.at && is_agreed code advice p board friend z.transform z.at) by.passes in
-      let judged = and_parts (is_legal board friend z.at) (is_agreed code advice p board friend z.transform z.at) parts.1 in
+      let parts = and_parts (fits p board friend z.transform z.at)
+      (is_legal board friend z.at && is_agreed code advice p board friend z.transform z.at) by.passes in
+      let judged = and_parts (is_legal board friend z.at)
+      (is_agreed code advice p board friend z.transform z.at) parts.1 in
       let low : z.transform < transformations = omega (arith, by.transform, count_within p.mark) in
       let within = anchor_within p in
-      let letter = letter_from_cell p board friend z.transform z.at (anchor_of p).0 (anchor_of p).1 within.0 within.1 (each_cell p board friend z.transform z.at parts.0 (pos (anchor_of p).0) (pos (anchor_of p).1)) in
-      let on = placed_on board.size z.transform z.at (pos (anchor_of p).0 -ℤ pos p.star.0, pos (anchor_of p).1 -ℤ pos p.star.1) letter.point letter.place in
+      let letter = letter_from_cell p board friend z.transform z.at (anchor_of p).0 (anchor_of p).1 within.0 within.1
+      (each_cell p board friend z.transform z.at parts.0 (pos (anchor_of p).0) (pos (anchor_of p).1)) in
+      let on = placed_on board.size z.transform z.at (
+        pos (anchor_of p).0 -ℤ pos p.star.0,
+        pos (anchor_of p).1 -ℤ pos p.star.1,
+      ) letter.point letter.place in
       let hit : Hit = record { pattern = z.pattern; transform = z.transform; anchor = letter.point } in
       let fit : IsFit patterns board friend hit = record {
         transform = low;
@@ -106,23 +135,33 @@ module _ (code : Codes) (advice : Advice) (patterns : List Pattern) (machine : L
         number = by.number;
         transform = by.transform;
         at = by.at;
-        passes = and_from (is_found machine board friend z.pattern p z.transform z.at) (is_agreed code advice p board friend z.transform z.at)
-            (and_from (has_hit machine board friend z.pattern z.transform (place_of_anchor p board.size z.transform z.at)) (lies_on_board p board.size z.transform z.at && is_legal board friend z.at)
-            (ap (has_hit machine board friend z.pattern z.transform) letter.place ∙ accept_of_hit machine board friend hit (hit_from_fit patterns machine board friend hit accepts fit))
+        passes = and_from (is_found machine board friend z.pattern p z.transform z.at)
+            (is_agreed code advice p board friend z.transform z.at)
+            (and_from (has_hit machine board friend z.pattern z.transform
+            (place_of_anchor p board.size z.transform z.at))
+            (lies_on_board p board.size z.transform z.at && is_legal board friend z.at)
+            (ap (has_hit machine board friend z.pattern z.transform) letter.place
+            ∙ accept_of_hit machine board friend hit (hit_from_fit patterns machine board friend hit accepts fit))
             (and_from (lies_on_board p board.size z.transform z.at) (is_legal board friend z.at)
-            (on_all p board.size z.transform z.at (λ r c row column. ap is_some (letter_from_cell p board friend z.transform z.at r c row column (each_cell p board friend z.transform z.at parts.0 (pos r) (pos c))).place))
+            (on_all p board.size z.transform z.at (λ r c row column.
+            ap is_some (letter_from_cell p board friend z.transform z.at r c row column
+            (each_cell p board friend z.transform z.at parts.0 (pos r) (pos c))).place))
             judged.0))
             judged.1;
       }
 
   -- the machine of the patterns finds their matches
-  pub same_by_machine : machine_matches code advice machine patterns board friend ≡ matches_of code advice patterns board friend
+  pub same_by_machine : machine_matches code advice machine patterns board friend
+      ≡ matches_of code advice patterns board friend
   unfolding machine_matches matches_of
   same_by_machine =
-      same_matches (machine_matches code advice machine patterns board friend) (matches_of code advice patterns board friend)
+      same_matches (machine_matches code advice machine patterns board friend)
+      (matches_of code advice patterns board friend)
       (by-in_order by_machine patterns board.size) (by-in_order matched patterns board.size)
-      (λ z there. by-from matched patterns board.size z (match_of_machine z (by-has by_machine patterns board.size z there)))
-      (λ z there. by-from by_machine patterns board.size z (machine_of_match z (by-has matched patterns board.size z there)))
+      (λ z there. by-from matched patterns board.size z
+      (match_of_machine z (by-has by_machine patterns board.size z there)))
+      (λ z there. by-from by_machine patterns board.size z
+      (machine_of_match z (by-has matched patterns board.size z there)))
 
 module _ (code : Codes) (patterns : List Pattern) (machine : List Row) (board : BoardState) (friend : Colour) where
   -- whether classes and constraint allow what was found
@@ -130,26 +169,34 @@ module _ (code : Codes) (patterns : List Pattern) (machine : List Row) (board : 
   allows z = is_allowed_at code board friend (slice_get patterns z.pattern) z
 
   -- what the machine finds, where classes and constraint allow it, is what matches if every helper says yes
-  pub filtered : filter allows (found_by machine patterns board friend) ≡ machine_matches code all_yes machine patterns board friend
+  pub filtered : filter allows (found_by machine patterns board friend)
+      ≡ machine_matches code all_yes machine patterns board friend
   unfolding found_by machine_matches
   filtered =
-      matches_by-filter patterns board.size (is_found machine board friend) (is_machine_match code all_yes machine board friend) allows
+      matches_by-filter patterns board.size (is_found machine board friend)
+      (is_machine_match code all_yes machine board friend) allows
       (λ z p number.
       ap (λ b. is_found machine board friend z.pattern p z.transform z.at && b)
-      (and_yes (is_allowed code p board friend z.transform z.at) (do_helpers_agree all_yes p board friend z.at) (all_agreed (helper_names p.items))
+      (and_yes (is_allowed code p board friend z.transform z.at) (do_helpers_agree all_yes p board friend z.at)
+      (all_agreed (helper_names p.items))
       ∙ sym (ap (λ o. is_allowed_at code board friend o z) number)))
 
   -- and of these those to which their helpers say yes are the matches by the machine
-  pub agreed : (advice : Advice) → filter (λ z. is_agreed_at advice board friend (slice_get patterns z.pattern) z) (machine_matches code all_yes machine patterns board friend)
+  pub agreed : (advice : Advice)
+      → filter (λ z. is_agreed_at advice board friend (slice_get patterns z.pattern) z)
+      (machine_matches code all_yes machine patterns board friend)
       ≡ machine_matches code advice machine patterns board friend
   unfolding machine_matches
   agreed advice =
-      matches_by-filter patterns board.size (is_machine_match code all_yes machine board friend) (is_machine_match code advice machine board friend)
+      matches_by-filter patterns board.size (is_machine_match code all_yes machine board friend)
+      (is_machine_match code advice machine board friend)
       (λ z. is_agreed_at advice board friend (slice_get patterns z.pattern) z)
       (λ z p number.
-      asked_last (is_found machine board friend z.pattern p z.transform z.at) (is_allowed code p board friend z.transform z.at) (do_helpers_agree all_yes p board friend z.at)
+      asked_last (is_found machine board friend z.pattern p z.transform z.at)
+      (is_allowed code p board friend z.transform z.at) (do_helpers_agree all_yes p board friend z.at)
       (do_helpers_agree advice p board friend z.at) (all_agreed (helper_names p.items))
-      ∙ sym (ap (λ o. is_machine_match code all_yes machine board friend z.pattern p z.transform z.at && is_agreed_at advice board friend o z) number))
+      ∙ sym (ap (λ o. is_machine_match code all_yes machine board friend z.pattern p z.transform z.at
+      && is_agreed_at advice board friend o z) number))
 
   -- what was found and is allowed is what matches if every helper says yes
   pub if_yes : (found now : List Match) → found ≡ found_by machine patterns board friend → now ≡ filter allows found
@@ -157,7 +204,8 @@ module _ (code : Codes) (patterns : List Pattern) (machine : List Row) (board : 
   if_yes found now is kept = kept ∙ ap (filter allows) is ∙ filtered
 
   -- and what is agreed of it are the matches
-  pub if_agreed : (advice : Advice) (now last : List Match) → now ≡ machine_matches code all_yes machine patterns board friend
+  pub if_agreed : (advice : Advice) (now last : List Match)
+      → now ≡ machine_matches code all_yes machine patterns board friend
       → last ≡ filter (λ z. is_agreed_at advice board friend (slice_get patterns z.pattern) z) now
       → last ≡ machine_matches code advice machine patterns board friend
   if_agreed advice now last is kept =

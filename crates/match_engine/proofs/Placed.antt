@@ -25,7 +25,8 @@ module _ (p : Pattern) (s t m : ℕ) (star : m < s * s) where
   label_on : (o : Option LabelAt) → is_on_board s (place_of_label p s t m o) ≡ true
   label_on None = refl
   label_on (Some l) =
-      on_if_there s (place_of_cell p s t m (pos l.row) (pos l.col)) (λ q at. placed_on s t m (pos l.row -ℤ pos p.star.0, pos l.col -ℤ pos p.star.1) q at)
+      on_if_there s (place_of_cell p s t m (pos l.row) (pos l.col))
+      (λ q at. placed_on s t m (pos l.row -ℤ pos p.star.0, pos l.col -ℤ pos p.star.1) q at)
 
   -- so has each argument
   argument_on : (a : Arg) → is_on_board s (place_of_argument p s t m a) ≡ true
@@ -33,7 +34,8 @@ module _ (p : Pattern) (s t m : ℕ) (star : m < s * s) where
   argument_on Star = lt-ltb m (s * s) star
   argument_on Nowhere = refl
 
-module _ (code : Codes) (p : Pattern) (board : BoardState) (friend : Colour) (t m : ℕ) (star : m < board.size * board.size) where
+module _ (code : Codes) (p : Pattern) (board : BoardState) (friend : Colour) (t m : ℕ)
+    (star : m < board.size * board.size) where
   -- all arguments of an expression are placed
   pub constraint_placed : (e : Expr) → are_placed (meanings_at code p board friend t m) e ≡ true
   constraint_placed e = all_placed (meanings_at code p board friend t m) e (argument_on p board.size t m star)

@@ -29,7 +29,8 @@ neg-add a b = omega (arith, ints)
 
 -- t moves a sum of offsets as it moves each
 abbrev MovesSums : ℕ → Type 0
-MovesSums t = (d e : Offset) → ((transformed t (sum_of d e)).0 ≡ (transformed t d).0 +ℤ (transformed t e).0) × ((transformed t (sum_of d e)).1 ≡ (transformed t d).1 +ℤ (transformed t e).1)
+MovesSums t = (d e : Offset) → ((transformed t (sum_of d e)).0 ≡ (transformed t d).0 +ℤ (transformed t e).0)
+    × ((transformed t (sum_of d e)).1 ≡ (transformed t d).1 +ℤ (transformed t e).1)
 
 -- every transformation moves sums as it moves each
 moves_sums : (t : ℕ) → t < transformations → MovesSums t
@@ -69,7 +70,9 @@ turned_between x y z a b = inr (omega (arith, ints, a, b), omega (arith, ints, a
 
 -- t moves what lies in a rectangle into the moved rectangle
 abbrev KeepsWithin : ℕ → Type 0
-KeepsWithin t = (d e f : Offset) → IsWithin d e f → IsBetween (transformed t d).0 (transformed t e).0 (transformed t f).0 × IsBetween (transformed t d).1 (transformed t e).1 (transformed t f).1
+KeepsWithin t = (d e f : Offset) → IsWithin d e f
+    → IsBetween (transformed t d).0 (transformed t e).0 (transformed t f).0
+    × IsBetween (transformed t d).1 (transformed t e).1 (transformed t f).1
 
 -- every transformation moves rectangles to rectangles
 keeps_within : (t : ℕ) → t < transformations → KeepsWithin t
@@ -96,7 +99,8 @@ pub record IsPlaced (s t m : ℕ) (d : Offset) (a : ℕ) : Type 0 where
 
 -- a line that is there is on the board
 line_of-Some : (s : ℕ) (z : ℤ) (n : ℕ) → line_of s z ≡ Some n → (z ≡ pos n) × (n < s)
-line_of-Some s (pos k) n e = let parts = cond_some (ltb k s) k n e in (ap pos parts.1, subst (λ j. j < s) parts.1 (ltb-true k s parts.0))
+line_of-Some s (pos k) n e = let parts = cond_some (ltb k s) k n e in
+    (ap pos parts.1, subst (λ j. j < s) parts.1 (ltb-true k s parts.0))
 line_of-Some s (negsuc k) n e = absurd (none-some n e)
 
 -- a line on the board is there
@@ -104,7 +108,8 @@ line_of-at : (s : ℕ) (z : ℤ) (n : ℕ) → z ≡ pos n → n < s → line_of
 line_of-at s z n e l = ap (line_of s) e ∙ ap (λ b. cond b (Some n) None) (lt-ltb n s l)
 
 -- a point that is there stands in a row and a column
-point_of-Some : (s a : ℕ) (row column : Option ℕ) → point_of s row column ≡ Some a → (r : ℕ) × (c : ℕ) × (row ≡ Some r) × (column ≡ Some c) × (r * s + c ≡ a)
+point_of-Some : (s a : ℕ) (row column : Option ℕ) → point_of s row column ≡ Some a
+    → (r : ℕ) × (c : ℕ) × (row ≡ Some r) × (column ≡ Some c) × (r * s + c ≡ a)
 point_of-Some s a None column e = absurd (none-some a e)
 point_of-Some s a (Some r) None e = absurd (none-some a e)
 point_of-Some s a (Some r) (Some c) e = (r, c, refl, refl, same_Some (r * s + c) a e)
@@ -114,29 +119,42 @@ module _ (s t m : ℕ) where
   pub placed-Some : (d : Offset) (a : ℕ) → place_at s t m d ≡ Some a → IsPlaced s t m d a
   unfolding place_at
   placed-Some d a e =
-      let p = point_of-Some s a (line_of s (pos (m / s) +ℤ (transformed t d).0)) (line_of s (pos (m % s) +ℤ (transformed t d).1)) e in
+      let p = point_of-Some s a (line_of s (pos (m / s) +ℤ (transformed t d).0))
+      (line_of s (pos (m % s) +ℤ (transformed t d).1)) e in
       let row = line_of-Some s (pos (m / s) +ℤ (transformed t d).0) p.0 p.2 in
       let column = line_of-Some s (pos (m % s) +ℤ (transformed t d).1) p.1 p.3 in
-      record { row = p.0; column = p.1; row_is = row.0; column_is = column.0; row_on = row.1; column_on = column.1; point = p.4 }
+      record {
+        row = p.0;
+        column = p.1;
+        row_is = row.0;
+        column_is = column.0;
+        row_on = row.1;
+        column_on = column.1;
+        point = p.4;
+      }
 
   -- and the other way round
   pub place_at-at : (d : Offset) (a : ℕ) → IsPlaced s t m d a → place_at s t m d ≡ Some a
   unfolding place_at
   place_at-at d a p =
-      ap (λ o. point_of s o (line_of s (pos (m % s) +ℤ (transformed t d).1))) (line_of-at s (pos (m / s) +ℤ (transformed t d).0) p.row p.row_is p.row_on)
-      ∙ ap (point_of s (Some p.row)) (line_of-at s (pos (m % s) +ℤ (transformed t d).1) p.column p.column_is p.column_on)
+      ap (λ o. point_of s o (line_of s (pos (m % s) +ℤ (transformed t d).1)))
+      (line_of-at s (pos (m / s) +ℤ (transformed t d).0) p.row p.row_is p.row_on)
+      ∙ ap (point_of s (Some p.row)) (line_of-at s
+      (pos (m % s) +ℤ (transformed t d).1) p.column p.column_is p.column_on)
       ∙ ap Some p.point
 
   -- an offset leads to a point of the board
   pub placed_on : (d : Offset) (a : ℕ) → place_at s t m d ≡ Some a → a < s * s
-  placed_on d a e = let p = placed-Some d a e in subst (λ n. n < s * s) p.point (mul-add-lt p.row s p.column s p.row_on p.column_on)
+  placed_on d a e = let p = placed-Some d a e in
+      subst (λ n. n < s * s) p.point (mul-add-lt p.row s p.column s p.row_on p.column_on)
 
 -- from a line reached by one part, another part leads where the sum of both leads
 next_line : (h r : ℕ) (x y w : ℤ) → pos h +ℤ x ≡ pos r → w ≡ x +ℤ y → pos r +ℤ y ≡ pos h +ℤ w
 next_line h r x y w e f = omega (arith, ints, e, f)
 
 -- the offset e leads from the point that d leads to where both together lead
-pub place_at-sum : (s t m : ℕ) (d e : Offset) (a : ℕ) → t < transformations → place_at s t m d ≡ Some a → place_at s t a e ≡ place_at s t m (sum_of d e)
+pub place_at-sum : (s t m : ℕ) (d e : Offset) (a : ℕ) → t < transformations → place_at s t m d ≡ Some a
+    → place_at s t a e ≡ place_at s t m (sum_of d e)
 unfolding place_at
 place_at-sum s t m d e a low there =
     let p = placed-Some s t m d a there in
@@ -144,22 +162,31 @@ place_at-sum s t m d e a low there =
     let row : a / s ≡ p.row = ap (λ n. n / s) (sym p.point) ∙ div-mul-add p.row s p.column p.column_on in
     let column : a % s ≡ p.column = ap (λ n. n % s) (sym p.point) ∙ mod-mul-add p.row s p.column p.column_on in
     let rows : pos (a / s) +ℤ (transformed t e).0 ≡ pos (m / s) +ℤ (transformed t (sum_of d e)).0 =
-    ap (λ n. pos n +ℤ (transformed t e).0) row ∙ next_line (m / s) p.row (transformed t d).0 (transformed t e).0 (transformed t (sum_of d e)).0 p.row_is sums.0 in
+    ap (λ n. pos n +ℤ (transformed t e).0) row
+    ∙ next_line (m / s) p.row (transformed t d).0 (transformed t e).0
+    (transformed t (sum_of d e)).0 p.row_is sums.0 in
     let columns : pos (a % s) +ℤ (transformed t e).1 ≡ pos (m % s) +ℤ (transformed t (sum_of d e)).1 =
-    ap (λ n. pos n +ℤ (transformed t e).1) column ∙ next_line (m % s) p.column (transformed t d).1 (transformed t e).1 (transformed t (sum_of d e)).1 p.column_is sums.1 in
+    ap (λ n. pos n +ℤ (transformed t e).1) column
+    ∙ next_line (m % s) p.column (transformed t d).1 (transformed t e).1
+    (transformed t (sum_of d e)).1 p.column_is sums.1 in
     ap (λ z. point_of s (line_of s z) (line_of s (pos (a % s) +ℤ (transformed t e).1))) rows
     ∙ ap (λ z. point_of s (line_of s (pos (m / s) +ℤ (transformed t (sum_of d e)).0)) (line_of s z)) columns
 
 -- a board with a point has a row
 some_row : (s p : ℕ) → p < s * s → 0 < s
-some_row s p h = elim (cases_eq s 0) [ inl e ↦ absurd (let z : p < 0 * 0 = rw e at h in omega arith) | inr ne ↦ omega arith ]
+some_row s p h = elim (cases_eq s 0) [
+  | inl e ↦ absurd (let z : p < 0 * 0 = rw e at h in omega arith)
+  | inr ne ↦ omega arith
+]
 
 -- the offset (0, 0) leads from a point to itself
 pub place_at-none : (s t m : ℕ) → t < transformations → m < s * s → place_at s t m (pos 0, pos 0) ≡ Some m
 place_at-none s t m low on =
     let still : transformed t (pos 0, pos 0) ≡ (pos 0, pos 0) = keeps_none t low in
-    let row : pos (m / s) +ℤ (transformed t (pos 0, pos 0)).0 ≡ pos (m / s) = ap (λ (d : Offset). pos (m / s) +ℤ d.0) still ∙ at_zero (m / s) in
-    let column : pos (m % s) +ℤ (transformed t (pos 0, pos 0)).1 ≡ pos (m % s) = ap (λ (d : Offset). pos (m % s) +ℤ d.1) still ∙ at_zero (m % s) in
+    let row : pos (m / s) +ℤ (transformed t (pos 0, pos 0)).0 ≡ pos (m / s) =
+    ap (λ (d : Offset). pos (m / s) +ℤ d.0) still ∙ at_zero (m / s) in
+    let column : pos (m % s) +ℤ (transformed t (pos 0, pos 0)).1 ≡ pos (m % s) =
+    ap (λ (d : Offset). pos (m % s) +ℤ d.1) still ∙ at_zero (m % s) in
     place_at-at s t m (pos 0, pos 0) m (record {
       row = m / s;
       column = m % s;
@@ -174,10 +201,19 @@ place_at-none s t m low on =
     at_zero n = omega (arith, ints)
 
 -- a line between two lines of the board is one
-line_between : (s h b c : ℕ) (x y z : ℤ) → pos h +ℤ x ≡ pos b → b < s → pos h +ℤ z ≡ pos c → c < s → IsBetween x y z → (n : ℕ) × (pos h +ℤ y ≡ pos n) × (n < s)
+line_between : (s h b c : ℕ) (x y z : ℤ) → pos h +ℤ x ≡ pos b → b < s → pos h +ℤ z ≡ pos c → c < s → IsBetween x y z
+    → (n : ℕ) × (pos h +ℤ y ≡ pos n) × (n < s)
 line_between s h b c x y z e k f l between =
-    let low : pos 0 ≤ℤ (pos h +ℤ y) = elim between [ inl up ↦ omega (arith, ints, e, f, up.0, up.1) | inr down ↦ omega (arith, ints, e, f, down.0, down.1) ] in
-    let high : (pos h +ℤ y +ℤ pos 1) ≤ℤ pos s = elim between [ inl up ↦ omega (arith, ints, e, f, k, l, up.0, up.1) | inr down ↦ omega (arith, ints, e, f, k, l, down.0, down.1) ] in
+    let low : pos 0 ≤ℤ (pos h +ℤ y) =
+    elim between [
+      | inl up ↦ omega (arith, ints, e, f, up.0, up.1)
+      | inr down ↦ omega (arith, ints, e, f, down.0, down.1)
+    ] in
+    let high : (pos h +ℤ y +ℤ pos 1) ≤ℤ pos s =
+    elim between [
+      | inl up ↦ omega (arith, ints, e, f, k, l, up.0, up.1)
+      | inr down ↦ omega (arith, ints, e, f, k, l, down.0, down.1)
+    ] in
     by (pos h +ℤ y) low high
   where
     by : (w : ℤ) → pos 0 ≤ℤ w → (w +ℤ pos 1) ≤ℤ pos s → (n : ℕ) × (w ≡ pos n) × (n < s)
@@ -185,13 +221,16 @@ line_between s h b c x y z e k f l between =
     by (negsuc n) low high = absurd (omega (arith, ints, low))
 
 -- what lies between two offsets that lead to points leads to a point
-pub placed_between : (s t m a b : ℕ) (d e f : Offset) → t < transformations → place_at s t m d ≡ Some a → place_at s t m f ≡ Some b → IsWithin d e f → (q : ℕ) × (place_at s t m e ≡ Some q)
+pub placed_between : (s t m a b : ℕ) (d e f : Offset) → t < transformations → place_at s t m d ≡ Some a
+    → place_at s t m f ≡ Some b → IsWithin d e f → (q : ℕ) × (place_at s t m e ≡ Some q)
 placed_between s t m a b d e f low first last within =
     let p = placed-Some s t m d a first in
     let q = placed-Some s t m f b last in
     let moved = keeps_within t low d e f within in
-    let row = line_between s (m / s) p.row q.row (transformed t d).0 (transformed t e).0 (transformed t f).0 p.row_is p.row_on q.row_is q.row_on moved.0 in
-    let column = line_between s (m % s) p.column q.column (transformed t d).1 (transformed t e).1 (transformed t f).1 p.column_is p.column_on q.column_is q.column_on moved.1 in (
+    let row = line_between s (m / s) p.row q.row (transformed t d).0 (transformed t e).0
+    (transformed t f).0 p.row_is p.row_on q.row_is q.row_on moved.0 in
+    let column = line_between s (m % s) p.column q.column (transformed t d).1 (transformed t e).1
+    (transformed t f).1 p.column_is p.column_on q.column_is q.column_on moved.1 in (
       row.0 * s + column.0,
       place_at-at s t m e (row.0 * s + column.0) (record {
         row = row.0;

@@ -14,7 +14,8 @@ use Rattle.match_engine.specs.declared.keys.Key.{Key}
 use Rattle.match_engine.specs.Keys.{same_key, same_key-is}
 use Rattle.match_engine.specs.Readings.{KeptReadings, Rests, AllRest, Answers}
 
-module _ (key : Key) (pos : BoardState) (old new : KeptReadings) (answer : Answer) (rest : AllRest old) (found : IsFound same_key key pos old new answer) where
+module _ (key : Key) (pos : BoardState) (old new : KeptReadings) (answer : Answer) (rest : AllRest old)
+    (found : IsFound same_key key pos old new answer) where
   -- what was found answers the question
   pub Answers-found : Answers key pos answer
   Answers-found =
@@ -22,22 +23,31 @@ module _ (key : Key) (pos : BoardState) (old new : KeptReadings) (answer : Answe
       record {
         right = found.answer_is ∙ rests.answers pos found.brought.first.stands;
         code = subst (λ (a : Answer). a.code ≤ 3) (sym found.answer_is) rests.code;
-        on_board = subst (λ (a : Answer). IfSome a.at (IsOnBoard key.question.size)) (sym found.answer_is) rests.on_board;
+        on_board = subst (λ (a : Answer). IfSome a.at (IsOnBoard key.question.size))
+            (sym found.answer_is) rests.on_board;
       }
 
   -- and each kept variant rests on its facts afterwards
   pub AllRest-found : AllRest new
   AllRest-found = HoldsOfEach-found Rests same_key same_key-is key pos old new answer rest found
 
-module _ (key : Key) (facts : Facts) (answer : Answer) (rests : Rests key (record { facts = facts; answer = answer })) where
+module _ (key : Key) (facts : Facts) (answer : Answer)
+    (rests : Rests key (record { facts = facts; answer = answer })) where
   -- a fresh reading answers the question
   pub Answers-fresh : (pos : BoardState) → Agrees (told facts) pos → Answers key pos answer
   Answers-fresh pos holds = record { right = rests.answers pos holds; code = rests.code; on_board = rests.on_board }
 
   -- each kept variant rests on its facts after it was kept
-  pub AllRest-kept : (old new : KeptReadings) → AllRest old → new ≡ kept_first same_key key (record { facts = facts; answer = answer }) old → AllRest new
-  AllRest-kept old new rest is = subst AllRest (sym is) (HoldsOfEach-kept Rests same_key same_key-is key (record { facts = facts; answer = answer }) old rest rests)
+  pub AllRest-kept : (old new : KeptReadings) → AllRest old
+      → new ≡ kept_first same_key key (record { facts = facts; answer = answer }) old → AllRest new
+  AllRest-kept old new rest is =
+      subst AllRest (sym is) (HoldsOfEach-kept Rests same_key same_key-is key (record {
+        facts = facts;
+        answer = answer;
+      }) old rest rests)
 
 -- the same question at depths that are the same
-pub as_asked : (key : Key) (asked : ReadingQuestion) (variant : Variant Answer) → key.question ≡ asked → Rests (record { question = asked }) variant → Rests key variant
-as_asked key asked variant is rests = subst (λ (q : ReadingQuestion). Rests (record { question = q }) variant) (sym is) rests
+pub as_asked : (key : Key) (asked : ReadingQuestion) (variant : Variant Answer) → key.question ≡ asked
+    → Rests (record { question = asked }) variant → Rests key variant
+as_asked key asked variant is rests =
+    subst (λ (q : ReadingQuestion). Rests (record { question = q }) variant) (sym is) rests

@@ -17,11 +17,13 @@ use Rattle.match_rules.proofs.Lists.{Contains-first, Contains-rest, Contains-fil
 
 -- the order of matches, as an answer of three comparisons
 abbrev pub match_cmp : Match → Match → Ordering
-match_cmp y z = ordering_then (nat_cmp y.pattern z.pattern) (ordering_then (nat_cmp y.transform z.transform) (nat_cmp y.at z.at))
+match_cmp y z = ordering_then (nat_cmp y.pattern z.pattern)
+    (ordering_then (nat_cmp y.transform z.transform) (nat_cmp y.at z.at))
 
 -- it is a total order
 match_cmp-total : IsTotalOrder match_cmp
-match_cmp-total = then_total (on_total (λ (z : Match). z.pattern) nat_cmp_total) (then_total (on_total (λ (z : Match). z.transform) nat_cmp_total) (on_total (λ (z : Match). z.at) nat_cmp_total))
+match_cmp-total = then_total (on_total (λ (z : Match). z.pattern) nat_cmp_total)
+    (then_total (on_total (λ (z : Match). z.transform) nat_cmp_total) (on_total (λ (z : Match). z.at) nat_cmp_total))
 
 -- a lesser number compares as less
 cmp-less : (a b : ℕ) → a < b → nat_cmp a b ≡ Less
@@ -29,23 +31,29 @@ cmp-less a b l = ap (λ t. cond t Less (cond (eqb a b) Equal Greater)) (lt-ltb a
 
 -- equal numbers compare as equal
 cmp-equal : (a b : ℕ) → a ≡ b → nat_cmp a b ≡ Equal
-cmp-equal a b e = ap (λ t. cond t Less (cond (eqb a b) Equal Greater)) (le-ltb a b (omega arith)) ∙ ap (λ t. cond t Equal Greater) (eq-eqb a b e)
+cmp-equal a b e = ap (λ t. cond t Less (cond (eqb a b) Equal Greater)) (le-ltb a b (omega arith))
+    ∙ ap (λ t. cond t Equal Greater) (eq-eqb a b e)
 
 -- what comes before another compares as less
 before-less : (y z : Match) → ComesBefore y z → match_cmp y z ≡ Less
-before-less y z (inl a) = ap (λ o. ordering_then o (ordering_then (nat_cmp y.transform z.transform) (nat_cmp y.at z.at))) (cmp-less y.pattern z.pattern a)
+before-less y z (inl a) =
+    ap (λ o. ordering_then o (ordering_then (nat_cmp y.transform z.transform) (nat_cmp y.at z.at)))
+    (cmp-less y.pattern z.pattern a)
 before-less y z (inr (e, inl a)) =
-    ap (λ o. ordering_then o (ordering_then (nat_cmp y.transform z.transform) (nat_cmp y.at z.at))) (cmp-equal y.pattern z.pattern e)
+    ap (λ o. ordering_then o (ordering_then (nat_cmp y.transform z.transform) (nat_cmp y.at z.at)))
+    (cmp-equal y.pattern z.pattern e)
     ∙ ap (λ o. ordering_then o (nat_cmp y.at z.at)) (cmp-less y.transform z.transform a)
 before-less y z (inr (e, inr (f, a))) =
-    ap (λ o. ordering_then o (ordering_then (nat_cmp y.transform z.transform) (nat_cmp y.at z.at))) (cmp-equal y.pattern z.pattern e)
+    ap (λ o. ordering_then o (ordering_then (nat_cmp y.transform z.transform) (nat_cmp y.at z.at)))
+    (cmp-equal y.pattern z.pattern e)
     ∙ ap (λ o. ordering_then o (nat_cmp y.at z.at)) (cmp-equal y.transform z.transform f) ∙ cmp-less y.at z.at a
 
 -- of two matches one comes before the other, or they are the same
 which_first : (y z : Match) → ComesBefore y z ⊎ ((y ≡ z) ⊎ ComesBefore z y)
 which_first y z = by (cases_order y.pattern z.pattern) (cases_order y.transform z.transform) (cases_order y.at z.at)
   where
-    by : (y.pattern ≡ z.pattern) ⊎ ((y.pattern < z.pattern) ⊎ (z.pattern < y.pattern)) → (y.transform ≡ z.transform) ⊎ ((y.transform < z.transform) ⊎ (z.transform < y.transform))
+    by : (y.pattern ≡ z.pattern) ⊎ ((y.pattern < z.pattern) ⊎ (z.pattern < y.pattern))
+        → (y.transform ≡ z.transform) ⊎ ((y.transform < z.transform) ⊎ (z.transform < y.transform))
         → (y.at ≡ z.at) ⊎ ((y.at < z.at) ⊎ (z.at < y.at)) → ComesBefore y z ⊎ ((y ≡ z) ⊎ ComesBefore z y)
     by (inr (inl a)) t m = inl (inl a)
     by (inr (inr a)) t m = inr (inr (inl a))
@@ -61,7 +69,10 @@ sorted-in_order xs sorted distinct i j d l k =
     elim (which_first (get_or xs i d) (get_or xs j d)) [
       | inl before ↦ before
       | inr (inl same) ↦ absurd (let at = distinct i j d (omega arith) k same in omega (arith, at, l))
-      | inr (inr after) ↦ absurd (false≢true (sym (sorted_far (λ y z. is_lt (match_cmp y z)) (ranks_by match_cmp-total (λ (z : Match). z)) xs sorted i j d (omega arith) k) ∙ ap is_lt (before-less (get_or xs j d) (get_or xs i d) after)))
+      | inr (inr after) ↦ absurd
+          (false≢true (sym (sorted_far (λ y z. is_lt (match_cmp y z))
+          (ranks_by match_cmp-total (λ (z : Match). z)) xs sorted i j d (omega arith) k)
+          ∙ ap is_lt (before-less (get_or xs j d) (get_or xs i d) after)))
     ]
 
 -- where an element of a list with two places swapped comes from
@@ -75,15 +86,28 @@ module _ {X : Type 0} where
   from_swap xs a b m d p q =
       let swapped = swapped_from_swap xs (swap xs a b) a b d p q refl in
       elim (cases_eq m a) [
-        | inl first ↦ record { place = b; same = ap (λ k. get_or (swap xs a b) k d) first ∙ swapped.0; which = inl (first, refl) }
+        | inl first ↦ record {
+          place = b;
+          same = ap (λ k. get_or (swap xs a b) k d) first ∙ swapped.0;
+          which = inl (first, refl);
+        }
         | inr not_first ↦ elim (cases_eq m b) [
-          | inl second ↦ record { place = a; same = ap (λ k. get_or (swap xs a b) k d) second ∙ swapped.1; which = inr (inl (second, refl)) }
-          | inr not_second ↦ record { place = m; same = swapped.2 m not_first not_second; which = inr (inr (not_first, not_second, refl)) }
+          | inl second ↦ record {
+            place = a;
+            same = ap (λ k. get_or (swap xs a b) k d) second ∙ swapped.1;
+            which = inr (inl (second, refl));
+          }
+          | inr not_second ↦ record {
+            place = m;
+            same = swapped.2 m not_first not_second;
+            which = inr (inr (not_first, not_second, refl));
+          }
         ]
       ]
 
   -- places that come from one place are one
-  from_one : (xs ys : List X) (a b m n : ℕ) (d : X) (f : IsFrom xs ys a b m d) (g : IsFrom xs ys a b n d) → f.place ≡ g.place → m ≡ n
+  from_one : (xs ys : List X) (a b m n : ℕ) (d : X) (f : IsFrom xs ys a b m d) (g : IsFrom xs ys a b n d)
+      → f.place ≡ g.place → m ≡ n
   from_one xs ys a b m n d f g e = by f.which g.which
     where
       by : ((m ≡ a) × (f.place ≡ b)) ⊎ (((m ≡ b) × (f.place ≡ a)) ⊎ ((m ≢ a) × (m ≢ b) × (f.place ≡ m)))
@@ -99,26 +123,31 @@ module _ {X : Type 0} where
       by (inr (inr p)) (inr (inr q)) = omega (arith, p.2, q.2, e)
 
   -- a place of a list comes from a place of the list
-  from_within : (xs ys : List X) (a b m : ℕ) (d : X) (f : IsFrom xs ys a b m d) → a < length xs → b < length xs → m < length xs → f.place < length xs
+  from_within : (xs ys : List X) (a b m : ℕ) (d : X) (f : IsFrom xs ys a b m d) → a < length xs → b < length xs
+      → m < length xs → f.place < length xs
   from_within xs ys a b m d f p q l = by f.which
     where
-      by : ((m ≡ a) × (f.place ≡ b)) ⊎ (((m ≡ b) × (f.place ≡ a)) ⊎ ((m ≢ a) × (m ≢ b) × (f.place ≡ m))) → f.place < length xs
+      by : ((m ≡ a) × (f.place ≡ b)) ⊎ (((m ≡ b) × (f.place ≡ a)) ⊎ ((m ≢ a) × (m ≢ b) × (f.place ≡ m)))
+          → f.place < length xs
       by (inl e) = omega (arith, e.1, q)
       by (inr (inl e)) = omega (arith, e.1, p)
       by (inr (inr e)) = omega (arith, e.2, l)
 
   -- a list whose elements differ has them differ after a swap
-  AreDistinct-swap : (xs : List X) (a b : ℕ) → a < length xs → b < length xs → AreDistinct xs → AreDistinct (swap xs a b)
+  AreDistinct-swap : (xs : List X) (a b : ℕ) → a < length xs → b < length xs → AreDistinct xs
+      → AreDistinct (swap xs a b)
   AreDistinct-swap xs a b p q distinct i j d l k e =
       let same = length-swap xs a b in
       let f = from_swap xs a b i d p q in
       let g = from_swap xs a b j d p q in
       from_one xs (swap xs a b) a b i j d f g
-      (distinct f.place g.place d (from_within xs (swap xs a b) a b i d f p q (omega (arith, same, l))) (from_within xs (swap xs a b) a b j d g p q (omega (arith, same, k))) (sym f.same ∙ e ∙ g.same))
+      (distinct f.place g.place d (from_within xs (swap xs a b) a b i d f p q (omega (arith, same, l)))
+      (from_within xs (swap xs a b) a b j d g p q (omega (arith, same, k))) (sym f.same ∙ e ∙ g.same))
 
   -- and in any other order
   pub AreDistinct-permutation : (xs ys : List X) → IsPermutation xs ys → AreDistinct xs → AreDistinct ys
-  AreDistinct-permutation xs ys moved distinct = IsPermutation-keeps xs AreDistinct distinct (λ l i j p q kept. AreDistinct-swap l i j p q kept) ys moved
+  AreDistinct-permutation xs ys moved distinct =
+      IsPermutation-keeps xs AreDistinct distinct (λ l i j p q kept. AreDistinct-swap l i j p q kept) ys moved
 
   -- the empty list has no two elements
   AreDistinct-nil : AreDistinct {X = X} []
@@ -127,13 +156,17 @@ module _ {X : Type 0} where
   -- one element more in front, which the list does not have
   AreDistinct-front : (y : X) (ys : List X) → (Contains ys y → ⊥) → AreDistinct ys → AreDistinct (y ∷ ys)
   AreDistinct-front y ys new distinct zero zero d l k e = refl
-  AreDistinct-front y ys new distinct zero (suc j) d l k e = absurd (new (subst (Contains ys) (sym e) (Contains-get_or ys j d (omega arith))))
-  AreDistinct-front y ys new distinct (suc i) zero d l k e = absurd (new (subst (Contains ys) e (Contains-get_or ys i d (omega arith))))
+  AreDistinct-front y ys new distinct zero (suc j) d l k e =
+      absurd (new (subst (Contains ys) (sym e) (Contains-get_or ys j d (omega arith))))
+  AreDistinct-front y ys new distinct (suc i) zero d l k e =
+      absurd (new (subst (Contains ys) e (Contains-get_or ys i d (omega arith))))
   AreDistinct-front y ys new distinct (suc i) (suc j) d l k e = ap suc (distinct i j d (omega arith) (omega arith) e)
 
 module _ {X Y : Type 0} (f : X → Option Y) where
   -- where a function gives no value twice, what it gives of different elements differs
-  pub AreDistinct-filter_map : (xs : List X) → ((x w : X) (y : Y) → Contains xs x → Contains xs w → f x ≡ Some y → f w ≡ Some y → x ≡ w) → AreDistinct xs → AreDistinct (filter_map f xs)
+  pub AreDistinct-filter_map : (xs : List X)
+      → ((x w : X) (y : Y) → Contains xs x → Contains xs w → f x ≡ Some y → f w ≡ Some y → x ≡ w) → AreDistinct xs
+      → AreDistinct (filter_map f xs)
   AreDistinct-filter_map [] one distinct = AreDistinct-nil
   AreDistinct-filter_map (x ∷ xs) one distinct =
       by (f x) refl (AreDistinct-filter_map xs
@@ -149,5 +182,6 @@ module _ {X Y : Type 0} (f : X → Option Y) where
           AreDistinct-front y (filter_map f xs)
           (λ there.
           let from = Contains-filter_map f xs y there in
-          not_again (subst (Contains xs) (one from.0 x y (Contains-rest x xs from.0 from.1) (Contains-first x xs x refl) from.2 e) from.1))
+          not_again (subst (Contains xs) (one from.0 x y (Contains-rest x xs from.0 from.1)
+          (Contains-first x xs x refl) from.2 e) from.1))
           rest

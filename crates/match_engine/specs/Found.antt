@@ -18,12 +18,18 @@ place_of_star p s t a = place_at s t a (pos p.star.0 -ℤ pos (anchor_of p).0, p
 -- the match of the pattern with this number, whose star stands at this point, where it is one
 abbrev pub match_at : Pattern → BoardState → Colour → ℕ → ℕ → Option ℕ → Option Match
 match_at p board friend number t None = None
-match_at p board friend number t (Some m) = if lies_on_board p board.size t m && is_legal board friend m then Some (record { pattern = number; transform = t; at = m }) else None
+match_at p board friend number t (Some m) =
+    if lies_on_board p board.size t m && is_legal board friend m then Some (record {
+      pattern = number;
+      transform = t;
+      at = m;
+    }) else None
 
 -- the match that a hit of this pattern is, where it is one
 abbrev pub match_of : Pattern → BoardState → Colour → Hit → Option Match
 match_of p board friend hit =
-    if nat_lt hit.transform (count_of p.mark) then match_at p board friend hit.pattern hit.transform (place_of_star p board.size hit.transform hit.anchor) else None
+    if nat_lt hit.transform (count_of p.mark) then match_at p board friend hit.pattern hit.transform
+    (place_of_star p board.size hit.transform hit.anchor) else None
 
 -- the match that a hit is, where its number is that of this pattern, if there is one
 abbrev pub match_from : Option Pattern → BoardState → Colour → Hit → Option Match

@@ -18,7 +18,8 @@ use Rattle.match_rules.specs.Match.{matches_by}
 
 -- the machine accepts the number at the end of some front of the word that is read from the anchor a under t
 unfoldable pub accepts_from : List Row → BoardState → Colour → ℕ → ℕ → ℕ → Bool
-accepts_from machine board friend number t a = any_below (offset_count + 1) (λ n. list_any (λ k. k == number) (accepted machine (word_at board friend t a n)))
+accepts_from machine board friend number t a =
+    any_below (offset_count + 1) (λ n. list_any (λ k. k == number) (accepted machine (word_at board friend t a n)))
 
 -- the machine has a hit of the number under t at this anchor, if there is one
 abbrev pub has_hit : List Row → BoardState → Colour → ℕ → ℕ → Option ℕ → Bool
@@ -31,25 +32,30 @@ place_of_anchor p s t m = place_of_cell p s t m (pos (anchor_of p).0) (pos (anch
 
 -- every letter of the diagram lies on the board, with the star at m under t
 abbrev pub lies_on_board : Pattern → ℕ → ℕ → ℕ → Bool
-lies_on_board p s t m = list_all (λ r. list_all (λ c. is_some (place_of_cell p s t m (pos r) (pos c))) (range_with_len 0 p.cols)) (range_with_len 0 p.rows)
+lies_on_board p s t m = list_all (λ r. list_all (λ c. is_some (place_of_cell p s t m (pos r) (pos c)))
+    (range_with_len 0 p.cols)) (range_with_len 0 p.rows)
 
 -- whether the machine finds the pattern with this number at m under t, and the friend's play there is legal
 abbrev pub is_found : List Row → BoardState → Colour → ℕ → Pattern → ℕ → ℕ → Bool
 is_found machine board friend number p t m =
-    has_hit machine board friend number t (place_of_anchor p board.size t m) && (lies_on_board p board.size t m && is_legal board friend m)
+    has_hit machine board friend number t (place_of_anchor p board.size t m)
+    && (lies_on_board p board.size t m && is_legal board friend m)
 
 -- what the machine finds, sorted, before classes and constraints are looked at
 unfoldable pub found_by : List Row → List Pattern → BoardState → Colour → List Match
 found_by machine patterns board friend = matches_by (is_found machine board friend) patterns board.size
 
--- whether the machine says that the pattern with this number matches at m under t: it has a hit whose star stands at m, the whole
--- diagram lies on the board, the friend's play at m is legal, and its classes, its constraint and its helpers allow it
+-- whether the machine says that the pattern with this number matches at m under t: it has a hit whose star stands at m,
+-- the whole diagram lies on the board, the friend's play at m is legal, and its classes, its constraint and its helpers
+-- allow it
 abbrev pub is_machine_match : Codes → Advice → List Row → BoardState → Colour → ℕ → Pattern → ℕ → ℕ → Bool
-is_machine_match code advice machine board friend number p t m = is_found machine board friend number p t m && is_agreed code advice p board friend t m
+is_machine_match code advice machine board friend number p t m =
+    is_found machine board friend number p t m && is_agreed code advice p board friend t m
 
 -- the matches of the patterns by a machine, which need not be theirs
 unfoldable pub machine_matches : Codes → Advice → List Row → List Pattern → BoardState → Colour → List Match
-machine_matches code advice machine patterns board friend = matches_by (is_machine_match code advice machine board friend) patterns board.size
+machine_matches code advice machine patterns board friend =
+    matches_by (is_machine_match code advice machine board friend) patterns board.size
 
 -- whether the classes and the constraint of the match's pattern allow it
 abbrev pub is_allowed_at : Codes → BoardState → Colour → Option Pattern → Match → Bool

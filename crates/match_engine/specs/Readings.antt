@@ -14,12 +14,13 @@ use Rattle.match_engine.specs.declared.keys.Key.{Key}
 use Rattle.match_engine.specs.Keys.{same_key, meaning_of}
 use Rattle.cons_eval.specs.Readings.{Codes}
 
--- the questions that are kept, the last used first, each with its variants, the last kept or found first; and how many there may be
+-- the questions that are kept, the last used first, each with its variants, the last kept or found first; and how many
+-- there may be
 abbrev pub KeptReadings : Type 0
 KeptReadings = Kept Key Answer
 
--- the depths of the present readings, how many were fresh, the trial plays of these, how many were not kept for want of memory, the
--- trial plays of the last one, if it was fresh, and the readings that are kept
+-- the depths of the present readings, how many were fresh, the trial plays of these, how many were not kept for want of
+-- memory, the trial plays of the last one, if it was fresh, and the readings that are kept
 pub record ReadingsView : Type 0 where
   pub plies : ℕ
   pub wide : ℕ
@@ -43,7 +44,8 @@ nothing_kept capacity = ([], capacity)
 
 -- new readings of these depths, of which so many questions may be kept
 abbrev pub first_readings : ℕ → ℕ → ℕ → ReadingsView
-first_readings plies wide capacity = record { plies = plies; wide = wide; fresh = 0; trials = 0; refused = 0; last = None; kept = nothing_kept capacity }
+first_readings plies wide capacity =
+    record { plies = plies; wide = wide; fresh = 0; trials = 0; refused = 0; last = None; kept = nothing_kept capacity }
 
 -- the readings with other depths
 abbrev pub with_depths : ReadingsView → ℕ → ℕ → ReadingsView
@@ -57,11 +59,12 @@ codes_at plies wide kind pos target = code_of (asked_on pos kind target plies wi
 abbrev pub codes_of : ReadingsView → Codes
 codes_of r = codes_at r.plies r.wide
 
--- The answer of the variant rests on its facts: on each position on which they hold it is the answer to the question, and there each
--- of them lies in the active area of the reading.
+-- The answer of the variant rests on its facts: on each position on which they hold it is the answer to the question,
+-- and there each of them lies in the active area of the reading.
 pub record Rests (key : Key) (variant : Variant Answer) : Type 0 where
   pub answers : (pos : BoardState) → Agrees (told variant.facts) pos → variant.answer ≡ answer_of key.question pos
-  pub near : (pos : BoardState) → Agrees (told variant.facts) pos → (fact : Fact) → IsTrue (told variant.facts fact) → IsAboutOne (InActiveArea key.question pos) fact
+  pub near : (pos : BoardState) → Agrees (told variant.facts) pos → (fact : Fact) → IsTrue (told variant.facts fact)
+      → IsAboutOne (InActiveArea key.question pos) fact
   pub code : variant.answer.code ≤ 3
   pub on_board : IfSome variant.answer.at (IsOnBoard key.question.size)
 
@@ -97,7 +100,8 @@ pub record WasRefused (key : Key) (old new : ReadingsView) : Type 0 where
   pub kept : new.kept ≡ old.kept
   pub refused : new.refused ≡ raised old.refused 1
 
--- the reading was fresh: no kept variant stands on the position, and it was counted, with its trial plays, and kept or refused
+-- the reading was fresh: no kept variant stands on the position, and it was counted, with its trial plays, and kept or
+-- refused
 pub record WasFresh (key : Key) (pos : BoardState) (answer : Answer) (old new : ReadingsView) : Type 0 where
   pub missing : IsMissing same_key key pos old.kept
   pub trials_of_last : ℕ

@@ -22,7 +22,8 @@ pub(crate) fn keep_agreed(
     found: &mut Vec<Match>,
 )
     requires there { (z : MatchSeen) → Contains found.old.items z → IsFoundThere patterns.now position.now z }
-    ensures kept { found.new.items ≡ filter (λ z. is_agreed_at (says_yes (states_of state helpers.old)) position.now friend
+    ensures kept { found.new.items ≡ filter (λ z.
+        is_agreed_at (says_yes (states_of state helpers.old)) position.now friend
         (slice_get patterns.now z.pattern) z) found.old.items }
     ensures calls { states_of state helpers.new
         ≡ after_matches (states_of state helpers.old) patterns.now found.old.items position.now friend }

@@ -105,7 +105,8 @@ fn is_so(
 ) -> bool
     requires constraint { p.now.constraint ≡ Some constraint.now }
     requires on_board { z.now.at < position.now.size * position.now.size }
-    ensures value { result ≡ is_so_value (value_of (meanings_at (codes_of readings.old) p.now position.now friend z.now.transform z.now.at) constraint.now) }
+    ensures value { result ≡ is_so_value (value_of
+        (meanings_at (codes_of readings.old) p.now position.now friend z.now.transform z.now.at) constraint.now) }
     ensures follows { Follows readings.old readings.new }
 {
     let spare = readings.spare();

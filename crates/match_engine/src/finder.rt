@@ -32,7 +32,8 @@ use match_rules::Match;
 use pat_types::{Pattern, mark_count};
 use std::alloc::Global;
 
-/// Whether every letter lies on the board, with the star at a point under a transformation, and the friend's play there is legal.
+/// Whether every letter lies on the board, with the star at a point under a transformation, and the friend's play there
+/// is legal.
 fn is_possible(
     p: &Pattern,
     position: &Position,
@@ -52,8 +53,8 @@ fn is_possible(
     legal.is_legal(position, friend, at)
 }
 
-/// The match that a hit of this pattern is: where its transformation is one of the mark's, the diagram lies on the board, and
-/// the friend's play at the star is legal.
+/// The match that a hit of this pattern is: where its transformation is one of the mark's, the diagram lies on the
+/// board, and the friend's play at the star is legal.
 fn match_of(
     p: &Pattern,
     position: &Position,
@@ -91,7 +92,8 @@ fn matches_among(
 ) -> Result<Vec<Match>, NoMemory>
     requires numbers { (hit : HitSeen) → Contains hits.now hit → hit.pattern < length patterns.now }
     requires anchors { (hit : HitSeen) → Contains hits.now hit → hit.anchor < position.now.size * position.now.size }
-    ensures { IfOk result (λ v. v.items ≡ filter_map (λ hit. match_from (slice_get patterns.now hit.pattern) position.now friend hit) hits.now) }
+    ensures { IfOk result (λ v. v.items ≡ filter_map
+        (λ hit. match_from (slice_get patterns.now hit.pattern) position.now friend hit) hits.now) }
 {
     let mut found = Vec::new(alloc);
     let mut legal = Known::new();
@@ -104,8 +106,8 @@ fn matches_among(
     Ok(found)
 }
 
-/// What an automaton finds on a position, with a legal move: sorted by the pattern's place in the list, the transformation and the
-/// point.
+/// What an automaton finds on a position, with a legal move: sorted by the pattern's place in the list, the
+/// transformation and the point.
 fn found_by(
     alloc: Global,
     patterns: &[Pattern],
@@ -153,7 +155,9 @@ fn keep_allowed(
     found: &mut Vec<Match>,
 )
     requires there { (z : MatchSeen) → Contains found.old.items z → IsFoundThere patterns.now position.now z }
-    ensures kept { found.new.items ≡ filter (λ z. is_allowed_at (codes_of readings.old) position.now friend (slice_get patterns.now z.pattern) z) found.old.items }
+    ensures kept { found.new.items ≡ filter (λ z.
+        is_allowed_at (codes_of readings.old) position.now friend (slice_get patterns.now z.pattern) z)
+        found.old.items }
     ensures follows { Follows readings.old readings.new }
 {
     let mut friend_plays = Plays::new();
@@ -176,12 +180,14 @@ fn keep_allowed(
     found.truncate(kept);
 }
 
-/// The matches of all patterns for a friend, sorted by the pattern's place in the list, the transformation and the point.
+/// The matches of all patterns for a friend, sorted by the pattern's place in the list, the transformation and the
+/// point.
 ///
-/// Diagrams are found by the automaton alone: none is compared with the board again. With the automaton of the patterns the list
-/// is exactly that of the matches. Legality is asked before a reading, class `s` before class `n` and both before the constraint,
-/// and each play is read once. Helpers are asked last: each once about a match that has all else, where every helper that the
-/// pattern names before it said yes. Takes all its memory before its first reading and its first call of a helper, and answers
+/// Diagrams are found by the automaton alone: none is compared with the board again. With the automaton of the patterns
+/// the list is exactly that of the matches. Legality is asked before a reading, class `s` before class `n` and both
+/// before the constraint, and each play is read once. Helpers are asked last: each once about a match that has all
+/// else, where every helper that the pattern names before it said yes. Takes all its memory before its first reading
+/// and its first call of a helper, and answers
 /// `NoMemory` where there is none.
 ///
 /// After GNU Go Manual, "The Pattern Code" and "The DFA pattern matcher".
@@ -196,14 +202,17 @@ pub fn matches(
 ) -> Result<Vec<Match>, NoMemory>
     requires numbers { (w : Word) (n : ℕ) → Contains (accepted machine.now w) n → n < length patterns.now }
     // For every automaton.
-    ensures machine { IfOk result (λ v. v.items ≡ machine_matches (codes_of readings.old) (says_yes (states_of state helpers.old))
+    ensures machine { IfOk result (λ v. v.items
+        ≡ machine_matches (codes_of readings.old) (says_yes (states_of state helpers.old))
         machine.now patterns.now position.now friend) }
     // For that of the patterns.
     ensures patterns { IfOk result (λ v. IsMachineOf patterns.now machine.now → v.items
-        ≡ matches_of (codes_of readings.old) (says_yes (states_of state helpers.old)) patterns.now position.now friend) }
+        ≡ matches_of (codes_of readings.old) (says_yes (states_of state helpers.old)) patterns.now position.now
+        friend) }
     // The helpers were asked about all that matches if they say yes, each as often as the rule of asking says.
     ensures calls { OnOk result (states_of state helpers.new ≡ after_matches (states_of state helpers.old) patterns.now
-        (machine_matches (codes_of readings.old) all_yes machine.now patterns.now position.now friend) position.now friend) }
+        (machine_matches (codes_of readings.old) all_yes machine.now patterns.now position.now friend) position.now
+        friend) }
     ensures calls_of_patterns { OnOk result (IsMachineOf patterns.now machine.now → states_of state helpers.new
         ≡ after_matches (states_of state helpers.old) patterns.now
         (matches_of (codes_of readings.old) all_yes patterns.now position.now friend) position.now friend) }

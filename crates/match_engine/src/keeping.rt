@@ -1,4 +1,5 @@
-//! A cache of readings that may be missing, as in readings that stand in for others: then nothing is found, and nothing is kept.
+//! A cache of readings that may be missing, as in readings that stand in for others: then nothing is found, and nothing
+//! is kept.
 ghost use Rattle.std.specs.Prelude.{◌≡◌, true, false, None, IfSome, IfNone};
 ghost use Rattle.go_rules.specs.Position.{BoardState};
 ghost use Rattle.match_engine.specs.Caches.{kept_in};
@@ -26,7 +27,8 @@ pub fn find_in(cache: &mut Option<Cache<Key>>, key: &Key, position: &Position) -
 /// Keeps an answer with the facts that it rests on, and says whether there was memory for it.
 pub fn keep_in(cache: &mut Option<Cache<Key>>, key: Key, facts: Facts, answer: Answer) -> bool
     requires { Rests key (record { facts = facts; answer = answer }) }
-    ensures kept { result ≡ true → kept_in cache.new ≡ kept_first same_key key (record { facts = facts; answer = answer }) (kept_in cache.old) }
+    ensures kept { result ≡ true
+        → kept_in cache.new ≡ kept_first same_key key (record { facts = facts; answer = answer }) (kept_in cache.old) }
     ensures refused { result ≡ false → kept_in cache.new ≡ kept_in cache.old }
     ensures not_kept { result ≡ false → variants_of same_key key (kept_in cache.old) ≡ None }
 {

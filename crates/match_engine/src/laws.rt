@@ -1,4 +1,5 @@
-//! What the matches by an automaton mean. Each function here is a law: its contract is what is proved, and it does nothing.
+//! What the matches by an automaton mean. Each function here is a law: its contract is what is proved, and it does
+//! nothing.
 ghost use Rattle.std.specs.Prelude.{◌≡◌, List};
 ghost use Rattle.go_rules.specs.declared.Colour.{Colour};
 ghost use Rattle.go_rules.specs.Position.{BoardState};

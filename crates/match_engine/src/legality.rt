@@ -27,8 +27,8 @@ impl Known {
         }
     }
 
-    /// Whether a colour's play at a point is legal, where these are the answers to that question. A play that was asked about
-    /// before is not tried again.
+    /// Whether a colour's play at a point is legal, where these are the answers to that question. A play that was asked
+    /// about before is not tried again.
     pub fn is_legal(&mut self, position: &Position, colour: Colour, at: Point) -> bool
         requires on_board { at < position.now.size * position.now.size }
         requires knows { Knows (λ q. is_legal_on position.now colour q) self.old }

@@ -13,7 +13,8 @@ use crate::readings::Readings;
 use go_base::{Cell, Colour, Point, PointSet, Position};
 use read_rules::Kind;
 
-/// The points where a colour's play was asked about, and those of them where it is legal and its stone cannot be captured.
+/// The points where a colour's play was asked about, and those of them where it is legal and its stone cannot be
+/// captured.
 #[derive(Drop)]
 pub struct Plays {
     /// Where it was asked about.
@@ -57,8 +58,8 @@ impl Plays {
         }
     }
 
-    /// Whether the colour's play at a point is legal, and its stone cannot be captured afterwards. A play that was asked about
-    /// before is not read again.
+    /// Whether the colour's play at a point is legal, and its stone cannot be captured afterwards. A play that was
+    /// asked about before is not read again.
     pub fn is_safe(
         &mut self,
         readings: &mut Readings,

@@ -18,7 +18,8 @@ use read_tree::{attack, defend};
 use std::alloc::Global;
 use std::marker::Model;
 
-/// The readings of a session, all at the same depths, how many of them were made, and those that are kept. Seen as these.
+/// The readings of a session, all at the same depths, how many of them were made, and those that are kept. Seen as
+/// these.
 ///
 /// Each answer is that of a fresh reading. It is kept with the facts that it rests on, and used again where these hold.
 #[derive(Drop)]
@@ -64,7 +65,8 @@ fn read_afresh(kind: Kind, position: &Position, target: Point, depths: Depths) -
     requires on_board { target < position.now.size * position.now.size }
     requires stone { cell_at position.now.cells target ≢ Cell.Empty }
     ensures holds { Agrees (told result.facts) position.now }
-    ensures rests { Rests (record { question = asked_on position.now kind target depths.plies depths.wide }) (record { facts = result.facts; answer = result.answer }) }
+    ensures rests { Rests (record { question = asked_on position.now kind target depths.plies depths.wide })
+        (record { facts = result.facts; answer = result.answer }) }
 {
     let watch = Watch::new(position);
     let told = match kind {
@@ -79,7 +81,8 @@ fn read_afresh(kind: Kind, position: &Position, target: Point, depths: Depths) -
 }
 
 impl Readings {
-    /// Readings at these depths, with all counts 0 and nothing kept, of at most so many questions, from 8 to 65,536. Takes memory.
+    /// Readings at these depths, with all counts 0 and nothing kept, of at most so many questions, from 8 to 65,536.
+    /// Takes memory.
     pub fn new(alloc: Global, depths: Depths, capacity: u32) -> Result<Readings, NoMemory>
         requires some { 8 ≤ capacity }
         requires few { capacity ≤ 65536 }
@@ -95,18 +98,21 @@ impl Readings {
         })
     }
 
-    /// The answer to a question about a stone of the position, at the present depths: that of a fresh reading. It comes from the
-    /// readings that are kept exactly where a kept variant of the question stands on the position; else it is read afresh and kept.
+    /// The answer to a question about a stone of the position, at the present depths: that of a fresh reading. It comes
+    /// from the readings that are kept exactly where a kept variant of the question stands on the position; else it is
+    /// read afresh and kept.
     ///
     /// After GNU Go Manual, "Tactical reading".
     pub fn read(&mut self, kind: Kind, position: &Position, target: Point) -> Answer
         requires on_board { target < position.now.size * position.now.size }
         requires stone { cell_at position.now.cells target ≢ Cell.Empty }
-        ensures answer { result ≡ answer_of (asked_on position.now kind target self.old.plies self.old.wide) position.now }
+        ensures answer { result ≡ answer_of (asked_on position.now kind target self.old.plies self.old.wide)
+            position.now }
         ensures code { result.code ≤ 3 }
         ensures on_board { IfSome result.at (IsOnBoard position.now.size) }
         // It was kept, and no count has changed, or it was fresh, and is counted and kept or refused.
-        ensures read { HasRead (record { question = asked_on position.now kind target self.old.plies self.old.wide }) position.now result self.old self.new }
+        ensures read { HasRead (record { question = asked_on position.now kind target self.old.plies self.old.wide })
+            position.now result self.old self.new }
         // Each kept variant rests on its facts.
         ensures rest { AllRest self.new.kept }
         // The depths are as before, and no count has fallen.

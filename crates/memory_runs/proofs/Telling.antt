@@ -63,11 +63,14 @@ module _ (input : List ℕ) (last hurt : ℕ) (old : List ℕ) (torn : ℕ) (res
       )
 
   -- a run over them says what was taken and put
-  pub told : (helpers : List SlotState) (words : List (List ℕ)) (contents : List ℕ → Option (List ℕ)) (counts : Option Counts)
+  pub told : (helpers : List SlotState) (words : List (List ℕ)) (contents : List ℕ
+      → Option (List ℕ)) (counts : Option Counts)
       (sent : Option Sent) (phase : Phase)
-      → Came helpers words contents (telling input last hurt old torn) (telling rest piece fault new cut) counts sent phase
+      → Came helpers words contents (telling input last hurt old torn)
+      (telling rest piece fault new cut) counts sent phase
       → Told helpers words contents input rest old new piece phase
-  told helpers words contents counts sent NotTaken came = let same = as_before came.1.streams in (came.0, same.0, same.1)
+  told helpers words contents counts sent NotTaken came = let same = as_before came.1.streams in
+      (came.0, same.0, same.1)
   told helpers words contents counts sent (NotOpened error) came = let same = as_before came.1.streams in
       (came.0, same.0, same.1)
   told helpers words contents counts sent (Served end) came = record {

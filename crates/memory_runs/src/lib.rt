@@ -24,7 +24,8 @@ pub fn run_in_memory(
     page: &mut Page,
     helpers: Vec<Box<dyn Helper>>,
 ) -> Outcome
-    ensures { Told (handed state helpers.items) (map string_bytes words.now) (named shelf.old.names shelf.old.contents) feed.old.left feed.new.left
+    ensures { Told (handed state helpers.items) (map string_bytes words.now)
+        (named shelf.old.names shelf.old.contents) feed.old.left feed.new.left
         page.old.written page.new.written feed.new.piece (phase_of result) }
 {
     run(

@@ -103,11 +103,8 @@ pub const SESSIONS: [Session; 29] = [
         input: b"depths 200 12\ndepths 1 0\ndepths 0 2\ndepths 201 2\ndepths 10 13\ndepths 10\n",
         output: b"=\n\n=\n\n? syntax error\n\n? syntax error\n\n? syntax error\n\n? syntax error\n\n",
     },
-    // . . . . .
-    // . . X O .     White's last play, at C3, takes D3, and black may not retake at once.
-    // . X O . O
-    // . . X O .
-    // . . . . .
+    // . . . . . . . X O .     White's last play, at C3, takes D3, and black may not retake at once.
+    // . X O . O . . X O . . . . . .
     Session {
         name: "ko_capture_needs_the_attackers_allowance",
         files: &[],
@@ -215,11 +212,8 @@ pub const SESSIONS: [Session; 29] = [
         input: b"boardsize 9\nplay b C5\nmatch_patterns b\n",
         output: b"=\n\n=\n\n= P 2 B5\nP 4 B5\n\n",
     },
-    // . . . . .
-    // . . X O .     White's last play, at C3, takes D3, and the ban stands until the next move.
-    // . X O . O
-    // . . X O .
-    // . . . . .
+    // . . . . . . . X O .     White's last play, at C3, takes D3, and the ban stands until the next
+    // move. . X O . O . . X O . . . . . .
     Session {
         name: "helper_asks_for_no_ban",
         files: &[File {

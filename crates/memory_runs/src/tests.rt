@@ -240,7 +240,8 @@ const BAD_FILE: &[File] = &[File {
     text: b"Pattern A\nOX\n:8,s\n",
 }];
 
-/// Runs in which one call is set to fail that is not to be made, and how they end: the exit status, and how many bytes are left.
+/// Runs in which one call is set to fail that is not to be made, and how they end: the exit status, and how many bytes
+/// are left.
 const UNMADE_CALLS: [(&str, &[File], &[u8], Way, u8, usize); 8] = [
     (
         "each file is loaded once",
@@ -586,8 +587,8 @@ const SMALLEST: &[File] = &[File {
 /// A stone in atari at D4, and a question about it.
 const IN_ATARI: &[u8] = b"boardsize 9\nplay b D4\nplay w C4\nplay w E4\nplay w D5\ndefend D4\n";
 
-/// Runs with options: what they show, the files, the input and how the objects go; the exit status, the output, the notes and how
-/// many bytes are left of the input.
+/// Runs with options: what they show, the files, the input and how the objects go; the exit status, the output, the
+/// notes and how many bytes are left of the input.
 const OPTION_RUNS: [(&str, &[&str], &[File], &[u8], Way, u8, &[u8], &[u8], usize); 13] = [
     (
         "one generated line, and the input is left alone",
@@ -744,7 +745,8 @@ const OPTION_RUNS: [(&str, &[&str], &[File], &[u8], Way, u8, &[u8], &[u8], usize
     ),
 ];
 
-// Generated runs, their first lines, the ranges of the options, the limit of states, and what goes out where an object fails.
+// Generated runs, their first lines, the ranges of the options, the limit of states, and what goes out where an object
+// fails.
 #[test]
 fn options_have_their_effect(rt: HostRuntime) -> Result<(), Fail> {
     for (what, options, files, input, way, status, output, notes, left) in OPTION_RUNS {
@@ -757,7 +759,8 @@ fn options_have_their_effect(rt: HostRuntime) -> Result<(), Fail> {
     Ok(())
 }
 
-// A refused question counts nothing; the first that is answered with a code is read afresh, and tries some moves here; the second is kept.
+// A refused question counts nothing; the first that is answered with a code is read afresh, and tries some moves here;
+// the second is kept.
 #[test]
 fn readings_are_counted(rt: HostRuntime) -> Result<(), Fail> {
     let input =

@@ -35,32 +35,42 @@ module _ {Q A : Type 0} where
     items_option None = None
     items_option (Some v) = Some v.items
 
-    cond-seen : (b : Bool) (x y : Option (Entry Q A)) → seen_option (cond b x y) ≡ cond b (seen_option x) (seen_option y)
+    cond-seen : (b : Bool) (x y : Option (Entry Q A))
+        → seen_option (cond b x y) ≡ cond b (seen_option x) (seen_option y)
     cond-seen true x y = refl
     cond-seen false x y = refl
 
     -- the entry that is looked up
-    seen-lookup_entry : (es : List (Entry Q A)) → lookup_entry test (seen_entries es) ≡ seen_option (lookup_entry test es)
+    seen-lookup_entry : (es : List (Entry Q A))
+        → lookup_entry test (seen_entries es) ≡ seen_option (lookup_entry test es)
     seen-lookup_entry [] = refl
-    seen-lookup_entry (e ∷ es) = ap (λ o. cond (test e.0) (Some (seen e)) o) (seen-lookup_entry es) ∙ sym (cond-seen (test e.0) (Some e) (lookup_entry test es))
+    seen-lookup_entry (e ∷ es) =
+        ap (λ o. cond (test e.0) (Some (seen e)) o) (seen-lookup_entry es)
+        ∙ sym (cond-seen (test e.0) (Some e) (lookup_entry test es))
 
-    cond-items : (b : Bool) (x y : Option (SmallVec (Variant A))) → items_option (cond b x y) ≡ cond b (items_option x) (items_option y)
+    cond-items : (b : Bool) (x y : Option (SmallVec (Variant A)))
+        → items_option (cond b x y) ≡ cond b (items_option x) (items_option y)
     cond-items true x y = refl
     cond-items false x y = refl
 
     -- the variants that are looked up
     pub seen-lookup : (es : List (Entry Q A)) → lookup test (seen_entries es) ≡ items_option (lookup test es)
     seen-lookup [] = refl
-    seen-lookup (e ∷ es) = ap (λ o. cond (test e.0) (Some e.1.items) o) (seen-lookup es) ∙ sym (cond-items (test e.0) (Some e.1) (lookup test es))
+    seen-lookup (e ∷ es) = ap (λ o. cond (test e.0) (Some e.1.items) o) (seen-lookup es)
+        ∙ sym (cond-items (test e.0) (Some e.1) (lookup test es))
 
-    cond-entries : (b : Bool) (xs ys : List (Entry Q A)) → seen_entries (cond b xs ys) ≡ cond b (seen_entries xs) (seen_entries ys)
+    cond-entries : (b : Bool) (xs ys : List (Entry Q A))
+        → seen_entries (cond b xs ys) ≡ cond b (seen_entries xs) (seen_entries ys)
     cond-entries true xs ys = refl
     cond-entries false xs ys = refl
 
     -- the entries but one
-    seen-remove_entry : (es : List (Entry Q A)) → seen_entries (remove_entry test es) ≡ remove_entry test (seen_entries es)
+    seen-remove_entry : (es : List (Entry Q A))
+        → seen_entries (remove_entry test es) ≡ remove_entry test (seen_entries es)
     seen-remove_entry [] = refl
-    seen-remove_entry (e ∷ es) = cond-entries (test e.0) es (e ∷ remove_entry test es) ∙ ap (λ rest. cond (test e.0) (seen_entries es) (seen e ∷ rest)) (seen-remove_entry es)
+    seen-remove_entry (e ∷ es) =
+        cond-entries (test e.0) es (e ∷ remove_entry test es)
+        ∙ ap (λ rest. cond (test e.0) (seen_entries es) (seen e ∷ rest)) (seen-remove_entry es)
 
     promoted_by : (es : List (Entry Q A)) (o : Option (Entry Q A))
         → seen_entries (option_map_or (λ e. e ∷ remove_entry test es) o es)
@@ -77,20 +87,24 @@ module _ {Q A : Type 0} where
 
   module _ (eq : Q → Q → Bool) (c : LruCache Q (SmallVec (Variant A))) (k : Q) (v : SmallVec (Variant A)) where
     by_entry : (o : Option (Entry Q A)) → lookup_entry (eq k) c.entries ≡ o
-        → seen_entries (option_map_or (λ e. (e.0, v) ∷ remove_entry (eq k) c.entries) o ((k, v) ∷ take (c.cap - 1) c.entries))
+        → seen_entries (option_map_or (λ e. (e.0, v) ∷ remove_entry (eq k) c.entries) o
+        ((k, v) ∷ take (c.cap - 1) c.entries))
         ≡ option_map_or (λ e. (e.0, v.items) ∷ remove_entry (eq k) (seen_entries c.entries)) (seen_option (eq k) o)
         ((k, v.items) ∷ take (c.cap - 1) (seen_entries c.entries))
     by_entry None none = ap (λ rest. (k, v.items) ∷ rest) (seen-take (c.cap - 1) c.entries)
     by_entry (Some e) there = ap (λ rest. (e.0, v.items) ∷ rest) (seen-remove_entry (eq k) c.entries)
 
     -- what is put is seen first
-    pub seen-put_entries : (seen_entries (put_entries eq c k v), c.cap) ≡ put_first eq k v.items (seen_entries c.entries, c.cap)
+    pub seen-put_entries : (seen_entries (put_entries eq c k v), c.cap)
+        ≡ put_first eq k v.items (seen_entries c.entries, c.cap)
     seen-put_entries =
         ap (λ es. (es, c.cap)) (by_entry (lookup_entry (eq k) c.entries) refl
-        ∙ ap (λ o. option_map_or (λ e. (e.0, v.items) ∷ remove_entry (eq k) (seen_entries c.entries)) o ((k, v.items) ∷ take (c.cap - 1) (seen_entries c.entries)))
+        ∙ ap (λ o. option_map_or (λ e. (e.0, v.items) ∷ remove_entry (eq k) (seen_entries c.entries)) o
+        ((k, v.items) ∷ take (c.cap - 1) (seen_entries c.entries)))
         (sym (seen-lookup_entry (eq k) c.entries)))
 
-  module _ (eq : Q → Q → Bool) (k : Q) (es : List (Entry Q A)) (cap : ℕ) (old : Kept Q A) (is : (seen_entries es, cap) ≡ old) where
+  module _ (eq : Q → Q → Bool) (k : Q) (es : List (Entry Q A)) (cap : ℕ) (old : Kept Q A)
+      (is : (seen_entries es, cap) ≡ old) where
     -- variants that are looked up are those of the question
     pub variants_of-there : (v : SmallVec (Variant A)) → lookup (eq k) es ≡ Some v → variants_of eq k old ≡ Some v.items
     variants_of-there v there = ap (variants_of eq k) (sym is) ∙ seen-lookup (eq k) es ∙ ap (items_option (eq k)) there
@@ -100,9 +114,13 @@ module _ {Q A : Type 0} where
     variants_of-none none = ap (variants_of eq k) (sym is) ∙ seen-lookup (eq k) es ∙ ap (items_option (eq k)) none
 
     -- they are right for it
-    pub variants_are : (meaning : Q → BoardState → A) → ((p q : Q) → eq p q ≡ true → (pos : BoardState) → meaning p pos ≡ meaning q pos) → IsSound meaning (seen_entries es)
+    pub variants_are : (meaning : Q → BoardState → A)
+        → ((p q : Q) → eq p q ≡ true → (pos : BoardState) → meaning p pos ≡ meaning q pos)
+        → IsSound meaning (seen_entries es)
         → (v : SmallVec (Variant A)) → lookup (eq k) es ≡ Some v → AreVariants (meaning k) v.items
-    variants_are meaning same sound v there = found_are meaning eq same (seen_entries es) k v.items sound (seen-lookup (eq k) es ∙ ap (items_option (eq k)) there)
+    variants_are meaning same sound v there =
+        found_are meaning eq same (seen_entries es) k v.items sound
+        (seen-lookup (eq k) es ∙ ap (items_option (eq k)) there)
 
 -- an option that cannot be Some
 pub none_unless : {X : Type 0} (o : Option X) → (IsSome o → ⊥) → o ≡ None

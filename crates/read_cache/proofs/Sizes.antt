@@ -37,7 +37,9 @@ small-fits w64 s small = omega (arith, small)
 small-fits w128 s small = omega (arith, small)
 
 -- the variants of a question with small answers fit in memory
-pub variants_fit : (A : RattleType) → type_size A < 2 ^ 32 → bytes_of_variants (align (lone A.mir)) (type_size A) < 2 ^ 63
+pub variants_fit : (A : RattleType) → type_size A < 2 ^ 32
+    → bytes_of_variants (align (lone A.mir)) (type_size A) < 2 ^ 63
 variants_fit A small =
     let τ = lone A.mir in
-    subst (λ a. bytes_of_variants a (type_size A) < 2 ^ 63) (sym (align-bytes τ)) (small-fits (align_w τ) (type_size A) small)
+    subst (λ a. bytes_of_variants a (type_size A) < 2 ^ 63) (sym (align-bytes τ))
+    (small-fits (align_w τ) (type_size A) small)

@@ -10,10 +10,12 @@ use Rattle.read_cache.specs.Variants.{Stands, NoneStands, IsFirstStanding}
 use Rattle.read_cache.specs.declared.variants.Variant.{Variant}
 
 -- the variant at the place of the first that stands is this one
-pub found_at : {A : Type 0} {pos : BoardState} {variants : List (Variant A)} {i : ℕ} (first : IsFirstStanding pos variants i) (d : Variant A) → get_or variants i d ≡ first.found
+pub found_at : {A : Type 0} {pos : BoardState} {variants : List (Variant A)} {i : ℕ}
+    (first : IsFirstStanding pos variants i) (d : Variant A) → get_or variants i d ≡ first.found
 found_at {variants} {i} first d =
     let none : i - i ≡ 0 = omega arith in
-    ap (λ vs. get_or vs i d) first.there ∙ get_or-append_right (take i variants) (first.found ∷ drop (i + 1) variants) i i d (length-take-le i variants (le_of_lt first.within)) (le_refl i)
+    ap (λ vs. get_or vs i d) first.there ∙ get_or-append_right (take i variants)
+    (first.found ∷ drop (i + 1) variants) i i d (length-take-le i variants (le_of_lt first.within)) (le_refl i)
     ∙ ap (λ n. get_or (first.found ∷ drop (i + 1) variants) n d) none
 
 -- the answer that is read at the place is that of the first that stands
@@ -21,14 +23,17 @@ pub answer_at : {A : Type 0} {pos : BoardState} {slice vs : List (Variant A)} {i
     (d : Variant A) → slice ≡ vs → (get_or slice i d).answer ≡ first.found.answer
 answer_at {i} first d same = ap (λ xs. (get_or xs i d).answer) same ∙ ap (λ v. v.answer) (found_at first d)
 
-module _ {A : Type 0} (pos : BoardState) (variants : List (Variant A)) (i : ℕ) (found : Variant A) (low : i < length variants) (read : found ≡ get_or variants i found)
+module _ {A : Type 0} (pos : BoardState) (variants : List (Variant A)) (i : ℕ) (found : Variant A)
+    (low : i < length variants) (read : found ≡ get_or variants i found)
     (before : NoneStands pos (take i variants)) where
   -- the variant at place i is the first that stands, where none before it does
   pub IsFirstStanding-at : Stands pos found → IsFirstStanding pos variants i
   IsFirstStanding-at stands = record {
     found = found;
     within = low;
-    there = sym (take-append-drop i variants) ∙ ap (λ rest. take i variants ++ rest) (drop_more variants i found low ∙ ap (λ v. v ∷ drop (i + 1) variants) (sym read));
+    there = sym (take-append-drop i variants)
+        ∙ ap (λ rest. take i variants ++ rest) (drop_more variants i found low
+        ∙ ap (λ v. v ∷ drop (i + 1) variants) (sym read));
     stands = stands;
     first = before;
   }
@@ -37,7 +42,9 @@ module _ {A : Type 0} (pos : BoardState) (variants : List (Variant A)) (i : ℕ)
   pub NoneStands-more : (Stands pos found → ⊥) → NoneStands pos (take (i + 1) variants)
   NoneStands-more not = record {
     none = λ v there stands.
-        elim (Contains-append_cases (take i variants) (found ∷ []) v (subst (λ vs. Contains vs v) (take_more variants i found low ∙ ap (λ w. take i variants ++ w ∷ []) (sym read)) there)) [
+        elim (Contains-append_cases (take i variants) (found ∷ []) v
+        (subst (λ vs. Contains vs v) (take_more variants i found low
+        ∙ ap (λ w. take i variants ++ w ∷ []) (sym read)) there)) [
           | inl earlier ↦ before.none v earlier stands
           | inr last ↦ elim (Contains-cons found [] v last) [
             | inl same ↦ not (subst (Stands pos) (sym same) stands)
@@ -57,7 +64,8 @@ module _ {Q A : Type 0} (eq : Q → Q → Bool) (q : Q) (pos : BoardState) (old 
       record { variants = items; is_kept = kept; first = here; answer_is = answer_at here d is_again }
 
   -- none of the kept variants stands
-  pub IsMissing-by : (items slice : List (Variant A)) → variants_of eq q old ≡ Some items → slice ≡ items → NoneStands pos slice → IsMissing eq q pos old
+  pub IsMissing-by : (items slice : List (Variant A)) → variants_of eq q old ≡ Some items → slice ≡ items
+      → NoneStands pos slice → IsMissing eq q pos old
   IsMissing-by items slice kept is none = record {
     none = λ variants there. subst (NoneStands pos) (is ∙ (let same = sym kept ∙ there in cc)) none;
   }

@@ -21,7 +21,8 @@ no_questions capacity = ([], capacity)
 abbrev pub seen_entries : {Q A : Type 0} → List (Q × SmallVec (Variant A)) → List (Q × List (Variant A))
 seen_entries entries = map (λ e. (e.0, e.1.items)) entries
 
--- the variant is right for a question of this meaning: the answer is its answer on each position on which the facts hold
+-- the variant is right for a question of this meaning: the answer is its answer on each position on which the facts
+-- hold
 pub record IsRight {A : Type 0} (meaning : BoardState → A) (variant : Variant A) : Type 0 where
   pub right : (pos : BoardState) → Stands pos variant → variant.answer ≡ meaning pos
 
@@ -34,14 +35,16 @@ pub record AreVariants {A : Type 0} (meaning : BoardState → A) (variants : Lis
 module _ {Q A : Type 0} where
   -- each question that is kept has from one to four variants, and each of them is right
   pub record IsSound (meaning : Q → BoardState → A) (questions : List (Q × List (Variant A))) : Type 0 where
-    pub each : (q : Q) (variants : List (Variant A)) → Contains questions (q, variants) → AreVariants (meaning q) variants
+    pub each : (q : Q) (variants : List (Variant A)) → Contains questions (q, variants)
+        → AreVariants (meaning q) variants
 
   module _ (eq : Q → Q → Bool) (q : Q) where
     -- the kept variants of the question, if it is kept
     abbrev pub variants_of : Kept Q A → Option (List (Variant A))
     variants_of kept = lookup (eq q) kept.0
 
-    -- the question goes first with these variants; where it was not kept, the last question past the capacity is dropped
+    -- the question goes first with these variants; where it was not kept, the last question past the capacity is
+    -- dropped
     abbrev pub put_first : List (Variant A) → Kept Q A → Kept Q A
     put_first variants kept = (
       option_map_or (λ e. (e.0, variants) ∷ remove_entry (eq q) kept.0) (lookup_entry (eq q) kept.0)
@@ -65,7 +68,8 @@ module _ {Q A : Type 0} where
       pub first : IsFirstStanding pos variants place
       pub front_is : front ≡ first.found ∷ take place variants ++ drop (place + 1) variants
 
-    -- the answer is that of the first kept variant of the question that stands on the position; it and its question then stand first
+    -- the answer is that of the first kept variant of the question that stands on the position; it and its question
+    -- then stand first
     pub record IsFound (pos : BoardState) (old new : Kept Q A) (answer : A) : Type 0 where
       pub front : List (Variant A)
       pub brought : IsBrought pos old front
@@ -78,4 +82,5 @@ module _ {Q A : Type 0} where
 
 -- P holds of each kept question with each of its variants
 pub record HoldsOfEach {Q A : Type 0} (P : Q → Variant A → Type 0) (kept : Kept Q A) : Type 0 where
-  pub each : (q : Q) (variants : List (Variant A)) (variant : Variant A) → Contains kept.0 (q, variants) → Contains variants variant → P q variant
+  pub each : (q : Q) (variants : List (Variant A)) (variant : Variant A) → Contains kept.0 (q, variants)
+      → Contains variants variant → P q variant

@@ -49,8 +49,8 @@ impl<Q: Question> Cache<Q> {
         })
     }
 
-    /// The answer of the first kept variant of the question that stands on the position; it and its question then stand first.
-    /// None exactly where no kept variant of it stands, and then nothing changes. Takes no memory.
+    /// The answer of the first kept variant of the question that stands on the position; it and its question then stand
+    /// first. None exactly where no kept variant of it stands, and then nothing changes. Takes no memory.
     pub fn find(&mut self, q: &Q, position: &Position) -> Option<Q::Answer>
         ensures found { IfSome result (IsFound Q.eq q.now position.now self.old self.new) }
         ensures missing { IfNone result (IsMissing Q.eq q.now position.now self.old) }
@@ -109,8 +109,8 @@ impl<Q: Question> Cache<Q> {
         }
     }
 
-    /// Keeps an answer of the question with the facts that it rests on: it stands first among the question's variants, and its
-    /// question among the questions. A fifth variant and the last question past the capacity are dropped.
+    /// Keeps an answer of the question with the facts that it rests on: it stands first among the question's variants,
+    /// and its question among the questions. A fifth variant and the last question past the capacity are dropped.
     ///
     /// NoMemory comes only where the question was not kept, and leaves the cache as it was.
     pub fn keep(&mut self, q: Q, facts: Facts, answer: Q::Answer) -> Result<(), NoMemory>

@@ -36,12 +36,15 @@ use Rattle.read_moves.specs.Steps.{is_at, is_only_member}
 use Rattle.read_moves.proofs.BesideLemmas.{same_tests}
 
 -- a set with one member, from which this one was taken, is empty
-emptied : (points : sets.FinSet nat_cmp) (q : ℕ) → sets.len points ≡ 1 → sets.contains points q ≡ true → sets.remove points q ≡ sets.empty
+emptied : (points : sets.FinSet nat_cmp) (q : ℕ) → sets.len points ≡ 1 → sets.contains points q ≡ true
+    → sets.remove points q ≡ sets.empty
 emptied points q one has = sets.empty_of_len (sets.remove points q)
-    (sets.len-remove nat_cmp_total points q ∙ ap (λ b. cond b (sets.len points - 1) (sets.len points)) has ∙ ap (λ n. n - 1) one)
+    (sets.len-remove nat_cmp_total points q ∙ ap (λ b. cond b (sets.len points - 1) (sets.len points)) has
+    ∙ ap (λ n. n - 1) one)
 
 -- a set of one member has no other
-pub one_member : (points : sets.FinSet nat_cmp) (q p : ℕ) → sets.len points ≡ 1 → sets.contains points q ≡ true → sets.contains points p ≡ true → p ≡ q
+pub one_member : (points : sets.FinSet nat_cmp) (q p : ℕ) → sets.len points ≡ 1 → sets.contains points q ≡ true
+    → sets.contains points p ≡ true → p ≡ q
 one_member points q p one has also = elim (cases_eq p q) [
   | inl e ↦ e
   | inr ne ↦
@@ -61,9 +64,11 @@ only_member_is points q p one has = same_tests _ _
 
 -- what is first found in a set of one member is that member
 pub first_is : (points : sets.FinSet nat_cmp) (o : Option ℕ) (p : ℕ) → sets.len points ≡ 1
-    → IfSome o (λ q. (0 ≤ q) × (q < largest_points) × (sets.contains points q ≡ true) × ((r : ℕ) → 0 ≤ r → r < q → sets.contains points r ≡ false))
+    → IfSome o (λ q. (0 ≤ q) × (q < largest_points) × (sets.contains points q ≡ true)
+    × ((r : ℕ) → 0 ≤ r → r < q → sets.contains points r ≡ false))
     → IfNone o ((r : ℕ) → 0 ≤ r → sets.contains points r ≡ false) → is_at o p ≡ is_only_member points p
-first_is points None p one some none = sym (ap (λ b. eqb (sets.len points) 1 && b) (none p (omega arith)) ∙ and_no (eqb (sets.len points) 1))
+first_is points None p one some none =
+    sym (ap (λ b. eqb (sets.len points) 1 && b) (none p (omega arith)) ∙ and_no (eqb (sets.len points) 1))
   where
     and_no : (a : Bool) → (a && false) ≡ false
     and_no true = refl
@@ -79,7 +84,8 @@ legal_or_banned pos c l empty = elim (cases_Bool (is_banned pos.ban c l)) [
 ]
 
 -- a try in which the ban may be dropped is done only where the play with the ban dropped is legal
-pub free_of_done : (pos : BoardState) (c : Colour) (l : ℕ) (new : BoardState) → tried pos c l true ≡ (Done, new) → play_free pos c l ≡ Ok new
+pub free_of_done : (pos : BoardState) (c : Colour) (l : ℕ) (new : BoardState) → tried pos c l true ≡ (Done, new)
+    → play_free pos c l ≡ Ok new
 free_of_done pos c l new e = elim (tried-done pos c l true new e) [
   | inr w ↦ w.2
   | inl legal ↦ elim (cases_Bool (is_stone (cell_at pos.cells l))) [
@@ -92,7 +98,8 @@ free_of_done pos c l new e = elim (tried-done pos c l true new e) [
 ]
 
 -- and there it is done
-done_of_free : (pos : BoardState) (c : Colour) (l : ℕ) (new : BoardState) → play_free pos c l ≡ Ok new → tried pos c l true ≡ (Done, new)
+done_of_free : (pos : BoardState) (c : Colour) (l : ℕ) (new : BoardState) → play_free pos c l ≡ Ok new
+    → tried pos c l true ≡ (Done, new)
 done_of_free pos c l new e = elim (cases_Bool (is_stone (cell_at pos.cells l))) [
   | inl t ↦ absurd (let w : Err Occupied ≡ Ok new = free_occupied pos c l t ∙ e in cc)
   | inr f ↦ elim (legal_or_banned pos c l f) [
@@ -102,11 +109,13 @@ done_of_free pos c l new e = elim (cases_Bool (is_stone (cell_at pos.cells l))) 
 ]
 
 -- where the play with the ban dropped is not legal, it leaves nothing
-none_left : (pos : BoardState) (c : Colour) (l p : ℕ) (r : Result BoardState Illegal) → ((new : BoardState) → r ≡ Ok new → ⊥) → leaves_only l p r ≡ false
+none_left : (pos : BoardState) (c : Colour) (l p : ℕ) (r : Result BoardState Illegal)
+    → ((new : BoardState) → r ≡ Ok new → ⊥) → leaves_only l p r ≡ false
 none_left pos c l p (Ok new) h = absurd (h new refl)
 none_left pos c l p (Err why) h = refl
 
-pub refused_leaves : (pos : BoardState) (c : Colour) (l p : ℕ) (answer : Tried) (new : BoardState) → tried pos c l true ≡ (answer, new) → answer ≢ Done
+pub refused_leaves : (pos : BoardState) (c : Colour) (l p : ℕ) (answer : Tried) (new : BoardState)
+    → tried pos c l true ≡ (answer, new) → answer ≢ Done
     → leaves_only l p (play_free pos c l) ≡ false
 refused_leaves pos c l p answer new e ne =
     none_left pos c l p (play_free pos c l) (λ made legal. ne (ap (λ t. t.0) (sym e ∙ done_of_free pos c l made legal)))
@@ -118,14 +127,16 @@ refused_is answer (inr (inl e)) done = let w : banned ≡ Done = sym e ∙ done 
 refused_is answer (inr (inr e)) done = let w : suicide ≡ Done = sym e ∙ done in cc
 
 -- a refused try leaves the trial moves
-pub moves_refused : (c : Colour) (p : ℕ) (answer : Tried) (old new : List TrialMove) → Moved answer c p old new → answer ≢ Done → new ≡ old
+pub moves_refused : (c : Colour) (p : ℕ) (answer : Tried) (old new : List TrialMove) → Moved answer c p old new
+    → answer ≢ Done → new ≡ old
 moves_refused c p Done old new m h = absurd (h refl)
 moves_refused c p occupied old new m h = m
 moves_refused c p banned old new m h = m
 moves_refused c p suicide old new m h = m
 
 -- the one member of the liberties of the played stone is its one liberty
-pub only_member_left : (new : BoardState) (s l p : ℕ) (libs : sets.FinSet nat_cmp) → new.size ≡ s → libs ≡ liberty_points s new.cells l
+pub only_member_left : (new : BoardState) (s l p : ℕ) (libs : sets.FinSet nat_cmp) → new.size ≡ s
+    → libs ≡ liberty_points s new.cells l
     → is_only_member libs p ≡ is_only_liberty new.size new.cells l p
 unfolding is_only_liberty
 only_member_left new s l p libs size is =
@@ -140,21 +151,26 @@ if_some None h f = tt
 if_some (Some p) h f = f p h
 
 -- a liberty is on the board
-pub liberty_inside : (s n : ℕ) (cells : List Cell) (l p : ℕ) (libs : sets.FinSet nat_cmp) → libs ≡ liberty_points s cells l → s ≡ n
+pub liberty_inside : (s n : ℕ) (cells : List Cell) (l p : ℕ) (libs : sets.FinSet nat_cmp)
+    → libs ≡ liberty_points s cells l → s ≡ n
     → sets.contains libs p ≡ true → p < n * n
 liberty_inside s n cells l p libs is same has =
     subst (λ m. p < m * m) same
-    (IsLiberty-from_test s cells l p (sym (ap (λ t. sets.contains t p) is ∙ contains-liberty_points s cells l p) ∙ has)).on_board
+    (IsLiberty-from_test s cells l p (sym (ap (λ t. sets.contains t p) is ∙ contains-liberty_points s cells l p)
+    ∙ has)).on_board
 
 -- what is near the played stone is near its point before the play
-pub near_left : (here new : BoardState) (c : Colour) (l s : ℕ) → here.size ≡ s → l < s * s → play_free here c l ≡ Ok new → (r : ℕ)
+pub near_left : (here new : BoardState) (c : Colour) (l s : ℕ) → here.size ≡ s → l < s * s → play_free here c l ≡ Ok new
+    → (r : ℕ)
     → neighbourhood_of s new.cells (alone l) r ≡ true → neighbourhood_twice s here.cells l r ≡ true
 near_left here new c l s size on legal r h =
     subst (λ n. neighbourhood_twice n here.cells l r ≡ true) size
-    (near_played here c l new (subst (λ n. l < n * n) (sym size) on) legal r (subst (λ n. neighbourhood_of n new.cells (alone l) r ≡ true) (sym size) h))
+    (near_played here c l new (subst (λ n. l < n * n) (sym size) on) legal r
+    (subst (λ n. neighbourhood_of n new.cells (alone l) r ≡ true) (sym size) h))
 
 -- and so is the one liberty that it leaves
-pub left_near : (here : BoardState) (c : Colour) (l s p : ℕ) → here.size ≡ s → l < s * s → leaves_only l p (play_free here c l) ≡ true
+pub left_near : (here : BoardState) (c : Colour) (l s p : ℕ) → here.size ≡ s → l < s * s
+    → leaves_only l p (play_free here c l) ≡ true
     → neighbourhood_twice s here.cells l p ≡ true
 left_near here c l s p size on h =
     let made = only_gives l p (play_free here c l) h in
@@ -169,9 +185,12 @@ pub added_if_empty : (cells : List Cell) (test : ℕ → Bool) (old new : sets.F
 added_if_empty cells test old new q is only p =
     ap (λ t. sets.contains t p) is ∙ elim (cases_Bool (same_cell (cell_at cells q) Empty)) [
       | inl t ↦
-          ap (λ b. sets.contains (cond b (sets.insert old q) old) p) t ∙ contains-insert_nat old q p ∙ elim (cases_eq p q) [
-            | inl e ↦ chosen (eqb p q) (sets.contains old p) _ _ (eq-eqb p q e) (ap (λ x. same_cell (cell_at cells x) Empty) e ∙ t) (sym (only p) ∙ eq-eqb p q e)
-            | inr ne ↦ ap (λ b. b || sets.contains old p) (ne_eqb p q ne) ∙ passed (sets.contains old p) _ _ (sym (only p) ∙ ne_eqb p q ne)
+          ap (λ b. sets.contains (cond b (sets.insert old q) old) p) t ∙ contains-insert_nat old q p
+          ∙ elim (cases_eq p q) [
+            | inl e ↦ chosen (eqb p q) (sets.contains old p) _ _ (eq-eqb p q e)
+                (ap (λ x. same_cell (cell_at cells x) Empty) e ∙ t) (sym (only p) ∙ eq-eqb p q e)
+            | inr ne ↦ ap (λ b. b || sets.contains old p) (ne_eqb p q ne)
+                ∙ passed (sets.contains old p) _ _ (sym (only p) ∙ ne_eqb p q ne)
           ]
       | inr f ↦ ap (λ b. sets.contains (cond b (sets.insert old q) old) p) f ∙ elim (cases_eq p q) [
         | inl e ↦ skipped (sets.contains old p) _ _ (ap (λ x. same_cell (cell_at cells x) Empty) e ∙ f)
@@ -193,7 +212,8 @@ added_if_empty cells test old new q is only p =
     skipped false x y e = ap (λ c. c && y) (sym e)
 
 -- a test of all numbers below a bound stays the same where the numbers between fail
-any_below_skip : (test : ℕ → Bool) (n m : ℕ) → n ≤ m → ((k : ℕ) → n ≤ k → k < m → test k ≡ false) → any_below m test ≡ any_below n test
+any_below_skip : (test : ℕ → Bool) (n m : ℕ) → n ≤ m → ((k : ℕ) → n ≤ k → k < m → test k ≡ false)
+    → any_below m test ≡ any_below n test
 any_below_skip test n m up none = same_tests _ _
     (λ h.
     let k = any_below_gives m test h in
@@ -207,7 +227,8 @@ any_below_skip test n m up none = same_tests _ _
 module _ (test : ℕ → ℕ → Bool) (points old : sets.FinSet nat_cmp) where
   -- what the test has at the points of the set below n came, and nothing else
   abbrev pub LeftBelow : ℕ → sets.FinSet nat_cmp → Type 0
-  LeftBelow n new = (p : ℕ) → sets.contains new p ≡ (sets.contains old p || any_below n (λ l. sets.contains points l && test l p))
+  LeftBelow n new = (p : ℕ)
+      → sets.contains new p ≡ (sets.contains old p || any_below n (λ l. sets.contains points l && test l p))
 
   -- no point is below 0
   pub LeftBelow-none : LeftBelow 0 old
@@ -218,8 +239,10 @@ module _ (test : ℕ → ℕ → Bool) (points old : sets.FinSet nat_cmp) where
       or_false false = refl
 
   -- what the test has at the next point came
-  pub LeftBelow-next : (n l : ℕ) (mid new : sets.FinSet nat_cmp) → n ≤ l → LeftBelow n mid → sets.contains points l ≡ true
-      → ((k : ℕ) → n ≤ k → k < l → sets.contains points k ≡ false) → ((p : ℕ) → sets.contains new p ≡ (sets.contains mid p || test l p)) → LeftBelow (l + 1) new
+  pub LeftBelow-next : (n l : ℕ) (mid new : sets.FinSet nat_cmp) → n ≤ l → LeftBelow n mid
+      → sets.contains points l ≡ true
+      → ((k : ℕ) → n ≤ k → k < l → sets.contains points k ≡ false)
+      → ((p : ℕ) → sets.contains new p ≡ (sets.contains mid p || test l p)) → LeftBelow (l + 1) new
   LeftBelow-next n l mid new up h has none came p =
       let at = λ (k : ℕ). sets.contains points k && test k p in
       let skip = any_below_skip at n l up (λ k lo hi. ap (λ b. b && test k p) (none k lo hi)) in
@@ -236,7 +259,8 @@ module _ (test : ℕ → ℕ → Bool) (points old : sets.FinSet nat_cmp) where
       turned a b t false e = absurd (let w = e in cc)
 
   -- no point is left, and all are below the bound
-  pub LeftBelow-all : (n m : ℕ) (new : sets.FinSet nat_cmp) → LeftBelow n new → ((k : ℕ) → n ≤ k → sets.contains points k ≡ false)
+  pub LeftBelow-all : (n m : ℕ) (new : sets.FinSet nat_cmp) → LeftBelow n new
+      → ((k : ℕ) → n ≤ k → sets.contains points k ≡ false)
       → ((k : ℕ) → sets.contains points k ≡ true → k < m) → LeftBelow m new
   LeftBelow-all n m new h none inside p =
       h p ∙ ap (λ b. sets.contains old p || b) (same_tests _ _

@@ -22,7 +22,8 @@ same_tests true false f g = sym (f refl)
 same_tests false true f g = g refl
 
 -- the point at a side of l is a neighbour of l on the board
-pub neighbours_of-side : (s l side q r : ℕ) → l < s * s → neighbour_at s l side ≡ Some q → alone q r ≡ true → neighbours_of s l r ≡ true
+pub neighbours_of-side : (s l side q r : ℕ) → l < s * s → neighbour_at s l side ≡ Some q → alone q r ≡ true
+    → neighbours_of s l r ≡ true
 neighbours_of-side s l side q r on at h =
     let near = neighbour_at-near s l side q on at in
     let is_q = eqb-true r q h in
@@ -36,16 +37,19 @@ EmptyAt s cells l p = (p < s * s) × (are_neighbours s l p ≡ true) × (same_ce
 pub record AddsBeside (s : ℕ) (cells : List Cell) (S : ℕ → Bool) (old new : sets.FinSet nat_cmp) : Type 0 where
   pub kept : (p : ℕ) → sets.contains old p ≡ true → sets.contains new p ≡ true
   pub all : (l p : ℕ) → l < s * s → S l ≡ true → EmptyAt s cells l p → sets.contains new p ≡ true
-  pub only : (p : ℕ) → sets.contains new p ≡ true → (sets.contains old p ≡ true) ⊎ ((l : ℕ) × (l < s * s) × (S l ≡ true) × EmptyAt s cells l p)
+  pub only : (p : ℕ) → sets.contains new p ≡ true
+      → (sets.contains old p ≡ true) ⊎ ((l : ℕ) × (l < s * s) × (S l ≡ true) × EmptyAt s cells l p)
 
 -- the same by the test
-pub AddsBeside-is : (s : ℕ) (cells : List Cell) (S : ℕ → Bool) (old new : sets.FinSet nat_cmp) → AddsBeside s cells S old new
+pub AddsBeside-is : (s : ℕ) (cells : List Cell) (S : ℕ → Bool) (old new : sets.FinSet nat_cmp)
+    → AddsBeside s cells S old new
     → (p : ℕ) → sets.contains new p ≡ (sets.contains old p || is_empty_beside s cells S p)
 unfolding is_empty_beside
 AddsBeside-is s cells S old new h p = same_tests _ _
     (λ i. elim (h.only p i) [
       | inl before ↦ or_left _ _ before
-      | inr now ↦ or_right _ _ (and_from _ _ (and_from _ _ (lt-ltb p (s * s) now.3.0) now.3.2) (any_below_from (s * s) _ now.0 now.1 (and_from _ _ now.2 now.3.1)))
+      | inr now ↦ or_right _ _ (and_from _ _ (and_from _ _ (lt-ltb p (s * s) now.3.0) now.3.2)
+          (any_below_from (s * s) _ now.0 now.1 (and_from _ _ now.2 now.3.1)))
     ])
     (λ i. elim (or_cases _ _ i) [
       | inl before ↦ h.kept p before
@@ -58,11 +62,14 @@ AddsBeside-is s cells S old new h p = same_tests _ _
     ])
 
 -- and back
-pub AddsBeside-by : (s : ℕ) (cells : List Cell) (S : ℕ → Bool) (old new : sets.FinSet nat_cmp) → ((p : ℕ) → sets.contains new p ≡ (sets.contains old p || is_empty_beside s cells S p)) → AddsBeside s cells S old new
+pub AddsBeside-by : (s : ℕ) (cells : List Cell) (S : ℕ → Bool) (old new : sets.FinSet nat_cmp)
+    → ((p : ℕ) → sets.contains new p ≡ (sets.contains old p || is_empty_beside s cells S p))
+    → AddsBeside s cells S old new
 unfolding is_empty_beside
 AddsBeside-by s cells S old new is = record {
   kept = λ p i. is p ∙ or_left _ _ i;
-  all = λ l p on i e. is p ∙ or_right _ _ (and_from _ _ (and_from _ _ (lt-ltb p (s * s) e.0) e.2) (any_below_from (s * s) _ l on (and_from _ _ i e.1)));
+  all = λ l p on i e. is p ∙ or_right _ _ (and_from _ _ (and_from _ _ (lt-ltb p (s * s) e.0) e.2)
+      (any_below_from (s * s) _ l on (and_from _ _ i e.1)));
   only = λ p i. elim (or_cases _ _ (sym (is p) ∙ i)) [
     | inl before ↦ inl before
     | inr now ↦
@@ -77,7 +84,8 @@ AddsBeside-by s cells S old new is = record {
 -- of the first n sides of l, the empty neighbours came, and nothing else
 pub record AddsSides (s : ℕ) (cells : List Cell) (l n : ℕ) (old new : sets.FinSet nat_cmp) : Type 0 where
   pub kept : (p : ℕ) → sets.contains old p ≡ true → sets.contains new p ≡ true
-  pub all : (side : ℕ) → side < n → (p : ℕ) → neighbour_at s l side ≡ Some p → same_cell (cell_at cells p) Empty ≡ true → sets.contains new p ≡ true
+  pub all : (side : ℕ) → side < n → (p : ℕ) → neighbour_at s l side ≡ Some p → same_cell (cell_at cells p) Empty ≡ true
+      → sets.contains new p ≡ true
   pub only : (p : ℕ) → sets.contains new p ≡ true → (sets.contains old p ≡ true) ⊎ EmptyAt s cells l p
 
 module _ (s : ℕ) (cells : List Cell) (l : ℕ) where
@@ -87,7 +95,8 @@ module _ (s : ℕ) (cells : List Cell) (l : ℕ) where
 
   -- the next side gave nothing, or a stone
   pub AddsSides-skip : (n : ℕ) (old new : sets.FinSet nat_cmp) → AddsSides s cells l n old new
-      → ((p : ℕ) → neighbour_at s l n ≡ Some p → same_cell (cell_at cells p) Empty ≡ true → ⊥) → AddsSides s cells l (n + 1) old new
+      → ((p : ℕ) → neighbour_at s l n ≡ Some p → same_cell (cell_at cells p) Empty ≡ true → ⊥)
+      → AddsSides s cells l (n + 1) old new
   AddsSides-skip n old new h none = record {
     kept = h.kept;
     all = λ side below p at empty. elim (cases_eq side n) [
@@ -98,7 +107,8 @@ module _ (s : ℕ) (cells : List Cell) (l : ℕ) where
   }
 
   -- the next side gave an empty point
-  AddsSides-add : (n q : ℕ) (old new : sets.FinSet nat_cmp) → AddsSides s cells l n old new → l < s * s → neighbour_at s l n ≡ Some q → same_cell (cell_at cells q) Empty ≡ true
+  AddsSides-add : (n q : ℕ) (old new : sets.FinSet nat_cmp) → AddsSides s cells l n old new → l < s * s
+      → neighbour_at s l n ≡ Some q → same_cell (cell_at cells q) Empty ≡ true
       → AddsSides s cells l (n + 1) old (sets.insert new q)
   AddsSides-add n q old new h on at empty = record {
     kept = λ p i. contains-insert_nat new q p ∙ or_right _ _ (h.kept p i);
@@ -115,17 +125,21 @@ module _ (s : ℕ) (cells : List Cell) (l : ℕ) where
   }
 
   -- the next side gave a point, which came where it is empty
-  pub AddsSides-visit : (n q : ℕ) (old mid new : sets.FinSet nat_cmp) → AddsSides s cells l n old mid → l < s * s → neighbour_at s l n ≡ Some q
+  pub AddsSides-visit : (n q : ℕ) (old mid new : sets.FinSet nat_cmp) → AddsSides s cells l n old mid → l < s * s
+      → neighbour_at s l n ≡ Some q
       → new ≡ cond (same_cell (cell_at cells q) Empty) (sets.insert mid q) mid → AddsSides s cells l (n + 1) old new
-  AddsSides-visit n q old mid new h on at is = subst (AddsSides s cells l (n + 1) old) (sym is) (elim (cases_Bool (same_cell (cell_at cells q) Empty)) [
-    | inl t ↦ rw t (AddsSides-add n q old mid h on at t)
-    | inr f ↦ rw f (AddsSides-skip n old mid h (λ p at' empty.
-        let same : q ≡ p = (let k : Some q ≡ Some p = sym at ∙ at' in cc) in
-        both_ways (same_cell (cell_at cells p) Empty) (ap (λ x. same_cell (cell_at cells x) Empty) (sym same) ∙ f) empty))
-  ])
+  AddsSides-visit n q old mid new h on at is =
+      subst (AddsSides s cells l (n + 1) old) (sym is) (elim (cases_Bool (same_cell (cell_at cells q) Empty)) [
+        | inl t ↦ rw t (AddsSides-add n q old mid h on at t)
+        | inr f ↦ rw f (AddsSides-skip n old mid h (λ p at' empty.
+            let same : q ≡ p = (let k : Some q ≡ Some p = sym at ∙ at' in cc) in
+            both_ways (same_cell (cell_at cells p) Empty)
+            (ap (λ x. same_cell (cell_at cells x) Empty) (sym same) ∙ f) empty))
+      ])
 
   -- after the four sides the empty neighbours are there
-  pub AddsSides-all : (n : ℕ) (old new : sets.FinSet nat_cmp) → AddsSides s cells l n old new → l < s * s → 4 ≤ n → (p : ℕ) → sets.contains new p ≡ (sets.contains old p || is_empty_beside s cells (alone l) p)
+  pub AddsSides-all : (n : ℕ) (old new : sets.FinSet nat_cmp) → AddsSides s cells l n old new → l < s * s → 4 ≤ n
+      → (p : ℕ) → sets.contains new p ≡ (sets.contains old p || is_empty_beside s cells (alone l) p)
   AddsSides-all n old new h on four = AddsBeside-is s cells (alone l) old new (record {
     kept = h.kept;
     all = λ k p k_on same e.
@@ -149,8 +163,10 @@ module _ (s : ℕ) (cells : List Cell) (points old : sets.FinSet nat_cmp) where
   }
 
   -- the empty neighbours of the next point came
-  pub BesideBelow-next : (n l : ℕ) (mid new : sets.FinSet nat_cmp) → n ≤ l → BesideBelow n mid → l < s * s → sets.contains points l ≡ true → ((k : ℕ) → n ≤ k → k < l → sets.contains points k ≡ false)
-      → ((p : ℕ) → sets.contains new p ≡ (sets.contains mid p || is_empty_beside s cells (alone l) p)) → BesideBelow (l + 1) new
+  pub BesideBelow-next : (n l : ℕ) (mid new : sets.FinSet nat_cmp) → n ≤ l → BesideBelow n mid → l < s * s
+      → sets.contains points l ≡ true → ((k : ℕ) → n ≤ k → k < l → sets.contains points k ≡ false)
+      → ((p : ℕ) → sets.contains new p ≡ (sets.contains mid p || is_empty_beside s cells (alone l) p))
+      → BesideBelow (l + 1) new
   BesideBelow-next n l mid new up h on here none is =
       let one = AddsBeside-by s cells (alone l) mid new is in
       record {
@@ -162,7 +178,8 @@ module _ (s : ℕ) (cells : List Cell) (points old : sets.FinSet nat_cmp) where
               | inl same ↦ one.all k p k_on (eq-eqb k l same) e
               | inr ne ↦ elim (cases_lt k n) [
                 | inl before ↦ one.kept p (h.all k p k_on (and_from _ _ (lt-ltb k n before) parts.1) e)
-                | inr between ↦ absurd (both_ways (sets.contains points k) (none k between (omega (arith, below, ne))) parts.1)
+                | inr between ↦ absurd (both_ways (sets.contains points k)
+                    (none k between (omega (arith, below, ne))) parts.1)
               ]
             ];
         only = λ p i. elim (one.only p i) [
@@ -175,12 +192,20 @@ module _ (s : ℕ) (cells : List Cell) (points old : sets.FinSet nat_cmp) where
           ]
           | inr now ↦
               let same = eqb-true now.0 l now.2 in
-              inr (now.0, now.1, and_from _ _ (lt-ltb now.0 (l + 1) (omega (arith, same))) (ap (sets.contains points) same ∙ here), now.3)
+              inr (
+                now.0,
+                now.1,
+                and_from _ _ (lt-ltb now.0 (l + 1) (omega (arith, same)))
+                    (ap (sets.contains points) same ∙ here),
+                now.3,
+              )
         ];
       }
 
   -- no point is left
-  pub BesideBelow-all : (n : ℕ) (new : sets.FinSet nat_cmp) → BesideBelow n new → ((k : ℕ) → n ≤ k → sets.contains points k ≡ false) → (p : ℕ) → sets.contains new p ≡ (sets.contains old p || is_empty_beside s cells (sets.contains points) p)
+  pub BesideBelow-all : (n : ℕ) (new : sets.FinSet nat_cmp) → BesideBelow n new
+      → ((k : ℕ) → n ≤ k → sets.contains points k ≡ false) → (p : ℕ)
+      → sets.contains new p ≡ (sets.contains old p || is_empty_beside s cells (sets.contains points) p)
   BesideBelow-all n new h none = AddsBeside-is s cells (sets.contains points) old new (record {
     kept = h.kept;
     all = λ k p k_on i e. elim (cases_lt k n) [

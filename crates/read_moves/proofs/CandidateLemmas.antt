@@ -25,12 +25,16 @@ use Rattle.read_moves.specs.Steps.{is_left}
 use Rattle.read_moves.proofs.BesideLemmas.{same_tests}
 
 -- which empty points are beside points of a set depends on the set's members alone
-empty_beside_same : (s : ℕ) (cells : List Cell) (S T : ℕ → Bool) (q : ℕ) → ((l : ℕ) → S l ≡ T l) → is_empty_beside s cells S q ≡ is_empty_beside s cells T q
+empty_beside_same : (s : ℕ) (cells : List Cell) (S T : ℕ → Bool) (q : ℕ) → ((l : ℕ) → S l ≡ T l)
+    → is_empty_beside s cells S q ≡ is_empty_beside s cells T q
 unfolding is_empty_beside
-empty_beside_same s cells S T q h = ap (λ b. ltb q (s * s) && same_cell (cell_at cells q) Empty && b) (any_below_same (s * s) _ _ (λ k l. ap (λ b. b && are_neighbours s k q) (h k)))
+empty_beside_same s cells S T q h =
+    ap (λ b. ltb q (s * s) && same_cell (cell_at cells q) Empty && b)
+    (any_below_same (s * s) _ _ (λ k l. ap (λ b. b && are_neighbours s k q) (h k)))
 
 -- the set of the liberties has the liberties, and as many
-has_liberty : (s : ℕ) (cells : List Cell) (target l : ℕ) (libs : sets.FinSet nat_cmp) → libs ≡ liberty_points s cells target
+has_liberty : (s : ℕ) (cells : List Cell) (target l : ℕ) (libs : sets.FinSet nat_cmp)
+    → libs ≡ liberty_points s cells target
     → sets.contains libs l ≡ is_liberty s cells target l
 has_liberty s cells target l libs el = ap (λ t. sets.contains t l) el ∙ contains-liberty_points s cells target l
 
@@ -39,7 +43,8 @@ how_many : (s : ℕ) (cells : List Cell) (target : ℕ) (libs : sets.FinSet nat_
 how_many s cells target libs el = ap sets.len el ∙ len-liberty_points s cells target
 
 -- the points that the attacker's plays at the liberties leave are the backfilling moves
-left_is_backfilling : (here : BoardState) (c : Colour) (target p : ℕ) (libs : sets.FinSet nat_cmp) → libs ≡ liberty_points here.size here.cells target
+left_is_backfilling : (here : BoardState) (c : Colour) (target p : ℕ) (libs : sets.FinSet nat_cmp)
+    → libs ≡ liberty_points here.size here.cells target
     → c ≡ attacker_of (cell_at here.cells target)
     → any_below (here.size * here.size) (λ l. sets.contains libs l && is_left here c l p) ≡ is_backfilling here target p
 unfolding is_backfilling
@@ -59,16 +64,21 @@ left_is_backfilling here c target p libs el ec = same_tests _ _
     (and_from _ _ (has_liberty here.size here.cells target l.0 libs el ∙ both.0)
     (and_from _ _ parts.0 (ap (λ x. leaves_only l.0 p (play_free here x l.0)) ec ∙ both.1))))
 
--- What was gathered for a target on the position here: its liberties, and the last liberties of the enemy strings next to it.
-module _ (here : BoardState) (target k p : ℕ) (libs last : sets.FinSet nat_cmp) (el : libs ≡ liberty_points here.size here.cells target)
+-- What was gathered for a target on the position here: its liberties, and the last liberties of the enemy strings next
+-- to it.
+module _ (here : BoardState) (target k p : ℕ) (libs last : sets.FinSet nat_cmp)
+    (el : libs ≡ liberty_points here.size here.cells target)
     (et : sets.contains last p ≡ is_last_liberty_of_enemy here.size here.cells target p) where
   -- where no wide ply is left these are the candidates
-  pub candidate_plain : (x : Bool) → ltb 0 k ≡ false → x ≡ (sets.contains last p || sets.contains libs p) → x ≡ is_candidate here target k p
+  pub candidate_plain : (x : Bool) → ltb 0 k ≡ false → x ≡ (sets.contains last p || sets.contains libs p)
+      → x ≡ is_candidate here target k p
   unfolding is_candidate
   candidate_plain x none ex =
       ex ∙ ap (λ y. y || sets.contains libs p) et
-      ∙ ap (λ y. is_last_liberty_of_enemy here.size here.cells target p || y) (has_liberty here.size here.cells target p libs el)
-      ∙ turned (is_last_liberty_of_enemy here.size here.cells target p) (is_liberty here.size here.cells target p) _ _ _ _ none
+      ∙ ap (λ y. is_last_liberty_of_enemy here.size here.cells target p || y)
+      (has_liberty here.size here.cells target p libs el)
+      ∙ turned (is_last_liberty_of_enemy here.size here.cells target p)
+      (is_liberty here.size here.cells target p) _ _ _ _ none
     where
       turned : (t l w f e b : Bool) → w ≡ false → (t || l) ≡ (((l || ((w && f) && e)) || t) || (w && b))
       turned t l true f e b h = absurd (let n = h in cc)
@@ -79,7 +89,8 @@ module _ (here : BoardState) (target k p : ℕ) (libs last : sets.FinSet nat_cmp
 
   -- where one is left, these with the empty neighbours of at most two liberties, and what the attacker's plays leave
   pub candidate_wide : (x : Bool) (c : Colour) → ltb 0 k ≡ true → c ≡ attacker_of (cell_at here.cells target)
-      → x ≡ (((sets.contains last p || sets.contains libs p) || (ltb (sets.len libs) 3 && is_empty_beside here.size here.cells (sets.contains libs) p))
+      → x ≡ (((sets.contains last p || sets.contains libs p)
+      || (ltb (sets.len libs) 3 && is_empty_beside here.size here.cells (sets.contains libs) p))
       || any_below (here.size * here.size) (λ l. sets.contains libs l && is_left here c l p))
       → x ≡ is_candidate here target k p
   unfolding is_candidate
@@ -90,14 +101,18 @@ module _ (here : BoardState) (target k p : ℕ) (libs last : sets.FinSet nat_cmp
       let side = is_empty_beside here.size here.cells (sets.contains libs) p in
       let left = any_below (here.size * here.size) (λ l. sets.contains libs l && is_left here c l p) in
       ex ∙ ap (λ y. ((y || sets.contains libs p) || (ltb (sets.len libs) 3 && side)) || left) et
-      ∙ ap (λ y. ((t || y) || (ltb (sets.len libs) 3 && side)) || left) (has_liberty here.size here.cells target p libs el)
+      ∙ ap (λ y. ((t || y) || (ltb (sets.len libs) 3 && side)) || left)
+      (has_liberty here.size here.cells target p libs el)
       ∙ ap (λ n. ((t || l) || (ltb n 3 && side)) || left) (how_many here.size here.cells target libs el)
-      ∙ ap (λ y. ((t || l) || (few && y)) || left) (empty_beside_same here.size here.cells (sets.contains libs) (is_liberty here.size here.cells target) p
+      ∙ ap (λ y. ((t || l) || (few && y)) || left)
+      (empty_beside_same here.size here.cells (sets.contains libs) (is_liberty here.size here.cells target) p
       (λ q. has_liberty here.size here.cells target q libs el))
-      ∙ ap (λ y. ((t || l) || (few && is_empty_beside here.size here.cells (is_liberty here.size here.cells target) p)) || y) (left_is_backfilling here c target p libs el ec)
+      ∙ ap (λ y. ((t || l) || (few && is_empty_beside here.size here.cells (is_liberty here.size here.cells target) p))
+      || y) (left_is_backfilling here c target p libs el ec)
       ∙ turned t l _ few _ _ some
     where
-      turned : (t l w f e b : Bool) → w ≡ true → (((t || l) || (f && e)) || b) ≡ (((l || ((w && f) && e)) || t) || (w && b))
+      turned : (t l w f e b : Bool) → w ≡ true
+          → (((t || l) || (f && e)) || b) ≡ (((l || ((w && f) && e)) || t) || (w && b))
       turned t l false f e b h = absurd (let n = h in cc)
       turned true true true f e b h = refl
       turned true false true true true b h = refl
@@ -134,15 +149,19 @@ module _ (s : ℕ) (cells : List Cell) (t : ℕ) (on : t < s * s) where
       let lib = IsLiberty-from_test s cells t l.0 (sym (has_liberty s cells t l.0 libs e) ∙ both.0) in
       let near = and_parts _ _ both.1 in
       let first = neighbourhood_of s cells (alone t) in
-      near_twice r (close_next s cells first l.0 r (ltb-true r (s * s) near.0) (whole_self s cells first l.0 l.1 (liberty_near l.0 lib)) near.1)
+      near_twice r (close_next s cells first l.0 r (ltb-true r (s * s) near.0)
+      (whole_self s cells first l.0 l.1 (liberty_near l.0 lib)) near.1)
 
   -- and what a play at a liberty looks at
   pub near_plays : (libs : sets.FinSet nat_cmp) (r : ℕ) → libs ≡ liberty_points s cells t
-      → any_below (s * s) (λ l. sets.contains libs l && neighbourhood_twice s cells l r) ≡ true → near_candidates s cells t r ≡ true
+      → any_below (s * s) (λ l. sets.contains libs l && neighbourhood_twice s cells l r) ≡ true
+      → near_candidates s cells t r ≡ true
   near_plays libs r e h =
       let l = any_below_gives (s * s) _ h in
       let both = and_parts _ _ l.2 in
       let lib = IsLiberty-from_test s cells t l.0 (sym (has_liberty s cells t l.0 libs e) ∙ both.0) in
       let first = neighbourhood_of s cells (alone t) in
-      let within_first = close_mono s cells (alone l.0) first (λ q same. ap first (eqb-true q l.0 same) ∙ liberty_near l.0 lib) in
-      close_again s cells _ r (close_mono s cells (neighbourhood_of s cells (alone l.0)) (neighbourhood_of s cells first) within_first r both.1)
+      let within_first = close_mono s cells (alone l.0) first
+      (λ q same. ap first (eqb-true q l.0 same) ∙ liberty_near l.0 lib) in
+      close_again s cells _ r (close_mono s cells (neighbourhood_of s cells (alone l.0))
+      (neighbourhood_of s cells first) within_first r both.1)

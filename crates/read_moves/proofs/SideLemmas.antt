@@ -26,14 +26,16 @@ use Rattle.read_moves.specs.Steps.{HasOther, HasOtherSide}
 use Rattle.read_moves.proofs.BackfillingLemmas.{one_member}
 
 -- of two members of a set, one is not p
-pub one_is_other : (points : sets.FinSet nat_cmp) (a b p : ℕ) → a < b → sets.contains points a ≡ true → sets.contains points b ≡ true → HasOther points p
+pub one_is_other : (points : sets.FinSet nat_cmp) (a b p : ℕ) → a < b → sets.contains points a ≡ true
+    → sets.contains points b ≡ true → HasOther points p
 one_is_other points a b p less has_a has_b = elim (cases_eq a p) [
   | inl e ↦ record { member = b; inside = has_b; other = λ same. omega (arith, less, e, same) }
   | inr ne ↦ record { member = a; inside = has_a; other = ne }
 ]
 
 -- the test for an empty neighbour of l
-pub side_gives : (s : ℕ) (cells : List Cell) (l x : ℕ) → is_empty_beside s cells (alone l) x ≡ true → IsEmptyNeighbour s cells l x
+pub side_gives : (s : ℕ) (cells : List Cell) (l x : ℕ) → is_empty_beside s cells (alone l) x ≡ true
+    → IsEmptyNeighbour s cells l x
 unfolding is_empty_beside
 side_gives s cells l x h =
     let parts = and_parts _ _ h in
@@ -47,11 +49,15 @@ side_gives s cells l x h =
     }
 
 -- an empty neighbour of l is a liberty of a stone that is played there
-side_is_liberty : (pos : BoardState) (c : Colour) (l : ℕ) (new : BoardState) (x : ℕ) → l < pos.size * pos.size → play_free pos c l ≡ Ok new → x ≢ l
+side_is_liberty : (pos : BoardState) (c : Colour) (l : ℕ) (new : BoardState) (x : ℕ) → l < pos.size * pos.size
+    → play_free pos c l ≡ Ok new → x ≢ l
     → IsEmptyNeighbour pos.size pos.cells l x → IsLiberty pos.size new.cells l x
 side_is_liberty pos c l new x on legal ne side = record {
   on_board = side.on_board;
-  is_empty = elim (others_stay pos c l new x legal side.on_board ne) [ inl kept ↦ kept ∙ side.is_empty | inr taken ↦ taken.1 ];
+  is_empty = elim (others_stay pos c l new x legal side.on_board ne) [
+    | inl kept ↦ kept ∙ side.is_empty
+    | inr taken ↦ taken.1
+  ];
   beside = (l, record { stone = stone_after pos c l new on legal; path = start }, side.beside);
 }
 
@@ -65,30 +71,35 @@ not_apart a h = elim (or_cases _ _ h) [
 -- no point is its own neighbour
 not_its_own : (s l : ℕ) → are_neighbours s l l ≡ true → ⊥
 unfolding are_neighbours
-not_its_own s l h = elim (or_cases (eqb (l / s) (l / s) && are_one_apart (l % s) (l % s)) (eqb (l % s) (l % s) && are_one_apart (l / s) (l / s)) h) [
-  | inl e ↦ not_apart (l % s) (and_parts (eqb (l / s) (l / s)) (are_one_apart (l % s) (l % s)) e).1
-  | inr e ↦ not_apart (l / s) (and_parts (eqb (l % s) (l % s)) (are_one_apart (l / s) (l / s)) e).1
-]
+not_its_own s l h = elim (or_cases (eqb (l / s) (l / s) && are_one_apart (l % s) (l % s))
+    (eqb (l % s) (l % s) && are_one_apart (l / s) (l / s)) h) [
+      | inl e ↦ not_apart (l % s) (and_parts (eqb (l / s) (l / s)) (are_one_apart (l % s) (l % s)) e).1
+      | inr e ↦ not_apart (l / s) (and_parts (eqb (l % s) (l % s)) (are_one_apart (l / s) (l / s)) e).1
+    ]
 
 -- where a string has one liberty, two are the same
-same_liberty : (s : ℕ) (cells : List Cell) (l p x : ℕ) → liberties s cells l ≡ 1 → is_liberty s cells l p ≡ true → is_liberty s cells l x ≡ true → x ≡ p
+same_liberty : (s : ℕ) (cells : List Cell) (l p x : ℕ) → liberties s cells l ≡ 1 → is_liberty s cells l p ≡ true
+    → is_liberty s cells l x ≡ true → x ≡ p
 same_liberty s cells l p x one its also = one_member (liberty_points s cells l) p x (len-liberty_points s cells l ∙ one)
     (contains-liberty_points s cells l p ∙ its) (contains-liberty_points s cells l x ∙ also)
 
 -- a stone that is played at a point with two empty sides has not p as its one liberty
-none_by_sides : (pos : BoardState) (c : Colour) (l p : ℕ) → l < pos.size * pos.size → HasOtherSide pos.size pos.cells l p
+none_by_sides : (pos : BoardState) (c : Colour) (l p : ℕ) → l < pos.size * pos.size
+    → HasOtherSide pos.size pos.cells l p
     → (r : Result BoardState Illegal) → play_free pos c l ≡ r → leaves_only l p r ≡ true → ⊥
 none_by_sides pos c l p on other (Err why) is h = cc
 none_by_sides pos c l p on other (Ok new) is h =
     let side = other.is_side in
-    let apart : other.side ≢ l = λ e. not_its_own pos.size l (subst (λ x. are_neighbours pos.size l x ≡ true) e side.beside) in
+    let apart : other.side ≢ l =
+    λ e. not_its_own pos.size l (subst (λ x. are_neighbours pos.size l x ≡ true) e side.beside) in
     let size = size_played pos c l new is in
     let lib = side_is_liberty pos c l new other.side on is apart side in
     let only = only_parts new.size new.cells l p h in
     other.other (same_liberty new.size new.cells l p other.side only.0 only.1
     (ap (λ n. is_liberty n new.cells l other.side) size ∙ is_liberty-from_fact pos.size new.cells l other.side on lib))
 
-pub sides_leave_none : (pos : BoardState) (c : Colour) (l p : ℕ) → l < pos.size * pos.size → HasOtherSide pos.size pos.cells l p
+pub sides_leave_none : (pos : BoardState) (c : Colour) (l p : ℕ) → l < pos.size * pos.size
+    → HasOtherSide pos.size pos.cells l p
     → leaves_only l p (play_free pos c l) ≡ false
 sides_leave_none pos c l p on other = elim (cases_Bool (leaves_only l p (play_free pos c l))) [
   | inl t ↦ absurd (none_by_sides pos c l p on other (play_free pos c l) refl t)
@@ -96,8 +107,10 @@ sides_leave_none pos c l p on other = elim (cases_Bool (leaves_only l p (play_fr
 ]
 
 -- what a set has after points were added to none was added
-pub added_to_none : (old : sets.FinSet nat_cmp) (x : ℕ) (b : Bool) → old ≡ sets.empty → (sets.contains old x || b) ≡ true → b ≡ true
-added_to_none old x b none h = sym (ap (λ y. y || b) (ap (λ t. sets.contains t x) none ∙ sets.contains-empty nat_cmp x)) ∙ h
+pub added_to_none : (old : sets.FinSet nat_cmp) (x : ℕ) (b : Bool) → old ≡ sets.empty
+    → (sets.contains old x || b) ≡ true → b ≡ true
+added_to_none old x b none h =
+    sym (ap (λ y. y || b) (ap (λ t. sets.contains t x) none ∙ sets.contains-empty nat_cmp x)) ∙ h
 
 -- an empty neighbour of l is on the board
 beside_within : (s : ℕ) (cells : List Cell) (l x : ℕ) → is_empty_beside s cells (alone l) x ≡ (ltb x
@@ -127,7 +140,9 @@ none_added false true y e = sym e
 none_added false false y e = refl
 
 -- the sides of l are near it
-pub sides_near : (s : ℕ) (cells : List Cell) (l : ℕ) → l < s * s → (r : ℕ) → neighbours_of s l r ≡ true → neighbourhood_twice s cells l r ≡ true
+pub sides_near : (s : ℕ) (cells : List Cell) (l : ℕ) → l < s * s → (r : ℕ) → neighbours_of s l r ≡ true
+    → neighbourhood_twice s cells l r ≡ true
 sides_near s cells l on r h =
     let near = and_parts _ _ h in
-    close_again s cells (alone l) r (close_next s cells (alone l) l r (ltb-true r (s * s) near.0) (whole_self s cells (alone l) l on (alone_self l)) near.1)
+    close_again s cells (alone l) r (close_next s cells (alone l) l r (ltb-true r (s * s) near.0)
+    (whole_self s cells (alone l) l on (alone_self l)) near.1)

@@ -19,7 +19,8 @@ is_at (Some q) p = p == q
 abbrev pub is_only_member : set.FinSet nat_cmp → ℕ → Bool
 is_only_member points p = (set.len points == 1) && set.contains points p
 
--- p is empty, and the play of c at l, with the ban dropped, is legal and leaves the string of its stone one liberty, which is p
+-- p is empty, and the play of c at l, with the ban dropped, is legal and leaves the string of its stone one liberty,
+-- which is p
 abbrev pub is_left : BoardState → Colour → ℕ → ℕ → Bool
 is_left pos c l p = same_cell (cell_at pos.cells p) Empty && leaves_only l p (play_free pos c l)
 

@@ -30,7 +30,8 @@ fn add_empty<L: Look>(board: &mut Trial<L>, q: Point, found: &mut PointSet)
     requires small { q < largest_points }
     ensures stays { Stays L.shows L.seen board.old board.new }
     ensures over { (pos : BoardState) → Agrees (L.seen board.new.look) pos
-        → found.new ≡ (if same_cell (cell_at (after pos board.old.moves).cells q) Cell.Empty then set.insert found.old q else found.old) }
+        → found.new ≡ (if same_cell (cell_at (after pos board.old.moves).cells q) Cell.Empty then set.insert found.old q
+        else found.old) }
     ensures near { AddsIn (L.seen board.old.look) (L.seen board.new.look) (alone q) }
 {
     if board.cell(q) == Cell::Empty {
@@ -43,7 +44,8 @@ fn add_sides<L: Look>(board: &mut Trial<L>, l: Point, found: &mut PointSet)
     requires { l < (L.shows board.old.look).size * (L.shows board.old.look).size }
     ensures stays { Stays L.shows L.seen board.old board.new }
     ensures over { (pos : BoardState) → Agrees (L.seen board.new.look) pos → (p : ℕ)
-        → set.contains found.new p ≡ (set.contains found.old p || is_empty_beside pos.size (after pos board.old.moves).cells (alone l) p) }
+        → set.contains found.new p
+        ≡ (set.contains found.old p || is_empty_beside pos.size (after pos board.old.moves).cells (alone l) p) }
     ensures near { (pos : BoardState) → Agrees (L.seen board.new.look) pos
         → AddsIn (L.seen board.old.look) (L.seen board.new.look) (neighbours_of pos.size l) }
 {
@@ -57,11 +59,15 @@ fn add_sides<L: Look>(board: &mut Trial<L>, l: Point, found: &mut PointSet)
 
 /// Adds the empty points next to a point of the set.
 fn add_beside<L: Look>(board: &mut Trial<L>, points: &PointSet, found: &mut PointSet)
-    requires { (l : ℕ) → IsTrue (set.contains points.now l) → l < (L.shows board.old.look).size * (L.shows board.old.look).size }
+    requires { (l : ℕ) → IsTrue (set.contains points.now l)
+        → l < (L.shows board.old.look).size * (L.shows board.old.look).size }
     ensures stays { Stays L.shows L.seen board.old board.new }
     ensures over { (pos : BoardState) → Agrees (L.seen board.new.look) pos → (p : ℕ)
-        → set.contains found.new p ≡ (set.contains found.old p || is_empty_beside pos.size (after pos board.old.moves).cells (set.contains points.now) p) }
-    ensures near { (pos : BoardState) → Agrees (L.seen board.new.look) pos → AddsIn (L.seen board.old.look) (L.seen board.new.look)
+        → set.contains found.new p
+        ≡ (set.contains found.old p || is_empty_beside pos.size (after pos board.old.moves).cells
+        (set.contains points.now) p) }
+    ensures near { (pos : BoardState) → Agrees (L.seen board.new.look) pos
+        → AddsIn (L.seen board.old.look) (L.seen board.new.look)
         (λ r. any_below (pos.size * pos.size) (λ l. set.contains points.now l && neighbours_of pos.size l r)) }
 {
     let mut next = 0;
@@ -78,8 +84,10 @@ fn add_beside_few<L: Look>(board: &mut Trial<L>, points: &PointSet, found: &mut 
     ensures stays { Stays L.shows L.seen board.old board.new }
     ensures over { (pos : BoardState) → Agrees (L.seen board.new.look) pos → (p : ℕ)
         → set.contains found.new p ≡ (set.contains found.old p
-        || (nat_lt (set.len points.now) 3 && is_empty_beside pos.size (after pos board.old.moves).cells (set.contains points.now) p)) }
-    ensures near { (pos : BoardState) → Agrees (L.seen board.new.look) pos → AddsIn (L.seen board.old.look) (L.seen board.new.look)
+        || (nat_lt (set.len points.now) 3 && is_empty_beside pos.size (after pos board.old.moves).cells
+        (set.contains points.now) p)) }
+    ensures near { (pos : BoardState) → Agrees (L.seen board.new.look) pos
+        → AddsIn (L.seen board.old.look) (L.seen board.new.look)
         (λ r. any_below (pos.size * pos.size) (λ l. set.contains points.now l && neighbours_of pos.size l r)) }
 {
     if points.count() < 3 {
@@ -108,8 +116,8 @@ fn only_member(points: &PointSet) -> Option<Point>
     points.first_from(0)
 }
 
-/// The one liberty that a stone of this colour at l would have, by a trial play in which the ban is dropped; None where the play
-/// is not legal, or leaves more liberties.
+/// The one liberty that a stone of this colour at l would have, by a trial play in which the ban is dropped; None where
+/// the play is not legal, or leaves more liberties.
 fn only_liberty_after<L: Look>(board: &mut Trial<L>, c: Colour, l: Point) -> Option<Point>
     requires room { length board.old.moves < most_moves }
     requires on_board { l < (L.shows board.old.look).size * (L.shows board.old.look).size }
@@ -117,7 +125,8 @@ fn only_liberty_after<L: Look>(board: &mut Trial<L>, c: Colour, l: Point) -> Opt
     ensures inside { IfSome result (λ p. p < (L.shows board.old.look).size * (L.shows board.old.look).size) }
     ensures over { (pos : BoardState) → Agrees (L.seen board.new.look) pos → (p : ℕ)
         → is_at result p ≡ leaves_only l p (play_free (after pos board.old.moves) c l) }
-    ensures near { (pos : BoardState) → Agrees (L.seen board.new.look) pos → AddsIn (L.seen board.old.look) (L.seen board.new.look)
+    ensures near { (pos : BoardState) → Agrees (L.seen board.new.look) pos
+        → AddsIn (L.seen board.old.look) (L.seen board.new.look)
         (neighbourhood_twice pos.size (after pos board.old.moves).cells l) }
 {
     match board.play(c, l, true) {
@@ -170,15 +179,16 @@ pub fn empty_sides<L: Look>(board: &mut Trial<L>, l: Point) -> u16
     sides.count()
 }
 
-/// Adds the one liberty that a stone of this colour at l would have, where it is empty now. With two empty sides the stone has two
-/// liberties at least, so no play is tried.
+/// Adds the one liberty that a stone of this colour at l would have, where it is empty now. With two empty sides the
+/// stone has two liberties at least, so no play is tried.
 fn add_backfilling_at<L: Look>(board: &mut Trial<L>, c: Colour, l: Point, found: &mut PointSet)
     requires room { length board.old.moves < most_moves }
     requires on_board { l < (L.shows board.old.look).size * (L.shows board.old.look).size }
     ensures stays { Stays L.shows L.seen board.old board.new }
     ensures over { (pos : BoardState) → Agrees (L.seen board.new.look) pos → (p : ℕ)
         → set.contains found.new p ≡ (set.contains found.old p || is_left (after pos board.old.moves) c l p) }
-    ensures near { (pos : BoardState) → Agrees (L.seen board.new.look) pos → AddsIn (L.seen board.old.look) (L.seen board.new.look)
+    ensures near { (pos : BoardState) → Agrees (L.seen board.new.look) pos
+        → AddsIn (L.seen board.old.look) (L.seen board.new.look)
         (neighbourhood_twice pos.size (after pos board.old.moves).cells l) }
 {
     if has_two_empty_sides(board, l) {
@@ -189,7 +199,8 @@ fn add_backfilling_at<L: Look>(board: &mut Trial<L>, c: Colour, l: Point, found:
     }
 }
 
-/// Adds the one liberty that a stone of this colour would have at a point of the set, where it is empty now, for each such point.
+/// Adds the one liberty that a stone of this colour would have at a point of the set, where it is empty now, for each
+/// such point.
 fn add_backfilling<L: Look>(
     board: &mut Trial<L>,
     c: Colour,
@@ -203,7 +214,8 @@ fn add_backfilling<L: Look>(
     ensures over { (pos : BoardState) → Agrees (L.seen board.new.look) pos → (p : ℕ)
         → set.contains found.new p ≡ (set.contains found.old p || any_below (pos.size * pos.size)
         (λ l. set.contains points.now l && is_left (after pos board.old.moves) c l p)) }
-    ensures near { (pos : BoardState) → Agrees (L.seen board.new.look) pos → AddsIn (L.seen board.old.look) (L.seen board.new.look)
+    ensures near { (pos : BoardState) → Agrees (L.seen board.new.look) pos
+        → AddsIn (L.seen board.old.look) (L.seen board.new.look)
         (λ r. any_below (pos.size * pos.size)
         (λ l. set.contains points.now l && neighbourhood_twice pos.size (after pos board.old.moves).cells l r)) }
 {
@@ -214,21 +226,24 @@ fn add_backfilling<L: Look>(
     }
 }
 
-/// The points that a reading tries for the string of the target, with `wide` wide plies left: its liberties, and the last liberty
-/// of each enemy string next to it; where a wide ply is left, also the empty neighbours of its liberties, if there are at most
-/// two of these, and the one liberty that a stone of the attacker on one of its liberties would have.
+/// The points that a reading tries for the string of the target, with `wide` wide plies left: its liberties, and the
+/// last liberty of each enemy string next to it; where a wide ply is left, also the empty neighbours of its liberties,
+/// if there are at most two of these, and the one liberty that a stone of the attacker on one of its liberties would
+/// have.
 ///
-/// The trial moves stay as they were; the plays that are tried for the last kind, at liberties with one empty side at most, count
-/// among the trials. After GNU Go Manual,
-/// "Tactical reading"; the choice of these points is this project's own.
+/// The trial moves stay as they were; the plays that are tried for the last kind, at liberties with one empty side at
+/// most, count among the trials. After GNU Go Manual, "Tactical reading"; the choice of these points is this project's
+/// own.
 pub fn candidates<L: Look>(board: &mut Trial<L>, target: Point, wide: u8) -> PointSet
     requires room { length board.old.moves < most_moves }
     requires on_board { target < (L.shows board.old.look).size * (L.shows board.old.look).size }
     ensures stays { Stays L.shows L.seen board.old board.new }
     ensures over { (pos : BoardState) → Agrees (L.seen board.new.look) pos → (p : ℕ)
         → set.contains result p ≡ is_candidate (after pos board.old.moves) target wide p }
-    ensures answer { (p : ℕ) → set.contains result p ≡ is_candidate (after (L.shows board.old.look) board.old.moves) target wide p }
-    ensures near { (pos : BoardState) → Agrees (L.seen board.new.look) pos → AddsIn (L.seen board.old.look) (L.seen board.new.look)
+    ensures answer { (p : ℕ) → set.contains result p
+        ≡ is_candidate (after (L.shows board.old.look) board.old.moves) target wide p }
+    ensures near { (pos : BoardState) → Agrees (L.seen board.new.look) pos
+        → AddsIn (L.seen board.old.look) (L.seen board.new.look)
         (near_candidates pos.size (after pos board.old.moves).cells target) }
 {
     let Surroundings {

@@ -24,7 +24,8 @@ use Rattle.read_rules.proofs.WalkLemmas.{any_from}
 pub some_of : (set : Allowances) → has_some set ≡ true → (ko : Ko) × (has set ko ≡ true)
 some_of set h = by set.defender set.neither set.attacker refl refl refl h
   where
-    by : (d n a : Bool) → set.defender ≡ d → set.neither ≡ n → set.attacker ≡ a → (d || n || a) ≡ true → (ko : Ko) × (has set ko ≡ true)
+    by : (d n a : Bool) → set.defender ≡ d → set.neither ≡ n → set.attacker ≡ a → (d || n || a) ≡ true
+        → (ko : Ko) × (has set ko ≡ true)
     by true n a ed en ea w = (defender_may, ed)
     by false true a ed en ea w = (neither_may, en)
     by false false true ed en ea w = (attacker_may, ea)
@@ -34,7 +35,8 @@ some_of set h = by set.defender set.neither set.attacker refl refl refl h
 pub none_of : (set : Allowances) (ko : Ko) → has_some set ≡ false → has set ko ≡ false
 none_of set ko h = by set.defender set.neither set.attacker ko refl refl refl h
   where
-    by : (d n a : Bool) (ko : Ko) → set.defender ≡ d → set.neither ≡ n → set.attacker ≡ a → (d || n || a) ≡ false → has set ko ≡ false
+    by : (d n a : Bool) (ko : Ko) → set.defender ≡ d → set.neither ≡ n → set.attacker ≡ a → (d || n || a) ≡ false
+        → has set ko ≡ false
     by true n a ko ed en ea w = cc
     by false true a ko ed en ea w = cc
     by false false true ko ed en ea w = cc
@@ -48,7 +50,8 @@ has-without a b neither_may = refl
 has-without a b attacker_may = refl
 
 -- the side to play has nothing left under another's allowance
-pub nothing_left : (attacker : Bool) (ko : Ko) → ko ≢ own_ko attacker → cond attacker (attacker_ko_of ko) (defender_ko_of ko) ≡ 0
+pub nothing_left : (attacker : Bool) (ko : Ko) → ko ≢ own_ko attacker
+    → cond attacker (attacker_ko_of ko) (defender_ko_of ko) ≡ 0
 nothing_left true defender_may ne = refl
 nothing_left true neither_may ne = refl
 nothing_left true attacker_may ne = absurd (ne refl)
@@ -57,32 +60,41 @@ nothing_left false neither_may ne = refl
 nothing_left false attacker_may ne = refl
 
 -- and one play under its own
-pub one_left : (attacker : Bool) → cond attacker (attacker_ko_of (own_ko attacker)) (defender_ko_of (own_ko attacker)) ≡ 1
+pub one_left : (attacker : Bool)
+    → cond attacker (attacker_ko_of (own_ko attacker)) (defender_ko_of (own_ko attacker)) ≡ 1
 one_left true = refl
 one_left false = refl
 
 -- a legal play keeps the allowance
-next_by : (target : ℕ) (defender : Colour) (attacker : Bool) (wide : ℕ) (ko : Ko) → let turn : Turn = record { target = target; defender = defender; attacker_to_play = attacker; wide = wide } in
+next_by : (target : ℕ) (defender : Colour) (attacker : Bool) (wide : ℕ) (ko : Ko) → let turn : Turn =
+    record { target = target; defender = defender; attacker_to_play = attacker; wide = wide } in
     next_node (under turn ko) (allowance_of (under turn ko)) ≡ under (next_turn turn) ko
 next_by target defender true wide ko = refl
 next_by target defender false wide ko = refl
 
-pub next_keeps : (turn : Turn) (ko : Ko) → next_node (under turn ko) (allowance_of (under turn ko)) ≡ under (next_turn turn) ko
+pub next_keeps : (turn : Turn) (ko : Ko)
+    → next_node (under turn ko) (allowance_of (under turn ko)) ≡ under (next_turn turn) ko
 next_keeps turn ko = next_by turn.target turn.defender turn.attacker_to_play turn.wide ko
 
 -- a play that the ban alone forbids spends the own one
-spent_by : (target : ℕ) (defender : Colour) (attacker : Bool) (wide : ℕ) → let turn : Turn = record { target = target; defender = defender; attacker_to_play = attacker; wide = wide } in
+spent_by : (target : ℕ) (defender : Colour) (attacker : Bool) (wide : ℕ) → let turn : Turn =
+    record { target = target; defender = defender; attacker_to_play = attacker; wide = wide } in
     next_node (under turn (own_ko attacker)) 0 ≡ under (next_turn turn) neither_may
 spent_by target defender true wide = refl
 spent_by target defender false wide = refl
 
-pub next_spends : (turn : Turn) → next_node (under turn (own_ko turn.attacker_to_play)) (allowance_of (under turn (own_ko turn.attacker_to_play)) - 1) ≡ under (next_turn turn) neither_may
+pub next_spends : (turn : Turn)
+    → next_node (under turn (own_ko turn.attacker_to_play))
+    (allowance_of (under turn (own_ko turn.attacker_to_play)) - 1) ≡ under (next_turn turn) neither_may
 next_spends turn =
-    let e : allowance_of (under turn (own_ko turn.attacker_to_play)) - 1 ≡ 0 = (let one = one_left turn.attacker_to_play in omega arith) in
-    ap (next_node (under turn (own_ko turn.attacker_to_play))) e ∙ spent_by turn.target turn.defender turn.attacker_to_play turn.wide
+    let e : allowance_of (under turn (own_ko turn.attacker_to_play)) - 1 ≡ 0 =
+    (let one = one_left turn.attacker_to_play in omega arith) in
+    ap (next_node (under turn (own_ko turn.attacker_to_play))) e
+    ∙ spent_by turn.target turn.defender turn.attacker_to_play turn.wide
 
 -- the mover's way at a child
-pub suits_child : (n : ℕ) (attacker : Bool) (o : Option (Node × BoardState)) (next : Node) (new : BoardState) → o ≡ Some (next, new) → has_way attacker (attacker_wins n next new) ≡ suits n attacker o
+pub suits_child : (n : ℕ) (attacker : Bool) (o : Option (Node × BoardState)) (next : Node) (new : BoardState)
+    → o ≡ Some (next, new) → has_way attacker (attacker_wins n next new) ≡ suits n attacker o
 suits_child n true o next new e = sym (ap (suits n true) e)
 suits_child n false o next new e = sym (ap (suits n false) e)
 
@@ -91,11 +103,13 @@ suits_none n true o e = ap (suits n true) e
 suits_none n false o e = ap (suits n false) e
 
 -- the same of the asked, by a test that is the same
-pub Tells-same : {asked found : Allowances} {a b : Ko → Bool} → Tells asked found a → ((ko : Ko) → a ko ≡ b ko) → Tells asked found b
+pub Tells-same : {asked found : Allowances} {a b : Ko → Bool} → Tells asked found a → ((ko : Ko) → a ko ≡ b ko)
+    → Tells asked found b
 Tells-same {asked} t same = record { each = λ ko. t.each ko ∙ ap (λ x. has asked ko && x) (same ko) }
 
 -- where the own allowance alone passes
-pub Tells-own : (attacker : Bool) (asked : Allowances) (there : Bool) (test : Ko → Bool) → has asked (own_ko attacker) ≡ true → there ≡ test (own_ko attacker)
+pub Tells-own : (attacker : Bool) (asked : Allowances) (there : Bool) (test : Ko → Bool)
+    → has asked (own_ko attacker) ≡ true → there ≡ test (own_ko attacker)
     → ((ko : Ko) → ko ≢ own_ko attacker → test ko ≡ false) → Tells asked (own_where attacker there) test
 Tells-own attacker asked there test h e none = record { each = by attacker h e none }
   where
@@ -107,7 +121,8 @@ Tells-own attacker asked there test h e none = record { each = by attacker h e n
     and_yes true b y h e = e
     and_yes false b y h e = cc
 
-    by : (attacker : Bool) → has asked (own_ko attacker) ≡ true → there ≡ test (own_ko attacker) → ((ko : Ko) → ko ≢ own_ko attacker → test ko ≡ false)
+    by : (attacker : Bool) → has asked (own_ko attacker) ≡ true → there ≡ test (own_ko attacker)
+        → ((ko : Ko) → ko ≢ own_ko attacker → test ko ≡ false)
         → (ko : Ko) → has (own_where attacker there) ko ≡ (has asked ko && test ko)
     by true h e none defender_may = and_no asked.defender (test defender_may) (none defender_may (λ w. cc))
     by true h e none neither_may = and_no asked.neither (test neither_may) (none neither_may (λ w. cc))
@@ -147,14 +162,20 @@ left_next n turn here candidate tried now p asked missing good left cand one_mor
   asked_for = λ ko h. left.asked_for ko (and_parts_not _ _ (sym (has-without missing good ko) ∙ h)).0;
   none = λ ko h q was.
       let parts = and_parts_not _ _ (sym (has-without missing good ko) ∙ h) in
-      let fails : succeeds n (under turn ko) here p ≡ false = fails_by (has missing ko) _ (has good ko) (tells.each ko) parts.0 parts.1 in
+      let fails : succeeds n (under turn ko) here p ≡ false =
+      fails_by (has missing ko) _ (has good ko) (tells.each ko) parts.0 parts.1 in
       elim (one_more q was) [
         | inl e ↦ and_false_right (candidate q) _ (ap (succeeds n (under turn ko) here) e ∙ fails)
         | inr before ↦ left.none ko parts.0 q before
       ];
   given = λ ko a m. elim (cases_Bool (has missing ko)) [
     | inr f ↦ left.given ko a f
-    | inl t ↦ (p, cand, passes_by (has missing ko) _ (has good ko) (tells.each ko) t (sym (has-without missing good ko) ∙ m))
+    | inl t ↦ (
+      p,
+      cand,
+      passes_by (has missing ko) _ (has good ko) (tells.each ko) t
+          (sym (has-without missing good ko) ∙ m),
+    )
   ];
 }
   where
@@ -168,24 +189,32 @@ left_next n turn here candidate tried now p asked missing good left cand one_mor
     passes_by false b g e h f = cc
 
 -- a node under no allowance is one of the trees
-pub neither_nodes : {q : ReadingQuestion} {root here : BoardState} {n : ℕ} {turn : Turn} → IsNodeOf q root n (under turn neither_may) here
+pub neither_nodes : {q : ReadingQuestion} {root here : BoardState} {n : ℕ} {turn : Turn}
+    → IsNodeOf q root n (under turn neither_may) here
     → AreNodesOf q root n turn (record { defender = false; neither = true; attacker = false }) here
 neither_nodes {q} {root} {here} {n} {turn} node = record { each = by }
   where
-    by : (ko : Ko) → has (record { defender = false; neither = true; attacker = false }) ko ≡ true → IsNodeOf q root n (under turn ko) here
+    by : (ko : Ko) → has (record { defender = false; neither = true; attacker = false }) ko ≡ true
+        → IsNodeOf q root n (under turn ko) here
     by defender_may h = cc
     by neither_may h = node
     by attacker_may h = cc
 
 -- after the pass the node under each allowance is one of the trees
-pub pass_nodes : {q : ReadingQuestion} {root here : BoardState} {n : ℕ} {turn : Turn} {asked : Allowances} → AreNodesOf q root (suc n) turn asked here → is_captured here turn.target ≡ false → turn.attacker_to_play ≡ false
+pub pass_nodes : {q : ReadingQuestion} {root here : BoardState} {n : ℕ} {turn : Turn} {asked : Allowances}
+    → AreNodesOf q root (suc n) turn asked here → is_captured here turn.target ≡ false → turn.attacker_to_play ≡ false
     → AreNodesOf q root n (next_turn turn) asked (pass here)
 pass_nodes {q} {root} {here} {n} {turn} tree stands defends = record {
-  each = λ ko h. subst (λ node. IsNodeOf q root n node (pass here)) (next_keeps turn ko) (by_pass (tree.each ko h) (record { stands = stands; few = λ t. absurd (both_ways turn.attacker_to_play defends t) }) defends);
+  each = λ ko h. subst (λ node. IsNodeOf q root n node (pass here)) (next_keeps turn ko)
+      (by_pass (tree.each ko h) (record {
+        stands = stands;
+        few = λ t. absurd (both_ways turn.attacker_to_play defends t);
+      }) defends);
 }
 
 -- a node of fewer allowances
-pub fewer_nodes : {q : ReadingQuestion} {root here : BoardState} {n : ℕ} {turn : Turn} {asked : Allowances} (fewer : Allowances) → AreNodesOf q root n turn asked here → ((ko : Ko) → has fewer ko ≡ true → has asked ko ≡ true)
+pub fewer_nodes : {q : ReadingQuestion} {root here : BoardState} {n : ℕ} {turn : Turn} {asked : Allowances}
+    (fewer : Allowances) → AreNodesOf q root n turn asked here → ((ko : Ko) → has fewer ko ≡ true → has asked ko ≡ true)
     → AreNodesOf q root n turn fewer here
 fewer_nodes fewer tree h = record { each = λ ko a. tree.each ko (h ko a) }
 
@@ -198,40 +227,51 @@ and_true true b h = sym (h refl)
 and_true false b h = refl
 
 -- a candidate that succeeds makes the first
-pub success_some : (n : ℕ) (node : Node) (here : BoardState) (p : ℕ) → is_candidate here node.target node.wide p ≡ true → succeeds n node here p ≡ true → is_some (first_success n node here) ≡ true
+pub success_some : (n : ℕ) (node : Node) (here : BoardState) (p : ℕ) → is_candidate here node.target node.wide p ≡ true
+    → succeeds n node here p ≡ true → is_some (first_success n node here) ≡ true
 success_some n node here p c t =
     let on = candidate_on here node.target node.wide p c in
     any-first (succeeds n node here) (candidates_of here node.target node.wide)
-    ∙ any_from (is_candidate here node.target node.wide) (succeeds n node here) (here.size * here.size) 0 p (omega arith) (omega (arith, on)) c t
+    ∙ any_from (is_candidate here node.target node.wide) (succeeds n node here) (here.size * here.size) 0 p
+    (omega arith) (omega (arith, on)) c t
 
 -- the defender's way is by the pass or by a candidate
-good_by : (turn many saved : Bool) (first : Option ℕ) → turn ≡ false → is_some (cond (turn && many) None (cond saved (Some Pass) (at_point first))) ≡ (saved || is_some first)
+good_by : (turn many saved : Bool) (first : Option ℕ) → turn ≡ false
+    → is_some (cond (turn && many) None (cond saved (Some Pass) (at_point first))) ≡ (saved || is_some first)
 good_by true many saved first e = cc
 good_by false many true first e = refl
 good_by false many false None e = refl
 good_by false many false (Some p) e = refl
 
 -- those that the pass saves, and of the rest those that a candidate saves
-pub Tells-good : (n : ℕ) (turn : Turn) (here : BoardState) (asked saved some : Allowances) → turn.attacker_to_play ≡ false → Tells asked saved (λ ko. pass_saves n (under turn ko) here)
+pub Tells-good : (n : ℕ) (turn : Turn) (here : BoardState) (asked saved some : Allowances)
+    → turn.attacker_to_play ≡ false → Tells asked saved (λ ko. pass_saves n (under turn ko) here)
     → Tells (without asked saved) some (λ ko. is_some (first_success n (under turn ko) here))
-    → Tells asked (without asked (without (without asked saved) some)) (λ ko. is_some (good_move n (under turn ko) here))
+    → Tells asked (without asked (without (without asked saved) some))
+    (λ ko. is_some (good_move n (under turn ko) here))
 Tells-good n turn here asked saved some defends s m = record {
   each = λ ko.
       has-without asked (without (without asked saved) some) ko
-      ∙ ap (λ x. has asked ko && not x) (has-without (without asked saved) some ko ∙ ap (λ x. x && not (has some ko)) (has-without asked saved ko))
-      ∙ count (has asked ko) (pass_saves n (under turn ko) here) (is_some (first_success n (under turn ko) here)) (has saved ko) (has some ko) (s.each ko)
+      ∙ ap (λ x. has asked ko && not x) (has-without (without asked saved) some ko
+      ∙ ap (λ x. x && not (has some ko)) (has-without asked saved ko))
+      ∙ count (has asked ko) (pass_saves n (under turn ko) here) (is_some (first_success n (under turn ko) here))
+      (has saved ko) (has some ko) (s.each ko)
       (m.each ko ∙ ap (λ x. x && is_some (first_success n (under turn ko) here)) (has-without asked saved ko))
-      ∙ ap (λ x. has asked ko && x) (sym (good_by turn.attacker_to_play (has_many_liberties here turn.target turn.wide) (pass_saves n (under turn ko) here) (first_success n (under turn ko) here) defends));
+      ∙ ap (λ x. has asked ko && x)
+      (sym (good_by turn.attacker_to_play (has_many_liberties here turn.target turn.wide)
+      (pass_saves n (under turn ko) here) (first_success n (under turn ko) here) defends));
 }
   where
-    count : (a p f s m : Bool) → s ≡ (a && p) → m ≡ ((a && not s) && f) → (a && not ((a && not s) && not m)) ≡ (a && (p || f))
+    count : (a p f s m : Bool) → s ≡ (a && p) → m ≡ ((a && not s) && f)
+        → (a && not ((a && not s) && not m)) ≡ (a && (p || f))
     count true true f s m e g = rw e refl
     count true false true s m e g = rw (g, e) refl
     count true false false s m e g = rw (g, e) refl
     count false p f s m e g = refl
 
 -- under which the attacker wins
-pub Tells-attackers : (attacker : Bool) (asked good : Allowances) (way won : Ko → Bool) → Tells asked good way → ((ko : Ko) → beq (way ko) attacker ≡ won ko)
+pub Tells-attackers : (attacker : Bool) (asked good : Allowances) (way won : Ko → Bool) → Tells asked good way
+    → ((ko : Ko) → beq (way ko) attacker ≡ won ko)
     → Tells asked (cond attacker good (without asked good)) won
 Tells-attackers attacker asked good way won t same = record { each = by attacker same }
   where
@@ -244,9 +284,11 @@ Tells-attackers attacker asked good way won t same = record { each = by attacker
     minus true false g e = ap not e
     minus false b g e = refl
 
-    by : (attacker : Bool) → ((ko : Ko) → beq (way ko) attacker ≡ won ko) → (ko : Ko) → has (cond attacker good (without asked good)) ko ≡ (has asked ko && won ko)
+    by : (attacker : Bool) → ((ko : Ko) → beq (way ko) attacker ≡ won ko) → (ko : Ko)
+        → has (cond attacker good (without asked good)) ko ≡ (has asked ko && won ko)
     by true same ko = t.each ko ∙ ap (λ x. has asked ko && x) (beq_true (way ko) ∙ same ko)
-    by false same ko = has-without asked good ko ∙ minus (has asked ko) (way ko) (has good ko) (t.each ko) ∙ ap (λ x. has asked ko && x) (same ko)
+    by false same ko = has-without asked good ko ∙ minus (has asked ko) (way ko) (has good ko) (t.each ko)
+        ∙ ap (λ x. has asked ko && x) (same ko)
 
 -- where all pass, and where none does
 pub Tells-all : (asked : Allowances) (test : Ko → Bool) → ((ko : Ko) → test ko ≡ true) → Tells asked asked test
@@ -258,7 +300,8 @@ has_none defender_may = refl
 has_none neither_may = refl
 has_none attacker_may = refl
 
-pub Tells-none : (asked : Allowances) (test : Ko → Bool) → ((ko : Ko) → test ko ≡ false) → Tells asked (record { defender = false; neither = false; attacker = false }) test
+pub Tells-none : (asked : Allowances) (test : Ko → Bool) → ((ko : Ko) → test ko ≡ false)
+    → Tells asked (record { defender = false; neither = false; attacker = false }) test
 Tells-none asked test h = record { each = λ ko. has_none ko ∙ sym (and_false_right (has asked ko) (test ko) (h ko)) }
 
 -- all are there
@@ -268,7 +311,8 @@ has_all neither_may = refl
 has_all attacker_may = refl
 
 -- the attacker's way is by a candidate, where the target has not too many liberties
-pub good_attacker : (turn many saved : Bool) (first : Option ℕ) → turn ≡ true → many ≡ false → is_some first ≡ is_some (cond (turn && many) None (cond (not turn && saved) (Some Pass) (at_point first)))
+pub good_attacker : (turn many saved : Bool) (first : Option ℕ) → turn ≡ true → many ≡ false
+    → is_some first ≡ is_some (cond (turn && many) None (cond (not turn && saved) (Some Pass) (at_point first)))
 good_attacker true false saved None t m = refl
 good_attacker true false saved (Some p) t m = refl
 good_attacker true true saved first t m = cc

@@ -43,7 +43,8 @@ code_cases code lo hi = elim (cases_eq code 1) [
 ]
 
 -- the allowance of a greater code is asked for
-above_by : (attack : Bool) (code more : ℕ) → IsCode more → code < more → has (codes_above code attack) (ko_of attack more) ≡ true
+above_by : (attack : Bool) (code more : ℕ) → IsCode more → code < more
+    → has (codes_above code attack) (ko_of attack more) ≡ true
 above_by true code more one l = lt-ltb code 1 l
 above_by true code more two l = lt-ltb code 2 l
 above_by true code more three l = lt-ltb code 3 l
@@ -51,11 +52,13 @@ above_by false code more one l = lt-ltb code 1 l
 above_by false code more two l = lt-ltb code 2 l
 above_by false code more three l = lt-ltb code 3 l
 
-above_has : (attack : Bool) (code more : ℕ) → code < more → more ≤ 3 → has (codes_above code attack) (ko_of attack more) ≡ true
+above_has : (attack : Bool) (code more : ℕ) → code < more → more ≤ 3
+    → has (codes_above code attack) (ko_of attack more) ≡ true
 above_has attack code more l hi = above_by attack code more (code_cases more (omega arith) hi) l
 
 -- and only those are
-above_only : (attack : Bool) (code more : ℕ) → IsCode more → has (codes_above code attack) (ko_of attack more) ≡ true → code < more
+above_only : (attack : Bool) (code more : ℕ) → IsCode more → has (codes_above code attack) (ko_of attack more) ≡ true
+    → code < more
 above_only true code more one h = ltb-true code 1 h
 above_only true code more two h = ltb-true code 2 h
 above_only true code more three h = ltb-true code 3 h
@@ -69,7 +72,8 @@ record IsBestCode (set : Allowances) (attack : Bool) (code : ℕ) : Type 0 where
   there : has set (ko_of attack code) ≡ true
   none : (more : ℕ) → code < more → more ≤ 3 → has set (ko_of attack more) ≡ false
 
-best_is : (set : Allowances) (code : ℕ) (attack : Bool) → has_some set ≡ true → IsBestCode set attack (best_code set code attack)
+best_is : (set : Allowances) (code : ℕ) (attack : Bool) → has_some set ≡ true
+    → IsBestCode set attack (best_code set code attack)
 best_is set code attack h = by (has set (own_ko (not attack))) set.neither (has set (own_ko attack)) refl refl refl
   where
     at_three : (attack : Bool) → has set (own_ko (not attack)) ≡ true → has set (ko_of attack 3) ≡ true
@@ -92,7 +96,8 @@ best_is set code attack h = by (has set (own_ko (not attack))) set.neither (has 
     not_two true t = t
     not_two false t = t
 
-    above_one : (more : ℕ) → 1 < more → more ≤ 3 → has set (own_ko (not attack)) ≡ false → set.neither ≡ false → has set (ko_of attack more) ≡ false
+    above_one : (more : ℕ) → 1 < more → more ≤ 3 → has set (own_ko (not attack)) ≡ false → set.neither ≡ false
+        → has set (ko_of attack more) ≡ false
     above_one more lo hi f3 f2 = elim (cases_eq more 3) [
       | inl e ↦ ap (λ m. has set (ko_of attack m)) e ∙ not_three attack f3
       | inr ne ↦ let e : more ≡ 2 = omega arith in ap (λ m. has set (ko_of attack m)) e ∙ not_two attack f2
@@ -101,14 +106,28 @@ best_is set code attack h = by (has set (own_ko (not attack))) set.neither (has 
     none_of_three : (a b c : Bool) → a ≡ false → b ≡ false → c ≡ false → (a || b || c) ≡ false
     none_of_three a b c ea eb ec = rw (ea, eb, ec) refl
 
-    none_there : (attack : Bool) → has set (own_ko (not attack)) ≡ false → set.neither ≡ false → has set (own_ko attack) ≡ false → ⊥
+    none_there : (attack : Bool) → has set (own_ko (not attack)) ≡ false → set.neither ≡ false
+        → has set (own_ko attack) ≡ false → ⊥
     none_there true f3 f2 f1 = both_ways (has_some set) (none_of_three set.defender set.neither set.attacker f3 f2 f1) h
-    none_there false f3 f2 f1 = both_ways (has_some set) (none_of_three set.defender set.neither set.attacker f1 f2 f3) h
+    none_there false f3 f2 f1 =
+        both_ways (has_some set) (none_of_three set.defender set.neither set.attacker f1 f2 f3) h
 
-    by : (x y z : Bool) → has set (own_ko (not attack)) ≡ x → set.neither ≡ y → has set (own_ko attack) ≡ z → IsBestCode set attack (cond x 3 (cond y 2 (cond z 1 code)))
-    by true y z e3 e2 e1 = record { is_code = three; there = at_three attack e3; none = λ more lo hi. absurd (omega arith) }
-    by false true z e3 e2 e1 = record { is_code = two; there = at_two attack e2; none = λ more lo hi. let e : more ≡ 3 = omega arith in ap (λ m. has set (ko_of attack m)) e ∙ not_three attack e3 }
-    by false false true e3 e2 e1 = record { is_code = one; there = at_one attack e1; none = λ more lo hi. above_one more lo hi e3 e2 }
+    by : (x y z : Bool) → has set (own_ko (not attack)) ≡ x → set.neither ≡ y → has set (own_ko attack) ≡ z
+        → IsBestCode set attack (cond x 3 (cond y 2 (cond z 1 code)))
+    by true y z e3 e2 e1 = record {
+      is_code = three;
+      there = at_three attack e3;
+      none = λ more lo hi. absurd (omega arith);
+    }
+    by false true z e3 e2 e1 =
+        record {
+          is_code = two;
+          there = at_two attack e2;
+          none = λ more lo hi. let e : more ≡ 3 = omega arith in
+              ap (λ m. has set (ko_of attack m)) e ∙ not_three attack e3;
+        }
+    by false false true e3 e2 e1 =
+        record { is_code = one; there = at_one attack e1; none = λ more lo hi. above_one more lo hi e3 e2 }
     by false false false e3 e2 e1 = absurd (none_there attack e3 e2 e1)
 
 -- the test that an asked allowance passes or not
@@ -116,7 +135,8 @@ told : (asked : Bool) (found test : Bool) → found ≡ (asked && test) → aske
 told true found test e h = sym e
 told false found test e h = cc
 
-told_there : (asked : Bool) (found test : Bool) → found ≡ (asked && test) → found ≡ true → (asked ≡ true) × (test ≡ true)
+told_there : (asked : Bool) (found test : Bool) → found ≡ (asked && test) → found ≡ true
+    → (asked ≡ true) × (test ≡ true)
 told_there true true true e h = (refl, refl)
 told_there true true false e h = cc
 told_there false true test e h = cc
@@ -152,7 +172,12 @@ module _ (n : ℕ) (turn : Turn) (here : BoardState) where
       off false b e = cc
 
   -- the defender's pass
-  pub best_pass : (saved : Allowances) → Tells (record { defender = true; neither = true; attacker = true }) saved (λ ko. pass_saves n (under turn ko) here)
+  pub best_pass : (saved : Allowances)
+      → Tells (record {
+        defender = true;
+        neither = true;
+        attacker = true;
+      }) saved (λ ko. pass_saves n (under turn ko) here)
       → IsBest n turn here nowhere (better (record { code = 0; at = None }) turn.attacker_to_play saved Pass)
   best_pass saved t = elim (cases_Bool (has_some saved)) [
     | inl some ↦
@@ -160,7 +185,8 @@ module _ (n : ℕ) (turn : Turn) (here : BoardState) where
         let code = best_code saved 0 turn.attacker_to_play in
         rw some (record {
           bounded = at_most_three code best.is_code;
-          no_pass = λ more lo hi. told _ _ _ (t.each (ko_of turn.attacker_to_play more)) (has_all (ko_of turn.attacker_to_play more)) ∙ best.none more lo hi;
+          no_pass = λ more lo hi. told _ _ _ (t.each (ko_of turn.attacker_to_play more))
+              (has_all (ko_of turn.attacker_to_play more)) ∙ best.none more lo hi;
           no_point = λ more lo hi q. refl;
           no_move = λ e. absurd (above_none code best.is_code e);
           move = λ ne. (
@@ -172,7 +198,8 @@ module _ (n : ℕ) (turn : Turn) (here : BoardState) where
         })
     | inr none ↦ rw none (record {
       bounded = omega arith;
-      no_pass = λ more lo hi. told _ _ _ (t.each (ko_of turn.attacker_to_play more)) (has_all (ko_of turn.attacker_to_play more)) ∙ none_of saved (ko_of turn.attacker_to_play more) none;
+      no_pass = λ more lo hi. told _ _ _ (t.each (ko_of turn.attacker_to_play more))
+          (has_all (ko_of turn.attacker_to_play more)) ∙ none_of saved (ko_of turn.attacker_to_play more) none;
       no_point = λ more lo hi q. refl;
       no_move = λ _. refl;
       move = λ ne. absurd (ne refl);
@@ -190,15 +217,19 @@ module _ (n : ℕ) (turn : Turn) (here : BoardState) where
       above_none code three e = omega arith
 
   -- one more candidate
-  pub best_point : (cands : ℕ → Bool) (next p : ℕ) (best : Answer) (good : Allowances) → ((q : ℕ) → cands q ≡ is_candidate here turn.target turn.wide q)
-      → IsBest n turn here (λ q. ltb q next && cands q) best → cands p ≡ true → ((q : ℕ) → next ≤ q → q < p → cands q ≡ false)
+  pub best_point : (cands : ℕ → Bool) (next p : ℕ) (best : Answer) (good : Allowances)
+      → ((q : ℕ) → cands q ≡ is_candidate here turn.target turn.wide q)
+      → IsBest n turn here (λ q. ltb q next && cands q) best → cands p ≡ true
+      → ((q : ℕ) → next ≤ q → q < p → cands q ≡ false)
       → Tells (codes_above best.code turn.attacker_to_play) good (λ ko. succeeds n (under turn ko) here p)
       → IsBest n turn here (λ q. ltb q (p + 1) && cands q) (better best turn.attacker_to_play good (At p))
   best_point cands next p best good same i cand between t = elim (cases_Bool (has_some good)) [
     | inr none ↦ rw none (record {
       bounded = i.bounded;
       no_pass = i.no_pass;
-      no_point = λ more lo hi q. later more lo hi (told _ _ _ (t.each (ko_of turn.attacker_to_play more)) (above_has turn.attacker_to_play best.code more lo hi) ∙ none_of good (ko_of turn.attacker_to_play more) none) q;
+      no_point = λ more lo hi q. later more lo hi
+          (told _ _ _ (t.each (ko_of turn.attacker_to_play more)) (above_has turn.attacker_to_play best.code more lo hi)
+          ∙ none_of good (ko_of turn.attacker_to_play more) none) q;
       no_move = i.no_move;
       move = i.move;
     })
@@ -210,13 +241,18 @@ module _ (n : ℕ) (turn : Turn) (here : BoardState) where
         rw some (record {
           bounded = at_most_three code found.is_code;
           no_pass = λ more lo hi. i.no_pass more (omega arith) hi;
-          no_point = λ more lo hi q. later more (omega arith) hi (told _ _ _ (t.each (ko_of turn.attacker_to_play more)) (above_has turn.attacker_to_play best.code more (omega arith) hi) ∙ found.none more lo hi) q;
+          no_point = λ more lo hi q. later more (omega arith) hi
+              (told _ _ _ (t.each (ko_of turn.attacker_to_play more))
+              (above_has turn.attacker_to_play best.code more (omega arith) hi) ∙ found.none more lo hi) q;
           no_move = λ e. absurd (omega arith);
           move = λ ne. (
             At p,
             refl,
-            ap at_point (first_success-found n (node_of turn code) here next p cands same (λ q l. before (ltb q next) (cands q) _ (lt-ltb q next l) (i.no_point code above (at_most_three code found.is_code) q)) between cand (sym asked.1))
-                ∙ sym (ap (λ b. cond b (Some Pass) (at_point (first_success n (node_of turn code) here))) (i.no_pass code above (at_most_three code found.is_code))),
+            ap at_point (first_success-found n (node_of turn code) here next p cands same
+                (λ q l. before (ltb q next) (cands q) _ (lt-ltb q next l)
+                (i.no_point code above (at_most_three code found.is_code) q)) between cand (sym asked.1))
+                ∙ sym (ap (λ b. cond b (Some Pass) (at_point (first_success n (node_of turn code) here)))
+                (i.no_pass code above (at_most_three code found.is_code))),
           );
         })
   ]
@@ -238,9 +274,11 @@ module _ (n : ℕ) (turn : Turn) (here : BoardState) where
       drop_last true s e = e
       drop_last false s e = refl
 
-      later : (more : ℕ) → best.code < more → more ≤ 3 → succeeds n (node_of turn more) here p ≡ false → (q : ℕ) → ((ltb q (p + 1) && cands q) && succeeds n (node_of turn more) here q) ≡ false
+      later : (more : ℕ) → best.code < more → more ≤ 3 → succeeds n (node_of turn more) here p ≡ false → (q : ℕ)
+          → ((ltb q (p + 1) && cands q) && succeeds n (node_of turn more) here q) ≡ false
       later more lo hi fails q = elim (cases_lt q next) [
-        | inl l ↦ drop_left (ltb q (p + 1)) (cands q) _ (before (ltb q next) (cands q) _ (lt-ltb q next l) (i.no_point more lo hi q))
+        | inl l ↦ drop_left (ltb q (p + 1)) (cands q) _
+            (before (ltb q next) (cands q) _ (lt-ltb q next l) (i.no_point more lo hi q))
         | inr g ↦ elim (cases_eq q p) [
           | inl e ↦ drop_last (ltb q (p + 1) && cands q) _ (ap (succeeds n (node_of turn more) here) e ∙ fails)
           | inr ne ↦ elim (cases_lt q p) [
@@ -259,15 +297,18 @@ module _ (n : ℕ) (turn : Turn) (here : BoardState) where
           off false c s e = refl
 
   -- no candidate is left
-  pub best_all : (cands : ℕ → Bool) (next : ℕ) (best : Answer) → ((q : ℕ) → cands q ≡ is_candidate here turn.target turn.wide q) → IsBest n turn here (λ q. ltb q next && cands q) best
+  pub best_all : (cands : ℕ → Bool) (next : ℕ) (best : Answer)
+      → ((q : ℕ) → cands q ≡ is_candidate here turn.target turn.wide q)
+      → IsBest n turn here (λ q. ltb q next && cands q) best
       → ((q : ℕ) → next ≤ q → cands q ≡ false) → IsBest n turn here (is_candidate here turn.target turn.wide) best
   best_all cands next best same i rest = record {
     bounded = i.bounded;
     no_pass = i.no_pass;
-    no_point = λ more lo hi q. ap (λ b. b && succeeds n (node_of turn more) here q) (sym (same q)) ∙ elim (cases_lt q next) [
-      | inl l ↦ before (ltb q next) (cands q) _ (lt-ltb q next l) (i.no_point more lo hi q)
-      | inr g ↦ ap (λ b. b && succeeds n (node_of turn more) here q) (rest q g)
-    ];
+    no_point = λ more lo hi q. ap (λ b. b && succeeds n (node_of turn more) here q) (sym (same q))
+        ∙ elim (cases_lt q next) [
+          | inl l ↦ before (ltb q next) (cands q) _ (lt-ltb q next l) (i.no_point more lo hi q)
+          | inr g ↦ ap (λ b. b && succeeds n (node_of turn more) here q) (rest q g)
+        ];
     no_move = i.no_move;
     move = i.move;
   }
@@ -277,7 +318,8 @@ module _ (n : ℕ) (turn : Turn) (here : BoardState) where
       before false c s e h = cc
 
   -- no code is greater than 3
-  pub best_three : (tried : ℕ → Bool) (best : Answer) → IsBest n turn here tried best → best.code ≡ 3 → (all : ℕ → Bool) → IsBest n turn here all best
+  pub best_three : (tried : ℕ → Bool) (best : Answer) → IsBest n turn here tried best → best.code ≡ 3 → (all : ℕ → Bool)
+      → IsBest n turn here all best
   best_three tried best i e all = record {
     bounded = i.bounded;
     no_pass = i.no_pass;
@@ -286,7 +328,8 @@ module _ (n : ℕ) (turn : Turn) (here : BoardState) where
     move = i.move;
   }
 
-  pub best_start : (cands : ℕ → Bool) (best : Answer) → IsBest n turn here nowhere best → IsBest n turn here (λ q. ltb q 0 && cands q) best
+  pub best_start : (cands : ℕ → Bool) (best : Answer) → IsBest n turn here nowhere best
+      → IsBest n turn here (λ q. ltb q 0 && cands q) best
   best_start cands best i = record {
     bounded = i.bounded;
     no_pass = i.no_pass;
@@ -303,7 +346,9 @@ module _ (n : ℕ) (turn : Turn) (here : BoardState) where
 node_is : (q : ReadingQuestion) (code : ℕ) → IsCode code → node_of (first_turn q) code ≡ first_node q code
 node_is q code c = by q.kind code c
   where
-    by : (kind : Kind) (code : ℕ) → IsCode code → let q' : ReadingQuestion = record { size = q.size; kind = kind; target = q.target; colour = q.colour; plies = q.plies; wide = q.wide } in node_of (first_turn q') code ≡ first_node q' code
+    by : (kind : Kind) (code : ℕ) → IsCode code → let q' : ReadingQuestion =
+        record { size = q.size; kind = kind; target = q.target; colour = q.colour; plies = q.plies; wide = q.wide } in
+        node_of (first_turn q') code ≡ first_node q' code
     by Attack code one = refl
     by Attack code two = refl
     by Attack code three = refl
@@ -312,23 +357,35 @@ node_is q code c = by q.kind code c
     by Defend code three = refl
 
 -- a first move that is not barred is a good one
-not_barred : (n : ℕ) (node : Node) (pos : BoardState) → (node.attacker_to_play && has_many_liberties pos node.target node.wide) ≡ false → good_move n node pos ≡ first_move n node pos
+not_barred : (n : ℕ) (node : Node) (pos : BoardState)
+    → (node.attacker_to_play && has_many_liberties pos node.target node.wide) ≡ false
+    → good_move n node pos ≡ first_move n node pos
 not_barred n node pos h = ap (λ b. cond b None (first_move n node pos)) h
 
-no_first : (n : ℕ) (node : Node) (pos : BoardState) → pass_saves n node pos ≡ false → ((q : ℕ) → (is_candidate pos node.target node.wide q && succeeds n node pos q) ≡ false) → is_some (first_move n node pos) ≡ false
+no_first : (n : ℕ) (node : Node) (pos : BoardState) → pass_saves n node pos ≡ false
+    → ((q : ℕ) → (is_candidate pos node.target node.wide q && succeeds n node pos q) ≡ false)
+    → is_some (first_move n node pos) ≡ false
 no_first n node pos ps none =
-    let nothing : first_success n node pos ≡ None = sym (first_success-none n node pos (pos.size * pos.size) (is_candidate pos node.target node.wide) (λ q. refl) (λ q l. none q)
-    (λ q g. elim (cases_Bool (is_candidate pos node.target node.wide q)) [ inl t ↦ absurd (let on = candidate_on pos node.target node.wide q t in omega arith) | inr f ↦ f ])) in
-    ap (λ b. is_some (cond b (Some Pass) (at_point (first_success n node pos)))) ps ∙ ap (λ o. is_some (at_point o)) nothing
+    let nothing : first_success n node pos ≡ None =
+    sym (first_success-none n node pos (pos.size * pos.size) (is_candidate pos node.target node.wide) (λ q. refl)
+    (λ q l. none q)
+    (λ q g. elim (cases_Bool (is_candidate pos node.target node.wide q))
+    [ inl t ↦ absurd (let on = candidate_on pos node.target node.wide q t in omega arith) | inr f ↦ f ])) in
+    ap (λ b. is_some (cond b (Some Pass) (at_point (first_success n node pos)))) ps
+    ∙ ap (λ o. is_some (at_point o)) nothing
 
-pub best_answer : (q : ReadingQuestion) (pos : BoardState) (best : Answer) → q.plies ≢ 0 → is_about q pos ≡ true → (is_attack q.kind && has_many_liberties pos q.target q.wide) ≡ false
+pub best_answer : (q : ReadingQuestion) (pos : BoardState) (best : Answer) → q.plies ≢ 0 → is_about q pos ≡ true
+    → (is_attack q.kind && has_many_liberties pos q.target q.wide) ≡ false
     → IsBest (q.plies - 1) (first_turn q) pos (is_candidate pos q.target q.wide) best → best ≡ answer_of q pos
 best_answer q pos best ne about few i =
     answer_best q pos best.code best.at about i.bounded
-    (λ some. attained_by q pos best.code ne stands ∙ ap is_some (not_barred n (first_node q best.code) pos few) ∙ ap is_some (sym (moved some)))
-    (λ more lo hi. let e = node_is q more (code_cases more (omega arith) hi) in attained_by q pos more ne stands ∙ ap is_some (not_barred n (first_node q more) pos few)
+    (λ some. attained_by q pos best.code ne stands ∙ ap is_some (not_barred n (first_node q best.code) pos few)
+    ∙ ap is_some (sym (moved some)))
+    (λ more lo hi. let e = node_is q more (code_cases more (omega arith) hi) in
+    attained_by q pos more ne stands ∙ ap is_some (not_barred n (first_node q more) pos few)
     ∙ no_first n (first_node q more) pos (subst (λ node. pass_saves n node pos ≡ false) e (i.no_pass more lo hi))
-    (λ p. subst (λ node. (is_candidate pos q.target q.wide p && succeeds n node pos p) ≡ false) e (i.no_point more lo hi p)))
+    (λ p. subst (λ node. (is_candidate pos q.target q.wide p && succeeds n node pos p) ≡ false) e
+    (i.no_point more lo hi p)))
     i.no_move
     (λ some. (i.move some).1 ∙ moved some)
   where
@@ -339,13 +396,24 @@ best_answer q pos best ne about few i =
     stands = about_stands q pos about
 
     moved : (some : best.code ≢ 0) → Some (i.move some).0 ≡ first_move n (first_node q best.code) pos
-    moved some = (i.move some).2 ∙ ap (λ node. first_move n node pos) (node_is q best.code (code_cases best.code (omega arith) i.bounded))
+    moved some = (i.move some).2 ∙ ap (λ node. first_move n node pos)
+        (node_is q best.code (code_cases best.code (omega arith) i.bounded))
 
 -- the first turn is one of the trees under each allowance
-pub first_nodes : (q : ReadingQuestion) (pos : BoardState) → q.plies ≢ 0 → AreNodesOf q pos (suc (q.plies - 1)) (first_turn q) (record { defender = true; neither = true; attacker = true }) pos
-first_nodes q pos ne = record { each = λ ko h. let e : q.plies ≡ suc (q.plies - 1) = omega arith in subst (λ m. IsNodeOf q pos m (under (first_turn q) ko) pos) e (by q.kind ko) }
+pub first_nodes : (q : ReadingQuestion) (pos : BoardState) → q.plies ≢ 0
+    → AreNodesOf q pos (suc (q.plies - 1)) (first_turn q) (record {
+      defender = true;
+      neither = true;
+      attacker = true;
+    }) pos
+first_nodes q pos ne = record {
+  each = λ ko h. let e : q.plies ≡ suc (q.plies - 1) = omega arith in
+      subst (λ m. IsNodeOf q pos m (under (first_turn q) ko) pos) e (by q.kind ko);
+}
   where
-    by : (kind : Kind) (ko : Ko) → let q' : ReadingQuestion = record { size = q.size; kind = kind; target = q.target; colour = q.colour; plies = q.plies; wide = q.wide } in IsNodeOf q' pos q'.plies (under (first_turn q') ko) pos
+    by : (kind : Kind) (ko : Ko) → let q' : ReadingQuestion =
+        record { size = q.size; kind = kind; target = q.target; colour = q.colour; plies = q.plies; wide = q.wide } in
+        IsNodeOf q' pos q'.plies (under (first_turn q') ko) pos
     by Attack defender_may = first 3 (omega arith) (omega arith)
     by Attack neither_may = first 2 (omega arith) (omega arith)
     by Attack attacker_may = first 1 (omega arith) (omega arith)
@@ -354,20 +422,31 @@ first_nodes q pos ne = record { each = λ ko h. let e : q.plies ≡ suc (q.plies
     by Defend attacker_may = first 3 (omega arith) (omega arith)
 
 -- a better move at a point is on the board
-pub better_on : (best : Answer) (attack : Bool) (good : Allowances) (p s : ℕ) → IfSome best.at (IsOnBoard s) → p < s * s → IfSome (better best attack good (At p)).at (IsOnBoard s)
+pub better_on : (best : Answer) (attack : Bool) (good : Allowances) (p s : ℕ) → IfSome best.at (IsOnBoard s) → p < s * s
+    → IfSome (better best attack good (At p)).at (IsOnBoard s)
 better_on best attack good p s h on = by (has_some good)
   where
-    by : (some : Bool) → IfSome (cond {A = Answer} some (record { code = best_code good best.code attack; at = Some (At p) }) best).at (IsOnBoard s)
+    by : (some : Bool) → IfSome (cond {A = Answer} some (record {
+      code = best_code good best.code attack;
+      at = Some (At p);
+    }) best).at (IsOnBoard s)
     by true = on
     by false = h
 
 -- with too many liberties an attack fails, and no defence is needed
-pub unread_answer : (q : ReadingQuestion) (pos : BoardState) → q.plies ≢ 0 → is_about q pos ≡ true → q.target < pos.size * pos.size
-    → outlasts (is_attack q.kind) q.plies q.wide (liberties pos.size pos.cells q.target) ≡ true → unread (is_attack q.kind) ≡ answer_of q pos
+pub unread_answer : (q : ReadingQuestion) (pos : BoardState) → q.plies ≢ 0 → is_about q pos ≡ true
+    → q.target < pos.size * pos.size
+    → outlasts (is_attack q.kind) q.plies q.wide (liberties pos.size pos.cells q.target) ≡ true
+    → unread (is_attack q.kind) ≡ answer_of q pos
 unread_answer q pos ne about on h = elim (cases_Bool (is_attack q.kind)) [
-  | inl t ↦ ap unread t ∙ answer_best q pos 0 None about (omega arith) (λ some. absurd (some refl)) (λ more lo hi. ap (λ b. cond b (wins more) (not (wins more))) t ∙ lost more) (λ _. refl) (λ some. absurd (some refl))
-  | inr f ↦ ap unread f ∙ answer_best q pos 3 (Some Pass) about (omega arith) (λ some. ap (λ b. cond b (wins 3) (not (wins 3))) f ∙ ap not (lost 3)) (λ more lo hi. absurd (omega arith)) (λ e. absurd (omega arith))
-      (λ some. sym (ap (λ b. cond b (Some Pass) (at_point (first_success (q.plies - 1) (first_node q 3) pos))) (saves f)))
+  | inl t ↦ ap unread t ∙ answer_best q pos 0 None about (omega arith) (λ some. absurd (some refl))
+      (λ more lo hi. ap (λ b. cond b (wins more) (not (wins more))) t ∙ lost more) (λ _. refl)
+      (λ some. absurd (some refl))
+  | inr f ↦ ap unread f ∙ answer_best q pos 3 (Some Pass) about (omega arith)
+      (λ some. ap (λ b. cond b (wins 3) (not (wins 3))) f ∙ ap not (lost 3)) (λ more lo hi. absurd (omega arith))
+      (λ e. absurd (omega arith))
+      (λ some. sym (ap (λ b. cond b (Some Pass) (at_point (first_success (q.plies - 1) (first_node q 3) pos)))
+      (saves f)))
 ]
   where
     wins : ℕ → Bool
@@ -383,6 +462,9 @@ unread_answer q pos ne about on h = elim (cases_Bool (is_attack q.kind)) [
     saves f =
         let more : q.plies ≡ suc (q.plies - 1) = omega arith in
         let next = next_node (first_node q 3) (allowance_of (first_node q 3)) in
-        let h1 = ap (λ b. outlasts b (suc (q.plies - 1)) q.wide (liberties pos.size pos.cells q.target)) (sym f) ∙ ap (λ m. outlasts (is_attack q.kind) m q.wide (liberties pos.size pos.cells q.target)) (sym more) ∙ h in
-        let h2 = ap (λ b. outlasts (not b) (q.plies - 1) (q.wide - 1) (liberties pos.size pos.cells q.target)) f ∙ pass_outlasts (q.plies - 1) q.wide (liberties pos.size pos.cells q.target) h1 in
-        saved (is_attack q.kind) (attacker_wins (q.plies - 1) next (pass pos)) f (bounded (q.plies - 1) next (pass pos) on h2)
+        let h1 = ap (λ b. outlasts b (suc (q.plies - 1)) q.wide (liberties pos.size pos.cells q.target)) (sym f)
+        ∙ ap (λ m. outlasts (is_attack q.kind) m q.wide (liberties pos.size pos.cells q.target)) (sym more) ∙ h in
+        let h2 = ap (λ b. outlasts (not b) (q.plies - 1) (q.wide - 1) (liberties pos.size pos.cells q.target)) f
+        ∙ pass_outlasts (q.plies - 1) q.wide (liberties pos.size pos.cells q.target) h1 in
+        saved (is_attack q.kind) (attacker_wins (q.plies - 1) next (pass pos)) f
+        (bounded (q.plies - 1) next (pass pos) on h2)

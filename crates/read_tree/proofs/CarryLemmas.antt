@@ -32,9 +32,12 @@ colours_differ : (c : Colour) → stone_of c ≡ stone_of (other c) → ⊥
 colours_differ black e = cc
 colours_differ white e = cc
 
--- c played at p, where that was legal with the ban dropped; the board is whole, and afterwards t holds a stone of the other colour
-module _ (pos : BoardState) (c : Colour) (p : ℕ) (new : BoardState) (t : ℕ) (whole : length pos.cells ≡ pos.size * pos.size) (p_on : p < pos.size * pos.size)
-    (on : t < pos.size * pos.size) (legal : play_free pos c p ≡ Ok new) (enemy : cell_at new.cells t ≡ stone_of (other c)) where
+-- c played at p, where that was legal with the ban dropped; the board is whole, and afterwards t holds a stone of the
+-- other colour
+module _ (pos : BoardState) (c : Colour) (p : ℕ) (new : BoardState) (t : ℕ)
+    (whole : length pos.cells ≡ pos.size * pos.size) (p_on : p < pos.size * pos.size)
+    (on : t < pos.size * pos.size) (legal : play_free pos c p ≡ Ok new)
+    (enemy : cell_at new.cells t ≡ stone_of (other c)) where
   abbrev s : ℕ
   s = pos.size
 
@@ -49,7 +52,8 @@ module _ (pos : BoardState) (c : Colour) (p : ℕ) (new : BoardState) (t : ℕ) 
   stands : cell_at new.cells p ≡ stone_of c
   stands =
       let there = at_put_same pos.cells p (stone_of c) (subst (λ n. p < n) (sym whole) p_on) in
-      ap (λ cells. cell_at cells p) cells_are ∙ at_after s put c p p_on ∙ ap (λ b. cond b Empty (cell_at put p)) (own_not_taken s put c p there) ∙ there
+      ap (λ cells. cell_at cells p) cells_are ∙ at_after s put c p p_on
+      ∙ ap (λ b. cond b Empty (cell_at put p)) (own_not_taken s put c p there) ∙ there
 
   -- a point that holds what t holds is not that of the play, and was so before
   apart : (x : ℕ) → cell_at new.cells x ≡ cell_at new.cells t → x ≢ p
@@ -58,12 +62,14 @@ module _ (pos : BoardState) (c : Colour) (p : ℕ) (new : BoardState) (t : ℕ) 
   was : (x : ℕ) → x < s * s → cell_at new.cells x ≡ cell_at new.cells t → cell_at pos.cells x ≡ cell_at new.cells x
   was x x_on same = elim (others_stay pos c p new x legal x_on (apart x same)) [
     | inl kept ↦ sym kept
-    | inr taken ↦ absurd (both_ways (is_stone Empty) refl (ap is_stone (sym taken.1 ∙ same ∙ enemy) ∙ stone_is (other c)))
+    | inr taken ↦ absurd (both_ways (is_stone Empty) refl
+        (ap is_stone (sym taken.1 ∙ same ∙ enemy) ∙ stone_is (other c)))
   ]
 
   -- the string of t stood before
   stood : {x : ℕ} → Path s new.cells t x → Path s pos.cells t x
-  stood path = path_keeps s new.cells pos.cells t (λ x w. was x (path_on_board s new.cells t on w) (path_same s new.cells t w)) path
+  stood path = path_keeps s new.cells pos.cells t
+      (λ x w. was x (path_on_board s new.cells t on w) (path_same s new.cells t w)) path
 
   put_as : (x : ℕ) → x ≢ p → cell_at put x ≡ cell_at pos.cells x
   put_as x ne = at_put_other pos.cells p x (stone_of c) ne
@@ -71,24 +77,30 @@ module _ (pos : BoardState) (c : Colour) (p : ℕ) (new : BoardState) (t : ℕ) 
   -- and with the stone put
   stood_put : {x : ℕ} → Path s new.cells t x → Path s put t x
   stood_put path = path_keeps s new.cells put t
-      (λ x w. let same = path_same s new.cells t w in put_as x (apart x same) ∙ was x (path_on_board s new.cells t on w) same) path
+      (λ x w. let same = path_same s new.cells t w in
+      put_as x (apart x same) ∙ was x (path_on_board s new.cells t on w) same) path
 
   -- t was not taken
   not_taken : is_taken s put c t ≡ true → ⊥
   not_taken h = both_ways (is_stone Empty) refl
-      (ap is_stone (sym (ap (λ b. cond b Empty (cell_at put t)) h) ∙ sym (at_after s put c t on) ∙ ap (λ cells. cell_at cells t) (sym cells_are) ∙ enemy) ∙ stone_is (other c))
+      (ap is_stone (sym (ap (λ b. cond b Empty (cell_at put t)) h) ∙ sym (at_after s put c t on)
+      ∙ ap (λ cells. cell_at cells t) (sym cells_are) ∙ enemy) ∙ stone_is (other c))
 
-  -- a point beside the string that is empty now was empty before: a stone that was taken there would have been of the string
-  was_empty : (q x : ℕ) → q < s * s → Path s new.cells t x → are_neighbours s x q ≡ true → cell_at new.cells q ≡ Empty → cell_at pos.cells q ≡ Empty
+  -- a point beside the string that is empty now was empty before: a stone that was taken there would have been of the
+  -- string
+  was_empty : (q x : ℕ) → q < s * s → Path s new.cells t x → are_neighbours s x q ≡ true → cell_at new.cells q ≡ Empty
+      → cell_at pos.cells q ≡ Empty
   was_empty q x q_on path near empty = elim (cases_eq q p) [
-    | inl e ↦ absurd (both_ways (is_stone Empty) refl (ap is_stone (sym empty ∙ ap (cell_at new.cells) e ∙ stands) ∙ stone_is c))
+    | inl e ↦ absurd (both_ways (is_stone Empty) refl
+        (ap is_stone (sym empty ∙ ap (cell_at new.cells) e ∙ stands) ∙ stone_is c))
     | inr ne ↦ elim (others_stay pos c p new q legal q_on ne) [
       | inl kept ↦ sym kept ∙ empty
       | inr taken ↦
           let t_put : cell_at put t ≡ stone_of (other c) = put_as t (apart t refl) ∙ was t on refl ∙ enemy in
           let q_put : cell_at put q ≡ cell_at put t = put_as q ne ∙ taken.0 ∙ sym t_put in
           let linked : Path s put t q = step (stood_put path) q_on near q_put in
-          absurd (not_taken (taken_whole s put c q t q_on (taken_by_words s put c q taken.2) (path_back s put t on linked)))
+          absurd (not_taken (taken_whole s put c q t q_on (taken_by_words s put c q taken.2)
+          (path_back s put t on linked)))
     ]
   ]
 
@@ -97,38 +109,53 @@ module _ (pos : BoardState) (c : Colour) (p : ℕ) (new : BoardState) (t : ℕ) 
   was_liberty q lib = record {
     on_board = lib.on_board;
     is_empty = was_empty q lib.beside.0 lib.on_board lib.beside.1.path lib.beside.2 lib.is_empty;
-    beside = (lib.beside.0, record { stone = ap is_stone (was t on refl) ∙ lib.beside.1.stone; path = stood lib.beside.1.path }, lib.beside.2);
+    beside = (
+      lib.beside.0,
+      record {
+        stone = ap is_stone (was t on refl) ∙ lib.beside.1.stone;
+        path = stood lib.beside.1.path;
+      },
+      lib.beside.2,
+    );
   }
 
   -- and is not the point of the play
   not_played : (q : ℕ) → IsLiberty s new.cells t q → q ≢ p
-  not_played q lib e = both_ways (is_stone Empty) refl (ap is_stone (sym lib.is_empty ∙ ap (cell_at new.cells) e ∙ stands) ∙ stone_is c)
+  not_played q lib e = both_ways (is_stone Empty) refl
+      (ap is_stone (sym lib.is_empty ∙ ap (cell_at new.cells) e ∙ stands) ∙ stone_is c)
 
   -- one before that is not the point of the play is one after it
   is_still : (q : ℕ) → IsLiberty s pos.cells t q → q ≢ p → IsLiberty s new.cells t q
-  is_still q lib ne = subst (λ cells. IsLiberty s cells t q) (sym cells_are) (after_liberty s pos.cells c p (done_state pos c p new legal).0 t on q lib ne)
+  is_still q lib ne = subst (λ cells. IsLiberty s cells t q) (sym cells_are)
+      (after_liberty s pos.cells c p (done_state pos c p new legal).0 t on q lib ne)
 
   -- the liberties by the test
   pub carried : (q : ℕ) → (is_liberty s pos.cells t q && not (eqb q p)) ≡ is_liberty s new.cells t q
   carried q = same_tests _ _
       (λ h.
       let both = and_parts (is_liberty s pos.cells t q) (not (eqb q p)) h in
-      is_liberty-from_fact s new.cells t q on (is_still q (IsLiberty-from_test s pos.cells t q both.0) (λ e. both_ways (not (eqb q p)) (ap (λ x. not (eqb x p)) e ∙ ap not (self p)) both.1)))
+      is_liberty-from_fact s new.cells t q on (is_still q (IsLiberty-from_test s pos.cells t q both.0)
+      (λ e. both_ways (not (eqb q p)) (ap (λ x. not (eqb x p)) e ∙ ap not (self p)) both.1)))
       (λ h.
       let lib = IsLiberty-from_test s new.cells t q h in
-      and_from _ _ (is_liberty-from_fact s pos.cells t q on (was_liberty q lib)) (ap not (ne_eqb q p (not_played q lib))))
+      and_from _ _ (is_liberty-from_fact s pos.cells t q on (was_liberty q lib))
+      (ap not (ne_eqb q p (not_played q lib))))
     where
       self : (x : ℕ) → eqb x x ≡ true
       self x = eq-eqb x x refl
 
 -- what is known before, without the point of the play, is what is known after it
-pub carried_set : (pos : BoardState) (c : Colour) (p : ℕ) (new : BoardState) (t n : ℕ) (known next : sets.FinSet nat_cmp) → length pos.cells ≡ pos.size * pos.size → pos.size ≡ n
-    → p < n * n → t < n * n → play_free pos c p ≡ Ok new → cell_at new.cells t ≡ stone_of (other c) → known ≡ liberty_points n pos.cells t
+pub carried_set : (pos : BoardState) (c : Colour) (p : ℕ) (new : BoardState) (t n : ℕ)
+    (known next : sets.FinSet nat_cmp) → length pos.cells ≡ pos.size * pos.size → pos.size ≡ n
+    → p < n * n → t < n * n → play_free pos c p ≡ Ok new → cell_at new.cells t ≡ stone_of (other c)
+    → known ≡ liberty_points n pos.cells t
     → ((q : ℕ) → sets.contains next q ≡ (sets.contains known q && not (eqb q p))) → next ≡ liberty_points n new.cells t
 carried_set pos c p new t n known next whole size p_on on legal enemy is without = same_nat_set _ _ (λ q.
-    without q ∙ ap (λ k. sets.contains k q && not (eqb q p)) is ∙ ap (λ b. b && not (eqb q p)) (contains-liberty_points n pos.cells t q)
+    without q ∙ ap (λ k. sets.contains k q && not (eqb q p)) is
+    ∙ ap (λ b. b && not (eqb q p)) (contains-liberty_points n pos.cells t q)
     ∙ ap (λ m. is_liberty m pos.cells t q && not (eqb q p)) (sym size)
-    ∙ carried pos c p new t whole (subst (λ m. p < m * m) (sym size) p_on) (subst (λ m. t < m * m) (sym size) on) legal enemy q
+    ∙ carried pos c p new t whole (subst (λ m. p < m * m) (sym size) p_on)
+    (subst (λ m. t < m * m) (sym size) on) legal enemy q
     ∙ ap (λ m. is_liberty m new.cells t q) size ∙ sym (contains-liberty_points n new.cells t q))
 
 other_twice : (c : Colour) → other (other c) ≡ c
@@ -136,14 +163,16 @@ other_twice black = refl
 other_twice white = refl
 
 -- an attacker's child comes of a play of the attacker's colour
-pub made_free : (turn : Turn) (ko : Ko) (here : BoardState) (p : ℕ) (next : Node) (new : BoardState) → child_of (under turn ko) here p ≡ Some (next, new)
+pub made_free : (turn : Turn) (ko : Ko) (here : BoardState) (p : ℕ) (next : Node) (new : BoardState)
+    → child_of (under turn ko) here p ≡ Some (next, new)
     → turn.attacker_to_play ≡ true → play_free here (other turn.defender) p ≡ Ok new
 made_free turn ko here p next new is attacks =
     ap (λ b. play_free here (cond b (other turn.defender) turn.defender) p) (sym attacks)
     ∙ (child_free (under turn ko) here p next new (child_gives (under turn ko) here p next new is)).1
 
 -- on a board of s rows the attacker's play at p leads from here to new, and the liberties of the target are known here
-pub record IsPlayed (s : ℕ) (turn : Turn) (here : BoardState) (p : ℕ) (new : BoardState) (known : sets.FinSet nat_cmp) : Type 0 where
+pub record IsPlayed (s : ℕ) (turn : Turn) (here : BoardState) (p : ℕ) (new : BoardState)
+    (known : sets.FinSet nat_cmp) : Type 0 where
   pub size : here.size ≡ s
   pub whole : length here.cells ≡ here.size * here.size
   pub point_on : p < s * s
@@ -152,15 +181,18 @@ pub record IsPlayed (s : ℕ) (turn : Turn) (here : BoardState) (p : ℕ) (new :
   pub known_is : known ≡ liberty_points s here.cells turn.target
 
 -- what is carried along is what is known after the play, over each position of a kind
-pub carries : (Agreed : BoardState → Type 0) (turn : Turn) (p : ℕ) (known : sets.FinSet nat_cmp) (here new : BoardState → BoardState) (next : Option (sets.FinSet nat_cmp))
+pub carries : (Agreed : BoardState → Type 0) (turn : Turn) (p : ℕ) (known : sets.FinSet nat_cmp) (here new : BoardState
+    → BoardState) (next : Option (sets.FinSet nat_cmp))
     → ((pos : BoardState) → Agreed pos → IfSome next (IsCarried turn (new pos) p known))
     → ((pos : BoardState) → Agreed pos → IsPlayed pos.size turn (here pos) p (new pos) known)
-    → IfSome next (λ found. (pos : BoardState) → Agreed pos → found ≡ liberty_points pos.size (new pos).cells turn.target)
+    → IfSome next (λ found. (pos : BoardState) → Agreed pos
+    → found ≡ liberty_points pos.size (new pos).cells turn.target)
 carries Agreed turn p known here new None h played = tt
 carries Agreed turn p known here new (Some next) h played = λ pos a.
     let w = h pos a in
     let f = played pos a in
-    carried_set (here pos) (other turn.defender) p (new pos) turn.target pos.size known next f.whole f.size f.point_on f.target_on (f.legal w.attacks)
+    carried_set (here pos) (other turn.defender) p
+    (new pos) turn.target pos.size known next f.whole f.size f.point_on f.target_on (f.legal w.attacks)
     (w.enemy ∙ ap stone_of (sym (other_twice turn.defender))) f.known_is w.next_is
 
 -- a set and its copy joined to none
@@ -169,7 +201,8 @@ copied points none e = same_nat_set _ _ (λ q. sets.contains-union nat_cmp_total
     ∙ ap (λ b. b || sets.contains points q) (ap (λ k. sets.contains k q) e ∙ sets.contains-empty nat_cmp q))
 
 -- a set to which one point was added
-pub only_one : (none one : sets.FinSet nat_cmp) (p q : ℕ) → none ≡ sets.empty → one ≡ sets.insert none p → sets.contains one q ≡ eqb q p
+pub only_one : (none one : sets.FinSet nat_cmp) (p q : ℕ) → none ≡ sets.empty → one ≡ sets.insert none p
+    → sets.contains one q ≡ eqb q p
 only_one none one p q e is = ap (λ k. sets.contains k q) is ∙ contains-insert_nat none p q
     ∙ ap (λ b. eqb q p || b) (ap (λ k. sets.contains k q) e ∙ sets.contains-empty nat_cmp q) ∙ or_none (eqb q p)
   where

@@ -1,4 +1,5 @@
--- A play takes away one liberty of a string at most, and none where it is not on one; so a target with many liberties is not captured.
+-- A play takes away one liberty of a string at most, and none where it is not on one; so a target with many liberties
+-- is not captured.
 use Rattle.std.proofs.Common.{◌≡◌, ◌≢◌, ℕ, zero, suc, ◌+◌, ◌-◌, ◌*◌, ◌/◌, ◌<◌, ◌≤◌, ◌⊎◌, Bool, true, false, not, ◌||◌, cond, List, Ok, refl, sym, ap, subst, ◌∙◌, arith, inl, inr, ltb, eqb, set, add-one}
 use Rattle.std.proofs.lemmas.Bool.{cases_Bool, cases_eq, or_cases, lt-ltb, ltb-true, both_ways, eq-eqb, eqb-true, or_left, or_right}
 use Rattle.go_rules.specs.declared.Cell.{Cell}
@@ -29,12 +30,14 @@ pub half_more : (n l : ℕ) → (suc n + 1) / 2 < l → n / 2 + 1 < l
 half_more n l h = omega arith
 
 -- A string with a liberty that is not the point of the play. The board is of size s; c plays at p.
-module _ (s : ℕ) (cells : List Cell) (c : Colour) (p : ℕ) (was_empty : cell_at cells p ≡ Empty) (t : ℕ) (on : t < s * s) where
+module _ (s : ℕ) (cells : List Cell) (c : Colour) (p : ℕ) (was_empty : cell_at cells p ≡ Empty) (t : ℕ)
+    (on : t < s * s) where
   abbrev put : List Cell
   put = set cells p (stone_of c)
 
   apart : (q : ℕ) → IsInString s cells t q → q ≢ p
-  apart q inside e = stone_not_empty (cell_at cells t) inside.stone (sym (path_same s cells t inside.path) ∙ ap (cell_at cells) e ∙ was_empty)
+  apart q inside e = stone_not_empty (cell_at cells t) inside.stone
+      (sym (path_same s cells t inside.path) ∙ ap (cell_at cells) e ∙ was_empty)
     where
       stone_not_empty : (k : Cell) → is_stone k ≡ true → k ≡ Empty → ⊥
       stone_not_empty Empty h e = cc
@@ -49,8 +52,11 @@ module _ (s : ℕ) (cells : List Cell) (c : Colour) (p : ℕ) (was_empty : cell_
     beside = (
       lib.beside.0,
       record {
-        stone = ap is_stone (at_put_other cells p t (stone_of c) (apart t (record { stone = lib.beside.1.stone; path = start }))) ∙ lib.beside.1.stone;
-        path = path_keeps s cells put t (λ x path. at_put_other cells p x (stone_of c) (apart x (record { stone = lib.beside.1.stone; path = path }))) lib.beside.1.path;
+        stone = ap is_stone (at_put_other cells p t (stone_of c)
+            (apart t (record { stone = lib.beside.1.stone; path = start }))) ∙ lib.beside.1.stone;
+        path = path_keeps s cells put t (λ x path.
+            at_put_other cells p x (stone_of c) (apart x (record { stone = lib.beside.1.stone; path = path })))
+            lib.beside.1.path;
       },
       lib.beside.2,
     );
@@ -68,7 +74,10 @@ module _ (s : ℕ) (cells : List Cell) (c : Colour) (p : ℕ) (was_empty : cell_
         is_empty = there.is_empty;
         beside = (
           there.beside.0,
-          record { stone = ap is_stone (path_same s put t path) ∙ there.beside.1.stone; path = path_on s put x t (path_back s put t on path) there.beside.1.path },
+          record {
+            stone = ap is_stone (path_same s put t path) ∙ there.beside.1.stone;
+            path = path_on s put x t (path_back s put t on path) there.beside.1.path;
+          },
           there.beside.2,
         );
       }) in
@@ -78,7 +87,10 @@ module _ (s : ℕ) (cells : List Cell) (c : Colour) (p : ℕ) (was_empty : cell_
         is_empty = at_after s put c l there.on_board ∙ empty_both (is_taken s put c l) (cell_at put l) there.is_empty;
         beside = (
           there.beside.0,
-          record { stone = ap is_stone (stays t start) ∙ there.beside.1.stone; path = path_keeps s put after t stays there.beside.1.path },
+          record {
+            stone = ap is_stone (stays t start) ∙ there.beside.1.stone;
+            path = path_keeps s put after t stays there.beside.1.path;
+          },
           there.beside.2,
         );
       }
@@ -88,13 +100,16 @@ module _ (s : ℕ) (cells : List Cell) (c : Colour) (p : ℕ) (was_empty : cell_
       empty_both false k e = e
 
 -- all but one pass the other test
-count_but_one : (n : ℕ) (a b : ℕ → Bool) (p : ℕ) → ((k : ℕ) → k < n → k ≢ p → a k ≡ true → b k ≡ true) → count_below n a ≤ count_below n b + 1
+count_but_one : (n : ℕ) (a b : ℕ → Bool) (p : ℕ) → ((k : ℕ) → k < n → k ≢ p → a k ≡ true → b k ≡ true)
+    → count_below n a ≤ count_below n b + 1
 count_but_one zero a b p h = omega arith
 count_but_one (suc n) a b p h = elim (cases_eq n p) [
   | inl e ↦
-      let rest : count_below n a ≤ count_below n b = count_below_mono n a b (λ k l. h k (omega arith) (λ w. omega arith)) in
+      let rest : count_below n a ≤ count_below n b =
+      count_below_mono n a b (λ k l. h k (omega arith) (λ w. omega arith)) in
       at_most_one (a n) (b n) (count_below n a) (count_below n b) rest
-  | inr ne ↦ step (a n) (b n) (count_below n a) (count_below n b) (h n (omega arith) ne) (count_but_one n a b p (λ k l. h k (omega arith)))
+  | inr ne ↦ step (a n) (b n) (count_below n a) (count_below n b) (h n (omega arith) ne)
+      (count_but_one n a b p (λ k l. h k (omega arith)))
 ]
   where
     at_most_one : (x y : Bool) (i j : ℕ) → i ≤ j → cond x 1 0 + i ≤ cond y 1 0 + j + 1
@@ -110,39 +125,50 @@ count_but_one (suc n) a b p h = elim (cases_eq n p) [
     step false false i j m h = omega arith
 
 -- liberties that stay but for one, and that all stay
-counts_but_one : (s : ℕ) (cells after : List Cell) (t p : ℕ) → t < s * s → ((l : ℕ) → IsLiberty s cells t l → l ≢ p → IsLiberty s after t l) → liberties s cells t ≤ liberties s after t + 1
+counts_but_one : (s : ℕ) (cells after : List Cell) (t p : ℕ) → t < s * s
+    → ((l : ℕ) → IsLiberty s cells t l → l ≢ p → IsLiberty s after t l) → liberties s cells t ≤ liberties s after t + 1
 unfolding liberties
 counts_but_one s cells after t p on h =
-    count_but_one (s * s) (is_liberty s cells t) (is_liberty s after t) p (λ l lo ne x. is_liberty-from_fact s after t l on (h l (IsLiberty-from_test s cells t l x) ne))
+    count_but_one (s * s) (is_liberty s cells t) (is_liberty s after t) p
+    (λ l lo ne x. is_liberty-from_fact s after t l on (h l (IsLiberty-from_test s cells t l x) ne))
 
-counts_all : (s : ℕ) (cells after : List Cell) (t p : ℕ) → t < s * s → is_liberty s cells t p ≡ false → ((l : ℕ) → IsLiberty s cells t l → l ≢ p → IsLiberty s after t l) → liberties s cells t ≤ liberties s after t
+counts_all : (s : ℕ) (cells after : List Cell) (t p : ℕ) → t < s * s → is_liberty s cells t p ≡ false
+    → ((l : ℕ) → IsLiberty s cells t l → l ≢ p → IsLiberty s after t l) → liberties s cells t ≤ liberties s after t
 unfolding liberties
 counts_all s cells after t p on off h =
     count_below_mono (s * s) (is_liberty s cells t) (is_liberty s after t)
-    (λ l lo x. is_liberty-from_fact s after t l on (h l (IsLiberty-from_test s cells t l x) (λ e. both_ways (is_liberty s cells t l) (ap (is_liberty s cells t) e ∙ off) x)))
+    (λ l lo x. is_liberty-from_fact s after t l on
+    (h l (IsLiberty-from_test s cells t l x) (λ e.
+    both_ways (is_liberty s cells t l) (ap (is_liberty s cells t) e ∙ off) x)))
 
 -- a play takes away one liberty at most
-pub play_takes_one : (pos : BoardState) (c : Colour) (p : ℕ) (new : BoardState) (t : ℕ) → t < pos.size * pos.size → play_free pos c p ≡ Ok new
+pub play_takes_one : (pos : BoardState) (c : Colour) (p : ℕ) (new : BoardState) (t : ℕ) → t < pos.size * pos.size
+    → play_free pos c p ≡ Ok new
     → liberties pos.size pos.cells t ≤ liberties new.size new.cells t + 1
 play_takes_one pos c p new t on e =
     let state = done_state pos c p new e in
     subst (λ (n : BoardState). liberties pos.size pos.cells t ≤ liberties n.size n.cells t + 1) (sym state.1)
-    (counts_but_one pos.size pos.cells (after_on pos c p) t p on (λ l lib ne. after_liberty pos.size pos.cells c p state.0 t on l lib ne))
+    (counts_but_one pos.size pos.cells (after_on pos c p) t p on
+    (λ l lib ne. after_liberty pos.size pos.cells c p state.0 t on l lib ne))
 
 -- and none where it is on none
-pub play_takes_none : (pos : BoardState) (c : Colour) (p : ℕ) (new : BoardState) (t : ℕ) → t < pos.size * pos.size → play_free pos c p ≡ Ok new → is_liberty pos.size pos.cells t p ≡ false
+pub play_takes_none : (pos : BoardState) (c : Colour) (p : ℕ) (new : BoardState) (t : ℕ) → t < pos.size * pos.size
+    → play_free pos c p ≡ Ok new → is_liberty pos.size pos.cells t p ≡ false
     → liberties pos.size pos.cells t ≤ liberties new.size new.cells t
 play_takes_none pos c p new t on e off =
     let state = done_state pos c p new e in
     subst (λ (n : BoardState). liberties pos.size pos.cells t ≤ liberties n.size n.cells t) (sym state.1)
-    (counts_all pos.size pos.cells (after_on pos c p) t p on off (λ l lib ne. after_liberty pos.size pos.cells c p state.0 t on l lib ne))
+    (counts_all pos.size pos.cells (after_on pos c p) t p on off
+    (λ l lib ne. after_liberty pos.size pos.cells c p state.0 t on l lib ne))
 
 -- the size stays
-pub play_size : (pos : BoardState) (c : Colour) (p : ℕ) (new : BoardState) → play_free pos c p ≡ Ok new → new.size ≡ pos.size
+pub play_size : (pos : BoardState) (c : Colour) (p : ℕ) (new : BoardState) → play_free pos c p ≡ Ok new
+    → new.size ≡ pos.size
 play_size pos c p new e = ap (λ (n : BoardState). n.size) (done_state pos c p new e).1
 
 -- a legal play is one with no regard to the ban
-pub legal_free : (pos : BoardState) (c : Colour) (p : ℕ) (new : BoardState) → play pos c p ≡ Ok new → play_free pos c p ≡ Ok new
+pub legal_free : (pos : BoardState) (c : Colour) (p : ℕ) (new : BoardState) → play pos c p ≡ Ok new
+    → play_free pos c p ≡ Ok new
 legal_free pos c p new e = elim (cases_Bool (is_stone (cell_at pos.cells p))) [
   | inl t ↦ absurd (let w = play_occupied pos c p t ∙ e in cc)
   | inr f ↦ elim (cases_Bool (is_banned pos.ban c p)) [
@@ -152,13 +178,15 @@ legal_free pos c p new e = elim (cases_Bool (is_stone (cell_at pos.cells p))) [
 ]
 
 -- a child comes of a play by the side whose turn it is
-pub child_free : (node : Node) (pos : BoardState) (p : ℕ) (next : Node) (new : BoardState) → IsChild node pos p next new → (left : ℕ) × (play_free pos (mover_of node) p ≡ Ok new) × (next ≡ next_node node left)
+pub child_free : (node : Node) (pos : BoardState) (p : ℕ) (next : Node) (new : BoardState) → IsChild node pos p next new
+    → (left : ℕ) × (play_free pos (mover_of node) p ≡ Ok new) × (next ≡ next_node node left)
 child_free node pos p next new (inl w) = (allowance_of node, legal_free pos (mover_of node) p new w.legal, w.next_is)
 child_free node pos p next new (inr w) = (allowance_of node - 1, w.free, w.next_is)
 
 -- a target with a liberty stands
 pub stands_by_liberties : (pos : BoardState) (t : ℕ) → 0 < liberties pos.size pos.cells t → is_captured pos t ≡ false
-stands_by_liberties pos t h = stone_stands (cell_at pos.cells t) (liberties_some pos.size pos.cells t h).1.beside.1.stone
+stands_by_liberties pos t h =
+    stone_stands (cell_at pos.cells t) (liberties_some pos.size pos.cells t h).1.beside.1.stone
   where
     stone_stands : (k : Cell) → is_stone k ≡ true → same_cell k Empty ≡ false
     stone_stands Empty h = cc
@@ -167,10 +195,14 @@ stands_by_liberties pos t h = stone_stands (cell_at pos.cells t) (liberties_some
 
 -- what outlasts, in numbers
 Outlasts : Bool → ℕ → ℕ → ℕ → Type 0
-Outlasts attacker n k l = cond attacker (((n + 1) / 2 < l) ⊎ (most_by_wide k < l)) ((n / 2 < l) ⊎ (most_by_wide (k - 1) < l))
+Outlasts attacker n k l =
+    cond attacker (((n + 1) / 2 < l) ⊎ (most_by_wide k < l)) ((n / 2 < l) ⊎ (most_by_wide (k - 1) < l))
 
 lt_cases : (a b c d : ℕ) → (ltb a b || ltb c d) ≡ true → (a < b) ⊎ (c < d)
-lt_cases a b c d h = elim (or_cases (ltb a b) (ltb c d) h) [ inl x ↦ inl (ltb-true a b x) | inr y ↦ inr (ltb-true c d y) ]
+lt_cases a b c d h = elim (or_cases (ltb a b) (ltb c d) h) [
+  | inl x ↦ inl (ltb-true a b x)
+  | inr y ↦ inr (ltb-true c d y)
+]
 
 outlasts_attacker : (n k l : ℕ) → outlasts true n k l ≡ true → ((n + 1) / 2 < l) ⊎ (most_by_wide k < l)
 unfolding outlasts
@@ -213,7 +245,8 @@ pass_outlasts n k l h = elim (outlasts_defender (suc n) k l h) [
 ]
 
 -- and after an attacker's play, which leaves one less at least
-play_outlasts : (n k l m : ℕ) → outlasts true (suc n) k l ≡ true → (4 < l → ⊥) → (k ≡ 0 → 2 < l → ⊥) → l ≤ m + 1 → outlasts false n (k - 1) m ≡ true
+play_outlasts : (n k l m : ℕ) → outlasts true (suc n) k l ≡ true → (4 < l → ⊥) → (k ≡ 0 → 2 < l → ⊥) → l ≤ m + 1
+    → outlasts false n (k - 1) m ≡ true
 play_outlasts n k l m h few few_narrow le = elim (outlasts_attacker (suc n) k l h) [
   | inl x ↦ to_defender n (k - 1) m (inl (let y = half_more n l x in omega arith))
   | inr x ↦ to_defender n (k - 1) m (inr (by (eqb k 0) (ltb k 3) refl refl x))
@@ -229,50 +262,71 @@ play_outlasts n k l m h few few_narrow le = elim (outlasts_attacker (suc n) k l 
 
 -- The target outlasts at a node where it does at each child that an attacker's play, or the defender's pass, leads to.
 abbrev Hypothesis : ℕ → Type 0
-Hypothesis n = (next : Node) (new : BoardState) → next.target < new.size * new.size → outlasts next.attacker_to_play n next.wide (liberties new.size new.cells next.target) ≡ true → attacker_wins n next new ≡ false
+Hypothesis n = (next : Node) (new : BoardState) → next.target < new.size * new.size
+    → outlasts next.attacker_to_play n next.wide (liberties new.size new.cells next.target) ≡ true
+    → attacker_wins n next new ≡ false
 
-bounded_attacker : (n : ℕ) (node : Node) (pos : BoardState) → Hypothesis n → node.target < pos.size * pos.size → is_captured pos node.target ≡ false → node.attacker_to_play ≡ true
-    → outlasts true (suc n) node.wide (liberties pos.size pos.cells node.target) ≡ true → attacker_wins (suc n) node pos ≡ false
+bounded_attacker : (n : ℕ) (node : Node) (pos : BoardState) → Hypothesis n → node.target < pos.size * pos.size
+    → is_captured pos node.target ≡ false → node.attacker_to_play ≡ true
+    → outlasts true (suc n) node.wide (liberties pos.size pos.cells node.target) ≡ true
+    → attacker_wins (suc n) node pos ≡ false
 bounded_attacker n node pos ih on stands turn h = elim (cases_Bool (attacker_wins (suc n) node pos)) [
   | inr f ↦ f
   | inl t ↦
       let w = attacker_gives n node pos stands turn (ap (λ m. attacker_wins m node pos) (add-one n) ∙ t) in
       let child = child_free node pos w.1.point w.1.next w.1.new w.1.child in
-      let few : HasManyLiberties pos node.target node.wide → ⊥ = λ many. both_ways (has_many_liberties pos node.target node.wide) w.0 (many_from pos node.target node.wide many) in
+      let few : HasManyLiberties pos node.target node.wide → ⊥ =
+      λ many. both_ways (has_many_liberties pos node.target node.wide) w.0
+      (many_from pos node.target node.wide many) in
       let size = play_size pos (mover_of node) w.1.point w.1.new child.1 in
       let less = play_takes_one pos (mover_of node) w.1.point w.1.new node.target on child.1 in
-      let bound = play_outlasts n node.wide (liberties pos.size pos.cells node.target) (liberties w.1.new.size w.1.new.cells node.target) h (λ l. few (inl l)) (λ e l. few (inr (e, l))) less in
-      let lost = ih (next_node node child.0) w.1.new (subst (λ m. node.target < m * m) (sym size) on) (ap (λ b. outlasts (not b) n (node.wide - 1) (liberties w.1.new.size w.1.new.cells node.target)) turn ∙ bound) in
-      absurd (both_ways (attacker_wins n w.1.next w.1.new) (ap (λ (m : Node). attacker_wins n m w.1.new) child.2 ∙ lost) w.1.wins)
+      let bound = play_outlasts n node.wide (liberties pos.size pos.cells node.target)
+      (liberties w.1.new.size w.1.new.cells node.target) h (λ l. few (inl l)) (λ e l. few (inr (e, l))) less in
+      let lost = ih (next_node node child.0) w.1.new (subst (λ m. node.target < m * m) (sym size) on)
+      (ap (λ b. outlasts (not b) n (node.wide - 1) (liberties w.1.new.size w.1.new.cells node.target)) turn
+      ∙ bound) in
+      absurd (both_ways (attacker_wins n w.1.next w.1.new)
+      (ap (λ (m : Node). attacker_wins n m w.1.new) child.2 ∙ lost) w.1.wins)
 ]
 
-bounded_defender : (n : ℕ) (node : Node) (pos : BoardState) → Hypothesis n → node.target < pos.size * pos.size → is_captured pos node.target ≡ false → node.attacker_to_play ≡ false
-    → outlasts false (suc n) node.wide (liberties pos.size pos.cells node.target) ≡ true → attacker_wins (suc n) node pos ≡ false
+bounded_defender : (n : ℕ) (node : Node) (pos : BoardState) → Hypothesis n → node.target < pos.size * pos.size
+    → is_captured pos node.target ≡ false → node.attacker_to_play ≡ false
+    → outlasts false (suc n) node.wide (liberties pos.size pos.cells node.target) ≡ true
+    → attacker_wins (suc n) node pos ≡ false
 bounded_defender n node pos ih on stands turn h = elim (cases_Bool (attacker_wins (suc n) node pos)) [
   | inr f ↦ f
   | inl t ↦
       let w = defender_gives n node pos stands turn (ap (λ m. attacker_wins m node pos) (add-one n) ∙ t) in
       let bound = pass_outlasts n node.wide (liberties pos.size pos.cells node.target) h in
-      let lost = ih (next_node node (allowance_of node)) (pass pos) on (ap (λ b. outlasts (not b) n (node.wide - 1) (liberties pos.size pos.cells node.target)) turn ∙ bound) in
+      let lost = ih (next_node node (allowance_of node)) (pass pos) on
+      (ap (λ b. outlasts (not b) n (node.wide - 1) (liberties pos.size pos.cells node.target)) turn ∙ bound) in
       absurd (both_ways (attacker_wins n (next_node node (allowance_of node)) (pass pos)) lost w.passed)
 ]
 
 -- with n plies left, a target with too many liberties is not captured
-pub bounded : (n : ℕ) (node : Node) (pos : BoardState) → node.target < pos.size * pos.size → outlasts node.attacker_to_play n node.wide (liberties pos.size pos.cells node.target) ≡ true → attacker_wins n node pos ≡ false
+pub bounded : (n : ℕ) (node : Node) (pos : BoardState) → node.target < pos.size * pos.size
+    → outlasts node.attacker_to_play n node.wide (liberties pos.size pos.cells node.target) ≡ true
+    → attacker_wins n node pos ≡ false
 bounded zero node pos on h =
-    wins-no_plies zero node pos (stands_by_liberties pos node.target (some_liberty node.attacker_to_play zero node.wide (liberties pos.size pos.cells node.target) h)) refl
+    wins-no_plies zero node pos (stands_by_liberties pos node.target
+    (some_liberty node.attacker_to_play zero node.wide (liberties pos.size pos.cells node.target) h)) refl
 bounded (suc n) node pos on h =
-    let stands = stands_by_liberties pos node.target (some_liberty node.attacker_to_play (suc n) node.wide (liberties pos.size pos.cells node.target) h) in
+    let stands = stands_by_liberties pos node.target
+    (some_liberty node.attacker_to_play (suc n) node.wide (liberties pos.size pos.cells node.target) h) in
     elim (cases_Bool node.attacker_to_play) [
-      | inl t ↦ bounded_attacker n node pos (bounded n) on stands t (ap (λ b. outlasts b (suc n) node.wide (liberties pos.size pos.cells node.target)) (sym t) ∙ h)
-      | inr f ↦ bounded_defender n node pos (bounded n) on stands f (ap (λ b. outlasts b (suc n) node.wide (liberties pos.size pos.cells node.target)) (sym f) ∙ h)
+      | inl t ↦ bounded_attacker n node pos (bounded n) on stands t
+          (ap (λ b. outlasts b (suc n) node.wide (liberties pos.size pos.cells node.target)) (sym t) ∙ h)
+      | inr f ↦ bounded_defender n node pos (bounded n) on stands f
+          (ap (λ b. outlasts b (suc n) node.wide (liberties pos.size pos.cells node.target)) (sym f) ∙ h)
     ]
 
 -- a target that the attacker may not play at has too many liberties
-pub many_outlasts : (n : ℕ) (pos : BoardState) (t k : ℕ) → outlasts true n k (liberties pos.size pos.cells t) ≡ false → has_many_liberties pos t k ≡ false
+pub many_outlasts : (n : ℕ) (pos : BoardState) (t k : ℕ) → outlasts true n k (liberties pos.size pos.cells t) ≡ false
+    → has_many_liberties pos t k ≡ false
 many_outlasts n pos t k h = elim (cases_Bool (has_many_liberties pos t k)) [
   | inr f ↦ f
-  | inl m ↦ absurd (both_ways (outlasts true n k (liberties pos.size pos.cells t)) h (to_attacker n k (liberties pos.size pos.cells t) (inr (by (eqb k 0) (ltb k 3) refl (many_gives pos t k m)))))
+  | inl m ↦ absurd (both_ways (outlasts true n k (liberties pos.size pos.cells t)) h
+      (to_attacker n k (liberties pos.size pos.cells t) (inr (by (eqb k 0) (ltb k 3) refl (many_gives pos t k m)))))
 ]
   where
     by : (z w : Bool) → eqb k 0 ≡ z → HasManyLiberties pos t k → cond z 2 (cond w 3 4) < liberties pos.size pos.cells t
@@ -284,22 +338,29 @@ many_outlasts n pos t k h = elim (cases_Bool (has_many_liberties pos t k)) [
 
 -- The same at a turn, on a board of size s.
 module _ (n : ℕ) (turn : Turn) (here : BoardState) (s : ℕ) (size : here.size ≡ s) where
-  counted : (b : Bool) → outlasts turn.attacker_to_play n turn.wide (liberties s here.cells turn.target) ≡ b → outlasts turn.attacker_to_play n turn.wide (liberties here.size here.cells turn.target) ≡ b
+  counted : (b : Bool) → outlasts turn.attacker_to_play n turn.wide (liberties s here.cells turn.target) ≡ b
+      → outlasts turn.attacker_to_play n turn.wide (liberties here.size here.cells turn.target) ≡ b
   counted b h = ap (λ m. outlasts turn.attacker_to_play n turn.wide (liberties m here.cells turn.target)) size ∙ h
 
   -- with too many liberties the attacker does not win under any allowance
-  pub bounded_at : turn.target < s * s → outlasts turn.attacker_to_play n turn.wide (liberties s here.cells turn.target) ≡ true → (ko : Ko) → attacker_wins n (under turn ko) here ≡ false
+  pub bounded_at : turn.target < s * s
+      → outlasts turn.attacker_to_play n turn.wide (liberties s here.cells turn.target) ≡ true → (ko : Ko)
+      → attacker_wins n (under turn ko) here ≡ false
   bounded_at on h ko = bounded n (under turn ko) here (subst (λ m. turn.target < m * m) (sym size) on) (counted true h)
 
   -- with fewer the node is undecided
-  pub undecided_at : is_captured here turn.target ≡ false → outlasts turn.attacker_to_play n turn.wide (liberties s here.cells turn.target) ≡ false → (ko : Ko) → IsUndecided (under turn ko) here
+  pub undecided_at : is_captured here turn.target ≡ false
+      → outlasts turn.attacker_to_play n turn.wide (liberties s here.cells turn.target) ≡ false → (ko : Ko)
+      → IsUndecided (under turn ko) here
   undecided_at stands h ko = record {
     stands = stands;
-    few = λ t. many_outlasts n here turn.target turn.wide (ap (λ b. outlasts b n turn.wide (liberties here.size here.cells turn.target)) (sym t) ∙ counted false h);
+    few = λ t. many_outlasts n here turn.target turn.wide
+        (ap (λ b. outlasts b n turn.wide (liberties here.size here.cells turn.target)) (sym t) ∙ counted false h);
   }
 
 -- where the attacker may not play at the target, it has too many liberties
-pub many_outlast : (n k : ℕ) (pos : BoardState) (t : ℕ) → HasManyLiberties pos t k → outlasts true n k (liberties pos.size pos.cells t) ≡ true
+pub many_outlast : (n k : ℕ) (pos : BoardState) (t : ℕ) → HasManyLiberties pos t k
+    → outlasts true n k (liberties pos.size pos.cells t) ≡ true
 many_outlast n k pos t many = elim (cases_Bool (outlasts true n k (liberties pos.size pos.cells t))) [
   | inl h ↦ h
   | inr f ↦ absurd (both_ways (has_many_liberties pos t k) (many_outlasts n pos t k f) (many_from pos t k many))

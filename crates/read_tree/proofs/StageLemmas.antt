@@ -27,7 +27,8 @@ use Rattle.read_tree.proofs.AllowanceLemmas.{none_of, has-without, success_some,
 use Rattle.read_tree.proofs.LibertyLemmas.{bounded, child_free, play_size, play_takes_none, more_outlasts}
 
 -- a liberty of the target is a candidate
-pub liberty_is_candidate : (here : BoardState) (t k p : ℕ) → is_liberty here.size here.cells t p ≡ true → is_candidate here t k p ≡ true
+pub liberty_is_candidate : (here : BoardState) (t k p : ℕ) → is_liberty here.size here.cells t p ≡ true
+    → is_candidate here t k p ≡ true
 unfolding is_candidate
 liberty_is_candidate here t k p h = or_left _ _ (or_left _ _ (or_left _ _ h))
 
@@ -52,7 +53,8 @@ module _ (n : ℕ) (turn : Turn) (here : BoardState) (points : ℕ → Bool) whe
       → TellsBy n turn here points asked (without asked missing)
   by_over tried asked missing left rest = record {
     asked_for = λ ko h. (and_parts_not _ _ (sym (has-without asked missing ko) ∙ h)).0;
-    given = λ ko h. let parts = and_parts_not _ _ (sym (has-without asked missing ko) ∙ h) in left.given ko parts.0 parts.1;
+    given = λ ko h. let parts = and_parts_not _ _ (sym (has-without asked missing ko) ∙ h) in
+        left.given ko parts.0 parts.1;
     none = λ ko a f q.
         let miss = left_of (has asked ko) (has missing ko) a (sym (has-without asked missing ko) ∙ f) in
         elim (cases_Bool (tried q)) [
@@ -76,7 +78,8 @@ module _ (n : ℕ) (turn : Turn) (here : BoardState) (points : ℕ → Bool) whe
   }
 
   -- the same points by another test
-  pub by_same : (others : ℕ → Bool) (asked found : Allowances) → ((q : ℕ) → points q ≡ others q) → TellsBy n turn here points asked found → TellsBy n turn here others asked found
+  pub by_same : (others : ℕ → Bool) (asked found : Allowances) → ((q : ℕ) → points q ≡ others q)
+      → TellsBy n turn here points asked found → TellsBy n turn here others asked found
   by_same others asked found same t = record {
     asked_for = t.asked_for;
     given = λ ko h. let w = t.given ko h in (w.0, sym (same w.0) ∙ w.1, w.2);
@@ -88,12 +91,16 @@ module _ (n : ℕ) (turn : Turn) (here : BoardState) (asked good : Allowances)
     (first : TellsBy n turn here (is_liberty here.size here.cells turn.target) asked good) where
   -- what a liberty gives is given by a candidate
   by_liberty : (ko : Ko) → has good ko ≡ true → is_some (first_success n (under turn ko) here) ≡ true
-  by_liberty ko h = let w = first.given ko h in success_some n (under turn ko) here w.0 (liberty_is_candidate here turn.target turn.wide w.0 w.1) w.2
+  by_liberty ko h = let w = first.given ko h in
+      success_some n (under turn ko) here w.0 (liberty_is_candidate here turn.target turn.wide w.0 w.1) w.2
 
   -- they left nothing
-  pub stage_done : has_some (without asked good) ≡ false → Tells asked asked (λ ko. is_some (first_success n (under turn ko) here))
+  pub stage_done : has_some (without asked good) ≡ false
+      → Tells asked asked (λ ko. is_some (first_success n (under turn ko) here))
   stage_done none = record {
-    each = λ ko. and_true _ _ (λ a. by_liberty ko (all_good (has asked ko) (has good ko) a (sym (has-without asked good ko) ∙ none_of (without asked good) ko none)));
+    each = λ ko. and_true _ _ (λ a. by_liberty ko
+        (all_good (has asked ko) (has good ko) a (sym (has-without asked good ko)
+        ∙ none_of (without asked good) ko none)));
   }
     where
       all_good : (a g : Bool) → a ≡ true → (a && not g) ≡ false → g ≡ true
@@ -103,12 +110,14 @@ module _ (n : ℕ) (turn : Turn) (here : BoardState) (asked good : Allowances)
 
   -- and then the other candidates
   pub stage_over : (rest : Allowances) → TellsBy n turn here (is_off_liberties turn here) (without asked good) rest
-      → Tells asked (without asked (without (without asked good) rest)) (λ ko. is_some (first_success n (under turn ko) here))
+      → Tells asked (without asked (without (without asked good) rest))
+      (λ ko. is_some (first_success n (under turn ko) here))
   stage_over rest second = record {
     each = λ ko.
         let e = has-without asked good ko in
         has-without asked (without (without asked good) rest) ko
-        ∙ ap (λ x. has asked ko && not x) (has-without (without asked good) rest ko ∙ ap (λ x. x && not (has rest ko)) e)
+        ∙ ap (λ x. has asked ko && not x) (has-without (without asked good) rest ko
+        ∙ ap (λ x. x && not (has rest ko)) e)
         ∙ sorted (has asked ko) (has good ko) (has rest ko) _ (by_liberty ko) (by_other ko)
         (λ a g r. none_at ko a g r (e ∙ left_over (has asked ko) (has good ko) a g));
   }
@@ -134,13 +143,18 @@ module _ (n : ℕ) (turn : Turn) (here : BoardState) (asked good : Allowances)
         | inr f ↦ f
       ]
 
-      none_at : (ko : Ko) → has asked ko ≡ true → has good ko ≡ false → has rest ko ≡ false → has (without asked good) ko ≡ true → is_some (first_success n (under turn ko) here) ≡ false
-      none_at ko a g r left = sym (ap is_some (first_success-none n (under turn ko) here (here.size * here.size) (is_candidate here turn.target turn.wide) (λ q. refl)
-          (λ q below. fails (is_liberty here.size here.cells turn.target q) (is_candidate here turn.target turn.wide q) (succeeds n (under turn ko) here q)
+      none_at : (ko : Ko) → has asked ko ≡ true → has good ko ≡ false → has rest ko ≡ false
+          → has (without asked good) ko ≡ true → is_some (first_success n (under turn ko) here) ≡ false
+      none_at ko a g r left = sym
+          (ap is_some (first_success-none n (under turn ko) here (here.size * here.size)
+          (is_candidate here turn.target turn.wide) (λ q. refl)
+          (λ q below. fails (is_liberty here.size here.cells turn.target q) (is_candidate here turn.target turn.wide q)
+          (succeeds n (under turn ko) here q)
           (first.none ko a g q) (second.none ko left r q))
           (λ q past. off_board q past)))
 
-      sorted : (a g r f : Bool) → (g ≡ true → f ≡ true) → (r ≡ true → f ≡ true) → (a ≡ true → g ≡ false → r ≡ false → f ≡ false)
+      sorted : (a g r f : Bool) → (g ≡ true → f ≡ true) → (r ≡ true → f ≡ true)
+          → (a ≡ true → g ≡ false → r ≡ false → f ≡ false)
           → (a && not ((a && not g) && not r)) ≡ (a && f)
       sorted false g r f hg hr hn = refl
       sorted true true r f hg hr hn = sym (hg refl)
@@ -148,53 +162,70 @@ module _ (n : ℕ) (turn : Turn) (here : BoardState) (asked good : Allowances)
       sorted true false false f hg hr hn = sym (hn refl refl refl)
 
 -- An attacker's play that takes no liberty leaves all of them, which are too many.
-module _ (n : ℕ) (turn : Turn) (here : BoardState) (ko : Ko) (on : turn.target < here.size * here.size) (attacks : turn.attacker_to_play ≡ true)
+module _ (n : ℕ) (turn : Turn) (here : BoardState) (ko : Ko) (on : turn.target < here.size * here.size)
+    (attacks : turn.attacker_to_play ≡ true)
     (many : outlasts false n (turn.wide - 1) (liberties here.size here.cells turn.target) ≡ true) where
   -- so he does not win there
-  lost_at : (p : ℕ) (next : Node) (new : BoardState) → is_liberty here.size here.cells turn.target p ≡ false → child_of (under turn ko) here p ≡ Some (next, new) → attacker_wins n next new ≡ false
+  lost_at : (p : ℕ) (next : Node) (new : BoardState) → is_liberty here.size here.cells turn.target p ≡ false
+      → child_of (under turn ko) here p ≡ Some (next, new) → attacker_wins n next new ≡ false
   lost_at p next new off is =
       let child = child_free (under turn ko) here p next new (child_gives (under turn ko) here p next new is) in
       let size = play_size here (mover_of (under turn ko)) p new child.1 in
       let more = play_takes_none here (mover_of (under turn ko)) p new turn.target on child.1 off in
       let node = next_node (under turn ko) child.0 in
-      let bound = ap (λ b. outlasts (not b) n (turn.wide - 1) (liberties new.size new.cells turn.target)) attacks ∙ more_outlasts n (turn.wide - 1) _ _ many more in
-      ap (λ (m : Node). attacker_wins n m new) child.2 ∙ bounded n node new (subst (λ m. turn.target < m * m) (sym size) on) bound
+      let bound = ap (λ b. outlasts (not b) n (turn.wide - 1) (liberties new.size new.cells turn.target)) attacks
+      ∙ more_outlasts n (turn.wide - 1) _ _ many more in
+      ap (λ (m : Node). attacker_wins n m new) child.2
+      ∙ bounded n node new (subst (λ m. turn.target < m * m) (sym size) on) bound
 
-  pub off_fails : (p : ℕ) → is_liberty here.size here.cells turn.target p ≡ false → succeeds n (under turn ko) here p ≡ false
-  off_fails p off = ap (λ b. suits n b (child_of (under turn ko) here p)) attacks ∙ by (child_of (under turn ko) here p) refl
+  pub off_fails : (p : ℕ) → is_liberty here.size here.cells turn.target p ≡ false
+      → succeeds n (under turn ko) here p ≡ false
+  off_fails p off = ap (λ b. suits n b (child_of (under turn ko) here p)) attacks
+      ∙ by (child_of (under turn ko) here p) refl
     where
-      by : (o : Option (Node × BoardState)) → child_of (under turn ko) here p ≡ o → some_child (attacker_wins n) o ≡ false
+      by : (o : Option (Node × BoardState)) → child_of (under turn ko) here p ≡ o
+          → some_child (attacker_wins n) o ≡ false
       by None is = refl
       by (Some child) is = lost_at p child.0 child.1 off is
 
 -- so none of the other candidates gives him his way
-pub none_other : (n : ℕ) (turn : Turn) (here : BoardState) → turn.target < here.size * here.size → turn.attacker_to_play ≡ true
+pub none_other : (n : ℕ) (turn : Turn) (here : BoardState) → turn.target < here.size * here.size
+    → turn.attacker_to_play ≡ true
     → outlasts false n (turn.wide - 1) (liberties here.size here.cells turn.target) ≡ true
     → (ko : Ko) (q : ℕ) → (is_off_liberties turn here q && succeeds n (under turn ko) here q) ≡ false
 none_other n turn here on attacks many ko q = elim (cases_Bool (is_liberty here.size here.cells turn.target q)) [
-  | inl t ↦ ap (λ b. b && succeeds n (under turn ko) here q) (and_false_right (is_candidate here turn.target turn.wide q) _ (ap not t))
+  | inl t ↦ ap (λ b. b && succeeds n (under turn ko) here q)
+      (and_false_right (is_candidate here turn.target turn.wide q) _ (ap not t))
   | inr f ↦ and_false_right (is_off_liberties turn here q) _ (off_fails n turn here ko on attacks many q f)
 ]
 
 -- the liberties that are known, as a test on the node's position
-pub its_liberty : (s : ℕ) (here : BoardState) (t : ℕ) (known : sets.FinSet nat_cmp) → here.size ≡ s → known ≡ liberty_points s here.cells t
+pub its_liberty : (s : ℕ) (here : BoardState) (t : ℕ) (known : sets.FinSet nat_cmp) → here.size ≡ s
+    → known ≡ liberty_points s here.cells t
     → (q : ℕ) → sets.contains known q ≡ is_liberty here.size here.cells t q
 its_liberty s here t known size is q =
-    ap (λ k. sets.contains k q) is ∙ contains-liberty_points s here.cells t q ∙ ap (λ n. is_liberty n here.cells t q) (sym size)
+    ap (λ k. sets.contains k q) is ∙ contains-liberty_points s here.cells t q
+    ∙ ap (λ n. is_liberty n here.cells t q) (sym size)
 
 -- as many are known as the target has
-pub its_count : (s : ℕ) (here : BoardState) (t : ℕ) (known : sets.FinSet nat_cmp) → here.size ≡ s → known ≡ liberty_points s here.cells t
+pub its_count : (s : ℕ) (here : BoardState) (t : ℕ) (known : sets.FinSet nat_cmp) → here.size ≡ s
+    → known ≡ liberty_points s here.cells t
     → sets.len known ≡ liberties here.size here.cells t
-its_count s here t known size is = ap sets.len is ∙ len-liberty_points s here.cells t ∙ ap (λ n. liberties n here.cells t) (sym size)
+its_count s here t known size is =
+    ap sets.len is ∙ len-liberty_points s here.cells t ∙ ap (λ n. liberties n here.cells t) (sym size)
 
 -- what is known is on the board
-pub known_inside : (s : ℕ) (cells : List Cell) (t p : ℕ) (known : sets.FinSet nat_cmp) → known ≡ liberty_points s cells t → sets.contains known p ≡ true → p < s * s
+pub known_inside : (s : ℕ) (cells : List Cell) (t p : ℕ) (known : sets.FinSet nat_cmp)
+    → known ≡ liberty_points s cells t → sets.contains known p ≡ true → p < s * s
 known_inside s cells t p known is has =
-    (IsLiberty-from_test s cells t p (sym (ap (λ k. sets.contains k p) is ∙ contains-liberty_points s cells t p) ∙ has)).on_board
+    (IsLiberty-from_test s cells t p (sym (ap (λ k. sets.contains k p) is ∙ contains-liberty_points s cells t p)
+    ∙ has)).on_board
 
 -- what is apart from the known liberties is a candidate off the liberties
-pub off_is : (turn : Turn) (here : BoardState) (known : sets.FinSet nat_cmp) (x y : Bool) (q : ℕ) → y ≡ is_candidate here turn.target turn.wide q
-    → sets.contains known q ≡ is_liberty here.size here.cells turn.target q → x ≡ (y && not (sets.contains known q)) → x ≡ is_off_liberties turn here q
+pub off_is : (turn : Turn) (here : BoardState) (known : sets.FinSet nat_cmp) (x y : Bool) (q : ℕ)
+    → y ≡ is_candidate here turn.target turn.wide q
+    → sets.contains known q ≡ is_liberty here.size here.cells turn.target q → x ≡ (y && not (sets.contains known q))
+    → x ≡ is_off_liberties turn here q
 off_is turn here known x y q ey el ex =
     ex ∙ ap (λ b. b && not (sets.contains known q)) ey ∙ ap (λ b. is_candidate here turn.target turn.wide q && not b) el
 
@@ -204,36 +235,45 @@ PassedBelow test n found = (x : ℕ) → sets.contains found x ≡ (ltb x n && t
 
 -- none is below 0
 pub none_apart : (found : sets.FinSet nat_cmp) (test : ℕ → Bool) → found ≡ sets.empty → PassedBelow test 0 found
-none_apart found test is x = ap (λ k. sets.contains k x) is ∙ sets.contains-empty nat_cmp x ∙ sym (ap (λ b. b && test x) (le-ltb x 0 (omega arith)))
+none_apart found test is x =
+    ap (λ k. sets.contains k x) is ∙ sets.contains-empty nat_cmp x
+    ∙ sym (ap (λ b. b && test x) (le-ltb x 0 (omega arith)))
 
 -- a number below p + 1 is below the bound, between, or p
-below_next : (test : ℕ → Bool) (n p x : ℕ) → n ≤ p → ((k : ℕ) → n ≤ k → k < p → test k ≡ false) → (x ≡ p → ⊥) → (ltb x n && test x) ≡ (ltb x (p + 1) && test x)
+below_next : (test : ℕ → Bool) (n p x : ℕ) → n ≤ p → ((k : ℕ) → n ≤ k → k < p → test k ≡ false) → (x ≡ p → ⊥)
+    → (ltb x n && test x) ≡ (ltb x (p + 1) && test x)
 below_next test n p x up none ne = elim (cases_lt x n) [
   | inl l ↦ ap (λ b. b && test x) (lt-ltb x n l ∙ sym (lt-ltb x (p + 1) (omega (arith, l, up))))
   | inr g ↦ elim (cases_lt x p) [
-    | inl l ↦ and_false_right (ltb x n) (test x) (none x g l) ∙ sym (and_false_right (ltb x (p + 1)) (test x) (none x g l))
+    | inl l ↦ and_false_right (ltb x n) (test x) (none x g l)
+        ∙ sym (and_false_right (ltb x (p + 1)) (test x) (none x g l))
     | inr h ↦ ap (λ b. b && test x) (le-ltb x n g ∙ sym (le-ltb x (p + 1) (omega (arith, h, ne))))
   ]
 ]
 
 -- p passes and came
 pub added_apart : (test : ℕ → Bool) (n p : ℕ) (found new : sets.FinSet nat_cmp) → PassedBelow test n found → n ≤ p
-    → ((k : ℕ) → n ≤ k → k < p → test k ≡ false) → test p ≡ true → new ≡ sets.insert found p → PassedBelow test (p + 1) new
-added_apart test n p found new h up none passes is x = ap (λ k. sets.contains k x) is ∙ contains-insert_nat found p x ∙ elim (cases_eq x p) [
-  | inl e ↦ or_left _ _ (eq-eqb x p e) ∙ sym (and_from _ _ (lt-ltb x (p + 1) (omega (arith, e))) (ap test e ∙ passes))
-  | inr ne ↦ ap (λ b. b || sets.contains found x) (ne_eqb x p ne) ∙ h x ∙ below_next test n p x up none ne
-]
+    → ((k : ℕ) → n ≤ k → k < p → test k ≡ false) → test p ≡ true → new ≡ sets.insert found p
+    → PassedBelow test (p + 1) new
+added_apart test n p found new h up none passes is x =
+    ap (λ k. sets.contains k x) is ∙ contains-insert_nat found p x ∙ elim (cases_eq x p) [
+      | inl e ↦ or_left _ _ (eq-eqb x p e) ∙ sym
+          (and_from _ _ (lt-ltb x (p + 1) (omega (arith, e))) (ap test e ∙ passes))
+      | inr ne ↦ ap (λ b. b || sets.contains found x) (ne_eqb x p ne) ∙ h x ∙ below_next test n p x up none ne
+    ]
 
 -- p fails
 pub skipped_apart : (test : ℕ → Bool) (n p : ℕ) (found : sets.FinSet nat_cmp) → PassedBelow test n found → n ≤ p
     → ((k : ℕ) → n ≤ k → k < p → test k ≡ false) → test p ≡ false → PassedBelow test (p + 1) found
 skipped_apart test n p found h up none fails x = h x ∙ elim (cases_eq x p) [
-  | inl e ↦ and_false_right (ltb x n) (test x) (ap test e ∙ fails) ∙ sym (and_false_right (ltb x (p + 1)) (test x) (ap test e ∙ fails))
+  | inl e ↦ and_false_right (ltb x n) (test x) (ap test e ∙ fails)
+      ∙ sym (and_false_right (ltb x (p + 1)) (test x) (ap test e ∙ fails))
   | inr ne ↦ below_next test n p x up none ne
 ]
 
 -- from the bound on none passes
-pub all_apart : (test : ℕ → Bool) (n : ℕ) (found : sets.FinSet nat_cmp) → PassedBelow test n found → ((k : ℕ) → n ≤ k → test k ≡ false) → (x : ℕ) → sets.contains found x ≡ test x
+pub all_apart : (test : ℕ → Bool) (n : ℕ) (found : sets.FinSet nat_cmp) → PassedBelow test n found
+    → ((k : ℕ) → n ≤ k → test k ≡ false) → (x : ℕ) → sets.contains found x ≡ test x
 all_apart test n found h none x = h x ∙ elim (cases_lt x n) [
   | inl l ↦ ap (λ b. b && test x) (lt-ltb x n l)
   | inr g ↦ and_false_right (ltb x n) (test x) (none x g) ∙ sym (none x g)

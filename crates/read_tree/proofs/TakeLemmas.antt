@@ -38,16 +38,19 @@ use Rattle.read_rules.proofs.WinLemmas.{wins-captured}
 abbrev IsWhole : BoardState → Type 0
 IsWhole pos = length pos.cells ≡ pos.size * pos.size
 
-whole_given : (pos : BoardState) (r : Result BoardState Illegal) → ((new : BoardState) → r ≡ Ok new → IsWhole new) → IsWhole pos → IsWhole (given pos r)
+whole_given : (pos : BoardState) (r : Result BoardState Illegal) → ((new : BoardState) → r ≡ Ok new → IsWhole new)
+    → IsWhole pos → IsWhole (given pos r)
 whole_given pos (Ok new) h w = h new refl
 whole_given pos (Err e) h w = w
 
 whole_free : (pos : BoardState) (c : Colour) (p : ℕ) (new : BoardState) → play_free pos c p ≡ Ok new → IsWhole new
 whole_free pos c p new e = subst IsWhole (sym (done_state pos c p new e).1) (length_after pos.size (put_on pos c p) c)
 
-whole_play : (pos : BoardState) (c : Colour) (p : ℕ) (dropped : Bool) → IsWhole pos → IsWhole (given pos (cond dropped (play_free pos c p) (play pos c p)))
+whole_play : (pos : BoardState) (c : Colour) (p : ℕ) (dropped : Bool) → IsWhole pos
+    → IsWhole (given pos (cond dropped (play_free pos c p) (play pos c p)))
 whole_play pos c p true w = whole_given pos (play_free pos c p) (whole_free pos c p) w
-whole_play pos c p false w = whole_given pos (play pos c p) (λ new e. whole_free pos c p new (legal_free pos c p new e)) w
+whole_play pos c p false w =
+    whole_given pos (play pos c p) (λ new e. whole_free pos c p new (legal_free pos c p new e)) w
 
 pub whole_after : (pos : BoardState) (ms : List TrialMove) → IsWhole pos → IsWhole (after pos ms)
 whole_after pos [] w = w
@@ -59,7 +62,8 @@ not_empty black e = cc
 not_empty white e = cc
 
 -- The string of t, an enemy of c, has the only liberty l.
-module _ (s : ℕ) (cells : List Cell) (c : Colour) (l t : ℕ) (whole : length cells ≡ s * s) (on : t < s * s) (enemy : cell_at cells t ≡ stone_of (other c))
+module _ (s : ℕ) (cells : List Cell) (c : Colour) (l t : ℕ) (whole : length cells ≡ s * s) (on : t < s * s)
+    (enemy : cell_at cells t ≡ stone_of (other c))
     (lib : IsLiberty s cells t l) (only : (x : ℕ) → IsLiberty s cells t x → x ≡ l) where
   abbrev put : List Cell
   put = set cells l (stone_of c)
@@ -77,13 +81,22 @@ module _ (s : ℕ) (cells : List Cell) (c : Colour) (l t : ℕ) (whole : length 
   -- its string has no liberty once the stone is put
   dead : (x : ℕ) → IsLiberty s put t x → ⊥
   dead x h =
-      let back : (y : ℕ) → Path s put t y → y ≢ l = λ y path e. enemy_differs c (sym put_target ∙ sym (path_same s put t path) ∙ ap (cell_at put) e ∙ put_at) in
-      let same : (y : ℕ) → Path s put t y → cell_at cells y ≡ cell_at put y = λ y path. sym (at_put_other cells l y (stone_of c) (back y path)) in
+      let back : (y : ℕ) → Path s put t y → y ≢ l =
+      λ y path e. enemy_differs c (sym put_target ∙ sym (path_same s put t path) ∙ ap (cell_at put) e ∙ put_at) in
+      let same : (y : ℕ) → Path s put t y → cell_at cells y ≡ cell_at put y =
+      λ y path. sym (at_put_other cells l y (stone_of c) (back y path)) in
       let off : x ≢ l = λ e. not_empty c (sym put_at ∙ ap (cell_at put) (sym e) ∙ h.is_empty) in
       off (only x (record {
         on_board = h.on_board;
         is_empty = sym (at_put_other cells l x (stone_of c) off) ∙ h.is_empty;
-        beside = (h.beside.0, record { stone = ap is_stone (same t start) ∙ h.beside.1.stone; path = path_keeps s put cells t same h.beside.1.path }, h.beside.2);
+        beside = (
+          h.beside.0,
+          record {
+            stone = ap is_stone (same t start) ∙ h.beside.1.stone;
+            path = path_keeps s put cells t same h.beside.1.path;
+          },
+          h.beside.2,
+        );
       }))
 
   taken : is_taken s put c t ≡ true
@@ -101,12 +114,18 @@ module _ (s : ℕ) (cells : List Cell) (c : Colour) (l t : ℕ) (whole : length 
   stone_lives z =
       let q = lib.beside.0 in
       let inside = lib.beside.1 in
-      let path = path_keeps s cells put t (λ y path. at_put_other cells l y (stone_of c) (apart y (path_same s cells t path ∙ enemy))) inside.path in
-      let stands = at_after s put c l lib.on_board ∙ ap (λ b. cond b Empty (cell_at put l)) (own_not_taken s put c l put_at) ∙ put_at in
+      let path = path_keeps s cells put t (λ y path.
+      at_put_other cells l y (stone_of c) (apart y (path_same s cells t path ∙ enemy))) inside.path in
+      let stands = at_after s put c l lib.on_board
+      ∙ ap (λ b. cond b Empty (cell_at put l)) (own_not_taken s put c l put_at) ∙ put_at in
       let some = liberties_from s (cells_after s put c) l q lib.on_board (record {
         on_board = path_on_board s put t on path;
         is_empty = gone q (path_on_board s put t on path) (taken_whole s put c t q on taken path);
-        beside = (l, record { stone = ap is_stone stands ∙ stone_is c; path = start }, are_neighbours_comm s l q ∙ lib.beside.2);
+        beside = (
+          l,
+          record { stone = ap is_stone stands ∙ stone_is c; path = start },
+          are_neighbours_comm s l q ∙ lib.beside.2,
+        );
       }) in
       omega arith
 
@@ -115,14 +134,16 @@ other_twice : (c : Colour) → other (other c) ≡ c
 other_twice black = refl
 other_twice white = refl
 
-pub take_wins : (n : ℕ) (turn : Turn) (here : BoardState) → IsWhole here → turn.target < here.size * here.size → has_many_liberties here turn.target turn.wide ≡ false → IsTaken turn here → (ko : Ko)
+pub take_wins : (n : ℕ) (turn : Turn) (here : BoardState) → IsWhole here → turn.target < here.size * here.size
+    → has_many_liberties here turn.target turn.wide ≡ false → IsTaken turn here → (ko : Ko)
     → attacker_wins (suc n) (under turn ko) here ≡ true
 take_wins n turn here whole on few t ko =
     let s = here.size in
     let c = other turn.defender in
     let enemy = t.enemy ∙ ap stone_of (sym (other_twice turn.defender)) in
     let lib = IsLiberty-from_test s here.cells turn.target t.l t.liberty in
-    let only : (x : ℕ) → IsLiberty s here.cells turn.target x → x ≡ t.l = λ x h. t.only x (is_liberty-from_fact s here.cells turn.target x on h) in
+    let only : (x : ℕ) → IsLiberty s here.cells turn.target x → x ≡ t.l =
+    λ x h. t.only x (is_liberty-from_fact s here.cells turn.target x on h) in
     let vacant = ap is_stone lib.is_empty in
     let free = sym (free_done here c t.l vacant (stone_lives s here.cells c t.l turn.target whole on enemy lib only)) in
     let legal = sym (play_else here c t.l vacant t.free) ∙ free in
@@ -130,7 +151,8 @@ take_wins n turn here whole on few t ko =
     let gone = same_cell-from _ _ (target_gone s here.cells c t.l turn.target whole on enemy lib only) in
     let stands = stands_by (cell_at here.cells turn.target) turn.defender t.enemy in
     let mover = ap (λ b. cond b (other turn.defender) turn.defender) t.attacks in
-    sym (ap (λ m. attacker_wins m (under turn ko) here) (add-one n)) ∙ attacker_from n (under turn ko) here stands t.attacks (
+    sym (ap (λ m. attacker_wins m (under turn ko) here) (add-one n))
+    ∙ attacker_from n (under turn ko) here stands t.attacks (
       few,
       record {
         point = t.l;
@@ -147,13 +169,17 @@ take_wins n turn here whole on few t ko =
     stands_by cell white e = ap (λ k. same_cell k Empty) e
 
 -- a set of liberties of the target, and the target, are near it
-pub near_liberty : (s : ℕ) (cells : List Cell) (t p : ℕ) (found : sets.FinSet nat_cmp) → t < s * s → found ≡ liberty_points s cells t → (alone t p || sets.contains found p) ≡ true → neighbourhood_of s cells (alone t) p ≡ true
+pub near_liberty : (s : ℕ) (cells : List Cell) (t p : ℕ) (found : sets.FinSet nat_cmp) → t < s * s
+    → found ≡ liberty_points s cells t → (alone t p || sets.contains found p) ≡ true
+    → neighbourhood_of s cells (alone t) p ≡ true
 unfolding liberty_points
 near_liberty s cells t p found on e h = elim (or_cases (alone t p) (sets.contains found p) h) [
   | inl self ↦ close_alone s cells t p on self
   | inr there ↦
-      let test = (and_parts _ _ (sym (contains-set_below (s * s) (is_liberty s cells t) p) ∙ ap (λ x. sets.contains x p) (sym e) ∙ there)).1 in
+      let test = (and_parts _ _ (sym (contains-set_below (s * s) (is_liberty s cells t) p)
+      ∙ ap (λ x. sets.contains x p) (sym e) ∙ there)).1 in
       let lib = IsLiberty-from_test s cells t p test in
       close_around s cells t lib.beside.0 p on lib.beside.1.stone lib.beside.1.path
-      (and_from _ _ (lt-ltb p (s * s) lib.on_board) (or_right (eqb p lib.beside.0) (are_neighbours s lib.beside.0 p) lib.beside.2))
+      (and_from _ _ (lt-ltb p (s * s) lib.on_board)
+      (or_right (eqb p lib.beside.0) (are_neighbours s lib.beside.0 p) lib.beside.2))
 ]

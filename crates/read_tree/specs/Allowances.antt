@@ -52,7 +52,12 @@ mover_on turn = if turn.attacker_to_play then other turn.defender else turn.defe
 
 -- the turn after a move
 abbrev pub next_turn : Turn → Turn
-next_turn turn = record { target = turn.target; defender = turn.defender; attacker_to_play = not turn.attacker_to_play; wide = turn.wide - 1 }
+next_turn turn = record {
+  target = turn.target;
+  defender = turn.defender;
+  attacker_to_play = not turn.attacker_to_play;
+  wide = turn.wide - 1;
+}
 
 -- there are some
 abbrev pub has_some : Allowances → Bool
@@ -60,14 +65,18 @@ has_some set = set.defender || set.neither || set.attacker
 
 -- those that are not in the other set
 abbrev pub without : Allowances → Allowances → Allowances
-without a b = record { defender = a.defender && not b.defender; neither = a.neither && not b.neither; attacker = a.attacker && not b.attacker }
+without a b = record {
+  defender = a.defender && not b.defender;
+  neither = a.neither && not b.neither;
+  attacker = a.attacker && not b.attacker;
+}
 
 -- the allowance of the attacker, or else of the defender, where it is to be there
 abbrev pub own_where : Bool → Bool → Allowances
 own_where attacker there = record { defender = not attacker && there; neither = false; attacker = attacker && there }
 
--- the allowance of a code from 1 to 3, for a question of this kind: under code 3 the other side may ignore the ban, under
--- code 1 the side that is asked about
+-- the allowance of a code from 1 to 3, for a question of this kind: under code 3 the other side may ignore the ban,
+-- under code 1 the side that is asked about
 abbrev pub ko_of : Bool → ℕ → Ko
 ko_of attack code = if nat_lt 2 code then own_ko (not attack) else if nat_lt 1 code then neither_may else own_ko attack
 
@@ -81,7 +90,8 @@ codes_above code attack = record {
 
 -- the greatest code whose allowance is in the set, or else this one
 abbrev pub best_code : Allowances → ℕ → Bool → ℕ
-best_code set code attack = if has set (own_ko (not attack)) then 3 else if set.neither then 2 else if has set (own_ko attack) then 1 else code
+best_code set code attack =
+    if has set (own_ko (not attack)) then 3 else if set.neither then 2 else if has set (own_ko attack) then 1 else code
 
 -- found has exactly those of the asked that pass the test
 pub record Tells (asked found : Allowances) (test : Ko → Bool) : Type 0 where

@@ -30,10 +30,12 @@ tail_if Not moves = moves
 tail_if Legal moves = tail moves
 tail_if Allowed moves = tail moves
 
--- where the play at p leads from here, under each allowance: nowhere; to new, and the allowance is kept; or the mover's own
--- allowance alone lets it be played, is spent, and it leads to new. Where the own allowance is not asked for, nothing is said of it
+-- where the play at p leads from here, under each allowance: nowhere; to new, and the allowance is kept; or the mover's
+-- own allowance alone lets it be played, is spent, and it leads to new. Where the own allowance is not asked for,
+-- nothing is said of it
 abbrev pub Makes : Made → Turn → Bool → BoardState → ℕ → BoardState → Type 0
-Makes Not turn own here p new = (ko : Ko) → (ko ≡ own_ko turn.attacker_to_play → own ≡ true) → child_of (under turn ko) here p ≡ None
+Makes Not turn own here p new = (ko : Ko) → (ko ≡ own_ko turn.attacker_to_play → own ≡ true)
+    → child_of (under turn ko) here p ≡ None
 Makes Legal turn own here p new = (ko : Ko) → child_of (under turn ko) here p ≡ Some (under (next_turn turn) ko, new)
 Makes Allowed turn own here p new =
     (child_of (under turn (own_ko turn.attacker_to_play)) here p ≡ Some (under (next_turn turn) neither_may, new))
@@ -44,7 +46,8 @@ abbrev pub has_way : Bool → Bool → Bool
 has_way attacker won = if attacker then won else not won
 
 -- under each of the asked allowances the node is one of the trees of the question
-pub record AreNodesOf (q : ReadingQuestion) (root : BoardState) (n : ℕ) (turn : Turn) (asked : Allowances) (here : BoardState) : Type 0 where
+pub record AreNodesOf (q : ReadingQuestion) (root : BoardState) (n : ℕ) (turn : Turn) (asked : Allowances)
+    (here : BoardState) : Type 0 where
   pub each : (ko : Ko) → has asked ko ≡ true → IsNodeOf q root n (under turn ko) here
 
 -- the first turn of a question
@@ -57,19 +60,23 @@ unread attack = if attack then record { code = 0; at = None } else record { code
 
 -- the best answer so far, or the move, where it has its way under some of the allowances above the best so far
 abbrev pub better : Answer → Bool → Allowances → Spot → Answer
-better best attack good spot = if has_some good then record { code = best_code good best.code attack; at = Some spot } else best
+better best attack good spot =
+    if has_some good then record { code = best_code good best.code attack; at = Some spot } else best
 
 -- the node under the allowance of a code
 abbrev pub node_of : Turn → ℕ → Node
 node_of turn code = under turn (ko_of turn.attacker_to_play code)
 
--- the best of the pass and of the candidates that were tried: no greater code is attained by them, and its move is the first
+-- the best of the pass and of the candidates that were tried: no greater code is attained by them, and its move is the
+-- first
 pub record IsBest (n : ℕ) (turn : Turn) (here : BoardState) (tried : ℕ → Bool) (best : Answer) : Type 0 where
   pub bounded : best.code ≤ 3
   pub no_pass : (code : ℕ) → best.code < code → code ≤ 3 → pass_saves n (node_of turn code) here ≡ false
-  pub no_point : (code : ℕ) → best.code < code → code ≤ 3 → (q : ℕ) → (tried q && succeeds n (node_of turn code) here q) ≡ false
+  pub no_point : (code : ℕ) → best.code < code → code ≤ 3 → (q : ℕ)
+      → (tried q && succeeds n (node_of turn code) here q) ≡ false
   pub no_move : best.code ≡ 0 → best.at ≡ None
-  pub move : best.code ≢ 0 → (spot : Spot) × (best.at ≡ Some spot) × (Some spot ≡ first_move n (node_of turn best.code) here)
+  pub move : best.code ≢ 0 → (spot : Spot) × (best.at ≡ Some spot)
+      × (Some spot ≡ first_move n (node_of turn best.code) here)
 
 -- what is missing of the asked: no candidate that was tried gives it, and the rest each is given by one
 pub record IsLeft (n : ℕ) (turn : Turn) (here : BoardState) (candidate tried : ℕ → Bool) (asked missing : Allowances)
@@ -77,7 +84,8 @@ pub record IsLeft (n : ℕ) (turn : Turn) (here : BoardState) (candidate tried :
   pub asked_for : (ko : Ko) → has missing ko ≡ true → has asked ko ≡ true
   pub none : (ko : Ko) → has missing ko ≡ true → (q : ℕ) → tried q ≡ true → (candidate q && succeeds n (under turn ko)
       here q) ≡ false
-  pub given : (ko : Ko) → has asked ko ≡ true → has missing ko ≡ false → (q : ℕ) × (candidate q ≡ true) × (succeeds n (under turn ko) here q ≡ true)
+  pub given : (ko : Ko) → has asked ko ≡ true → has missing ko ≡ false
+      → (q : ℕ) × (candidate q ≡ true) × (succeeds n (under turn ko) here q ≡ true)
 
 -- the outlook is that the target is safe
 abbrev pub is_safe : Outlook → Bool
@@ -85,7 +93,8 @@ is_safe Safe = true
 is_safe Taken = false
 is_safe Open = false
 
--- it is the attacker's turn, l is the only liberty of the target, which is of the defender's colour, and the ban lets him play there
+-- it is the attacker's turn, l is the only liberty of the target, which is of the defender's colour, and the ban lets
+-- him play there
 pub record IsTaken (turn : Turn) (here : BoardState) : Type 0 where
   pub attacks : turn.attacker_to_play ≡ true
   pub enemy : cell_at here.cells turn.target ≡ stone_of turn.defender
@@ -94,18 +103,22 @@ pub record IsTaken (turn : Turn) (here : BoardState) : Type 0 where
   pub only : (x : ℕ) → is_liberty here.size here.cells turn.target x ≡ true → x ≡ l
   pub free : is_banned here.ban (other turn.defender) l ≡ false
 
--- found has those of the asked under which some point that passes the test gives the side to play its way: each is given by one,
--- and under the others none does
-pub record TellsBy (n : ℕ) (turn : Turn) (here : BoardState) (points : ℕ → Bool) (asked found : Allowances) : Type 0 where
+-- found has those of the asked under which some point that passes the test gives the side to play its way: each is
+-- given by one, and under the others none does
+pub record TellsBy (n : ℕ) (turn : Turn) (here : BoardState) (points : ℕ
+    → Bool) (asked found : Allowances) : Type 0 where
   pub asked_for : (ko : Ko) → has found ko ≡ true → has asked ko ≡ true
   pub given : (ko : Ko) → has found ko ≡ true → (q : ℕ) × (points q ≡ true) × (succeeds n (under turn ko) here q ≡ true)
-  pub none : (ko : Ko) → has asked ko ≡ true → has found ko ≡ false → (q : ℕ) → (points q && succeeds n (under turn ko) here q) ≡ false
+  pub none : (ko : Ko) → has asked ko ≡ true → has found ko ≡ false → (q : ℕ)
+      → (points q && succeeds n (under turn ko) here q) ≡ false
 
 -- p is a candidate at the turn's node, but no liberty of the target
 abbrev pub is_off_liberties : Turn → BoardState → ℕ → Bool
-is_off_liberties turn here p = is_candidate here turn.target turn.wide p && not (is_liberty here.size here.cells turn.target p)
+is_off_liberties turn here p =
+    is_candidate here turn.target turn.wide p && not (is_liberty here.size here.cells turn.target p)
 
--- the attacker is to play, the target holds a defender's stone after the play at p, and next is what was known but for p
+-- the attacker is to play, the target holds a defender's stone after the play at p, and next is what was known but for
+-- p
 pub record IsCarried (turn : Turn) (new : BoardState) (p : ℕ) (known next : set.FinSet nat_cmp) : Type 0 where
   pub attacks : turn.attacker_to_play ≡ true
   pub enemy : cell_at new.cells turn.target ≡ stone_of turn.defender

@@ -55,7 +55,8 @@ fn better(best: Answer, attack: bool, good: Allowances, spot: Spot) -> Answer
     }
 }
 
-/// The answer by the candidates in reading order, from the best answer so far: each is asked only for the codes above the best.
+/// The answer by the candidates in reading order, from the best answer so far: each is asked only for the codes above
+/// the best.
 fn best_point<L: Look>(
     board: &mut Trial<L>,
     turn: Turn,
@@ -77,9 +78,14 @@ fn best_point<L: Look>(
     ensures on_board { IfSome result.at (IsOnBoard (L.shows board.old.look).size) }
     ensures over { (pos : BoardState) → Agrees (L.seen board.new.look) pos
         → IsBest plies turn (after pos board.old.moves) nowhere first
-        → IsBest plies turn (after pos board.old.moves) (is_candidate (after pos board.old.moves) turn.target turn.wide) result }
+        → IsBest plies turn (after pos board.old.moves)
+        (is_candidate (after pos board.old.moves) turn.target turn.wide) result }
     ensures near { (pos : BoardState) → Agrees (L.seen board.new.look) pos → (q : ReadingQuestion) (root : BoardState)
-        → AreNodesOf q root (suc plies) turn (record { defender = true; neither = true; attacker = true }) (after pos board.old.moves)
+        → AreNodesOf q root (suc plies) turn (record {
+          defender = true;
+          neither = true;
+          attacker = true;
+        }) (after pos board.old.moves)
         → ((ko : Ko) → IsUndecided (under turn ko) (after pos board.old.moves))
         → AddsNear (L.seen board.old.look) (L.seen board.new.look) (InActiveArea q root) }
 {
@@ -122,13 +128,19 @@ fn read<L: Look>(board: &mut Trial<L>, question: &ReadingQuestion) -> Answer
     ensures none { IsNone result.at ↔ (result.code ≡ 0) }
     ensures on_board { IfSome result.at (IsOnBoard (L.shows board.old.look).size) }
     ensures too_many { IsTrue (outlasts (is_attack question.now.kind) question.now.plies question.now.wide
-        (liberties (L.shows board.old.look).size (after (L.shows board.old.look) board.old.moves).cells question.now.target))
-        → (result ≡ unread (is_attack question.now.kind)) × (board.new.count ≡ board.old.count) × AddsIn (L.seen board.old.look) (L.seen board.new.look)
-        (neighbourhood_of (L.shows board.old.look).size (after (L.shows board.old.look) board.old.moves).cells (alone question.now.target)) }
-    ensures over { (pos : BoardState) → Agrees (L.seen board.new.look) pos → is_about question.now (after pos board.old.moves) ≡ true
+        (liberties (L.shows board.old.look).size (after (L.shows board.old.look) board.old.moves).cells
+        question.now.target))
+        → (result ≡ unread (is_attack question.now.kind)) × (board.new.count ≡ board.old.count)
+        × AddsIn (L.seen board.old.look) (L.seen board.new.look)
+        (neighbourhood_of (L.shows board.old.look).size (after (L.shows board.old.look) board.old.moves).cells
+        (alone question.now.target)) }
+    ensures over { (pos : BoardState) → Agrees (L.seen board.new.look) pos
+        → is_about question.now (after pos board.old.moves) ≡ true
         → result ≡ answer_of question.now (after pos board.old.moves) }
-    ensures near { (pos : BoardState) → Agrees (L.seen board.new.look) pos → is_about question.now (after pos board.old.moves) ≡ true
-        → AddsNear (L.seen board.old.look) (L.seen board.new.look) (InActiveArea question.now (after pos board.old.moves)) }
+    ensures near { (pos : BoardState) → Agrees (L.seen board.new.look) pos
+        → is_about question.now (after pos board.old.moves) ≡ true
+        → AddsNear (L.seen board.old.look) (L.seen board.new.look)
+        (InActiveArea question.now (after pos board.old.moves)) }
 {
     let turn = first_turn(question);
     let plies = question.plies - 1;
@@ -173,11 +185,14 @@ fn answered<L: Look>(look: L, kind: Kind, target: Point, depths: Depths) -> Told
     ensures on_board { IfSome result.answer.at (IsOnBoard (L.shows look).size) }
     ensures over { (pos : BoardState) → Agrees (L.seen result.look) pos
         → result.answer ≡ answer_of (asked_on (L.shows look) kind target depths.plies depths.wide) pos }
-    ensures too_many { IsTrue (outlasts (is_attack kind) depths.plies depths.wide (liberties (L.shows look).size (L.shows look).cells target))
+    ensures too_many { IsTrue (outlasts (is_attack kind) depths.plies depths.wide
+        (liberties (L.shows look).size (L.shows look).cells target))
         → (result.answer ≡ unread (is_attack kind)) × (result.trials ≡ 0)
-        × AddsIn (L.seen look) (L.seen result.look) (neighbourhood_of (L.shows look).size (L.shows look).cells (alone target)) }
+        × AddsIn (L.seen look) (L.seen result.look)
+        (neighbourhood_of (L.shows look).size (L.shows look).cells (alone target)) }
     ensures near { (pos : BoardState) → Agrees (L.seen result.look) pos
-        → AddsNear (L.seen look) (L.seen result.look) (InActiveArea (asked_on (L.shows look) kind target depths.plies depths.wide) pos) }
+        → AddsNear (L.seen look) (L.seen result.look)
+        (InActiveArea (asked_on (L.shows look) kind target depths.plies depths.wide) pos) }
 {
     let mut view = look;
     let colour = colour_of(view.cell(target));
@@ -201,8 +216,9 @@ fn answered<L: Look>(look: L, kind: Kind, target: Point, depths: Depths) -> Told
 
 /// Reads whether the string at `target` can be captured when the attacker plays first.
 ///
-/// The code is 3 where it is captured even if the defender may ignore the ko ban once, 2 where neither side may, 1 where the
-/// attacker may once, and 0 otherwise. The move is the first in reading order that attains the code. Takes no memory.
+/// The code is 3 where it is captured even if the defender may ignore the ko ban once, 2 where neither side may, 1
+/// where the attacker may once, and 0 otherwise. The move is the first in reading order that attains the code. Takes no
+/// memory.
 ///
 /// After GNU Go Manual, "Tactical reading", on return codes; the tree itself is this project's own.
 pub fn attack<L: Look>(look: L, target: Point, depths: Depths) -> Told<L>
@@ -215,29 +231,34 @@ pub fn attack<L: Look>(look: L, target: Point, depths: Depths) -> Told<L>
     ensures none { IsNone result.answer.at ↔ (result.answer.code ≡ 0) }
     ensures on_board { IfSome result.answer.at (IsOnBoard (L.shows look).size) }
 
-    // On every position that agrees with the facts seen afterwards the answer is this one; the position shown is one of them.
+    // On every position that agrees with the facts seen afterwards the answer is this one; the position shown is one of
+    // them.
     ensures over { (pos : BoardState) → Agrees (L.seen result.look) pos
         → result.answer ≡ answer_of (asked_on (L.shows look) Kind.Attack target depths.plies depths.wide) pos }
-    ensures answer { result.answer ≡ answer_of (asked_on (L.shows look) Kind.Attack target depths.plies depths.wide) (L.shows look) }
+    ensures answer { result.answer ≡ answer_of (asked_on (L.shows look) Kind.Attack target depths.plies depths.wide)
+        (L.shows look) }
 
-    // With too many liberties for the plies or the wide plies that are left, the attack fails: no play is tried, and what is looked at lies in the
-    // neighbourhood of the target.
-    ensures too_many { IsTrue (outlasts true depths.plies depths.wide (liberties (L.shows look).size (L.shows look).cells target))
+    // With too many liberties for the plies or the wide plies that are left, the attack fails: no play is tried, and
+    // what is looked at lies in the neighbourhood of the target.
+    ensures too_many { IsTrue (outlasts true depths.plies depths.wide
+        (liberties (L.shows look).size (L.shows look).cells target))
         → (result.answer ≡ record { code = 0; at = None }) × (result.trials ≡ 0)
-        × AddsIn (L.seen look) (L.seen result.look) (neighbourhood_of (L.shows look).size (L.shows look).cells (alone target)) }
+        × AddsIn (L.seen look) (L.seen result.look)
+        (neighbourhood_of (L.shows look).size (L.shows look).cells (alone target)) }
 
     // On each of these positions the points looked at lie in the active area of the reading.
     ensures near { (pos : BoardState) → Agrees (L.seen result.look) pos
-        → AddsNear (L.seen look) (L.seen result.look) (InActiveArea (asked_on (L.shows look) Kind.Attack target depths.plies depths.wide) pos) }
+        → AddsNear (L.seen look) (L.seen result.look)
+        (InActiveArea (asked_on (L.shows look) Kind.Attack target depths.plies depths.wide) pos) }
 {
     answered(look, Kind::Attack, target, depths)
 }
 
 /// Reads whether the string at `target` can be saved when the defender plays first.
 ///
-/// The code is 3 where it is saved even if the attacker may ignore the ko ban once, 2 where neither side may, 1 where the
-/// defender may once, and 0 otherwise. The move is the pass where no stone need be added, else the first in reading order that
-/// attains the code. Takes no memory.
+/// The code is 3 where it is saved even if the attacker may ignore the ko ban once, 2 where neither side may, 1 where
+/// the defender may once, and 0 otherwise. The move is the pass where no stone need be added, else the first in reading
+/// order that attains the code. Takes no memory.
 ///
 /// After GNU Go Manual, "Tactical reading", on return codes; the tree itself is this project's own.
 pub fn defend<L: Look>(look: L, target: Point, depths: Depths) -> Told<L>
@@ -250,20 +271,25 @@ pub fn defend<L: Look>(look: L, target: Point, depths: Depths) -> Told<L>
     ensures none { IsNone result.answer.at ↔ (result.answer.code ≡ 0) }
     ensures on_board { IfSome result.answer.at (IsOnBoard (L.shows look).size) }
 
-    // On every position that agrees with the facts seen afterwards the answer is this one; the position shown is one of them.
+    // On every position that agrees with the facts seen afterwards the answer is this one; the position shown is one of
+    // them.
     ensures over { (pos : BoardState) → Agrees (L.seen result.look) pos
         → result.answer ≡ answer_of (asked_on (L.shows look) Kind.Defend target depths.plies depths.wide) pos }
-    ensures answer { result.answer ≡ answer_of (asked_on (L.shows look) Kind.Defend target depths.plies depths.wide) (L.shows look) }
+    ensures answer { result.answer ≡ answer_of (asked_on (L.shows look) Kind.Defend target depths.plies depths.wide)
+        (L.shows look) }
 
-    // With too many liberties for the plies or the wide plies that are left, no defence is needed: no play is tried, and what is looked at lies in the
-    // neighbourhood of the target.
-    ensures too_many { IsTrue (outlasts false depths.plies depths.wide (liberties (L.shows look).size (L.shows look).cells target))
+    // With too many liberties for the plies or the wide plies that are left, no defence is needed: no play is tried,
+    // and what is looked at lies in the neighbourhood of the target.
+    ensures too_many { IsTrue (outlasts false depths.plies depths.wide
+        (liberties (L.shows look).size (L.shows look).cells target))
         → (result.answer ≡ record { code = 3; at = Some Spot.Pass }) × (result.trials ≡ 0)
-        × AddsIn (L.seen look) (L.seen result.look) (neighbourhood_of (L.shows look).size (L.shows look).cells (alone target)) }
+        × AddsIn (L.seen look) (L.seen result.look)
+        (neighbourhood_of (L.shows look).size (L.shows look).cells (alone target)) }
 
     // On each of these positions the points looked at lie in the active area of the reading.
     ensures near { (pos : BoardState) → Agrees (L.seen result.look) pos
-        → AddsNear (L.seen look) (L.seen result.look) (InActiveArea (asked_on (L.shows look) Kind.Defend target depths.plies depths.wide) pos) }
+        → AddsNear (L.seen look) (L.seen result.look)
+        (InActiveArea (asked_on (L.shows look) Kind.Defend target depths.plies depths.wide) pos) }
 {
     answered(look, Kind::Defend, target, depths)
 }

@@ -65,12 +65,15 @@ fn stone_of(colour: Colour) -> Cell
 /// Whether it is the attacker's turn and he may take the target by its only liberty.
 fn can_take<L: Look>(board: &mut Trial<L>, turn: Turn, liberties: &PointSet) -> bool
     requires target { turn.target < (L.shows board.old.look).size * (L.shows board.old.look).size }
-    requires liberties { liberties.now ≡ liberty_points (L.shows board.old.look).size (after (L.shows board.old.look) board.old.moves).cells turn.target }
+    requires liberties { liberties.now ≡ liberty_points (L.shows board.old.look).size
+        (after (L.shows board.old.look) board.old.moves).cells turn.target }
     ensures stays { Stays L.shows L.seen board.old board.new }
     ensures count { board.new.count ≡ board.old.count }
-    ensures over { (pos : BoardState) → Agrees (L.seen board.new.look) pos → liberties.now ≡ liberty_points pos.size (after pos board.old.moves).cells turn.target
+    ensures over { (pos : BoardState) → Agrees (L.seen board.new.look) pos
+        → liberties.now ≡ liberty_points pos.size (after pos board.old.moves).cells turn.target
         → result ≡ true → IsTaken turn (after pos board.old.moves) }
-    ensures near { AddsIn (L.seen board.old.look) (L.seen board.new.look) (λ p. alone turn.target p || set.contains liberties.now p) }
+    ensures near { AddsIn (L.seen board.old.look) (L.seen board.new.look)
+        (λ p. alone turn.target p || set.contains liberties.now p) }
 {
     if !turn.attacker_to_play || board.cell(turn.target) != stone_of(turn.defender) {
         return false;
@@ -99,9 +102,12 @@ fn outlook_of<L: Look>(board: &mut Trial<L>, turn: Turn, plies: u8, known: &Poin
         → known.now ≡ liberty_points pos.size (after pos board.old.moves).cells turn.target }
     ensures stays { Stays L.shows L.seen board.old board.new }
     ensures over { (pos : BoardState) → Agrees (L.seen board.new.look) pos
-        → outlasts turn.attacker_to_play plies turn.wide (liberties pos.size (after pos board.old.moves).cells turn.target) ≡ is_safe result }
-    ensures taken { (pos : BoardState) → Agrees (L.seen board.new.look) pos → result ≡ Outlook.Taken → IsTaken turn (after pos board.old.moves) }
-    ensures near { (pos : BoardState) → Agrees (L.seen board.new.look) pos → AddsIn (L.seen board.old.look) (L.seen board.new.look)
+        → outlasts turn.attacker_to_play plies turn.wide
+        (liberties pos.size (after pos board.old.moves).cells turn.target) ≡ is_safe result }
+    ensures taken { (pos : BoardState) → Agrees (L.seen board.new.look) pos → result ≡ Outlook.Taken
+        → IsTaken turn (after pos board.old.moves) }
+    ensures near { (pos : BoardState) → Agrees (L.seen board.new.look) pos
+        → AddsIn (L.seen board.old.look) (L.seen board.new.look)
         (neighbourhood_of pos.size (after pos board.old.moves).cells (alone turn.target)) }
 {
     if outlasts(turn.attacker_to_play, plies, turn.wide, known.count()) {
@@ -119,8 +125,10 @@ pub fn has_too_many<L: Look>(board: &mut Trial<L>, turn: Turn, plies: u8) -> boo
     ensures stays { Stays L.shows L.seen board.old board.new }
     ensures count { board.new.count ≡ board.old.count }
     ensures over { (pos : BoardState) → Agrees (L.seen board.new.look) pos
-        → result ≡ outlasts turn.attacker_to_play plies turn.wide (liberties pos.size (after pos board.old.moves).cells turn.target) }
-    ensures near { (pos : BoardState) → Agrees (L.seen board.new.look) pos → AddsIn (L.seen board.old.look) (L.seen board.new.look)
+        → result ≡ outlasts turn.attacker_to_play plies turn.wide
+        (liberties pos.size (after pos board.old.moves).cells turn.target) }
+    ensures near { (pos : BoardState) → Agrees (L.seen board.new.look) pos
+        → AddsIn (L.seen board.old.look) (L.seen board.new.look)
         (neighbourhood_of pos.size (after pos board.old.moves).cells (alone turn.target)) }
 {
     let liberties = board.liberties(turn.target).count();
@@ -138,7 +146,8 @@ pub enum Made {
     Allowed,
 }
 
-/// Plays for the side to play at p, where the rules let it, or with `own` its own allowance. A play that is made stands afterwards.
+/// Plays for the side to play at p, where the rules let it, or with `own` its own allowance. A play that is made stands
+/// afterwards.
 fn make<L: Look>(board: &mut Trial<L>, turn: Turn, p: Point, own: bool) -> Made
     requires room { length board.old.moves < most_moves }
     requires on_board { p < (L.shows board.old.look).size * (L.shows board.old.look).size }
@@ -148,7 +157,8 @@ fn make<L: Look>(board: &mut Trial<L>, turn: Turn, p: Point, own: bool) -> Made
     ensures few { length board.new.moves ≤ length board.old.moves + 1 }
     ensures over { (pos : BoardState) → Agrees (L.seen board.new.look) pos
         → Makes result turn own (after pos board.old.moves) p (after pos board.new.moves) }
-    ensures near { (pos : BoardState) → Agrees (L.seen board.new.look) pos → AddsIn (L.seen board.old.look) (L.seen board.new.look)
+    ensures near { (pos : BoardState) → Agrees (L.seen board.new.look) pos
+        → AddsIn (L.seen board.old.look) (L.seen board.new.look)
         (neighbourhood_twice pos.size (after pos board.old.moves).cells p) }
     ensures own { result ≡ Made.Allowed → own ≡ true }
 {
@@ -167,8 +177,8 @@ fn make<L: Look>(board: &mut Trial<L>, turn: Turn, p: Point, own: bool) -> Made
     }
 }
 
-/// The liberties of the target after the play at p, by those before it: an attacker's play that does not take the target takes no
-/// liberty but its own point. None where they are to be found on the board.
+/// The liberties of the target after the play at p, by those before it: an attacker's play that does not take the
+/// target takes no liberty but its own point. None where they are to be found on the board.
 fn liberties_after<L: Look>(
     board: &mut Trial<L>,
     turn: Turn,
@@ -201,7 +211,8 @@ fn liberties_known<L: Look>(
     ensures stays { Stays L.shows L.seen board.old board.new }
     ensures over { (pos : BoardState) → Agrees (L.seen board.new.look) pos
         → result ≡ liberty_points pos.size (after pos board.old.moves).cells target }
-    ensures near { (pos : BoardState) → Agrees (L.seen board.new.look) pos → AddsIn (L.seen board.old.look) (L.seen board.new.look)
+    ensures near { (pos : BoardState) → Agrees (L.seen board.new.look) pos
+        → AddsIn (L.seen board.old.look) (L.seen board.new.look)
         (neighbourhood_of pos.size (after pos board.old.moves).cells (alone target)) }
 {
     match known {
@@ -210,7 +221,8 @@ fn liberties_known<L: Look>(
     }
 }
 
-/// Those of the asked under which the attacker wins, by those under which the side to play, the attacker or not, has its way.
+/// Those of the asked under which the attacker wins, by those under which the side to play, the attacker or not, has
+/// its way.
 fn attackers(attacker: bool, asked: Allowances, good: Allowances) -> Allowances
     ensures { result ≡ (if attacker then good else without asked good) }
 {
@@ -234,7 +246,8 @@ fn has_way<L: Look>(
         → found ≡ liberty_points pos.size (after pos board.old.moves).cells turn.target) }
     ensures stays { Stays L.shows L.seen board.old board.new }
     ensures over { (pos : BoardState) → Agrees (L.seen board.new.look) pos
-        → Tells asked result (λ ko. has_way turn.attacker_to_play (attacker_wins plies (under (next_turn turn) ko) (after pos board.old.moves))) }
+        → Tells asked result (λ ko. has_way turn.attacker_to_play
+        (attacker_wins plies (under (next_turn turn) ko) (after pos board.old.moves))) }
     ensures near { (pos : BoardState) → Agrees (L.seen board.new.look) pos → (q : ReadingQuestion) (root : BoardState)
         → AreNodesOf q root plies (next_turn turn) asked (after pos board.old.moves)
         → AddsNear (L.seen board.old.look) (L.seen board.new.look) (λ p. (p ≡ turn.target) ⊎ InActiveArea q root p) }
@@ -287,9 +300,9 @@ pub fn succeeds<L: Look>(
     }
 }
 
-/// Those of the asked under which a play at some point of the set gives the side to play its way, with `plies` plies left after it.
-/// The attacker's play that had its way last comes first, and then the liberties with more empty sides. A point is
-/// asked only for what those before it left.
+/// Those of the asked under which a play at some point of the set gives the side to play its way, with `plies` plies
+/// left after it. The attacker's play that had its way last comes first, and then the liberties with more empty sides.
+/// A point is asked only for what those before it left.
 #[cycle(read)]
 fn some_of<L: Look>(
     board: &mut Trial<L>,
@@ -305,14 +318,16 @@ fn some_of<L: Look>(
     requires some { has_some asked ≡ true }
     requires liberties { (pos : BoardState) → Agrees (L.seen board.old.look) pos
         → known.now ≡ liberty_points pos.size (after pos board.old.moves).cells turn.target }
-    requires on_board { (p : ℕ) → IsTrue (set.contains points.now p) → p < (L.shows board.old.look).size * (L.shows board.old.look).size }
+    requires on_board { (p : ℕ) → IsTrue (set.contains points.now p)
+        → p < (L.shows board.old.look).size * (L.shows board.old.look).size }
     ensures stays { Stays L.shows L.seen board.old board.new }
     ensures over { (pos : BoardState) → Agrees (L.seen board.new.look) pos
         → TellsBy plies turn (after pos board.old.moves) (set.contains points.now) asked result }
     ensures near { (pos : BoardState) → Agrees (L.seen board.new.look) pos → (q : ReadingQuestion) (root : BoardState)
         → AreNodesOf q root (suc plies) turn asked (after pos board.old.moves)
         → ((ko : Ko) → IsUndecided (under turn ko) (after pos board.old.moves))
-        → ((p : ℕ) → IsTrue (set.contains points.now p) → IsTrue (is_candidate (after pos board.old.moves) turn.target turn.wide p))
+        → ((p : ℕ) → IsTrue (set.contains points.now p)
+        → IsTrue (is_candidate (after pos board.old.moves) turn.target turn.wide p))
         → AddsNear (L.seen board.old.look) (L.seen board.new.look) (InActiveArea q root) }
 {
     let first = *reply;
@@ -330,15 +345,17 @@ fn some_of<L: Look>(
     asked.without(missing)
 }
 
-/// Whether the attacker is to play, and a play that takes no liberty of the target leaves it too many, with `plies` plies left after it.
+/// Whether the attacker is to play, and a play that takes no liberty of the target leaves it too many, with `plies`
+/// plies left after it.
 fn leaves_too_many(turn: Turn, plies: u8, liberties: u16) -> bool
     ensures { result ≡ (turn.attacker_to_play && outlasts false plies (turn.wide - 1) liberties) }
 {
     turn.attacker_to_play && outlasts(false, plies, turn.wide.saturating_sub(1), liberties)
 }
 
-/// Those of the asked under which a candidate off the liberties of the target gives the side to play its way, with `plies` plies left
-/// after it. The candidates are found only here, and not at all where such an attacker's play leaves too many liberties.
+/// Those of the asked under which a candidate off the liberties of the target gives the side to play its way, with
+/// `plies` plies left after it. The candidates are found only here, and not at all where such an attacker's play leaves
+/// too many liberties.
 #[cycle(read)]
 fn some_other<L: Look>(
     board: &mut Trial<L>,
@@ -355,7 +372,8 @@ fn some_other<L: Look>(
         → known.now ≡ liberty_points pos.size (after pos board.old.moves).cells turn.target }
     ensures stays { Stays L.shows L.seen board.old board.new }
     ensures over { (pos : BoardState) → Agrees (L.seen board.new.look) pos
-        → TellsBy plies turn (after pos board.old.moves) (is_off_liberties turn (after pos board.old.moves)) asked result }
+        → TellsBy plies turn (after pos board.old.moves)
+        (is_off_liberties turn (after pos board.old.moves)) asked result }
     ensures near { (pos : BoardState) → Agrees (L.seen board.new.look) pos → (q : ReadingQuestion) (root : BoardState)
         → AreNodesOf q root (suc plies) turn asked (after pos board.old.moves)
         → ((ko : Ko) → IsUndecided (under turn ko) (after pos board.old.moves))
@@ -369,8 +387,8 @@ fn some_other<L: Look>(
     some_of(board, turn, plies, asked, &others, known, reply)
 }
 
-/// Those of the asked under which some candidate gives the side to play its way, with `plies` plies left after it. The liberties of the
-/// target are tried first; the other candidates are found only where these leave something.
+/// Those of the asked under which some candidate gives the side to play its way, with `plies` plies left after it. The
+/// liberties of the target are tried first; the other candidates are found only where these leave something.
 #[cycle(read)]
 fn some_success<L: Look>(
     board: &mut Trial<L>,
@@ -422,7 +440,8 @@ pub fn pass_saves<L: Look>(
     ensures over { (pos : BoardState) → Agrees (L.seen board.new.look) pos
         → Tells asked result (λ ko. pass_saves plies (under turn ko) (after pos board.old.moves)) }
     ensures near { (pos : BoardState) → Agrees (L.seen board.new.look) pos → (q : ReadingQuestion) (root : BoardState)
-        → AreNodesOf q root (suc plies) turn asked (after pos board.old.moves) → is_captured (after pos board.old.moves) turn.target ≡ false
+        → AreNodesOf q root (suc plies) turn asked (after pos board.old.moves)
+        → is_captured (after pos board.old.moves) turn.target ≡ false
         → AddsNear (L.seen board.old.look) (L.seen board.new.look) (InActiveArea q root) }
 {
     board.pass();
@@ -447,7 +466,8 @@ fn has_good_move<L: Look>(
     requires liberties { (pos : BoardState) → Agrees (L.seen board.old.look) pos
         → known.now ≡ liberty_points pos.size (after pos board.old.moves).cells turn.target }
     ensures stays { Stays L.shows L.seen board.old board.new }
-    ensures over { (pos : BoardState) → Agrees (L.seen board.new.look) pos → ((ko : Ko) → IsUndecided (under turn ko) (after pos board.old.moves))
+    ensures over { (pos : BoardState) → Agrees (L.seen board.new.look) pos
+        → ((ko : Ko) → IsUndecided (under turn ko) (after pos board.old.moves))
         → Tells asked result (λ ko. is_some (good_move plies (under turn ko) (after pos board.old.moves))) }
     ensures near { (pos : BoardState) → Agrees (L.seen board.new.look) pos → (q : ReadingQuestion) (root : BoardState)
         → AreNodesOf q root (suc plies) turn asked (after pos board.old.moves)

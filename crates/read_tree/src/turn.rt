@@ -1,4 +1,5 @@
-//! A node of the game tree under whatever ko allowances: what is read, whose turn it is, and how many wide plies are left.
+//! A node of the game tree under whatever ko allowances: what is read, whose turn it is, and how many wide plies are
+//! left.
 
 ghost use Rattle.std.specs.Prelude.{◌≡◌};
 ghost use Rattle.read_tree.specs.Allowances.{mover_on, next_turn};

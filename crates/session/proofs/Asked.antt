@@ -33,13 +33,19 @@ module _ (old new : Kept) where
 
   -- with counts as before no more are fresh than were counted
   few-kept : KeepsCounts old new → HasFewFresh old.counts → HasFewFresh new.counts
-  few-kept kept few = record { few = omega (arith, few.few, kept.fresh, kept.readings); small = omega (arith, few.small, kept.readings) }
+  few-kept kept few = record {
+    few = omega (arith, few.few, kept.fresh, kept.readings);
+    small = omega (arith, few.small, kept.readings);
+  }
 
   -- one reading was counted, and at most one that was fresh
-  few-once : (fresh : Bool) → new.counts.readings ≡ counted old.counts.readings true → new.counts.fresh ≡ counted old.counts.fresh fresh
+  few-once : (fresh : Bool) → new.counts.readings ≡ counted old.counts.readings true
+      → new.counts.fresh ≡ counted old.counts.fresh fresh
       → HasFewFresh old.counts → HasFewFresh new.counts
-  few-once true readings freshly few = record { few = omega (arith, few.few, few.small, readings, freshly); small = omega (arith, readings) }
-  few-once false readings freshly few = record { few = omega (arith, few.few, few.small, readings, freshly); small = omega (arith, readings) }
+  few-once true readings freshly few =
+      record { few = omega (arith, few.few, few.small, readings, freshly); small = omega (arith, readings) }
+  few-once false readings freshly few =
+      record { few = omega (arith, few.few, few.small, readings, freshly); small = omega (arith, readings) }
 
   module _ (key : Key) where
     -- where a stone is asked about or not
@@ -47,48 +53,61 @@ module _ (old new : Kept) where
     at-kept true read never = absurd (never refl)
     at-kept false read never = nothing-kept read
 
-    at-few : (stone : Bool) → new.counts.readings ≡ counted old.counts.readings stone → ReadsAs (cond stone (One key) Nothing) old new
+    at-few : (stone : Bool) → new.counts.readings ≡ counted old.counts.readings stone
+        → ReadsAs (cond stone (One key) Nothing) old new
         → HasFewFresh old.counts → HasFewFresh new.counts
     at-few true readings read few = few-once (is_some new.readings.last) readings read.fresh few
     at-few false readings read few = few-kept (nothing-kept read) few
 
   module _ (machine : Machine) where
     -- a command that is no reading answered with a code keeps the counts
-    counts_kept-command : (c : Command) → ReadsAs (asks_of machine c) old new → (is_read machine c ≡ true → ⊥) → KeepsCounts old new
-    counts_kept-command (command.Attack p) read never = at-kept (key_at machine Attack p) (has_stone machine p) read never
-    counts_kept-command (command.Defend p) read never = at-kept (key_at machine Defend p) (has_stone machine p) read never
+    counts_kept-command : (c : Command) → ReadsAs (asks_of machine c) old new → (is_read machine c ≡ true → ⊥)
+        → KeepsCounts old new
+    counts_kept-command (command.Attack p) read never =
+        at-kept (key_at machine Attack p) (has_stone machine p) read never
+    counts_kept-command (command.Defend p) read never =
+        at-kept (key_at machine Defend p) (has_stone machine p) read never
     counts_kept-command (command.MatchPatterns friend) read never = read.counts
     counts_kept-command _ read never = nothing-kept read
 
     -- no command leaves more that are fresh than were counted
-    few_fresh-command : (c : Command) → new.counts.readings ≡ counted old.counts.readings (is_read machine c) → ReadsAs (asks_of machine c) old new
+    few_fresh-command : (c : Command) → new.counts.readings ≡ counted old.counts.readings (is_read machine c)
+        → ReadsAs (asks_of machine c) old new
         → HasFewFresh old.counts → HasFewFresh new.counts
-    few_fresh-command (command.Attack p) readings read few = at-few (key_at machine Attack p) (has_stone machine p) readings read few
-    few_fresh-command (command.Defend p) readings read few = at-few (key_at machine Defend p) (has_stone machine p) readings read few
+    few_fresh-command (command.Attack p) readings read few =
+        at-few (key_at machine Attack p) (has_stone machine p) readings read few
+    few_fresh-command (command.Defend p) readings read few =
+        at-few (key_at machine Defend p) (has_stone machine p) readings read few
     few_fresh-command (command.MatchPatterns friend) readings read few = few-kept read.counts few
     few_fresh-command _ readings read few = few-kept (nothing-kept read) few
 
     -- the same of what a line says
-    counts_kept-parsed : (p : Parsed) → ReadsAs (asks_of_parsed machine p) old new → (is_parsed_read machine p ≡ true → ⊥) → KeepsCounts old new
+    counts_kept-parsed : (p : Parsed) → ReadsAs (asks_of_parsed machine p) old new
+        → (is_parsed_read machine p ≡ true → ⊥) → KeepsCounts old new
     counts_kept-parsed (parsed.Command id c) read never = counts_kept-command c read never
     counts_kept-parsed _ read never = nothing-kept read
 
-    few_fresh-parsed : (p : Parsed) → new.counts.readings ≡ counted old.counts.readings (is_parsed_read machine p) → ReadsAs (asks_of_parsed machine p) old new
+    few_fresh-parsed : (p : Parsed) → new.counts.readings ≡ counted old.counts.readings (is_parsed_read machine p)
+        → ReadsAs (asks_of_parsed machine p) old new
         → HasFewFresh old.counts → HasFewFresh new.counts
     few_fresh-parsed (parsed.Command id c) readings read few = few_fresh-command c readings read few
     few_fresh-parsed _ readings read few = few-kept (nothing-kept read) few
 
 -- and of the line
-pub counts_kept-line : (machine : Machine) (line : RawLine) (old new : Kept) → ReadsAs (asks_of_line machine line) old new → (is_read_line machine line ≡ true → ⊥) → KeepsCounts old new
+pub counts_kept-line : (machine : Machine) (line : RawLine) (old new : Kept)
+    → ReadsAs (asks_of_line machine line) old new → (is_read_line machine line ≡ true → ⊥) → KeepsCounts old new
 unfolding asks_of_line is_read_line
 counts_kept-line machine TooLong old new read never = nothing-kept old new read
-counts_kept-line machine (Line text) old new read never = counts_kept-parsed old new machine (parsed_of text machine.size) read never
+counts_kept-line machine (Line text) old new read never =
+    counts_kept-parsed old new machine (parsed_of text machine.size) read never
 
-pub few_fresh-line : (machine : Machine) (line : RawLine) (old new : Kept) → new.counts.readings ≡ counted old.counts.readings (is_read_line machine line)
+pub few_fresh-line : (machine : Machine) (line : RawLine) (old new : Kept)
+    → new.counts.readings ≡ counted old.counts.readings (is_read_line machine line)
     → ReadsAs (asks_of_line machine line) old new → HasFewFresh old.counts → HasFewFresh new.counts
 unfolding asks_of_line is_read_line
 few_fresh-line machine TooLong old new readings read few = few-kept old new (nothing-kept old new read) few
-few_fresh-line machine (Line text) old new readings read few = few_fresh-parsed old new machine (parsed_of text machine.size) readings read few
+few_fresh-line machine (Line text) old new readings read few =
+    few_fresh-parsed old new machine (parsed_of text machine.size) readings read few
 
 -- one call of the readings was made on the board of a session
 module _ (old new : Kept) (kind : Kind) (p : ℕ) (pos : BoardState) (answer : Answer) (before after : ReadingsView)

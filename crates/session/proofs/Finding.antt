@@ -23,7 +23,8 @@ use Rattle.session.specs.declared.outcome.End.{End}
 use Rattle.session.specs.MatchTexts.{AreAmong}
 
 -- the matches by an automaton are among the patterns and on the board
-pub AreAmong-found : (code : Codes) (advice : Advice) (rows : List Row) (patterns : List Pattern) (board : BoardState) (friend : Colour)
+pub AreAmong-found : (code : Codes) (advice : Advice) (rows : List Row) (patterns : List Pattern) (board : BoardState)
+    (friend : Colour)
     → AreAmong patterns board.size (machine_matches code advice rows patterns board friend)
 unfolding machine_matches
 AreAmong-found code advice rows patterns board friend = λ z there.
@@ -47,7 +48,8 @@ plain-first advice patterns rows plies wide capacity room accepts = record {
 }
 
 -- a session that is plain with some patterns served the lines as the plain machine does
-pub ServesLines-plain : (advice : Advice) (patterns : List Pattern) (plies wide : ℕ) (session : Kept) (matcher : Matcher)
+pub ServesLines-plain : (advice : Advice) (patterns : List Pattern) (plies wide : ℕ) (session : Kept)
+    (matcher : Matcher)
     (generate : Option ℕ) (before after : Streams) (end : End) (tally : Tally Machine)
     → IsPlainWith advice patterns plies wide session matcher
     → ServesLines generate (step matcher) (machine_of session) before after end tally

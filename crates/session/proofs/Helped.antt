@@ -19,7 +19,8 @@ often-quiet zero h = refl
 often-quiet (suc n) h = often-quiet n h
 
 -- so does the place of one that was asked or was not
-place-quiet : (b : Bool) (n : ℕ) (s : SlotState) → without_its_calls (cond b s (slot_asked_often n s)) ≡ without_its_calls s
+place-quiet : (b : Bool) (n : ℕ) (s : SlotState)
+    → without_its_calls (cond b s (slot_asked_often n s)) ≡ without_its_calls s
 place-quiet true n s = refl
 place-quiet false n s = λ i. record { helper = often-quiet n s.helper i; on = s.on }
 
@@ -32,7 +33,8 @@ from-quiet times before (s ∷ slots) = λ i.
     ∷ from-quiet times (s ∷ before) slots i
 
 -- so a list of helpers keeps all but its calls
-pub raised-quiet : (times : List ℕ → ℕ) (slots : List SlotState) → without_calls (raised times slots) ≡ without_calls slots
+pub raised-quiet : (times : List ℕ → ℕ) (slots : List SlotState)
+    → without_calls (raised times slots) ≡ without_calls slots
 raised-quiet times slots = from-quiet times [] slots
 
 -- what a place or another one says, where it says the same without its calls

@@ -26,7 +26,8 @@ pattern_starts p =
     let named = some_first p.name 32 [] in (
       named.0,
       _,
-      ap (λ l. (l ++ decimal p.rows ++ codes "x" ++ decimal p.cols) ++ codes " " ++ mark_text p.mark ++ codes " " ++ classes_text p.classes) named.2,
+      ap (λ l. (l ++ decimal p.rows ++ codes "x" ++ decimal p.cols) ++ codes " " ++ mark_text p.mark ++ codes " "
+          ++ classes_text p.classes) named.2,
     )
 
 -- the text of a match begins with some byte
@@ -73,7 +74,8 @@ module _ {A : Type 0} (text_of : A → List ℕ)
 pub patterns-next : (ps : List Pattern) (i : ℕ) (p : Pattern) (text new : List ℕ) → i < length ps → p
     ≡ get_or ps i p → text ≡ patterns_text (take i ps)
     → new ≡ text ++ feed_after text ++ pattern_text p → new ≡ patterns_text (take (i + 1) ps)
-patterns-next ps i p text new within is so_far put = lines-next pattern_text pattern_starts ps i p text new within is so_far put
+patterns-next ps i p text new within is so_far put =
+    lines-next pattern_text pattern_starts ps i p text new within is so_far put
 
 -- the matches so far, and the next one
 pub matches-next : (patterns : List Pattern) (s : ℕ) (zs : List Match) (i : ℕ) (z : Match) (text new : List ℕ)

@@ -65,7 +65,8 @@ came-served helpers contents options session now matcher lines before after end 
       patterns = opens.patterns;
       opened = opens.opened;
       tally = counting.tally;
-      serves = ServesLines-plain (says_yes helpers) opens.patterns options.depth options.branch session matcher options.generate before after end
+      serves = ServesLines-plain (says_yes helpers) opens.patterns options.depth options.branch session matcher
+          options.generate before after end
           counting.tally opens.plain counting.serves;
       counted = subst (λ o. AreCounts options.stats o counting.tally) (sym tells)
           (counts-told options.stats now.counts counting.tally counts);
@@ -74,10 +75,12 @@ came-served helpers contents options session now matcher lines before after end 
     })
 
 -- the words gave the options of the run
-pub came-given : (helpers : List SlotState) (words : List (List ℕ)) (options : Options) (contents : List ℕ → Option (List ℕ))
+pub came-given : (helpers : List SlotState) (words : List (List ℕ)) (options : Options) (contents : List ℕ
+    → Option (List ℕ))
     (before after : Streams) (counts : Option Counts)
     (sent : Option Sent) (phase : Phase) → is_taken words ≡ true → AreFound (rows_in words) options
-    → CameBy helpers options contents before after counts sent phase → Came helpers words contents before after counts sent phase
+    → CameBy helpers options contents before after counts sent phase
+    → Came helpers words contents before after counts sent phase
 came-given helpers words options contents before after counts sent NotTaken taken found came = absurd came
 came-given helpers words options contents before after counts sent (NotOpened error) taken found came =
     (inr (options, record { taken = taken; found = found }, came.0), came.1)
@@ -123,8 +126,20 @@ pub serves-generated : {M : Type 0} (n : ℕ) (step : M → RawLine → Step M) 
     (record { left = left; piece = piece; input_faults = faults; written = w1; output_faults = c1 }) end old new
 serves-generated n step goes first left piece faults w0 w1 c0 c1 f0 f1 p text rest last end old new generate some few
     is counting =
-    let before : Streams = record { left = left; piece = piece; input_faults = faults; written = w0; output_faults = c0 } in
-    let after : Streams = record { left = left; piece = piece; input_faults = faults; written = w1; output_faults = c1 } in
+    let before : Streams = record {
+      left = left;
+      piece = piece;
+      input_faults = faults;
+      written = w0;
+      output_faults = c0;
+    } in
+    let after : Streams = record {
+      left = left;
+      piece = piece;
+      input_faults = faults;
+      written = w1;
+      output_faults = c1;
+    } in
     subst (λ o. ServesCounting o step goes first before after end old new) (sym some) (record {
       tally = counting.tally;
       serves = record {
@@ -151,7 +166,8 @@ serves-generated n step goes first left piece faults w0 w1 c0 c1 f0 f1 p text re
 -- the files were not opened
 module _ (options : Options) (error : OpenError) (phase : Phase) (is : phase ≡ NotOpened error) where
   -- nothing was taken, put or counted, and the error says why
-  pub came-unopened : (helpers : List SlotState) (contents : List ℕ → Option (List ℕ)) (before : Streams) (counts : Option Counts)
+  pub came-unopened : (helpers : List SlotState) (contents : List ℕ
+      → Option (List ℕ)) (before : Streams) (counts : Option Counts)
       (sent : Option Sent)
       → IsRefused (helper_names helpers) contents options.files options.states error → counts ≡ None → sent ≡ None
       → CameBy helpers options contents before before counts sent phase

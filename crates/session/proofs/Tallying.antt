@@ -150,7 +150,8 @@ module _ (M : Type 0) (step : M → RawLine → Step M) where
       (first, rest.out, m, false, answers, ap (λ (t : Tally M). t.out) joined, IsTallied-run m xs rest new ended h)
 
   -- the first of some lines broke off
-  abbrev pub BreaksOff-one : (from : M) (line : RawLine) (more : List RawLine) (part missing : List ℕ) (next : M) (ends : Bool)
+  abbrev pub BreaksOff-one : (from : M) (line : RawLine) (more : List RawLine) (part missing : List ℕ) (next : M)
+      (ends : Bool)
       → Answers step from line (part ++ missing) next ends → 0 < length missing
       → BreaksOff step from (line ∷ more) (cut_tally from line part)
   BreaksOff-one from line more part missing next ends answers proper = record {

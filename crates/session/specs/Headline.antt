@@ -53,7 +53,8 @@ IsUnopened helpers words contents error =
     (error ≡ opening.NoMemory) ⊎ ((options : Options) × GiveOptions words options
     × IsRefused (helper_names helpers) contents options.files options.states error)
 
--- Generated lines were served in place of the source, which stays as it was. They are fewer bytes than the longest input.
+-- Generated lines were served in place of the source, which stays as it was. They are fewer bytes than the longest
+-- input.
 pub record ServesGenerated {M : Type 0} (n : ℕ) (step : M → RawLine → Step M) (first : M) (before after : Streams)
     (end : End) (tally : Tally M) : Type 0 where
   pub left : after.left ≡ before.left
@@ -89,7 +90,8 @@ IsSent generate sent tally = MatchOption generate (sent ≡ None) (λ n. IsSomeA
 -- The files of the options were opened, in which the helpers may be named, and the lines were served by the plain
 -- machine, which compares each diagram of their patterns with the board, reads as deep as the options say, and asks the
 -- helpers, whose meanings never change.
-pub record IsServed (helpers : List SlotState) (options : Options) (contents : List ℕ → Option (List ℕ)) (before after : Streams) (end : End)
+pub record IsServed (helpers : List SlotState) (options : Options) (contents : List ℕ
+    → Option (List ℕ)) (before after : Streams) (end : End)
     (counts : Option Counts) (sent : Option Sent) : Type 0 where
   pub patterns : List Pattern
   pub opened : IsOpened (helper_names helpers) contents options.files options.states patterns
@@ -106,9 +108,11 @@ pub record IsUntouched (before after : Streams) (counts : Option Counts) (sent :
   pub unsent : sent ≡ None
 
 -- by how far a run came, what its words gave, what it did, and what it is to note
-abbrev pub Came : List SlotState → List (List ℕ) → (List ℕ → Option (List ℕ)) → Streams → Streams → Option Counts → Option Sent
+abbrev pub Came : List SlotState → List (List ℕ) → (List ℕ → Option (List ℕ)) → Streams → Streams → Option Counts
+    → Option Sent
     → Phase → Type 0
-Came helpers words contents before after counts sent NotTaken = (is_taken words ≡ false) × IsUntouched before after counts sent
+Came helpers words contents before after counts sent NotTaken =
+    (is_taken words ≡ false) × IsUntouched before after counts sent
 Came helpers words contents before after counts sent (NotOpened error) = IsUnopened helpers words contents error
     × IsUntouched before after counts sent
 Came helpers words contents before after counts sent (Served end) =
@@ -131,7 +135,8 @@ pub record IsCauseOf (fault : Type 0) (before now : ℕ) : Type 0 where
   pub told : before < now → fault
 
 -- what a run of these words with these helpers did, by its outcome, and what it counted
-pub record Runs (helpers : List SlotState) (words : List (List ℕ)) (before after : Outside) (outcome : Outcome) : Type 0 where
+pub record Runs (helpers : List SlotState) (words : List (List ℕ)) (before after : Outside)
+    (outcome : Outcome) : Type 0 where
   pub counts : Option Counts
   pub sent : Option Sent
   pub came : Came helpers words before.contents before.streams after.streams counts sent (phase_of outcome)

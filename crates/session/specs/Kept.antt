@@ -10,8 +10,8 @@ use Rattle.match_engine.specs.Readings.{ReadingsView, first_readings}
 use Rattle.session.specs.Machine.{Machine, first_size}
 use Rattle.session.specs.Matcher.{Matcher, automaton_matcher}
 
--- settings and moves, the patterns, the automaton by which their matches are found, what was counted, and the readings with
--- those that are kept
+-- settings and moves, the patterns, the automaton by which their matches are found, what was counted, and the readings
+-- with those that are kept
 pub record Kept : Type 0 where
   pub size : ℕ
   pub moves : List Move

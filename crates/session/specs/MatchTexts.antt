@@ -15,7 +15,8 @@ name_of (Some p) = p.name
 -- a match of these patterns on a board of size s: the name of its pattern, its transformation and its point, parted
 -- by blanks
 abbrev pub match_text : List Pattern → ℕ → Match → List ℕ
-match_text patterns s z = name_of (slice_get patterns z.pattern) ++ codes " " ++ decimal z.transform ++ codes " " ++ vertex_text s z.at
+match_text patterns s z =
+    name_of (slice_get patterns z.pattern) ++ codes " " ++ decimal z.transform ++ codes " " ++ vertex_text s z.at
 
 -- matches, one a line
 abbrev pub matches_text : List Pattern → ℕ → List Match → List ℕ

@@ -6,7 +6,8 @@ use Rattle.session.specs.declared.outcome.Outcome.TheVariants.{Done, BadDatabase
 -- the note of an outcome, with its line feed
 abbrev pub note_of : Outcome → List ℕ
 note_of Done = []
-note_of (BadDatabase line kind) = codes "bad database: line " ++ decimal line ++ codes " kind " ++ decimal kind ++ codes "\n"
+note_of (BadDatabase line kind) =
+    codes "bad database: line " ++ decimal line ++ codes " kind " ++ decimal kind ++ codes "\n"
 note_of Usage = codes "usage: gopat [options] [file ...]\n"
 note_of NoMemory = codes "out of memory\n"
 note_of InputFault = codes "input failed\n"

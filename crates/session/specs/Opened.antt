@@ -30,8 +30,8 @@ pub record IsPlainWith (advice : Advice) (patterns : List Pattern) (plies wide :
   pub room : 8 ≤ session.readings.kept.1
   pub matches : matcher ≡ plain_matcher advice patterns
 
--- the files of the options were opened, in which the helpers may be named, the session is plain with their patterns, and
--- no line has come
+-- the files of the options were opened, in which the helpers may be named, the session is plain with their patterns,
+-- and no line has come
 pub record Opens (helpers : List SlotState) (contents : List ℕ → Option (List ℕ)) (options : Options) (session : Kept)
     (matcher : Matcher) (lines : LinesState) : Type 0 where
   pub patterns : List Pattern
@@ -40,12 +40,14 @@ pub record Opens (helpers : List SlotState) (contents : List ℕ → Option (Lis
   pub none : lines ≡ no_line
 
 -- how far a run with these options came: its files were not opened, or the lines were served
-abbrev pub CameBy : List SlotState → Options → (List ℕ → Option (List ℕ)) → Streams → Streams → Option Counts → Option Sent → Phase
+abbrev pub CameBy : List SlotState → Options → (List ℕ → Option (List ℕ)) → Streams → Streams → Option Counts
+    → Option Sent → Phase
     → Type 0
 CameBy helpers options contents before after counts sent NotTaken = ⊥
 CameBy helpers options contents before after counts sent (NotOpened error) =
     IsRefused (helper_names helpers) contents options.files options.states error × IsUntouched before after counts sent
-CameBy helpers options contents before after counts sent (Served end) = IsServed helpers options contents before after end counts sent
+CameBy helpers options contents before after counts sent (Served end) =
+    IsServed helpers options contents before after end counts sent
 
 -- the lines were served with a tally, by which the counts rose, and along which what is kept went on
 pub record ServesCounting {M : Type 0} (generate : Option ℕ) (step : M → RawLine → Step M)

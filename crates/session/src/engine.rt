@@ -1,4 +1,5 @@
-//! What a session keeps beside its helpers: the plain machine, its patterns and its counts; and its answer to each line.
+//! What a session keeps beside its helpers: the plain machine, its patterns and its counts; and its answer to each
+//! line.
 ghost use Rattle.std.specs.Prelude.{◌≡◌, ◌≢◌, ◌≤◌, ◌↔◌, List, ℕ, length, IfOk};
 ghost use Rattle.gtp_lex.specs.Raw.{raw_line};
 ghost use Rattle.go_options.specs.Found.{AreInRange};

@@ -69,8 +69,8 @@ fn list_text(
     Ok(text)
 }
 
-/// The matches of the patterns by an automaton, one a line. What their classes and constraints ask is read at the depths
-/// of the readings, and the helpers that they name are asked last.
+/// The matches of the patterns by an automaton, one a line. What their classes and constraints ask is read at the
+/// depths of the readings, and the helpers that they name are asked last.
 pub(crate) fn matches_text(
     alloc: Global,
     patterns: &[Pattern],

@@ -63,7 +63,8 @@ impl Session {
     }
 
     /// Answers one line, by the step of the machine that the session is: for the matches of its patterns this takes
-    /// those by its automaton, to which its helpers say yes. With the automaton of the patterns it is the plain machine.
+    /// those by its automaton, to which its helpers say yes. With the automaton of the patterns it is the plain
+    /// machine.
     ///
     /// Nothing comes exactly for a line without words. NoMemory comes only in place of a growing reply. It leaves the
     /// machine as it was, and so does a refused line; of the counts only that of refused keepings may have risen. The
@@ -71,7 +72,8 @@ impl Session {
     pub fn line(&mut self, raw: Raw<'_>) -> Reply
         requires { ⊤ }
         ensures reply { IsReplyTo (machine_of self.old.engine)
-            (step (matcher_of state self.old) (machine_of self.old.engine) (raw_line raw.entry)) result (machine_of self.new.engine) }
+            (step (matcher_of state self.old) (machine_of self.old.engine) (raw_line raw.entry)) result
+            (machine_of self.new.engine) }
         ensures nothing { result ≡ Reply.Nothing ↔ IsWithoutWords (raw_line raw.entry) }
         ensures bytes { result ≢ Reply.Nothing → reply_count (reply_bytes result) ≡ 1 }
         ensures patterns { self.new.engine.patterns ≡ self.old.engine.patterns }
@@ -89,7 +91,8 @@ impl Session {
         ensures refused { IsRefusal (reply_bytes result) → (machine_of self.new.engine ≡ machine_of self.old.engine)
             × KeepsCounts self.old.engine self.new.engine }
 
-        // The helpers keep their number, their order, their names and meanings, and stay on or off. Their calls alone rise.
+        // The helpers keep their number, their order, their names and meanings, and stay on or off. Their calls alone
+        // rise.
         ensures helpers { without_calls (states_of state self.new.helpers)
             ≡ without_calls (states_of state self.old.helpers) }
         ensures matcher { matcher_of state self.new ≡ matcher_of state self.old }

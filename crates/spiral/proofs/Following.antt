@@ -28,7 +28,8 @@ fails a b high = elim (cases_Bool (le_z a b)) [
 abbrev pub is_top : Offset → Bool
 is_top d = le_z ((d.0 +ℤ d.1) +ℤ pos 1) (pos 0) && le_z d.0 d.1
 
--- the offset that comes after d: right along the top, down the right side, left along the bottom, up the left side, or into the next ring
+-- the offset that comes after d: right along the top, down the right side, left along the bottom, up the left side, or
+-- into the next ring
 abbrev after : Offset → Offset
 after d =
     cond (is_top d) (d.0, d.1 +ℤ pos 1)
@@ -38,7 +39,8 @@ after d =
 
 -- whether the offset with the index i + 1 comes after the one with the index i
 abbrev is_followed : ℕ → Bool
-is_followed i = same_ℤ (offset_at (suc i)).0 (after (offset_at i)).0 && same_ℤ (offset_at (suc i)).1 (after (offset_at i)).1
+is_followed i = same_ℤ (offset_at (suc i)).0 (after (offset_at i)).0
+    && same_ℤ (offset_at (suc i)).1 (after (offset_at i)).1
 
 all_followed : agree_below is_followed (λ _. true) (offset_count - 1) ≡ true
 unfolding offset_at
@@ -51,19 +53,24 @@ followed d i low here =
     let parts = and_parts (same_ℤ (offset_at (suc i)).0 (after (offset_at i)).0) _ test in
     let next : i + 1 ≡ suc i = omega arith in
     ap offset_at next
-    ∙ offset_by_parts _ _ (after (offset_at i)).0 (after (offset_at i)).1 (after (offset_at i)) refl (same_ℤ-true _ _ parts.0) (same_ℤ-true _ _ parts.1)
+    ∙ offset_by_parts _ _ (after (offset_at i)).0 (after (offset_at i)).1 (after (offset_at i)) refl
+    (same_ℤ-true _ _ parts.0) (same_ℤ-true _ _ parts.1)
     ∙ ap after here
 
 -- below the diagonals the offset does not lie on the top
 pub fails-top : (d : Offset) → (pos 0 ≤ℤ (d.0 +ℤ d.1)) ⊎ (d.1 <ℤ d.0) → is_top d ≡ false
 fails-top d (inl sum) = rw (fails ((d.0 +ℤ d.1) +ℤ pos 1) (pos 0) (omega (arith, ints))) refl
-fails-top d (inr order) = ap (λ b. le_z ((d.0 +ℤ d.1) +ℤ pos 1) (pos 0) && b) (fails d.0 d.1 (omega (arith, ints))) ∙ and-false _
+fails-top d (inr order) =
+    ap (λ b. le_z ((d.0 +ℤ d.1) +ℤ pos 1) (pos 0) && b) (fails d.0 d.1 (omega (arith, ints))) ∙ and-false _
 
 module _ (d : Offset) (i : ℕ) (low : i + 1 < offset_count) (here : offset_at i ≡ d) where
   -- on the top the next offset lies to the right
   pub next-top : (d.0 +ℤ d.1) <ℤ pos 0 → d.0 ≤ℤ d.1 → offset_at (i + 1) ≡ (d.0, d.1 +ℤ pos 1)
   next-top sum order =
-      followed d i low here ∙ rw (passes ((d.0 +ℤ d.1) +ℤ pos 1) (pos 0) (omega (arith, ints)), passes d.0 d.1 order) refl
+      followed d i low here ∙ rw (
+        passes ((d.0 +ℤ d.1) +ℤ pos 1) (pos 0) (omega (arith, ints)),
+        passes d.0 d.1 order,
+      ) refl
 
   -- on the right side it lies below
   pub next-right : is_top d ≡ false → d.0 <ℤ d.1 → offset_at (i + 1) ≡ (d.0 +ℤ pos 1, d.1)
@@ -72,16 +79,32 @@ module _ (d : Offset) (i : ℕ) (low : i + 1 < offset_count) (here : offset_at i
   -- on the bottom it lies to the left
   pub next-bottom : is_top d ≡ false → d.1 ≤ℤ d.0 → pos 0 <ℤ (d.0 +ℤ d.1) → offset_at (i + 1) ≡ (d.0, d.1 -ℤ pos 1)
   next-bottom top order sum =
-      followed d i low here ∙ rw (top, fails (d.0 +ℤ pos 1) d.1 (omega (arith, ints)), passes (pos 1) (d.0 +ℤ d.1) (omega (arith, ints))) refl
+      followed d i low here ∙ rw (
+        top,
+        fails (d.0 +ℤ pos 1) d.1 (omega (arith, ints)),
+        passes (pos 1) (d.0 +ℤ d.1) (omega (arith, ints)),
+      ) refl
 
   -- on the left side it lies above
-  pub next-left : is_top d ≡ false → d.1 ≤ℤ d.0 → (d.0 +ℤ d.1) ≤ℤ pos 0 → (d.1 +ℤ pos 1) <ℤ d.0 → offset_at (i + 1) ≡ (d.0 -ℤ pos 1, d.1)
+  pub next-left : is_top d ≡ false → d.1 ≤ℤ d.0 → (d.0 +ℤ d.1) ≤ℤ pos 0 → (d.1 +ℤ pos 1) <ℤ d.0
+      → offset_at (i + 1) ≡ (d.0 -ℤ pos 1, d.1)
   next-left top order sum up =
       followed d i low here
-      ∙ rw (top, fails (d.0 +ℤ pos 1) d.1 (omega (arith, ints)), fails (pos 1) (d.0 +ℤ d.1) (omega (arith, ints)), passes (d.1 +ℤ pos 2) d.0 (omega (arith, ints))) refl
+      ∙ rw (
+        top,
+        fails (d.0 +ℤ pos 1) d.1 (omega (arith, ints)),
+        fails (pos 1) (d.0 +ℤ d.1) (omega (arith, ints)),
+        passes (d.1 +ℤ pos 2) d.0 (omega (arith, ints)),
+      ) refl
 
   -- the last of a ring is followed by the first of the next
-  pub next-ring : is_top d ≡ false → d.1 ≤ℤ d.0 → (d.0 +ℤ d.1) ≤ℤ pos 0 → d.0 ≤ℤ (d.1 +ℤ pos 1) → offset_at (i + 1) ≡ (d.1 -ℤ pos 1, d.1 -ℤ pos 1)
+  pub next-ring : is_top d ≡ false → d.1 ≤ℤ d.0 → (d.0 +ℤ d.1) ≤ℤ pos 0 → d.0 ≤ℤ (d.1 +ℤ pos 1)
+      → offset_at (i + 1) ≡ (d.1 -ℤ pos 1, d.1 -ℤ pos 1)
   next-ring top order sum last =
       followed d i low here
-      ∙ rw (top, fails (d.0 +ℤ pos 1) d.1 (omega (arith, ints)), fails (pos 1) (d.0 +ℤ d.1) (omega (arith, ints)), fails (d.1 +ℤ pos 2) d.0 (omega (arith, ints))) refl
+      ∙ rw (
+        top,
+        fails (d.0 +ℤ pos 1) d.1 (omega (arith, ints)),
+        fails (pos 1) (d.0 +ℤ d.1) (omega (arith, ints)),
+        fails (d.1 +ℤ pos 2) d.0 (omega (arith, ints)),
+      ) refl

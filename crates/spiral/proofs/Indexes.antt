@@ -18,7 +18,8 @@ ring_at row column = max (apart row largest_offset) (apart column largest_offset
 
 -- the index of the offset in this row and column
 abbrev pub index_at : ℕ → ℕ → ℕ
-index_at row column = ring_start (ring_at row column) + place_in (ring_at row column) (row + ring_at row column - largest_offset) (column + ring_at row column - largest_offset)
+index_at row column = ring_start (ring_at row column) + place_in (ring_at row column)
+    (row + ring_at row column - largest_offset) (column + ring_at row column - largest_offset)
 
 -- whether two integers are one
 abbrev pub same_ℤ : ℤ → ℤ → Bool
@@ -37,7 +38,8 @@ same_ℤ-true (negsuc a) (negsuc b) e = ap negsuc (eqb-true a b e)
 abbrev is_indexed : ℕ → ℕ → Bool
 is_indexed row column =
     nat_lt (index_at row column) offset_count
-    && (same_ℤ (offset_at (index_at row column)).0 (pos row -ℤ pos largest_offset) && same_ℤ (offset_at (index_at row column)).1 (pos column -ℤ pos largest_offset))
+    && (same_ℤ (offset_at (index_at row column)).0 (pos row -ℤ pos largest_offset)
+    && same_ℤ (offset_at (index_at row column)).1 (pos column -ℤ pos largest_offset))
 
 all_indexed : agree_below (λ row. agree_below (is_indexed row) (λ _. true) square_side) (λ _. true) square_side ≡ true
 unfolding offset_at
@@ -52,17 +54,26 @@ pub record IsIndexed (row column : ℕ) : Type 0 where
 -- the offset with the index of an offset is that offset
 pub indexed : (row column : ℕ) → row < square_side → column < square_side → IsIndexed row column
 indexed row column p q =
-    let here = agree_below_at (is_indexed row) (λ _. true) square_side column (agree_below_at (λ r. agree_below (is_indexed r) (λ _. true) square_side) (λ _. true) square_side row all_indexed p) q in
+    let here = agree_below_at (is_indexed row) (λ _. true) square_side column
+    (agree_below_at (λ r. agree_below (is_indexed r) (λ _. true) square_side)
+    (λ _. true) square_side row all_indexed p) q in
     let parts = and_parts (nat_lt (index_at row column) offset_count) _ here in
     let both = and_parts (same_ℤ (offset_at (index_at row column)).0 (pos row -ℤ pos largest_offset)) _ parts.1 in
     record { bound = ltb-true _ _ parts.0; row_back = same_ℤ-true _ _ both.0; column_back = same_ℤ-true _ _ both.1 }
 
-pub indexed_as : (row column : ℕ) → IsIndexed row column → offset_at (index_at row column) ≡ (pos row -ℤ pos largest_offset, pos column -ℤ pos largest_offset)
-indexed_as row column i = offset_by_parts _ _ _ _ (pos row -ℤ pos largest_offset, pos column -ℤ pos largest_offset) refl i.row_back i.column_back
+pub indexed_as : (row column : ℕ) → IsIndexed row column
+    → offset_at (index_at row column) ≡ (pos row -ℤ pos largest_offset, pos column -ℤ pos largest_offset)
+indexed_as row column i =
+    offset_by_parts _ _ _ _ (
+      pos row -ℤ pos largest_offset,
+      pos column -ℤ pos largest_offset,
+    ) refl i.row_back i.column_back
 
 -- the steps of the code give the index
-pub found_at : (row column from_row from_column k start place : ℕ) → from_row ≡ apart row largest_offset → from_column ≡ apart column largest_offset → k ≡ max from_row from_column
-    → start ≡ ring_start k → place ≡ place_in k (row + k - largest_offset) (column + k - largest_offset) → start + place ≡ index_at row column
+pub found_at : (row column from_row from_column k start place : ℕ) → from_row ≡ apart row largest_offset
+    → from_column ≡ apart column largest_offset → k ≡ max from_row from_column
+    → start ≡ ring_start k → place ≡ place_in k (row + k - largest_offset) (column + k - largest_offset)
+    → start + place ≡ index_at row column
 found_at row column from_row from_column k start place r c m s p = rw (s, p, m, r, c) refl
 
 -- the index of an offset, from its two parts
@@ -82,7 +93,8 @@ offsets_differ i j p q e = sym (index_back i p) ∙ ap index_by e ∙ index_back
 
 -- whether no part is beyond the largest offset
 abbrev is_near : Offset → Bool
-is_near d = (le_z (neg_ℤ (pos largest_offset)) d.0 && le_z d.0 (pos largest_offset)) && (le_z (neg_ℤ (pos largest_offset)) d.1 && le_z d.1 (pos largest_offset))
+is_near d = (le_z (neg_ℤ (pos largest_offset)) d.0 && le_z d.0 (pos largest_offset))
+    && (le_z (neg_ℤ (pos largest_offset)) d.1 && le_z d.1 (pos largest_offset))
 
 all_near : agree_below (λ i. is_near (offset_at i)) (λ _. true) offset_count ≡ true
 unfolding offset_at
@@ -102,7 +114,8 @@ offsets_near i p =
       column_high = le_z_yes (T_from_true _ column.1);
     }
 
-from_middle : (z : ℤ) → neg_ℤ (pos largest_offset) ≤ℤ z → z ≤ℤ pos largest_offset → (n : ℕ) × (n < square_side) × (pos n -ℤ pos largest_offset ≡ z)
+from_middle : (z : ℤ) → neg_ℤ (pos largest_offset) ≤ℤ z → z ≤ℤ pos largest_offset
+    → (n : ℕ) × (n < square_side) × (pos n -ℤ pos largest_offset ≡ z)
 from_middle (pos k) low high = (k + largest_offset, omega (arith, ints, high), omega (arith, ints))
 from_middle (negsuc k) low high = (largest_offset - suc k, omega (arith, ints, low), omega (arith, ints, low))
 
@@ -111,5 +124,9 @@ pub offset_exists : (d : Offset) → IsNear d → (i : ℕ) × (i < offset_count
 offset_exists d near =
     let row = from_middle d.0 near.row_low near.row_high in
     let column = from_middle d.1 near.column_low near.column_high in
-    let found = indexed row.0 column.0 row.1 column.1 in
-    (index_at row.0 column.0, found.bound, indexed_as row.0 column.0 found ∙ offset_by_parts _ _ d.0 d.1 d refl row.2 column.2)
+    let found = indexed row.0 column.0 row.1 column.1 in (
+      index_at row.0 column.0,
+      found.bound,
+      indexed_as row.0 column.0 found
+          ∙ offset_by_parts _ _ d.0 d.1 d refl row.2 column.2,
+    )

@@ -8,13 +8,15 @@ pub offset_by_parts : (x y a b : ℤ) (d : Offset) → d ≡ (a, b) → x ≡ a 
 offset_by_parts x y a b d e r c = rw (e, r, c) refl
 
 -- the row and the column that the moved offset leads to give the place
-pub placed : (s side t m row column : ℕ) (d moved : Offset) (x y : ℤ) → side ≡ s → row ≡ m / side → column ≡ m % side → moved ≡ transformed t d → x ≡ moved.0 → y ≡ moved.1
+pub placed : (s side t m row column : ℕ) (d moved : Offset) (x y : ℤ) → side ≡ s → row ≡ m / side → column ≡ m % side
+    → moved ≡ transformed t d → x ≡ moved.0 → y ≡ moved.1
     → point_of s (line_of s (pos row +ℤ x)) (line_of s (pos column +ℤ y)) ≡ place_at s t m d
 unfolding place_at
 placed s side t m row column d moved x y same r c e p q = rw (r, c, p, q, e, same) refl
 
 -- an offset is found, and then moved
-pub moved_by : (t : ℕ) (d found moved : Offset) (x y : ℤ) → found ≡ d → x ≡ found.0 → y ≡ found.1 → moved ≡ transformed t (x, y) → moved ≡ transformed t d
+pub moved_by : (t : ℕ) (d found moved : Offset) (x y : ℤ) → found ≡ d → x ≡ found.0 → y ≡ found.1
+    → moved ≡ transformed t (x, y) → moved ≡ transformed t d
 moved_by t d found moved x y e p q m = m ∙ (rw (p, q) (ap (transformed t) e))
 
 -- an offset that is known to be near is so by its parts

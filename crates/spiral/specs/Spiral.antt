@@ -15,7 +15,8 @@ abbrev pub ring_start : ℕ → ℕ
 ring_start zero = 0
 ring_start (suc k) = (2 * k + 1) * (2 * k + 1)
 
--- the offset at place j of ring k: from (-k, -k) right to (-k, k), down to (k, k), left to (k, -k), and up to (-k + 1, -k)
+-- the offset at place j of ring k: from (-k, -k) right to (-k, k), down to (k, k), left to (k, -k), and up to (-k + 1,
+-- -k)
 abbrev pub ring_place : ℕ → ℕ → Offset
 ring_place k j =
     if nat_lt j (2 * k) then (neg_ℤ (pos k), pos j -ℤ pos k)
@@ -45,7 +46,8 @@ point_of s (Some row) (Some column) = Some (row * s + column)
 
 -- the point of a board of size s that the offset d, moved by t, leads to from the point m
 unfoldable pub place_at : ℕ → ℕ → ℕ → Offset → Option ℕ
-place_at s t m d = point_of s (line_of s (pos (m / s) +ℤ (transformed t d).0)) (line_of s (pos (m % s) +ℤ (transformed t d).1))
+place_at s t m d = point_of s (line_of s (pos (m / s) +ℤ (transformed t d).0))
+    (line_of s (pos (m % s) +ℤ (transformed t d).1))
 
 -- the place in ring k of the offset a rows below and b columns right of the ring's first
 abbrev pub place_in : ℕ → ℕ → ℕ → ℕ

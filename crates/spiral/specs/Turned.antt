@@ -7,7 +7,8 @@ use Rattle.spiral.specs.Spiral.{offset_count, offset_at}
 abbrev pub entry_at : List Offset → ℕ → Offset
 entry_at table i = slice_index_or table i (pos 0, pos 0)
 
--- the table has room for every index, and has for each of the first `count` its offset, moved by t; `after` is the offset after those
+-- the table has room for every index, and has for each of the first `count` its offset, moved by t; `after` is the
+-- offset after those
 pub record IsTurned (t count : ℕ) (after : Offset) (table : List Offset) : Type 0 where
   pub length : length table ≡ offset_count
   pub bound : count ≤ offset_count

@@ -32,8 +32,8 @@ pub fn stepped(row: u8, column: u8, by: (i8, i8), size: Size) -> Option<Point>
     Some(row as u16 * size.get() as u16 + column as u16)
 }
 
-/// The point that the offset of `dr` rows down and `dc` columns to the right, moved by a transformation, leads to from a
-/// point; None exactly off the board.
+/// The point that the offset of `dr` rows down and `dc` columns to the right, moved by a transformation, leads to from
+/// a point; None exactly off the board.
 pub fn place_from(from: Point, t: Transform, dr: i8, dc: i8, size: Size) -> Option<Point>
     requires near { IsNear (dr, dc) }
     requires on_board { from < size * size }
@@ -49,7 +49,8 @@ pub fn place_from(from: Point, t: Transform, dr: i8, dc: i8, size: Size) -> Opti
     )
 }
 
-/// The point that the offset with an index, moved by a transformation, leads to from the anchor; None exactly off the board.
+/// The point that the offset with an index, moved by a transformation, leads to from the anchor; None exactly off the
+/// board.
 pub fn place(index: u16, t: Transform, anchor: Point, size: Size) -> Option<Point>
     requires index { index < offset_count }
     requires on_board { anchor < size * size }

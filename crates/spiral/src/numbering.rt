@@ -8,7 +8,8 @@ use crate::ring::{LAST_RING, in_ring, index_in_square, ring_start, ring_with};
 /// How many offsets there are: those with both parts from -24 to 24.
 pub const OFFSETS: u16 = (2 * LAST_RING + 1) * (2 * LAST_RING + 1);
 
-/// The offset with an index: how many rows down and how many columns to the right it leads, each negative for the other way.
+/// The offset with an index: how many rows down and how many columns to the right it leads, each negative for the other
+/// way.
 pub fn offset(index: u16) -> (i8, i8)
     requires { index < offset_count }
     ensures value { result ≡ offset_at index }

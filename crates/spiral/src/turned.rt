@@ -10,8 +10,8 @@ use std::marker::Model;
 
 /// The offsets of the spiral in order, each moved by one transformation. Seen as the transformation.
 ///
-/// It is made once where many places are read under one transformation. Each offset is moved when it is asked for after all those
-/// before it, so that each later place is one look-up, and offsets that nothing asks for cost nothing.
+/// It is made once where many places are read under one transformation. Each offset is moved when it is asked for after
+/// all those before it, so that each later place is one look-up, and offsets that nothing asks for cost nothing.
 #[derive(Drop)]
 pub struct TurnedSpiral {
     transform: Transform,
@@ -81,12 +81,14 @@ impl TurnedSpiral {
         by
     }
 
-    /// The point that the offset with an index leads to from the anchor in a row and a column; None exactly off the board.
+    /// The point that the offset with an index leads to from the anchor in a row and a column; None exactly off the
+    /// board.
     pub fn place(&mut self, index: u16, row: u8, column: u8, size: Size) -> Option<Point>
         requires index { index < offset_count }
         requires row { row < size }
         requires column { column < size }
-        ensures value { (anchor : ℕ) → row ≡ anchor / size → column ≡ anchor % size → result ≡ place_at size self.old anchor (offset_at index) }
+        ensures value { (anchor : ℕ) → row ≡ anchor / size → column ≡ anchor % size
+            → result ≡ place_at size self.old anchor (offset_at index) }
         ensures on_board { IfSome result (λ p. p < size * size) }
         ensures same { self.new ≡ self.old }
     {

@@ -67,8 +67,8 @@ fn note_each(
     count
 }
 
-/// Writes those of the points that were emptied into the row from the place `first` on; how many they are. Most moves take
-/// nothing, so that is asked first.
+/// Writes those of the points that were emptied into the row from the place `first` on; how many they are. Most moves
+/// take nothing, so that is asked first.
 pub fn note(
     row: &mut [Point; MAX_CAPTURED],
     first: u16,

@@ -31,15 +31,16 @@ use go_base::view::View;
 use go_base::{Cell, Colour, Look};
 use std::marker::Model;
 
-/// A position with trial moves that can be taken back, GNU Go's `trymove` and `popgo`. It holds its view of the position, and
-/// asks it for a point only when a string or a play needs it. A move is kept by what it took, so that taking it back puts the
-/// captured stones again; everything is kept in place, in some 6 KB, and nothing takes memory.
+/// A position with trial moves that can be taken back, GNU Go's `trymove` and `popgo`. It holds its view of the
+/// position, and asks it for a point only when a string or a play needs it. A move is kept by what it took, so that
+/// taking it back puts the captured stones again; everything is kept in place, in some 6 KB, and nothing takes memory.
 pub struct Trial<L: Look> {
     /// The view, and what the standing moves changed over it.
     board: Overlay<L>,
     /// The ban after the newest move; before the first move the view is asked.
     ban: Option<(Point, Colour)>,
-    /// The first `standing` of these are the moves that stand, the oldest first, each with what it took and the ban before it.
+    /// The first `standing` of these are the moves that stand, the oldest first, each with what it took and the ban
+    /// before it.
     kept: [Kept; MAX_TRIAL_MOVES],
     standing: u8,
     /// The first `captured` of these are the points of the stones that the standing moves took, move by move.
@@ -146,9 +147,11 @@ impl<L: Look> Trial<L> {
         ensures count { self.new.count ≡ self.old.count }
         ensures over { (pos : BoardState) → Agrees (L.seen self.new.look) pos
             → result ≡ liberty_points pos.size (after pos self.old.moves).cells p }
-        ensures answer { result ≡ liberty_points (L.shows self.old.look).size (after (L.shows self.old.look) self.old.moves).cells p }
+        ensures answer { result ≡ liberty_points (L.shows self.old.look).size
+            (after (L.shows self.old.look) self.old.moves).cells p }
         ensures near { (pos : BoardState) → Agrees (L.seen self.new.look) pos
-            → AddsIn (L.seen self.old.look) (L.seen self.new.look) (neighbourhood_of pos.size (after pos self.old.moves).cells (alone p)) }
+            → AddsIn (L.seen self.old.look) (L.seen self.new.look)
+            (neighbourhood_of pos.size (after pos self.old.moves).cells (alone p)) }
     {
         liberties_of(&mut self.board, p)
     }
@@ -160,25 +163,33 @@ impl<L: Look> Trial<L> {
         ensures count { self.new.count ≡ self.old.count }
         ensures over { (pos : BoardState) → Agrees (L.seen self.new.look) pos
             → result ≡ boundary_points pos.size (after pos self.old.moves).cells p }
-        ensures answer { result ≡ boundary_points (L.shows self.old.look).size (after (L.shows self.old.look) self.old.moves).cells p }
+        ensures answer { result ≡ boundary_points (L.shows self.old.look).size
+            (after (L.shows self.old.look) self.old.moves).cells p }
         ensures near { (pos : BoardState) → Agrees (L.seen self.new.look) pos
-            → AddsIn (L.seen self.old.look) (L.seen self.new.look) (neighbourhood_twice pos.size (after pos self.old.moves).cells p) }
+            → AddsIn (L.seen self.old.look) (L.seen self.new.look)
+            (neighbourhood_twice pos.size (after pos self.old.moves).cells p) }
     {
         boundary_of(&mut self.board, p)
     }
 
-    /// The liberties of the string of p and the last liberties of the enemy strings next to it, both none where p is empty.
+    /// The liberties of the string of p and the last liberties of the enemy strings next to it, both none where p is
+    /// empty.
     pub fn surroundings(&mut self, p: Point) -> Surroundings
         requires { p < (L.shows self.old.look).size * (L.shows self.old.look).size }
         ensures stays { Stays L.shows L.seen self.old self.new }
         ensures count { self.new.count ≡ self.old.count }
         ensures over { (pos : BoardState) → Agrees (L.seen self.new.look) pos
             → (result.liberties ≡ liberty_points pos.size (after pos self.old.moves).cells p)
-            × ((l : ℕ) → set.contains result.last_liberties l ≡ is_last_liberty_of_enemy pos.size (after pos self.old.moves).cells p l) }
-        ensures answer { (result.liberties ≡ liberty_points (L.shows self.old.look).size (after (L.shows self.old.look) self.old.moves).cells p)
-            × ((l : ℕ) → set.contains result.last_liberties l ≡ is_last_liberty_of_enemy (L.shows self.old.look).size (after (L.shows self.old.look) self.old.moves).cells p l) }
+            × ((l : ℕ) → set.contains result.last_liberties l
+            ≡ is_last_liberty_of_enemy pos.size (after pos self.old.moves).cells p l) }
+        ensures answer { (result.liberties ≡ liberty_points (L.shows self.old.look).size
+            (after (L.shows self.old.look) self.old.moves).cells p)
+            × ((l : ℕ) → set.contains result.last_liberties l
+            ≡ is_last_liberty_of_enemy (L.shows self.old.look).size
+            (after (L.shows self.old.look) self.old.moves).cells p l) }
         ensures near { (pos : BoardState) → Agrees (L.seen self.new.look) pos
-            → AddsIn (L.seen self.old.look) (L.seen self.new.look) (neighbourhood_twice pos.size (after pos self.old.moves).cells p) }
+            → AddsIn (L.seen self.old.look) (L.seen self.new.look)
+            (neighbourhood_twice pos.size (after pos self.old.moves).cells p) }
     {
         surroundings_of(&mut self.board, p)
     }
@@ -213,7 +224,8 @@ impl<L: Look> Trial<L> {
         self.ban = None;
     }
 
-    /// Takes the last trial move back, with its captures and its ban; false exactly where no trial move is left. It looks at no point.
+    /// Takes the last trial move back, with its captures and its ban; false exactly where no trial move is left. It
+    /// looks at no point.
     pub fn back(&mut self) -> bool
         ensures some { result ≡ is_some_move self.old.moves }
         ensures moves { self.new ≡ record self.old { moves = tail self.old.moves } }
@@ -240,15 +252,19 @@ impl<L: Look> Trial<L> {
     fn put(&mut self, c: Colour, p: Point, dropped: bool) -> bool
         requires room { length self.old.moves < most_moves }
         requires on_board { p < (L.shows self.old.look).size * (L.shows self.old.look).size }
-        requires dropped { (pos : BoardState) → Agrees (L.seen self.old.look) pos → dropped ≡ is_banned (after pos self.old.moves).ban c p }
+        requires dropped { (pos : BoardState) → Agrees (L.seen self.old.look) pos
+            → dropped ≡ is_banned (after pos self.old.moves).ban c p }
         ensures shown { L.shows self.new.look ≡ L.shows self.old.look }
         ensures grows { Grows (L.seen self.old.look) (L.seen self.new.look) }
         ensures count { self.new.count ≡ self.old.count }
-        ensures moves { Put result (TrialMove.Play (record { colour = c; at = p; dropped = dropped })) self.old.moves self.new.moves }
+        ensures moves { Put result (TrialMove.Play (record { colour = c; at = p; dropped = dropped })) self.old.moves
+            self.new.moves }
         ensures over { (pos : BoardState) → Agrees (L.seen self.new.look) pos
-            → tried_free (after pos self.old.moves) (play_free (after pos self.old.moves) c p) ≡ (made_or_suicide result, after pos self.new.moves) }
+            → tried_free (after pos self.old.moves) (play_free (after pos self.old.moves) c p)
+            ≡ (made_or_suicide result, after pos self.new.moves) }
         ensures near { (pos : BoardState) → Agrees (L.seen self.new.look) pos
-            → AddsIn (L.seen self.old.look) (L.seen self.new.look) (neighbourhood_twice pos.size (after pos self.old.moves).cells p) }
+            → AddsIn (L.seen self.old.look) (L.seen self.new.look)
+            (neighbourhood_twice pos.size (after pos self.old.moves).cells p) }
     {
         match play_on(&mut self.board, c, p) {
             Ok(played) => {
@@ -277,9 +293,9 @@ impl<L: Look> Trial<L> {
         }
     }
 
-    /// Plays c at p, and with `allow` also where the ban alone forbids it. Refused are, in this order, a play on a stone, one that
-    /// the ban forbids without `allow`, and suicide; a refused play leaves the trial moves, and counts as tried. The trial move notes
-    /// that a ban was dropped for it, exactly where the ban forbade the play.
+    /// Plays c at p, and with `allow` also where the ban alone forbids it. Refused are, in this order, a play on a
+    /// stone, one that the ban forbids without `allow`, and suicide; a refused play leaves the trial moves, and counts
+    /// as tried. The trial move notes that a ban was dropped for it, exactly where the ban forbade the play.
     pub fn play(&mut self, c: Colour, p: Point, allow: bool) -> Tried
         requires room { length self.old.moves < most_moves }
         requires on_board { p < (L.shows self.old.look).size * (L.shows self.old.look).size }
@@ -289,12 +305,15 @@ impl<L: Look> Trial<L> {
         ensures moves { Moved result c p self.old.moves self.new.moves }
         ensures noted { (pos : BoardState) → Agrees (L.seen self.new.look) pos
             → IsNoted result (is_banned (after pos self.old.moves).ban c p) self.new.moves }
-        ensures noted_here { IsNoted result (is_banned (after (L.shows self.old.look) self.old.moves).ban c p) self.new.moves }
+        ensures noted_here { IsNoted result (is_banned (after (L.shows self.old.look) self.old.moves).ban c p)
+            self.new.moves }
         ensures over { (pos : BoardState) → Agrees (L.seen self.new.look) pos
             → tried (after pos self.old.moves) c p allow ≡ (result, after pos self.new.moves) }
-        ensures answer { tried (after (L.shows self.old.look) self.old.moves) c p allow ≡ (result, after (L.shows self.old.look) self.new.moves) }
+        ensures answer { tried (after (L.shows self.old.look) self.old.moves) c p allow
+            ≡ (result, after (L.shows self.old.look) self.new.moves) }
         ensures near { (pos : BoardState) → Agrees (L.seen self.new.look) pos
-            → AddsIn (L.seen self.old.look) (L.seen self.new.look) (neighbourhood_twice pos.size (after pos self.old.moves).cells p) }
+            → AddsIn (L.seen self.old.look) (L.seen self.new.look)
+            (neighbourhood_twice pos.size (after pos self.old.moves).cells p) }
     {
         self.count_one();
         if self.cell(p) != Cell::Empty {

@@ -20,7 +20,8 @@ use helpers::Helpers;
 impl Engine {
     pub(crate) fn list_matches(&mut self, helpers: &mut Helpers, friend: Colour) -> Answer
         ensures answer { IsAnswer (machine_of self.old)
-            (matches_listed (matcher_with (says_yes (states_of state helpers.old)) self.old) (machine_of self.old) friend)
+            (matches_listed (matcher_with (says_yes (states_of state helpers.old)) self.old)
+            (machine_of self.old) friend)
             result (machine_of self.new) }
         ensures patterns { self.new.patterns ≡ self.old.patterns }
         ensures same { self.new.automaton ≡ self.old.automaton }

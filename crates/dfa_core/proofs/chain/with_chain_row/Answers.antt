@@ -11,7 +11,16 @@ returns c =
     IfOk-weaker c.with_row.result _ (IsChain c.args.p.now c.args.n c.args.number (c.args.i + 1))
     (λ rows same. subst (IsChain c.args.p.now c.args.n c.args.number (c.args.i + 1)) (sym same)
     (IsChain-push c.args.p.now c.args.n c.args.number c.args.i c.args.rows
-    (record { targets = c.chain_targets-targets.result; numbers = c.chain_numbers.result.now ++ []; depth = c.chain_depth-depth.result })
+    (record {
+      targets = c.chain_targets-targets.result;
+      numbers = c.chain_numbers.result.now ++ [];
+      depth = c.chain_depth-depth.result;
+    })
     c.requires.chain
-    (record { targets = c.chain_targets-targets.ensures; numbers = append-nil c.chain_numbers.result.now ∙ c.chain_numbers.ensures; depth = c.chain_depth-depth.ensures })))
+    (record {
+      targets = c.chain_targets-targets.ensures;
+      numbers = append-nil c.chain_numbers.result.now ∙ c.chain_numbers.ensures;
+      depth =
+          c.chain_depth-depth.ensures;
+    })))
     c.with_row.ensures

@@ -5,10 +5,14 @@ use Rattle.dfa_join.proofs.pairs.number.Goals as goal
 
 -- the pair was known
 pub returns-then-len-limit-clause-ok : goal.returns-then-len-limit-clause-ok
-returns-then-len-limit-clause-ok c = IfOk-weaker c.known.result _ _ (λ r at. Adds-known c.args.limit c.args.pairs.now.keys c.args.pair r at) c.known.ensures.ok
+returns-then-len-limit-clause-ok c =
+    IfOk-weaker c.known.result _ _ (λ r at. Adds-known c.args.limit c.args.pairs.now.keys c.args.pair r at)
+    c.known.ensures.ok
 
 -- it is known now
 pub returns-in-Ok-clause-ok : goal.returns-in-Ok-clause-ok
 returns-in-Ok-clause-ok c =
-    Adds-inserted c.args.limit c.args.pairs.now.keys c.insert_full.new.self.keys c.args.pair c.in-Ok.ensures.stored.0 c.in-Ok.number
-    c.in-Ok.ensures.keys c.in-Ok.ensures.stored.1 c.in-Ok.ensures.stored.2 (omega (arith, c.in-Ok.ensures.within)) (omega (arith, c.len.ensures.len))
+    Adds-inserted c.args.limit c.args.pairs.now.keys c.insert_full.new.self.keys c.args.pair c.in-Ok.ensures.stored.0
+    c.in-Ok.number
+    c.in-Ok.ensures.keys c.in-Ok.ensures.stored.1 c.in-Ok.ensures.stored.2 (omega (arith, c.in-Ok.ensures.within))
+    (omega (arith, c.len.ensures.len))

@@ -5,7 +5,9 @@ use Rattle.dfa_join.proofs.Products.{AreLines-push}
 use Rattle.dfa_join.proofs.product.with_line.Goals as goal
 
 pub expand-requires-clause-reached : goal.expand-requires-clause-reached
-expand-requires-clause-reached c = subst (IsReached c.args.a.now c.args.b.now) c.requires.pair (c.requires.lines.work.reached (length c.args.rows) c.requires.next)
+expand-requires-clause-reached c =
+    subst (IsReached c.args.a.now c.args.b.now) c.requires.pair
+    (c.requires.lines.work.reached (length c.args.rows) c.requires.next)
 
 pub expand-requires-clause-work : goal.expand-requires-clause-work
 expand-requires-clause-work c = c.requires.lines.work
@@ -15,12 +17,24 @@ pub returns-in-Ok-clause-lines : goal.returns-in-Ok-clause-lines
 returns-in-Ok-clause-lines c =
     subst (AreLines c.args.a.now c.args.b.now c.args.limit c.expand.new.pairs.keys) (sym c.in-Ok.ensures)
     (AreLines-push c.args.a.now c.args.b.now c.args.limit c.args.pairs.now.keys c.expand.new.pairs.keys c.args.rows
-    (record { targets = c.in_ok-targets.targets; numbers = c.accepts.result.now ++ c.accepts-2.result.now; depth = c.max-depth.result })
+    (record {
+      targets = c.in_ok-targets.targets;
+      numbers = c.accepts.result.now ++ c.accepts-2.result.now;
+      depth = c.max-depth.result;
+    })
     c.requires.lines c.requires.next
     c.in_ok-targets.ensures.keeps c.in_ok-targets.ensures.work
     (subst (λ q. IsLine c.args.a.now c.args.b.now c.expand.new.pairs.keys q
-    (record { targets = c.in_ok-targets.targets; numbers = c.accepts.result.now ++ c.accepts-2.result.now; depth = c.max-depth.result })) (sym c.requires.pair)
-    (record { leads = c.in_ok-targets.ensures.leads; numbers = λ i. c.accepts.ensures i ++ c.accepts-2.ensures i; depth = c.max-depth.ensures ∙ (λ i. max (c.depth.ensures i) (c.depth-2.ensures i)) }))
+    (record {
+      targets = c.in_ok-targets.targets;
+      numbers = c.accepts.result.now ++ c.accepts-2.result.now;
+      depth = c.max-depth.result;
+    })) (sym c.requires.pair)
+    (record {
+      leads = c.in_ok-targets.ensures.leads;
+      numbers = λ i. c.accepts.ensures i ++ c.accepts-2.ensures i;
+      depth = c.max-depth.ensures ∙ (λ i. max (c.depth.ensures i) (c.depth-2.ensures i));
+    }))
     c.in_ok-targets.ensures.order)
 
 pub returns-in-Ok-clause-more : goal.returns-in-Ok-clause-more

@@ -14,14 +14,18 @@ pub pattern_with-p-requires : goal.pattern_with-p-requires
 pattern_with-p-requires g c =
     let low : c.matches.next < length c.args.found.now.items = search rules in
     let there : IsFoundThere c.args.patterns.now c.args.position.now c.index-z.result.now =
-    c.requires.there c.index-z.result.now (kept_there _ c.args.found.now.items c.matches.found.items c.matches.kept c.matches.next c.index-z.result.now c.matches.invariant.kept low c.index-z.ensures) in
+    c.requires.there c.index-z.result.now
+    (kept_there _ c.args.found.now.items c.matches.found.items c.matches.kept c.matches.next c.index-z.result.now
+    c.matches.invariant.kept low c.index-z.ensures) in
     slice_get_within c.args.patterns.now c.index-z.result.now.pattern there.pattern there.number
 
 -- at a point of the board
 pub all_agree-agreed-requires : goal.all_agree-agreed-requires
 all_agree-agreed-requires g c =
     let low : c.matches.next < length c.args.found.now.items = search rules in
-    (c.requires.there c.index-z.result.now (kept_there _ c.args.found.now.items c.matches.found.items c.matches.kept c.matches.next c.index-z.result.now c.matches.invariant.kept low c.index-z.ensures)).on_board
+    (c.requires.there c.index-z.result.now
+    (kept_there _ c.args.found.now.items c.matches.found.items c.matches.kept c.matches.next c.index-z.result.now
+    c.matches.invariant.kept low c.index-z.ensures)).on_board
 
 -- and it is kept where all say yes
 pub matches-preserved : goal.matches-preserved
@@ -29,20 +33,27 @@ matches-preserved g c =
     let low : c.matches.next < length c.args.found.now.items = search rules in
     let slots = states_of (λ z. (goal.Helper-dyn g z).state z.1) c.args.helpers.now in
     let z = c.index-z.result.now in
-    let read = read_old _ c.args.found.now.items c.matches.found.items c.matches.kept c.matches.next z c.matches.invariant.kept low c.index-z.ensures in
+    let read = read_old _ c.args.found.now.items c.matches.found.items c.matches.kept c.matches.next z
+    c.matches.invariant.kept low c.index-z.ensures in
     let p = c.pattern_with-p.result.now in
     let now = states_of (λ z. (goal.Helper-dyn g z).state z.1) c.matches.helpers in
     let after = states_of (λ z. (goal.Helper-dyn g z).state z.1) c.all_agree-agreed.new.helpers in
-    let of_items : IsAskedFor now (helper_names c.as_slice.result.now) c.args.position.now z.at c.args.friend c.all_agree-agreed.result after =
+    let of_items : IsAskedFor now (helper_names c.as_slice.result.now) c.args.position.now z.at c.args.friend
+    c.all_agree-agreed.result after =
     record { answer = c.all_agree-agreed.ensures.answer; calls = c.all_agree-agreed.ensures.calls } in
-    let asked = subst (λ items. IsAskedFor now (helper_names items) c.args.position.now z.at c.args.friend c.all_agree-agreed.result after) c.as_slice.ensures of_items in
+    let asked = subst (λ items. IsAskedFor now
+    (helper_names items) c.args.position.now z.at c.args.friend c.all_agree-agreed.result after) c.as_slice.ensures
+    of_items in
     record {
-      kept = kept_next _ c.args.found.now.items c.matches.found.items c.matches.kept c.matches.next z c.matches.invariant.kept low c.index-z.ensures
+      kept = kept_next _ c.args.found.now.items c.matches.found.items c.matches.kept c.matches.next z
+          c.matches.invariant.kept low c.index-z.ensures
           c.all_agree-agreed.result c.keep-kept.new.found.items c.keep-kept.result
-          (answer_is slots c.args.patterns.now c.args.position.now c.args.friend c.args.found.now.items c.matches.next z p now after c.all_agree-agreed.result low read
+          (answer_is slots c.args.patterns.now c.args.position.now c.args.friend c.args.found.now.items c.matches.next z
+          p now after c.all_agree-agreed.result low read
           c.pattern_with-p.ensures c.matches.invariant.calls asked)
           c.keep-kept.ensures.found c.keep-kept.ensures.kept;
-      calls = calls_are slots c.args.patterns.now c.args.position.now c.args.friend c.args.found.now.items c.matches.next z p now after c.all_agree-agreed.result low read
+      calls = calls_are slots c.args.patterns.now c.args.position.now c.args.friend c.args.found.now.items
+          c.matches.next z p now after c.all_agree-agreed.result low read
           c.pattern_with-p.ensures c.matches.invariant.calls asked;
     }
 

@@ -11,6 +11,8 @@ abbrev pub invariant-matches : goal.invariant-matches
 invariant-matches g l =
     let slots = states_of (λ z. (goal.Helper-dyn g z).state z.1) l.fn.helpers in
     record {
-      kept : KeepsFirst (λ z. is_agreed_at (says_yes slots) l.position l.friend (slice_get l.patterns z.pattern) z) l.fn.found.items l.found.items l.kept l.next;
-      calls : states_of (λ z. (goal.Helper-dyn g z).state z.1) l.helpers ≡ after_matches slots l.patterns (take l.next l.fn.found.items) l.position l.friend;
+      kept : KeepsFirst (λ z. is_agreed_at (says_yes slots) l.position l.friend (slice_get l.patterns z.pattern) z)
+          l.fn.found.items l.found.items l.kept l.next;
+      calls : states_of (λ z. (goal.Helper-dyn g z).state z.1) l.helpers
+          ≡ after_matches slots l.patterns (take l.next l.fn.found.items) l.position l.friend;
     }

@@ -9,21 +9,29 @@ use Rattle.match_engine.proofs.allowing.is_allowed.Goals as goal
 -- the friend's stone is not safe
 pub returns-then-not-is_safe-clause-value : goal.returns-then-not-is_safe-clause-value
 returns-then-not-is_safe-clause-value c =
-    unsafe_refused (codes_of c.args.readings.now) c.args.p.now c.args.position.now c.args.friend c.args.z.now.transform c.args.z.now.at (sym c.is_safe.ensures.value ∙ c.if-not-is_safe.true)
+    unsafe_refused (codes_of c.args.readings.now) c.args.p.now c.args.position.now c.args.friend c.args.z.now.transform
+    c.args.z.now.at (sym c.is_safe.ensures.value ∙ c.if-not-is_safe.true)
 
 -- the enemy's is not, by the same codes
 pub returns-then-not-is_enemy_safe-clause-value : goal.returns-then-not-is_enemy_safe-clause-value
 returns-then-not-is_enemy_safe-clause-value c =
-    enemy_refused (codes_of c.args.readings.now) c.args.p.now c.args.position.now c.args.friend c.args.z.now.transform c.args.z.now.at (sym c.is_safe.ensures.value ∙ c.if-not-is_safe.false)
-    (ap (λ (code : Codes). is_enemy_safe code c.args.p.now c.args.position.now c.args.friend c.args.z.now.at) (sym (codes_stay c.args.readings.now c.is_safe.new.readings c.is_safe.ensures.follows))
+    enemy_refused (codes_of c.args.readings.now) c.args.p.now c.args.position.now c.args.friend c.args.z.now.transform
+    c.args.z.now.at (sym c.is_safe.ensures.value ∙ c.if-not-is_safe.false)
+    (ap (λ (code : Codes). is_enemy_safe code c.args.p.now c.args.position.now c.args.friend c.args.z.now.at)
+    (sym (codes_stay c.args.readings.now c.is_safe.new.readings c.is_safe.ensures.follows))
     ∙ sym c.is_enemy_safe.ensures.value ∙ c.if-not-is_enemy_safe.true)
 
 -- both are, or need not be, and the constraint decides by the same codes
 pub returns-clause-value : goal.returns-clause-value
 returns-clause-value c =
     c.is_constraint_true.ensures.value
-    ∙ ap (λ (code : Codes). is_constraint_true code c.args.p.now c.args.position.now c.args.friend c.args.z.now.transform c.args.z.now.at)
-    (codes_stay c.args.readings.now c.is_enemy_safe.new.readings (Follows-trans c.args.readings.now c.is_safe.new.readings c.is_enemy_safe.new.readings c.is_safe.ensures.follows c.is_enemy_safe.ensures.follows))
-    ∙ by_constraint (codes_of c.args.readings.now) c.args.p.now c.args.position.now c.args.friend c.args.z.now.transform c.args.z.now.at (sym c.is_safe.ensures.value ∙ c.if-not-is_safe.false)
-    (ap (λ (code : Codes). is_enemy_safe code c.args.p.now c.args.position.now c.args.friend c.args.z.now.at) (sym (codes_stay c.args.readings.now c.is_safe.new.readings c.is_safe.ensures.follows))
+    ∙ ap (λ (code : Codes). is_constraint_true code c.args.p.now c.args.position.now c.args.friend
+    c.args.z.now.transform c.args.z.now.at)
+    (codes_stay c.args.readings.now c.is_enemy_safe.new.readings
+    (Follows-trans c.args.readings.now c.is_safe.new.readings c.is_enemy_safe.new.readings c.is_safe.ensures.follows
+    c.is_enemy_safe.ensures.follows))
+    ∙ by_constraint (codes_of c.args.readings.now) c.args.p.now c.args.position.now c.args.friend c.args.z.now.transform
+    c.args.z.now.at (sym c.is_safe.ensures.value ∙ c.if-not-is_safe.false)
+    (ap (λ (code : Codes). is_enemy_safe code c.args.p.now c.args.position.now c.args.friend c.args.z.now.at)
+    (sym (codes_stay c.args.readings.now c.is_safe.new.readings c.is_safe.ensures.follows))
     ∙ sym c.is_enemy_safe.ensures.value ∙ c.if-not-is_enemy_safe.false)

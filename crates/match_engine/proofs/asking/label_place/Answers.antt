@@ -7,10 +7,12 @@ use Rattle.match_engine.proofs.asking.label_place.Goals as goal
 pub cell_place-requires-clause-row : goal.cell_place-requires-clause-row
 cell_place-requires-clause-row c =
     let found : label_with c.args.letter c.args.p.now.labels ≡ Some c.in_ok-label.label = search rules in
-    label_row c.args.p.now.rows c.args.p.now.cols c.args.letter c.args.p.now.labels c.in_ok-label.label found c.args.p.now.labelled
+    label_row c.args.p.now.rows c.args.p.now.cols c.args.letter c.args.p.now.labels c.in_ok-label.label found
+    c.args.p.now.labelled
 
 -- the label is one of the pattern's
 pub cell_place-requires-clause-column : goal.cell_place-requires-clause-column
 cell_place-requires-clause-column c =
     let found : label_with c.args.letter c.args.p.now.labels ≡ Some c.in_ok-label.label = search rules in
-    label_column c.args.p.now.rows c.args.p.now.cols c.args.letter c.args.p.now.labels c.in_ok-label.label found c.args.p.now.labelled
+    label_column c.args.p.now.rows c.args.p.now.cols c.args.letter c.args.p.now.labels c.in_ok-label.label found
+    c.args.p.now.labelled

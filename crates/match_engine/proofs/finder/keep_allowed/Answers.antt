@@ -15,14 +15,18 @@ pub pattern_with-p-requires : goal.pattern_with-p-requires
 pattern_with-p-requires c =
     let low : c.matches.next < length c.args.found.now.items = search rules in
     let there : IsFoundThere c.args.patterns.now c.args.position.now c.index.result.now =
-    c.requires.there c.index.result.now (kept_there _ c.args.found.now.items c.matches.found.items c.matches.kept c.matches.next c.index.result.now c.matches.invariant.kept low c.index.ensures) in
+    c.requires.there c.index.result.now
+    (kept_there _ c.args.found.now.items c.matches.found.items c.matches.kept c.matches.next c.index.result.now
+    c.matches.invariant.kept low c.index.ensures) in
     slice_get_within c.args.patterns.now c.index.result.now.pattern there.pattern there.number
 
 -- at a point of the board
 pub is_allowed-allowed-requires-clause-on_board : goal.is_allowed-allowed-requires-clause-on_board
 is_allowed-allowed-requires-clause-on_board c =
     let low : c.matches.next < length c.args.found.now.items = search rules in
-    (c.requires.there c.index.result.now (kept_there _ c.args.found.now.items c.matches.found.items c.matches.kept c.matches.next c.index.result.now c.matches.invariant.kept low c.index.ensures)).on_board
+    (c.requires.there c.index.result.now
+    (kept_there _ c.args.found.now.items c.matches.found.items c.matches.kept c.matches.next c.index.result.now
+    c.matches.invariant.kept low c.index.ensures)).on_board
 
 -- and it is kept where it is allowed
 pub matches-preserved : goal.matches-preserved
@@ -30,13 +34,19 @@ matches-preserved c =
     let low : c.matches.next < length c.args.found.now.items = search rules in
     let same = codes_stay c.args.readings.now c.matches.readings c.matches.invariant.follows in
     record {
-      kept = kept_next _ c.args.found.now.items c.matches.found.items c.matches.kept c.matches.next c.index.result.now c.matches.invariant.kept low c.index.ensures
+      kept = kept_next _ c.args.found.now.items c.matches.found.items c.matches.kept c.matches.next c.index.result.now
+          c.matches.invariant.kept low c.index.ensures
           c.is_allowed-allowed.result c.keep-kept.new.found.items c.keep-kept.result
           (c.is_allowed-allowed.ensures.value
-          ∙ ap (λ (code : Codes). is_allowed code c.pattern_with-p.result.now c.args.position.now c.args.friend c.index.result.now.transform c.index.result.now.at) same
-          ∙ sym (ap (λ o. is_allowed_at (codes_of c.args.readings.now) c.args.position.now c.args.friend o c.index.result.now) c.pattern_with-p.ensures))
+          ∙ ap (λ (code : Codes). is_allowed code c.pattern_with-p.result.now c.args.position.now c.args.friend
+          c.index.result.now.transform c.index.result.now.at) same
+          ∙ sym (ap (λ o. is_allowed_at (codes_of c.args.readings.now) c.args.position.now c.args.friend o
+          c.index.result.now) c.pattern_with-p.ensures))
           c.keep-kept.ensures.found c.keep-kept.ensures.kept;
-      follows = Follows-trans c.args.readings.now c.matches.readings c.is_allowed-allowed.new.readings c.matches.invariant.follows c.is_allowed-allowed.ensures.follows;
-      friend_plays = subst (λ (code : Codes). Remembers code c.args.position.now c.args.friend c.is_allowed-allowed.new.friend_plays) same c.is_allowed-allowed.ensures.friend_plays;
-      enemy_plays = subst (λ (code : Codes). Remembers code c.args.position.now (other c.args.friend) c.is_allowed-allowed.new.enemy_plays) same c.is_allowed-allowed.ensures.enemy_plays;
+      follows = Follows-trans c.args.readings.now c.matches.readings c.is_allowed-allowed.new.readings
+          c.matches.invariant.follows c.is_allowed-allowed.ensures.follows;
+      friend_plays = subst (λ (code : Codes). Remembers code c.args.position.now c.args.friend
+          c.is_allowed-allowed.new.friend_plays) same c.is_allowed-allowed.ensures.friend_plays;
+      enemy_plays = subst (λ (code : Codes). Remembers code c.args.position.now
+          (other c.args.friend) c.is_allowed-allowed.new.enemy_plays) same c.is_allowed-allowed.ensures.enemy_plays;
     }

@@ -9,7 +9,8 @@ use Rattle.match_engine.proofs.finder.keep_allowed.Given as goal
 -- of those that were read the allowed ones are kept, and what was read of plays is remembered
 abbrev pub invariant-matches : goal.invariant-matches
 invariant-matches l = record {
-  kept : KeepsFirst (λ z. is_allowed_at (codes_of l.fn.readings) l.position l.friend (slice_get l.patterns z.pattern) z) l.fn.found.items l.found.items l.kept l.next;
+  kept : KeepsFirst (λ z. is_allowed_at (codes_of l.fn.readings) l.position l.friend (slice_get l.patterns z.pattern) z)
+      l.fn.found.items l.found.items l.kept l.next;
   follows : Follows l.fn.readings l.readings;
   friend_plays : Remembers (codes_of l.fn.readings) l.position l.friend l.friend_plays;
   enemy_plays : Remembers (codes_of l.fn.readings) l.position (other l.friend) l.enemy_plays;

@@ -8,6 +8,7 @@ use Rattle.match_engine.proofs.finder.matches_among.Given as goal
 -- the matches that the hits so far are, and where the friend may play
 abbrev pub invariant-loop-hit : goal.invariant-loop-hit
 invariant-loop-hit l = record {
-  found : l.found.items ≡ filter_map (λ hit. match_from (slice_get l.patterns hit.pattern) l.position l.friend hit) (take l.hit-index l.hits);
+  found : l.found.items ≡ filter_map (λ hit. match_from (slice_get l.patterns hit.pattern) l.position l.friend hit)
+      (take l.hit-index l.hits);
   knows : Knows (λ q. is_legal l.position l.friend q) l.legal;
 }

@@ -3,4 +3,5 @@ use Rattle.match_engine.proofs.laws.machine_of_the_patterns_finds_their_matches.
 
 -- its hits are where the patterns fit
 pub returns : goal.returns
-returns c = λ code advice patterns machine board friend accepts. same_by_machine code advice patterns machine board friend accepts
+returns c = λ code advice patterns machine board friend accepts.
+    same_by_machine code advice patterns machine board friend accepts

@@ -9,5 +9,9 @@ pub returns : goal.returns
 returns c =
     c.place_from.ensures.value
     ∙ ap (place_at c.args.size c.args.t c.args.star)
-    (offset_by_parts _ _ _ _ (pos c.args.row -ℤ pos c.args.p.now.star.0, pos c.args.column -ℤ pos c.args.p.now.star.1) refl
-    (omega (arith, ints, c.args.p.now.diagram.star_row, c.args.p.now.diagram.rows_to)) (omega (arith, ints, c.args.p.now.diagram.star_column, c.args.p.now.diagram.columns_to)))
+    (offset_by_parts _ _ _ _ (
+      pos c.args.row -ℤ pos c.args.p.now.star.0,
+      pos c.args.column -ℤ pos c.args.p.now.star.1,
+    ) refl
+    (omega (arith, ints, c.args.p.now.diagram.star_row, c.args.p.now.diagram.rows_to))
+    (omega (arith, ints, c.args.p.now.diagram.star_column, c.args.p.now.diagram.columns_to)))

@@ -6,9 +6,11 @@ use Rattle.match_engine.proofs.plays.is_safe_play.Goals as goal
 -- by the code of an attack on the stone
 pub returns-in-Ok-clause-value : goal.returns-in-Ok-clause-value
 returns-in-Ok-clause-value c =
-    safe_after (codes_of c.args.readings.now) c.args.position.now c.args.colour c.args.at c.attack_code.result c.in-Ok.next (sym c.play.ensures.value ∙ c.in-Ok.is) c.attack_code.ensures.value
+    safe_after (codes_of c.args.readings.now) c.args.position.now c.args.colour c.args.at c.attack_code.result
+    c.in-Ok.next (sym c.play.ensures.value ∙ c.in-Ok.is) c.attack_code.ensures.value
 
 -- the play is illegal
 pub returns-in-Err-clause-value : goal.returns-in-Err-clause-value
 returns-in-Err-clause-value c =
-    safe_never (codes_of c.args.readings.now) c.args.position.now c.args.colour c.args.at c.in-Err.field-0 (sym c.play.ensures.value ∙ c.in-Err.is)
+    safe_never (codes_of c.args.readings.now) c.args.position.now c.args.colour c.args.at c.in-Err.field-0
+    (sym c.play.ensures.value ∙ c.in-Err.is)

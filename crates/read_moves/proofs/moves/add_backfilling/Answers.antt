@@ -25,11 +25,13 @@ loop-l-preserved g c =
           let e = same_size (g.met.L.Look.sized c.loop-l.board.look) a0 ∙ ap (λ x. x.size) i.stays.shown in
           let on = subst (λ n. l < n * n) (sym e) (c.requires.on_board l first.2) in
           let came = rw i.stays.moves at (c.add_backfilling_at.ensures.near pos a) in
-          AddsIn-trans (i.near pos a0) (AddsIn-mono came (λ r h. any_below_from (pos.size * pos.size) _ l on (and_from _ _ first.2 h)));
+          AddsIn-trans (i.near pos a0) (AddsIn-mono came
+          (λ r h. any_below_from (pos.size * pos.size) _ l on (and_from _ _ first.2 h)));
       over = λ pos a.
           let a0 = agrees_before c.add_backfilling_at.ensures.stays.grows a in
           let came = rw i.stays.moves at (c.add_backfilling_at.ensures.over pos a) in
-          LeftBelow-next (is_left (after pos c.args.board.now.moves) c.args.c) c.args.points.now c.args.found.now c.loop-l.from l c.loop-l.found c.add_backfilling_at.new.found
+          LeftBelow-next (is_left (after pos c.args.board.now.moves) c.args.c) c.args.points.now c.args.found.now
+          c.loop-l.from l c.loop-l.found c.add_backfilling_at.new.found
           first.0 (i.over pos a0) first.2 first.3 came;
     }
 
@@ -37,5 +39,7 @@ loop-l-preserved g c =
 pub returns-clause-over : goal.returns-clause-over
 returns-clause-over g c = λ pos a.
     let e = same_size (g.met.L.Look.sized c.loop-l.board.look) a ∙ ap (λ x. x.size) c.loop-l.invariant.stays.shown in
-    LeftBelow-all (is_left (after pos c.args.board.now.moves) c.args.c) c.args.points.now c.args.found.now c.loop-l.from (pos.size * pos.size) c.loop-l.found
-    (c.loop-l.invariant.over pos a) c.in_default.ensures.none (λ k h. subst (λ n. k < n * n) (sym e) (c.requires.on_board k h))
+    LeftBelow-all (is_left (after pos c.args.board.now.moves) c.args.c) c.args.points.now c.args.found.now c.loop-l.from
+    (pos.size * pos.size) c.loop-l.found
+    (c.loop-l.invariant.over pos a) c.in_default.ensures.none
+    (λ k h. subst (λ n. k < n * n) (sym e) (c.requires.on_board k h))

@@ -16,7 +16,8 @@ invariant-loop-l g l = record {
   stays : Stays g.L.Look.shows g.L.Look.seen l.fn.board l.board;
   near : (pos : BoardState) → Agrees (g.L.Look.seen l.board.look) pos
       → AddsIn (g.L.Look.seen l.fn.board.look) (g.L.Look.seen l.board.look)
-      (λ r. any_below (pos.size * pos.size) (λ k. set.contains l.points k && neighbourhood_twice pos.size (after pos l.fn.board.moves).cells k r));
+      (λ r. any_below (pos.size * pos.size) (λ k.
+      set.contains l.points k && neighbourhood_twice pos.size (after pos l.fn.board.moves).cells k r));
   over : (pos : BoardState) → Agrees (g.L.Look.seen l.board.look) pos
       → LeftBelow (is_left (after pos l.fn.board.moves) l.c) l.points l.fn.found l.from l.found;
 }

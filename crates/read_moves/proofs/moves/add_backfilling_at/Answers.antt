@@ -19,7 +19,8 @@ returns-in-Some-clause-over g c = λ pos a.
     let here = after pos c.args.board.now.moves in
     let m1 = c.has_two_empty_sides.ensures.stays.moves in
     let m2 = c.only_liberty_after.ensures.stays.moves ∙ m1 in
-    added_if_empty here.cells (λ p. leaves_only c.args.l p (play_free here c.args.c c.args.l)) c.args.found.now c.add_empty.new.found c.in-Some.p
+    added_if_empty here.cells (λ p. leaves_only c.args.l p (play_free here c.args.c c.args.l)) c.args.found.now
+    c.add_empty.new.found c.in-Some.p
     (rw m2 at (c.add_empty.ensures.over pos a)) (rw m1 at (c.in-Some.ensures.over pos a0))
 
 -- it is near the point of the play
@@ -29,13 +30,15 @@ returns-in-Some-clause-near g c = λ pos a.
     let a1 = agrees_before c.only_liberty_after.ensures.stays.grows a2 in
     let a0 = agrees_before c.has_two_empty_sides.ensures.stays.grows a1 in
     let here = after pos c.args.board.now.moves in
-    let on = subst (λ n. c.args.l < n * n) (sym (same_size (g.met.L.Look.sized c.args.board.now.look) a0)) c.requires.on_board in
+    let on = subst (λ n. c.args.l < n * n) (sym (same_size (g.met.L.Look.sized c.args.board.now.look) a0))
+    c.requires.on_board in
     let m1 = c.has_two_empty_sides.ensures.stays.moves in
     let left = sym (rw m1 at (c.in-Some.ensures.over pos a2 c.in-Some.p)) ∙ eq-eqb c.in-Some.p c.in-Some.p refl in
     let close = left_near here c.args.c c.args.l pos.size c.in-Some.p (size-after pos c.args.board.now.moves) on left in
     AddsIn-trans (AddsIn-mono (c.has_two_empty_sides.ensures.near pos a1) (sides_near pos.size here.cells c.args.l on))
     (AddsIn-trans (rw m1 at (c.only_liberty_after.ensures.near pos a2))
-    (AddsIn-mono c.add_empty.ensures.near (λ r h. ap (neighbourhood_twice pos.size here.cells c.args.l) (eqb-true r c.in-Some.p h) ∙ close)))
+    (AddsIn-mono c.add_empty.ensures.near (λ r h.
+    ap (neighbourhood_twice pos.size here.cells c.args.l) (eqb-true r c.in-Some.p h) ∙ close)))
 
 -- with two empty sides nothing comes
 pub returns-then-has_two_empty_sides-clause-over : goal.returns-then-has_two_empty_sides-clause-over
@@ -43,7 +46,8 @@ returns-then-has_two_empty_sides-clause-over g c = λ pos a p.
     let a0 = agrees_before c.has_two_empty_sides.ensures.stays.grows a in
     let here = after pos c.args.board.now.moves in
     let size = size-after pos c.args.board.now.moves in
-    let on = subst (λ n. c.args.l < n * n) (sym (size ∙ same_size (g.met.L.Look.sized c.args.board.now.look) a0)) c.requires.on_board in
+    let on = subst (λ n. c.args.l < n * n) (sym (size ∙ same_size (g.met.L.Look.sized c.args.board.now.look) a0))
+    c.requires.on_board in
     let two = c.has_two_empty_sides.ensures.over pos a c.if-has_two_empty_sides.true p in
     none_added (set.contains c.args.found.now p) _ _
     (sides_leave_none here c.args.c c.args.l p on (subst (λ n. HasOtherSide n here.cells c.args.l p) (sym size) two))
@@ -52,7 +56,8 @@ pub returns-then-has_two_empty_sides-clause-near : goal.returns-then-has_two_emp
 returns-then-has_two_empty_sides-clause-near g c = λ pos a.
     let a0 = agrees_before c.has_two_empty_sides.ensures.stays.grows a in
     let here = after pos c.args.board.now.moves in
-    let on = subst (λ n. c.args.l < n * n) (sym (same_size (g.met.L.Look.sized c.args.board.now.look) a0)) c.requires.on_board in
+    let on = subst (λ n. c.args.l < n * n) (sym (same_size (g.met.L.Look.sized c.args.board.now.look) a0))
+    c.requires.on_board in
     AddsIn-mono (c.has_two_empty_sides.ensures.near pos a) (sides_near pos.size here.cells c.args.l on)
 
 -- nothing is left
@@ -61,7 +66,8 @@ returns-in_default-clause-near g c = λ pos a.
     let a1 = agrees_before c.only_liberty_after.ensures.stays.grows a in
     let a0 = agrees_before c.has_two_empty_sides.ensures.stays.grows a1 in
     let here = after pos c.args.board.now.moves in
-    let on = subst (λ n. c.args.l < n * n) (sym (same_size (g.met.L.Look.sized c.args.board.now.look) a0)) c.requires.on_board in
+    let on = subst (λ n. c.args.l < n * n) (sym (same_size (g.met.L.Look.sized c.args.board.now.look) a0))
+    c.requires.on_board in
     let m1 = c.has_two_empty_sides.ensures.stays.moves in
     AddsIn-trans (AddsIn-mono (c.has_two_empty_sides.ensures.near pos a1) (sides_near pos.size here.cells c.args.l on))
     (rw m1 at (c.only_liberty_after.ensures.near pos a))

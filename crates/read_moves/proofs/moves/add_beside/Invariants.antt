@@ -14,8 +14,10 @@ abbrev pub invariant-loop-l : goal.invariant-loop-l
 invariant-loop-l g l = record {
   stays : Stays g.L.Look.shows g.L.Look.seen l.fn.board l.board;
   near : (pos : BoardState) → Agrees (g.L.Look.seen l.board.look) pos
-      → AddsIn (g.L.Look.seen l.fn.board.look) (g.L.Look.seen l.board.look) (λ r. any_below (pos.size * pos.size) (λ k. set.contains l.points k && neighbours_of pos.size k r));
-  over : (pos : BoardState) → Agrees (g.L.Look.seen l.board.look) pos → BesideBelow pos.size (after pos l.fn.board.moves).cells l.points l.fn.found l.next l.found;
+      → AddsIn (g.L.Look.seen l.fn.board.look) (g.L.Look.seen l.board.look)
+      (λ r. any_below (pos.size * pos.size) (λ k. set.contains l.points k && neighbours_of pos.size k r));
+  over : (pos : BoardState) → Agrees (g.L.Look.seen l.board.look) pos
+      → BesideBelow pos.size (after pos l.fn.board.moves).cells l.points l.fn.found l.next l.found;
 }
 
 -- how many points are left

@@ -24,16 +24,23 @@ loop-side-preserved g c =
             let a0 = agrees_before w.add_empty.ensures.stays.grows a1 in
             let e = same_size (g.met.L.Look.sized c.loop-side.board.look) a0 ∙ ap (λ x. x.size) i.stays.shown in
             let on = subst (λ n. l < n * n) (sym e) c.requires in
-            let at : neighbour_at pos.size l side ≡ Some w.in-Some.q = ap (λ n. neighbour_at n l side) (e ∙ sym c.size-size.ensures) ∙ sym c.neighbour.ensures.value ∙ w.in-Some.is in
-            rw w.board-is (AddsIn-trans (i.near pos a0) (AddsIn-mono w.add_empty.ensures.near (λ r h. neighbours_of-side pos.size l side w.in-Some.q r on at h)));
+            let at : neighbour_at pos.size l side ≡ Some w.in-Some.q =
+            ap (λ n. neighbour_at n l side) (e ∙ sym c.size-size.ensures) ∙ sym c.neighbour.ensures.value
+            ∙ w.in-Some.is in
+            rw w.board-is (AddsIn-trans (i.near pos a0)
+            (AddsIn-mono w.add_empty.ensures.near (λ r h.
+            neighbours_of-side pos.size l side w.in-Some.q r on at h)));
         over = λ pos a.
             let a1 = rw w.board-is at a in
             let a0 = agrees_before w.add_empty.ensures.stays.grows a1 in
             let e = same_size (g.met.L.Look.sized c.loop-side.board.look) a0 ∙ ap (λ x. x.size) i.stays.shown in
             let on = subst (λ n. l < n * n) (sym e) c.requires in
-            let at : neighbour_at pos.size l side ≡ Some w.in-Some.q = ap (λ n. neighbour_at n l side) (e ∙ sym c.size-size.ensures) ∙ sym c.neighbour.ensures.value ∙ w.in-Some.is in
+            let at : neighbour_at pos.size l side ≡ Some w.in-Some.q =
+            ap (λ n. neighbour_at n l side) (e ∙ sym c.size-size.ensures) ∙ sym c.neighbour.ensures.value
+            ∙ w.in-Some.is in
             let came = rw i.stays.moves at (w.add_empty.ensures.over pos a1) in
-            rw w.found-is (AddsSides-visit pos.size (after pos c.args.board.now.moves).cells l side w.in-Some.q c.args.found.now c.loop-side.found w.add_empty.new.found (i.over pos a0) on at came);
+            rw w.found-is (AddsSides-visit pos.size (after pos c.args.board.now.moves).cells l side w.in-Some.q
+            c.args.found.now c.loop-side.found w.add_empty.new.found (i.over pos a0) on at came);
       }
       | in_default w ↦ record {
         stays = rw w.board-is i.stays;
@@ -41,14 +48,18 @@ loop-side-preserved g c =
         over = λ pos a.
             let a0 = rw w.board-is at a in
             let e = same_size (g.met.L.Look.sized c.loop-side.board.look) a0 ∙ ap (λ x. x.size) i.stays.shown in
-            rw w.found-is (AddsSides-skip pos.size (after pos c.args.board.now.moves).cells l side c.args.found.now c.loop-side.found (i.over pos a0)
-            (λ p at empty. w.in_default.not-Some p (c.neighbour.ensures.value ∙ ap (λ n. neighbour_at n l side) (c.size-size.ensures ∙ sym e) ∙ at)));
+            rw w.found-is (AddsSides-skip pos.size (after pos c.args.board.now.moves).cells l side c.args.found.now
+            c.loop-side.found (i.over pos a0)
+            (λ p at empty. w.in_default.not-Some p (c.neighbour.ensures.value
+            ∙ ap (λ n. neighbour_at n l side) (c.size-size.ensures ∙ sym e) ∙ at)));
       }
     ]
 
 -- all sides were visited
 pub returns-clause-over : goal.returns-clause-over
 returns-clause-over g c = λ pos a.
-    let e = same_size (g.met.L.Look.sized c.loop-side.board.look) a ∙ ap (λ x. x.size) c.loop-side.invariant.stays.shown in
-    AddsSides-all pos.size (after pos c.args.board.now.moves).cells c.args.l c.loop-side.side c.args.found.now c.loop-side.found (c.loop-side.invariant.over pos a)
+    let e = same_size (g.met.L.Look.sized c.loop-side.board.look) a
+    ∙ ap (λ x. x.size) c.loop-side.invariant.stays.shown in
+    AddsSides-all pos.size (after pos c.args.board.now.moves).cells c.args.l c.loop-side.side c.args.found.now
+    c.loop-side.found (c.loop-side.invariant.over pos a)
     (subst (λ n. c.args.l < n * n) (sym e) c.requires) (omega arith)

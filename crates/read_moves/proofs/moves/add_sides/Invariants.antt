@@ -9,6 +9,8 @@ use Rattle.read_moves.proofs.moves.add_sides.Given as goal
 abbrev pub invariant-loop-side : goal.invariant-loop-side
 invariant-loop-side g l = record {
   stays : Stays g.L.Look.shows g.L.Look.seen l.fn.board l.board;
-  near : (pos : BoardState) → Agrees (g.L.Look.seen l.board.look) pos → AddsIn (g.L.Look.seen l.fn.board.look) (g.L.Look.seen l.board.look) (neighbours_of pos.size l.l);
-  over : (pos : BoardState) → Agrees (g.L.Look.seen l.board.look) pos → AddsSides pos.size (after pos l.fn.board.moves).cells l.l l.side l.fn.found l.found;
+  near : (pos : BoardState) → Agrees (g.L.Look.seen l.board.look) pos
+      → AddsIn (g.L.Look.seen l.fn.board.look) (g.L.Look.seen l.board.look) (neighbours_of pos.size l.l);
+  over : (pos : BoardState) → Agrees (g.L.Look.seen l.board.look) pos
+      → AddsSides pos.size (after pos l.fn.board.moves).cells l.l l.side l.fn.found l.found;
 }

@@ -11,4 +11,5 @@ when_some (Some p) h e = (p, h)
 pub returns-in-Some : goal.returns-in-Some
 returns-in-Some c = λ e p.
     let second = when_some c.first_from-in-Some.result c.first_from-in-Some.ensures.some (sym c.is_some.ensures ∙ e) in
-    one_is_other c.args.points.now c.in-Some.first second.0 p (omega (arith, second.1.0)) c.in-Some.ensures.some.2 second.1.2
+    one_is_other c.args.points.now c.in-Some.first second.0 p
+    (omega (arith, second.1.0)) c.in-Some.ensures.some.2 second.1.2

@@ -10,6 +10,8 @@ returns-clause-over g c = λ pos a two p.
     let cells = (after pos c.args.board.now.moves).cells in
     record {
       side = other.member;
-      is_side = side_gives pos.size cells c.args.l other.member (added_to_none c.new-sides.result other.member _ c.new-sides.ensures (sym (c.add_sides.ensures.over pos a other.member) ∙ other.inside));
+      is_side = side_gives pos.size cells c.args.l other.member
+          (added_to_none c.new-sides.result other.member _ c.new-sides.ensures
+          (sym (c.add_sides.ensures.over pos a other.member) ∙ other.inside));
       other = other.other;
     }

@@ -10,7 +10,8 @@ use Rattle.read_moves.proofs.moves.only_liberty_after.Goals as goal
 -- the liberty that is left is on the board
 pub returns-in-Done-clause-inside : goal.returns-in-Done-clause-inside
 returns-in-Done-clause-inside g c = if_some c.only_member.result c.only_member.ensures.member
-    (λ p has. liberty_inside _ _ _ c.args.l p c.liberties-liberties.result c.liberties-liberties.ensures.answer (ap (λ x. x.size) c.in-Done.ensures.shown) has)
+    (λ p has. liberty_inside _ _ _ c.args.l p c.liberties-liberties.result c.liberties-liberties.ensures.answer
+    (ap (λ x. x.size) c.in-Done.ensures.shown) has)
 
 -- the play is one with the ban dropped, and its stone's one liberty is the one member
 pub returns-in-Done-clause-over : goal.returns-in-Done-clause-over
@@ -21,7 +22,8 @@ returns-in-Done-clause-over g c = λ pos a p.
     let new = after pos c.play.new.self.moves in
     let legal = free_of_done here c.args.c c.args.l new (c.in-Done.ensures.over pos a1) in
     c.only_member.ensures.is p
-    ∙ only_member_left new pos.size c.args.l p c.liberties-liberties.result (size-after pos c.play.new.self.moves) (c.liberties-liberties.ensures.over pos a2)
+    ∙ only_member_left new pos.size c.args.l p c.liberties-liberties.result (size-after pos c.play.new.self.moves)
+    (c.liberties-liberties.ensures.over pos a2)
     ∙ sym (ap (leaves_only c.args.l p) legal)
 
 -- the stone's string is near its point before the play
@@ -33,9 +35,11 @@ returns-in-Done-clause-near g c = λ pos a.
     let here = after pos c.args.board.now.moves in
     let new = after pos c.play.new.self.moves in
     let legal = free_of_done here c.args.c c.args.l new (c.in-Done.ensures.over pos a1) in
-    let on = subst (λ n. c.args.l < n * n) (sym (same_size (g.met.L.Look.sized c.args.board.now.look) a0)) c.requires.on_board in
+    let on = subst (λ n. c.args.l < n * n) (sym (same_size (g.met.L.Look.sized c.args.board.now.look) a0))
+    c.requires.on_board in
     rw c.back.ensures.moves (AddsIn-trans (c.in-Done.ensures.near pos a1)
-    (AddsIn-mono (c.liberties-liberties.ensures.near pos a2) (near_left here new c.args.c c.args.l pos.size (size-after pos c.args.board.now.moves) on legal)))
+    (AddsIn-mono (c.liberties-liberties.ensures.near pos a2)
+    (near_left here new c.args.c c.args.l pos.size (size-after pos c.args.board.now.moves) on legal)))
 
 -- a refused play leaves all as it was
 pub returns-in-Occupied : goal.returns-in-Occupied
@@ -43,11 +47,13 @@ returns-in-Occupied g c =
     let refused = refused_is c.play.result c.in-Occupied.is in
     record {
       stays = record {
-        moves = moves_refused c.args.c c.args.l c.play.result c.args.board.now.moves c.play.new.self.moves c.play.ensures.moves refused;
+        moves = moves_refused c.args.c c.args.l c.play.result c.args.board.now.moves c.play.new.self.moves
+            c.play.ensures.moves refused;
         shown = c.play.ensures.shown;
         grows = c.play.ensures.grows;
       };
       inside = tt;
-      over = λ pos a p. sym (refused_leaves (after pos c.args.board.now.moves) c.args.c c.args.l p c.play.result (after pos c.play.new.self.moves) (c.play.ensures.over pos a) refused);
+      over = λ pos a p. sym (refused_leaves (after pos c.args.board.now.moves) c.args.c c.args.l p c.play.result
+          (after pos c.play.new.self.moves) (c.play.ensures.over pos a) refused);
       near = c.play.ensures.near;
     }

@@ -13,10 +13,14 @@ loop-p-preserved c =
     let first = c.in-Some.ensures.some in
     let test = λ (x : ℕ). set.contains c.args.points.now x && not (set.contains c.args.others.now x) in
     elim c.if-not-has.branch [
-      | then-not-has w ↦ rw w.apart-is (added_apart test c.loop-p.next c.in-Some.p c.loop-p.apart w.add.new.self c.loop-p.invariant first.0
-          (λ k lo hi. ap (λ b. b && not (set.contains c.args.others.now k)) (first.3 k lo hi)) (passes first.2 c.has.ensures w.if-not-has.true) w.add.ensures)
-      | else-not-has w ↦ rw w.apart-is (skipped_apart test c.loop-p.next c.in-Some.p c.loop-p.apart c.loop-p.invariant first.0
-          (λ k lo hi. ap (λ b. b && not (set.contains c.args.others.now k)) (first.3 k lo hi)) (fails (set.contains c.args.points.now c.in-Some.p) c.has.ensures w.if-not-has.false))
+      | then-not-has w ↦ rw w.apart-is
+          (added_apart test c.loop-p.next c.in-Some.p c.loop-p.apart w.add.new.self c.loop-p.invariant first.0
+          (λ k lo hi. ap (λ b. b && not (set.contains c.args.others.now k)) (first.3 k lo hi))
+          (passes first.2 c.has.ensures w.if-not-has.true) w.add.ensures)
+      | else-not-has w ↦ rw w.apart-is
+          (skipped_apart test c.loop-p.next c.in-Some.p c.loop-p.apart c.loop-p.invariant first.0
+          (λ k lo hi. ap (λ b. b && not (set.contains c.args.others.now k)) (first.3 k lo hi))
+          (fails (set.contains c.args.points.now c.in-Some.p) c.has.ensures w.if-not-has.false))
     ]
   where
     passes : {a h b : Bool} → a ≡ true → h ≡ b → h ≡ false → (a && not b) ≡ true
@@ -30,4 +34,5 @@ loop-p-preserved c =
         off false = refl
 
 pub returns : goal.returns
-returns c = λ p. all_apart _ c.loop-p.next c.loop-p.apart c.loop-p.invariant (λ k past. ap (λ b. b && not (set.contains c.args.others.now k)) (c.in_default.ensures.none k past)) p
+returns c = λ p. all_apart _ c.loop-p.next c.loop-p.apart c.loop-p.invariant
+    (λ k past. ap (λ b. b && not (set.contains c.args.others.now k)) (c.in_default.ensures.none k past)) p

@@ -16,8 +16,10 @@ use Rattle.read_tree.proofs.BestLemmas.{asks_some, better_on, best_start, best_p
 use Rattle.read_tree.proofs.reading.best_point.Goals as goal
 
 -- a candidate is on the board
-candidate_inside : (shown : BoardState) (moves : List TrialMove) (target wide p : ℕ) → is_candidate (after shown moves) target wide p ≡ true → p < shown.size * shown.size
-candidate_inside shown moves target wide p h = subst (λ n. p < n * n) (size-after shown moves) (candidate_on (after shown moves) target wide p h)
+candidate_inside : (shown : BoardState) (moves : List TrialMove) (target wide p : ℕ)
+    → is_candidate (after shown moves) target wide p ≡ true → p < shown.size * shown.size
+candidate_inside shown moves target wide p h =
+    subst (λ n. p < n * n) (size-after shown moves) (candidate_on (after shown moves) target wide p h)
 
 pub loop-p-init : goal.loop-p-init
 loop-p-init g c = record {
@@ -30,14 +32,19 @@ loop-p-init g c = record {
       let a0 = agrees_before c.candidates-candidates.ensures.stays.grows a in
       let here = after pos c.args.board.now.moves in
       AddsNear-in (InActiveArea q root) (c.candidates-candidates.ensures.near pos a)
-      (area_candidates q root here (suc c.args.plies) (under c.args.turn neither_may) (tree.each neither_may (has_all neither_may)) pos.size (size-after pos c.args.board.now.moves)
-      (target_on pos.size (g.L.Look.shows c.args.board.now.look).size c.args.turn.target (same_size (g.met.L.Look.sized c.args.board.now.look) a0) c.requires.target) (und neither_may).stands);
-  best = λ pos a start. best_start c.args.plies c.args.turn (after pos c.args.board.now.moves) (set.contains c.candidates-candidates.result) c.args.first start;
+      (area_candidates q root here (suc c.args.plies) (under c.args.turn neither_may)
+      (tree.each neither_may (has_all neither_may)) pos.size (size-after pos c.args.board.now.moves)
+      (target_on pos.size (g.L.Look.shows c.args.board.now.look).size c.args.turn.target
+      (same_size (g.met.L.Look.sized c.args.board.now.look) a0) c.requires.target) (und neither_may).stands);
+  best = λ pos a start. best_start c.args.plies c.args.turn (after pos c.args.board.now.moves)
+      (set.contains c.candidates-candidates.result) c.args.first start;
 }
 
 pub succeeds-good-requires : goal.succeeds-good-requires
 succeeds-good-requires g c =
-    let inside = candidate_inside (g.L.Look.shows c.args.board.now.look) c.args.board.now.moves c.args.turn.target c.args.turn.wide c.in-Some.p (sym (c.candidates-candidates.ensures.answer c.in-Some.p) ∙ c.in-Some.ensures.some.2) in
+    let inside = candidate_inside (g.L.Look.shows c.args.board.now.look) c.args.board.now.moves c.args.turn.target
+    c.args.turn.wide c.in-Some.p (sym (c.candidates-candidates.ensures.answer c.in-Some.p)
+    ∙ c.in-Some.ensures.some.2) in
     let some = asks_some c.loop-p.best.code c.args.turn.attacker_to_play c.loop-p.invariant.code in
     search rules
 
@@ -46,7 +53,8 @@ pub loop-p-preserved : goal.loop-p-preserved
 loop-p-preserved g c =
     let i = c.loop-p.invariant in
     let first = c.in-Some.ensures.some in
-    let inside = candidate_inside (g.L.Look.shows c.args.board.now.look) c.args.board.now.moves c.args.turn.target c.args.turn.wide c.in-Some.p (sym (c.candidates-candidates.ensures.answer c.in-Some.p) ∙ first.2) in
+    let inside = candidate_inside (g.L.Look.shows c.args.board.now.look) c.args.board.now.moves c.args.turn.target
+    c.args.turn.wide c.in-Some.p (sym (c.candidates-candidates.ensures.answer c.in-Some.p) ∙ first.2) in
     let bounded = c.better-best.ensures.code (omega (arith, i.code)) in
     record {
       stays = record {
@@ -57,18 +65,24 @@ loop-p-preserved g c =
       grows = Grows-trans i.grows c.succeeds-good.ensures.stays.grows;
       code = omega (arith, bounded, c.if-best-eq3.false);
       none = c.better-best.ensures.none i.none;
-      on_board = rw c.better-best.ensures.is (better_on c.loop-p.best c.args.turn.attacker_to_play c.succeeds-good.result c.in-Some.p (g.L.Look.shows c.args.board.now.look).size i.on_board inside);
+      on_board = rw c.better-best.ensures.is
+          (better_on c.loop-p.best c.args.turn.attacker_to_play c.succeeds-good.result c.in-Some.p
+          (g.L.Look.shows c.args.board.now.look).size i.on_board inside);
       near = λ pos a q root tree und.
           let a1 = agrees_before c.succeeds-good.ensures.stays.grows a in
           let a0 = agrees_before i.grows a1 in
           let candidate = sym (c.candidates-candidates.ensures.over pos a0 c.in-Some.p) ∙ first.2 in
           AddsNear-trans (i.near pos a1 q root tree und)
-          ((rw i.stays.moves at (c.succeeds-good.ensures.near pos a q root)) (fewer_nodes c.above-asked.result tree (λ ko h. has_all ko)) und candidate);
+          ((rw i.stays.moves at (c.succeeds-good.ensures.near pos a q root))
+          (fewer_nodes c.above-asked.result tree (λ ko h. has_all ko)) und candidate);
       best = λ pos a start.
           let a1 = agrees_before c.succeeds-good.ensures.stays.grows a in
           let a0 = agrees_before i.grows a1 in
-          rw c.better-best.ensures.is (best_point c.args.plies c.args.turn (after pos c.args.board.now.moves) (set.contains c.candidates-candidates.result) c.loop-p.next c.in-Some.p c.loop-p.best c.succeeds-good.result
-          (c.candidates-candidates.ensures.over pos a0) (i.best pos a1 start) first.2 first.3 (rw (i.stays.moves, c.above-asked.ensures) at (c.succeeds-good.ensures.over pos a)));
+          rw c.better-best.ensures.is (best_point c.args.plies c.args.turn (after pos c.args.board.now.moves)
+          (set.contains c.candidates-candidates.result) c.loop-p.next c.in-Some.p c.loop-p.best
+          c.succeeds-good.result
+          (c.candidates-candidates.ensures.over pos a0) (i.best pos a1 start) first.2 first.3
+          (rw (i.stays.moves, c.above-asked.ensures) at (c.succeeds-good.ensures.over pos a)));
     }
 
 -- no code is greater
@@ -76,7 +90,8 @@ pub returns-then-best-eq3 : goal.returns-then-best-eq3
 returns-then-best-eq3 g c =
     let i = c.loop-p.invariant in
     let first = c.in-Some.ensures.some in
-    let inside = candidate_inside (g.L.Look.shows c.args.board.now.look) c.args.board.now.moves c.args.turn.target c.args.turn.wide c.in-Some.p (sym (c.candidates-candidates.ensures.answer c.in-Some.p) ∙ first.2) in
+    let inside = candidate_inside (g.L.Look.shows c.args.board.now.look) c.args.board.now.moves c.args.turn.target
+    c.args.turn.wide c.in-Some.p (sym (c.candidates-candidates.ensures.answer c.in-Some.p) ∙ first.2) in
     record {
       stays = record {
         moves = c.succeeds-good.ensures.stays.moves ∙ i.stays.moves;
@@ -85,19 +100,26 @@ returns-then-best-eq3 g c =
       };
       code = c.better-best.ensures.code (omega (arith, i.code));
       none = c.better-best.ensures.none i.none;
-      on_board = rw c.better-best.ensures.is (better_on c.loop-p.best c.args.turn.attacker_to_play c.succeeds-good.result c.in-Some.p (g.L.Look.shows c.args.board.now.look).size i.on_board inside);
+      on_board = rw c.better-best.ensures.is
+          (better_on c.loop-p.best c.args.turn.attacker_to_play c.succeeds-good.result c.in-Some.p
+          (g.L.Look.shows c.args.board.now.look).size i.on_board inside);
       near = λ pos a q root tree und.
           let a1 = agrees_before c.succeeds-good.ensures.stays.grows a in
           let a0 = agrees_before i.grows a1 in
           let candidate = sym (c.candidates-candidates.ensures.over pos a0 c.in-Some.p) ∙ first.2 in
           AddsNear-trans (i.near pos a1 q root tree und)
-          ((rw i.stays.moves at (c.succeeds-good.ensures.near pos a q root)) (fewer_nodes c.above-asked.result tree (λ ko h. has_all ko)) und candidate);
+          ((rw i.stays.moves at (c.succeeds-good.ensures.near pos a q root))
+          (fewer_nodes c.above-asked.result tree (λ ko h. has_all ko)) und candidate);
       over = λ pos a start.
           let a1 = agrees_before c.succeeds-good.ensures.stays.grows a in
           let a0 = agrees_before i.grows a1 in
-          best_three c.args.plies c.args.turn (after pos c.args.board.now.moves) (λ q. nat_lt q (c.in-Some.p + 1) && set.contains c.candidates-candidates.result q) c.better-best.result
-          (rw c.better-best.ensures.is (best_point c.args.plies c.args.turn (after pos c.args.board.now.moves) (set.contains c.candidates-candidates.result) c.loop-p.next c.in-Some.p c.loop-p.best c.succeeds-good.result
-          (c.candidates-candidates.ensures.over pos a0) (i.best pos a1 start) first.2 first.3 (rw (i.stays.moves, c.above-asked.ensures) at (c.succeeds-good.ensures.over pos a))))
+          best_three c.args.plies c.args.turn (after pos c.args.board.now.moves)
+          (λ q. nat_lt q (c.in-Some.p + 1) && set.contains c.candidates-candidates.result q) c.better-best.result
+          (rw c.better-best.ensures.is (best_point c.args.plies c.args.turn (after pos c.args.board.now.moves)
+          (set.contains c.candidates-candidates.result) c.loop-p.next c.in-Some.p c.loop-p.best
+          c.succeeds-good.result
+          (c.candidates-candidates.ensures.over pos a0) (i.best pos a1 start) first.2 first.3
+          (rw (i.stays.moves, c.above-asked.ensures) at (c.succeeds-good.ensures.over pos a))))
           c.if-best-eq3.true (is_candidate (after pos c.args.board.now.moves) c.args.turn.target c.args.turn.wide);
     }
 
@@ -105,4 +127,6 @@ pub returns-clause-over : goal.returns-clause-over
 returns-clause-over g c = λ pos a start.
     let i = c.loop-p.invariant in
     let a0 = agrees_before i.grows a in
-    best_all c.args.plies c.args.turn (after pos c.args.board.now.moves) (set.contains c.candidates-candidates.result) c.loop-p.next c.loop-p.best (c.candidates-candidates.ensures.over pos a0) (i.best pos a start) c.in_default.ensures.none
+    best_all c.args.plies c.args.turn (after pos c.args.board.now.moves)
+    (set.contains c.candidates-candidates.result) c.loop-p.next c.loop-p.best
+    (c.candidates-candidates.ensures.over pos a0) (i.best pos a start) c.in_default.ensures.none

@@ -21,10 +21,15 @@ invariant-loop-p g l = record {
   none : IsNone l.best.at ↔ (l.best.code ≡ 0);
   on_board : IfSome l.best.at (IsOnBoard (g.L.Look.shows l.fn.board.look).size);
   near : (pos : BoardState) → Agrees (g.L.Look.seen l.board.look) pos → (q : ReadingQuestion) (root : BoardState)
-      → AreNodesOf q root (suc l.plies) l.turn (record { defender = true; neither = true; attacker = true }) (after pos l.fn.board.moves)
+      → AreNodesOf q root (suc l.plies) l.turn (record {
+        defender = true;
+        neither = true;
+        attacker = true;
+      }) (after pos l.fn.board.moves)
       → ((ko : Ko) → IsUndecided (under l.turn ko) (after pos l.fn.board.moves))
       → AddsNear (g.L.Look.seen l.fn.board.look) (g.L.Look.seen l.board.look) (InActiveArea q root);
-  best : (pos : BoardState) → Agrees (g.L.Look.seen l.board.look) pos → IsBest l.plies l.turn (after pos l.fn.board.moves) nowhere l.fn.first
+  best : (pos : BoardState) → Agrees (g.L.Look.seen l.board.look) pos
+      → IsBest l.plies l.turn (after pos l.fn.board.moves) nowhere l.fn.first
       → IsBest l.plies l.turn (after pos l.fn.board.moves) (λ q. nat_lt q l.next && set.contains l.candidates q) l.best;
 }
 

@@ -40,10 +40,12 @@ returns-then-has_too_many-clause-over g c = λ pos a about.
     let some : q.plies ≢ 0 = omega (arith, c.requires.plies) in
     let size = size-after pos c.args.board.now.moves in
     let a0 = agrees_before c.has_too_many.ensures.stays.grows a in
-    let inside = target_on pos.size (g.L.Look.shows c.args.board.now.look).size q.target (same_size (g.met.L.Look.sized c.args.board.now.look) a0) c.requires.target in
+    let inside = target_on pos.size (g.L.Look.shows c.args.board.now.look).size q.target
+    (same_size (g.met.L.Look.sized c.args.board.now.look) a0) c.requires.target in
     let many = sym (rw c.first_turn-turn.ensures at (c.has_too_many.ensures.over pos a)) ∙ c.if-has_too_many.true in
     c.unread.ensures ∙ ap (λ (t : Turn). unread t.attacker_to_play) c.first_turn-turn.ensures
-    ∙ unread_answer q here some about (target_on here.size pos.size q.target size inside) (ap (λ s. outlasts (is_attack q.kind) q.plies q.wide (liberties s here.cells q.target)) size ∙ many)
+    ∙ unread_answer q here some about (target_on here.size pos.size q.target size inside)
+    (ap (λ s. outlasts (is_attack q.kind) q.plies q.wide (liberties s here.cells q.target)) size ∙ many)
 
 pub returns-then-has_too_many-clause-near : goal.returns-then-has_too_many-clause-near
 returns-then-has_too_many-clause-near g c = λ pos a about.
@@ -51,13 +53,17 @@ returns-then-has_too_many-clause-near g c = λ pos a about.
     let here = after pos c.args.board.now.moves in
     let some : q.plies ≢ 0 = omega (arith, c.requires.plies) in
     let a0 = agrees_before c.has_too_many.ensures.stays.grows a in
-    let inside = target_on pos.size (g.L.Look.shows c.args.board.now.look).size q.target (same_size (g.met.L.Look.sized c.args.board.now.look) a0) c.requires.target in
+    let inside = target_on pos.size (g.L.Look.shows c.args.board.now.look).size q.target
+    (same_size (g.met.L.Look.sized c.args.board.now.look) a0) c.requires.target in
     AddsNear-in (InActiveArea q here) (rw c.first_turn-turn.ensures at (c.has_too_many.ensures.near pos a))
-    (area_once q here here (suc (q.plies - 1)) (under (first_turn q) neither_may) ((first_nodes q here some).each neither_may (has_all neither_may)) pos.size (size-after pos c.args.board.now.moves) inside (about_stands q here about))
+    (area_once q here here (suc (q.plies - 1)) (under (first_turn q) neither_may)
+    ((first_nodes q here some).each neither_may (has_all neither_may)) pos.size
+    (size-after pos c.args.board.now.moves) inside (about_stands q here about))
 
 pub returns-then-has_too_many-clause-too_many : goal.returns-then-has_too_many-clause-too_many
 returns-then-has_too_many-clause-too_many g c = λ h.
-    let shown = subst (Agrees (g.L.Look.seen c.has_too_many.new.board.look)) c.has_too_many.ensures.stays.shown (g.met.L.Look.holds c.has_too_many.new.board.look) in (
+    let shown = subst (Agrees (g.L.Look.seen c.has_too_many.new.board.look)) c.has_too_many.ensures.stays.shown
+    (g.met.L.Look.holds c.has_too_many.new.board.look) in (
       c.unread.ensures ∙ ap (λ (t : Turn). unread t.attacker_to_play) c.first_turn-turn.ensures,
       c.has_too_many.ensures.count,
       rw c.first_turn-turn.ensures at (c.has_too_many.ensures.near (g.L.Look.shows c.args.board.now.look) shown),
@@ -65,18 +71,24 @@ returns-then-has_too_many-clause-too_many g c = λ h.
 
 pub returns-then-turn-clause-too_many : goal.returns-then-turn-clause-too_many
 returns-then-turn-clause-too_many g c = λ h.
-    let shown = subst (Agrees (g.L.Look.seen c.has_too_many.new.board.look)) c.has_too_many.ensures.stays.shown (g.met.L.Look.holds c.has_too_many.new.board.look) in
-    absurd (both_ways _ (sym (rw c.first_turn-turn.ensures at (c.has_too_many.ensures.over (g.L.Look.shows c.args.board.now.look) shown)) ∙ c.if-has_too_many.false) h)
+    let shown = subst (Agrees (g.L.Look.seen c.has_too_many.new.board.look)) c.has_too_many.ensures.stays.shown
+    (g.met.L.Look.holds c.has_too_many.new.board.look) in
+    absurd (both_ways _ (sym (rw c.first_turn-turn.ensures at
+    (c.has_too_many.ensures.over (g.L.Look.shows c.args.board.now.look) shown)) ∙ c.if-has_too_many.false) h)
 
 pub returns-then-best-eq3-clause-too_many : goal.returns-then-best-eq3-clause-too_many
 returns-then-best-eq3-clause-too_many g c = λ h.
-    let shown = subst (Agrees (g.L.Look.seen c.has_too_many.new.board.look)) c.has_too_many.ensures.stays.shown (g.met.L.Look.holds c.has_too_many.new.board.look) in
-    absurd (both_ways _ (sym (rw c.first_turn-turn.ensures at (c.has_too_many.ensures.over (g.L.Look.shows c.args.board.now.look) shown)) ∙ c.if-has_too_many.false) h)
+    let shown = subst (Agrees (g.L.Look.seen c.has_too_many.new.board.look)) c.has_too_many.ensures.stays.shown
+    (g.met.L.Look.holds c.has_too_many.new.board.look) in
+    absurd (both_ways _ (sym (rw c.first_turn-turn.ensures at
+    (c.has_too_many.ensures.over (g.L.Look.shows c.args.board.now.look) shown)) ∙ c.if-has_too_many.false) h)
 
 pub returns-clause-too_many : goal.returns-clause-too_many
 returns-clause-too_many g c = λ h.
-    let shown = subst (Agrees (g.L.Look.seen c.has_too_many.new.board.look)) c.has_too_many.ensures.stays.shown (g.met.L.Look.holds c.has_too_many.new.board.look) in
-    absurd (both_ways _ (sym (rw c.first_turn-turn.ensures at (c.has_too_many.ensures.over (g.L.Look.shows c.args.board.now.look) shown)) ∙ c.if-has_too_many.false) h)
+    let shown = subst (Agrees (g.L.Look.seen c.has_too_many.new.board.look)) c.has_too_many.ensures.stays.shown
+    (g.met.L.Look.holds c.has_too_many.new.board.look) in
+    absurd (both_ways _ (sym (rw c.first_turn-turn.ensures at
+    (c.has_too_many.ensures.over (g.L.Look.shows c.args.board.now.look) shown)) ∙ c.if-has_too_many.false) h)
 
 -- the attacker's moves
 pub returns-then-turn-clause-over : goal.returns-then-turn-clause-over
@@ -87,9 +99,16 @@ returns-then-turn-clause-over g c = λ pos a about.
     let a1 = agrees_before c.liberties-known.ensures.stays.grows (agrees_before c.best_point.ensures.stays.grows a) in
     let few = sym (rw c.first_turn-turn.ensures at (c.has_too_many.ensures.over pos a1)) ∙ c.if-has_too_many.false in
     let attacks = turn_of c.first_turn-turn.ensures c.if-turn.true in
-    let und = undecided_at q.plies (first_turn q) here pos.size (size-after pos c.args.board.now.moves) (about_stands q here about) few in
-    best_answer q here c.best_point.result some about (and_off_right (is_attack q.kind) _ ((und neither_may).few attacks))
-    ((rw (c.liberties-known.ensures.stays.moves, c.has_too_many.ensures.stays.moves, c.first_turn-turn.ensures) at (c.best_point.ensures.over pos a)) (best_nothing (q.plies - 1) (first_turn q) here attacks))
+    let und = undecided_at q.plies (first_turn q) here pos.size (size-after pos c.args.board.now.moves)
+    (about_stands q here about) few in
+    best_answer q here c.best_point.result some about
+    (and_off_right (is_attack q.kind) _ ((und neither_may).few attacks))
+    ((rw (
+      c.liberties-known.ensures.stays.moves,
+      c.has_too_many.ensures.stays.moves,
+      c.first_turn-turn.ensures,
+    ) at (c.best_point.ensures.over pos a))
+    (best_nothing (q.plies - 1) (first_turn q) here attacks))
 
 pub returns-then-turn-clause-near : goal.returns-then-turn-clause-near
 returns-then-turn-clause-near g c = λ pos a about.
@@ -100,14 +119,28 @@ returns-then-turn-clause-near g c = λ pos a about.
     let a1 = agrees_before c.liberties-known.ensures.stays.grows ak in
     let a0 = agrees_before c.has_too_many.ensures.stays.grows a1 in
     let few = sym (rw c.first_turn-turn.ensures at (c.has_too_many.ensures.over pos a1)) ∙ c.if-has_too_many.false in
-    let inside = target_on pos.size (g.L.Look.shows c.args.board.now.look).size q.target (same_size (g.met.L.Look.sized c.args.board.now.look) a0) c.requires.target in
+    let inside = target_on pos.size (g.L.Look.shows c.args.board.now.look).size q.target
+    (same_size (g.met.L.Look.sized c.args.board.now.look) a0) c.requires.target in
     AddsNear-trans
-    (AddsNear-trans (AddsNear-in (InActiveArea q here) (rw c.first_turn-turn.ensures at (c.has_too_many.ensures.near pos a1))
-    (area_once q here here (suc (q.plies - 1)) (under (first_turn q) neither_may) ((first_nodes q here some).each neither_may (has_all neither_may)) pos.size (size-after pos c.args.board.now.moves) inside (about_stands q here about)))
-    (AddsNear-in (InActiveArea q here) (rw (c.has_too_many.ensures.stays.moves, c.first_turn-turn.ensures) at (c.liberties-known.ensures.near pos ak))
-    (area_once q here here (suc (q.plies - 1)) (under (first_turn q) neither_may) ((first_nodes q here some).each neither_may (has_all neither_may)) pos.size (size-after pos c.args.board.now.moves) inside (about_stands q here about))))
-    ((rw (c.liberties-known.ensures.stays.moves, c.has_too_many.ensures.stays.moves, c.first_turn-turn.ensures) at (c.best_point.ensures.near pos a q here)) (first_nodes q here some)
-    (undecided_at q.plies (first_turn q) here pos.size (size-after pos c.args.board.now.moves) (about_stands q here about) few))
+    (AddsNear-trans (AddsNear-in (InActiveArea q here)
+    (rw c.first_turn-turn.ensures at (c.has_too_many.ensures.near pos a1))
+    (area_once q here here (suc (q.plies - 1)) (under (first_turn q) neither_may)
+    ((first_nodes q here some).each neither_may (has_all neither_may)) pos.size
+    (size-after pos c.args.board.now.moves) inside (about_stands q here about)))
+    (AddsNear-in (InActiveArea q here) (rw (
+      c.has_too_many.ensures.stays.moves,
+      c.first_turn-turn.ensures,
+    ) at (c.liberties-known.ensures.near pos ak))
+    (area_once q here here (suc (q.plies - 1)) (under (first_turn q) neither_may)
+    ((first_nodes q here some).each neither_may (has_all neither_may)) pos.size
+    (size-after pos c.args.board.now.moves) inside (about_stands q here about))))
+    ((rw (
+      c.liberties-known.ensures.stays.moves,
+      c.has_too_many.ensures.stays.moves,
+      c.first_turn-turn.ensures,
+    ) at (c.best_point.ensures.near pos a q here)) (first_nodes q here some)
+    (undecided_at q.plies (first_turn q) here pos.size (size-after pos c.args.board.now.moves)
+    (about_stands q here about) few))
 
 -- the defender's pass saves under each allowance
 pub returns-then-best-eq3-clause-over : goal.returns-then-best-eq3-clause-over
@@ -115,9 +148,18 @@ returns-then-best-eq3-clause-over g c = λ pos a about.
     let q = c.args.question.now in
     let here = after pos c.args.board.now.moves in
     let some : q.plies ≢ 0 = omega (arith, c.requires.plies) in
-    let saved = rw (c.liberties-known.ensures.stays.moves, c.has_too_many.ensures.stays.moves, c.all.ensures, c.first_turn-turn.ensures) at (c.pass_saves-saved.ensures.over pos a) in
-    best_answer q here c.better-best.result some about (and_off (is_attack q.kind) _ (turn_of c.first_turn-turn.ensures c.if-turn.false))
-    (best_three (q.plies - 1) (first_turn q) here nowhere c.better-best.result (rw (c.better-best.ensures.is, c.first_turn-turn.ensures) (best_pass (q.plies - 1) (first_turn q) here c.pass_saves-saved.result saved)) c.if-best-eq3.true (is_candidate here q.target q.wide))
+    let saved = rw (
+      c.liberties-known.ensures.stays.moves,
+      c.has_too_many.ensures.stays.moves,
+      c.all.ensures,
+      c.first_turn-turn.ensures,
+    ) at (c.pass_saves-saved.ensures.over pos a) in
+    best_answer q here c.better-best.result some about
+    (and_off (is_attack q.kind) _ (turn_of c.first_turn-turn.ensures c.if-turn.false))
+    (best_three (q.plies - 1) (first_turn q) here nowhere c.better-best.result
+    (rw (c.better-best.ensures.is, c.first_turn-turn.ensures)
+    (best_pass (q.plies - 1) (first_turn q) here c.pass_saves-saved.result saved)) c.if-best-eq3.true
+    (is_candidate here q.target q.wide))
 
 pub returns-then-best-eq3-clause-near : goal.returns-then-best-eq3-clause-near
 returns-then-best-eq3-clause-near g c = λ pos a about.
@@ -127,13 +169,28 @@ returns-then-best-eq3-clause-near g c = λ pos a about.
     let ak = agrees_before c.pass_saves-saved.ensures.stays.grows a in
     let a1 = agrees_before c.liberties-known.ensures.stays.grows ak in
     let a0 = agrees_before c.has_too_many.ensures.stays.grows a1 in
-    let inside = target_on pos.size (g.L.Look.shows c.args.board.now.look).size q.target (same_size (g.met.L.Look.sized c.args.board.now.look) a0) c.requires.target in
+    let inside = target_on pos.size (g.L.Look.shows c.args.board.now.look).size q.target
+    (same_size (g.met.L.Look.sized c.args.board.now.look) a0) c.requires.target in
     AddsNear-trans
-    (AddsNear-trans (AddsNear-in (InActiveArea q here) (rw c.first_turn-turn.ensures at (c.has_too_many.ensures.near pos a1))
-    (area_once q here here (suc (q.plies - 1)) (under (first_turn q) neither_may) ((first_nodes q here some).each neither_may (has_all neither_may)) pos.size (size-after pos c.args.board.now.moves) inside (about_stands q here about)))
-    (AddsNear-in (InActiveArea q here) (rw (c.has_too_many.ensures.stays.moves, c.first_turn-turn.ensures) at (c.liberties-known.ensures.near pos ak))
-    (area_once q here here (suc (q.plies - 1)) (under (first_turn q) neither_may) ((first_nodes q here some).each neither_may (has_all neither_may)) pos.size (size-after pos c.args.board.now.moves) inside (about_stands q here about))))
-    ((rw (c.liberties-known.ensures.stays.moves, c.has_too_many.ensures.stays.moves, c.all.ensures, c.first_turn-turn.ensures) at (c.pass_saves-saved.ensures.near pos a q here)) (first_nodes q here some) (about_stands q here about))
+    (AddsNear-trans (AddsNear-in (InActiveArea q here)
+    (rw c.first_turn-turn.ensures at (c.has_too_many.ensures.near pos a1))
+    (area_once q here here (suc (q.plies - 1)) (under (first_turn q) neither_may)
+    ((first_nodes q here some).each neither_may (has_all neither_may)) pos.size
+    (size-after pos c.args.board.now.moves) inside (about_stands q here about)))
+    (AddsNear-in (InActiveArea q here) (rw (
+      c.has_too_many.ensures.stays.moves,
+      c.first_turn-turn.ensures,
+    ) at (c.liberties-known.ensures.near pos ak))
+    (area_once q here here (suc (q.plies - 1)) (under (first_turn q) neither_may)
+    ((first_nodes q here some).each neither_may (has_all neither_may)) pos.size
+    (size-after pos c.args.board.now.moves) inside (about_stands q here about))))
+    ((rw (
+      c.liberties-known.ensures.stays.moves,
+      c.has_too_many.ensures.stays.moves,
+      c.all.ensures,
+      c.first_turn-turn.ensures,
+    ) at (c.pass_saves-saved.ensures.near pos a q here)) (first_nodes q here some)
+    (about_stands q here about))
 
 -- the pass, and then the defender's plays
 pub returns-clause-over : goal.returns-clause-over
@@ -142,9 +199,22 @@ returns-clause-over g c = λ pos a about.
     let here = after pos c.args.board.now.moves in
     let some : q.plies ≢ 0 = omega (arith, c.requires.plies) in
     let a1 = agrees_before c.best_point-2.ensures.stays.grows a in
-    let saved = rw (c.liberties-known.ensures.stays.moves, c.has_too_many.ensures.stays.moves, c.all.ensures, c.first_turn-turn.ensures) at (c.pass_saves-saved.ensures.over pos a1) in
-    best_answer q here c.best_point-2.result some about (and_off (is_attack q.kind) _ (turn_of c.first_turn-turn.ensures c.if-turn.false))
-    ((rw (c.pass_saves-saved.ensures.stays.moves, c.liberties-known.ensures.stays.moves, c.has_too_many.ensures.stays.moves, c.first_turn-turn.ensures) at (c.best_point-2.ensures.over pos a)) (rw (c.better-best.ensures.is, c.first_turn-turn.ensures) (best_pass (q.plies - 1) (first_turn q) here c.pass_saves-saved.result saved)))
+    let saved = rw (
+      c.liberties-known.ensures.stays.moves,
+      c.has_too_many.ensures.stays.moves,
+      c.all.ensures,
+      c.first_turn-turn.ensures,
+    ) at (c.pass_saves-saved.ensures.over pos a1) in
+    best_answer q here c.best_point-2.result some about
+    (and_off (is_attack q.kind) _ (turn_of c.first_turn-turn.ensures c.if-turn.false))
+    ((rw (
+      c.pass_saves-saved.ensures.stays.moves,
+      c.liberties-known.ensures.stays.moves,
+      c.has_too_many.ensures.stays.moves,
+      c.first_turn-turn.ensures,
+    ) at (c.best_point-2.ensures.over pos a))
+    (rw (c.better-best.ensures.is, c.first_turn-turn.ensures)
+    (best_pass (q.plies - 1) (first_turn q) here c.pass_saves-saved.result saved)))
 
 pub returns-clause-near : goal.returns-clause-near
 returns-clause-near g c = λ pos a about.
@@ -156,11 +226,32 @@ returns-clause-near g c = λ pos a about.
     let a2 = agrees_before c.liberties-known.ensures.stays.grows ak in
     let a0 = agrees_before c.has_too_many.ensures.stays.grows a2 in
     let stands = about_stands q here about in
-    let inside = target_on pos.size (g.L.Look.shows c.args.board.now.look).size q.target (same_size (g.met.L.Look.sized c.args.board.now.look) a0) c.requires.target in
+    let inside = target_on pos.size (g.L.Look.shows c.args.board.now.look).size q.target
+    (same_size (g.met.L.Look.sized c.args.board.now.look) a0) c.requires.target in
     AddsNear-trans (AddsNear-trans
-    (AddsNear-trans (AddsNear-in (InActiveArea q here) (rw c.first_turn-turn.ensures at (c.has_too_many.ensures.near pos a2))
-    (area_once q here here (suc (q.plies - 1)) (under (first_turn q) neither_may) ((first_nodes q here some).each neither_may (has_all neither_may)) pos.size (size-after pos c.args.board.now.moves) inside stands))
-    (AddsNear-in (InActiveArea q here) (rw (c.has_too_many.ensures.stays.moves, c.first_turn-turn.ensures) at (c.liberties-known.ensures.near pos ak))
-    (area_once q here here (suc (q.plies - 1)) (under (first_turn q) neither_may) ((first_nodes q here some).each neither_may (has_all neither_may)) pos.size (size-after pos c.args.board.now.moves) inside stands)))
-    ((rw (c.liberties-known.ensures.stays.moves, c.has_too_many.ensures.stays.moves, c.all.ensures, c.first_turn-turn.ensures) at (c.pass_saves-saved.ensures.near pos a1 q here)) (first_nodes q here some) stands))
-    ((rw (c.pass_saves-saved.ensures.stays.moves, c.liberties-known.ensures.stays.moves, c.has_too_many.ensures.stays.moves, c.first_turn-turn.ensures) at (c.best_point-2.ensures.near pos a q here)) (first_nodes q here some) (λ ko. undecided_defender stands (turn_of c.first_turn-turn.ensures c.if-turn.false)))
+    (AddsNear-trans (AddsNear-in (InActiveArea q here)
+    (rw c.first_turn-turn.ensures at (c.has_too_many.ensures.near pos a2))
+    (area_once q here here (suc (q.plies - 1)) (under (first_turn q) neither_may)
+    ((first_nodes q here some).each neither_may (has_all neither_may)) pos.size
+    (size-after pos c.args.board.now.moves) inside stands))
+    (AddsNear-in (InActiveArea q here) (rw (
+      c.has_too_many.ensures.stays.moves,
+      c.first_turn-turn.ensures,
+    ) at (c.liberties-known.ensures.near pos ak))
+    (area_once q here here (suc (q.plies - 1)) (under (first_turn q) neither_may)
+    ((first_nodes q here some).each neither_may (has_all neither_may)) pos.size
+    (size-after pos c.args.board.now.moves) inside stands)))
+    ((rw (
+      c.liberties-known.ensures.stays.moves,
+      c.has_too_many.ensures.stays.moves,
+      c.all.ensures,
+      c.first_turn-turn.ensures,
+    ) at (c.pass_saves-saved.ensures.near pos a1 q here))
+    (first_nodes q here some) stands))
+    ((rw (
+      c.pass_saves-saved.ensures.stays.moves,
+      c.liberties-known.ensures.stays.moves,
+      c.has_too_many.ensures.stays.moves,
+      c.first_turn-turn.ensures,
+    ) at (c.best_point-2.ensures.near pos a q here))
+    (first_nodes q here some) (λ ko. undecided_defender stands (turn_of c.first_turn-turn.ensures c.if-turn.false)))

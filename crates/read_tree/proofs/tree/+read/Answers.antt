@@ -1,5 +1,5 @@
--- The walk over the game tree answers what the tree says under each of the asked allowances, over every position that agrees with
--- what was seen.
+-- The walk over the game tree answers what the tree says under each of the asked allowances, over every position that
+-- agrees with what was seen.
 use Rattle.std.proofs.Common.{arith, ◌≡◌, ◌⊎◌, ◌∙◌, ◌-◌, ◌*◌, ◌<◌, ℕ, suc, inl, inr, true, false, List, ap, sym, subst, refl, IfSome, is_some, rules}
 use Rattle.std.specs.FinSet as set
 use Rattle.go_base.specs.Facts.{agrees_before, Grows-refl, Grows-trans, same_size}
@@ -34,10 +34,14 @@ use Rattle.read_tree.proofs.tree.+read.Goals as goal
 pub succeeds-has_way-good-requires : goal.succeeds-has_way-good-requires
 succeeds-has_way-good-requires g t c κs within =
     let turn = c.args.turn in
-    let carried : IfSome c.liberties_after-next.result (λ found. (pos : BoardState) → Agrees (g.L.Look.seen c.liberties_after-next.new.board.look) pos
+    let carried : IfSome c.liberties_after-next.result (λ found. (pos : BoardState)
+    → Agrees (g.L.Look.seen c.liberties_after-next.new.board.look) pos
     → found ≡ liberty_points pos.size (after pos c.liberties_after-next.new.board.moves).cells turn.target) =
-    rw c.liberties_after-next.ensures.stays.moves (carries (λ pos. Agrees (g.L.Look.seen c.liberties_after-next.new.board.look) pos) turn c.args.p c.args.known.now
-    (λ pos. after pos c.args.board.now.moves) (λ pos. after pos c.make.new.board.moves) c.liberties_after-next.result c.liberties_after-next.ensures.over
+    rw c.liberties_after-next.ensures.stays.moves
+    (carries (λ pos. Agrees (g.L.Look.seen c.liberties_after-next.new.board.look) pos) turn c.args.p
+    c.args.known.now
+    (λ pos. after pos c.args.board.now.moves)
+    (λ pos. after pos c.make.new.board.moves) c.liberties_after-next.result c.liberties_after-next.ensures.over
     (λ pos a.
     let a1 = agrees_before c.liberties_after-next.ensures.stays.grows a in
     let a0 = agrees_before c.make.ensures.grows a1 in
@@ -48,7 +52,8 @@ succeeds-has_way-good-requires g t c κs within =
       whole = whole_after pos c.args.board.now.moves a.sound.cells;
       point_on = target_on pos.size (g.L.Look.shows c.args.board.now.look).size c.args.p size c.requires.on_board;
       target_on = target_on pos.size (g.L.Look.shows c.args.board.now.look).size turn.target size c.requires.target;
-      legal = made_free turn neither_may here c.args.p (under (next_turn turn) neither_may) (after pos c.make.new.board.moves) ((rw c.in-Legal.is at (c.make.ensures.over pos a1)) neither_may);
+      legal = made_free turn neither_may here c.args.p (under (next_turn turn) neither_may)
+          (after pos c.make.new.board.moves) ((rw c.in-Legal.is at (c.make.ensures.over pos a1)) neither_may);
       known_is = c.requires.liberties pos a0;
     })) in
     search rules
@@ -57,10 +62,15 @@ succeeds-has_way-good-requires g t c κs within =
 pub succeeds-has_way-good-requires-in-Allowed : goal.succeeds-has_way-good-requires-in-Allowed
 succeeds-has_way-good-requires-in-Allowed g t c κs within =
     let turn = c.args.turn in
-    let carried : IfSome c.liberties_after-next-in-Allowed.result (λ found. (pos : BoardState) → Agrees (g.L.Look.seen c.liberties_after-next-in-Allowed.new.board.look) pos
+    let carried : IfSome c.liberties_after-next-in-Allowed.result (λ found. (pos : BoardState)
+    → Agrees (g.L.Look.seen c.liberties_after-next-in-Allowed.new.board.look) pos
     → found ≡ liberty_points pos.size (after pos c.liberties_after-next-in-Allowed.new.board.moves).cells turn.target) =
-    rw c.liberties_after-next-in-Allowed.ensures.stays.moves (carries (λ pos. Agrees (g.L.Look.seen c.liberties_after-next-in-Allowed.new.board.look) pos) turn c.args.p c.args.known.now
-    (λ pos. after pos c.args.board.now.moves) (λ pos. after pos c.make.new.board.moves) c.liberties_after-next-in-Allowed.result c.liberties_after-next-in-Allowed.ensures.over
+    rw c.liberties_after-next-in-Allowed.ensures.stays.moves
+    (carries (λ pos. Agrees (g.L.Look.seen c.liberties_after-next-in-Allowed.new.board.look) pos) turn c.args.p
+    c.args.known.now
+    (λ pos. after pos c.args.board.now.moves)
+    (λ pos. after pos c.make.new.board.moves) c.liberties_after-next-in-Allowed.result
+    c.liberties_after-next-in-Allowed.ensures.over
     (λ pos a.
     let a1 = agrees_before c.liberties_after-next-in-Allowed.ensures.stays.grows a in
     let a0 = agrees_before c.make.ensures.grows a1 in
@@ -71,7 +81,8 @@ succeeds-has_way-good-requires-in-Allowed g t c κs within =
       whole = whole_after pos c.args.board.now.moves a.sound.cells;
       point_on = target_on pos.size (g.L.Look.shows c.args.board.now.look).size c.args.p size c.requires.on_board;
       target_on = target_on pos.size (g.L.Look.shows c.args.board.now.look).size turn.target size c.requires.target;
-      legal = made_free turn (own_ko turn.attacker_to_play) here c.args.p (under (next_turn turn) neither_may) (after pos c.make.new.board.moves) (rw c.in-Allowed.is at (c.make.ensures.over pos a1)).0;
+      legal = made_free turn (own_ko turn.attacker_to_play) here c.args.p (under (next_turn turn) neither_may)
+          (after pos c.make.new.board.moves) (rw c.in-Allowed.is at (c.make.ensures.over pos a1)).0;
       known_is = c.requires.liberties pos a0;
     })) in
     search rules
@@ -80,11 +91,14 @@ succeeds-has_way-good-requires-in-Allowed g t c κs within =
 pub succeeds-returns-in-Legal-clause-over : goal.succeeds-returns-in-Legal-clause-over
 succeeds-returns-in-Legal-clause-over g t c = λ pos a.
     let a2 = rw c.back.ensures.moves at a in
-    let a1 = agrees_before c.liberties_after-next.ensures.stays.grows (agrees_before c.has_way-good.ensures.stays.grows a2) in
+    let a1 = agrees_before c.liberties_after-next.ensures.stays.grows
+    (agrees_before c.has_way-good.ensures.stays.grows a2) in
     let new = after pos c.make.new.board.moves in
     let made = rw c.in-Legal.is at (c.make.ensures.over pos a1) in
     Tells-same (rw c.liberties_after-next.ensures.stays.moves at (c.has_way-good.ensures.over pos a2))
-    (λ ko. suits_child c.args.plies c.args.turn.attacker_to_play (child_of (under c.args.turn ko) (after pos c.args.board.now.moves) c.args.p) (under (next_turn c.args.turn) ko) new (made ko))
+    (λ ko. suits_child c.args.plies c.args.turn.attacker_to_play
+    (child_of (under c.args.turn ko) (after pos c.args.board.now.moves) c.args.p)
+    (under (next_turn c.args.turn) ko) new (made ko))
 
 -- a play by the own allowance
 pub succeeds-returns-in-Allowed-clause-over : goal.succeeds-returns-in-Allowed-clause-over
@@ -97,10 +111,13 @@ succeeds-returns-in-Allowed-clause-over g t c = λ pos a.
     let turn = c.args.turn in
     let own = own_ko turn.attacker_to_play in
     let made = rw c.in-Allowed.is at (c.make.ensures.over pos a1) in
-    let good = rw (c.neither_alone.ensures, c.liberties_after-next-in-Allowed.ensures.stays.moves) at (c.has_way-good-in-Allowed.ensures.over pos a2) in
+    let good = rw (c.neither_alone.ensures, c.liberties_after-next-in-Allowed.ensures.stays.moves) at
+    (c.has_way-good-in-Allowed.ensures.over pos a2) in
     let asked = sym c.has_own-own.ensures ∙ c.make.ensures.own c.in-Allowed.is in
-    rw c.own_where.ensures (Tells-own turn.attacker_to_play c.args.asked c.has_way-good-in-Allowed.result.neither (λ ko. succeeds c.args.plies (under turn ko) here c.args.p) asked
-    (good.each neither_may ∙ suits_child c.args.plies turn.attacker_to_play (child_of (under turn own) here c.args.p) (under (next_turn turn) neither_may) new made.0)
+    rw c.own_where.ensures (Tells-own turn.attacker_to_play c.args.asked c.has_way-good-in-Allowed.result.neither
+    (λ ko. succeeds c.args.plies (under turn ko) here c.args.p) asked
+    (good.each neither_may ∙ suits_child c.args.plies turn.attacker_to_play (child_of (under turn own) here c.args.p)
+    (under (next_turn turn) neither_may) new made.0)
     (λ ko ne. suits_none c.args.plies turn.attacker_to_play (child_of (under turn ko) here c.args.p) (made.1 ko ne)))
 
 -- a refused play looks near its candidate
@@ -109,31 +126,47 @@ succeeds-returns-in-Not-clause-near g t c = λ pos a q root tree und candidate.
     let a0 = agrees_before c.make.ensures.grows a in
     let here = after pos c.args.board.now.moves in
     let one = some_of c.args.asked c.requires.some in
-    let inside = target_on pos.size (g.L.Look.shows c.args.board.now.look).size c.args.turn.target (same_size (g.met.L.Look.sized c.args.board.now.look) a0) c.requires.target in
-    AddsNear-in (InActiveArea q root) (c.make.ensures.near pos a) (λ p h. area_play q root here (suc c.args.plies) (under c.args.turn one.0) (tree.each one.0 one.1) pos.size (size-after pos c.args.board.now.moves) inside
+    let inside = target_on pos.size (g.L.Look.shows c.args.board.now.look).size c.args.turn.target
+    (same_size (g.met.L.Look.sized c.args.board.now.look) a0) c.requires.target in
+    AddsNear-in (InActiveArea q root) (c.make.ensures.near pos a)
+    (λ p h. area_play q root here (suc c.args.plies) (under c.args.turn one.0) (tree.each one.0 one.1) pos.size
+    (size-after pos c.args.board.now.moves) inside
     (und one.0).stands c.args.p p candidate h)
 
 -- a play that is made leads to nodes of the trees
 pub succeeds-returns-in-Legal-clause-near : goal.succeeds-returns-in-Legal-clause-near
 succeeds-returns-in-Legal-clause-near g t c = λ pos a q root tree und candidate.
     let a2 = rw c.back.ensures.moves at a in
-    let a1 = agrees_before c.liberties_after-next.ensures.stays.grows (agrees_before c.has_way-good.ensures.stays.grows a2) in
+    let a1 = agrees_before c.liberties_after-next.ensures.stays.grows
+    (agrees_before c.has_way-good.ensures.stays.grows a2) in
     let a0 = agrees_before c.make.ensures.grows a1 in
     let here = after pos c.args.board.now.moves in
     let new = after pos c.make.new.board.moves in
     let turn = c.args.turn in
     let one = some_of c.args.asked c.requires.some in
-    let inside = target_on pos.size (g.L.Look.shows c.args.board.now.look).size turn.target (same_size (g.met.L.Look.sized c.args.board.now.look) a0) c.requires.target in
+    let inside = target_on pos.size (g.L.Look.shows c.args.board.now.look).size turn.target
+    (same_size (g.met.L.Look.sized c.args.board.now.look) a0) c.requires.target in
     let made = rw c.in-Legal.is at (c.make.ensures.over pos a1) in
-    let nodes : AreNodesOf q root c.args.plies (next_turn turn) c.args.asked new = record { each = λ ko h. by_play (tree.each ko h) (und ko) c.args.p candidate (under (next_turn turn) ko) new (made ko) } in
+    let nodes : AreNodesOf q root c.args.plies (next_turn turn) c.args.asked new =
+    record {
+      each = λ ko h. by_play (tree.each ko h) (und ko) c.args.p candidate (under (next_turn turn) ko) new
+          (made ko);
+    } in
     let below = (rw c.liberties_after-next.ensures.stays.moves at (c.has_way-good.ensures.near pos a2 q root)) nodes in
     rw c.back.ensures.moves (AddsNear-trans
-    (AddsNear-in (InActiveArea q root) (c.make.ensures.near pos a1) (λ p h. area_play q root here (suc c.args.plies) (under turn one.0) (tree.each one.0 one.1) pos.size (size-after pos c.args.board.now.moves) inside
+    (AddsNear-in (InActiveArea q root) (c.make.ensures.near pos a1)
+    (λ p h. area_play q root here (suc c.args.plies) (under turn one.0) (tree.each one.0 one.1) pos.size
+    (size-after pos c.args.board.now.moves) inside
     (und one.0).stands c.args.p p candidate h))
     (AddsNear-trans (AddsNear-in (InActiveArea q root) c.liberties_after-next.ensures.near
-    (λ p h. area_target q root here (suc c.args.plies) (under turn one.0) (tree.each one.0 one.1) pos.size (size-after pos c.args.board.now.moves) inside (und one.0).stands p (eqb-true p turn.target h)))
+    (λ p h. area_target q root here (suc c.args.plies) (under turn one.0) (tree.each one.0 one.1) pos.size
+    (size-after pos c.args.board.now.moves) inside (und one.0).stands p (eqb-true p turn.target h)))
     (AddsNear-mono (λ p. (p ≡ turn.target) ⊎ InActiveArea q root p) (InActiveArea q root) below
-    (λ p h. elim h [ inl e ↦ area_target q root here (suc c.args.plies) (under turn one.0) (tree.each one.0 one.1) pos.size (size-after pos c.args.board.now.moves) inside (und one.0).stands p e | inr i ↦ i ]))))
+    (λ p h. elim h [
+      | inl e ↦ area_target q root here (suc c.args.plies) (under turn one.0)
+          (tree.each one.0 one.1) pos.size (size-after pos c.args.board.now.moves) inside (und one.0).stands p e
+      | inr i ↦ i
+    ]))))
 
 -- one by the own allowance leads to a node under none
 pub succeeds-returns-in-Allowed-clause-near : goal.succeeds-returns-in-Allowed-clause-near
@@ -147,17 +180,30 @@ succeeds-returns-in-Allowed-clause-near g t c = λ pos a q root tree und candida
     let turn = c.args.turn in
     let own = own_ko turn.attacker_to_play in
     let asked = sym c.has_own-own.ensures ∙ c.make.ensures.own c.in-Allowed.is in
-    let inside = target_on pos.size (g.L.Look.shows c.args.board.now.look).size turn.target (same_size (g.met.L.Look.sized c.args.board.now.look) a0) c.requires.target in
+    let inside = target_on pos.size (g.L.Look.shows c.args.board.now.look).size turn.target
+    (same_size (g.met.L.Look.sized c.args.board.now.look) a0) c.requires.target in
     let made = rw c.in-Allowed.is at (c.make.ensures.over pos a1) in
-    let node = by_play (tree.each own asked) (und own) c.args.p candidate (under (next_turn turn) neither_may) new made.0 in
-    let below = (rw (c.neither_alone.ensures, c.liberties_after-next-in-Allowed.ensures.stays.moves) at (c.has_way-good-in-Allowed.ensures.near pos a2 q root)) (neither_nodes node) in
+    let node = by_play (tree.each own asked) (und own) c.args.p candidate
+    (under (next_turn turn) neither_may) new made.0 in
+    let below = (rw (
+      c.neither_alone.ensures,
+      c.liberties_after-next-in-Allowed.ensures.stays.moves,
+    ) at
+    (c.has_way-good-in-Allowed.ensures.near pos a2 q root)) (neither_nodes node) in
     rw c.back-in-Allowed.ensures.moves (AddsNear-trans
-    (AddsNear-in (InActiveArea q root) (c.make.ensures.near pos a1) (λ p h. area_play q root here (suc c.args.plies) (under turn own) (tree.each own asked) pos.size (size-after pos c.args.board.now.moves) inside
+    (AddsNear-in (InActiveArea q root) (c.make.ensures.near pos a1)
+    (λ p h. area_play q root here (suc c.args.plies) (under turn own) (tree.each own asked) pos.size
+    (size-after pos c.args.board.now.moves) inside
     (und own).stands c.args.p p candidate h))
     (AddsNear-trans (AddsNear-in (InActiveArea q root) c.liberties_after-next-in-Allowed.ensures.near
-    (λ p h. area_target q root here (suc c.args.plies) (under turn own) (tree.each own asked) pos.size (size-after pos c.args.board.now.moves) inside (und own).stands p (eqb-true p turn.target h)))
+    (λ p h. area_target q root here (suc c.args.plies) (under turn own) (tree.each own asked) pos.size
+    (size-after pos c.args.board.now.moves) inside (und own).stands p (eqb-true p turn.target h)))
     (AddsNear-mono (λ p. (p ≡ turn.target) ⊎ InActiveArea q root p) (InActiveArea q root) below
-    (λ p h. elim h [ inl e ↦ area_target q root here (suc c.args.plies) (under turn own) (tree.each own asked) pos.size (size-after pos c.args.board.now.moves) inside (und own).stands p e | inr i ↦ i ]))))
+    (λ p h. elim h [
+      | inl e ↦ area_target q root here (suc c.args.plies) (under turn own) (tree.each own asked) pos.size
+          (size-after pos c.args.board.now.moves) inside (und own).stands p e
+      | inr i ↦ i
+    ]))))
 
 -- after the pass
 pub pass_saves-returns-clause-near : goal.pass_saves-returns-clause-near
@@ -167,10 +213,16 @@ pass_saves-returns-clause-near g t c = λ pos a q root tree stands.
     let here = after pos c.args.board.now.moves in
     let turn = c.args.turn in
     let one = some_of c.args.asked c.requires.some in
-    let inside = target_on pos.size (g.L.Look.shows c.args.board.now.look).size turn.target (same_size (g.met.L.Look.sized c.args.board.now.look) a0) c.requires.target in
+    let inside = target_on pos.size (g.L.Look.shows c.args.board.now.look).size turn.target
+    (same_size (g.met.L.Look.sized c.args.board.now.look) a0) c.requires.target in
     let passed = rw c.pass.ensures at (c.has_way-good.ensures.near pos a2 q root) in
-    rw c.back.ensures.moves (AddsNear-mono (λ p. (p ≡ turn.target) ⊎ InActiveArea q root p) (InActiveArea q root) (passed (pass_nodes tree stands c.requires.defender))
-    (λ p h. elim h [ inl e ↦ area_target q root here (suc c.args.plies) (under turn one.0) (tree.each one.0 one.1) pos.size (size-after pos c.args.board.now.moves) inside stands p e | inr i ↦ i ]))
+    rw c.back.ensures.moves (AddsNear-mono (λ p. (p ≡ turn.target)
+    ⊎ InActiveArea q root p) (InActiveArea q root) (passed (pass_nodes tree stands c.requires.defender))
+    (λ p h. elim h [
+      | inl e ↦ area_target q root here (suc c.args.plies) (under turn one.0)
+          (tree.each one.0 one.1) pos.size (size-after pos c.args.board.now.moves) inside stands p e
+      | inr i ↦ i
+    ]))
 
 -- the points of the set are on the board
 pub some_of-next_to_try-requires : goal.some_of-next_to_try-requires
@@ -311,8 +363,10 @@ some_of-returns-clause-near g t c = λ pos a q root tree und its.
     c.args.known.now (c.requires.liberties pos first)))
 
 -- a candidate is on the board
-candidate_inside : (shown : BoardState) (moves : List TrialMove) (target wide p : ℕ) → is_candidate (after shown moves) target wide p ≡ true → p < shown.size * shown.size
-candidate_inside shown moves target wide p h = subst (λ n. p < n * n) (size-after shown moves) (candidate_on (after shown moves) target wide p h)
+candidate_inside : (shown : BoardState) (moves : List TrialMove) (target wide p : ℕ)
+    → is_candidate (after shown moves) target wide p ≡ true → p < shown.size * shown.size
+candidate_inside shown moves target wide p h =
+    subst (λ n. p < n * n) (size-after shown moves) (candidate_on (after shown moves) target wide p h)
 
 pub some_other-some_of-requires : goal.some_other-some_of-requires
 some_other-some_of-requires g t c κs within =
@@ -320,8 +374,11 @@ some_other-some_of-requires g t c κs within =
     let inside : (p : ℕ) → set.contains c.apart_from-others.result p ≡ true → p < shown.size * shown.size =
     λ p h. candidate_inside shown c.args.board.now.moves c.args.turn.target c.args.turn.wide p
     (sym (c.candidates-candidates.ensures.answer p) ∙ (and_parts _ _ (sym (c.apart_from-others.ensures p) ∙ h)).0) in
-    let still : (p : ℕ) → set.contains c.apart_from-others.result p ≡ true → p < (g.L.Look.shows c.candidates-candidates.new.board.look).size * (g.L.Look.shows c.candidates-candidates.new.board.look).size =
-    λ p h. subst (λ (pos : BoardState). p < pos.size * pos.size) (sym c.candidates-candidates.ensures.stays.shown) (inside p h) in
+    let still : (p : ℕ) → set.contains c.apart_from-others.result p ≡ true
+    → p < (g.L.Look.shows c.candidates-candidates.new.board.look).size *
+    (g.L.Look.shows c.candidates-candidates.new.board.look).size =
+    λ p h. subst (λ (pos : BoardState). p < pos.size * pos.size) (sym c.candidates-candidates.ensures.stays.shown)
+    (inside p h) in
     search rules
 
 -- too many liberties would be left
@@ -330,11 +387,16 @@ some_other-returns-then-leaves_too_many-clause-over g t c = λ pos a.
     let here = after pos c.args.board.now.moves in
     let turn = c.args.turn in
     let size = size-after pos c.args.board.now.moves in
-    let inside = target_on here.size pos.size turn.target size (target_on pos.size (g.L.Look.shows c.args.board.now.look).size turn.target (same_size (g.met.L.Look.sized c.args.board.now.look) a) c.requires.target) in
-    let both = and_parts turn.attacker_to_play (outlasts false c.args.plies (turn.wide - 1) c.count.result) (sym c.leaves_too_many.ensures ∙ c.if-leaves_too_many.true) in
-    let counted = c.count.ensures.value ∙ its_count pos.size here turn.target c.args.known.now size (c.requires.liberties pos a) in
+    let inside = target_on here.size pos.size turn.target size
+    (target_on pos.size (g.L.Look.shows c.args.board.now.look).size turn.target
+    (same_size (g.met.L.Look.sized c.args.board.now.look) a) c.requires.target) in
+    let both = and_parts turn.attacker_to_play (outlasts false c.args.plies (turn.wide - 1) c.count.result)
+    (sym c.leaves_too_many.ensures ∙ c.if-leaves_too_many.true) in
+    let counted = c.count.ensures.value ∙ its_count pos.size here turn.target c.args.known.now size
+    (c.requires.liberties pos a) in
     rw c.none.ensures (by_none c.args.plies turn here (is_off_liberties turn here) c.args.asked
-    (none_other c.args.plies turn here inside both.0 (ap (λ n. outlasts false c.args.plies (turn.wide - 1) n) (sym counted) ∙ both.1)))
+    (none_other c.args.plies turn here inside both.0
+    (ap (λ n. outlasts false c.args.plies (turn.wide - 1) n) (sym counted) ∙ both.1)))
 
 -- each of the others was tried
 pub some_other-returns-clause-over : goal.some_other-returns-clause-over
@@ -343,9 +405,12 @@ some_other-returns-clause-over g t c = λ pos a.
     let a0 = agrees_before c.candidates-candidates.ensures.stays.grows a1 in
     let here = after pos c.args.board.now.moves in
     let turn = c.args.turn in
-    let its = its_liberty pos.size here turn.target c.args.known.now (size-after pos c.args.board.now.moves) (c.requires.liberties pos a0) in
-    by_same c.args.plies turn here (set.contains c.apart_from-others.result) (is_off_liberties turn here) c.args.asked c.some_of.result
-    (λ q. off_is turn here c.args.known.now _ _ q (c.candidates-candidates.ensures.over pos a1 q) (its q) (c.apart_from-others.ensures q))
+    let its = its_liberty pos.size here turn.target c.args.known.now (size-after pos c.args.board.now.moves)
+    (c.requires.liberties pos a0) in
+    by_same c.args.plies turn here (set.contains c.apart_from-others.result)
+    (is_off_liberties turn here) c.args.asked c.some_of.result
+    (λ q. off_is turn here c.args.known.now _ _ q (c.candidates-candidates.ensures.over pos a1 q) (its q)
+    (c.apart_from-others.ensures q))
     (rw c.candidates-candidates.ensures.stays.moves at (c.some_of.ensures.over pos a))
 
 -- the candidates are looked for near the target
@@ -356,17 +421,21 @@ some_other-returns-clause-near g t c = λ pos a q root tree und.
     let here = after pos c.args.board.now.moves in
     let one = some_of c.args.asked c.requires.some in
     AddsNear-trans (AddsNear-in (InActiveArea q root) (c.candidates-candidates.ensures.near pos a1)
-    (area_candidates q root here (suc c.args.plies) (under c.args.turn one.0) (tree.each one.0 one.1) pos.size (size-after pos c.args.board.now.moves)
-    (target_on pos.size (g.L.Look.shows c.args.board.now.look).size c.args.turn.target (same_size (g.met.L.Look.sized c.args.board.now.look) a0) c.requires.target) (und one.0).stands))
+    (area_candidates q root here (suc c.args.plies) (under c.args.turn one.0) (tree.each one.0 one.1) pos.size
+    (size-after pos c.args.board.now.moves)
+    (target_on pos.size (g.L.Look.shows c.args.board.now.look).size c.args.turn.target
+    (same_size (g.met.L.Look.sized c.args.board.now.look) a0) c.requires.target) (und one.0).stands))
     ((rw c.candidates-candidates.ensures.stays.moves at (c.some_of.ensures.near pos a q root)) tree und
-    (λ p h. sym (c.candidates-candidates.ensures.over pos a1 p) ∙ (and_parts _ _ (sym (c.apart_from-others.ensures p) ∙ h)).0))
+    (λ p h. sym (c.candidates-candidates.ensures.over pos a1 p)
+    ∙ (and_parts _ _ (sym (c.apart_from-others.ensures p) ∙ h)).0))
 
 -- a liberty is on the board
 pub some_success-some_of-good-requires : goal.some_success-some_of-good-requires
 some_success-some_of-good-requires g t c κs within =
     let shown = g.L.Look.shows c.args.board.now.look in
     let inside : (p : ℕ) → set.contains c.args.known.now p ≡ true → p < shown.size * shown.size =
-    λ p h. known_inside shown.size (after shown c.args.board.now.moves).cells c.args.turn.target p c.args.known.now (c.requires.liberties shown (g.met.L.Look.holds c.args.board.now.look)) h in
+    λ p h. known_inside shown.size (after shown c.args.board.now.moves).cells c.args.turn.target p c.args.known.now
+    (c.requires.liberties shown (g.met.L.Look.holds c.args.board.now.look)) h in
     search rules
 
 -- the liberties give all that was asked
@@ -375,17 +444,22 @@ some_success-returns-then-not-has_some-clause-over g t c = λ pos a.
     let a0 = agrees_before c.some_of-good.ensures.stays.grows a in
     let here = after pos c.args.board.now.moves in
     let turn = c.args.turn in
-    let its = its_liberty pos.size here turn.target c.args.known.now (size-after pos c.args.board.now.moves) (c.requires.liberties pos a0) in
+    let its = its_liberty pos.size here turn.target c.args.known.now (size-after pos c.args.board.now.moves)
+    (c.requires.liberties pos a0) in
     stage_done c.args.plies turn here c.args.asked c.some_of-good.result
-    (by_same c.args.plies turn here (set.contains c.args.known.now) (is_liberty here.size here.cells turn.target) c.args.asked c.some_of-good.result its (c.some_of-good.ensures.over pos a))
+    (by_same c.args.plies turn here (set.contains c.args.known.now)
+    (is_liberty here.size here.cells turn.target) c.args.asked c.some_of-good.result its
+    (c.some_of-good.ensures.over pos a))
     (sym (c.has_some.ensures ∙ ap has_some c.without-missing.ensures) ∙ c.if-not-has_some.true)
 
 pub some_success-returns-then-not-has_some-clause-near : goal.some_success-returns-then-not-has_some-clause-near
 some_success-returns-then-not-has_some-clause-near g t c = λ pos a q root tree und.
     let a0 = agrees_before c.some_of-good.ensures.stays.grows a in
     let here = after pos c.args.board.now.moves in
-    let its = its_liberty pos.size here c.args.turn.target c.args.known.now (size-after pos c.args.board.now.moves) (c.requires.liberties pos a0) in
-    c.some_of-good.ensures.near pos a q root tree und (λ p h. liberty_is_candidate here c.args.turn.target c.args.turn.wide p (sym (its p) ∙ h))
+    let its = its_liberty pos.size here c.args.turn.target c.args.known.now (size-after pos c.args.board.now.moves)
+    (c.requires.liberties pos a0) in
+    c.some_of-good.ensures.near pos a q root tree und
+    (λ p h. liberty_is_candidate here c.args.turn.target c.args.turn.wide p (sym (its p) ∙ h))
 
 -- what they left is asked of the others
 pub some_success-returns-clause-over : goal.some_success-returns-clause-over
@@ -394,69 +468,101 @@ some_success-returns-clause-over g t c = λ pos a.
     let a0 = agrees_before c.some_of-good.ensures.stays.grows a1 in
     let here = after pos c.args.board.now.moves in
     let turn = c.args.turn in
-    let its = its_liberty pos.size here turn.target c.args.known.now (size-after pos c.args.board.now.moves) (c.requires.liberties pos a0) in
+    let its = its_liberty pos.size here turn.target c.args.known.now (size-after pos c.args.board.now.moves)
+    (c.requires.liberties pos a0) in
     rw (c.without-2.ensures, c.without.ensures, c.without-missing.ensures)
     (stage_over c.args.plies turn here c.args.asked c.some_of-good.result
-    (by_same c.args.plies turn here (set.contains c.args.known.now) (is_liberty here.size here.cells turn.target) c.args.asked c.some_of-good.result its (c.some_of-good.ensures.over pos a1))
-    c.some_other-rest.result (rw (c.some_of-good.ensures.stays.moves, c.without-missing.ensures) at (c.some_other-rest.ensures.over pos a)))
+    (by_same c.args.plies turn here (set.contains c.args.known.now)
+    (is_liberty here.size here.cells turn.target) c.args.asked c.some_of-good.result its
+    (c.some_of-good.ensures.over pos a1))
+    c.some_other-rest.result (rw (
+      c.some_of-good.ensures.stays.moves,
+      c.without-missing.ensures,
+    ) at (c.some_other-rest.ensures.over pos a)))
 
 pub some_success-returns-clause-near : goal.some_success-returns-clause-near
 some_success-returns-clause-near g t c = λ pos a q root tree und.
     let a1 = agrees_before c.some_other-rest.ensures.stays.grows a in
     let a0 = agrees_before c.some_of-good.ensures.stays.grows a1 in
     let here = after pos c.args.board.now.moves in
-    let its = its_liberty pos.size here c.args.turn.target c.args.known.now (size-after pos c.args.board.now.moves) (c.requires.liberties pos a0) in
-    let less : (ko : Ko) → has c.without-missing.result ko ≡ true → has c.args.asked ko ≡ true = λ ko h. without_less c.args.asked c.some_of-good.result ko (sym (ap (λ s. has s ko) c.without-missing.ensures) ∙ h) in
-    AddsNear-trans (c.some_of-good.ensures.near pos a1 q root tree und (λ p h. liberty_is_candidate here c.args.turn.target c.args.turn.wide p (sym (its p) ∙ h)))
-    ((rw c.some_of-good.ensures.stays.moves at (c.some_other-rest.ensures.near pos a q root)) (fewer_nodes c.without-missing.result tree less) und)
+    let its = its_liberty pos.size here c.args.turn.target c.args.known.now (size-after pos c.args.board.now.moves)
+    (c.requires.liberties pos a0) in
+    let less : (ko : Ko) → has c.without-missing.result ko ≡ true → has c.args.asked ko ≡ true =
+    λ ko h. without_less c.args.asked c.some_of-good.result ko
+    (sym (ap (λ s. has s ko) c.without-missing.ensures) ∙ h) in
+    AddsNear-trans (c.some_of-good.ensures.near pos a1 q root tree und
+    (λ p h. liberty_is_candidate here c.args.turn.target c.args.turn.wide p (sym (its p) ∙ h)))
+    ((rw c.some_of-good.ensures.stays.moves at (c.some_other-rest.ensures.near pos a q root))
+    (fewer_nodes c.without-missing.result tree less) und)
 
 -- the attacker's candidates
 pub has_good_move-returns-then-turn-clause-over : goal.has_good_move-returns-then-turn-clause-over
 has_good_move-returns-then-turn-clause-over g t c = λ pos a und.
     let here = after pos c.args.board.now.moves in
     Tells-same (c.some_success.ensures.over pos a)
-    (λ ko. good_attacker c.args.turn.attacker_to_play (has_many_liberties here c.args.turn.target c.args.turn.wide) _ (first_success c.args.plies (under c.args.turn ko) here) c.if-turn.true ((und ko).few c.if-turn.true))
+    (λ ko. good_attacker c.args.turn.attacker_to_play (has_many_liberties here c.args.turn.target c.args.turn.wide) _
+    (first_success c.args.plies (under c.args.turn ko) here) c.if-turn.true ((und ko).few c.if-turn.true))
 
 pub has_good_move-returns-then-not-has_some-clause-near : goal.has_good_move-returns-then-not-has_some-clause-near
-has_good_move-returns-then-not-has_some-clause-near g t c = λ pos a q root tree und. c.pass_saves.ensures.near pos a q root tree (und neither_may).stands
+has_good_move-returns-then-not-has_some-clause-near g t c =
+    λ pos a q root tree und. c.pass_saves.ensures.near pos a q root tree (und neither_may).stands
 
 -- the pass, and then the candidates under what it left
 pub has_good_move-returns-clause-over : goal.has_good_move-returns-clause-over
 has_good_move-returns-clause-over g t c = λ pos a und.
     let a1 = agrees_before c.some_success-2.ensures.stays.grows a in
     rw (c.without-2.ensures, c.without.ensures, c.without-lost.ensures)
-    (Tells-good c.args.plies c.args.turn (after pos c.args.board.now.moves) c.args.asked c.pass_saves.result c.some_success-2.result c.if-turn.false
-    (c.pass_saves.ensures.over pos a1) (rw (c.pass_saves.ensures.stays.moves, c.without-lost.ensures) at (c.some_success-2.ensures.over pos a)))
+    (Tells-good c.args.plies c.args.turn (after pos c.args.board.now.moves) c.args.asked c.pass_saves.result
+    c.some_success-2.result c.if-turn.false
+    (c.pass_saves.ensures.over pos a1) (rw (
+      c.pass_saves.ensures.stays.moves,
+      c.without-lost.ensures,
+    ) at (c.some_success-2.ensures.over pos a)))
 
 pub has_good_move-returns-clause-near : goal.has_good_move-returns-clause-near
 has_good_move-returns-clause-near g t c = λ pos a q root tree und.
     let a1 = agrees_before c.some_success-2.ensures.stays.grows a in
-    let lost : (ko : Ko) → has c.without-lost.result ko ≡ true → has c.args.asked ko ≡ true = λ ko h. without_less c.args.asked c.pass_saves.result ko (sym (ap (λ s. has s ko) c.without-lost.ensures) ∙ h) in
+    let lost : (ko : Ko) → has c.without-lost.result ko ≡ true → has c.args.asked ko ≡ true =
+    λ ko h. without_less c.args.asked c.pass_saves.result ko
+    (sym (ap (λ s. has s ko) c.without-lost.ensures) ∙ h) in
     let stands = (und neither_may).stands in
     AddsNear-trans (c.pass_saves.ensures.near pos a1 q root tree stands)
-    ((rw c.pass_saves.ensures.stays.moves at (c.some_success-2.ensures.near pos a q root)) (fewer_nodes c.without-lost.result tree lost) (λ ko. undecided_defender stands c.if-turn.false))
+    ((rw c.pass_saves.ensures.stays.moves at (c.some_success-2.ensures.near pos a q root))
+    (fewer_nodes c.without-lost.result tree lost) (λ ko. undecided_defender stands c.if-turn.false))
 
 -- the target is captured
 pub attacker_wins-returns-then-eq-clause-over : goal.attacker_wins-returns-then-eq-clause-over
 attacker_wins-returns-then-eq-clause-over g t c = λ pos a.
     let cell = c.cell.ensures.over pos a in
     let taken = sym (eq_is_same_cell c.cell.result Empty) ∙ sym c.eq.ensures ∙ c.if-eq.true in
-    Tells-all c.args.asked _ (λ ko. wins-captured c.args.plies (under c.args.turn ko) (after pos c.args.board.now.moves) (rw cell at taken))
+    Tells-all c.args.asked _ (λ ko. wins-captured c.args.plies (under c.args.turn ko) (after pos c.args.board.now.moves)
+    (rw cell at taken))
 
 -- it stands, and no ply is left
 pub attacker_wins-returns-then-plies-eq0-clause-over : goal.attacker_wins-returns-then-plies-eq0-clause-over
 attacker_wins-returns-then-plies-eq0-clause-over g t c = λ pos a.
     let cell = c.cell.ensures.over pos a in
     let stands = sym (eq_is_same_cell c.cell.result Empty) ∙ sym c.eq.ensures ∙ c.if-eq.false in
-    rw c.none.ensures (Tells-none c.args.asked _ (λ ko. wins-no_plies c.args.plies (under c.args.turn ko) (after pos c.args.board.now.moves) (rw cell at stands) c.if-plies-eq0.true))
+    rw c.none.ensures (Tells-none c.args.asked _
+    (λ ko. wins-no_plies c.args.plies (under c.args.turn ko) (after pos c.args.board.now.moves)
+    (rw cell at stands) c.if-plies-eq0.true))
 
 -- it has too many liberties
 pub attacker_wins-returns-in-Safe-clause-over : goal.attacker_wins-returns-in-Safe-clause-over
 attacker_wins-returns-in-Safe-clause-over g t c = λ pos a.
     let here = after pos c.args.board.now.moves in
-    let inside = target_on pos.size (g.L.Look.shows c.args.board.now.look).size c.args.turn.target (same_size (g.met.L.Look.sized c.args.board.now.look) (agrees_before c.cell.ensures.stays.grows (agrees_before c.liberties_known-known.ensures.stays.grows (agrees_before c.outlook_of.ensures.stays.grows a)))) c.requires.target in
-    let many = (rw (c.liberties_known-known.ensures.stays.moves, c.cell.ensures.stays.moves, c.in-Safe.is) at c.outlook_of.ensures.over) pos a in
-    rw c.none-in-Safe.ensures (Tells-none c.args.asked _ (bounded_at c.args.plies c.args.turn here pos.size (size-after pos c.args.board.now.moves) inside many))
+    let inside = target_on pos.size (g.L.Look.shows c.args.board.now.look).size c.args.turn.target
+    (same_size (g.met.L.Look.sized c.args.board.now.look)
+    (agrees_before c.cell.ensures.stays.grows
+    (agrees_before c.liberties_known-known.ensures.stays.grows (agrees_before c.outlook_of.ensures.stays.grows a))))
+    c.requires.target in
+    let many = (rw (
+      c.liberties_known-known.ensures.stays.moves,
+      c.cell.ensures.stays.moves,
+      c.in-Safe.is,
+    ) at c.outlook_of.ensures.over) pos a in
+    rw c.none-in-Safe.ensures (Tells-none c.args.asked _
+    (bounded_at c.args.plies c.args.turn here pos.size (size-after pos c.args.board.now.moves) inside many))
 
 -- it is taken by its only liberty
 pub attacker_wins-returns-in-Taken-clause-over : goal.attacker_wins-returns-in-Taken-clause-over
@@ -466,15 +572,24 @@ attacker_wins-returns-in-Taken-clause-over g t c = λ pos a.
     let a2 = agrees_before c.outlook_of.ensures.stays.grows a in
     let a1 = agrees_before c.liberties_known-known.ensures.stays.grows a2 in
     let a0 = agrees_before c.cell.ensures.stays.grows a1 in
-    let inside = target_on pos.size (g.L.Look.shows c.args.board.now.look).size c.args.turn.target (same_size (g.met.L.Look.sized c.args.board.now.look) a0) c.requires.target in
+    let inside = target_on pos.size (g.L.Look.shows c.args.board.now.look).size c.args.turn.target
+    (same_size (g.met.L.Look.sized c.args.board.now.look) a0) c.requires.target in
     let cell = c.cell.ensures.over pos a1 in
     let stands = rw cell at (sym (eq_is_same_cell c.cell.result Empty) ∙ sym c.eq.ensures ∙ c.if-eq.false) in
-    let few = (rw (c.liberties_known-known.ensures.stays.moves, c.cell.ensures.stays.moves, c.in-Taken.is) at c.outlook_of.ensures.over) pos a in
-    let taken = (rw (c.liberties_known-known.ensures.stays.moves, c.cell.ensures.stays.moves) at c.outlook_of.ensures.taken) pos a c.in-Taken.is in
+    let few = (rw (
+      c.liberties_known-known.ensures.stays.moves,
+      c.cell.ensures.stays.moves,
+      c.in-Taken.is,
+    ) at c.outlook_of.ensures.over) pos a in
+    let taken = (rw (
+      c.liberties_known-known.ensures.stays.moves,
+      c.cell.ensures.stays.moves,
+    ) at c.outlook_of.ensures.taken) pos a c.in-Taken.is in
     let und = undecided_at c.args.plies c.args.turn here pos.size size stands few in
     let more : c.args.plies ≡ suc (c.args.plies - 1) = omega (arith, c.if-plies-eq0.false) in
     Tells-all c.args.asked _ (λ ko. ap (λ m. attacker_wins m (under c.args.turn ko) here) more
-    ∙ take_wins (c.args.plies - 1) c.args.turn here (whole_after pos c.args.board.now.moves a.sound.cells) (target_on here.size pos.size c.args.turn.target size inside) ((und ko).few taken.attacks) taken ko)
+    ∙ take_wins (c.args.plies - 1) c.args.turn here (whole_after pos c.args.board.now.moves a.sound.cells)
+    (target_on here.size pos.size c.args.turn.target size inside) ((und ko).few taken.attacks) taken ko)
 
 -- the looks at the target and its liberties
 pub attacker_wins-returns-in-Safe-clause-near : goal.attacker_wins-returns-in-Safe-clause-near
@@ -486,12 +601,21 @@ attacker_wins-returns-in-Safe-clause-near g t c = λ pos a q root tree.
     let cell = c.cell.ensures.over pos a1 in
     let stands = rw cell at (sym (eq_is_same_cell c.cell.result Empty) ∙ sym c.eq.ensures ∙ c.if-eq.false) in
     let one = some_of c.args.asked c.requires.some in
-    let inside = target_on pos.size (g.L.Look.shows c.args.board.now.look).size c.args.turn.target (same_size (g.met.L.Look.sized c.args.board.now.look) a0) c.requires.target in
-    AddsNear-trans (AddsNear-in (λ p. (p ≡ c.args.turn.target) ⊎ InActiveArea q root p) c.cell.ensures.near (λ p h. inl (eqb-true p c.args.turn.target h)))
-    (AddsNear-trans (AddsNear-in (λ p. (p ≡ c.args.turn.target) ⊎ InActiveArea q root p) ((rw c.cell.ensures.stays.moves at c.liberties_known-known.ensures.near) pos a2)
-    (λ p h. inr (area_once q root here c.args.plies (under c.args.turn one.0) (tree.each one.0 one.1) pos.size (size-after pos c.args.board.now.moves) inside stands p h)))
-    (AddsNear-in (λ p. (p ≡ c.args.turn.target) ⊎ InActiveArea q root p) ((rw (c.liberties_known-known.ensures.stays.moves, c.cell.ensures.stays.moves) at c.outlook_of.ensures.near) pos a)
-    (λ p h. inr (area_once q root here c.args.plies (under c.args.turn one.0) (tree.each one.0 one.1) pos.size (size-after pos c.args.board.now.moves) inside stands p h))))
+    let inside = target_on pos.size (g.L.Look.shows c.args.board.now.look).size c.args.turn.target
+    (same_size (g.met.L.Look.sized c.args.board.now.look) a0) c.requires.target in
+    AddsNear-trans (AddsNear-in (λ p. (p ≡ c.args.turn.target)
+    ⊎ InActiveArea q root p) c.cell.ensures.near (λ p h. inl (eqb-true p c.args.turn.target h)))
+    (AddsNear-trans (AddsNear-in (λ p. (p ≡ c.args.turn.target)
+    ⊎ InActiveArea q root p) ((rw c.cell.ensures.stays.moves at c.liberties_known-known.ensures.near) pos a2)
+    (λ p h. inr (area_once q root here c.args.plies (under c.args.turn one.0) (tree.each one.0 one.1) pos.size
+    (size-after pos c.args.board.now.moves) inside stands p h)))
+    (AddsNear-in (λ p. (p ≡ c.args.turn.target)
+    ⊎ InActiveArea q root p) ((rw (
+      c.liberties_known-known.ensures.stays.moves,
+      c.cell.ensures.stays.moves,
+    ) at c.outlook_of.ensures.near) pos a)
+    (λ p h. inr (area_once q root here c.args.plies (under c.args.turn one.0) (tree.each one.0 one.1) pos.size
+    (size-after pos c.args.board.now.moves) inside stands p h))))
 
 pub attacker_wins-returns-in-Taken-clause-near : goal.attacker_wins-returns-in-Taken-clause-near
 attacker_wins-returns-in-Taken-clause-near g t c = λ pos a q root tree.
@@ -502,26 +626,47 @@ attacker_wins-returns-in-Taken-clause-near g t c = λ pos a q root tree.
     let cell = c.cell.ensures.over pos a1 in
     let stands = rw cell at (sym (eq_is_same_cell c.cell.result Empty) ∙ sym c.eq.ensures ∙ c.if-eq.false) in
     let one = some_of c.args.asked c.requires.some in
-    let inside = target_on pos.size (g.L.Look.shows c.args.board.now.look).size c.args.turn.target (same_size (g.met.L.Look.sized c.args.board.now.look) a0) c.requires.target in
-    AddsNear-trans (AddsNear-in (λ p. (p ≡ c.args.turn.target) ⊎ InActiveArea q root p) c.cell.ensures.near (λ p h. inl (eqb-true p c.args.turn.target h)))
-    (AddsNear-trans (AddsNear-in (λ p. (p ≡ c.args.turn.target) ⊎ InActiveArea q root p) ((rw c.cell.ensures.stays.moves at c.liberties_known-known.ensures.near) pos a2)
-    (λ p h. inr (area_once q root here c.args.plies (under c.args.turn one.0) (tree.each one.0 one.1) pos.size (size-after pos c.args.board.now.moves) inside stands p h)))
-    (AddsNear-in (λ p. (p ≡ c.args.turn.target) ⊎ InActiveArea q root p) ((rw (c.liberties_known-known.ensures.stays.moves, c.cell.ensures.stays.moves) at c.outlook_of.ensures.near) pos a)
-    (λ p h. inr (area_once q root here c.args.plies (under c.args.turn one.0) (tree.each one.0 one.1) pos.size (size-after pos c.args.board.now.moves) inside stands p h))))
+    let inside = target_on pos.size (g.L.Look.shows c.args.board.now.look).size c.args.turn.target
+    (same_size (g.met.L.Look.sized c.args.board.now.look) a0) c.requires.target in
+    AddsNear-trans (AddsNear-in (λ p. (p ≡ c.args.turn.target)
+    ⊎ InActiveArea q root p) c.cell.ensures.near (λ p h. inl (eqb-true p c.args.turn.target h)))
+    (AddsNear-trans (AddsNear-in (λ p. (p ≡ c.args.turn.target)
+    ⊎ InActiveArea q root p) ((rw c.cell.ensures.stays.moves at c.liberties_known-known.ensures.near) pos a2)
+    (λ p h. inr (area_once q root here c.args.plies (under c.args.turn one.0) (tree.each one.0 one.1) pos.size
+    (size-after pos c.args.board.now.moves) inside stands p h)))
+    (AddsNear-in (λ p. (p ≡ c.args.turn.target)
+    ⊎ InActiveArea q root p) ((rw (
+      c.liberties_known-known.ensures.stays.moves,
+      c.cell.ensures.stays.moves,
+    ) at c.outlook_of.ensures.near) pos a)
+    (λ p h. inr (area_once q root here c.args.plies (under c.args.turn one.0) (tree.each one.0 one.1) pos.size
+    (size-after pos c.args.board.now.moves) inside stands p h))))
 
 -- the side to play has a good move or not
 pub attacker_wins-returns-in-Open-clause-over : goal.attacker_wins-returns-in-Open-clause-over
 attacker_wins-returns-in-Open-clause-over g t c = λ pos a.
     let a1 = agrees_before c.has_good_move-good.ensures.stays.grows a in
-    let a0 = agrees_before c.liberties_known-known.ensures.stays.grows (agrees_before c.outlook_of.ensures.stays.grows a1) in
+    let a0 = agrees_before c.liberties_known-known.ensures.stays.grows
+    (agrees_before c.outlook_of.ensures.stays.grows a1) in
     let here = after pos c.args.board.now.moves in
     let cell = c.cell.ensures.over pos a0 in
     let stands = rw cell at (sym (eq_is_same_cell c.cell.result Empty) ∙ sym c.eq.ensures ∙ c.if-eq.false) in
-    let few = (rw (c.liberties_known-known.ensures.stays.moves, c.cell.ensures.stays.moves, c.in-Open.is) at c.outlook_of.ensures.over) pos a1 in
+    let few = (rw (
+      c.liberties_known-known.ensures.stays.moves,
+      c.cell.ensures.stays.moves,
+      c.in-Open.is,
+    ) at c.outlook_of.ensures.over) pos a1 in
     let und = undecided_at c.args.plies c.args.turn here pos.size (size-after pos c.args.board.now.moves) stands few in
-    rw c.attackers.ensures (Tells-attackers c.args.turn.attacker_to_play c.args.asked c.has_good_move-good.result (λ ko. is_some (good_move (c.args.plies - 1) (under c.args.turn ko) here)) (λ ko. attacker_wins c.args.plies (under c.args.turn ko) here)
-    ((rw (c.outlook_of.ensures.stays.moves, c.liberties_known-known.ensures.stays.moves, c.cell.ensures.stays.moves) at (c.has_good_move-good.ensures.over pos a)) und)
-    (λ ko. wins-by_move c.args.plies (under c.args.turn ko) here (is_some (good_move (c.args.plies - 1) (under c.args.turn ko) here)) stands c.if-plies-eq0.false refl))
+    rw c.attackers.ensures (Tells-attackers c.args.turn.attacker_to_play c.args.asked c.has_good_move-good.result
+    (λ ko. is_some (good_move (c.args.plies - 1) (under c.args.turn ko) here))
+    (λ ko. attacker_wins c.args.plies (under c.args.turn ko) here)
+    ((rw (
+      c.outlook_of.ensures.stays.moves,
+      c.liberties_known-known.ensures.stays.moves,
+      c.cell.ensures.stays.moves,
+    ) at (c.has_good_move-good.ensures.over pos a)) und)
+    (λ ko. wins-by_move c.args.plies (under c.args.turn ko) here
+    (is_some (good_move (c.args.plies - 1) (under c.args.turn ko) here)) stands c.if-plies-eq0.false refl))
 
 -- the looks at the target, and the rest in the area
 pub attacker_wins-returns-in-Open-clause-near : goal.attacker_wins-returns-in-Open-clause-near
@@ -534,14 +679,33 @@ attacker_wins-returns-in-Open-clause-near g t c = λ pos a q root tree.
     let cell = c.cell.ensures.over pos a1 in
     let stands = rw cell at (sym (eq_is_same_cell c.cell.result Empty) ∙ sym c.eq.ensures ∙ c.if-eq.false) in
     let one = some_of c.args.asked c.requires.some in
-    let inside = target_on pos.size (g.L.Look.shows c.args.board.now.look).size c.args.turn.target (same_size (g.met.L.Look.sized c.args.board.now.look) a0) c.requires.target in
-    let few = (rw (c.liberties_known-known.ensures.stays.moves, c.cell.ensures.stays.moves, c.in-Open.is) at c.outlook_of.ensures.over) pos a3 in
+    let inside = target_on pos.size (g.L.Look.shows c.args.board.now.look).size c.args.turn.target
+    (same_size (g.met.L.Look.sized c.args.board.now.look) a0) c.requires.target in
+    let few = (rw (
+      c.liberties_known-known.ensures.stays.moves,
+      c.cell.ensures.stays.moves,
+      c.in-Open.is,
+    ) at c.outlook_of.ensures.over) pos a3 in
     let und = undecided_at c.args.plies c.args.turn here pos.size (size-after pos c.args.board.now.moves) stands few in
-    let nodes : AreNodesOf q root (suc (c.args.plies - 1)) c.args.turn c.args.asked here = record { each = λ ko h. pred_tree c.args.plies c.if-plies-eq0.false (tree.each ko h) } in
-    let rest = rw (c.outlook_of.ensures.stays.moves, c.liberties_known-known.ensures.stays.moves, c.cell.ensures.stays.moves) at (c.has_good_move-good.ensures.near pos a q root) in
-    AddsNear-trans (AddsNear-in (λ p. (p ≡ c.args.turn.target) ⊎ InActiveArea q root p) c.cell.ensures.near (λ p h. inl (eqb-true p c.args.turn.target h)))
-    (AddsNear-trans (AddsNear-in (λ p. (p ≡ c.args.turn.target) ⊎ InActiveArea q root p) ((rw c.cell.ensures.stays.moves at c.liberties_known-known.ensures.near) pos a2)
-    (λ p h. inr (area_once q root here c.args.plies (under c.args.turn one.0) (tree.each one.0 one.1) pos.size (size-after pos c.args.board.now.moves) inside stands p h)))
-    (AddsNear-trans (AddsNear-in (λ p. (p ≡ c.args.turn.target) ⊎ InActiveArea q root p) ((rw (c.liberties_known-known.ensures.stays.moves, c.cell.ensures.stays.moves) at c.outlook_of.ensures.near) pos a3)
-    (λ p h. inr (area_once q root here c.args.plies (under c.args.turn one.0) (tree.each one.0 one.1) pos.size (size-after pos c.args.board.now.moves) inside stands p h)))
-    (AddsNear-mono (InActiveArea q root) (λ p. (p ≡ c.args.turn.target) ⊎ InActiveArea q root p) (rest nodes und) (λ p h. inr h))))
+    let nodes : AreNodesOf q root (suc (c.args.plies - 1)) c.args.turn c.args.asked here =
+    record { each = λ ko h. pred_tree c.args.plies c.if-plies-eq0.false (tree.each ko h) } in
+    let rest = rw (
+      c.outlook_of.ensures.stays.moves,
+      c.liberties_known-known.ensures.stays.moves,
+      c.cell.ensures.stays.moves,
+    ) at (c.has_good_move-good.ensures.near pos a q root) in
+    AddsNear-trans (AddsNear-in (λ p. (p ≡ c.args.turn.target)
+    ⊎ InActiveArea q root p) c.cell.ensures.near (λ p h. inl (eqb-true p c.args.turn.target h)))
+    (AddsNear-trans (AddsNear-in (λ p. (p ≡ c.args.turn.target)
+    ⊎ InActiveArea q root p) ((rw c.cell.ensures.stays.moves at c.liberties_known-known.ensures.near) pos a2)
+    (λ p h. inr (area_once q root here c.args.plies (under c.args.turn one.0) (tree.each one.0 one.1) pos.size
+    (size-after pos c.args.board.now.moves) inside stands p h)))
+    (AddsNear-trans (AddsNear-in (λ p. (p ≡ c.args.turn.target)
+    ⊎ InActiveArea q root p) ((rw (
+      c.liberties_known-known.ensures.stays.moves,
+      c.cell.ensures.stays.moves,
+    ) at c.outlook_of.ensures.near) pos a3)
+    (λ p h. inr (area_once q root here c.args.plies (under c.args.turn one.0) (tree.each one.0 one.1) pos.size
+    (size-after pos c.args.board.now.moves) inside stands p h)))
+    (AddsNear-mono (InActiveArea q root) (λ p. (p ≡ c.args.turn.target)
+    ⊎ InActiveArea q root p) (rest nodes und) (λ p h. inr h))))

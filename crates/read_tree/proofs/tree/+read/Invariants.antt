@@ -44,8 +44,10 @@ invariant-some_of-loop-p g l = record {
   grows : Grows (g.L.Look.seen l.initial.board.look) (g.L.Look.seen l.board.look);
   some : has_some l.missing ≡ true;
   near : (pos : BoardState) → Agrees (g.L.Look.seen l.board.look) pos → (q : ReadingQuestion) (root : BoardState)
-      → AreNodesOf q root (suc l.plies) l.turn l.asked (after pos l.fn.board.moves) → ((ko : Ko) → IsUndecided (under l.turn ko) (after pos l.fn.board.moves))
-      → ((p : ℕ) → set.contains l.points p ≡ true → is_candidate (after pos l.fn.board.moves) l.turn.target l.turn.wide p ≡ true)
+      → AreNodesOf q root (suc l.plies) l.turn l.asked (after pos l.fn.board.moves)
+      → ((ko : Ko) → IsUndecided (under l.turn ko) (after pos l.fn.board.moves))
+      → ((p : ℕ) → set.contains l.points p ≡ true
+      → is_candidate (after pos l.fn.board.moves) l.turn.target l.turn.wide p ≡ true)
       → AddsNear (g.L.Look.seen l.fn.board.look) (g.L.Look.seen l.board.look) (InActiveArea q root);
   left : (pos : BoardState) → Agrees (g.L.Look.seen l.board.look) pos
       → IsLeft l.plies l.turn (after pos l.fn.board.moves) (set.contains l.points) (set.contains l.tried) l.asked

@@ -12,21 +12,24 @@ use Rattle.read_tree.proofs.tree.outlook_of.Goals as goal
 pub returns-then-outlasts-clause-over : goal.returns-then-outlasts-clause-over
 returns-then-outlasts-clause-over g c = λ pos a.
     ap (λ (n : ℕ). outlasts c.args.turn.attacker_to_play c.args.plies c.args.turn.wide n)
-    (sym (c.count.ensures.value ∙ ap set.len (c.requires.liberties pos a) ∙ len-liberty_points pos.size (after pos c.args.board.now.moves).cells c.args.turn.target))
+    (sym (c.count.ensures.value ∙ ap set.len (c.requires.liberties pos a)
+    ∙ len-liberty_points pos.size (after pos c.args.board.now.moves).cells c.args.turn.target))
     ∙ sym c.outlasts.ensures ∙ c.if-outlasts.true
 
 pub returns-then-can_take-clause-over : goal.returns-then-can_take-clause-over
 returns-then-can_take-clause-over g c = λ pos a.
     let a0 = agrees_before c.can_take.ensures.stays.grows a in
     ap (λ (n : ℕ). outlasts c.args.turn.attacker_to_play c.args.plies c.args.turn.wide n)
-    (sym (c.count.ensures.value ∙ ap set.len (c.requires.liberties pos a0) ∙ len-liberty_points pos.size (after pos c.args.board.now.moves).cells c.args.turn.target))
+    (sym (c.count.ensures.value ∙ ap set.len (c.requires.liberties pos a0)
+    ∙ len-liberty_points pos.size (after pos c.args.board.now.moves).cells c.args.turn.target))
     ∙ sym c.outlasts.ensures ∙ c.if-outlasts.false
 
 pub returns-clause-over : goal.returns-clause-over
 returns-clause-over g c = λ pos a.
     let a0 = agrees_before c.can_take.ensures.stays.grows a in
     ap (λ (n : ℕ). outlasts c.args.turn.attacker_to_play c.args.plies c.args.turn.wide n)
-    (sym (c.count.ensures.value ∙ ap set.len (c.requires.liberties pos a0) ∙ len-liberty_points pos.size (after pos c.args.board.now.moves).cells c.args.turn.target))
+    (sym (c.count.ensures.value ∙ ap set.len (c.requires.liberties pos a0)
+    ∙ len-liberty_points pos.size (after pos c.args.board.now.moves).cells c.args.turn.target))
     ∙ sym c.outlasts.ensures ∙ c.if-outlasts.false
 
 -- the target and its liberties lie in its neighbourhood
@@ -35,16 +38,20 @@ returns-then-can_take-clause-near g c = λ pos a.
     let a0 = agrees_before c.can_take.ensures.stays.grows a in
     let cells = (after pos c.args.board.now.moves).cells in
     let t = c.args.turn.target in
-    let on = target_on pos.size (g.L.Look.shows c.args.board.now.look).size t (same_size (g.met.L.Look.sized c.args.board.now.look) a0) c.requires.target in
-    AddsIn-mono c.can_take.ensures.near (λ p h. near_liberty pos.size cells t p c.args.known.now on (c.requires.liberties pos a0) h)
+    let on = target_on pos.size (g.L.Look.shows c.args.board.now.look).size t
+    (same_size (g.met.L.Look.sized c.args.board.now.look) a0) c.requires.target in
+    AddsIn-mono c.can_take.ensures.near (λ p h.
+    near_liberty pos.size cells t p c.args.known.now on (c.requires.liberties pos a0) h)
 
 pub returns-clause-near : goal.returns-clause-near
 returns-clause-near g c = λ pos a.
     let a0 = agrees_before c.can_take.ensures.stays.grows a in
     let cells = (after pos c.args.board.now.moves).cells in
     let t = c.args.turn.target in
-    let on = target_on pos.size (g.L.Look.shows c.args.board.now.look).size t (same_size (g.met.L.Look.sized c.args.board.now.look) a0) c.requires.target in
-    AddsIn-mono c.can_take.ensures.near (λ p h. near_liberty pos.size cells t p c.args.known.now on (c.requires.liberties pos a0) h)
+    let on = target_on pos.size (g.L.Look.shows c.args.board.now.look).size t
+    (same_size (g.met.L.Look.sized c.args.board.now.look) a0) c.requires.target in
+    AddsIn-mono c.can_take.ensures.near (λ p h.
+    near_liberty pos.size cells t p c.args.known.now on (c.requires.liberties pos a0) h)
 
 -- the position shown is one that agrees
 pub can_take-requires : goal.can_take-requires

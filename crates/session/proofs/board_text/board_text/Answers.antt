@@ -5,5 +5,6 @@ use Rattle.session.proofs.board_text.board_text.Goals as goal
 
 pub loop-row-preserved : goal.loop-row-preserved
 loop-row-preserved c =
-    text-next (row_text c.args.position.now.size c.args.position.now.cells) c.push.new.self c.loop-row.text c.push_row.new.text
+    text-next (row_text c.args.position.now.size c.args.position.now.cells) c.push.new.self c.loop-row.text
+    c.push_row.new.text
     c.loop-row.row c.loop-row.invariant c.in_ok-push_row.ensures

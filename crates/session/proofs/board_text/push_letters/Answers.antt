@@ -5,5 +5,6 @@ use Rattle.session.proofs.board_text.push_letters.Goals as goal
 
 pub loop-column-preserved : goal.loop-column-preserved
 loop-column-preserved c =
-    text-next letter_text c.args.text.now c.loop-column.text c.push_letter.new.out c.loop-column.column c.loop-column.invariant
+    text-next letter_text c.args.text.now c.loop-column.text c.push_letter.new.out c.loop-column.column
+    c.loop-column.invariant
     (put_twice _ _ _ _ _ (c.in_ok-push.ensures.ok) c.in_ok-push_letter.ensures)

@@ -5,5 +5,6 @@ use Rattle.session.proofs.board_text.push_row.Goals as goal
 
 pub loop-column-preserved : goal.loop-column-preserved
 loop-column-preserved c =
-    text-next (cell_text c.args.position.now.size c.args.position.now.cells c.args.row) c.push_row_number.new.text c.loop-column.text c.push_cell.new.text
+    text-next (cell_text c.args.position.now.size c.args.position.now.cells c.args.row) c.push_row_number.new.text
+    c.loop-column.text c.push_cell.new.text
     c.loop-column.column c.loop-column.invariant c.in_ok-push_cell.ensures

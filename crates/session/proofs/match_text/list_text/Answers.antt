@@ -16,5 +16,6 @@ push_next-requires-clause-at c = (c.requires c.z-item.result (there c)).1
 
 pub loop-z-preserved : goal.loop-z-preserved
 loop-z-preserved c =
-    matches-next c.args.patterns.now c.args.size c.args.found.now c.loop-z.z-index c.z-item.result c.loop-z.text c.push_next.new.text c.loop-z-test.true
+    matches-next c.args.patterns.now c.args.size c.args.found.now c.loop-z.z-index c.z-item.result c.loop-z.text
+    c.push_next.new.text c.loop-z-test.true
     c.z-item.is c.loop-z.invariant c.in_ok-push_next.ensures

@@ -12,7 +12,8 @@ loop-name-preserved g c =
     let told = ap (λ (k : List ℕ → Option (List ℕ)). k c.as_str.result.now) so_far.same
     ∙ ap contents c.as_str.ensures.value in
     record {
-      joined = IsJoined-next string_bytes contents c.args.names.now c.loop-name.name-index c.name-item.result c.loop-name.text.items c.in_ok-text.text.items
+      joined = IsJoined-next string_bytes contents c.args.names.now c.loop-name.name-index c.name-item.result
+          c.loop-name.text.items c.in_ok-text.text.items
           (omega arith) c.name-item.is so_far.joined
           (subst (λ o. Adds o c.loop-name.text.items c.in_ok-text.text.items) told c.in_ok-text.ensures.ok);
       missed = c.in_ok-text.ensures.missed ∙ so_far.missed;

@@ -10,5 +10,6 @@ returns-clause-ok g c =
     let fed : c.in_ok-with_feed.field-0.items ≡ loaded ++ added_feed
     (drop c.len-before.result loaded) = c.in_ok-with_feed.ensures in
     let len : c.len-before.result ≡ length c.args.text.items = omega (arith, c.len-before.ensures, c.args.text.ok) in
-    Adds-loaded (g.L.Loader.contents c.args.files.now c.args.name.now) c.args.text.items loaded c.in_ok-with_feed.field-0.items c.in_ok-text.ensures.loaded
+    Adds-loaded (g.L.Loader.contents c.args.files.now c.args.name.now) c.args.text.items loaded
+    c.in_ok-with_feed.field-0.items c.in_ok-text.ensures.loaded
     (fed ∙ ap (λ n. loaded ++ added_feed (drop n loaded)) len)

@@ -29,7 +29,8 @@ pub returns-in_err-put_reply-in-NoMemory-clause-part : goal.returns-in_err-put_r
 returns-in_err-put_reply-in-NoMemory-clause-part g c =
     let reply = NoMemory c.in-NoMemory.id in
     on_err_from _
-    (Replies-part _ c.args.session.now.engine c.line.new.self.engine (raw_line c.args.raw) reply c.in-NoMemory.ensures.reply
+    (Replies-part _ c.args.session.now.engine c.line.new.self.engine
+    (raw_line c.args.raw) reply c.in-NoMemory.ensures.reply
     c.in-NoMemory.ensures.readings c.in-NoMemory.ensures.read _ _ _ _ _
     (c.as_slice-in-NoMemory.ensures ∙ c.refusal.ensures)
     c.in_err-put_reply-in-NoMemory.ensures.part)
@@ -37,5 +38,6 @@ returns-in_err-put_reply-in-NoMemory-clause-part g c =
 -- a line without words
 pub returns-in-Nothing-clause-ok : goal.returns-in-Nothing-clause-ok
 returns-in-Nothing-clause-ok g c =
-    Replies-nothing _ c.args.session.now.engine c.line.new.self.engine (raw_line c.args.raw) (g.K.Sink.written c.args.output.now)
+    Replies-nothing _ c.args.session.now.engine c.line.new.self.engine (raw_line c.args.raw)
+    (g.K.Sink.written c.args.output.now)
     c.args.sent.now c.in-Nothing.ensures.reply c.in-Nothing.ensures.readings c.in-Nothing.ensures.read

@@ -16,7 +16,8 @@ invariant-loop-rest g l = record {
       (progress_of (g.K.Sink.written l.fn.output) l.fn.session.engine l.fn.sent)
       (progress_of (g.K.Sink.written l.output) l.session.engine l.sent);
   held : held_from l.fn.lines.held l.fn.piece ≡ held_from l.lines.held l.rest;
-  same : matcher_of (λ z. (goal.Helper-dyn g z).state z.1) l.session ≡ matcher_of (λ z. (goal.Helper-dyn g z).state z.1) l.fn.session;
+  same : matcher_of (λ z. (goal.Helper-dyn g z).state z.1) l.session
+      ≡ matcher_of (λ z. (goal.Helper-dyn g z).state z.1) l.fn.session;
   open_ended : l.lines.waits ≡ false;
   faults : g.K.Sink.faults l.output ≡ g.K.Sink.faults l.fn.output;
 }

@@ -14,7 +14,8 @@ invariant-loop-room g l = record {
       (g.S.Source.left l.fn.input) (g.S.Source.left l.input)
       (progress_of (g.K.Sink.written l.fn.output) l.fn.session.engine l.fn.sent)
       (progress_of (g.K.Sink.written l.output) l.session.engine l.sent) l.lines.held l.room;
-  same : matcher_of (λ z. (goal.Helper-dyn g z).state z.1) l.session ≡ matcher_of (λ z. (goal.Helper-dyn g z).state z.1) l.fn.session;
+  same : matcher_of (λ z. (goal.Helper-dyn g z).state z.1) l.session
+      ≡ matcher_of (λ z. (goal.Helper-dyn g z).state z.1) l.fn.session;
   open_ended : l.lines.waits ≡ false;
   buffer : length l.buf ≡ 4096;
   input_faults : g.S.Source.faults l.input ≡ g.S.Source.faults l.fn.input;

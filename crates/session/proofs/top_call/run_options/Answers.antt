@@ -9,7 +9,8 @@ pub returns-clause-came : goal.returns-clause-came
 returns-clause-came g c =
     let options = c.args.options.now in
     let served = c.serve_lines-end in
-    came-served _ _ options c.in-Ok.opened.session.engine served.new.opened.session.engine _ c.in-Ok.opened.lines _ _ served.result _ _
+    came-served _ _ options c.in-Ok.opened.session.engine served.new.opened.session.engine _ c.in-Ok.opened.lines _ _
+    served.result _ _
     served.new.sent c.served.result.counts c.served.result.sent (phase_of c.served.result.outcome) c.in-Ok.ensures.ok
     served.ensures.serves
     (c.served.ensures.counts ∙ ap (λ (k : Counts). cond options.stats (Some k) None) c.stats.ensures)

@@ -14,24 +14,35 @@ below c = fails-top (c.args.dr, c.args.dc) (elim c.else-dr-dc-lt0.branch [
 
 pub returns-then-dr-dc : goal.returns-then-dr-dc
 returns-then-dr-dc c = λ i low here.
-    offset_by_parts _ _ _ _ _ (next-top (c.args.dr, c.args.dc) i low here (omega (arith, ints)) (omega (arith, ints))) (omega (arith, ints)) (omega (arith, ints))
+    offset_by_parts _ _ _ _ _ (next-top (c.args.dr, c.args.dc) i low here (omega (arith, ints)) (omega (arith, ints)))
+    (omega (arith, ints)) (omega (arith, ints))
 
 pub returns-then-dr-dc-2 : goal.returns-then-dr-dc-2
 returns-then-dr-dc-2 c = λ i low here.
-    offset_by_parts _ _ _ _ _ (next-right (c.args.dr, c.args.dc) i low here (below (goal.at.returns-then-dr-dc-2 c).Joined-else-dr-dc-lt0) (omega (arith, ints))) (omega (arith, ints)) (omega (arith, ints))
+    offset_by_parts _ _ _ _ _ (next-right (
+      c.args.dr,
+      c.args.dc,
+    ) i low here (below (goal.at.returns-then-dr-dc-2 c).Joined-else-dr-dc-lt0) (omega (arith, ints)))
+    (omega (arith, ints)) (omega (arith, ints))
 
 pub returns-then-dr-dc-gt0 : goal.returns-then-dr-dc-gt0
 returns-then-dr-dc-gt0 c = λ i low here.
-    offset_by_parts _ _ _ _ _ (next-bottom (c.args.dr, c.args.dc) i low here (below (goal.at.returns-then-dr-dc-gt0 c).Joined-else-dr-dc-lt0) (omega (arith, ints)) (omega (arith, ints))) (omega (arith, ints)) (omega (arith, ints))
+    offset_by_parts _ _ _ _ _ (next-bottom (
+      c.args.dr,
+      c.args.dc,
+    ) i low here (below (goal.at.returns-then-dr-dc-gt0 c).Joined-else-dr-dc-lt0) (omega (arith, ints))
+    (omega (arith, ints))) (omega (arith, ints)) (omega (arith, ints))
 
 pub returns-then-dr-dc-3 : goal.returns-then-dr-dc-3
 returns-then-dr-dc-3 c = λ i low here.
     offset_by_parts _ _ _ _ _
-    (next-left (c.args.dr, c.args.dc) i low here (below (goal.at.returns-then-dr-dc-3 c).Joined-else-dr-dc-lt0) (omega (arith, ints)) (omega (arith, ints)) (omega (arith, ints)))
+    (next-left (c.args.dr, c.args.dc) i low here (below (goal.at.returns-then-dr-dc-3 c).Joined-else-dr-dc-lt0)
+    (omega (arith, ints)) (omega (arith, ints)) (omega (arith, ints)))
     (omega (arith, ints)) (omega (arith, ints))
 
 pub returns-else-dr-dc-3 : goal.returns-else-dr-dc-3
 returns-else-dr-dc-3 c = λ i low here.
     offset_by_parts _ _ _ _ _
-    (next-ring (c.args.dr, c.args.dc) i low here (below (goal.at.returns-else-dr-dc-3 c).Joined-else-dr-dc-lt0) (omega (arith, ints)) (omega (arith, ints)) (omega (arith, ints)))
+    (next-ring (c.args.dr, c.args.dc) i low here (below (goal.at.returns-else-dr-dc-3 c).Joined-else-dr-dc-lt0)
+    (omega (arith, ints)) (omega (arith, ints)) (omega (arith, ints)))
     (omega (arith, ints)) (omega (arith, ints))

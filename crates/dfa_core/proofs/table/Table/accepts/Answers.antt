@@ -8,20 +8,23 @@ use Rattle.dfa_core.proofs.table.Table.accepts.Goals as goal
 
 pub index-from-requires : goal.index-from-requires
 index-from-requires c =
-    let t : Flat = flat_with c.self.inside.targets.items c.self.inside.starts.items c.self.inside.numbers.items c.self.inside.depths.items in
+    let t : Flat = flat_with c.self.inside.targets.items c.self.inside.starts.items c.self.inside.numbers.items
+    c.self.inside.depths.items in
     let low = row_below t c.args.self.now c.args.row c.self.view_is c.requires in
     omega (arith, c.self.inside.starts.ok.0, c.self.invariant.flat.starts)
 
 pub index-to-requires : goal.index-to-requires
 index-to-requires c =
-    let t : Flat = flat_with c.self.inside.targets.items c.self.inside.starts.items c.self.inside.numbers.items c.self.inside.depths.items in
+    let t : Flat = flat_with c.self.inside.targets.items c.self.inside.starts.items c.self.inside.numbers.items
+    c.self.inside.depths.items in
     let low = row_below t c.args.self.now c.args.row c.self.view_is c.requires in
     omega (arith, c.self.inside.starts.ok.0, c.self.invariant.flat.starts)
 
 -- where the numbers of the row begin
 from_start : (c : After-index-to) → c.index-from.result.now ≡ get_or c.self.inside.starts.items c.args.row 0
 from_start c =
-    let t : Flat = flat_with c.self.inside.targets.items c.self.inside.starts.items c.self.inside.numbers.items c.self.inside.depths.items in
+    let t : Flat = flat_with c.self.inside.targets.items c.self.inside.starts.items c.self.inside.numbers.items
+    c.self.inside.depths.items in
     let low = row_below t c.args.self.now c.args.row c.self.view_is c.requires in
     get_or_read_under c.self.inside.starts.items c.args.row c.self.inside.starts.len c.index-from.result.now 0
     c.index-from.ensures
@@ -30,7 +33,8 @@ from_start c =
 -- where they end
 to_start : (c : After-index-to) → c.index-to.result.now ≡ get_or c.self.inside.starts.items (c.args.row + 1) 0
 to_start c =
-    let t : Flat = flat_with c.self.inside.targets.items c.self.inside.starts.items c.self.inside.numbers.items c.self.inside.depths.items in
+    let t : Flat = flat_with c.self.inside.targets.items c.self.inside.starts.items c.self.inside.numbers.items
+    c.self.inside.depths.items in
     let low = row_below t c.args.self.now c.args.row c.self.view_is c.requires in
     get_or_read_under c.self.inside.starts.items
     (c.args.row + 1) c.self.inside.starts.len c.index-to.result.now 0 c.index-to.ensures
@@ -38,14 +42,16 @@ to_start c =
 
 pub between-requires-clause-order : goal.between-requires-clause-order
 between-requires-clause-order c =
-    let t : Flat = flat_with c.self.inside.targets.items c.self.inside.starts.items c.self.inside.numbers.items c.self.inside.depths.items in
+    let t : Flat = flat_with c.self.inside.targets.items c.self.inside.starts.items c.self.inside.numbers.items
+    c.self.inside.depths.items in
     let low = row_below t c.args.self.now c.args.row c.self.view_is c.requires in
     let at = (goal.at.between-requires-clause-order c).After-index-to in
     omega (arith, from_start at, to_start at, c.self.invariant.flat.ordered c.args.row low)
 
 pub between-requires-clause-within : goal.between-requires-clause-within
 between-requires-clause-within c =
-    let t : Flat = flat_with c.self.inside.targets.items c.self.inside.starts.items c.self.inside.numbers.items c.self.inside.depths.items in
+    let t : Flat = flat_with c.self.inside.targets.items c.self.inside.starts.items c.self.inside.numbers.items
+    c.self.inside.depths.items in
     let low = row_below t c.args.self.now c.args.row c.self.view_is c.requires in
     let at = (goal.at.between-requires-clause-within c).After-index-to in
     omega (
@@ -59,11 +65,13 @@ between-requires-clause-within c =
 -- the numbers of the row stand between
 pub returns : goal.returns
 returns c =
-    let t : Flat = flat_with c.self.inside.targets.items c.self.inside.starts.items c.self.inside.numbers.items c.self.inside.depths.items in
+    let t : Flat = flat_with c.self.inside.targets.items c.self.inside.starts.items c.self.inside.numbers.items
+    c.self.inside.depths.items in
     let low = row_below t c.args.self.now c.args.row c.self.view_is c.requires in
     let at = (goal.at.returns c).After-index-to in
     c.between.ensures
     ∙ ap (λ xs. part_of xs c.index-from.result.now c.index-to.result.now) c.deref.ensures.value
     ∙ ap (λ n. part_of c.self.inside.numbers.items n c.index-to.result.now) (from_start at)
     ∙ ap (part_of c.self.inside.numbers.items (start_of t c.args.row)) (to_start at)
-    ∙ sym (ap (λ row. row.numbers) (row_at-rows t c.args.row low)) ∙ ap (λ rows. (row_at rows c.args.row).numbers) c.self.view_is
+    ∙ sym (ap (λ row. row.numbers) (row_at-rows t c.args.row low))
+    ∙ ap (λ rows. (row_at rows c.args.row).numbers) c.self.view_is

@@ -7,14 +7,18 @@ use Rattle.dfa_core.proofs.table.Table.depth.Goals as goal
 
 pub index-requires : goal.index-requires
 index-requires c =
-    let t : Flat = flat_with c.self.inside.targets.items c.self.inside.starts.items c.self.inside.numbers.items c.self.inside.depths.items in
+    let t : Flat = flat_with c.self.inside.targets.items c.self.inside.starts.items c.self.inside.numbers.items
+    c.self.inside.depths.items in
     let low = row_below t c.args.self.now c.args.row c.self.view_is c.requires in
     omega (arith, c.self.inside.depths.ok.0)
 
 -- the entry is the row's depth
 pub returns : goal.returns
 returns c =
-    let t : Flat = flat_with c.self.inside.targets.items c.self.inside.starts.items c.self.inside.numbers.items c.self.inside.depths.items in
+    let t : Flat = flat_with c.self.inside.targets.items c.self.inside.starts.items c.self.inside.numbers.items
+    c.self.inside.depths.items in
     let low = row_below t c.args.self.now c.args.row c.self.view_is c.requires in
-    get_or_read_under c.self.inside.depths.items c.args.row c.self.inside.depths.len c.index.result.now 0 c.index.ensures (omega (arith, c.self.inside.depths.ok.0)) c.self.inside.depths.ok.0
-    ∙ sym (ap (λ row. row.depth) (row_at-rows t c.args.row low)) ∙ ap (λ rows. (row_at rows c.args.row).depth) c.self.view_is
+    get_or_read_under c.self.inside.depths.items c.args.row c.self.inside.depths.len c.index.result.now 0
+    c.index.ensures (omega (arith, c.self.inside.depths.ok.0)) c.self.inside.depths.ok.0
+    ∙ sym (ap (λ row. row.depth) (row_at-rows t c.args.row low))
+    ∙ ap (λ rows. (row_at rows c.args.row).depth) c.self.view_is

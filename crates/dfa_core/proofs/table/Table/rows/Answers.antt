@@ -6,5 +6,6 @@ use Rattle.dfa_core.proofs.table.Table.rows.Goals as goal
 -- there is a row for each depth
 pub returns : goal.returns
 returns c =
-    let t : Flat = flat_with c.self.inside.targets.items c.self.inside.starts.items c.self.inside.numbers.items c.self.inside.depths.items in
+    let t : Flat = flat_with c.self.inside.targets.items c.self.inside.starts.items c.self.inside.numbers.items
+    c.self.inside.depths.items in
     c.len.ensures ∙ c.self.inside.depths.ok.0 ∙ sym (length-rows t) ∙ ap length c.self.view_is

@@ -7,16 +7,19 @@ use Rattle.dfa_core.proofs.table.Table.target.Goals as goal
 
 pub index-requires : goal.index-requires
 index-requires c =
-    let t : Flat = flat_with c.self.inside.targets.items c.self.inside.starts.items c.self.inside.numbers.items c.self.inside.depths.items in
+    let t : Flat = flat_with c.self.inside.targets.items c.self.inside.starts.items c.self.inside.numbers.items
+    c.self.inside.depths.items in
     let low = row_below t c.args.self.now c.args.row c.self.view_is c.requires in
     omega (arith, c.self.inside.targets.ok.0, c.self.invariant.flat.targets, c.column.ensures.bound)
 
 -- the entry is the row's target for the letter
 pub returns : goal.returns
 returns c =
-    let t : Flat = flat_with c.self.inside.targets.items c.self.inside.starts.items c.self.inside.numbers.items c.self.inside.depths.items in
+    let t : Flat = flat_with c.self.inside.targets.items c.self.inside.starts.items c.self.inside.numbers.items
+    c.self.inside.depths.items in
     let low = row_below t c.args.self.now c.args.row c.self.view_is c.requires in
-    get_or_read_under c.self.inside.targets.items (4 * c.args.row + c.column.result) c.self.inside.targets.len c.index.result.now 0 c.index.ensures
+    get_or_read_under c.self.inside.targets.items
+    (4 * c.args.row + c.column.result) c.self.inside.targets.len c.index.result.now 0 c.index.ensures
     (omega (arith, c.self.inside.targets.ok.0, c.self.invariant.flat.targets, c.column.ensures.bound))
     c.self.inside.targets.ok.0
     ∙ target-at t c.self.invariant.flat c.args.row c.column.result low c.column.ensures.bound

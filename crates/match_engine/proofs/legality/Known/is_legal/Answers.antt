@@ -6,5 +6,6 @@ use Rattle.match_engine.proofs.legality.Known.is_legal.Goals as goal
 -- one answer more
 pub returns-clause-knows : goal.returns-clause-knows
 returns-clause-knows c =
-    Knows-more (λ q. is_legal c.args.position.now c.args.colour q) c.args.self.now c.note.new.self c.args.at c.is_legal-legal.result c.requires.knows
+    Knows-more (λ q. is_legal c.args.position.now c.args.colour q) c.args.self.now c.note.new.self c.args.at
+    c.is_legal-legal.result c.requires.knows
     (sym c.has.ensures ∙ c.if-has.false) c.is_legal-legal.ensures c.note.ensures.asked c.note.ensures.holds

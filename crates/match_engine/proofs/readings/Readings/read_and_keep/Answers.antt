@@ -12,9 +12,12 @@ use Rattle.match_engine.proofs.readings.Readings.read_and_keep.Goals.{then-not-k
 pub invariant_of-self-else-not-keep_in : goal.invariant_of-self-else-not-keep_in
 invariant_of-self-else-not-keep_in c =
     let read = c.read_afresh-read.result in
-    let asked = c.requires.key ∙ sym (ap (λ (r : ReadingsView). asked_on c.args.position.now c.args.kind c.args.target r.plies r.wide) c.self.view_is) in
+    let asked = c.requires.key
+    ∙ sym (ap (λ (r : ReadingsView). asked_on c.args.position.now c.args.kind c.args.target r.plies r.wide)
+    c.self.view_is) in
     let rests = as_asked c.args.key _ _ asked c.read_afresh-read.ensures.rests in
-    AllRest-kept c.args.key read.facts read.answer rests (kept_in c.self.inside.cache) (kept_in c.keep_in.new.cache) c.self.invariant (c.keep_in.ensures.kept c.if-not-keep_in.false)
+    AllRest-kept c.args.key read.facts read.answer rests (kept_in c.self.inside.cache)
+    (kept_in c.keep_in.new.cache) c.self.invariant (c.keep_in.ensures.kept c.if-not-keep_in.false)
 
 -- it is counted, and kept or refused
 pub returns-clause-fresh : goal.returns-clause-fresh
@@ -22,9 +25,11 @@ returns-clause-fresh c =
     let key = c.args.key in
     let pos = c.args.position.now in
     let read = c.read_afresh-read.result in
-    let asked = c.requires.key ∙ sym (ap (λ (r : ReadingsView). asked_on pos c.args.kind c.args.target r.plies r.wide) c.self.view_is) in
+    let asked = c.requires.key
+    ∙ sym (ap (λ (r : ReadingsView). asked_on pos c.args.kind c.args.target r.plies r.wide) c.self.view_is) in
     let rests = as_asked key _ _ asked c.read_afresh-read.ensures.rests in
-    let missing = subst (λ (r : ReadingsView). IsMissing same_key key pos r.kept) (sym c.self.view_is) c.requires.missing in
+    let missing = subst (λ (r : ReadingsView). IsMissing same_key key pos r.kept)
+    (sym c.self.view_is) c.requires.missing in
     let inside = c.self.inside in
     let before : ReadingsView = record {
       plies = inside.depths.plies;
@@ -37,42 +42,49 @@ returns-clause-fresh c =
     } in
     subst (λ (old : ReadingsView). WasFresh key pos read.answer old c.if-not-keep_in.self) c.self.view_is
     (elim c.if-not-keep_in.branch as (λ _. WasFresh key pos read.answer before c.if-not-keep_in.self) [
-      | then-not-keep_in w ↦ subst (λ (new : ReadingsView). WasFresh key pos read.answer before new) (sym w.self-is) (record {
-        missing = missing;
-        trials_of_last = read.trials;
-        last = refl;
-        fresh = c.saturating_add-self-inside.ensures;
-        trials = c.saturating_add-self-inside-2.ensures;
-        keeping = inr (record {
-          not_kept = c.keep_in.ensures.not_kept w.if-not-keep_in.true;
-          kept = c.keep_in.ensures.refused w.if-not-keep_in.true;
-          refused = w.saturating_add-self-inside-then-not-keep_in.ensures;
-        });
-      })
-      | else-not-keep_in w ↦ subst (λ (new : ReadingsView). WasFresh key pos read.answer before new) (sym w.self-is) (record {
-        missing = missing;
-        trials_of_last = read.trials;
-        last = refl;
-        fresh = c.saturating_add-self-inside.ensures;
-        trials = c.saturating_add-self-inside-2.ensures;
-        keeping = inl (record {
-          facts = read.facts;
-          holds = c.read_afresh-read.ensures.holds;
-          rests = rests;
-          kept = c.keep_in.ensures.kept w.if-not-keep_in.false;
-          refused = refl;
-        });
-      })
+      | then-not-keep_in w ↦ subst (λ (new : ReadingsView). WasFresh key pos read.answer before new) (sym w.self-is)
+          (record {
+            missing = missing;
+            trials_of_last = read.trials;
+            last = refl;
+            fresh = c.saturating_add-self-inside.ensures;
+            trials = c.saturating_add-self-inside-2.ensures;
+            keeping = inr (record {
+              not_kept = c.keep_in.ensures.not_kept w.if-not-keep_in.true;
+              kept = c.keep_in.ensures.refused w.if-not-keep_in.true;
+              refused = w.saturating_add-self-inside-then-not-keep_in.ensures;
+            });
+          })
+      | else-not-keep_in w ↦ subst (λ (new : ReadingsView). WasFresh key pos read.answer before new) (sym w.self-is)
+          (record {
+            missing = missing;
+            trials_of_last = read.trials;
+            last = refl;
+            fresh = c.saturating_add-self-inside.ensures;
+            trials = c.saturating_add-self-inside-2.ensures;
+            keeping = inl (record {
+              facts = read.facts;
+              holds = c.read_afresh-read.ensures.holds;
+              rests = rests;
+              kept = c.keep_in.ensures.kept w.if-not-keep_in.false;
+              refused = refl;
+            });
+          })
     ])
 
 -- each kept variant rests on its facts
 pub returns-clause-rest : goal.returns-clause-rest
 returns-clause-rest c =
     let read = c.read_afresh-read.result in
-    let asked = c.requires.key ∙ sym (ap (λ (r : ReadingsView). asked_on c.args.position.now c.args.kind c.args.target r.plies r.wide) c.self.view_is) in
+    let asked = c.requires.key
+    ∙ sym (ap (λ (r : ReadingsView). asked_on c.args.position.now c.args.kind c.args.target r.plies r.wide)
+    c.self.view_is) in
     let rests = as_asked c.args.key _ _ asked c.read_afresh-read.ensures.rests in
     elim c.if-not-keep_in.branch as (λ _. AllRest c.if-not-keep_in.self.kept) [
-      | then-not-keep_in w ↦ subst AllRest (sym (ap (λ (r : ReadingsView). r.kept) w.self-is ∙ c.keep_in.ensures.refused w.if-not-keep_in.true)) c.self.invariant
+      | then-not-keep_in w ↦ subst AllRest (sym
+          (ap (λ (r : ReadingsView). r.kept) w.self-is ∙ c.keep_in.ensures.refused w.if-not-keep_in.true))
+          c.self.invariant
       | else-not-keep_in w ↦ subst (λ (r : ReadingsView). AllRest r.kept) (sym w.self-is)
-          (AllRest-kept c.args.key read.facts read.answer rests (kept_in c.self.inside.cache) (kept_in c.keep_in.new.cache) c.self.invariant (c.keep_in.ensures.kept w.if-not-keep_in.false))
+          (AllRest-kept c.args.key read.facts read.answer rests (kept_in c.self.inside.cache)
+          (kept_in c.keep_in.new.cache) c.self.invariant (c.keep_in.ensures.kept w.if-not-keep_in.false))
     ]

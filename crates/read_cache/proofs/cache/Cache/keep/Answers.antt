@@ -3,7 +3,8 @@ use Rattle.read_cache.proofs.cache.Cache.keep.Goals as goal
 
 -- the variants are small, and the new one is right
 pub with_first-variants-requires : goal.with_first-variants-requires
-with_first-variants-requires g c = (variants_fit g.row.Q-Answer g.met.Q.Question.small, record { right = λ pos a. c.requires pos a })
+with_first-variants-requires g c =
+    (variants_fit g.row.Q-Answer g.met.Q.Question.small, record { right = λ pos a. c.requires pos a })
 
 -- the variants are small and right
 pub put-requires : goal.put-requires

@@ -15,7 +15,8 @@ pub returns-in_err-put-clause-not_kept : goal.returns-in_err-put-clause-not_kept
 returns-in_err-put-clause-not_kept g c =
     let map = c.self.inside.kept in
     let eq = g.Q.PartialEq.eq in
-    OnErr-any c.from_residual.result _ (variants_of-none eq c.args.q map.entries map.cap c.args.self.now c.self.view_is (none_unless _ (λ there. let no = subst IsOk c.in_err-put.was (c.put.ensures.succeeds there) in false≢true no)))
+    OnErr-any c.from_residual.result _ (variants_of-none eq c.args.q map.entries map.cap c.args.self.now c.self.view_is
+    (none_unless _ (λ there. let no = subst IsOk c.in_err-put.was (c.put.ensures.succeeds there) in false≢true no)))
 
 -- what is put keeps the rest right
 pub invariant_of-self-2 : goal.invariant_of-self-2
@@ -23,13 +24,19 @@ invariant_of-self-2 g c =
     let map = c.self.inside.kept in
     let eq = g.Q.PartialEq.eq in
     subst (IsSound g.Q.Question.meaning)
-    (sym (ap (λ after. seen_entries after.entries) c.in_ok-put.ensures.entries ∙ ap (λ kept. kept.0) (seen-put_entries eq map c.args.q c.args.variants)))
-    (IsSound-put_first g.Q.Question.meaning eq g.met.Q.Question.same (seen_entries map.entries, map.cap) c.args.q c.args.variants.items c.self.invariant c.requires)
+    (sym (ap (λ after. seen_entries after.entries) c.in_ok-put.ensures.entries
+    ∙ ap (λ kept. kept.0) (seen-put_entries eq map c.args.q c.args.variants)))
+    (IsSound-put_first g.Q.Question.meaning eq g.met.Q.Question.same (
+      seen_entries map.entries,
+      map.cap,
+    ) c.args.q c.args.variants.items c.self.invariant c.requires)
 
 -- and is seen first
 pub returns-clause-put : goal.returns-clause-put
 returns-clause-put g c =
     let map = c.self.inside.kept in
     let eq = g.Q.PartialEq.eq in
-    ap (λ after. (seen_entries after.entries, after.cap)) c.in_ok-put.ensures.entries ∙ seen-put_entries eq map c.args.q c.args.variants
-    ∙ ap (λ (kept : Kept g.row.Q.Denot g.row.Q-Answer.Denot). put_first eq c.args.q c.args.variants.items kept) c.self.view_is
+    ap (λ after. (seen_entries after.entries, after.cap)) c.in_ok-put.ensures.entries
+    ∙ seen-put_entries eq map c.args.q c.args.variants
+    ∙ ap (λ (kept : Kept g.row.Q.Denot g.row.Q-Answer.Denot).
+    put_first eq c.args.q c.args.variants.items kept) c.self.view_is

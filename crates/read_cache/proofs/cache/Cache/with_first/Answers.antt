@@ -11,14 +11,17 @@ returns-in-Some-clause-with g c =
     let map = c.self.inside.kept in
     let at_key = sym c.peek.ensures ∙ ap option_copied c.in-Some.is in
     c.with_first.ensures ∙ ap (λ vs. c.args.first ∷ take 3 vs) c.as_slice.ensures
-    ∙ ap (λ o. c.args.first ∷ option_map_or (λ vs. take 3 vs) o []) (sym (variants_of-there g.Q.PartialEq.eq c.args.q.now map.entries map.cap c.args.self.now c.self.view_is c.in-Some.kept.now at_key))
+    ∙ ap (λ o. c.args.first ∷ option_map_or (λ vs. take 3 vs) o [])
+    (sym (variants_of-there g.Q.PartialEq.eq c.args.q.now map.entries map.cap c.args.self.now c.self.view_is
+    c.in-Some.kept.now at_key))
 
 -- which are right
 pub returns-in-Some-clause-are : goal.returns-in-Some-clause-are
 returns-in-Some-clause-are g c =
     let map = c.self.inside.kept in
     let at_key = sym c.peek.ensures ∙ ap option_copied c.in-Some.is in
-    let are = variants_are g.Q.PartialEq.eq c.args.q.now map.entries map.cap c.args.self.now c.self.view_is g.Q.Question.meaning g.met.Q.Question.same c.self.invariant c.in-Some.kept.now at_key in
+    let are = variants_are g.Q.PartialEq.eq c.args.q.now map.entries map.cap c.args.self.now c.self.view_is
+    g.Q.Question.meaning g.met.Q.Question.same c.self.invariant c.in-Some.kept.now at_key in
     let meaning = g.Q.Question.meaning c.args.q.now in
     subst (AreVariants meaning) (sym (c.with_first.ensures ∙ ap (λ vs. c.args.first ∷ take 3 vs) c.as_slice.ensures))
     (AreVariants-with meaning c.args.first c.in-Some.kept.now.items c.requires are)
@@ -29,7 +32,8 @@ returns-in-None-clause-with g c =
     let map = c.self.inside.kept in
     c.alone.ensures
     ∙ ap (λ o. c.args.first ∷ option_map_or (λ vs. take 3 vs) o [])
-    (sym (variants_of-none g.Q.PartialEq.eq c.args.q.now map.entries map.cap c.args.self.now c.self.view_is (sym c.peek.ensures ∙ ap option_copied c.in-None.is)))
+    (sym (variants_of-none g.Q.PartialEq.eq c.args.q.now map.entries map.cap c.args.self.now c.self.view_is
+    (sym c.peek.ensures ∙ ap option_copied c.in-None.is)))
 
 -- which is right
 pub returns-in-None-clause-are : goal.returns-in-None-clause-are

@@ -32,7 +32,8 @@ returns-clause-answer c =
     subst family c.self.view_is (elim c.match-play.branch as
     (λ _. IsAnswer kept (played kept c.args.m) c.match-play.result (with_game new kept)) [
       | in-Ok w ↦
-          move_added game kept c.args.m new c.match-play.result w.in-Ok.ensures.ok w.in-Ok.ensures.allowed w.in-Ok.ensures.room
+          move_added game kept c.args.m new c.match-play.result w.in-Ok.ensures.ok w.in-Ok.ensures.allowed
+          w.in-Ok.ensures.room
           (w.result-is ∙ w.told.ensures)
       | in-Err-Illegal w ↦
           let answer = w.in-Err-Illegal in
