@@ -118,7 +118,8 @@ def build(folder: pathlib.Path, room: pathlib.Path, database: pathlib.Path) -> p
         return None
     includes = [f"-I{folder / name}" for name in ("", "engine", "patterns", "utils", "sgf")]
     names = ("engine/libengine.a", "patterns/libpatterns.a", "engine/libboard.a", "sgf/libsgf.a", "utils/libutils.a")
-    libraries = ["-Wl,--start-group", *(folder / name for name in names), "-Wl,--end-group", "-lm"]
+    curses = ["-lcurses"] if "#define HAVE_CURSES_H 1" in (folder / "config.h").read_text(encoding="utf-8") else []
+    libraries = ["-Wl,--start-group", *(folder / name for name in names), "-Wl,--end-group", "-lm", *curses]
     compiled = ["cc", "-O1", "-w", "-fcommon", "-DHAVE_CONFIG_H", *includes, driver, made, "-o", matcher, *libraries]
     subprocess.run(compiled, check=True)
     return matcher
