@@ -7,6 +7,7 @@ use Rattle.db_entry.specs.Says.{most_fields}
 use Rattle.db_entry.proofs.FewFields.{faults_of_few, few_are_all}
 use Rattle.db_entry.proofs.colon.read_colon_line.Goals as goal
 
+-- the fault of the fields that are looked at is that of the colon line
 pub returns-in-Some-clause-err : goal.returns-in-Some-clause-err
 returns-in-Some-clause-err c = λ words draws.
     let all = fields_of c.args.line.now in
@@ -15,6 +16,7 @@ returns-in-Some-clause-err c = λ words draws.
     sym (faults_of_few c.args.helpers.now words all) ∙ ap (fields_fault c.args.helpers.now words) (sym fields)
     ∙ sym (c.fields_fault.ensures words draws) ∙ c.in-Some.is
 
+-- fields without a fault are all those of the line, and say what the line says
 pub returns-clause-ok : goal.returns-clause-ok
 returns-clause-ok c = λ words draws.
     let all = fields_of c.args.line.now in
