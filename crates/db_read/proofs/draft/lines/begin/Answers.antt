@@ -3,6 +3,7 @@ use Rattle.db_rules.specs.Accepted.{no_line}
 use Rattle.db_rules.specs.Entries.{name_on}
 use Rattle.db_read.proofs.draft.lines.begin.Goals as goal
 
+-- the entry has the name on the Pattern line, and no line else
 pub returns-clause-begun : goal.returns-clause-begun
 returns-clause-begun c = λ k e. record {
   name = c.in_ok-name.ensures ∙ c.name_of.ensures.value ∙ ap name_on (sym e);
