@@ -6,7 +6,7 @@ use Rattle.std.specs.Option.{option_to_list}
 use Rattle.std.proofs.lemmas.Bool.{leb-false}
 use Rattle.std.proofs.lemmas.List.{append-nil, length-append, map-append}
 use Rattle.std.proofs.lemmas.List.Concat.{flat_map-append}
-use Rattle.std.proofs.lemmas.List.Elements.{All-nil, All-cons, All-append}
+use Rattle.std.proofs.lemmas.List.Elements.{All-nil, All-append, All-push}
 use Rattle.db_lex.specs.declared.line.LineKind.{LineKind}
 use Rattle.db_lex.specs.declared.line.LineKind.TheVariants.{Pattern, Colon, Semicolon, Action, Other}
 use Rattle.db_lex.specs.Lines.{KeptLine, kind_of, word_of, kept_lines}
@@ -36,10 +36,6 @@ parts stage front done now = record { stage = stage; front = front; done = done;
 -- all lines so far
 abbrev all_in : SoFar → List KeptLine
 all_in s = s.front ++ flat_map lines_in (blocks_of s)
-
--- a list with one more element of which something holds
-all-push : {X : Type 0} (P : X → Type 0) (xs : List X) (x : X) → All P xs → P x → All P (xs ++ x ∷ [])
-all-push P xs x all one = All-append P xs (x ∷ []) all (All-cons P x [] one (All-nil P))
 
 -- the block that goes on stands last
 lines_of_last : (front : List KeptLine) (done : List Block) (b : Block)
@@ -286,7 +282,7 @@ module _ (helpers : List (List ℕ)) where
   all_whole number stage done None all fits none left =
       All-append (IsBlock helpers) done [] all (All-nil (IsBlock helpers))
   all_whole number stage done (Some b) all fits none left =
-      all-push (IsBlock helpers) done b all (whole_block number stage b fits.0 fits.1 none left)
+      All-push (IsBlock helpers) done b all (whole_block number stage b fits.0 fits.1 none left)
 
   -- a block that goes on with one line more
   grown : (stage next : Stage) (front : List KeptLine) (done : List Block) (b d : Block) (line : KeptLine)
@@ -314,7 +310,7 @@ module _ (helpers : List (List ℕ)) where
       record {
         lines = rw none (simp append-nil);
         stands = record {
-          front = all-push IsInFront front line stands.front fine;
+          front = All-push IsInFront front line stands.front fine;
           done = stands.done;
           few =
               stands.few;
@@ -375,7 +371,7 @@ module _ (helpers : List (List ℕ)) where
       (record {
         head = begun.head;
         named = begun.named;
-        diagram = all-push (IsLineOf Other) b.diagram line begun.diagram other;
+        diagram = All-push (IsLineOf Other) b.diagram line begun.diagram other;
         drawn = drawn;
         constraint = begun.constraint;
         labelled = labelled;
@@ -438,7 +434,7 @@ module _ (helpers : List (List ℕ)) where
         named = begun.named;
         diagram = begun.diagram;
         drawn = begun.drawn;
-        constraint = all-push (IsLineOf Other) b.constraint line begun.constraint other;
+        constraint = All-push (IsLineOf Other) b.constraint line begun.constraint other;
         labelled = labelled;
         expression = begun.expression;
         actions = begun.actions;
@@ -466,7 +462,7 @@ module _ (helpers : List (List ℕ)) where
         drawn = begun.drawn;
         constraint = begun.constraint;
         labelled = begun.labelled;
-        expression = all-push (IsLineOf Semicolon) b.expression line begun.expression semicolon;
+        expression = All-push (IsLineOf Semicolon) b.expression line begun.expression semicolon;
         actions = begun.actions;
       })
       (colon, closed, empty)
@@ -493,7 +489,7 @@ module _ (helpers : List (List ℕ)) where
         constraint = begun.constraint;
         labelled = begun.labelled;
         expression = begun.expression;
-        actions = all-push (IsLineOf Action) b.actions line begun.actions action;
+        actions = All-push (IsLineOf Action) b.actions line begun.actions action;
       })
       (block.colon, block.closed, block.judged)
 

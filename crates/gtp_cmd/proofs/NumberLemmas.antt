@@ -1,5 +1,6 @@
 -- What a word of digits writes when it is read from its front.
-use Rattle.std.proofs.Common.{◌≡◌, ℕ, ◌+◌, ◌-◌, ◌*◌, ◌<◌, ◌≤◌, Bool, true, false, cond, ◌&&◌, List, [], ◌∷◌, ◌++◌}
+use Rattle.std.proofs.Common.{◌≡◌, ℕ, ◌+◌, ◌-◌, ◌*◌, ◌<◌, ◌≤◌, true, false, cond, ◌&&◌, List, [], ◌∷◌, ◌++◌}
+use Rattle.std.proofs.Math.Bool.{and-false}
 use Rattle.std.proofs.Common.{length, take, drop, get_or, min, unwrap_or, leb, Option, Some, None, IfSome, refl, sym}
 use Rattle.std.proofs.Common.{ap, subst, ◌∙◌, arith, take-append-drop}
 use Rattle.std.specs.List.{list_all}
@@ -98,11 +99,6 @@ kept-cut word i within here =
     ∙ ap (λ t. kept (take i word)
     ++ cond t (get_or word i 0 ∷ kept (drop (i + 1) word)) (kept (drop (i + 1) word))) here
 
--- nothing and something false is false
-and_false : (a : Bool) → (a && false) ≡ false
-and_false true = refl
-and_false false = refl
-
 -- a word with a byte that is no digit is no number
 pub not_number : (word : List ℕ) (i : ℕ) → i < length word → is_kept (get_or word i 0) ≡ true
     → is_ascii_digit (get_or word i 0) ≡ false → None ≡ capped (number_of (kept word))
@@ -113,9 +109,9 @@ not_number word i within here other =
     ap (list_all is_ascii_digit) (kept-cut word i within here)
     ∙ list_all-append is_ascii_digit front (get_or word i 0 ∷ rest)
     ∙ ap (λ t. list_all is_ascii_digit front && (t && list_all is_ascii_digit rest)) other
-    ∙ and_false (list_all is_ascii_digit front) in
+    ∙ and-false (list_all is_ascii_digit front) in
     sym (ap (λ t. capped (cond (has_bytes (kept word) && t) (Some (digits_value 10 (kept word))) None)) none
-    ∙ ap (λ t. capped (cond t (Some (digits_value 10 (kept word))) None)) (and_false (has_bytes (kept word))))
+    ∙ ap (λ t. capped (cond t (Some (digits_value 10 (kept word))) None)) (and-false (has_bytes (kept word))))
 
 -- where the number is above the greatest id there is no id
 pub id-above : (o : Option ℕ) (n : ℕ) → Some n ≡ capped o → most_id < n → None ≡ up_to most_id o

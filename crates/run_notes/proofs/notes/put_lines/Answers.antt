@@ -1,9 +1,10 @@
 -- The lines before went out whole, and a front of the line at which the sink failed.
 use Rattle.std.proofs.Common.{◌++◌}
+use Rattle.std.proofs.lemmas.Result.{on_err_weaker}
 use Rattle.std.specs.List.{concat}
 use Rattle.std.proofs.KnownBytes.{Appends-trans}
 use Rattle.run_notes.specs.Notes.{counts_line, sent_line}
-use Rattle.run_notes.proofs.PutLemmas.{fails_early, fails_later, on_err_from, on_err_map}
+use Rattle.run_notes.proofs.PutLemmas.{fails_early, fails_later, on_err_from}
 use Rattle.run_notes.proofs.notes.put_lines.Goals as goal
 
 -- where the sink fails in the line of the counts, it got a front of that line
@@ -31,7 +32,7 @@ returns-clause-part g c =
     let b = g.D.Sink.written c.put_some_counts.new.notes in
     let d = g.D.Sink.written c.put_some_sent.new.notes in
     let e = g.D.Sink.written c.put_pieces.new.sink in
-    on_err_map c.put_pieces.result
+    on_err_weaker c.put_pieces.result
     (λ part. fails_later a d e (counts_line c.args.counts ++ sent_line c.args.sent) (concat c.args.last.now)
     (Appends-trans a b d (counts_line c.args.counts)
     (sent_line c.args.sent) c.in_ok-put_some_counts.ensures.ok c.in_ok-put_some_sent.ensures.ok) part)
