@@ -1,7 +1,7 @@
 -- Of a colon line with too many fields the first 19 show the fault.
 use Rattle.std.proofs.Common.{◌≡◌, ℕ, ◌<◌, ◌≤◌, Bool, true, false, List, [], ◌∷◌, ◌++◌, length, map, take, drop, None, refl, sym, ap, subst, ◌∙◌, ⊎_elim, arith}
-use Rattle.std.specs.Prelude.{nat_lt}
-use Rattle.std.proofs.lemmas.Bool.{lt-ltb, ltb-false, cases_lt, or_parts}
+use Rattle.std.specs.Prelude.{nat_lt, is_none}
+use Rattle.std.proofs.lemmas.Bool.{lt-ltb, ltb-false, cases_lt, or_parts, true≢false}
 use Rattle.std.proofs.Math.Seq.{take-append_seam}
 use Rattle.std.proofs.lemmas.List.{length-append, length-take, length-drop, take_all}
 use Rattle.db_lex.specs.Lines.{trimmed}
@@ -47,6 +47,22 @@ fifth_of_six false false true d e f k l m n o p none = absurd cc
 fifth_of_six false false false true e f k l m n o p none = absurd cc
 fifth_of_six false false false false true f k l m n o p none = absurd cc
 fifth_of_six false false false false false f k l m n o p none = refl
+
+-- of six tests of which none passes the third does not
+third_of_six : (a b c d e f : Bool) (k l m n o p : FaultKind)
+    → first_of ((a, k) ∷ (b, l) ∷ (c, m) ∷ (d, n) ∷ (e, o) ∷ (f, p) ∷ []) ≡ None → c ≡ false
+third_of_six true b c d e f k l m n o p none = absurd cc
+third_of_six false true c d e f k l m n o p none = absurd cc
+third_of_six false false true d e f k l m n o p none = absurd cc
+third_of_six false false false d e f k l m n o p none = refl
+
+-- fields without a fault begin with a mark
+pub mark_is_there : (helpers diagram fields : List (List ℕ)) → fields_fault helpers diagram fields ≡ None
+    → mark_of fields ≡ None → ⊥
+unfolding fields_fault
+mark_is_there helpers diagram fields none no_mark =
+    true≢false (sym (ap is_none no_mark)
+    ∙ third_of_six _ _ _ _ _ _ NoDiagram MoveCount BadMark BadClass BadItem UnknownHelper none)
 
 -- where the fields that are looked at have no fault they are all
 pub few_are_all : (helpers diagram all : List (List ℕ)) → fields_fault helpers diagram (take most_fields all) ≡ None

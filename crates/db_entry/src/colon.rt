@@ -262,8 +262,13 @@ pub fn read_colon_line(
     if let Some(kind) = fields_fault(helpers, diagram, fields) {
         return Err(LineError::Kind(kind));
     }
+    let mark = match mark_of(fields) {
+        Some(mark) => mark,
+        // Never: fields without a fault begin with a mark.
+        None => return Err(LineError::Kind(FaultKind::BadMark)),
+    };
     Ok(ColonLine {
-        mark: mark_of(fields).unwrap_or(Mark::Oh),
+        mark,
         classes: class_letters(alloc, class_field(fields))?,
         items: items_of(alloc, further(fields))?,
     })
