@@ -17,11 +17,11 @@ use Rattle.db_read.proofs.reader.read.Goals as goal
 pub loop-told-init : goal.loop-told-init
 loop-told-init c =
     subst (λ (x : Lexed). (x.text ≡ c.args.text.now)
-    × Walked c.args.helpers.now c.args.text.now c.in_ok-reader.reader x.left) (sym c.lines-lexer.ensures) (
+    × Walked c.args.helpers.now c.args.text.now c.start-reader.result x.left) (sym c.lines-lexer.ensures) (
       refl,
       record {
         so_far = _;
-        shown = c.in_ok-reader.ensures.ok;
+        shown = c.start-reader.ensures;
         reaches =
             Reaches-start c.args.helpers.now c.args.text.now;
       },
