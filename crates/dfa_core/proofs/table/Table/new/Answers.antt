@@ -4,6 +4,7 @@ use Rattle.dfa_core.proofs.Tables.{flat_with, rows_in-none, IsFlat-none}
 use Rattle.dfa_core.proofs.RowKinds.{AreKinds-none}
 use Rattle.dfa_core.proofs.table.Table.new.Goals as goal
 
+-- a table with no depths has no rows
 pub returns : goal.returns
 returns c = rows_in-none _ c.new-3.ensures.items
 

@@ -41,6 +41,7 @@ one_more c =
     (c.len-2.ensures ∙ c.extend_from_slice-3.new.self.ok.0) c.in_ok-extend_from_slice-2.ensures.items
     c.in_ok-extend_from_slice-3.ensures.items c.in_ok-push-2.ensures.items
 
+-- the new row comes behind those of the table that was given
 pub returns : goal.returns
 returns c =
     let at = (goal.at.returns c).In_ok-push-3 in
