@@ -7,8 +7,8 @@ use Rattle.pat_types.specs.declared.expr.Op.{Op}
 use Rattle.pat_types.specs.declared.expr.Op.TheVariants.{Or, And, Eq, Ne, Lt, Le, Gt, Ge, Add, Sub}
 use Rattle.cons_parse.specs.declared.calls.Item.{Item}
 use Rattle.cons_parse.specs.declared.calls.Item.TheVariants as item
-use Rattle.cons_parse.specs.declared.scan.Mark.{Mark}
-use Rattle.cons_parse.specs.declared.scan.Mark.TheVariants.{Prefix, Parenthesis}
+use Rattle.cons_parse.specs.declared.scan.Opener.{Opener}
+use Rattle.cons_parse.specs.declared.scan.Opener.TheVariants.{Prefix, Parenthesis}
 use Rattle.cons_parse.specs.Grammar.{Written, Num, Call, Parens, Not, Neg, Bin, level_of_op, level_of, IsWell, spelling}
 use Rattle.cons_parse.specs.Scan.{settled, scanned_from, scanned, is_sub}
 use Rattle.cons_parse.specs.Building.{Pending, OpenNot, OpenNeg, OpenParens, OpenLeft}
@@ -81,13 +81,13 @@ extended_well (Bin o a b) op e v w l =
     well_if (nat_lt (level_of_op o) (level_of_op op)) o op a b (extended b op e) e refl v w l
     (λ h. extended_level (level_of_op o) b op e v.1 h) (extended_well b op e v.3 w l)
 
--- what is open, as marks; the items that were read; a front that no sign ends
-abbrev pub marks_of : List (Pending Written) → List Mark
-marks_of [] = []
-marks_of (OpenNot ∷ ps) = Prefix ∷ marks_of ps
-marks_of (OpenNeg ∷ ps) = Prefix ∷ marks_of ps
-marks_of (OpenParens ∷ ps) = Parenthesis ∷ marks_of ps
-marks_of (OpenLeft op a ∷ ps) = marks_of ps
+-- what is open, as openers; the items that were read; a front that no sign ends
+abbrev pub openers_of : List (Pending Written) → List Opener
+openers_of [] = []
+openers_of (OpenNot ∷ ps) = Prefix ∷ openers_of ps
+openers_of (OpenNeg ∷ ps) = Prefix ∷ openers_of ps
+openers_of (OpenParens ∷ ps) = Parenthesis ∷ openers_of ps
+openers_of (OpenLeft op a ∷ ps) = openers_of ps
 
 -- the items that were read for what is open
 abbrev pub read_by : List (Pending Written) → List Item
@@ -114,17 +114,17 @@ IsGood (OpenParens ∷ ps) = IsGood ps
 IsGood (OpenLeft op a ∷ ps) = IsWell a × IsBase ps × IsGood ps
 
 -- an operand with what it closes
-record Settled (ms : List Mark) (is : List Item) : Type 0 where
+record Settled (ms : List Opener) (is : List Item) : Type 0 where
   open_ps : List (Pending Written)
   now : Written
   base : IsBase open_ps
   good : IsGood open_ps
   well : IsWell now
-  marks : marks_of open_ps ≡ settled ms
+  openers : openers_of open_ps ≡ settled ms
   read : read_by open_ps ++ spelling now ≡ is
 
--- what an operand closes, by equal marks and equal items
-with_read : (ms ns : List Mark) (is js : List Item) → settled ms ≡ settled ns → is ≡ js → Settled ms is → Settled ns js
+-- what an operand closes, by equal openers and equal items
+with_read : (ms ns : List Opener) (is js : List Item) → settled ms ≡ settled ns → is ≡ js → Settled ms is → Settled ns js
 with_read ms ns is js e f s =
     record {
       open_ps = s.open_ps;
@@ -132,13 +132,13 @@ with_read ms ns is js e f s =
       base = s.base;
       good = s.good;
       well = s.well;
-      marks =
-          s.marks ∙ e;
+      openers =
+          s.openers ∙ e;
       read = s.read ∙ f;
     }
 
 -- an operand closes nothing of a base
-base_settled : (ps : List (Pending Written)) → IsBase ps → marks_of ps ≡ settled (marks_of ps)
+base_settled : (ps : List (Pending Written)) → IsBase ps → openers_of ps ≡ settled (openers_of ps)
 base_settled [] b = refl
 base_settled (OpenNot ∷ ps) b = absurd b
 base_settled (OpenNeg ∷ ps) b = absurd b
@@ -147,20 +147,20 @@ base_settled (OpenLeft op a ∷ ps) b = absurd b
 
 -- an operand closes the signs before it and joins the left side
 settle : (ps : List (Pending Written)) (e : Written) → IsGood ps → IsWell e → 5 ≤ level_of e
-    → Settled (marks_of ps) (read_by ps ++ spelling e)
-settle [] e g v l = record { open_ps = []; now = e; base = tt; good = tt; well = v; marks = refl; read = refl }
+    → Settled (openers_of ps) (read_by ps ++ spelling e)
+settle [] e g v l = record { open_ps = []; now = e; base = tt; good = tt; well = v; openers = refl; read = refl }
 settle (OpenNot ∷ ps) e g v l =
-    with_read (marks_of ps) (Prefix ∷ marks_of ps) (read_by ps ++ item.Bang ∷ spelling e)
+    with_read (openers_of ps) (Prefix ∷ openers_of ps) (read_by ps ++ item.Bang ∷ spelling e)
     (read_by ps ++ item.Bang ∷ [] ++ spelling e) refl
     (sym (append_assoc (read_by ps) (item.Bang ∷ []) (spelling e)))
     (settle ps (Not e) g (l, v) (omega arith))
 settle (OpenNeg ∷ ps) e g v l =
-    with_read (marks_of ps) (Prefix ∷ marks_of ps) (read_by ps ++ item.Operator Sub ∷ spelling e)
+    with_read (openers_of ps) (Prefix ∷ openers_of ps) (read_by ps ++ item.Operator Sub ∷ spelling e)
     (read_by ps ++ item.Operator Sub ∷ [] ++ spelling e) refl
     (sym (append_assoc (read_by ps) (item.Operator Sub ∷ []) (spelling e)))
     (settle ps (Neg e) g (l, v) (omega arith))
 settle (OpenParens ∷ ps) e g v l =
-    record { open_ps = OpenParens ∷ ps; now = e; base = tt; good = g; well = v; marks = refl; read = refl }
+    record { open_ps = OpenParens ∷ ps; now = e; base = tt; good = g; well = v; openers = refl; read = refl }
 settle (OpenLeft op a ∷ ps) e g v l =
     record {
       open_ps = ps;
@@ -168,7 +168,7 @@ settle (OpenLeft op a ∷ ps) e g v l =
       base = g.1;
       good = g.2;
       well = extended_well a op e g.0 v l;
-      marks = base_settled ps g.1;
+      openers = base_settled ps g.1;
       read = ap (λ (is : List Item). read_by ps ++ is)
           (extended_spelling a op e ∙ sym (append_assoc (spelling a) (item.Operator op ∷ []) (spelling e)))
           ∙ sym (append_assoc (read_by ps) (spelling a ++ item.Operator op ∷ []) (spelling e));
@@ -197,9 +197,9 @@ sub_is Sub h = refl
 
 -- behind an operator where an operand is to come, which is `-`
 from_sign : (t : Bool) (op : Op) (is : List Item) (ps : List (Pending Written)) (d x : Bool)
-    → (scanned_from (to_come (Prefix ∷ marks_of ps) d) is ≡ Some x
+    → (scanned_from (to_come (Prefix ∷ openers_of ps) d) is ≡ Some x
     → IsSpelled (read_by ps ++ item.Operator Sub ∷ [] ++ is)) → is_sub op ≡ t
-    → option_and_then (λ s. scanned_from s is) (cond t (Some (to_come (Prefix ∷ marks_of ps) d)) None) ≡ Some x
+    → option_and_then (λ s. scanned_from s is) (cond t (Some (to_come (Prefix ∷ openers_of ps) d)) None) ≡ Some x
     → IsSpelled (read_by ps ++ item.Operator op ∷ is)
 from_sign false op is ps d x f e h = cc
 from_sign true op is ps d x f e h =
@@ -212,18 +212,18 @@ mutual
   unfolding scanned_from
 
   pub from_operand : (is : List Item) (ps : List (Pending Written)) (d x : Bool) → IsGood ps
-      → scanned_from (to_come (marks_of ps) d) is ≡ Some x → IsSpelled (read_by ps ++ is)
+      → scanned_from (to_come (openers_of ps) d) is ≡ Some x → IsSpelled (read_by ps ++ is)
   from_operand [] ps d x g h = cc
   from_operand (item.Number n ∷ is) ps d x g h =
       let s = settle ps (Num n) g tt (omega arith) in
-      let j = from_behind is s.open_ps s.now (d || nat_lt 32 (length (marks_of ps))) x s.base s.good s.well
-      (ap (λ (m : List Mark). scanned_from (come m (d || nat_lt 32 (length (marks_of ps)))) is) s.marks ∙ h) in
+      let j = from_behind is s.open_ps s.now (d || nat_lt 32 (length (openers_of ps))) x s.base s.good s.well
+      (ap (λ (m : List Opener). scanned_from (come m (d || nat_lt 32 (length (openers_of ps)))) is) s.openers ∙ h) in
       spelled_along (read_by s.open_ps ++ spelling s.now ++ is) (read_by ps ++ item.Number n ∷ is)
       (ap (λ (js : List Item). js ++ is) s.read ∙ append_assoc (read_by ps) (item.Number n ∷ []) is) j
   from_operand (item.Call name args ∷ is) ps d x g h =
       let s = settle ps (Call name args) g tt (omega arith) in
-      let j = from_behind is s.open_ps s.now (d || nat_lt 32 (length (marks_of ps))) x s.base s.good s.well
-      (ap (λ (m : List Mark). scanned_from (come m (d || nat_lt 32 (length (marks_of ps)))) is) s.marks ∙ h) in
+      let j = from_behind is s.open_ps s.now (d || nat_lt 32 (length (openers_of ps))) x s.base s.good s.well
+      (ap (λ (m : List Opener). scanned_from (come m (d || nat_lt 32 (length (openers_of ps)))) is) s.openers ∙ h) in
       spelled_along (read_by s.open_ps ++ spelling s.now ++ is) (read_by ps ++ item.Call name args ∷ is)
       (ap (λ (js : List Item). js ++ is) s.read ∙ append_assoc (read_by ps) (item.Call name args ∷ []) is) j
   from_operand (item.Operator op ∷ is) ps d x g h =
@@ -237,7 +237,7 @@ mutual
   from_operand (item.Close ∷ is) ps d x g h = cc
 
   pub from_behind : (is : List Item) (ps : List (Pending Written)) (e : Written) (d x : Bool) → IsBase ps → IsGood ps
-      → IsWell e → scanned_from (come (marks_of ps) d) is ≡ Some x → IsSpelled (read_by ps ++ spelling e ++ is)
+      → IsWell e → scanned_from (come (openers_of ps) d) is ≡ Some x → IsSpelled (read_by ps ++ spelling e ++ is)
   from_behind [] [] e d x b g v h = (e, v, sym (append-nil (spelling e)))
   from_behind [] (OpenParens ∷ ps) e d x b g v h = cc
   from_behind [] (OpenNot ∷ ps) e d x b g v h = absurd b
@@ -257,7 +257,7 @@ mutual
   from_behind (item.Close ∷ is) (OpenParens ∷ ps) e d x b g v h =
       let s = settle ps (Parens e) g v (omega arith) in
       let j = from_behind is s.open_ps s.now d x s.base s.good s.well
-      (ap (λ (m : List Mark). scanned_from (come m d) is) s.marks ∙ h) in
+      (ap (λ (m : List Opener). scanned_from (come m d) is) s.openers ∙ h) in
       let q : read_by ps ++ (item.Open ∷ (spelling e ++ item.Close ∷ [])) ≡ read_by ps ++ item.Open
       ∷ [] ++ spelling e ++ item.Close ∷ [] =
       sym (append_assoc (read_by ps) (item.Open ∷ []) (spelling e ++ item.Close ∷ []))

@@ -6,19 +6,19 @@ use Rattle.pat_types.specs.declared.expr.Op.{Op}
 use Rattle.pat_types.specs.declared.expr.Op.TheVariants.{Or, And, Eq, Ne, Lt, Le, Gt, Ge, Add, Sub}
 use Rattle.cons_parse.specs.declared.calls.Item.{Item}
 use Rattle.cons_parse.specs.declared.calls.Item.TheVariants as item
-use Rattle.cons_parse.specs.declared.scan.Mark.{Mark}
-use Rattle.cons_parse.specs.declared.scan.Mark.TheVariants.{Prefix, Parenthesis}
+use Rattle.cons_parse.specs.declared.scan.Opener.{Opener}
+use Rattle.cons_parse.specs.declared.scan.Opener.TheVariants.{Prefix, Parenthesis}
 use Rattle.cons_parse.specs.Grammar.{Written, Num, Call, Parens, Not, Neg, Bin, level_of_op, level_of, IsWell, spelling}
 use Rattle.cons_parse.specs.Faults.{is_too_deep}
 use Rattle.cons_parse.specs.Scan.{Spot, settled, scanned_from, scanned}
 
 -- a place where an operand is to come, and one behind an operand
-abbrev pub to_come : List Mark → Bool → Spot
-to_come ms d = record { open_marks = ms; after = false; deep = d }
+abbrev pub to_come : List Opener → Bool → Spot
+to_come ms d = record { openers = ms; after = false; deep = d }
 
 -- the place behind an operand
-abbrev pub come : List Mark → Bool → Spot
-come ms d = record { open_marks = ms; after = true; deep = d }
+abbrev pub come : List Opener → Bool → Spot
+come ms d = record { openers = ms; after = true; deep = d }
 
 -- operators bind less tightly than signs
 pub op_level : (op : Op) → level_of_op op ≤ 4
@@ -34,7 +34,7 @@ op_level Add = omega arith
 op_level Sub = omega arith
 
 -- the items of an expression, in front of others
-pub operand : (w : Written) (ms : List Mark) (d : Bool) (is : List Item) → IsWell w → (level_of w < 5 → settled ms ≡ ms)
+pub operand : (w : Written) (ms : List Opener) (d : Bool) (is : List Item) → IsWell w → (level_of w < 5 → settled ms ≡ ms)
     → scanned_from (to_come ms d) (spelling w ++ is)
     ≡ scanned_from (come (settled ms) (d || is_too_deep (length ms) w)) is
 unfolding scanned_from
@@ -50,7 +50,7 @@ operand (Bin op a b) ms d is v r =
     let next = spelling b ++ is in
     ap (scanned_from (to_come ms d)) (append_assoc (spelling a) (item.Operator op ∷ spelling b) is)
     ∙ (operand a ms d (item.Operator op ∷ next) v.2 (λ _. s)
-    ∙ (ap (λ (m : List Mark). scanned_from (to_come m (d || is_too_deep (length ms) a)) next) s
+    ∙ (ap (λ (m : List Opener). scanned_from (to_come m (d || is_too_deep (length ms) a)) next) s
     ∙ (operand b ms (d || is_too_deep (length ms) a) is v.3 (λ _. s)
     ∙ ap (λ (q : Bool). scanned_from (come (settled ms) q) is)
     (or_assoc d (is_too_deep (length ms) a) (is_too_deep (length ms) b)))))

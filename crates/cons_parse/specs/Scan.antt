@@ -5,41 +5,41 @@ use Rattle.pat_types.specs.declared.expr.Op.{Op}
 use Rattle.pat_types.specs.declared.expr.Op.TheVariants.{Sub}
 use Rattle.cons_parse.specs.declared.calls.Item.{Item}
 use Rattle.cons_parse.specs.declared.calls.Item.TheVariants as item
-use Rattle.cons_parse.specs.declared.scan.Mark.{Mark}
-use Rattle.cons_parse.specs.declared.scan.Mark.TheVariants.{Prefix, Parenthesis}
+use Rattle.cons_parse.specs.declared.scan.Opener.{Opener}
+use Rattle.cons_parse.specs.declared.scan.Opener.TheVariants.{Prefix, Parenthesis}
 use Rattle.cons_parse.specs.declared.scan.Place.{Place}
 use Rattle.cons_parse.specs.Faults.{most_levels}
 
 -- a place: what is open, the newest first; whether an operand stands before it, and whether a leaf before it is too
 -- deep
 pub record Spot : Type 0 where
-  pub open_marks : List Mark
+  pub openers : List Opener
   pub after : Bool
   pub deep : Bool
 
 -- the place that the code keeps
 abbrev pub spot_of : Place → Spot
-spot_of p = record { open_marks = reverse p.marks.items; after = p.after; deep = p.deep }
+spot_of p = record { openers = reverse p.openers.items; after = p.after; deep = p.deep }
 
--- the newest open mark is a sign before its operand
-abbrev pub is_prefixed : List Mark → Bool
+-- the newest opener is a sign before its operand
+abbrev pub is_prefixed : List Opener → Bool
 is_prefixed [] = false
 is_prefixed (Prefix ∷ ms) = true
 is_prefixed (Parenthesis ∷ ms) = false
 
 -- without the prefixes of an operand that has been read
-abbrev pub settled : List Mark → List Mark
+abbrev pub settled : List Opener → List Opener
 settled [] = []
 settled (Prefix ∷ ms) = settled ms
 settled (Parenthesis ∷ ms) = Parenthesis ∷ ms
 
 -- behind a leaf
-abbrev pub after_leaf : List Mark → Bool → Spot
-after_leaf ms deep = record { open_marks = settled ms; after = true; deep = deep || nat_lt most_levels (length ms) }
+abbrev pub after_leaf : List Opener → Bool → Spot
+after_leaf ms deep = record { openers = settled ms; after = true; deep = deep || nat_lt most_levels (length ms) }
 
 -- behind what is open now
-abbrev pub behind : Mark → List Mark → Bool → Spot
-behind m ms deep = record { open_marks = m ∷ ms; after = false; deep = deep }
+abbrev pub behind : Opener → List Opener → Bool → Spot
+behind m ms deep = record { openers = m ∷ ms; after = false; deep = deep }
 
 -- the operator is `-`
 abbrev pub is_sub : Op → Bool
@@ -47,7 +47,7 @@ is_sub Sub = true
 is_sub _ = false
 
 -- behind an item where an operand was to come
-abbrev pub begun : List Mark → Bool → Item → Option Spot
+abbrev pub begun : List Opener → Bool → Item → Option Spot
 begun ms deep (item.Number n) = Some (after_leaf ms deep)
 begun ms deep (item.Call name args) = Some (after_leaf ms deep)
 begun ms deep (item.Operator op) = if is_sub op then Some (behind Prefix ms deep) else None
@@ -56,32 +56,32 @@ begun ms deep item.Open = Some (behind Parenthesis ms deep)
 begun ms deep item.Close = None
 
 -- without the parenthesis that was opened last
-abbrev pub closed : List Mark → Bool → Option Spot
+abbrev pub closed : List Opener → Bool → Option Spot
 closed [] deep = None
 closed (Prefix ∷ ms) deep = None
-closed (Parenthesis ∷ ms) deep = Some (record { open_marks = settled ms; after = true; deep = deep })
+closed (Parenthesis ∷ ms) deep = Some (record { openers = settled ms; after = true; deep = deep })
 
 -- behind an item where an operand stands before it
-abbrev pub gone_on : List Mark → Bool → Item → Option Spot
+abbrev pub gone_on : List Opener → Bool → Item → Option Spot
 gone_on ms deep (item.Number n) = None
 gone_on ms deep (item.Call name args) = None
-gone_on ms deep (item.Operator op) = Some (record { open_marks = ms; after = false; deep = deep })
+gone_on ms deep (item.Operator op) = Some (record { openers = ms; after = false; deep = deep })
 gone_on ms deep item.Bang = None
 gone_on ms deep item.Open = None
 gone_on ms deep item.Close = closed ms deep
 
 -- behind an item
 abbrev pub advance : Spot → Item → Option Spot
-advance s i = if s.after then gone_on s.open_marks s.deep i else begun s.open_marks s.deep i
+advance s i = if s.after then gone_on s.openers s.deep i else begun s.openers s.deep i
 
 -- whether a leaf stands too deep, where all is closed
-abbrev pub ended_with : List Mark → Bool → Option Bool
+abbrev pub ended_with : List Opener → Bool → Option Bool
 ended_with [] deep = Some deep
 ended_with (m ∷ ms) deep = None
 
 -- whether a leaf stands too deep, if this place may be the end
 abbrev pub ended : Spot → Option Bool
-ended s = if s.after then ended_with s.open_marks s.deep else None
+ended s = if s.after then ended_with s.openers s.deep else None
 
 -- whether a leaf stands too deep, from a place on, if the items are in the grammar
 unfoldable pub scanned_from : Spot → List Item → Option Bool
@@ -90,15 +90,15 @@ scanned_from s (i ∷ is) = option_and_then (λ t. scanned_from t is) (advance s
 
 -- the place before the first item
 abbrev pub at_start : Spot
-at_start = record { open_marks = []; after = false; deep = false }
+at_start = record { openers = []; after = false; deep = false }
 
 -- whether a leaf stands too deep, if the items are in the grammar
 abbrev pub scanned : List Item → Option Bool
 scanned is = scanned_from at_start is
 
 -- what closing a parenthesis answers, and what is then open
-abbrev pub Closes : List Mark → List Mark → Bool → Type 0
-Closes old new true = (ms : List Mark) × (old ≡ Parenthesis ∷ ms) × (new ≡ settled ms)
+abbrev pub Closes : List Opener → List Opener → Bool → Type 0
+Closes old new true = (ms : List Opener) × (old ≡ Parenthesis ∷ ms) × (new ≡ settled ms)
 Closes [] new false = Unit {0}
 Closes (Prefix ∷ ms) new false = Unit {0}
 Closes (Parenthesis ∷ ms) new false = ⊥

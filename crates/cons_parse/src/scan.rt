@@ -14,7 +14,7 @@ const MOST_LEVELS: usize = 32;
 
 /// What is open at a place, each of which is one level.
 #[derive(Clone, Copy, Debug, PartialEq, Eq)]
-pub enum Mark {
+pub enum Opener {
     /// A `!` or a `-` before its operand.
     Prefix,
     /// A parenthesis.
@@ -25,7 +25,7 @@ pub enum Mark {
 #[derive(Drop)]
 pub struct Place {
     /// What is open, the newest last.
-    pub marks: Vec<Mark>,
+    pub openers: Vec<Opener>,
     /// Whether an operand stands before the place.
     pub after: bool,
     /// Whether a leaf before the place stands too deep.
@@ -33,31 +33,31 @@ pub struct Place {
 }
 
 /// Whether a sign is what was opened last.
-fn is_prefixed(marks: &[Mark]) -> bool
-    ensures { result ≡ prefixed (reverse marks.now) }
+fn is_prefixed(openers: &[Opener]) -> bool
+    ensures { result ≡ prefixed (reverse openers.now) }
 {
-    match marks {
-        [.., Mark::Prefix] => true,
+    match openers {
+        [.., Opener::Prefix] => true,
         _ => false,
     }
 }
 
 /// Closes the prefixes of an operand that has just been read.
-fn settle(marks: &mut Vec<Mark>)
-    ensures { reverse marks.new.items ≡ settled (reverse marks.old.items) }
+fn settle(openers: &mut Vec<Opener>)
+    ensures { reverse openers.new.items ≡ settled (reverse openers.old.items) }
 {
-    'prefixes: while is_prefixed(marks) {
-        let _ = marks.pop();
+    'prefixes: while is_prefixed(openers) {
+        let _ = openers.pop();
     }
 }
 
 /// Closes a parenthesis, if one is open.
-fn close(marks: &mut Vec<Mark>) -> bool
-    ensures { Closes (reverse marks.old.items) (reverse marks.new.items) result }
+fn close(openers: &mut Vec<Opener>) -> bool
+    ensures { Closes (reverse openers.old.items) (reverse openers.new.items) result }
 {
-    match marks.pop() {
-        Some(Mark::Parenthesis) => {
-            settle(marks);
+    match openers.pop() {
+        Some(Opener::Parenthesis) => {
+            settle(openers);
             true
         }
         _ => false,
@@ -67,16 +67,16 @@ fn close(marks: &mut Vec<Mark>) -> bool
 /// Goes over an item where an operand is to come.
 fn begin(place: &mut Place, item: &Item) -> Result<(), ConsError>
     requires { place.old.after ≡ false }
-    ensures { Steps result (spot_of place.new) (begun (reverse place.old.marks.items) place.old.deep item.now) }
+    ensures { Steps result (spot_of place.new) (begun (reverse place.old.openers.items) place.old.deep item.now) }
 {
     match item {
         Item::Number(_) | Item::Call(_, _) => {
-            place.deep = place.deep || place.marks.len() > MOST_LEVELS;
+            place.deep = place.deep || place.openers.len() > MOST_LEVELS;
             place.after = true;
-            settle(&mut place.marks);
+            settle(&mut place.openers);
         }
-        Item::Bang | Item::Operator(Op::Sub) => place.marks.push(Mark::Prefix)?,
-        Item::Open => place.marks.push(Mark::Parenthesis)?,
+        Item::Bang | Item::Operator(Op::Sub) => place.openers.push(Opener::Prefix)?,
+        Item::Open => place.openers.push(Opener::Parenthesis)?,
         _ => return Err(ConsError::Syntax),
     }
     Ok(())
@@ -85,12 +85,12 @@ fn begin(place: &mut Place, item: &Item) -> Result<(), ConsError>
 /// Goes over an item where an operand stands before it.
 fn go_on(place: &mut Place, item: &Item) -> Result<(), ConsError>
     requires { place.old.after ≡ true }
-    ensures { Steps result (spot_of place.new) (gone_on (reverse place.old.marks.items) place.old.deep item.now) }
+    ensures { Steps result (spot_of place.new) (gone_on (reverse place.old.openers.items) place.old.deep item.now) }
 {
     match item {
         Item::Operator(_) => place.after = false,
         Item::Close => {
-            if !close(&mut place.marks) {
+            if !close(&mut place.openers) {
                 return Err(ConsError::Syntax);
             }
         }
@@ -117,7 +117,7 @@ fn end(place: &Place) -> Option<bool>
     if !place.after {
         return None;
     }
-    if place.marks.len() > 0 {
+    if place.openers.len() > 0 {
         return None;
     }
     Some(place.deep)
@@ -128,7 +128,7 @@ pub fn scan(alloc: Global, items: &[Item]) -> Result<bool, ConsError>
     ensures { Gives (λ deep. deep) result (scanned items.now) }
 {
     let mut place = Place {
-        marks: Vec::new(alloc),
+        openers: Vec::new(alloc),
         after: false,
         deep: false,
     };

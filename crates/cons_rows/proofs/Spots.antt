@@ -4,7 +4,7 @@ use Rattle.std.proofs.lemmas.Bool.{lt-ltb}
 use Rattle.pat_types.specs.declared.expr.Arg.{Arg}
 use Rattle.pat_types.specs.declared.expr.Arg.TheVariants.{Label, Star, Nowhere}
 use Rattle.cons_eval.specs.Meanings.{is_on_board}
-use Rattle.cons_rows.specs.Told.{spot}
+use Rattle.cons_rows.specs.LibertyCodes.{spot}
 
 -- of two that are on the board, the chosen one is
 chosen : (s : ℕ) (t : Bool) (o p : Option ℕ) → is_on_board s o ≡ true → is_on_board s p ≡ true

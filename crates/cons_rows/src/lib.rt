@@ -2,9 +2,9 @@
 //! off the liberties. There is no code here but the tests and what they hand in.
 #![tactic(auto)]
 
-mod told;
+mod liberty_codes;
 
-pub use told::Told;
+pub use liberty_codes::LibertyCodes;
 
 #[cfg(test)]
 mod tests;

@@ -1,7 +1,7 @@
 //! What expressions are worth on drawn positions. `O` is the friend, and points are numbered in reading order on five
 //! rows.
 
-use crate::Told;
+use crate::LibertyCodes;
 use cons_eval::eval;
 use cons_parse::parse;
 use go_base::{Position, Size};
@@ -56,7 +56,7 @@ fn drawn(drawing: &str) -> Result<Position, Fail> {
 }
 
 /// The value of an expression.
-fn value(alloc: Global, env: &mut Told, text: &str) -> Result<i64, Fail> {
+fn value(alloc: Global, env: &mut LibertyCodes, text: &str) -> Result<i64, Fail> {
     let expr = parse(alloc, text.as_bytes(), &LABELS)?;
     Ok(eval(&expr, env))
 }
@@ -119,7 +119,7 @@ fn functions_on_a_stone_in_atari(rt: HostRuntime) -> Result<(), Fail> {
         ("1||0&&0", 0, 0, 0, 1),
         ("3>=3&&2!=2||4>5", 0, 0, 0, 0),
     ] {
-        let mut env = Told::new(position, star, a, b).ok_or("the points are on the board")?;
+        let mut env = LibertyCodes::new(position, star, a, b).ok_or("the points are on the board")?;
         assert_eq!(rt;
             value(rt.alloc(), &mut env, text)?,
             want,
@@ -141,7 +141,7 @@ fn functions_on_a_ko(rt: HostRuntime) -> Result<(), Fail> {
         (after, "legal_omove(A)", 7, 0),
         (after, "legal_xmove(A)", 7, 1),
     ] {
-        let mut env = Told::new(position, 0, a, 0).ok_or("the points are on the board")?;
+        let mut env = LibertyCodes::new(position, 0, a, 0).ok_or("the points are on the board")?;
         assert_eq!(rt; value(rt.alloc(), &mut env, text)?, want, "{text} at {a}");
     }
     Ok(())
@@ -158,7 +158,7 @@ fn a_side_that_is_not_needed_asks_for_no_reading(rt: HostRuntime) -> Result<(), 
         ("attack(A)+defend(A)", 3, 2),
         ("attack(*)", 0, 0),
     ] {
-        let mut env = Told::new(position, 7, 6, 0).ok_or("the points are on the board")?;
+        let mut env = LibertyCodes::new(position, 7, 6, 0).ok_or("the points are on the board")?;
         assert_eq!(rt; value(rt.alloc(), &mut env, text)?, want, "{text}");
         assert_eq!(rt; env.asked, asked, "{text}");
     }

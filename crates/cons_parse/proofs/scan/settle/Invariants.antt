@@ -5,8 +5,8 @@ use Rattle.cons_parse.proofs.scan.settle.Given as goal
 
 -- what is left settles to the same as the whole
 abbrev pub invariant-prefixes : goal.invariant-prefixes
-invariant-prefixes l = settled (reverse l.marks.items) ≡ settled (reverse l.fn.marks.items)
+invariant-prefixes l = settled (reverse l.openers.items) ≡ settled (reverse l.fn.openers.items)
 
 -- what is open
 abbrev pub decreases-prefixes : goal.decreases-prefixes
-decreases-prefixes l = vec_len l.marks
+decreases-prefixes l = vec_len l.openers

@@ -1,6 +1,6 @@
 -- The value of a text.
 use Rattle.cons_eval.proofs.Callers.{all_placed}
-use Rattle.cons_rows.specs.Told.{spot, code_by_liberties}
+use Rattle.cons_rows.specs.LibertyCodes.{spot, code_by_liberties}
 use Rattle.cons_rows.proofs.Spots.{spots_on_board}
 use Rattle.cons_rows.proofs.tests.value.Goals as goal
 

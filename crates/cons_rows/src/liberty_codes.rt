@@ -10,7 +10,7 @@ use pat_types::Arg;
 /// An environment with points for the star and for the labels A and B. The code of an attack is 3 less the liberties
 /// of the string, that of a defence its liberties, up to 3.
 #[derive(Drop)]
-pub struct Told {
+pub struct LibertyCodes {
     /// The position before the pattern's move.
     pub position: Position,
     /// The colour that plays the pattern's move.
@@ -28,16 +28,16 @@ pub struct Told {
     pub ghost b_on_board: { b < position.size * position.size },
 }
 
-impl Told {
+impl LibertyCodes {
     /// White is the friend; None where a point is off the board.
-    pub fn new(position: Position, star: Point, a: Point, b: Point) -> Option<Told>
+    pub fn new(position: Position, star: Point, a: Point, b: Point) -> Option<LibertyCodes>
         ensures { IfSome result (λ t. t.asked ≡ 0) }
     {
         let points = position.size().points();
         if star >= points || a >= points || b >= points {
             return None;
         }
-        Some(Told {
+        Some(LibertyCodes {
             position,
             friend: Colour::White,
             star,
@@ -48,9 +48,9 @@ impl Told {
     }
 }
 
-impl Env for Told {
+impl Env for LibertyCodes {
     ghost use Rattle.std.specs.Prelude.{[], ◌∷◌, refl};
-    ghost use Rattle.cons_rows.specs.Told.{spot, code_by_liberties};
+    ghost use Rattle.cons_rows.specs.LibertyCodes.{spot, code_by_liberties};
 
     ghost view = { λ t. record {
       meanings = record {
