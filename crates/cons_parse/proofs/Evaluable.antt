@@ -20,7 +20,7 @@ use Rattle.cons_parse.specs.Faults.{is_nowhere, is_some_nowhere, ends_nowhere, h
 use Rattle.cons_parse.specs.Trees.{Tree, NumTree, CallTree, NotTree, NegTree, BinTree, tree_of, meaning_of, call_tree}
 use Rattle.cons_parse.proofs.SmallNumbers.{is_small_item}
 
--- the same of trees
+-- the numbers of a tree are below a million, and a pattern with these labels may keep its calls
 abbrev pub can_be : List LabelAt → Tree → Bool
 can_be labels (NumTree n) = nat_lt n 1000000
 can_be labels (CallTree f args) = may_call labels f args

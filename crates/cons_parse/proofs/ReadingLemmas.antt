@@ -38,7 +38,7 @@ is_found text w h =
     ∙ (ap (λ (d : Option Bool). option_map (λ deep. built as_written (spelling w)) d) (scanned_spelling w h.well)
     ∙ ap (λ (v : Written). Some v) (built_written w h.well))
 
--- so it is the only one
+-- a text writes one expression at most
 pub is_only : (text : List ℕ) (v w : Written) → Writes text v → Writes text w → v ≡ w
 is_only text v w h k = same_Some v w (sym (is_found text v h) ∙ is_found text w k)
 

@@ -72,7 +72,7 @@ diagram_line_ends b line h =
     ∙ ap (λ t. b.head ∷ (t ++ b.actions)) (past (b.diagram ++ b.colon ++ b.constraint) b.expression line h.2)
     ∙ ap (λ t. b.head ∷ t) (past (b.diagram ++ b.colon ++ b.constraint ++ b.expression) b.actions line h.3)
 
--- so does a colon line
+-- a colon line stands at the end of a block that has nothing behind the main diagram
 colon_line_ends : (b : Block) (line : KeptLine) → AreEmptyBehindDiagram b
     → lines_in (record b { colon = b.colon ++ line ∷ [] }) ≡ lines_in b ++ line ∷ []
 colon_line_ends b line h =
@@ -81,7 +81,7 @@ colon_line_ends b line h =
     ∙ ap (λ t. b.head ∷ (t ++ b.actions)) (past (b.diagram ++ b.colon ++ b.constraint) b.expression line h.2)
     ∙ ap (λ t. b.head ∷ t) (past (b.diagram ++ b.colon ++ b.constraint ++ b.expression) b.actions line h.3)
 
--- a line of the constraint diagram
+-- a line of the constraint diagram stands at the end of a block that has nothing behind it
 constraint_line_ends : (b : Block) (line : KeptLine) → AreEmptyBehindLabels b
     → lines_in (record b { constraint = b.constraint ++ line ∷ [] }) ≡ lines_in b ++ line ∷ []
 constraint_line_ends b line h =
@@ -89,20 +89,20 @@ constraint_line_ends b line h =
     ∙ ap (λ t. b.head ∷ (t ++ b.actions)) (past (b.diagram ++ b.colon ++ b.constraint) b.expression line h.0)
     ∙ ap (λ t. b.head ∷ t) (past (b.diagram ++ b.colon ++ b.constraint ++ b.expression) b.actions line h.1)
 
--- a line of an expression
+-- an expression line stands at the end of a block without action lines
 expression_line_ends : (b : Block) (line : KeptLine) → b.actions ≡ []
     → lines_in (record b { expression = b.expression ++ line ∷ [] }) ≡ lines_in b ++ line ∷ []
 expression_line_ends b line h =
     ap (λ t. b.head ∷ (t ++ b.actions)) (at_end (b.diagram ++ b.colon ++ b.constraint) b.expression line)
     ∙ ap (λ t. b.head ∷ t) (past (b.diagram ++ b.colon ++ b.constraint ++ b.expression) b.actions line h)
 
--- and a line of actions
+-- an action line stands at the end of its block
 action_line_ends : (b : Block) (line : KeptLine)
     → lines_in (record b { actions = b.actions ++ line ∷ [] }) ≡ lines_in b ++ line ∷ []
 action_line_ends b line =
     ap (λ t. b.head ∷ t) (at_end (b.diagram ++ b.colon ++ b.constraint ++ b.expression) b.actions line)
 
--- what is no fault at a line is none
+-- where no fault is told at a line the line has none
 no_kind : (number : ℕ) (kind : Option FaultKind) → at_line number kind ≡ None → kind ≡ None
 no_kind number None none = refl
 no_kind number (Some kind) none = absurd cc
@@ -155,7 +155,7 @@ gathered_at_pattern number Labels front done (Some b) none = none
 gathered_at_pattern number Expression front done (Some b) none = none
 gathered_at_pattern number Actions front done (Some b) none = refl
 
--- and so for what the end closes
+-- what the end closes has no fault where it is found to have none
 gathered_at_end : (number : ℕ) (stage : Stage) (front : List KeptLine) (done : List Block) (now : Option Block)
     → closing_fault number None (parts stage front done now) ≡ None → gathered_fault number stage now ≡ None
 gathered_at_end number stage front done None none = refl
@@ -165,7 +165,7 @@ gathered_at_end number Labels front done (Some b) none = none
 gathered_at_end number Expression front done (Some b) none = none
 gathered_at_end number Actions front done (Some b) none = refl
 
--- a text does not end in a main diagram
+-- a text whose end is not refused does not end in a main diagram
 not_in_diagram : (number : ℕ) (stage : Stage) → at_line number (end_refused stage) ≡ None → stage ≢ Diagram
 not_in_diagram number Start none = λ same. absurd cc
 not_in_diagram number Diagram none = absurd cc
@@ -182,7 +182,7 @@ record IsFine (helpers : List (List ℕ)) (s : SoFar) (line : KeptLine) : Type 0
   cell : cell_for s.stage line ≡ Next next
   own : own_fault helpers s line (kind_of line.bytes) ≡ None
 
--- a line at which nothing is found is fine in each of these ways
+-- a line at which no fault is found is fine
 nothing_found : (helpers : List (List ℕ)) (s : SoFar) (line : KeptLine) → found helpers s line ≡ None
     → IsFine helpers s line
 unfolding found

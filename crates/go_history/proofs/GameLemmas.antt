@@ -53,7 +53,7 @@ taken_by-bound pos c (Some p) small =
     let few = count_below_at_most (pos.size * pos.size) (is_taken pos.size (set pos.cells p (stone_of c)) c) in
     omega (arith, board, few)
 
--- and so for the stones that it takes for a colour
+-- a move takes at most the stones of a whole board for a colour
 pub stones_taken-bound : (pos : BoardState) (c : Colour) (m : Move) → pos.size ≤ largest_size
     → stones_taken pos c m ≤ largest_points
 stones_taken-bound pos c m small =

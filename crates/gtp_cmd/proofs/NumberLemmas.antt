@@ -75,7 +75,7 @@ digits_more word i within here digit all =
     ap (list_all is_ascii_digit) (kept-more word i within here)
     ∙ digits-push (kept (take i word)) (get_or word i 0) all digit
 
--- and what it writes goes on with that digit
+-- the number of a word whose bytes so far are digits goes on with the next digit
 pub number_more : (word : List ℕ) (i : ℕ) (value : Option ℕ) → i < length word → is_kept (get_or word i 0) ≡ true
     → is_ascii_digit (get_or word i 0) ≡ true
     → list_all is_ascii_digit (kept (take i word)) ≡ true → value ≡ capped (number_of (kept (take i word)))
@@ -122,7 +122,7 @@ id-above (Some m) n is above =
     let test : leb m most_id ≡ false = grind (arith, nat_tests) in
     sym (ap (λ t. cond t (Some m) None) test)
 
--- and else it is the id
+-- a number that is not above the greatest id is the id
 pub id-within : (o : Option ℕ) (n : ℕ) → Some n ≡ capped o → n ≤ most_id → Some n ≡ up_to most_id o
 id-within None n is within = absurd (cc)
 id-within (Some m) n is within =

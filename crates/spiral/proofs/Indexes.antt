@@ -72,7 +72,7 @@ indexed_as row column i =
       pos column -ℤ pos largest_offset,
     ) refl i.row_back i.column_back
 
--- the steps of the code give the index
+-- the start of the ring of an offset and its place in that ring make its index
 pub found_at : (row column from_row from_column k start place : ℕ) → from_row ≡ apart row largest_offset
     → from_column ≡ apart column largest_offset → k ≡ max from_row from_column
     → start ≡ ring_start k → place ≡ place_in k (row + k - largest_offset) (column + k - largest_offset)
