@@ -1,6 +1,6 @@
 //! What a play takes and which ban it leaves, and how it is taken back, on a board whose cells are told one by one.
 
-ghost use Rattle.std.specs.Prelude.{◌≡◌, ◌≢◌, ◌⊎◌, ℕ, ◌*◌, ◌<◌, ◌==◌, ◌||◌, ◌&&◌, IsTrue, List, map, IfOk, if◌then◌else◌};
+ghost use Rattle.std.specs.Prelude.{◌≡◌, ◌≢◌, ◌⊎◌, ℕ, ◌*◌, ◌<◌, ◌==◌, ◌||◌, ◌&&◌, IsTrue, List, map, slice_set, IfOk, if◌then◌else◌};
 ghost use Rattle.std.specs.List.{range_with_len};
 ghost use Rattle.std.specs.FinSet as set;
 ghost use Rattle.go_rules.specs.declared.Cell.{Cell};
@@ -13,12 +13,11 @@ ghost use Rattle.go_base.specs.Takes.{TakenBeside, HasWholeStrings, near_taken};
 ghost use Rattle.go_base.specs.TakenBack.{before_play, cells_before, ban_or_refusal};
 ghost use Rattle.go_base.specs.Views.{Looks, anywhere, nowhere, alone};
 
-use crate::flood::flood;
+use crate::flood::{flood, search};
 use crate::points::PointSet;
 use crate::sides::neighbour;
 use crate::size::{Point, Size};
 use crate::view::View;
-use crate::without_liberty::string_without_liberty;
 use go_rules::{Cell, Colour, Illegal};
 
 /// Adds the stones of the string of q to the taken ones, where they are enemies of c without a liberty. A string that
@@ -44,8 +43,9 @@ fn take<V: View>(board: &mut V, c: Colour, q: Point, taken: &mut PointSet)
     if board.at(q) != c.other().cell() {
         return;
     }
-    if let Some(stones) = string_without_liberty(board, q) {
-        taken.join(&stones);
+    let found = search(board, q, 0);
+    if found.liberties.count() == 0 {
+        taken.join(&found.stones);
     }
 }
 
@@ -99,7 +99,8 @@ fn is_suicide<V: View>(board: &mut V, p: Point, taken: &PointSet) -> bool
     if taken.count() != 0 {
         return false;
     }
-    string_without_liberty(board, p).is_some()
+    let found = search(board, p, 0);
+    found.liberties.count() == 0
 }
 
 /// The ban after c took these stones by the one at p: where one stone was taken by one that is alone and has one
@@ -159,6 +160,10 @@ pub fn play_on<V: View>(board: &mut V, c: Colour, p: Point) -> Result<Played, Il
     ensures undone { (pos : BoardState) → V.agrees board.new pos
         → IsPosition (board_of (V.rows board.old) (V.cells board.old pos))
         → cells_before (V.rows board.old) c p result (V.cells board.new pos) ≡ V.cells board.old pos }
+    ensures taken { (pos : BoardState) → V.agrees board.new pos
+        → IsPosition (board_of (V.rows board.old) (V.cells board.old pos))
+        → IfOk result (λ played. played.taken
+        ≡ taken_at (V.rows board.old) (slice_set (V.cells board.old pos) p (stone_of c)) c) }
     ensures taken_on_board { IfOk result (λ played. (q : ℕ) → IsTrue (set.contains played.taken q)
         → q < V.rows board.old * V.rows board.old) }
     ensures near { (pos : BoardState) → V.agrees board.new pos

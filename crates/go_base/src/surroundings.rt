@@ -10,7 +10,7 @@ ghost use Rattle.go_rules.specs.Strings.{liberty_points};
 ghost use Rattle.go_base.specs.Surroundings.{is_last_liberty_of_enemy, AddsLast, KnowsLast};
 ghost use Rattle.go_base.specs.Views.{Looks, anywhere, alone};
 
-use crate::flood::{Found, flood};
+use crate::flood::{Found, flood, search};
 use crate::points::PointSet;
 use crate::size::Point;
 use crate::view::View;
@@ -27,7 +27,8 @@ pub struct Surroundings {
     pub last_liberties: PointSet,
 }
 
-/// Adds the liberty of the string of q where it is the only one, unless the string was seen.
+/// Adds the liberty of the string of q where it is the only one, unless the string was seen. No more of the string is
+/// searched once it has shown two liberties.
 fn add_last_liberty<V: View>(board: &mut V, q: Point, seen: &mut PointSet, last: &mut PointSet)
     requires on_board { q < V.rows board.old * V.rows board.old }
     requires small { q < largest_points }
@@ -44,19 +45,15 @@ fn add_last_liberty<V: View>(board: &mut V, q: Point, seen: &mut PointSet, last:
     if seen.has(q) {
         return;
     }
-    let Found {
-        stones,
-        liberties,
-        enemies: _,
-    } = flood(board, q);
-    seen.join(&stones);
-    if liberties.count() == IN_ATARI {
-        last.join(&liberties);
+    let found = search(board, q, IN_ATARI);
+    seen.join(&found.stones);
+    if found.liberties.count() == IN_ATARI {
+        last.join(&found.liberties);
     }
 }
 
 /// The liberties of the string of p and the last liberties of the enemy strings next to it, both none where p is empty.
-/// Each string is searched once.
+/// Each string in atari is searched once.
 pub fn surroundings_of<V: View>(board: &mut V, p: Point) -> Surroundings
     requires { p < V.rows board.old * V.rows board.old }
     ensures looks { Looks V.cells V.asks board.old board.new anywhere }

@@ -20,8 +20,8 @@ returns-then-has-clause-adds g c =
 pub returns-then-count-eq-IN_ATARI-clause-adds : goal.returns-then-count-eq-IN_ATARI-clause-adds
 returns-then-count-eq-IN_ATARI-clause-adds g c = λ pos a knows.
     AddsLast-one (g.V.View.rows c.args.board.now)
-    (g.V.View.cells c.args.board.now pos) c.args.q c.count.result c.flood-stones.result.liberties c.args.last.now
-    (c.flood-stones.ensures.liberties pos a) c.count.ensures.value c.join-then-count-eq-IN_ATARI.new.self
+    (g.V.View.cells c.args.board.now pos) c.args.q c.count.result c.search-found.result c.args.last.now
+    (c.search-found.ensures.over pos a) c.count.ensures.value c.join-then-count-eq-IN_ATARI.new.self
     c.if-count-eq-IN_ATARI.true c.join-then-count-eq-IN_ATARI.ensures
 
 -- the last liberties of the strings seen are known with it
@@ -29,26 +29,26 @@ pub returns-then-count-eq-IN_ATARI-clause-knows : goal.returns-then-count-eq-IN_
 returns-then-count-eq-IN_ATARI-clause-knows g c = λ pos a knows.
     let s = g.V.View.rows c.args.board.now in
     let cells = g.V.View.cells c.args.board.now pos in
-    KnowsLast-join s cells c.args.q c.args.seen.now c.join.new.self c.flood-stones.result.stones c.args.last.now
+    KnowsLast-join s cells c.args.q c.args.seen.now c.join.new.self c.search-found.result.stones c.args.last.now
     c.join-then-count-eq-IN_ATARI.new.self c.requires.on_board
-    (c.flood-stones.ensures.stones pos a) c.join.ensures knows
-    (AddsLast-one s cells c.args.q c.count.result c.flood-stones.result.liberties c.args.last.now
-    (c.flood-stones.ensures.liberties pos a) c.count.ensures.value c.join-then-count-eq-IN_ATARI.new.self
+    (c.search-found.ensures.over pos a).part c.join.ensures knows
+    (AddsLast-one s cells c.args.q c.count.result c.search-found.result c.args.last.now
+    (c.search-found.ensures.over pos a) c.count.ensures.value c.join-then-count-eq-IN_ATARI.new.self
     c.if-count-eq-IN_ATARI.true c.join-then-count-eq-IN_ATARI.ensures)
 
 -- a string with more liberties adds none
 pub returns-else-count-eq-IN_ATARI-clause-adds : goal.returns-else-count-eq-IN_ATARI-clause-adds
 returns-else-count-eq-IN_ATARI-clause-adds g c = λ pos a knows.
     AddsLast-none (g.V.View.rows c.args.board.now)
-    (g.V.View.cells c.args.board.now pos) c.args.q c.count.result c.flood-stones.result.liberties c.args.last.now
-    (c.flood-stones.ensures.liberties pos a) c.count.ensures.value c.if-count-eq-IN_ATARI.false
+    (g.V.View.cells c.args.board.now pos) c.args.q c.count.result c.search-found.result c.args.last.now
+    (c.search-found.ensures.over pos a) c.count.ensures.value c.if-count-eq-IN_ATARI.false
 
 -- the last liberties of the strings seen are known without it
 pub returns-else-count-eq-IN_ATARI-clause-knows : goal.returns-else-count-eq-IN_ATARI-clause-knows
 returns-else-count-eq-IN_ATARI-clause-knows g c = λ pos a knows.
     let s = g.V.View.rows c.args.board.now in
     let cells = g.V.View.cells c.args.board.now pos in
-    KnowsLast-join s cells c.args.q c.args.seen.now c.join.new.self c.flood-stones.result.stones c.args.last.now
-    c.args.last.now c.requires.on_board (c.flood-stones.ensures.stones pos a) c.join.ensures knows
-    (AddsLast-none s cells c.args.q c.count.result c.flood-stones.result.liberties c.args.last.now
-    (c.flood-stones.ensures.liberties pos a) c.count.ensures.value c.if-count-eq-IN_ATARI.false)
+    KnowsLast-join s cells c.args.q c.args.seen.now c.join.new.self c.search-found.result.stones c.args.last.now
+    c.args.last.now c.requires.on_board (c.search-found.ensures.over pos a).part c.join.ensures knows
+    (AddsLast-none s cells c.args.q c.count.result c.search-found.result c.args.last.now
+    (c.search-found.ensures.over pos a) c.count.ensures.value c.if-count-eq-IN_ATARI.false)
