@@ -7,6 +7,7 @@ pub mod Flooded
 pub mod Visiting
 pub mod Liberties
 pub mod Bounded
+pub mod WithoutLiberty
 pub mod Joined
 pub mod Looking
 pub mod Takes

@@ -1,12 +1,12 @@
 -- The strings that a play takes, gathered side by side.
-use Rattle.std.proofs.Common.{◌≡◌, ℕ, ◌+◌, ◌*◌, ◌<◌, ◌≤◌, true, false, cond, Some, List, refl, sym, ap, subst, arith, inl, inr, ◌∙◌}
+use Rattle.std.proofs.Common.{◌≡◌, ℕ, ◌+◌, ◌*◌, ◌<◌, ◌≤◌, true, false, cond, Some, None, List, refl, sym, ap, subst, arith, inl, inr, ◌∙◌}
 use Rattle.std.proofs.lemmas.Bool.{cases_Bool, cases_eq, or_cases, or_left, or_right, both_ways, and_parts, and_from, lt-ltb, ltb-true, eq-eqb, ne_eqb}
 use Rattle.std.specs.Ordering.{nat_cmp}
 use Rattle.std.specs.Cmp.{nat_cmp_total}
 use Rattle.std.specs.FinSet as sets
 use Rattle.go_rules.specs.declared.Cell.{Cell}
 use Rattle.go_rules.specs.declared.Colour.{Colour}
-use Rattle.go_rules.specs.Strings.{cell_at, is_stone, same_cell, is_in_string, string_at, Path}
+use Rattle.go_rules.specs.Strings.{cell_at, is_stone, same_cell, is_in_string, string_at, liberties, Path}
 use Rattle.go_rules.specs.Play.{is_taken, taken_at}
 use Rattle.go_rules.specs.Position.{other, stone_of}
 use Rattle.go_rules.proofs.Sets.{contains-set_below, same_nat_set}
@@ -16,9 +16,8 @@ use Rattle.go_rules.proofs.Plays.{taken_whole, taken_parts, stone_is}
 use Rattle.go_rules.proofs.Tests.{same_tests}
 use Rattle.go_base.specs.Sides.{neighbour_at}
 use Rattle.go_base.specs.Takes.{TakenBeside, HasWholeStrings}
-use Rattle.go_base.specs.Floods.{Searches}
-use Rattle.go_base.specs.declared.flood.Found.{Found}
-use Rattle.go_base.proofs.Bounded.{none_seen}
+use Rattle.go_base.specs.WithoutLiberty.{stones_without_liberty}
+use Rattle.go_base.proofs.WithoutLiberty.{found_without, none_without}
 use Rattle.go_base.proofs.Beside.{neighbour_at-all}
 use Rattle.go_base.proofs.Flooded.{string_has}
 
@@ -128,23 +127,21 @@ union_there s put q taken whole h =
     (λ b. elim (or_cases _ _ (sym (sets.contains-union nat_cmp_total taken (string_at s put q) r) ∙ b))
     [ inl before ↦ before | inr now ↦ whole q h r now ]))
 
--- an enemy's string in which no liberty was seen is taken
-pub is_taken_from : (s : ℕ) (put : List Cell) (c : Colour) (q n : ℕ) (found : Found)
-    → cell_at put q ≡ stone_of (other c) → Searches s put q 0 found → n ≡ sets.len found.liberties → n ≡ 0
-    → (is_taken s put c q ≡ true) × (found.stones ≡ string_at s put q)
+-- an enemy's string that was found without a liberty is taken
+pub is_taken_from : (s : ℕ) (put : List Cell) (c : Colour) (q : ℕ) (stones : sets.FinSet nat_cmp)
+    → cell_at put q ≡ stone_of (other c) → Some stones ≡ stones_without_liberty s put q
+    → (is_taken s put c q ≡ true) × (stones ≡ string_at s put q)
 unfolding is_taken
-is_taken_from s put c q n found enemy h count none = (
-  and_from _ _ (same_cell-from _ _ enemy) (sym (none_seen s put q n found h count) ∙ eq-eqb n 0 none),
-  h.stones (omega (arith, count, none)),
-)
+is_taken_from s put c q stones enemy is = let found = found_without s put q stones is in
+    (and_from _ _ (same_cell-from _ _ enemy) (eq-eqb (liberties s put q) 0 found.1), found.2)
 
--- an enemy's string in which a liberty was seen is not
-pub not_taken_from : (s : ℕ) (put : List Cell) (c : Colour) (q n : ℕ) (found : Found)
-    → cell_at put q ≡ stone_of (other c) → Searches s put q 0 found → n ≡ sets.len found.liberties → (n ≡ 0 → ⊥)
-    → is_taken s put c q ≡ false
+-- an enemy's string in which a liberty was found is not
+pub not_taken_from : (s : ℕ) (put : List Cell) (c : Colour) (q : ℕ) → cell_at put q ≡ stone_of (other c)
+    → None ≡ stones_without_liberty s put q → is_taken s put c q ≡ false
 unfolding is_taken
-not_taken_from s put c q n found enemy h count some =
-    rw (same_cell-from _ _ enemy) (sym (none_seen s put q n found h count) ∙ ne_eqb n 0 some)
+not_taken_from s put c q enemy is =
+    rw (same_cell-from _ _ enemy) (ne_eqb (liberties s put q) 0
+    (none_without s put q (ap is_stone enemy ∙ stone_is (other c)) is))
 
 -- what is no enemy is not taken
 pub no_enemy_taken : (s : ℕ) (put : List Cell) (c : Colour) (q : ℕ)

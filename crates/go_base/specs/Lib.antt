@@ -2,6 +2,7 @@ pub mod Bits
 pub mod Sides
 pub mod Trails
 pub mod Floods
+pub mod WithoutLiberty
 pub mod Views
 pub mod Takes
 pub mod TakenBack

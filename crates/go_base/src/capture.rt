@@ -13,11 +13,12 @@ ghost use Rattle.go_base.specs.Takes.{TakenBeside, HasWholeStrings, near_taken};
 ghost use Rattle.go_base.specs.TakenBack.{before_play, cells_before, ban_or_refusal};
 ghost use Rattle.go_base.specs.Views.{Looks, anywhere, nowhere, alone};
 
-use crate::flood::{flood, search};
+use crate::flood::flood;
 use crate::points::PointSet;
 use crate::sides::neighbour;
 use crate::size::{Point, Size};
 use crate::view::View;
+use crate::without_liberty::string_without_liberty;
 use go_rules::{Cell, Colour, Illegal};
 
 /// Adds the stones of the string of q to the taken ones, where they are enemies of c without a liberty. A string that
@@ -43,9 +44,8 @@ fn take<V: View>(board: &mut V, c: Colour, q: Point, taken: &mut PointSet)
     if board.at(q) != c.other().cell() {
         return;
     }
-    let found = search(board, q, 0);
-    if found.liberties.count() == 0 {
-        taken.join(&found.stones);
+    if let Some(stones) = string_without_liberty(board, q) {
+        taken.join(&stones);
     }
 }
 
@@ -99,8 +99,7 @@ fn is_suicide<V: View>(board: &mut V, p: Point, taken: &PointSet) -> bool
     if taken.count() != 0 {
         return false;
     }
-    let found = search(board, p, 0);
-    found.liberties.count() == 0
+    string_without_liberty(board, p).is_some()
 }
 
 /// The ban after c took these stones by the one at p: where one stone was taken by one that is alone and has one

@@ -23,6 +23,7 @@ pub mod surroundings;
 mod trail;
 pub mod transform;
 pub mod view;
+mod without_liberty;
 
 pub use bytes::{Bytes, NoMemory};
 pub use facts::Facts;
