@@ -7,9 +7,11 @@ ghost use Rattle.go_rules.specs.Board.{largest_points};
 ghost use Rattle.go_rules.specs.Neighbourhood.{neighbourhood_of};
 ghost use Rattle.go_rules.specs.Position.{BoardState};
 ghost use Rattle.go_rules.specs.Strings.{liberty_points};
+ghost use Rattle.go_base.specs.Bits.{marked};
 ghost use Rattle.go_base.specs.Surroundings.{is_last_liberty_of_enemy, AddsLast, KnowsLast};
 ghost use Rattle.go_base.specs.Views.{Looks, anywhere, alone};
 
+use crate::bits::PointBits;
 use crate::flood::{Found, flood, search};
 use crate::points::PointSet;
 use crate::size::Point;
@@ -29,24 +31,24 @@ pub struct Surroundings {
 
 /// Adds the liberty of the string of q where it is the only one, unless the string was seen. No more of the string is
 /// searched once it has shown two liberties.
-fn add_last_liberty<V: View>(board: &mut V, q: Point, seen: &mut PointSet, last: &mut PointSet)
+fn add_last_liberty<V: View>(board: &mut V, q: Point, seen: &mut PointBits, last: &mut PointSet)
     requires on_board { q < V.rows board.old * V.rows board.old }
     requires small { q < largest_points }
     ensures looks { Looks V.cells V.asks board.old board.new anywhere }
     ensures near { (pos : BoardState) → V.agrees board.new pos
         → V.asks board.old board.new (neighbourhood_of (V.rows board.old) (V.cells board.old pos) (alone q)) }
     ensures adds { (pos : BoardState) → V.agrees board.new pos
-        → KnowsLast (V.rows board.old) (V.cells board.old pos) seen.old last.old
+        → KnowsLast (V.rows board.old) (V.cells board.old pos) (marked seen.old) last.old
         → AddsLast (V.rows board.old) (V.cells board.old pos) q last.old last.new }
     ensures knows { (pos : BoardState) → V.agrees board.new pos
-        → KnowsLast (V.rows board.old) (V.cells board.old pos) seen.old last.old
-        → KnowsLast (V.rows board.old) (V.cells board.old pos) seen.new last.new }
+        → KnowsLast (V.rows board.old) (V.cells board.old pos) (marked seen.old) last.old
+        → KnowsLast (V.rows board.old) (V.cells board.old pos) (marked seen.new) last.new }
 {
     if seen.has(q) {
         return;
     }
     let found = search(board, q, IN_ATARI);
-    seen.join(&found.stones);
+    found.stones.mark_in(seen);
     if found.liberties.count() == IN_ATARI {
         last.join(&found.liberties);
     }
@@ -71,7 +73,7 @@ pub fn surroundings_of<V: View>(board: &mut V, p: Point) -> Surroundings
         liberties,
         enemies,
     } = flood(board, p);
-    let mut seen = PointSet::new();
+    let mut seen = PointBits::new();
     let mut last_liberties = PointSet::new();
     let mut next = 0;
     while let Some(q) = enemies.first_from(next) {
