@@ -113,6 +113,17 @@ close_point s cells S x h q c = close_mono s cells (alone x) S (λ r e. ap S (eq
 pub alone_self : (p : ℕ) → alone p p ≡ true
 alone_self p = eq-eqb p p refl
 
+-- a point and its neighbours are in the neighbourhood of the point
+pub close_sides : (s : ℕ) (cells : List Cell) (p r : ℕ) → p < s * s → around s p r ≡ true
+    → neighbourhood_of s cells (alone p) r ≡ true
+close_sides s cells p r on h =
+    let parts = and_parts _ _ h in
+    elim (or_cases _ _ parts.1) [
+      | inl e ↦ close_alone s cells p r on e
+      | inr n ↦ close_next s cells (alone p) p r (ltb-true r (s * s) parts.0)
+          (whole_self s cells (alone p) p on (alone_self p)) n
+    ]
+
 -- a stone of the string of p and its neighbours are in the neighbourhood of p
 pub close_around : (s : ℕ) (cells : List Cell) (p q r : ℕ) → p < s * s → is_stone (cell_at cells p) ≡ true
     → Path s cells p q → around s q r ≡ true → neighbourhood_of s cells (alone p) r ≡ true

@@ -193,6 +193,15 @@ Flooded-all s cells p n trail h l (step {q} {r} path on near same) =
     h.closed found.0 (omega (arith, found.1, l)) r on (rw found.2 near)
     (rw found.2 (same ∙ sym (path_same s cells p path)))
 
+-- a point that a path leads to is in the string
+pub string_has : (s : ℕ) (cells : List Cell) (r q : ℕ) → r < s * s → is_stone (cell_at cells r) ≡ true → Path s cells r q
+    → sets.contains (string_at s cells r) q ≡ true
+unfolding string_at
+string_has s cells r q on stone path =
+    contains-set_below (s * s) (is_in_string s cells r) q
+    ∙ and_from _ _ (lt-ltb q (s * s) (path_on_board s cells r on path))
+    (is_is_in_string-from_fact s cells r q on (record { stone = stone; path = path }))
+
 -- where each stone of the trail was visited, the trail is the string
 pub string_is : (s : ℕ) (cells : List Cell) (p n : ℕ) (trail : List ℕ) (found : sets.FinSet nat_cmp) → p < s * s
     → is_stone (cell_at cells p) ≡ true → Flooded s cells p n trail → length trail ≤ n

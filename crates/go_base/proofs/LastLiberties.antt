@@ -15,7 +15,9 @@ use Rattle.go_rules.proofs.Links.{liberty_moves}
 use Rattle.go_rules.proofs.Boundary.{is_in_string_on, string_back}
 use Rattle.go_rules.proofs.Tests.{same_tests}
 use Rattle.go_base.specs.Surroundings.{is_only_liberty, is_last_liberty_of_enemy, AddsLast, KnowsLast}
-use Rattle.go_base.proofs.Liberties.{len-liberty_points}
+use Rattle.go_base.specs.Floods.{Searches}
+use Rattle.go_base.specs.declared.flood.Found.{Found}
+use Rattle.go_base.proofs.Bounded.{Searches-count, one_seen}
 
 -- the set of the liberties has the liberties
 pub contains-liberty_points : (s : ℕ) (cells : List Cell) (r l : ℕ)
@@ -57,28 +59,28 @@ pub AddsLast-seen : (s : ℕ) (cells : List Cell) (q : ℕ) (seen last : sets.Fi
     → sets.contains seen q ≡ true → AddsLast s cells q last last
 AddsLast-seen s cells q seen last knows h = record { kept = λ l i. i; only = λ l i. inl i; all = λ l i. knows q h l i }
 
-module _ (s : ℕ) (cells : List Cell) (q n : ℕ) (found old : sets.FinSet nat_cmp) (e : found ≡ liberty_points s cells q)
-    (count : n ≡ sets.len found) where
-  -- the liberties of the string are counted
-  how_many : n ≡ liberties s cells q
-  how_many = count ∙ ap sets.len e ∙ len-liberty_points s cells q
+-- the set has the liberties of the string
+its : (s : ℕ) (cells : List Cell) (q : ℕ) (found : sets.FinSet nat_cmp) → found ≡ liberty_points s cells q → (l : ℕ)
+    → sets.contains found l ≡ is_liberty s cells q l
+its s cells q found e l = ap (λ t. sets.contains t l) e ∙ contains-liberty_points s cells q l
 
-  -- the set has the liberties of the string
-  its : (l : ℕ) → sets.contains found l ≡ is_liberty s cells q l
-  its l = ap (λ t. sets.contains t l) e ∙ contains-liberty_points s cells q l
-
+module _ (s : ℕ) (cells : List Cell) (q n : ℕ) (found : Found) (old : sets.FinSet nat_cmp)
+    (h : Searches s cells q 1 found) (count : n ≡ sets.len found.liberties) where
   -- the liberties of a string with just one were added
-  pub AddsLast-one : (new : sets.FinSet nat_cmp) → n ≡ 1 → new ≡ sets.union old found → AddsLast s cells q old new
+  pub AddsLast-one : (new : sets.FinSet nat_cmp) → n ≡ 1 → new ≡ sets.union old found.liberties
+      → AddsLast s cells q old new
   unfolding is_only_liberty
   AddsLast-one new one is =
-      let at = λ (l : ℕ). ap (λ t. sets.contains t l) is ∙ sets.contains-union nat_cmp_total old found l in
+      let at = λ (l : ℕ). ap (λ t. sets.contains t l) is ∙ sets.contains-union nat_cmp_total old found.liberties l in
+      let whole = its s cells q found.liberties (h.liberties (omega (arith, count, one))) in
+      let how_many = Searches-count s cells q 1 n found h count (omega arith) in
       record {
         kept = λ l i. at l ∙ or_left _ _ i;
         only = λ l i. elim (or_cases _ _ (sym (at l) ∙ i)) [
           | inl before ↦ inl before
-          | inr now ↦ inr (and_from _ _ (eq-eqb (liberties s cells q) 1 (sym how_many ∙ one)) (sym (its l) ∙ now))
+          | inr now ↦ inr (and_from _ _ (eq-eqb (liberties s cells q) 1 (sym how_many ∙ one)) (sym (whole l) ∙ now))
         ];
-        all = λ l i. at l ∙ or_right _ _ (its l ∙ (and_parts _ _ i).1);
+        all = λ l i. at l ∙ or_right _ _ (whole l ∙ (and_parts _ _ i).1);
       }
 
   -- a string with none or more adds nothing
@@ -87,21 +89,21 @@ module _ (s : ℕ) (cells : List Cell) (q n : ℕ) (found old : sets.FinSet nat_
   AddsLast-none other = record {
     kept = λ l i. i;
     only = λ l i. inl i;
-    all = λ l i. absurd (other (how_many ∙ eqb-true (liberties s cells q) 1 (and_parts _ _ i).0));
+    all = λ l i. absurd (other (one_seen s cells q n found h count
+        (eqb-true (liberties s cells q) 1 (and_parts _ _ i).0)));
   }
 
--- after a string's one liberty came, the string is among those seen
+-- after a string's one liberty came, what was found of the string is among those seen
 pub KnowsLast-join : (s : ℕ) (cells : List Cell) (q : ℕ) (seen joined found last new : sets.FinSet nat_cmp) → q < s * s
-    → found ≡ string_at s cells q
+    → ((x : ℕ) → sets.contains found x ≡ true → sets.contains (string_at s cells q) x ≡ true)
     → joined ≡ sets.union seen found → KnowsLast s cells seen last → AddsLast s cells q last new
     → KnowsLast s cells joined new
 unfolding string_at
-KnowsLast-join s cells q seen joined found last new on e is knows adds x h l i =
+KnowsLast-join s cells q seen joined found last new on part is knows adds x h l i =
     elim (or_cases _ _ (sym (ap (λ t. sets.contains t x) is ∙ sets.contains-union nat_cmp_total seen found x) ∙ h)) [
       | inl before ↦ adds.kept l (knows x before l i)
       | inr now ↦
-          let link = (and_parts _ _
-          (sym (ap (λ t. sets.contains t x) e ∙ contains-set_below (s * s) (is_in_string s cells q) x) ∙ now)).1 in
+          let link = (and_parts _ _ (sym (contains-set_below (s * s) (is_in_string s cells q) x) ∙ part x now)).1 in
           adds.all l (same_only s cells q x l on link ∙ i)
     ]
 

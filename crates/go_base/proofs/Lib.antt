@@ -5,8 +5,9 @@ pub mod Beside
 pub mod Trailed
 pub mod Flooded
 pub mod Visiting
-pub mod WithoutLiberty
 pub mod Liberties
+pub mod Bounded
+pub mod WithoutLiberty
 pub mod Joined
 pub mod Looking
 pub mod Takes

@@ -1,5 +1,5 @@
 -- The bits of a set of points.
-use Rattle.std.proofs.Common.{◌≡◌, ◌≢◌, ℕ, zero, suc, ◌+◌, ◌*◌, ◌/◌, ◌%◌, ◌^◌, ◌<◌, ◌≤◌, ◌||◌, ◌&&◌, true, false, cond, eqb, ltb, List, length, get_or, bit_and, bit_or, refl, sym, ap, arith, inl, inr, ◌∙◌, get_or-set_same, get_or-set_other}
+use Rattle.std.proofs.Common.{◌≡◌, ◌≢◌, ℕ, zero, suc, ◌+◌, ◌*◌, ◌/◌, ◌%◌, ◌^◌, ◌<◌, ◌≤◌, ◌||◌, ◌&&◌, Bool, true, false, cond, eqb, ltb, List, length, get_or, bit_and, bit_or, refl, sym, ap, arith, inl, inr, ◌∙◌, get_or-set_same, get_or-set_other}
 use Rattle.std.proofs.Math.ListN.{set}
 use Rattle.std.specs.Prelude.{replicate}
 use Rattle.std.proofs.lemmas.Bool.{cases_eq, lt-ltb, le-ltb, eq-eqb, ne_eqb}
@@ -91,13 +91,6 @@ pub has_bit : (words : List ℕ) (p : ℕ) → p < largest_points
 has_bit words p h = marked_bit words p ∙ sym
     (contains-marked words p ∙ ap (λ b. b && is_marked words p) (lt-ltb p largest_points h))
 
--- and counts one more, if it is new
-pub len-with_bit : (words : List ℕ) (p : ℕ) → length words ≡ set_words → p < largest_points
-    → sets.contains (marked words) p ≡ false → sets.len (marked (with_bit words p)) ≡ sets.len (marked words) + 1
-len-with_bit words p six h new =
-    ap sets.len (marked-with_bit words p six h) ∙ sets.len-insert nat_cmp_total (marked words) p
-    ∙ ap (λ b. cond b (sets.len (marked words)) (sets.len (marked words) + 1)) new
-
 -- a member that is inserted again changes nothing
 pub insert-member : (s : sets.FinSet nat_cmp) (p : ℕ) → sets.contains s p ≡ true → s ≡ sets.insert s p
 insert-member s p h = same_nat_set _ _ (λ q.
@@ -105,6 +98,47 @@ insert-member s p h = same_nat_set _ _ (λ q.
       | inl e ↦ rw (e, contains-insert_nat s p p, eq-eqb p p refl) h
       | inr ne ↦ rw (contains-insert_nat s p q, ne_eqb q p ne) refl
     ])
+
+-- a point of the largest board is in the set exactly where it is marked
+pub contains-small : (words : List ℕ) (p : ℕ) → p < largest_points → sets.contains (marked words) p ≡ is_marked words p
+contains-small words p h = contains-marked words p ∙ ap (λ b. b && is_marked words p) (lt-ltb p largest_points h)
+
+-- words in which no point is marked keep the empty set
+pub marked-nothing : (words : List ℕ) → ((q : ℕ) → is_marked words q ≡ false) → marked words ≡ sets.empty
+marked-nothing words none = same_nat_set _ _ (λ q. contains-marked words q
+    ∙ ap (λ b. ltb q largest_points && b) (none q) ∙ and-false (ltb q largest_points)
+    ∙ sym (sets.contains-empty nat_cmp q))
+
+-- where one more point is marked, the set has one more member
+pub marked-more : (old new : List ℕ) (p : ℕ) → p < largest_points → is_marked new p ≡ true
+    → ((q : ℕ) → q ≢ p → is_marked new q ≡ is_marked old q) → marked new ≡ sets.insert (marked old) p
+marked-more old new p h here elsewhere = same_nat_set _ _ (λ q.
+    contains-marked new q
+    ∙ elim (cases_eq q p) as (λ _. (ltb q largest_points && is_marked new q)
+    ≡ (eqb q p || (ltb q largest_points && is_marked old q))) [
+      | inl e ↦ rw (e, eq-eqb p p refl, lt-ltb p largest_points h, here) refl
+      | inr ne ↦ rw (ne_eqb q p ne, elsewhere q ne) refl
+    ]
+    ∙ sym (contains-insert_nat (marked old) p q ∙ ap (λ b. eqb q p || b) (contains-marked old q)))
+
+-- and counts one more, if it is new
+pub len-insert_new : (s : sets.FinSet nat_cmp) (p : ℕ) → sets.contains s p ≡ false
+    → sets.len (sets.insert s p) ≡ sets.len s + 1
+len-insert_new s p new = sets.len-insert nat_cmp_total s p ∙ ap (λ b. cond b (sets.len s) (sets.len s + 1)) new
+
+-- where each point is marked that one of two marks, the set has the members of both
+pub marked-both : (old more new : List ℕ) → ((q : ℕ) → is_marked new q ≡ (is_marked old q || is_marked more q))
+    → marked new ≡ sets.union (marked old) (marked more)
+marked-both old more new both = same_nat_set _ _ (λ q.
+    contains-marked new q ∙ ap (λ b. ltb q largest_points && b) (both q)
+    ∙ and-over_or (ltb q largest_points) (is_marked old q) (is_marked more q)
+    ∙ sym (sets.contains-union nat_cmp_total (marked old) (marked more) q
+    ∙ ap (λ b. b || sets.contains (marked more) q) (contains-marked old q)
+    ∙ ap (λ b. (ltb q largest_points && is_marked old q) || b) (contains-marked more q)))
+  where
+    and-over_or : (a b c : Bool) → (a && (b || c)) ≡ ((a && b) || (a && c))
+    and-over_or true b c = refl
+    and-over_or false b c = refl
 
 -- no number above the points of the largest board is in the set
 pub contains-above : (words : List ℕ) (q : ℕ) → largest_points ≤ q → sets.contains (marked words) q ≡ false

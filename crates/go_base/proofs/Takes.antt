@@ -10,7 +10,7 @@ use Rattle.go_rules.specs.Strings.{cell_at, is_stone, same_cell, is_in_string, s
 use Rattle.go_rules.specs.Play.{is_taken, taken_at}
 use Rattle.go_rules.specs.Position.{other, stone_of}
 use Rattle.go_rules.proofs.Sets.{contains-set_below, same_nat_set}
-use Rattle.go_rules.proofs.Paths.{same_cell-from, path_on_board, IsInString-from_test, is_is_in_string-from_fact}
+use Rattle.go_rules.proofs.Paths.{same_cell-from, path_on_board, IsInString-from_test}
 use Rattle.go_rules.proofs.Links.{path_on}
 use Rattle.go_rules.proofs.Plays.{taken_whole, taken_parts, stone_is}
 use Rattle.go_rules.proofs.Tests.{same_tests}
@@ -19,6 +19,7 @@ use Rattle.go_base.specs.Takes.{TakenBeside, HasWholeStrings}
 use Rattle.go_base.specs.WithoutLiberty.{stones_without_liberty}
 use Rattle.go_base.proofs.WithoutLiberty.{found_without, none_without}
 use Rattle.go_base.proofs.Beside.{neighbour_at-all}
+use Rattle.go_base.proofs.Flooded.{string_has}
 
 -- what the first n sides gave
 pub record Takes (s : ℕ) (put : List Cell) (c : Colour) (p n : ℕ) (taken : sets.FinSet nat_cmp) : Type 0 where
@@ -49,15 +50,6 @@ Takes-skip s put c p n taken h none = record {
     | inr ne ↦ h.all k (omega arith) r e t q path
   ];
 }
-
--- a point that a path leads to is in the string
-string_has : (s : ℕ) (cells : List Cell) (r q : ℕ) → r < s * s → is_stone (cell_at cells r) ≡ true → Path s cells r q
-    → sets.contains (string_at s cells r) q ≡ true
-unfolding string_at
-string_has s cells r q on stone path =
-    contains-set_below (s * s) (is_in_string s cells r) q
-    ∙ and_from _ _ (lt-ltb q (s * s) (path_on_board s cells r on path))
-    (is_is_in_string-from_fact s cells r q on (record { stone = stone; path = path }))
 
 -- a path leads to each point of the string
 string_path : (s : ℕ) (cells : List Cell) (r q : ℕ) → sets.contains (string_at s cells r) q ≡ true → Path s cells r q

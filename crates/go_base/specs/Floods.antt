@@ -1,15 +1,16 @@
--- One step of a flood, and what a whole flood finds.
-use Rattle.std.specs.Prelude.{◌≡◌, ℕ, ◌*◌, ◌<◌, ◌⊎◌, ◌&&◌, Bool, true, List, ◌++◌, Some, if◌then◌else◌}
+-- One step of a flood, what a whole flood finds, and what one finds that stops where it sees many liberties.
+use Rattle.std.specs.Prelude.{◌≡◌, ℕ, ◌*◌, ◌<◌, ◌≤◌, ◌⊎◌, ◌&&◌, Bool, true, List, ◌++◌, Some, if◌then◌else◌}
 use Rattle.std.specs.Ordering.{nat_cmp}
 use Rattle.std.specs.FinSet as set
 use Rattle.go_rules.specs.declared.Cell.{Cell}
 use Rattle.go_rules.specs.declared.Cell.TheVariants.{Empty}
 use Rattle.go_rules.specs.Board.{are_neighbours}
 use Rattle.go_rules.specs.Below.{set_below}
-use Rattle.go_rules.specs.Strings.{cell_at, same_cell}
+use Rattle.go_rules.specs.Strings.{cell_at, same_cell, string_at, liberty_points, liberties as liberties_at}
 use Rattle.go_rules.specs.Boundary.{is_enemy, is_beside_string}
 use Rattle.go_base.specs.Sides.{neighbour_at}
 use Rattle.go_base.specs.Trails.{has_point, add_once}
+use Rattle.go_base.specs.declared.flood.Found.{Found}
 
 -- of the first n sides of q, the neighbours that hold what q holds are there now, and nothing else came
 pub record Spreads (s : ℕ) (cells : List Cell) (q n : ℕ) (old new : List ℕ) : Type 0 where
@@ -47,7 +48,23 @@ pub record SpreadsOut (s : ℕ) (cells : List Cell) (own : Cell) (q n : ℕ) (ol
   pub liberties : Gathers s cells (λ cell. same_cell cell Empty) q n free freed
   pub enemies : Gathers s cells (is_enemy own) q n foes foed
 
+-- a flood over stones like own went to sides of q, to all four unless it saw more liberties than most
+pub record SpreadsUnder (s : ℕ) (cells : List Cell) (own : Cell) (q most : ℕ) (old new : List ℕ)
+    (free freed foes foed : set.FinSet nat_cmp) : Type 0 where
+  pub sides : ℕ
+  pub whole : set.len freed ≤ most → sides ≡ 4
+  pub spreads : SpreadsOut s cells own q sides old new free freed foes foed
+
 -- the enemy stones next to the string of p
 abbrev pub enemy_points : ℕ → List Cell → ℕ → set.FinSet nat_cmp
 enemy_points s cells p = set_below (s * s)
     (λ q. is_beside_string s cells p q && is_enemy (cell_at cells p) (cell_at cells q))
+
+-- what was found of the string of p by a search that stops where it sees more liberties than most: the string, its
+-- liberties and the enemies next to it, or else some of its stones and more liberties than most
+pub record Searches (s : ℕ) (cells : List Cell) (p most : ℕ) (found : Found) : Type 0 where
+  pub stones : set.len found.liberties ≤ most → found.stones ≡ string_at s cells p
+  pub liberties : set.len found.liberties ≤ most → found.liberties ≡ liberty_points s cells p
+  pub enemies : set.len found.liberties ≤ most → found.enemies ≡ enemy_points s cells p
+  pub part : (q : ℕ) → set.contains found.stones q ≡ true → set.contains (string_at s cells p) q ≡ true
+  pub more : most < set.len found.liberties → most < liberties_at s cells p

@@ -1,6 +1,6 @@
 //! What a play takes and which ban it leaves, and how it is taken back, on a board whose cells are told one by one.
 
-ghost use Rattle.std.specs.Prelude.{◌≡◌, ◌≢◌, ◌⊎◌, ℕ, ◌*◌, ◌<◌, ◌==◌, ◌||◌, ◌&&◌, IsTrue, List, map, IfOk, if◌then◌else◌};
+ghost use Rattle.std.specs.Prelude.{◌≡◌, ◌≢◌, ◌⊎◌, ℕ, ◌*◌, ◌<◌, ◌==◌, ◌||◌, ◌&&◌, IsTrue, List, map, slice_set, IfOk, if◌then◌else◌};
 ghost use Rattle.std.specs.List.{range_with_len};
 ghost use Rattle.std.specs.FinSet as set;
 ghost use Rattle.go_rules.specs.declared.Cell.{Cell};
@@ -159,6 +159,10 @@ pub fn play_on<V: View>(board: &mut V, c: Colour, p: Point) -> Result<Played, Il
     ensures undone { (pos : BoardState) → V.agrees board.new pos
         → IsPosition (board_of (V.rows board.old) (V.cells board.old pos))
         → cells_before (V.rows board.old) c p result (V.cells board.new pos) ≡ V.cells board.old pos }
+    ensures taken { (pos : BoardState) → V.agrees board.new pos
+        → IsPosition (board_of (V.rows board.old) (V.cells board.old pos))
+        → IfOk result (λ played. played.taken
+        ≡ taken_at (V.rows board.old) (slice_set (V.cells board.old pos) p (stone_of c)) c) }
     ensures taken_on_board { IfOk result (λ played. (q : ℕ) → IsTrue (set.contains played.taken q)
         → q < V.rows board.old * V.rows board.old) }
     ensures near { (pos : BoardState) → V.agrees board.new pos

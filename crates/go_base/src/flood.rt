@@ -1,7 +1,7 @@
-//! Strings, their liberties and the enemy stones next to them, found by one flood over a board whose cells are told one
-//! by one.
+//! Strings, their liberties and the enemy stones next to them, found by one search over a board whose cells are told
+//! one by one. A search may be given a bound on liberties, and stops where it sees more.
 
-ghost use Rattle.std.specs.Prelude.{◌≡◌, ◌≢◌, ◌⊎◌, ℕ, ◌*◌, ◌<◌, IsTrue, true};
+ghost use Rattle.std.specs.Prelude.{◌≡◌, ◌≢◌, ◌⊎◌, ℕ, ◌*◌, ◌<◌, ◌≤◌, ◌&&◌, nat_lt, nat_le, IsTrue, true};
 ghost use Rattle.std.specs.FinSet as set;
 ghost use Rattle.go_rules.specs.declared.Cell.{Cell};
 ghost use Rattle.go_rules.specs.Board.{largest_points};
@@ -9,17 +9,17 @@ ghost use Rattle.go_rules.specs.Strings.{cell_at, string_at, liberty_points};
 ghost use Rattle.go_rules.specs.Neighbourhood.{neighbourhood_of};
 ghost use Rattle.go_rules.specs.Position.{BoardState};
 ghost use Rattle.go_base.specs.Trails.{has_point};
-ghost use Rattle.go_base.specs.Floods.{Visits, SpreadsOut, AddsOnBoard, enemy_points};
+ghost use Rattle.go_base.specs.Floods.{Visits, SpreadsUnder, AddsOnBoard, Searches, enemy_points};
 ghost use Rattle.go_base.specs.Views.{Looks, anywhere, around, alone};
 
 use crate::points::PointSet;
 use crate::sides::neighbour;
-use crate::size::Point;
+use crate::size::{MAX_POINTS, Point};
 use crate::trail::Trail;
 use crate::view::View;
 use go_rules::Cell;
 
-/// What one flood finds of a string.
+/// What one search finds of a string.
 #[derive(Drop)]
 pub struct Found {
     /// Its stones.
@@ -61,12 +61,13 @@ fn visit<V: View>(
     }
 }
 
-/// Visits the neighbours of q, a stone like `own`.
+/// Visits the neighbours of q, a stone like `own`, as long as there are no more liberties than `most`.
 #[inline(always)]
 fn spread<V: View>(
     board: &mut V,
     own: Cell,
     q: Point,
+    most: u16,
     trail: &mut Trail,
     liberties: &mut PointSet,
     enemies: &mut PointSet,
@@ -75,31 +76,39 @@ fn spread<V: View>(
     requires stone { own ≢ Cell.Empty }
     ensures looks { Looks V.cells V.asks board.old board.new (around (V.rows board.old) q) }
     ensures over { (pos : BoardState) → V.agrees board.new pos → cell_at (V.cells board.old pos) q ≡ own
-        → SpreadsOut (V.rows board.old) (V.cells board.old pos) own q 4 trail.old trail.new liberties.old liberties.new
-        enemies.old enemies.new }
+        → SpreadsUnder (V.rows board.old) (V.cells board.old pos) own q most trail.old trail.new liberties.old
+        liberties.new enemies.old enemies.new }
     ensures trail_on_board { AddsOnBoard (V.rows board.old) trail.old trail.new }
     ensures enemies_on_board { (r : ℕ) → set.contains enemies.new r ≡ true
         → (set.contains enemies.old r ≡ true) ⊎ (r < V.rows board.old * V.rows board.old) }
 {
     let size = board.size();
     for side in 0..4 {
+        if liberties.count() > most {
+            return;
+        }
         if let Some(r) = neighbour(size, q, side) {
             visit(board, own, r, trail, liberties, enemies);
         }
     }
 }
 
-/// The string of p, its liberties and the enemy stones next to it. It visits each stone once, and nothing but the
-/// stones and their neighbours; all three sets are empty where p is.
-pub fn flood<V: View>(board: &mut V, p: Point) -> Found
+/// Whether a search goes on that visited this many of the stones that it found, and saw this many liberties.
+fn goes_on(visited: usize, found: usize, seen: u16, most: u16) -> bool
+    ensures { result ≡ (nat_lt visited found && nat_le seen most) }
+{
+    visited < found && seen <= most
+}
+
+/// The string of p, its liberties and the enemy stones next to it, where it has at most `most` liberties; else some of
+/// each, with more liberties than `most`. It visits each stone once, and nothing but the stones and their neighbours, and
+/// stops as soon as it has seen more liberties than `most`. All three sets are empty where p is.
+pub fn search<V: View>(board: &mut V, p: Point, most: u16) -> Found
     requires { p < V.rows board.old * V.rows board.old }
     ensures looks { Looks V.cells V.asks board.old board.new anywhere }
-    ensures stones { (pos : BoardState) → V.agrees board.new pos
-        → result.stones ≡ string_at (V.rows board.old) (V.cells board.old pos) p }
-    ensures liberties { (pos : BoardState) → V.agrees board.new pos
-        → result.liberties ≡ liberty_points (V.rows board.old) (V.cells board.old pos) p }
-    ensures enemies { (pos : BoardState) → V.agrees board.new pos
-        → result.enemies ≡ enemy_points (V.rows board.old) (V.cells board.old pos) p }
+    ensures over { (pos : BoardState) → V.agrees board.new pos
+        → Searches (V.rows board.old) (V.cells board.old pos) p most result }
+    ensures few { set.len result.liberties ≤ largest_points }
     ensures stones_on_board { (q : ℕ) → IsTrue (set.contains result.stones q)
         → q < V.rows board.old * V.rows board.old }
     ensures enemies_on_board { (q : ℕ) → IsTrue (set.contains result.enemies q)
@@ -121,9 +130,17 @@ pub fn flood<V: View>(board: &mut V, p: Point) -> Found
     }
     trail.add(p);
     let mut next = 0;
-    while next < trail.len() {
+    while goes_on(next, trail.len(), liberties.count(), most) {
         let q = trail.at(next);
-        spread(board, own, q, &mut trail, &mut liberties, &mut enemies);
+        spread(
+            board,
+            own,
+            q,
+            most,
+            &mut trail,
+            &mut liberties,
+            &mut enemies,
+        );
         next += 1;
     }
     Found {
@@ -131,6 +148,26 @@ pub fn flood<V: View>(board: &mut V, p: Point) -> Found
         liberties,
         enemies,
     }
+}
+
+/// The string of p, its liberties and the enemy stones next to it; all three sets are empty where p is.
+pub fn flood<V: View>(board: &mut V, p: Point) -> Found
+    requires { p < V.rows board.old * V.rows board.old }
+    ensures looks { Looks V.cells V.asks board.old board.new anywhere }
+    ensures stones { (pos : BoardState) → V.agrees board.new pos
+        → result.stones ≡ string_at (V.rows board.old) (V.cells board.old pos) p }
+    ensures liberties { (pos : BoardState) → V.agrees board.new pos
+        → result.liberties ≡ liberty_points (V.rows board.old) (V.cells board.old pos) p }
+    ensures enemies { (pos : BoardState) → V.agrees board.new pos
+        → result.enemies ≡ enemy_points (V.rows board.old) (V.cells board.old pos) p }
+    ensures stones_on_board { (q : ℕ) → IsTrue (set.contains result.stones q)
+        → q < V.rows board.old * V.rows board.old }
+    ensures enemies_on_board { (q : ℕ) → IsTrue (set.contains result.enemies q)
+        → q < V.rows board.old * V.rows board.old }
+    ensures near { (pos : BoardState) → V.agrees board.new pos
+        → V.asks board.old board.new (neighbourhood_of (V.rows board.old) (V.cells board.old pos) (alone p)) }
+{
+    search(board, p, MAX_POINTS as u16)
 }
 
 /// The stones of the string of p, none where p is empty.

@@ -7,10 +7,12 @@ ghost use Rattle.go_rules.specs.Board.{largest_points};
 ghost use Rattle.go_rules.specs.Neighbourhood.{neighbourhood_of};
 ghost use Rattle.go_rules.specs.Position.{BoardState};
 ghost use Rattle.go_rules.specs.Strings.{liberty_points};
+ghost use Rattle.go_base.specs.Bits.{marked};
 ghost use Rattle.go_base.specs.Surroundings.{is_last_liberty_of_enemy, AddsLast, KnowsLast};
 ghost use Rattle.go_base.specs.Views.{Looks, anywhere, alone};
 
-use crate::flood::{Found, flood};
+use crate::bits::PointBits;
+use crate::flood::{Found, flood, search};
 use crate::points::PointSet;
 use crate::size::Point;
 use crate::view::View;
@@ -27,36 +29,33 @@ pub struct Surroundings {
     pub last_liberties: PointSet,
 }
 
-/// Adds the liberty of the string of q where it is the only one, unless the string was seen.
-fn add_last_liberty<V: View>(board: &mut V, q: Point, seen: &mut PointSet, last: &mut PointSet)
+/// Adds the liberty of the string of q where it is the only one, unless the string was seen. No more of the string is
+/// searched once it has shown two liberties.
+fn add_last_liberty<V: View>(board: &mut V, q: Point, seen: &mut PointBits, last: &mut PointSet)
     requires on_board { q < V.rows board.old * V.rows board.old }
     requires small { q < largest_points }
     ensures looks { Looks V.cells V.asks board.old board.new anywhere }
     ensures near { (pos : BoardState) → V.agrees board.new pos
         → V.asks board.old board.new (neighbourhood_of (V.rows board.old) (V.cells board.old pos) (alone q)) }
     ensures adds { (pos : BoardState) → V.agrees board.new pos
-        → KnowsLast (V.rows board.old) (V.cells board.old pos) seen.old last.old
+        → KnowsLast (V.rows board.old) (V.cells board.old pos) (marked seen.old) last.old
         → AddsLast (V.rows board.old) (V.cells board.old pos) q last.old last.new }
     ensures knows { (pos : BoardState) → V.agrees board.new pos
-        → KnowsLast (V.rows board.old) (V.cells board.old pos) seen.old last.old
-        → KnowsLast (V.rows board.old) (V.cells board.old pos) seen.new last.new }
+        → KnowsLast (V.rows board.old) (V.cells board.old pos) (marked seen.old) last.old
+        → KnowsLast (V.rows board.old) (V.cells board.old pos) (marked seen.new) last.new }
 {
     if seen.has(q) {
         return;
     }
-    let Found {
-        stones,
-        liberties,
-        enemies: _,
-    } = flood(board, q);
-    seen.join(&stones);
-    if liberties.count() == IN_ATARI {
-        last.join(&liberties);
+    let found = search(board, q, IN_ATARI);
+    found.stones.mark_in(seen);
+    if found.liberties.count() == IN_ATARI {
+        last.join(&found.liberties);
     }
 }
 
 /// The liberties of the string of p and the last liberties of the enemy strings next to it, both none where p is empty.
-/// Each string is searched once.
+/// Each string in atari is searched once.
 pub fn surroundings_of<V: View>(board: &mut V, p: Point) -> Surroundings
     requires { p < V.rows board.old * V.rows board.old }
     ensures looks { Looks V.cells V.asks board.old board.new anywhere }
@@ -74,7 +73,7 @@ pub fn surroundings_of<V: View>(board: &mut V, p: Point) -> Surroundings
         liberties,
         enemies,
     } = flood(board, p);
-    let mut seen = PointSet::new();
+    let mut seen = PointBits::new();
     let mut last_liberties = PointSet::new();
     let mut next = 0;
     while let Some(q) = enemies.first_from(next) {

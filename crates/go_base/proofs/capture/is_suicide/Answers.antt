@@ -16,5 +16,5 @@ returns-then-count-ne0-clause-over g c = λ pos a stone alive.
 -- a stone's string is told exactly where it has no liberty
 pub returns-clause-over : goal.returns-clause-over
 returns-clause-over g c = λ pos a stone alive.
-    c.is_some.ensures ∙ ap is_some (c.string_without_liberty.ensures.over pos a)
+    c.is_some.ensures ∙ ap is_some (c.string_without_liberty.ensures.over pos a stone)
     ∙ told_where_none (g.V.View.rows c.args.board.now) (g.V.View.cells c.args.board.now pos) c.args.p stone

@@ -5,13 +5,14 @@ use Rattle.go_rules.specs.declared.Cell.TheVariants.{Empty}
 use Rattle.go_rules.specs.Strings.{cell_at, is_stone, liberties}
 use Rattle.go_rules.specs.Neighbourhood.{neighbourhood_of}
 use Rattle.go_rules.specs.Position.{BoardState, IsPosition, stone_of, board_of}
+use Rattle.go_rules.specs.Play.{taken_at}
 use Rattle.go_rules.proofs.Results.{free_occupied}
 use Rattle.go_rules.proofs.Cells.{stone_test}
 use Rattle.go_rules.proofs.Plays.{stone_is}
 use Rattle.go_base.specs.Views.{anywhere, alone}
 use Rattle.go_base.specs.TakenBack.{before_play}
 use Rattle.go_base.proofs.PlayNear.{Leaves, twice_self, twice_taken, twice_own}
-use Rattle.go_base.proofs.PlayedOn.{PlaysOn, plays_suicide, plays_done}
+use Rattle.go_base.proofs.PlayedOn.{PlaysOn, plays_taken, plays_suicide, plays_done}
 use Rattle.go_base.proofs.TakenBack.{after_here, takers_live, plays_back, suicide_back}
 use Rattle.go_base.proofs.capture.play_on.Given.{Over}
 use Rattle.go_base.proofs.capture.play_on.Goals as goal
@@ -187,6 +188,14 @@ returns-clause-over g c = λ pos a1 good.
     (plays_done (plays g at pos a good) c.ban_of-ban.result
     (λ z. both_ways _ (sym told ∙ c.if-is_suicide.false) (eq-eqb _ _ z))
     (rw (rows, c.is_suicide.ensures.looks.same pos) at (c.ban_of-ban.ensures.over pos a1)))
+
+-- what was taken is what the rules take where the stone was put
+pub returns-clause-taken : goal.returns-clause-taken
+returns-clause-taken g c = λ pos a1 good.
+    let at = (goal.at.returns-clause-taken g c).After-is_suicide in
+    let a = g.met.V.View.asks_agrees _ _ _ c.ban_of-ban.ensures.looks.asked pos a1 in
+    plays_taken (plays g at pos a good)
+    ∙ ap (λ t. taken_at (g.V.View.rows c.args.board.now) t c.args.c) (put_is g at pos a)
 
 -- what was taken tells the board before the play
 pub returns-clause-undone : goal.returns-clause-undone

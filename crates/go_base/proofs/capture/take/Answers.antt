@@ -2,12 +2,13 @@ use Rattle.std.proofs.Common.{◌≡◌, ◌*◌, ◌<◌, ◌||◌, ◌&&◌, t
 use Rattle.std.specs.FinSet as set
 use Rattle.std.specs.Cmp.{nat_cmp_total}
 use Rattle.std.proofs.lemmas.Bool.{cases_Bool, not-false, not-true, or_cases, or_left, or_right, and_from}
-use Rattle.go_rules.specs.Strings.{cell_at, same_cell}
+use Rattle.go_rules.specs.Strings.{cell_at, is_stone, same_cell}
 use Rattle.go_rules.specs.Neighbourhood.{neighbourhood_of}
 use Rattle.go_rules.specs.Play.{is_taken}
 use Rattle.go_rules.specs.Position.{BoardState, other, stone_of}
 use Rattle.go_rules.proofs.Cells.{cells_same, eq_is_same_cell}
 use Rattle.go_rules.proofs.Paths.{same_cell-from}
+use Rattle.go_rules.proofs.Plays.{stone_is}
 use Rattle.go_base.specs.Views.{Looks, anywhere, alone}
 use Rattle.go_base.proofs.Takes.{union_there, is_taken_from, not_taken_from, no_enemy_taken}
 use Rattle.go_base.proofs.Looking.{Looks-more, Looks-within}
@@ -78,7 +79,7 @@ returns-in-Some-clause-over g c = λ pos a whole.
     ) at (c.string_without_liberty.ensures.over pos a) in
     let enemy = enemy_is g (goal.at.returns-in-Some-clause-over g c).After-string_without_liberty c.if-ne.false pos a in
     let taken = is_taken_from (g.V.View.rows c.args.board.now)
-    (g.V.View.cells c.args.board.now pos) c.args.c c.args.q c.in-Some.stones enemy (sym c.in-Some.is ∙ told) in
+    (g.V.View.cells c.args.board.now pos) c.args.c c.args.q c.in-Some.stones enemy (sym c.in-Some.is ∙ told (ap is_stone enemy ∙ stone_is (other c.args.c))) in
     rw taken.0 (c.join.ensures ∙ ap (set.union c.args.taken.now) taken.1)
 
 -- they lie on the board
@@ -111,7 +112,7 @@ returns-in_default-clause-over g c = λ pos a whole.
     let enemy = enemy_is g (goal.at.returns-in_default-clause-over g c).After-string_without_liberty c.if-ne.false pos a
     in
     let kept = not_taken_from (g.V.View.rows c.args.board.now)
-    (g.V.View.cells c.args.board.now pos) c.args.c c.args.q enemy (sym c.in_default.is ∙ told) in
+    (g.V.View.cells c.args.board.now pos) c.args.c c.args.q enemy (sym c.in_default.is ∙ told (ap is_stone enemy ∙ stone_is (other c.args.c))) in
     rw kept refl
 
 -- only an enemy's string and its neighbours were looked at

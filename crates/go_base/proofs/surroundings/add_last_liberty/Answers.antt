@@ -1,5 +1,7 @@
 use Rattle.std.proofs.Common.{sym, ◌∙◌}
 use Rattle.go_base.proofs.LastLiberties.{AddsLast-seen, AddsLast-one, AddsLast-none, KnowsLast-join}
+use Rattle.go_base.specs.Bits.{marked}
+use Rattle.go_base.proofs.Marks.{contains-small}
 use Rattle.go_base.proofs.Looking.{Looks-none}
 use Rattle.go_base.proofs.surroundings.add_last_liberty.Goals as goal
 
@@ -14,41 +16,42 @@ returns-then-has-clause-near g c = λ pos a. g.met.V.View.asks_none _ _
 -- its last liberty, if it has one, came with it
 pub returns-then-has-clause-adds : goal.returns-then-has-clause-adds
 returns-then-has-clause-adds g c =
-    λ pos a knows. AddsLast-seen _ _ c.args.q c.args.seen.now c.args.last.now knows (sym c.has.ensures ∙ c.if-has.true)
+    λ pos a knows. AddsLast-seen _ _ c.args.q (marked c.args.seen.now) c.args.last.now knows
+    (contains-small c.args.seen.now c.args.q c.requires.small ∙ sym c.has.ensures ∙ c.if-has.true)
 
 -- the one liberty of a string that was not seen comes
 pub returns-then-count-eq-IN_ATARI-clause-adds : goal.returns-then-count-eq-IN_ATARI-clause-adds
 returns-then-count-eq-IN_ATARI-clause-adds g c = λ pos a knows.
     AddsLast-one (g.V.View.rows c.args.board.now)
-    (g.V.View.cells c.args.board.now pos) c.args.q c.count.result c.flood-stones.result.liberties c.args.last.now
-    (c.flood-stones.ensures.liberties pos a) c.count.ensures.value c.join-then-count-eq-IN_ATARI.new.self
-    c.if-count-eq-IN_ATARI.true c.join-then-count-eq-IN_ATARI.ensures
+    (g.V.View.cells c.args.board.now pos) c.args.q c.count.result c.search-found.result c.args.last.now
+    (c.search-found.ensures.over pos a) c.count.ensures.value c.join.new.self
+    c.if-count-eq-IN_ATARI.true c.join.ensures
 
 -- the last liberties of the strings seen are known with it
 pub returns-then-count-eq-IN_ATARI-clause-knows : goal.returns-then-count-eq-IN_ATARI-clause-knows
 returns-then-count-eq-IN_ATARI-clause-knows g c = λ pos a knows.
     let s = g.V.View.rows c.args.board.now in
     let cells = g.V.View.cells c.args.board.now pos in
-    KnowsLast-join s cells c.args.q c.args.seen.now c.join.new.self c.flood-stones.result.stones c.args.last.now
-    c.join-then-count-eq-IN_ATARI.new.self c.requires.on_board
-    (c.flood-stones.ensures.stones pos a) c.join.ensures knows
-    (AddsLast-one s cells c.args.q c.count.result c.flood-stones.result.liberties c.args.last.now
-    (c.flood-stones.ensures.liberties pos a) c.count.ensures.value c.join-then-count-eq-IN_ATARI.new.self
-    c.if-count-eq-IN_ATARI.true c.join-then-count-eq-IN_ATARI.ensures)
+    KnowsLast-join s cells c.args.q (marked c.args.seen.now) (marked c.mark_in.new.bits) c.search-found.result.stones c.args.last.now
+    c.join.new.self c.requires.on_board
+    (c.search-found.ensures.over pos a).part c.mark_in.ensures knows
+    (AddsLast-one s cells c.args.q c.count.result c.search-found.result c.args.last.now
+    (c.search-found.ensures.over pos a) c.count.ensures.value c.join.new.self
+    c.if-count-eq-IN_ATARI.true c.join.ensures)
 
 -- a string with more liberties adds none
 pub returns-else-count-eq-IN_ATARI-clause-adds : goal.returns-else-count-eq-IN_ATARI-clause-adds
 returns-else-count-eq-IN_ATARI-clause-adds g c = λ pos a knows.
     AddsLast-none (g.V.View.rows c.args.board.now)
-    (g.V.View.cells c.args.board.now pos) c.args.q c.count.result c.flood-stones.result.liberties c.args.last.now
-    (c.flood-stones.ensures.liberties pos a) c.count.ensures.value c.if-count-eq-IN_ATARI.false
+    (g.V.View.cells c.args.board.now pos) c.args.q c.count.result c.search-found.result c.args.last.now
+    (c.search-found.ensures.over pos a) c.count.ensures.value c.if-count-eq-IN_ATARI.false
 
 -- the last liberties of the strings seen are known without it
 pub returns-else-count-eq-IN_ATARI-clause-knows : goal.returns-else-count-eq-IN_ATARI-clause-knows
 returns-else-count-eq-IN_ATARI-clause-knows g c = λ pos a knows.
     let s = g.V.View.rows c.args.board.now in
     let cells = g.V.View.cells c.args.board.now pos in
-    KnowsLast-join s cells c.args.q c.args.seen.now c.join.new.self c.flood-stones.result.stones c.args.last.now
-    c.args.last.now c.requires.on_board (c.flood-stones.ensures.stones pos a) c.join.ensures knows
-    (AddsLast-none s cells c.args.q c.count.result c.flood-stones.result.liberties c.args.last.now
-    (c.flood-stones.ensures.liberties pos a) c.count.ensures.value c.if-count-eq-IN_ATARI.false)
+    KnowsLast-join s cells c.args.q (marked c.args.seen.now) (marked c.mark_in.new.bits) c.search-found.result.stones c.args.last.now
+    c.args.last.now c.requires.on_board (c.search-found.ensures.over pos a).part c.mark_in.ensures knows
+    (AddsLast-none s cells c.args.q c.count.result c.search-found.result c.args.last.now
+    (c.search-found.ensures.over pos a) c.count.ensures.value c.if-count-eq-IN_ATARI.false)

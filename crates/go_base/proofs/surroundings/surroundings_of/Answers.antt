@@ -1,5 +1,7 @@
 use Rattle.std.proofs.Common.{◌*◌, arith}
 use Rattle.go_rules.specs.Neighbourhood.{neighbourhood_of}
+use Rattle.go_base.specs.Bits.{marked}
+use Rattle.go_base.proofs.Marks.{marked-nothing}
 use Rattle.go_base.specs.Views.{alone}
 use Rattle.go_base.proofs.Closing.{close_again, close_point}
 use Rattle.go_base.proofs.Visiting.{enemy_beside, enemy_close, no_enemy}
@@ -18,7 +20,8 @@ loop-q-init g c = record {
       g.met.V.View.asks_within _ _ _ _ (c.flood-liberties.ensures.near pos a)
       (λ q h. close_again s cells (alone c.args.p) q h);
   over = λ pos a. Lasts-none _ _ _ c.new-last_liberties.result c.new-last_liberties.ensures;
-  knows = λ pos a. KnowsLast-none _ _ c.new-seen.result c.new-last_liberties.result c.new-seen.ensures;
+  knows = λ pos a. KnowsLast-none _ _ (marked c.new-seen.result) c.new-last_liberties.result
+      (marked-nothing _ c.new-seen.ensures);
 }
 
 -- an enemy is on the board

@@ -2,6 +2,7 @@ use Rattle.std.proofs.Common.{◌-◌}
 use Rattle.go_rules.specs.Board.{largest_points}
 use Rattle.go_rules.specs.Position.{BoardState}
 use Rattle.go_rules.specs.Neighbourhood.{neighbourhood_of}
+use Rattle.go_base.specs.Bits.{marked}
 use Rattle.go_base.specs.Surroundings.{KnowsLast}
 use Rattle.go_base.specs.Views.{Looks, anywhere, alone}
 use Rattle.go_base.proofs.LastLiberties.{Lasts}
@@ -18,7 +19,7 @@ invariant-loop-q g l = record {
   over : (pos : BoardState) → g.V.View.agrees l.board pos
       → Lasts (g.V.View.rows l.fn.board) (g.V.View.cells l.fn.board pos) l.p l.next l.last_liberties;
   knows : (pos : BoardState) → g.V.View.agrees l.board pos
-      → KnowsLast (g.V.View.rows l.fn.board) (g.V.View.cells l.fn.board pos) l.seen l.last_liberties;
+      → KnowsLast (g.V.View.rows l.fn.board) (g.V.View.cells l.fn.board pos) (marked l.seen) l.last_liberties;
 }
 
 -- how many points are left

@@ -1,25 +1,29 @@
 use Rattle.std.proofs.Common.{◌≡◌, ℕ, ◌-◌, ◌*◌, ◌<◌, true}
+use Rattle.std.specs.FinSet as set
 use Rattle.go_rules.specs.Board.{largest_points}
 use Rattle.go_rules.specs.Position.{BoardState}
 use Rattle.go_rules.specs.Neighbourhood.{neighbourhood_of}
 use Rattle.go_base.specs.Trails.{has_point}
 use Rattle.go_base.specs.Views.{Looks, anywhere, alone}
-use Rattle.go_base.proofs.WithoutLiberty.{Surrounds}
-use Rattle.go_base.proofs.without_liberty.string_without_liberty.Given as goal
+use Rattle.go_base.proofs.Bounded.{FloodsUnder}
+use Rattle.go_base.proofs.flood.search.Given as goal
 
--- the stones of the trail so far have their neighbours on it, and no empty neighbour
-abbrev pub invariant-loop-next : goal.invariant-loop-next
-invariant-loop-next g l = record {
+-- the stones of the trail so far have their neighbours where they belong, or enough liberties were seen
+abbrev pub invariant-loop-own : goal.invariant-loop-own
+invariant-loop-own g l = record {
   looks : Looks g.V.View.cells g.V.View.asks l.fn.board l.board anywhere;
   more : Looks g.V.View.cells g.V.View.asks l.initial.board l.board anywhere;
   over : (pos : BoardState) → g.V.View.agrees l.board pos
-      → Surrounds (g.V.View.rows l.fn.board) (g.V.View.cells l.fn.board pos) l.p l.next l.trail;
+      → FloodsUnder (g.V.View.rows l.fn.board) (g.V.View.cells l.fn.board pos) l.own l.p l.next l.most l.trail
+      l.liberties l.enemies;
   near : (pos : BoardState) → g.V.View.agrees l.board pos
       → g.V.View.asks l.fn.board l.board (neighbourhood_of (g.V.View.rows l.fn.board) (g.V.View.cells l.fn.board pos)
       (alone l.p));
+  enemies_on_board : (r : ℕ) → set.contains l.enemies r ≡ true
+      → r < g.V.View.rows l.fn.board * g.V.View.rows l.fn.board;
   stones_on_board : (r : ℕ) → has_point l.trail r ≡ true → r < g.V.View.rows l.fn.board * g.V.View.rows l.fn.board;
 }
 
 -- how many points may still come
-abbrev pub decreases-loop-next : goal.decreases-loop-next
-decreases-loop-next g l = largest_points - l.next
+abbrev pub decreases-loop-own : goal.decreases-loop-own
+decreases-loop-own g l = largest_points - l.next

@@ -1,0 +1,80 @@
+use Rattle.std.proofs.Common.{◌≡◌, ◌*◌, ◌<◌, ap, sym, subst, ◌∙◌, arith, Some, false}
+use Rattle.go_rules.specs.declared.Cell.TheVariants.{Empty}
+use Rattle.go_rules.specs.Strings.{cell_at, same_cell}
+use Rattle.go_base.specs.Sides.{neighbour_at}
+use Rattle.go_base.proofs.Flooded.{at_side}
+use Rattle.go_base.proofs.Looking.{Looks-none, Looks-more, Looks-within}
+use Rattle.go_base.proofs.WithoutLiberty.{NoneEmpty-next, NoneEmpty-all, empty_found}
+use Rattle.go_base.proofs.without_liberty.has_empty_side.Given.{Over}
+use Rattle.go_base.proofs.without_liberty.has_empty_side.Goals as goal
+use Rattle.go_base.proofs.without_liberty.has_empty_side.Goals.{Then-is_empty_at, in-Some+else-is_empty_at, in_default}
+
+-- before the first side nothing was looked at
+pub loop-side-init : goal.loop-side-init
+loop-side-init g c = record { looks = Looks-none g.met.V.View.asks_none _ _; over = λ pos a k l. absurd (omega arith) }
+
+-- a side of the point is on the board
+pub is_empty_at-requires : goal.is_empty_at-requires
+is_empty_at-requires g c =
+    subst (λ n. c.in-Some.r < n * n) (c.size-size.ensures
+    ∙ sym (g.met.V.View.asks_rows _ _ _ c.loop-side.invariant.looks.asked)) c.in-Some.ensures.near.0
+
+-- what the side gives
+side_is : (g : Over) (c : Then-is_empty_at g)
+    → neighbour_at (g.V.View.rows c.args.board.now) c.args.p c.loop-side.side ≡ Some c.in-Some.r
+side_is g c = ap (λ n. neighbour_at n c.args.p c.loop-side.side) (sym c.size-size.ensures)
+    ∙ sym c.neighbour.ensures.value ∙ c.in-Some.is
+
+-- an empty neighbour ends the search
+pub returns-then-is_empty_at-clause-looks : goal.returns-then-is_empty_at-clause-looks
+returns-then-is_empty_at-clause-looks g c =
+    let s = g.V.View.rows c.args.board.now in
+    Looks-more g.met.V.View.asks_more c.loop-side.invariant.looks
+    (Looks-within g.met.V.View.asks_within c.is_empty_at.ensures.looks
+    (at_side s c.args.p c.loop-side.side c.in-Some.r c.requires (side_is g c)))
+
+-- the point has an empty neighbour
+pub returns-then-is_empty_at-clause-over : goal.returns-then-is_empty_at-clause-over
+returns-then-is_empty_at-clause-over g c = λ pos a.
+    let seen = rw (c.loop-side.invariant.looks.same pos) at (c.is_empty_at.ensures.over pos a) in
+    sym (empty_found (g.V.View.rows c.args.board.now)
+    (g.V.View.cells c.args.board.now pos) c.args.p c.loop-side.side c.in-Some.r c.requires (side_is g c)
+    (sym seen ∙ c.if-is_empty_at.true))
+
+-- one more side is not empty, or off the board
+pub loop-side-preserved : goal.loop-side-preserved
+loop-side-preserved g c =
+    let s = g.V.View.rows c.args.board.now in
+    let p = c.args.p in
+    let side = c.loop-side.side in
+    let i = c.loop-side.invariant in
+    let here = ap (λ n. neighbour_at n p side) (sym c.size-size.ensures) in
+    elim c.match-neighbour.branch [
+      | in-Some+else-is_empty_at w ↦
+          let at : neighbour_at s p side ≡ Some w.in-Some.r = here ∙ sym c.neighbour.ensures.value ∙ w.in-Some.is in
+          let one = Looks-within g.met.V.View.asks_within w.is_empty_at.ensures.looks
+          (at_side s p side w.in-Some.r c.requires at) in
+          record {
+            looks = rw w.board-is (Looks-more g.met.V.View.asks_more i.looks one);
+            over = λ pos a.
+                let a2 = rw w.board-is at a in
+                let a1 = g.met.V.View.asks_agrees _ _ _ one.asked pos a2 in
+                let seen = rw (i.looks.same pos) at (w.is_empty_at.ensures.over pos a2) in
+                NoneEmpty-next s (g.V.View.cells c.args.board.now pos) p side (i.over pos a1) (λ r e.
+                let same : w.in-Some.r ≡ r = (let k : Some w.in-Some.r ≡ Some r = sym at ∙ e in cc) in
+                subst (λ x. same_cell (cell_at (g.V.View.cells c.args.board.now pos) x) Empty ≡ false) same
+                (sym seen ∙ w.if-is_empty_at.false));
+          }
+      | in_default w ↦ record {
+        looks = rw w.board-is i.looks;
+        over = λ pos a.
+            NoneEmpty-next s (g.V.View.cells c.args.board.now pos) p side (i.over pos (rw w.board-is at a))
+            (λ r e. absurd (w.in_default.not-Some r (c.neighbour.ensures.value ∙ sym here ∙ e)));
+      }
+    ]
+
+-- no side was empty
+pub returns-clause-over : goal.returns-clause-over
+returns-clause-over g c = λ pos a.
+    sym (NoneEmpty-all (g.V.View.rows c.args.board.now) (g.V.View.cells c.args.board.now pos) c.args.p c.loop-side.side
+    c.requires (omega arith) (c.loop-side.invariant.over pos a))
