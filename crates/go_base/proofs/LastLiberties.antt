@@ -17,7 +17,7 @@ use Rattle.go_rules.proofs.Tests.{same_tests}
 use Rattle.go_base.specs.Surroundings.{is_only_liberty, is_last_liberty_of_enemy, AddsLast, KnowsLast}
 use Rattle.go_base.specs.Floods.{Searches}
 use Rattle.go_base.specs.declared.flood.Found.{Found}
-use Rattle.go_base.proofs.Bounded.{Searches-count, one_seen}
+use Rattle.go_base.proofs.BoundedSearches.{Searches-count, one_seen}
 
 -- the set of the liberties has the liberties
 pub contains-liberty_points : (s : ℕ) (cells : List Cell) (r l : ℕ)

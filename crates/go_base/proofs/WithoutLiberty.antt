@@ -14,8 +14,8 @@ use Rattle.go_base.specs.Sides.{neighbour_at}
 use Rattle.go_base.specs.Floods.{Searches}
 use Rattle.go_base.specs.declared.flood.Found.{Found}
 use Rattle.go_base.specs.WithoutLiberty.{has_empty_neighbour, stones_without_liberty}
-use Rattle.go_base.proofs.Beside.{neighbour_at-all, neighbour_at-near}
-use Rattle.go_base.proofs.Bounded.{none_seen}
+use Rattle.go_base.proofs.SidesOfPoints.{neighbour_at-all, neighbour_at-near}
+use Rattle.go_base.proofs.BoundedSearches.{none_seen}
 
 -- the first n sides of q were looked at, and none of them is empty
 abbrev pub NoneEmpty : ℕ → List Cell → ℕ → ℕ → Type 0

@@ -2,11 +2,11 @@ use Rattle.std.proofs.Common.{inl, inr, ap, sym, refl, ◌∙◌, arith}
 use Rattle.std.specs.Ordering.{nat_cmp}
 use Rattle.std.specs.FinSet as set
 use Rattle.go_base.specs.Trails.{add_once, has_point}
-use Rattle.go_base.proofs.Flooded.{has_at, stone_from, on_board_one, on_board_more}
-use Rattle.go_base.proofs.Visiting.{none_at}
-use Rattle.go_base.proofs.Bounded.{goes_on_where, stops_where, FloodsUnder-start, FloodsUnder-next, FloodsUnder-all, Searches-none}
-use Rattle.go_base.proofs.Closing.{close_alone, close_around}
-use Rattle.go_base.proofs.Looking.{Looks-none, Looks-more, Looks-within}
+use Rattle.go_base.proofs.FloodResults.{has_at, stone_from, on_board_one, on_board_more}
+use Rattle.go_base.proofs.FloodVisits.{none_at}
+use Rattle.go_base.proofs.BoundedSearches.{goes_on_where, stops_where, FloodsUnder-start, FloodsUnder-next, FloodsUnder-all, Searches-none}
+use Rattle.go_base.proofs.PointNeighbourhoods.{close_alone, close_around}
+use Rattle.go_base.proofs.LookSequences.{Looks-none, Looks-more, Looks-within}
 use Rattle.go_rules.proofs.Links.{path_same}
 use Rattle.go_rules.proofs.Cells.{cells_same, cells_differ}
 use Rattle.go_base.proofs.flood.search.Goals as goal

@@ -2,8 +2,8 @@ use Rattle.std.proofs.Common.{◌≡◌, ◌*◌, ◌<◌, ap, sym, subst, ◌�
 use Rattle.go_rules.specs.declared.Cell.TheVariants.{Empty}
 use Rattle.go_rules.specs.Strings.{cell_at, same_cell}
 use Rattle.go_base.specs.Sides.{neighbour_at}
-use Rattle.go_base.proofs.Flooded.{at_side}
-use Rattle.go_base.proofs.Looking.{Looks-none, Looks-more, Looks-within}
+use Rattle.go_base.proofs.FloodResults.{at_side}
+use Rattle.go_base.proofs.LookSequences.{Looks-none, Looks-more, Looks-within}
 use Rattle.go_base.proofs.WithoutLiberty.{NoneEmpty-next, NoneEmpty-all, empty_found}
 use Rattle.go_base.proofs.without_liberty.has_empty_side.Given.{Over}
 use Rattle.go_base.proofs.without_liberty.has_empty_side.Goals as goal

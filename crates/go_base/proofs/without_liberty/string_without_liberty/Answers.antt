@@ -3,8 +3,8 @@ use Rattle.go_rules.specs.Neighbourhood.{neighbourhood_of}
 use Rattle.go_rules.specs.Position.{BoardState}
 use Rattle.go_base.specs.Floods.{Searches}
 use Rattle.go_base.specs.Views.{Looks, anywhere, alone}
-use Rattle.go_base.proofs.Closing.{close_sides}
-use Rattle.go_base.proofs.Looking.{Looks-more, Looks-within}
+use Rattle.go_base.proofs.PointNeighbourhoods.{close_sides}
+use Rattle.go_base.proofs.LookSequences.{Looks-more, Looks-within}
 use Rattle.go_base.proofs.WithoutLiberty.{liberty_there, liberty_seen, none_there}
 use Rattle.go_base.proofs.without_liberty.string_without_liberty.Given.{Over}
 use Rattle.go_base.proofs.without_liberty.string_without_liberty.Goals as goal

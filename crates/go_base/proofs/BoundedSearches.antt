@@ -17,8 +17,8 @@ use Rattle.go_base.specs.Trails.{has_point, add_once}
 use Rattle.go_base.specs.Floods.{SpreadsOut, SpreadsUnder, Searches}
 use Rattle.go_base.specs.declared.flood.Found.{Found}
 use Rattle.go_base.proofs.Liberties.{len-liberty_points}
-use Rattle.go_base.proofs.Flooded.{has_at, string_is, string_is_none, string_has, stone_from}
-use Rattle.go_base.proofs.Visiting.{FloodsOut, FloodsOut-start, FloodsOut-next, flood_liberties, flood_enemies, no_liberties, no_enemies, none_at}
+use Rattle.go_base.proofs.FloodResults.{has_at, string_is, string_is_none, string_has, stone_from}
+use Rattle.go_base.proofs.FloodVisits.{FloodsOut, FloodsOut-start, FloodsOut-next, flood_liberties, flood_enemies, no_liberties, no_enemies, none_at}
 
 -- l is empty and next to a point that a path leads to from p
 abbrev pub IsSeen : ℕ → List Cell → ℕ → ℕ → Type 0
