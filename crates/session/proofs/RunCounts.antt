@@ -19,7 +19,7 @@ use Rattle.session.specs.Ends.{Streams, Serves, AreTallied, IsRight, most_taken}
 use Rattle.session.specs.Headline.{ServesLines, AreCountsOf}
 use Rattle.session.specs.declared.outcome.End.{End}
 use Rattle.session.specs.declared.outcome.End.TheVariants.{Done, InputFault, OutputFault, InputTooLong}
-use Rattle.session.proofs.Asked.{few_fresh-line}
+use Rattle.session.proofs.LineCounts.{few_fresh-line}
 use Rattle.session.proofs.CertainHits.{hits_are_kept}
 
 -- How many lines a run answers.

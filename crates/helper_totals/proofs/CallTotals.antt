@@ -10,7 +10,7 @@ use Rattle.go_rules.specs.Position.{BoardState}
 use Rattle.helpers.specs.Asking.{SlotState, says_yes}
 use Rattle.helper_asking.specs.Rule.{is_on, times_asked, all_say_yes, asks_of, raised, IsAskedFor}
 use Rattle.helper_totals.specs.Totals.{asks_over}
-use Rattle.helper_asking.proofs.Raised.{raised-cong, raised-zero, raised-add, says_yes-raised, is_on-raised}
+use Rattle.helper_asking.proofs.CallCounts.{raised-cong, raised-zero, raised-add, says_yes-raised, is_on-raised}
 
 -- helpers that are on alike and say alike are asked alike
 times-cong : (on off says told : List ℕ → Bool) → ((n : List ℕ) → on n ≡ off n) → ((n : List ℕ) → says n ≡ told n)

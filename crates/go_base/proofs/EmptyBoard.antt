@@ -8,7 +8,7 @@ use Rattle.go_rules.specs.declared.Cell.TheVariants.{Empty}
 use Rattle.go_rules.specs.Strings.{cell_at, is_stone}
 use Rattle.go_rules.specs.Position.{IsPosition}
 use Rattle.go_base.specs.Positions.{IsKept}
-use Rattle.go_base.proofs.Beside.{square_small}
+use Rattle.go_base.proofs.SidesOfPoints.{square_small}
 
 -- a board of empty points is empty at each point
 at_replicate : (n p : ℕ) → cell_at (replicate n Empty) p ≡ Empty

@@ -21,7 +21,7 @@ use Rattle.db_rules.specs.Blocks.{Block, SoFar, blocks_of, lines_in, words_in, b
 use Rattle.db_rules.specs.Faults.{or_else, at_line, first_number, most_entries, is_unnamed, expression_kind, pattern_fault, own_fault, table_fault, closes, closing_fault, found, found_at_end, first_fault, end_number, entries}
 use Rattle.db_rules.specs.Database.{IsLineOf, IsInFront, IsColonLine, IsBlock, IsDatabase}
 use Rattle.db_rules.specs.Entries.{entry_of_block}
-use Rattle.db_rules.proofs.Cut.{faultless_is_database}
+use Rattle.db_rules.proofs.BlockTexts.{faultless_is_database}
 use Rattle.db_rules.proofs.TableLemmas.{found_table}
 use Rattle.db_rules.proofs.Walk.{walk, first_fault-walk}
 

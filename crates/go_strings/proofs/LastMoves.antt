@@ -6,8 +6,8 @@ use Rattle.go_rules.specs.Replay.{taken_by, replay_from}
 use Rattle.go_strings.specs.declared.board.StringBoard.TheInside.{Inside}
 use Rattle.go_strings.specs.declared.standing.Past.{Past}
 use Rattle.go_strings.specs.Games.{BoardGame, game_of, moves_of, moment_of, IsKept}
-use Rattle.go_strings.proofs.Noting.{last_split}
-use Rattle.go_strings.proofs.Leading.{trail_taken, moves_push}
+use Rattle.go_strings.proofs.NoteTrails.{last_split}
+use Rattle.go_strings.proofs.LeadingMoves.{trail_taken, moves_push}
 
 -- the last move of the trail is the last of the game, and took as many stones as it says
 pub last_taken_is : (a : Inside) (game : BoardGame) (n : ℕ) (v : Past) (moves : List Move) (m : Move) → IsKept a

@@ -16,7 +16,7 @@ use Rattle.go_rules.proofs.Sets.{contains-set_below, same_nat_set}
 use Rattle.go_rules.proofs.Links.{liberties_from}
 use Rattle.go_rules.proofs.Plays.{stone_is, empty_from, at_put_same, at_put_other, taken_parts, own_not_taken}
 use Rattle.go_base.specs.TakenBack.{before_play}
-use Rattle.go_base.proofs.PlayedOn.{PlaysOn, plays_taken, plays_beside}
+use Rattle.go_base.proofs.PlayResults.{PlaysOn, plays_taken, plays_beside}
 
 -- the cells before a play, point by point
 before_at : (s : ℕ) (c : Colour) (p : ℕ) (taken : sets.FinSet nat_cmp) (now old : List Cell) → length old ≡ s * s

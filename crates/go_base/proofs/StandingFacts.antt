@@ -12,7 +12,7 @@ use Rattle.go_base.specs.Bits.{is_marked}
 use Rattle.go_base.specs.declared.facts.Facts.{Facts}
 use Rattle.go_base.specs.Facts.{Fact, SizeIs, CellIs, BanIs, IsFactOf, Agrees}
 use Rattle.go_base.specs.Told.{told, seen_as, asked_of, is_admitted, same_bool, HoldsAt}
-use Rattle.go_base.proofs.Seeing.{same_bool-true, same_bool-refl}
+use Rattle.go_base.proofs.SeenFacts.{same_bool-true, same_bool-refl}
 
 -- whether the cell x was seen, of the three answers for the three cells
 abbrev seen_in : Bool → Bool → Bool → Cell → Bool

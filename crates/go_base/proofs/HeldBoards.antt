@@ -2,7 +2,7 @@
 use Rattle.std.proofs.Common.{◌≡◌, ℕ, ◌-◌, ◌*◌, arith, length-append, ◌≤◌, ◌<◌, Bool, not, Option, Result, Ok, take, drop, length, refl, sym, ap, subst, ◌∙◌, get_or-take}
 use Rattle.std.proofs.lemmas.List.{take-append-drop, length-replicate}
 use Rattle.go_rules.specs.Board.{largest_size, largest_points}
-use Rattle.go_base.proofs.Beside.{square_small}
+use Rattle.go_base.proofs.SidesOfPoints.{square_small}
 use denote.Enum.Bare.{sameb}
 use Rattle.go_rules.specs.contracts.Cell.{the_type}
 use Rattle.go_rules.specs.declared.Cell.TheVariants.{Empty}

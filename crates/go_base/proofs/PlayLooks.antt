@@ -21,7 +21,7 @@ use Rattle.go_rules.proofs.Boundary.{string_self}
 use Rattle.go_base.specs.Views.{alone}
 use Rattle.go_base.specs.Takes.{near_taken}
 use Rattle.go_rules.proofs.InWords.{whole_strings_of-on_board}
-use Rattle.go_base.proofs.Closing.{whole_self, whole_string, whole_cases, close_whole, close_next, close_again, close_alone, close_point, alone_self, within, beside, closeness}
+use Rattle.go_base.proofs.PointNeighbourhoods.{whole_self, whole_string, whole_cases, close_whole, close_next, close_again, close_alone, close_point, alone_self, within, beside, closeness}
 
 -- the neighbourhood of the neighbourhood of p
 abbrev twice : ℕ → List Cell → ℕ → ℕ → Bool

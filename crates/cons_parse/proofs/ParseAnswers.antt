@@ -18,8 +18,8 @@ use Rattle.cons_parse.specs.Scan.{scanned}
 use Rattle.cons_parse.specs.Trees.{tree_of}
 use Rattle.cons_parse.specs.Building.{trees, built}
 use Rattle.cons_parse.specs.Parsing.{items_within, Tells, Spells, Refuses}
-use Rattle.cons_parse.proofs.Spelled.{scanned_spelling, or_assoc}
-use Rattle.cons_parse.proofs.Sound.{scanned_is_spelled}
+use Rattle.cons_parse.proofs.SpellingScans.{scanned_spelling, or_assoc}
+use Rattle.cons_parse.proofs.ScanSoundness.{scanned_is_spelled}
 use Rattle.cons_parse.proofs.Spellings.{built_spelling, tree_is_meaning}
 
 -- some call passes exactly where the test of some item does

@@ -5,7 +5,7 @@ use Rattle.std.specs.Map.{lookup, lookup_entry, remove_entry}
 use Rattle.smallvec.specs.SmallVec.{SmallVec}
 use Rattle.lru.specs.LruCache.{LruCache, promoted, put_entries}
 use Rattle.read_cache.specs.Kept.{Kept, IsSound, AreVariants, seen_entries, variants_of, put_first}
-use Rattle.read_cache.proofs.Sound.{found_are}
+use Rattle.read_cache.proofs.CacheSoundness.{found_are}
 use Rattle.go_rules.specs.Position.{BoardState}
 use Rattle.read_cache.specs.declared.variants.Variant.{Variant}
 

@@ -15,7 +15,7 @@ use Rattle.go_history.specs.Taken.{taken_of}
 use Rattle.go_history.specs.Kept.{game_of, IsKept}
 use Rattle.go_history.specs.declared.history.History.TheInside.{Inside}
 use Rattle.go_history.proofs.GameLemmas.{IsLegalGame-take, captures_from-nil, captures_from-push, captures_from-bound, taken_by-bound}
-use Rattle.go_strings.proofs.Leading.{IsLegalGame-push}
+use Rattle.go_strings.proofs.LeadingMoves.{IsLegalGame-push}
 use Rattle.go_rules.proofs.CaptureLaws.{replay_size}
 
 -- what the board shows is the replay of the moves

@@ -12,7 +12,7 @@ use Rattle.cons_parse.specs.declared.scan.Mark.TheVariants.{Prefix, Parenthesis}
 use Rattle.cons_parse.specs.Grammar.{Written, Num, Call, Parens, Not, Neg, Bin, level_of_op, level_of, IsWell, spelling}
 use Rattle.cons_parse.specs.Scan.{settled, scanned_from, scanned, is_sub}
 use Rattle.cons_parse.specs.Building.{Pending, OpenNot, OpenNeg, OpenParens, OpenLeft}
-use Rattle.cons_parse.proofs.Spelled.{to_come, come, op_level}
+use Rattle.cons_parse.proofs.SpellingScans.{to_come, come, op_level}
 
 -- an expression with an operator and an operand behind it
 abbrev pub extended : Written → Op → Written → Written

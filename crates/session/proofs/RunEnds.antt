@@ -15,7 +15,7 @@ use Rattle.session.specs.Tallies.{Tally, Progress, Advances, IsTallied, no_tally
 use Rattle.session.specs.Serving.{RunsTo, RunsPart}
 use Rattle.session.specs.Ends.{most_taken, Streams, earlier}
 use Rattle.session.specs.Opened.{ServesCounting}
-use Rattle.session.proofs.Tallying.{Advances-none, Advances-trans, IsTallied-nil, IsTallied-append, IsTallied-run, BreaksOff-after, BreaksOff-more, BreaksOff-is, BreaksOff-cut}
+use Rattle.session.proofs.TallyLemmas.{Advances-none, Advances-trans, IsTallied-nil, IsTallied-append, IsTallied-run, BreaksOff-after, BreaksOff-more, BreaksOff-is, BreaksOff-cut}
 use Rattle.session.specs.declared.outcome.End.TheVariants.{Done, InputFault, OutputFault, InputTooLong}
 
 -- some bytes were taken and some put, each line that ended was answered, the rest is held, and room bytes may still

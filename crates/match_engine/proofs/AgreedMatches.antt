@@ -8,7 +8,7 @@ use Rattle.helpers.specs.Asking.{SlotState, says_yes}
 use Rattle.helper_asking.specs.Fields.{helper_names}
 use Rattle.helper_asking.specs.Rule.{raised, IsAskedFor}
 use Rattle.helper_totals.specs.Totals.{asks_over}
-use Rattle.helper_totals.proofs.AddedUp.{answer_over-more, asked_over-more}
+use Rattle.helper_totals.proofs.CallTotals.{answer_over-more, asked_over-more}
 use Rattle.match_rules.specs.declared.found.Match.{Match}
 use Rattle.match_engine.specs.MachineMatches.{is_agreed_at}
 use Rattle.match_engine.specs.HelperCalls.{names_of, plays_of, after_matches}

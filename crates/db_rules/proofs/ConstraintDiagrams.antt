@@ -17,7 +17,7 @@ use Rattle.db_rules.specs.Diagram.{is_letter, is_dash, plus, bar, ends, without_
 use Rattle.db_rules.specs.Labels.{is_label, repeats, labels_from, labels_of_line, labels_under, labels_of, repeats_main, constraint_fault}
 use Rattle.db_rules.specs.Accepted.{IsDrawn, IsLabelled, no_line, one_line_more}
 use Rattle.db_rules.proofs.OneMoreLine.{shape_of-width}
-use Rattle.db_rules.proofs.Drawn.{drawn_even, drawn_line_kinds, is_true}
+use Rattle.db_rules.proofs.MainDiagrams.{drawn_even, drawn_line_kinds, is_true}
 
 -- where all elements pass, each does
 each_passes : (P : ℕ → Bool) (bytes : List ℕ) (k : ℕ) → k < length bytes → list_all P bytes ≡ true

@@ -16,12 +16,12 @@ use Rattle.go_rules.proofs.Links.{path_same}
 use Rattle.go_rules.specs.Neighbourhood.{neighbourhood_of}
 use Rattle.go_rules.proofs.Tests.{same_tests, and-false}
 use Rattle.go_base.specs.Views.{alone}
-use Rattle.go_base.proofs.Closing.{close_next, whole_string, alone_self}
+use Rattle.go_base.proofs.PointNeighbourhoods.{close_next, whole_string, alone_self}
 use Rattle.go_base.specs.Sides.{neighbour_at}
 use Rattle.go_base.specs.Trails.{add_once}
 use Rattle.go_base.specs.Floods.{Spreads, Gathers, Visits, SpreadsOut, enemy_points}
-use Rattle.go_base.proofs.Beside.{neighbour_at-all, neighbour_at-near}
-use Rattle.go_base.proofs.Flooded.{Flooded, Flooded-start, Flooded-next, Flooded-all, Spreads-none, Spreads-skip, Spreads-add, has_at, has_index, at_append}
+use Rattle.go_base.proofs.SidesOfPoints.{neighbour_at-all, neighbour_at-near}
+use Rattle.go_base.proofs.FloodResults.{Flooded, Flooded-start, Flooded-next, Flooded-all, Spreads-none, Spreads-skip, Spreads-add, has_at, has_index, at_append}
 
 module _ (s : ℕ) (cells : List Cell) (test : Cell → Bool) (q : ℕ) where
   -- no side was visited

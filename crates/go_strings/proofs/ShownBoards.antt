@@ -4,7 +4,7 @@ use Rattle.go_rules.specs.Position.{BoardState, IsPosition}
 use Rattle.go_strings.specs.declared.board.StringBoard.TheInside.{Inside}
 use Rattle.go_strings.specs.Trails.{position_in}
 use Rattle.go_strings.specs.Games.{BoardGame, reached, game_of, IsKept}
-use Rattle.go_strings.proofs.Playing.{kept_reached}
+use Rattle.go_strings.proofs.PlayAnswers.{kept_reached}
 
 -- what the moves of a game have reached is what stands on the board that keeps it
 pub shown : (a : Inside) (game : BoardGame) → IsKept a → game_of a ≡ game → reached game ≡ position_in a.present

@@ -14,8 +14,8 @@ use Rattle.go_base.specs.Sides.{neighbour_at}
 use Rattle.go_base.specs.Trails.{has_point, add_once}
 use Rattle.go_base.specs.Floods.{Spreads, AddsOnBoard}
 use Rattle.go_base.specs.Views.{around}
-use Rattle.go_base.proofs.Trailed.{has_push}
-use Rattle.go_base.proofs.Beside.{neighbour_at-all, neighbour_at-near}
+use Rattle.go_base.proofs.TrailOrder.{has_push}
+use Rattle.go_base.proofs.SidesOfPoints.{neighbour_at-all, neighbour_at-near}
 use Rattle.go_rules.proofs.Links.{path_same}
 
 -- a point of a list is one of each longer list

@@ -30,8 +30,8 @@ use Rattle.session.specs.Serving.{progress_of}
 use Rattle.session.specs.declared.outcome.End.{End}
 use Rattle.session.specs.declared.outcome.End.TheVariants.{InputTooLong}
 use Rattle.session.specs.declared.outcome.OpenError.{OpenError}
-use Rattle.session.proofs.CountsTold.{counts_of, served-few}
-use Rattle.session.proofs.Finding.{ServesLines-plain}
+use Rattle.session.proofs.RunCounts.{counts_of, served-few}
+use Rattle.session.proofs.MatcherSessions.{ServesLines-plain}
 
 -- the counts of a session are told where they are asked for
 counts-told : (asked : Bool) (counts : Counts) (tally : Tally Machine) → AreCountsOf tally.turns counts

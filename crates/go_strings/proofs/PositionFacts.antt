@@ -7,7 +7,7 @@ use Rattle.go_rules.specs.Strings.{cell_at, same_cell}
 use Rattle.go_rules.specs.Position.{BoardState, IsPosition, is_banned}
 use Rattle.go_rules.proofs.Paths.{same_cell-true, same_cell-itself}
 use Rattle.go_base.specs.Facts.{Fact, SizeIs, CellIs, BanIs, IsFactOf, Agrees}
-use Rattle.go_base.proofs.Seeing.{same_bool-true}
+use Rattle.go_base.proofs.SeenFacts.{same_bool-true}
 use Rattle.go_strings.specs.Seen.{is_so}
 
 -- a fact that is so holds
