@@ -44,7 +44,7 @@ none_of set ko h = by set.defender set.neither set.attacker ko refl refl refl h
     by false false false neither_may ed en ea w = en
     by false false false attacker_may ed en ea w = ea
 
--- what is left of a set without another has each allowance of the first that the other has not
+-- what is left of a set without another has just the allowances of the first that the other has not
 pub has-without : (a b : Allowances) (ko : Ko) → has (without a b) ko ≡ (has a ko && not (has b ko))
 has-without a b defender_may = refl
 has-without a b neither_may = refl

@@ -208,12 +208,12 @@ lt_cases a b c d h = elim (or_cases (ltb a b) (ltb c d) h) [
   | inr y ↦ inr (ltb-true c d y)
 ]
 
--- too many at the attacker's turn: more than half of the plies, rounded up, or than the wide plies allow
+-- too many at the attacker's turn are more than half of the plies, rounded up, or than the wide plies allow
 outlasts_attacker : (n k l : ℕ) → outlasts true n k l ≡ true → ((n + 1) / 2 < l) ⊎ (most_by_wide k < l)
 unfolding outlasts
 outlasts_attacker n k l h = lt_cases ((n + 1) / 2) l (most_by_wide k) l h
 
--- too many at the defender's turn: more than half of the plies, or than the wide plies after a pass allow
+-- too many at the defender's turn are more than half of the plies, or than the wide plies after a pass allow
 outlasts_defender : (n k l : ℕ) → outlasts false n k l ≡ true → (n / 2 < l) ⊎ (most_by_wide (k - 1) < l)
 unfolding outlasts
 outlasts_defender n k l h = lt_cases (n / 2) l (most_by_wide (k - 1)) l h
@@ -348,7 +348,7 @@ many_outlasts n pos t k h = elim (cases_Bool (has_many_liberties pos t k)) [
 
 -- The same at a turn, on a board of size s.
 module _ (n : ℕ) (turn : Turn) (here : BoardState) (s : ℕ) (size : here.size ≡ s) where
-  -- whether the liberties are too many, counted with the position's own size, which is s
+  -- the liberties may be counted on a board of size s, which is the position's size
   counted : (b : Bool) → outlasts turn.attacker_to_play n turn.wide (liberties s here.cells turn.target) ≡ b
       → outlasts turn.attacker_to_play n turn.wide (liberties here.size here.cells turn.target) ≡ b
   counted b h = ap (λ m. outlasts turn.attacker_to_play n turn.wide (liberties m here.cells turn.target)) size ∙ h

@@ -35,7 +35,7 @@ loop-p-preserved c =
         off true = refl
         off false = refl
 
--- from the last member on there is none, and each before it came where the other set has it not
+-- no member is left, and each that the other set has not has come
 pub returns : goal.returns
 returns c = λ p. all_apart _ c.loop-p.next c.loop-p.apart c.loop-p.invariant
     (λ k past. ap (λ b. b && not (set.contains c.args.others.now k)) (c.in_default.ensures.none k past)) p
