@@ -53,6 +53,7 @@ module _ {Q A : Type 0} (meaning : Q → BoardState → A) (eq : Q → Q → Boo
 module _ {A : Type 0} (meaning : BoardState → A) where
   module _ (vs front : List (Variant A)) (i : ℕ) (found : Variant A) (at : vs ≡ take i vs ++ found ∷ drop (i + 1) vs)
       (is : front ≡ found ∷ take i vs ++ drop (i + 1) vs) where
+    -- a variant before, at or after the place is one of the variants
     again : (v : Variant A) → Contains (take i vs ++ found ∷ drop (i + 1) vs) v → Contains vs v
     again v there = subst (λ xs. Contains xs v) (sym at) there
 

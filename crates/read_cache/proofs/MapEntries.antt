@@ -35,6 +35,7 @@ module _ {Q A : Type 0} where
     items_option None = None
     items_option (Some v) = Some v.items
 
+    -- of two entries the one that is chosen is seen as the one that is chosen of the two seen
     cond-seen : (b : Bool) (x y : Option (Entry Q A))
         → seen_option (cond b x y) ≡ cond b (seen_option x) (seen_option y)
     cond-seen true x y = refl
@@ -48,6 +49,7 @@ module _ {Q A : Type 0} where
         ap (λ o. cond (test e.0) (Some (seen e)) o) (seen-lookup_entry es)
         ∙ sym (cond-seen (test e.0) (Some e) (lookup_entry test es))
 
+    -- where one of two lists of variants is chosen, its items are chosen of the items of both
     cond-items : (b : Bool) (x y : Option (SmallVec (Variant A)))
         → items_option (cond b x y) ≡ cond b (items_option x) (items_option y)
     cond-items true x y = refl
@@ -59,6 +61,7 @@ module _ {Q A : Type 0} where
     seen-lookup (e ∷ es) = ap (λ o. cond (test e.0) (Some e.1.items) o) (seen-lookup es)
         ∙ sym (cond-items (test e.0) (Some e.1) (lookup test es))
 
+    -- the entries that are chosen of two lists are seen as those that are chosen of both lists seen
     cond-entries : (b : Bool) (xs ys : List (Entry Q A))
         → seen_entries (cond b xs ys) ≡ cond b (seen_entries xs) (seen_entries ys)
     cond-entries true xs ys = refl
@@ -72,6 +75,7 @@ module _ {Q A : Type 0} where
         cond-entries (test e.0) es (e ∷ remove_entry test es)
         ∙ ap (λ rest. cond (test e.0) (seen_entries es) (seen e ∷ rest)) (seen-remove_entry es)
 
+    -- the entry that is found, put before the others, is seen before them; where none is found, nothing moves
     promoted_by : (es : List (Entry Q A)) (o : Option (Entry Q A))
         → seen_entries (option_map_or (λ e. e ∷ remove_entry test es) o es)
         ≡ option_map_or (λ e. e ∷ remove_entry test (seen_entries es)) (seen_option o) (seen_entries es)
@@ -86,6 +90,7 @@ module _ {Q A : Type 0} where
         (sym (seen-lookup_entry es))
 
   module _ (eq : Q → Q → Bool) (c : LruCache Q (SmallVec (Variant A))) (k : Q) (v : SmallVec (Variant A)) where
+    -- where the question has an entry, it is seen first with the variants that are put; else a new one is
     by_entry : (o : Option (Entry Q A)) → lookup_entry (eq k) c.entries ≡ o
         → seen_entries (option_map_or (λ e. (e.0, v) ∷ remove_entry (eq k) c.entries) o
         ((k, v) ∷ take (c.cap - 1) c.entries))

@@ -99,6 +99,7 @@ module _ {Q A : Type 0} (eq : Q → Q → Bool) (k : Q) where
     of_entry : (o : Option (Q × List (Variant A))) → lookup_entry (eq k) qs ≡ o → option_map (λ e. e.1) o ≡ Some vs
     of_entry o is = ap (option_map (λ e. e.1)) (sym is) ∙ lookup-lookup_entry (eq k) qs ∙ there
 
+    -- an entry that is put before the others comes with the variants that it has
     by_entry : (o : Option (Q × List (Variant A))) → lookup_entry (eq k) qs ≡ o
         → option_map_or (λ e. e ∷ remove_entry (eq k) qs) o qs
         ≡ option_map_or (λ e. (e.0, vs) ∷ remove_entry (eq k) qs) o ((k, vs) ∷ take (cap - 1) qs)

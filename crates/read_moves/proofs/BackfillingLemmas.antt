@@ -114,6 +114,7 @@ none_left : (pos : BoardState) (c : Colour) (l p : ℕ) (r : Result BoardState I
 none_left pos c l p (Ok new) h = absurd (h new refl)
 none_left pos c l p (Err why) h = refl
 
+-- a play at l that the board refuses with the ban dropped leaves no stone with the one liberty p
 pub refused_leaves : (pos : BoardState) (c : Colour) (l p : ℕ) (answer : Tried) (new : BoardState)
     → tried pos c l true ≡ (answer, new) → answer ≢ Done
     → leaves_only l p (play_free pos c l) ≡ false

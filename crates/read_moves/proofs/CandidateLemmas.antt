@@ -38,6 +38,7 @@ has_liberty : (s : ℕ) (cells : List Cell) (target l : ℕ) (libs : sets.FinSet
     → sets.contains libs l ≡ is_liberty s cells target l
 has_liberty s cells target l libs el = ap (λ t. sets.contains t l) el ∙ contains-liberty_points s cells target l
 
+-- the set of the liberties has as many members as the target has liberties
 how_many : (s : ℕ) (cells : List Cell) (target : ℕ) (libs : sets.FinSet nat_cmp) → libs ≡ liberty_points s cells target
     → sets.len libs ≡ liberties s cells target
 how_many s cells target libs el = ap sets.len el ∙ len-liberty_points s cells target

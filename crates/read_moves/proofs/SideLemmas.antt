@@ -98,6 +98,7 @@ none_by_sides pos c l p on other (Ok new) is h =
     other.other (same_liberty new.size new.cells l p other.side only.0 only.1
     (ap (λ n. is_liberty n new.cells l other.side) size ∙ is_liberty-from_fact pos.size new.cells l other.side on lib))
 
+-- a play at l, which has an empty side other than p, does not leave its stone the one liberty p
 pub sides_leave_none : (pos : BoardState) (c : Colour) (l p : ℕ) → l < pos.size * pos.size
     → HasOtherSide pos.size pos.cells l p
     → leaves_only l p (play_free pos c l) ≡ false

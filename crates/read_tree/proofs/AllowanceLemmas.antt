@@ -44,6 +44,7 @@ none_of set ko h = by set.defender set.neither set.attacker ko refl refl refl h
     by false false false neither_may ed en ea w = en
     by false false false attacker_may ed en ea w = ea
 
+-- what is left of a set without another has just the allowances of the first that the other has not
 pub has-without : (a b : Allowances) (ko : Ko) → has (without a b) ko ≡ (has a ko && not (has b ko))
 has-without a b defender_may = refl
 has-without a b neither_may = refl
@@ -72,6 +73,7 @@ next_by : (target : ℕ) (defender : Colour) (attacker : Bool) (wide : ℕ) (ko 
 next_by target defender true wide ko = refl
 next_by target defender false wide ko = refl
 
+-- a move that spends no allowance leads to the next turn, under the allowance of the turn before
 pub next_keeps : (turn : Turn) (ko : Ko)
     → next_node (under turn ko) (allowance_of (under turn ko)) ≡ under (next_turn turn) ko
 next_keeps turn ko = next_by turn.target turn.defender turn.attacker_to_play turn.wide ko
@@ -83,6 +85,7 @@ spent_by : (target : ℕ) (defender : Colour) (attacker : Bool) (wide : ℕ) →
 spent_by target defender true wide = refl
 spent_by target defender false wide = refl
 
+-- a play that spends the mover's own allowance leads to the next turn, where neither side may
 pub next_spends : (turn : Turn)
     → next_node (under turn (own_ko turn.attacker_to_play))
     (allowance_of (under turn (own_ko turn.attacker_to_play)) - 1) ≡ under (next_turn turn) neither_may
@@ -98,6 +101,7 @@ pub suits_child : (n : ℕ) (attacker : Bool) (o : Option (Node × BoardState)) 
 suits_child n true o next new e = sym (ap (suits n true) e)
 suits_child n false o next new e = sym (ap (suits n false) e)
 
+-- a play that cannot be made gives no side its way
 pub suits_none : (n : ℕ) (attacker : Bool) (o : Option (Node × BoardState)) → o ≡ None → suits n attacker o ≡ false
 suits_none n true o e = ap (suits n true) e
 suits_none n false o e = ap (suits n false) e
@@ -152,6 +156,7 @@ pub and_false_right : (a b : Bool) → b ≡ false → (a && b) ≡ false
 and_false_right true b e = e
 and_false_right false b e = refl
 
+-- once the play at p was read, what it gives is no longer missing
 pub left_next : (n : ℕ) (turn : Turn) (here : BoardState) (candidate tried now : ℕ → Bool) (p : ℕ) (asked missing good
     : Allowances)
     → IsLeft n turn here candidate tried asked missing → candidate p ≡ true → ((q : ℕ) → now q ≡ true
@@ -218,6 +223,7 @@ pub fewer_nodes : {q : ReadingQuestion} {root here : BoardState} {n : ℕ} {turn
     → AreNodesOf q root n turn fewer here
 fewer_nodes fewer tree h = record { each = λ ko a. tree.each ko (h ko a) }
 
+-- what is left of a set without another was in the set
 pub without_less : (a b : Allowances) (ko : Ko) → has (without a b) ko ≡ true → has a ko ≡ true
 without_less a b ko h = (and_parts_not _ _ (sym (has-without a b ko) ∙ h)).0
 
@@ -300,6 +306,7 @@ has_none defender_may = refl
 has_none neither_may = refl
 has_none attacker_may = refl
 
+-- nothing is found of the asked where no allowance passes the test
 pub Tells-none : (asked : Allowances) (test : Ko → Bool) → ((ko : Ko) → test ko ≡ false)
     → Tells asked (record { defender = false; neither = false; attacker = false }) test
 Tells-none asked test h = record { each = λ ko. has_none ko ∙ sym (and_false_right (has asked ko) (test ko) (h ko)) }

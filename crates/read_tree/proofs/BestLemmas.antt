@@ -33,6 +33,7 @@ data IsCode : ℕ → Type 0 where
   two : IsCode 2
   three : IsCode 3
 
+-- a code that is above 0 and not above 3 is 1, 2 or 3
 code_cases : (code : ℕ) → 0 < code → code ≤ 3 → IsCode code
 code_cases code lo hi = elim (cases_eq code 1) [
   | inl e ↦ subst IsCode (sym e) one
@@ -52,6 +53,7 @@ above_by false code more one l = lt-ltb code 1 l
 above_by false code more two l = lt-ltb code 2 l
 above_by false code more three l = lt-ltb code 3 l
 
+-- of the codes up to 3, each that is greater than the best so far has its allowance asked for
 above_has : (attack : Bool) (code more : ℕ) → code < more → more ≤ 3
     → has (codes_above code attack) (ko_of attack more) ≡ true
 above_has attack code more l hi = above_by attack code more (code_cases more (omega arith) hi) l
@@ -72,6 +74,7 @@ record IsBestCode (set : Allowances) (attack : Bool) (code : ℕ) : Type 0 where
   there : has set (ko_of attack code) ≡ true
   none : (more : ℕ) → code < more → more ≤ 3 → has set (ko_of attack more) ≡ false
 
+-- a set that has an allowance has a best code, whatever the code before was
 best_is : (set : Allowances) (code : ℕ) (attack : Bool) → has_some set ≡ true
     → IsBestCode set attack (best_code set code attack)
 best_is set code attack h = by (has set (own_ko (not attack))) set.neither (has set (own_ko attack)) refl refl refl
@@ -135,6 +138,7 @@ told : (asked : Bool) (found test : Bool) → found ≡ (asked && test) → aske
 told true found test e h = sym e
 told false found test e h = cc
 
+-- an allowance that is found was asked for and passes the test
 told_there : (asked : Bool) (found test : Bool) → found ≡ (asked && test) → found ≡ true
     → (asked ≡ true) × (test ≡ true)
 told_there true true true e h = (refl, refl)
@@ -328,6 +332,7 @@ module _ (n : ℕ) (turn : Turn) (here : BoardState) where
     move = i.move;
   }
 
+  -- no candidate stands below point 0: what is best without a candidate is best of those below it
   pub best_start : (cands : ℕ → Bool) (best : Answer) → IsBest n turn here nowhere best
       → IsBest n turn here (λ q. ltb q 0 && cands q) best
   best_start cands best i = record {
@@ -362,6 +367,7 @@ not_barred : (n : ℕ) (node : Node) (pos : BoardState)
     → good_move n node pos ≡ first_move n node pos
 not_barred n node pos h = ap (λ b. cond b None (first_move n node pos)) h
 
+-- where the pass does not save and no candidate succeeds, no move has its way
 no_first : (n : ℕ) (node : Node) (pos : BoardState) → pass_saves n node pos ≡ false
     → ((q : ℕ) → (is_candidate pos node.target node.wide q && succeeds n node pos q) ≡ false)
     → is_some (first_move n node pos) ≡ false
@@ -374,6 +380,7 @@ no_first n node pos ps none =
     ap (λ b. is_some (cond b (Some Pass) (at_point (first_success n node pos)))) ps
     ∙ ap (λ o. is_some (at_point o)) nothing
 
+-- the best of all moves at the first turn is the answer, unless an attack's target has many liberties
 pub best_answer : (q : ReadingQuestion) (pos : BoardState) (best : Answer) → q.plies ≢ 0 → is_about q pos ≡ true
     → (is_attack q.kind && has_many_liberties pos q.target q.wide) ≡ false
     → IsBest (q.plies - 1) (first_turn q) pos (is_candidate pos q.target q.wide) best → best ≡ answer_of q pos

@@ -38,9 +38,11 @@ module _ (pos : BoardState) (c : Colour) (p : ℕ) (new : BoardState) (t : ℕ)
     (whole : length pos.cells ≡ pos.size * pos.size) (p_on : p < pos.size * pos.size)
     (on : t < pos.size * pos.size) (legal : play_free pos c p ≡ Ok new)
     (enemy : cell_at new.cells t ≡ stone_of (other c)) where
+  -- the size of the board
   abbrev s : ℕ
   s = pos.size
 
+  -- the cells once the stone was put at p, before any stone is taken
   abbrev put : List Cell
   put = set pos.cells p (stone_of c)
 
@@ -59,6 +61,7 @@ module _ (pos : BoardState) (c : Colour) (p : ℕ) (new : BoardState) (t : ℕ)
   apart : (x : ℕ) → cell_at new.cells x ≡ cell_at new.cells t → x ≢ p
   apart x same e = colours_differ c (sym stands ∙ ap (cell_at new.cells) (sym e) ∙ same ∙ enemy)
 
+  -- a point that holds afterwards what t holds had that stone before
   was : (x : ℕ) → x < s * s → cell_at new.cells x ≡ cell_at new.cells t → cell_at pos.cells x ≡ cell_at new.cells x
   was x x_on same = elim (others_stay pos c p new x legal x_on (apart x same)) [
     | inl kept ↦ sym kept
@@ -71,6 +74,7 @@ module _ (pos : BoardState) (c : Colour) (p : ℕ) (new : BoardState) (t : ℕ)
   stood path = path_keeps s new.cells pos.cells t
       (λ x w. was x (path_on_board s new.cells t on w) (path_same s new.cells t w)) path
 
+  -- the stone that is put changes no other point
   put_as : (x : ℕ) → x ≢ p → cell_at put x ≡ cell_at pos.cells x
   put_as x ne = at_put_other pos.cells p x (stone_of c) ne
 
@@ -158,6 +162,7 @@ carried_set pos c p new t n known next whole size p_on on legal enemy is without
     (subst (λ m. t < m * m) (sym size) on) legal enemy q
     ∙ ap (λ m. is_liberty m new.cells t q) size ∙ sym (contains-liberty_points n new.cells t q))
 
+-- the other colour of the other colour is the colour
 other_twice : (c : Colour) → other (other c) ≡ c
 other_twice black = refl
 other_twice white = refl

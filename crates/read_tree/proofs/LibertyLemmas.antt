@@ -32,9 +32,11 @@ half_more n l h = omega arith
 -- A string with a liberty that is not the point of the play. The board is of size s; c plays at p.
 module _ (s : ℕ) (cells : List Cell) (c : Colour) (p : ℕ) (was_empty : cell_at cells p ≡ Empty) (t : ℕ)
     (on : t < s * s) where
+  -- the cells once the stone was put at p, before any stone is taken
   abbrev put : List Cell
   put = set cells p (stone_of c)
 
+  -- no stone of the string stands at p, which was empty
   apart : (q : ℕ) → IsInString s cells t q → q ≢ p
   apart q inside e = stone_not_empty (cell_at cells t) inside.stone
       (sym (path_same s cells t inside.path) ∙ ap (cell_at cells) e ∙ was_empty)
@@ -132,6 +134,7 @@ counts_but_one s cells after t p on h =
     count_but_one (s * s) (is_liberty s cells t) (is_liberty s after t) p
     (λ l lo ne x. is_liberty-from_fact s after t l on (h l (IsLiberty-from_test s cells t l x) ne))
 
+-- a string that keeps all liberties but p, where p is none of them, has no fewer afterwards
 counts_all : (s : ℕ) (cells after : List Cell) (t p : ℕ) → t < s * s → is_liberty s cells t p ≡ false
     → ((l : ℕ) → IsLiberty s cells t l → l ≢ p → IsLiberty s after t l) → liberties s cells t ≤ liberties s after t
 unfolding liberties
@@ -198,25 +201,30 @@ Outlasts : Bool → ℕ → ℕ → ℕ → Type 0
 Outlasts attacker n k l =
     cond attacker (((n + 1) / 2 < l) ⊎ (most_by_wide k < l)) ((n / 2 < l) ⊎ (most_by_wide (k - 1) < l))
 
+-- where one of two tests of order passes, its first number is below its second
 lt_cases : (a b c d : ℕ) → (ltb a b || ltb c d) ≡ true → (a < b) ⊎ (c < d)
 lt_cases a b c d h = elim (or_cases (ltb a b) (ltb c d) h) [
   | inl x ↦ inl (ltb-true a b x)
   | inr y ↦ inr (ltb-true c d y)
 ]
 
+-- too many at the attacker's turn are more than half of the plies, rounded up, or than the wide plies allow
 outlasts_attacker : (n k l : ℕ) → outlasts true n k l ≡ true → ((n + 1) / 2 < l) ⊎ (most_by_wide k < l)
 unfolding outlasts
 outlasts_attacker n k l h = lt_cases ((n + 1) / 2) l (most_by_wide k) l h
 
+-- too many at the defender's turn are more than half of the plies, or than the wide plies after a pass allow
 outlasts_defender : (n k l : ℕ) → outlasts false n k l ≡ true → (n / 2 < l) ⊎ (most_by_wide (k - 1) < l)
 unfolding outlasts
 outlasts_defender n k l h = lt_cases (n / 2) l (most_by_wide (k - 1)) l h
 
+-- at the attacker's turn more than half of the plies, rounded up, or than the wide plies allow are too many
 pub to_attacker : (n k l : ℕ) → ((n + 1) / 2 < l) ⊎ (most_by_wide k < l) → outlasts true n k l ≡ true
 unfolding outlasts
 to_attacker n k l (inl h) = or_left (ltb ((n + 1) / 2) l) _ (lt-ltb _ _ h)
 to_attacker n k l (inr h) = or_right (ltb ((n + 1) / 2) l) _ (lt-ltb _ _ h)
 
+-- at the defender's turn more than half of the plies, or than the wide plies after a pass allow are too many
 pub to_defender : (n k l : ℕ) → (n / 2 < l) ⊎ (most_by_wide (k - 1) < l) → outlasts false n k l ≡ true
 unfolding outlasts
 to_defender n k l (inl h) = or_left (ltb (n / 2) l) _ (lt-ltb _ _ h)
@@ -266,6 +274,7 @@ Hypothesis n = (next : Node) (new : BoardState) → next.target < new.size * new
     → outlasts next.attacker_to_play n next.wide (liberties new.size new.cells next.target) ≡ true
     → attacker_wins n next new ≡ false
 
+-- if too many liberties save a target with n plies left, they do at the attacker's turn with one more ply
 bounded_attacker : (n : ℕ) (node : Node) (pos : BoardState) → Hypothesis n → node.target < pos.size * pos.size
     → is_captured pos node.target ≡ false → node.attacker_to_play ≡ true
     → outlasts true (suc n) node.wide (liberties pos.size pos.cells node.target) ≡ true
@@ -289,6 +298,7 @@ bounded_attacker n node pos ih on stands turn h = elim (cases_Bool (attacker_win
       (ap (λ (m : Node). attacker_wins n m w.1.new) child.2 ∙ lost) w.1.wins)
 ]
 
+-- if too many liberties save a target with n plies left, they do at the defender's turn with one more ply
 bounded_defender : (n : ℕ) (node : Node) (pos : BoardState) → Hypothesis n → node.target < pos.size * pos.size
     → is_captured pos node.target ≡ false → node.attacker_to_play ≡ false
     → outlasts false (suc n) node.wide (liberties pos.size pos.cells node.target) ≡ true
@@ -338,6 +348,7 @@ many_outlasts n pos t k h = elim (cases_Bool (has_many_liberties pos t k)) [
 
 -- The same at a turn, on a board of size s.
 module _ (n : ℕ) (turn : Turn) (here : BoardState) (s : ℕ) (size : here.size ≡ s) where
+  -- the liberties may be counted on a board of size s, which is the position's size
   counted : (b : Bool) → outlasts turn.attacker_to_play n turn.wide (liberties s here.cells turn.target) ≡ b
       → outlasts turn.attacker_to_play n turn.wide (liberties here.size here.cells turn.target) ≡ b
   counted b h = ap (λ m. outlasts turn.attacker_to_play n turn.wide (liberties m here.cells turn.target)) size ∙ h

@@ -178,6 +178,7 @@ module _ (n : ℕ) (turn : Turn) (here : BoardState) (ko : Ko) (on : turn.target
       ap (λ (m : Node). attacker_wins n m new) child.2
       ∙ bounded n node new (subst (λ m. turn.target < m * m) (sym size) on) bound
 
+  -- no attacker's play off the liberties of the target succeeds
   pub off_fails : (p : ℕ) → is_liberty here.size here.cells turn.target p ≡ false
       → succeeds n (under turn ko) here p ≡ false
   off_fails p off = ap (λ b. suits n b (child_of (under turn ko) here p)) attacks

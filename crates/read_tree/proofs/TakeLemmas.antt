@@ -38,25 +38,30 @@ use Rattle.read_rules.proofs.WinLemmas.{wins-captured}
 abbrev IsWhole : BoardState → Type 0
 IsWhole pos = length pos.cells ≡ pos.size * pos.size
 
+-- after a play or its refusal the board is whole, where it was so before and a legal play leaves it so
 whole_given : (pos : BoardState) (r : Result BoardState Illegal) → ((new : BoardState) → r ≡ Ok new → IsWhole new)
     → IsWhole pos → IsWhole (given pos r)
 whole_given pos (Ok new) h w = h new refl
 whole_given pos (Err e) h w = w
 
+-- a legal play, with no regard to the ban, leaves a whole board
 whole_free : (pos : BoardState) (c : Colour) (p : ℕ) (new : BoardState) → play_free pos c p ≡ Ok new → IsWhole new
 whole_free pos c p new e = subst IsWhole (sym (done_state pos c p new e).1) (length_after pos.size (put_on pos c p) c)
 
+-- a trial play on a whole board, with the ban dropped or not, leaves a whole board
 whole_play : (pos : BoardState) (c : Colour) (p : ℕ) (dropped : Bool) → IsWhole pos
     → IsWhole (given pos (cond dropped (play_free pos c p) (play pos c p)))
 whole_play pos c p true w = whole_given pos (play_free pos c p) (whole_free pos c p) w
 whole_play pos c p false w =
     whole_given pos (play pos c p) (λ new e. whole_free pos c p new (legal_free pos c p new e)) w
 
+-- trial moves on a whole board leave a whole board
 pub whole_after : (pos : BoardState) (ms : List TrialMove) → IsWhole pos → IsWhole (after pos ms)
 whole_after pos [] w = w
 whole_after pos (Pass ∷ ms) w = whole_after pos ms w
 whole_after pos (Play m ∷ ms) w = whole_play (after pos ms) m.colour m.at m.dropped (whole_after pos ms w)
 
+-- a stone is no empty point
 not_empty : (c : Colour) → stone_of c ≡ Empty → ⊥
 not_empty black e = cc
 not_empty white e = cc
@@ -65,9 +70,11 @@ not_empty white e = cc
 module _ (s : ℕ) (cells : List Cell) (c : Colour) (l t : ℕ) (whole : length cells ≡ s * s) (on : t < s * s)
     (enemy : cell_at cells t ≡ stone_of (other c))
     (lib : IsLiberty s cells t l) (only : (x : ℕ) → IsLiberty s cells t x → x ≡ l) where
+  -- the cells once the stone was put at l, before any stone is taken
   abbrev put : List Cell
   put = set cells l (stone_of c)
 
+  -- the stone that was put is at l
   put_at : cell_at put l ≡ stone_of c
   put_at = at_put_same cells l (stone_of c) (subst (λ n. l < n) (sym whole) lib.on_board)
 
@@ -75,6 +82,7 @@ module _ (s : ℕ) (cells : List Cell) (c : Colour) (l t : ℕ) (whole : length 
   apart : (q : ℕ) → cell_at cells q ≡ stone_of (other c) → q ≢ l
   apart q h e = not_empty (other c) (sym h ∙ ap (cell_at cells) e ∙ lib.is_empty)
 
+  -- the target holds the enemy's stone once the stone was put
   put_target : cell_at put t ≡ stone_of (other c)
   put_target = at_put_other cells l t (stone_of c) (apart t enemy) ∙ enemy
 
@@ -99,6 +107,7 @@ module _ (s : ℕ) (cells : List Cell) (c : Colour) (l t : ℕ) (whole : length 
         );
       }))
 
+  -- the string of t is taken by the play at l
   taken : is_taken s put c t ≡ true
   taken = taken_by_words s put c t (record { enemy = put_target; dead = dead })
 
@@ -106,6 +115,7 @@ module _ (s : ℕ) (cells : List Cell) (c : Colour) (l t : ℕ) (whole : length 
   gone : (q : ℕ) → q < s * s → is_taken s put c q ≡ true → cell_at (cells_after s put c) q ≡ Empty
   gone q q_on h = at_after s put c q q_on ∙ ap (λ b. cond b Empty (cell_at put q)) h
 
+  -- t is empty after the play at l
   pub target_gone : cell_at (cells_after s put c) t ≡ Empty
   target_gone = gone t on taken
 
@@ -134,6 +144,7 @@ other_twice : (c : Colour) → other (other c) ≡ c
 other_twice black = refl
 other_twice white = refl
 
+-- with a ply left, an attacker who may play at the only liberty of the target captures it, under any allowance
 pub take_wins : (n : ℕ) (turn : Turn) (here : BoardState) → IsWhole here → turn.target < here.size * here.size
     → has_many_liberties here turn.target turn.wide ≡ false → IsTaken turn here → (ko : Ko)
     → attacker_wins (suc n) (under turn ko) here ≡ true

@@ -84,18 +84,23 @@ module _ (g : Over) (c : After-is_suicide g) (pos : BoardState) (a : g.V.View.ag
   at_captured : g.V.View.agrees c.captured-taken.new.board pos
   at_captured = g.met.V.View.asks_agrees _ _ _ c.put_all.ensures.asks pos at_removed
 
+  -- a position that agrees after the test for suicide agreed before the captured stones were looked for
   at_put : g.V.View.agrees c.put.new.self pos
   at_put = g.met.V.View.asks_agrees _ _ _ c.captured-taken.ensures.looks.asked pos at_captured
 
+  -- a position that agrees after the test for suicide agreed before the stone was put
   at_look : g.V.View.agrees c.at.new.self pos
   at_look = g.met.V.View.asks_agrees _ _ _ c.put.ensures.asks pos at_put
 
+  -- the board with the stone put has the rows that it had before the play
   rows_put : g.V.View.rows c.put.new.self ≡ g.V.View.rows c.args.board.now
   rows_put = g.met.V.View.asks_rows _ _ _ c.put.ensures.asks ∙ g.met.V.View.asks_rows _ _ _ c.at.ensures.looks.asked
 
+  -- the point of the play was empty
   was_empty : is_stone (cell_at (g.V.View.cells c.args.board.now pos) c.args.p) ≡ false
   was_empty = sym (c.ne.ensures ∙ stone_test c.at.result ∙ ap is_stone (c.at.ensures.over pos at_look)) ∙ c.if-ne.false
 
+  -- the cells with the stone put are those before, but for the stone at the point of the play
   put_is : g.V.View.cells c.put.new.self pos ≡ set (g.V.View.cells c.args.board.now pos) c.args.p (stone_of c.args.c)
   put_is = c.put.ensures.over pos at_put ∙ ap (λ t. set t c.args.p c.cell.result) (c.at.ensures.looks.same pos)
       ∙ ap (set (g.V.View.cells c.args.board.now pos) c.args.p) c.cell.ensures

@@ -13,6 +13,7 @@ use Rattle.read_moves.proofs.BackfillingLemmas.{added_if_empty, left_near}
 use Rattle.read_moves.proofs.SideLemmas.{none_added, sides_near, sides_leave_none}
 use Rattle.read_moves.proofs.moves.add_backfilling_at.Goals as goal
 
+-- the one liberty that the stone at l would have comes where it is empty now
 pub returns-in-Some-clause-over : goal.returns-in-Some-clause-over
 returns-in-Some-clause-over g c = λ pos a.
     let a0 = agrees_before c.add_empty.ensures.stays.grows a in
@@ -52,6 +53,7 @@ returns-then-has_two_empty_sides-clause-over g c = λ pos a p.
     none_added (set.contains c.args.found.now p) _ _
     (sides_leave_none here c.args.c c.args.l p on (subst (λ n. HasOtherSide n here.cells c.args.l p) (sym size) two))
 
+-- where l has two empty sides, only its sides are looked at, which lie near it
 pub returns-then-has_two_empty_sides-clause-near : goal.returns-then-has_two_empty_sides-clause-near
 returns-then-has_two_empty_sides-clause-near g c = λ pos a.
     let a0 = agrees_before c.has_two_empty_sides.ensures.stays.grows a in

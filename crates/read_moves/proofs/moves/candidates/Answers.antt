@@ -28,12 +28,14 @@ inside g c l h =
     ∙ contains-liberty_points _ _ c.args.target l) ∙ h in
     (IsLiberty-from_test _ _ c.args.target l its).on_board
 
+-- the liberties are on the board, whose size the look at the target's surroundings keeps
 pub add_beside_few-requires : goal.add_beside_few-requires
 add_beside_few-requires g c = λ l h.
     let at = goal.at.add_beside_few-requires g c in
     subst (λ (pos : BoardState). l < pos.size * pos.size) (sym c.surroundings-liberties.ensures.stays.shown)
     (inside g at.After-join l h)
 
+-- the liberties are on the board, whose size the looks beside them and at the target keep
 pub add_backfilling-requires-clause-on_board : goal.add_backfilling-requires-clause-on_board
 add_backfilling-requires-clause-on_board g c = λ l h.
     let at = goal.at.add_backfilling-requires-clause-on_board g c in
@@ -114,6 +116,7 @@ returns-then-wide-gt0-clause-near g c = λ pos a.
     (AddsIn-trans (AddsIn-mono c.cell.ensures.near (near_self pos.size here.cells c.args.target on))
     (AddsIn-mono plays (λ r h. near_plays pos.size here.cells c.args.target on libs r its h))))
 
+-- where no wide ply is left, only the target's surroundings are looked at
 pub returns-else-wide-gt0-clause-near : goal.returns-else-wide-gt0-clause-near
 returns-else-wide-gt0-clause-near g c = λ pos a.
     let here = after pos c.args.board.now.moves in
@@ -131,6 +134,7 @@ returns-then-wide-gt0-clause-answer g c =
     (subst (λ (pos : BoardState). Agrees (g.L.Look.seen c.add_backfilling.new.board.look) pos) shown
     (g.met.L.Look.holds c.add_backfilling.new.board.look))
 
+-- where no wide ply is left, what was gathered are the candidates on the position shown
 pub returns-else-wide-gt0-clause-answer : goal.returns-else-wide-gt0-clause-answer
 returns-else-wide-gt0-clause-answer g c =
     returns-else-wide-gt0-clause-over g c (g.L.Look.shows c.args.board.now.look)

@@ -4,6 +4,7 @@ use Rattle.trial_board.specs.Trials.{after}
 use Rattle.read_moves.proofs.SideLemmas.{sides_counted}
 use Rattle.read_moves.proofs.moves.empty_sides.Goals as goal
 
+-- the members that are counted are the empty neighbours of l
 pub returns-clause-over : goal.returns-clause-over
 returns-clause-over g c = λ pos a.
     c.count.ensures.value

@@ -8,6 +8,7 @@ when_some : {P : ℕ → Type 0} (o : Option ℕ) → IfSome o P → is_some o �
 when_some None h e = cc
 when_some (Some p) h e = (p, h)
 
+-- where a member comes after the first, one of these two is not p
 pub returns-in-Some : goal.returns-in-Some
 returns-in-Some c = λ e p.
     let second = when_some c.first_from-in-Some.result c.first_from-in-Some.ensures.some (sym c.is_some.ensures ∙ e) in

@@ -4,6 +4,7 @@ use Rattle.trial_board.specs.Trials.{after}
 use Rattle.read_moves.proofs.SideLemmas.{side_gives, added_to_none}
 use Rattle.read_moves.proofs.moves.has_two_empty_sides.Goals as goal
 
+-- of two empty sides of l, one is not p
 pub returns-clause-over : goal.returns-clause-over
 returns-clause-over g c = λ pos a two p.
     let other = c.has_two.ensures two p in

@@ -5,9 +5,11 @@ use Rattle.read_tree.proofs.StageLemmas.{none_apart, added_apart, skipped_apart,
 use Rattle.read_tree.proofs.apart.apart_from.Goals as goal
 use Rattle.read_tree.proofs.apart.apart_from.Goals.{then-not-has, else-not-has}
 
+-- the new set is empty, and no member stands below point 0
 pub loop-p-init : goal.loop-p-init
 loop-p-init c = none_apart c.new-apart.result _ c.new-apart.ensures
 
+-- the next member comes where the other set has it not, and is left out where it has it
 pub loop-p-preserved : goal.loop-p-preserved
 loop-p-preserved c =
     let first = c.in-Some.ensures.some in
@@ -33,6 +35,7 @@ loop-p-preserved c =
         off true = refl
         off false = refl
 
+-- no member is left, and each that the other set has not has come
 pub returns : goal.returns
 returns c = λ p. all_apart _ c.loop-p.next c.loop-p.apart c.loop-p.invariant
     (λ k past. ap (λ b. b && not (set.contains c.args.others.now k)) (c.in_default.ensures.none k past)) p

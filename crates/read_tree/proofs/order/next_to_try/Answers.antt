@@ -7,6 +7,7 @@ use Rattle.read_tree.proofs.OrderLemmas.{all_before, yet_to_try, sides_of_known}
 use Rattle.read_tree.proofs.order.next_to_try.Goals as goal
 use Rattle.read_tree.proofs.order.next_to_try.Goals.{then-rank-most, else-rank-most}
 
+-- one more member has its rank: the best is one that was not tried, or all up to here were tried
 pub loop-p-preserved : goal.loop-p-preserved
 loop-p-preserved g c =
     let i = c.loop-p.invariant in

@@ -15,6 +15,7 @@ use Rattle.read_rules.proofs.AnswerLemmas.{about_asked, about_stands, question_i
 use Rattle.read_rules.proofs.AreaLemmas.{AddsNear-in, AddsNear-trans, area_target, target_on}
 use Rattle.read_tree.proofs.reading.answered.Goals as goal
 
+-- the look at the target's cell and those of the reading lie in the active area
 pub returns-clause-near : goal.returns-clause-near
 returns-clause-near g c = λ pos a.
     let shown = g.L.Look.shows c.args.look in

@@ -21,6 +21,7 @@ candidate_inside : (shown : BoardState) (moves : List TrialMove) (target wide p 
 candidate_inside shown moves target wide p h =
     subst (λ n. p < n * n) (size-after shown moves) (candidate_on (after shown moves) target wide p h)
 
+-- the candidates are looked for in the active area, and none was read yet
 pub loop-p-init : goal.loop-p-init
 loop-p-init g c = record {
   stays = c.candidates-candidates.ensures.stays;
@@ -40,6 +41,7 @@ loop-p-init g c = record {
       (set.contains c.candidates-candidates.result) c.args.first start;
 }
 
+-- a candidate is on the board, and above a code below 3 there is an allowance to ask for
 pub succeeds-good-requires : goal.succeeds-good-requires
 succeeds-good-requires g c =
     let inside = candidate_inside (g.L.Look.shows c.args.board.now.look) c.args.board.now.moves c.args.turn.target
@@ -123,6 +125,7 @@ returns-then-best-eq3 g c =
           c.if-best-eq3.true (is_candidate (after pos c.args.board.now.moves) c.args.turn.target c.args.turn.wide);
     }
 
+-- no candidate is left, and the best of those that were read is the best of all
 pub returns-clause-over : goal.returns-clause-over
 returns-clause-over g c = λ pos a start.
     let i = c.loop-p.invariant in

@@ -20,10 +20,12 @@ use Rattle.read_tree.proofs.BestLemmas.{best_nothing, best_pass, best_three, bes
 use Rattle.read_tree.proofs.LibertyLemmas.{undecided_at}
 use Rattle.read_tree.proofs.reading.read.Goals as goal
 
+-- two tests do not both pass where the first fails
 and_off : (a b : Bool) → a ≡ false → (a && b) ≡ false
 and_off true b e = cc
 and_off false b e = refl
 
+-- two tests do not both pass where the second fails
 and_off_right : (a b : Bool) → b ≡ false → (a && b) ≡ false
 and_off_right true b e = e
 and_off_right false b e = refl
@@ -47,6 +49,7 @@ returns-then-has_too_many-clause-over g c = λ pos a about.
     ∙ unread_answer q here some about (target_on here.size pos.size q.target size inside)
     (ap (λ s. outlasts (is_attack q.kind) q.plies q.wide (liberties s here.cells q.target)) size ∙ many)
 
+-- where the liberties are too many, the looks at them lie in the active area
 pub returns-then-has_too_many-clause-near : goal.returns-then-has_too_many-clause-near
 returns-then-has_too_many-clause-near g c = λ pos a about.
     let q = c.args.question.now in
@@ -60,6 +63,7 @@ returns-then-has_too_many-clause-near g c = λ pos a about.
     ((first_nodes q here some).each neither_may (has_all neither_may)) pos.size
     (size-after pos c.args.board.now.moves) inside (about_stands q here about))
 
+-- with too many liberties no play is tried, and the looks lie near the target
 pub returns-then-has_too_many-clause-too_many : goal.returns-then-has_too_many-clause-too_many
 returns-then-has_too_many-clause-too_many g c = λ h.
     let shown = subst (Agrees (g.L.Look.seen c.has_too_many.new.board.look)) c.has_too_many.ensures.stays.shown
@@ -69,6 +73,7 @@ returns-then-has_too_many-clause-too_many g c = λ h.
       rw c.first_turn-turn.ensures at (c.has_too_many.ensures.near (g.L.Look.shows c.args.board.now.look) shown),
     )
 
+-- the attacker's plays are tried only where the liberties are not too many
 pub returns-then-turn-clause-too_many : goal.returns-then-turn-clause-too_many
 returns-then-turn-clause-too_many g c = λ h.
     let shown = subst (Agrees (g.L.Look.seen c.has_too_many.new.board.look)) c.has_too_many.ensures.stays.shown
@@ -76,6 +81,7 @@ returns-then-turn-clause-too_many g c = λ h.
     absurd (both_ways _ (sym (rw c.first_turn-turn.ensures at
     (c.has_too_many.ensures.over (g.L.Look.shows c.args.board.now.look) shown)) ∙ c.if-has_too_many.false) h)
 
+-- the pass is tried only where the liberties are not too many
 pub returns-then-best-eq3-clause-too_many : goal.returns-then-best-eq3-clause-too_many
 returns-then-best-eq3-clause-too_many g c = λ h.
     let shown = subst (Agrees (g.L.Look.seen c.has_too_many.new.board.look)) c.has_too_many.ensures.stays.shown
@@ -83,6 +89,7 @@ returns-then-best-eq3-clause-too_many g c = λ h.
     absurd (both_ways _ (sym (rw c.first_turn-turn.ensures at
     (c.has_too_many.ensures.over (g.L.Look.shows c.args.board.now.look) shown)) ∙ c.if-has_too_many.false) h)
 
+-- the defender's plays are tried only where the liberties are not too many
 pub returns-clause-too_many : goal.returns-clause-too_many
 returns-clause-too_many g c = λ h.
     let shown = subst (Agrees (g.L.Look.seen c.has_too_many.new.board.look)) c.has_too_many.ensures.stays.shown
@@ -110,6 +117,7 @@ returns-then-turn-clause-over g c = λ pos a about.
     ) at (c.best_point.ensures.over pos a))
     (best_nothing (q.plies - 1) (first_turn q) here attacks))
 
+-- the looks at the target's liberties and those of the attacker's plays lie in the active area
 pub returns-then-turn-clause-near : goal.returns-then-turn-clause-near
 returns-then-turn-clause-near g c = λ pos a about.
     let q = c.args.question.now in
@@ -161,6 +169,7 @@ returns-then-best-eq3-clause-over g c = λ pos a about.
     (best_pass (q.plies - 1) (first_turn q) here c.pass_saves-saved.result saved)) c.if-best-eq3.true
     (is_candidate here q.target q.wide))
 
+-- the looks at the target's liberties and those after the pass lie in the active area
 pub returns-then-best-eq3-clause-near : goal.returns-then-best-eq3-clause-near
 returns-then-best-eq3-clause-near g c = λ pos a about.
     let q = c.args.question.now in
@@ -216,6 +225,7 @@ returns-clause-over g c = λ pos a about.
     (rw (c.better-best.ensures.is, c.first_turn-turn.ensures)
     (best_pass (q.plies - 1) (first_turn q) here c.pass_saves-saved.result saved)))
 
+-- the looks at the liberties, after the pass and of the defender's plays lie in the active area
 pub returns-clause-near : goal.returns-clause-near
 returns-clause-near g c = λ pos a about.
     let q = c.args.question.now in

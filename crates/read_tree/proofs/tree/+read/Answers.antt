@@ -229,6 +229,7 @@ pub some_of-next_to_try-requires : goal.some_of-next_to_try-requires
 some_of-next_to_try-requires g t c = λ p h. subst (λ (pos : BoardState). p < pos.size * pos.size)
     (sym c.loop-p.invariant.stays.shown) (c.requires.on_board p h)
 
+-- the next point and the target are on the board, and the known liberties are the target's
 pub some_of-succeeds-good-requires : goal.some_of-succeeds-good-requires
 some_of-succeeds-good-requires g t c κs within =
     let i = c.loop-p.invariant in
@@ -320,6 +321,7 @@ some_of-returns-then-not-has_some-clause-over g t c = λ pos a.
     refl) (rw (chosen.moves ∙ i.stays.moves) at (c.succeeds-good.ensures.over pos a)))
     (sym (c.has_some.ensures ∙ ap has_some c.without-missing.ensures) ∙ c.if-not-has_some.true)
 
+-- the choice of the last point and the reading of its play look at the active area alone
 pub some_of-returns-then-not-has_some-clause-near : goal.some_of-returns-then-not-has_some-clause-near
 some_of-returns-then-not-has_some-clause-near g t c = λ pos a q root tree und its.
     let i = c.loop-p.invariant in
@@ -347,6 +349,7 @@ some_of-returns-clause-over g t c = λ pos a.
     (c.loop-p.invariant.left pos (agrees_before c.next_to_try.ensures.stays.grows a))
     (none_left (set.contains c.args.points.now) (set.contains c.loop-p.tried) c.in_default.ensures.none))
 
+-- where no point is left, the looks for one lie in the active area
 pub some_of-returns-clause-near : goal.some_of-returns-clause-near
 some_of-returns-clause-near g t c = λ pos a q root tree und its.
     let i = c.loop-p.invariant in
@@ -368,6 +371,7 @@ candidate_inside : (shown : BoardState) (moves : List TrialMove) (target wide p 
 candidate_inside shown moves target wide p h =
     subst (λ n. p < n * n) (size-after shown moves) (candidate_on (after shown moves) target wide p h)
 
+-- a candidate off the liberties is on the board
 pub some_other-some_of-requires : goal.some_other-some_of-requires
 some_other-some_of-requires g t c κs within =
     let shown = g.L.Look.shows c.args.board.now.look in
@@ -452,6 +456,7 @@ some_success-returns-then-not-has_some-clause-over g t c = λ pos a.
     (c.some_of-good.ensures.over pos a))
     (sym (c.has_some.ensures ∙ ap has_some c.without-missing.ensures) ∙ c.if-not-has_some.true)
 
+-- the plays at the liberties are looked at in the active area
 pub some_success-returns-then-not-has_some-clause-near : goal.some_success-returns-then-not-has_some-clause-near
 some_success-returns-then-not-has_some-clause-near g t c = λ pos a q root tree und.
     let a0 = agrees_before c.some_of-good.ensures.stays.grows a in
@@ -480,6 +485,7 @@ some_success-returns-clause-over g t c = λ pos a.
       c.without-missing.ensures,
     ) at (c.some_other-rest.ensures.over pos a)))
 
+-- the plays at the liberties and those elsewhere are looked at in the active area
 pub some_success-returns-clause-near : goal.some_success-returns-clause-near
 some_success-returns-clause-near g t c = λ pos a q root tree und.
     let a1 = agrees_before c.some_other-rest.ensures.stays.grows a in
@@ -503,6 +509,7 @@ has_good_move-returns-then-turn-clause-over g t c = λ pos a und.
     (λ ko. good_attacker c.args.turn.attacker_to_play (has_many_liberties here c.args.turn.target c.args.turn.wide) _
     (first_success c.args.plies (under c.args.turn ko) here) c.if-turn.true ((und ko).few c.if-turn.true))
 
+-- where the pass saves, the looks after it lie in the active area
 pub has_good_move-returns-then-not-has_some-clause-near : goal.has_good_move-returns-then-not-has_some-clause-near
 has_good_move-returns-then-not-has_some-clause-near g t c =
     λ pos a q root tree und. c.pass_saves.ensures.near pos a q root tree (und neither_may).stands
@@ -519,6 +526,7 @@ has_good_move-returns-clause-over g t c = λ pos a und.
       c.without-lost.ensures,
     ) at (c.some_success-2.ensures.over pos a)))
 
+-- the looks after the pass and those of the defender's plays lie in the active area
 pub has_good_move-returns-clause-near : goal.has_good_move-returns-clause-near
 has_good_move-returns-clause-near g t c = λ pos a q root tree und.
     let a1 = agrees_before c.some_success-2.ensures.stays.grows a in
@@ -617,6 +625,7 @@ attacker_wins-returns-in-Safe-clause-near g t c = λ pos a q root tree.
     (λ p h. inr (area_once q root here c.args.plies (under c.args.turn one.0) (tree.each one.0 one.1) pos.size
     (size-after pos c.args.board.now.moves) inside stands p h))))
 
+-- the looks at the target and its only liberty lie at the target or in the area
 pub attacker_wins-returns-in-Taken-clause-near : goal.attacker_wins-returns-in-Taken-clause-near
 attacker_wins-returns-in-Taken-clause-near g t c = λ pos a q root tree.
     let a2 = agrees_before c.outlook_of.ensures.stays.grows a in

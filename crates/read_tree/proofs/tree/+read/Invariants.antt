@@ -16,24 +16,31 @@ use Rattle.read_tree.proofs.tree.+read.Given as goal
 abbrev pub decreases-attacker_wins : goal.decreases-attacker_wins
 decreases-attacker_wins g l = 8 * l.plies
 
+-- the mover's way is one step above the result at the child, with as many plies
 abbrev pub decreases-has_way : goal.decreases-has_way
 decreases-has_way g l = 8 * l.plies + 1
 
+-- a play is one step above the mover's way after it, with as many plies
 abbrev pub decreases-succeeds : goal.decreases-succeeds
 decreases-succeeds g l = 8 * l.plies + 2
 
+-- the pass is one step above the mover's way after it, with as many plies
 abbrev pub decreases-pass_saves : goal.decreases-pass_saves
 decreases-pass_saves g l = 8 * l.plies + 2
 
+-- the plays at a set of points are one step above each of them
 abbrev pub decreases-some_of : goal.decreases-some_of
 decreases-some_of g l = 8 * l.plies + 3
 
+-- the candidates off the liberties are one step above the plays at a set of points
 abbrev pub decreases-some_other : goal.decreases-some_other
 decreases-some_other g l = 8 * l.plies + 4
 
+-- all candidates are one step above those off the liberties
 abbrev pub decreases-some_success : goal.decreases-some_success
 decreases-some_success g l = 8 * l.plies + 5
 
+-- a good move is one step above all candidates, and below a node with one ply more
 abbrev pub decreases-has_good_move : goal.decreases-has_good_move
 decreases-has_good_move g l = 8 * l.plies + 6
 

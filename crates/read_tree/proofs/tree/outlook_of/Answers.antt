@@ -9,6 +9,7 @@ use Rattle.read_tree.proofs.TakeLemmas.{near_liberty}
 use Rattle.read_rules.proofs.AreaLemmas.{target_on}
 use Rattle.read_tree.proofs.tree.outlook_of.Goals as goal
 
+-- a target that is safe has too many liberties on each position that agrees
 pub returns-then-outlasts-clause-over : goal.returns-then-outlasts-clause-over
 returns-then-outlasts-clause-over g c = λ pos a.
     ap (λ (n : ℕ). outlasts c.args.turn.attacker_to_play c.args.plies c.args.turn.wide n)
@@ -16,6 +17,7 @@ returns-then-outlasts-clause-over g c = λ pos a.
     ∙ len-liberty_points pos.size (after pos c.args.board.now.moves).cells c.args.turn.target))
     ∙ sym c.outlasts.ensures ∙ c.if-outlasts.true
 
+-- a target that is taken has not too many liberties
 pub returns-then-can_take-clause-over : goal.returns-then-can_take-clause-over
 returns-then-can_take-clause-over g c = λ pos a.
     let a0 = agrees_before c.can_take.ensures.stays.grows a in
@@ -24,6 +26,7 @@ returns-then-can_take-clause-over g c = λ pos a.
     ∙ len-liberty_points pos.size (after pos c.args.board.now.moves).cells c.args.turn.target))
     ∙ sym c.outlasts.ensures ∙ c.if-outlasts.false
 
+-- a target whose node is to be read has not too many liberties
 pub returns-clause-over : goal.returns-clause-over
 returns-clause-over g c = λ pos a.
     let a0 = agrees_before c.can_take.ensures.stays.grows a in
@@ -43,6 +46,7 @@ returns-then-can_take-clause-near g c = λ pos a.
     AddsIn-mono c.can_take.ensures.near (λ p h.
     near_liberty pos.size cells t p c.args.known.now on (c.requires.liberties pos a0) h)
 
+-- at a node that is to be read the looks lie in the target's neighbourhood
 pub returns-clause-near : goal.returns-clause-near
 returns-clause-near g c = λ pos a.
     let a0 = agrees_before c.can_take.ensures.stays.grows a in

@@ -11,6 +11,7 @@ use Rattle.read_cache.proofs.cache.Cache.standing.Goals as goal
 pub as_slice-requires : goal.as_slice-requires
 as_slice-requires g c = variants_fit g.row.Q-Answer g.met.Q.Question.small
 
+-- the variants whose place was found are small
 pub as_slice-requires-in-Some-first_standing : goal.as_slice-requires-in-Some-first_standing
 as_slice-requires-in-Some-first_standing g c = variants_fit g.row.Q-Answer g.met.Q.Question.small
 
