@@ -1,5 +1,6 @@
 -- The points of a call's arguments, and its value by how the function takes them.
 use Rattle.std.proofs.Common.{◌≡◌, ℕ, ◌*◌, ◌<◌, true, ◌&&◌, List, [], ◌∷◌, map, Option, Some, None, ap, subst}
+use Rattle.std.proofs.lemmas.Option.{same_Some}
 use Rattle.std.proofs.lemmas.Bool.{ltb-true}
 use Rattle.pat_types.specs.declared.expr.Arg.{Arg}
 use Rattle.pat_types.specs.declared.expr.Function.{Function}
@@ -8,15 +9,11 @@ use Rattle.cons_eval.specs.Meanings.{Meanings, is_on_board, are_on_board}
 use Rattle.cons_eval.specs.Values.{only_point, both_points, two_points, arguments_of, value_by, call_value}
 use Rattle.cons_eval.proofs.Parts.{first_of, second_of}
 
--- values that are had are the same
-some_same : {X : Type 0} (x y : X) → Some x ≡ Some y → x ≡ y
-some_same x y h = cc
-
 -- a point that an argument has is on the board
 on_board_at : (s : ℕ) (o : Option ℕ) (a : ℕ) → o ≡ Some a → is_on_board s o ≡ true → a < s * s
 on_board_at s None a e h = cc
 on_board_at s (Some p) a e h =
-    subst (λ (x : ℕ). x < s * s) (some_same p a e) (ltb-true p (s * s) h)
+    subst (λ (x : ℕ). x < s * s) (same_Some p a e) (ltb-true p (s * s) h)
 
 -- the only point is on the board
 pub only_on_board : (s : ℕ) (point : Arg → Option ℕ) (args : List Arg) (a : ℕ) → only_point (map point args) ≡ Some a
@@ -30,7 +27,7 @@ both_at : (o p : Option ℕ) (a b : ℕ) → both_points o p ≡ Some (a, b) →
 both_at None p a b e = cc
 both_at (Some x) None a b e = cc
 both_at (Some x) (Some y) a b e =
-    let same = some_same (x, y) (a, b) e in
+    let same = same_Some (x, y) (a, b) e in
     (ap (λ (q : ℕ × ℕ). Some q.0) same, ap (λ (q : ℕ × ℕ). Some q.1) same)
 
 -- the two points are on the board

@@ -1,7 +1,7 @@
 -- What a caller of `eval` owes: a constraint that a pattern keeps may be evaluated, and where each argument that has a
 -- point has one on the board, the arguments of each expression are placed.
-use Rattle.std.proofs.Common.{◌≡◌, Bool, true, false, ◌&&◌, nat_le, IsTrue, List, [], ◌∷◌, Some, refl}
-use Rattle.std.proofs.lemmas.Bool.{leb-true}
+use Rattle.std.proofs.Common.{◌≡◌, true, nat_le, IsTrue, List, [], ◌∷◌, Some, refl}
+use Rattle.std.proofs.lemmas.Bool.{leb-true, and_from}
 use Rattle.pat_types.specs.declared.pattern.LabelAt.{LabelAt}
 use Rattle.pat_types.specs.declared.expr.Arg.{Arg}
 use Rattle.pat_types.specs.declared.expr.Expr.{Expr, Num, Call, Not', Neg', Bin'}
@@ -10,17 +10,12 @@ use Rattle.cons_eval.specs.Bounds.{IsConstraint}
 use Rattle.cons_eval.proofs.Parts.{first_of, second_of}
 use Rattle.cons_eval.specs.Meanings.{Meanings, is_on_board, are_on_board, are_placed}
 
--- two tests that pass, pass together
-both : (a b : Bool) → a ≡ true → b ≡ true → (a && b) ≡ true
-both true b h k = k
-both false b h k = cc
-
 -- arguments that are each placed
 args_on_board : (m : Meanings) (args : List Arg) → ((a : Arg) → is_on_board m.position.size (m.point a) ≡ true)
     → are_on_board m.position.size m.point args ≡ true
 args_on_board m [] h = refl
 args_on_board m (a ∷ args) h =
-    both (is_on_board m.position.size (m.point a)) (are_on_board m.position.size m.point args) (h a)
+    and_from (is_on_board m.position.size (m.point a)) (are_on_board m.position.size m.point args) (h a)
     (args_on_board m args h)
 
 -- the arguments of an expression, where all points are on the board
@@ -31,7 +26,7 @@ all_placed m (Num n) h = refl
 all_placed m (Call f args) h = args_on_board m args h
 all_placed m (Not' p e) h = all_placed m e h
 all_placed m (Neg' p e) h = all_placed m e h
-all_placed m (Bin' op p a q b) h = both (are_placed m a) (are_placed m b) (all_placed m a h) (all_placed m b h)
+all_placed m (Bin' op p a q b) h = and_from (are_placed m a) (are_placed m b) (all_placed m a h) (all_placed m b h)
 
 -- a constraint that a pattern with these labels keeps
 pub constraint_of : (labels : List LabelAt) (e : Expr) → IsTrue (is_constraint labels (Some e)) → IsConstraint e

@@ -1,7 +1,7 @@
 -- The value of an expression by those of its parts, how large it is, and what it asks.
 use Rattle.std.proofs.Common.{◌≡◌, ℕ, ◌+◌, ◌*◌, Bool, true, false, not, ◌&&◌, ◌||◌, List, map, ℤ, pos, ◌-ℤ◌, neg_ℤ, Box, Global, w64, SFits, FitsSigned, to_z, of_z, refl, sym, ap, ◌∙◌, subst, arith}
 use Rattle.std.proofs.lemmas.Int.{ints, to_z-of_z}
-use Rattle.std.proofs.lemmas.Bool.{ltb-true}
+use Rattle.std.proofs.lemmas.Bool.{ltb-true, or_parts}
 use Rattle.pat_types.specs.declared.expr.Op.{Op}
 use Rattle.pat_types.specs.declared.expr.Op.TheVariants.{Or, And, Eq, Ne, Lt, Le, Gt, Ge, Add, Sub}
 use Rattle.pat_types.specs.declared.expr.Arg.{Arg}
@@ -169,11 +169,6 @@ pub asks_neg : (m : Meanings) (e inner : Expr) (b : Box Expr Global) → inner �
 unfolding asks
 asks_neg m e inner b q p h = ap (asks m) q ∙ (sym (ap (asks m) p) ∙ h)
 
--- of two tests of which none passes, the first fails
-first_fails : (s t : Bool) → (s || t) ≡ false → s ≡ false
-first_fails true t h = cc
-first_fails false t h = refl
-
 -- of two tests of which none passes, the second fails, or is not needed
 second_fails : (s n t : Bool) → (s || (n && t)) ≡ false → n ≡ true → t ≡ false
 second_fails true n t h k = cc
@@ -186,7 +181,7 @@ pub asks_left : (m : Meanings) (e left : Expr) (op : Op) (a b : Box Expr Global)
 unfolding asks
 asks_left m e left op a b q p h =
     ap (asks m) q
-    ∙ first_fails (asks m a.value) (needs_right op (value_of m a.value) && asks m b.value) (sym (ap (asks m) p) ∙ h)
+    ∙ (or_parts (asks m a.value) (needs_right op (value_of m a.value) && asks m b.value) (sym (ap (asks m) p) ∙ h)).0
 
 -- a right side that is needed asks for nothing where the whole does not
 pub asks_right : (m : Meanings) (e left right : Expr) (op : Op) (a b : Box Expr Global) (x : ℤ) → left ≡ a.value

@@ -48,7 +48,7 @@ pub record IsPartOf (part whole : Expr) : Type 0 where
   pub placed : (m : Meanings) → are_placed m whole ≡ true → are_placed m part ≡ true
   pub smaller : nodes part < nodes whole
 
--- the same parts of the same expressions
+-- an expression that is a part of another is one under every name of the two
 part_along : (part whole p w : Expr) → part ≡ p → whole ≡ w → IsPartOf p w → IsPartOf part whole
 part_along part whole p w e f h =
     subst (λ (x : Expr). IsPartOf x whole) (sym e) (subst (λ (y : Expr). IsPartOf p y) (sym f) h)

@@ -1,7 +1,7 @@
 -- An expression without faults can be evaluated.
-use Rattle.std.proofs.Common.{◌≡◌, ℕ, suc, ◌+◌, ◌-◌, ◌≤◌, Bool, true, false, ◌&&◌, ◌||◌, not, nat_le, nat_lt, cond, List, [], ◌∷◌, ◌++◌, length, refl, ap, sym, ◌∙◌, arith}
+use Rattle.std.proofs.Common.{◌≡◌, ℕ, suc, ◌+◌, ◌-◌, ◌≤◌, Bool, true, false, ◌&&◌, ◌||◌, nat_le, nat_lt, cond, List, [], ◌∷◌, ◌++◌, length, refl, ap, sym, ◌∙◌, arith}
 use Rattle.std.specs.List.{list_any, list_all, slice_get}
-use Rattle.std.proofs.lemmas.Bool.{ltb-false, le-leb, and_parts, and_from}
+use Rattle.std.proofs.lemmas.Bool.{ltb-false, le-leb, and_parts, and_from, or_parts, not-false}
 use Rattle.std.proofs.lemmas.List.{length-append}
 use Rattle.pat_types.specs.declared.pattern.LabelAt.{LabelAt}
 use Rattle.pat_types.specs.declared.expr.Arg.{Arg}
@@ -20,7 +20,7 @@ use Rattle.cons_parse.specs.Faults.{is_nowhere, is_some_nowhere, ends_nowhere, h
 use Rattle.cons_parse.specs.Trees.{Tree, NumTree, CallTree, NotTree, NegTree, BinTree, tree_of, meaning_of, call_tree}
 use Rattle.cons_parse.proofs.SmallNumbers.{is_small_item}
 
--- the same of trees
+-- the numbers of a tree are below a million, and a pattern with these labels may keep its calls
 abbrev pub can_be : List LabelAt → Tree → Bool
 can_be labels (NumTree n) = nat_lt n 1000000
 can_be labels (CallTree f args) = may_call labels f args
@@ -56,16 +56,6 @@ leaf_tree (Bin' op p a q b) = let x = leaf_tree a in let y = leaf_tree b in rw (
 
 -- tests
 
--- where none of two tests passes, each fails
-or_none : (a b : Bool) → (a || b) ≡ false → (a ≡ false) × (b ≡ false)
-or_none true b h = cc
-or_none false b h = (refl, h)
-
--- what is not denied holds
-not_false : (b : Bool) → not b ≡ false → b ≡ true
-not_false true h = refl
-not_false false h = cc
-
 -- all of two lists pass where all of each do
 all_append : (t : Item → Bool) (is js : List Item) → list_all t (is ++ js) ≡ (list_all t is && list_all t js)
 all_append t [] js = refl
@@ -81,13 +71,13 @@ all_append t (i ∷ is) js =
 -- an argument that is no pass and no unknown label is a point
 point_of : (labels : List LabelAt) (a : Arg) → is_nowhere a ≡ false → is_unknown_label labels a ≡ false
     → is_point labels a ≡ true
-point_of labels (Label c) h k = not_false (names labels c) k
+point_of labels (Label c) h k = not-false (names labels c) k
 point_of labels Star h k = refl
 point_of labels Nowhere h k = cc
 
 -- an argument that is no unknown label is a move
 move_of : (labels : List LabelAt) (a : Arg) → is_unknown_label labels a ≡ false → is_move labels a ≡ true
-move_of labels (Label c) k = not_false (names labels c) k
+move_of labels (Label c) k = not-false (names labels c) k
 move_of labels Star k = refl
 move_of labels Nowhere k = refl
 
@@ -96,8 +86,8 @@ all_points : (labels : List LabelAt) (args : List Arg) → list_any is_nowhere a
     → list_any (is_unknown_label labels) args ≡ false → list_all (is_point labels) args ≡ true
 all_points labels [] h k = refl
 all_points labels (a ∷ args) h k =
-    let p = or_none (is_nowhere a) (list_any is_nowhere args) h in
-    let q = or_none (is_unknown_label labels a) (list_any (is_unknown_label labels) args) k in
+    let p = or_parts (is_nowhere a) (list_any is_nowhere args) h in
+    let q = or_parts (is_unknown_label labels a) (list_any (is_unknown_label labels) args) k in
     and_from (is_point labels a) (list_all (is_point labels) args) (point_of labels a p.0 q.0)
     (all_points labels args p.1 q.1)
 
@@ -113,9 +103,9 @@ last_of_more m p more =
 moves_then_point : (labels : List LabelAt) (args : List Arg) → 1 ≤ length args → ends_nowhere args ≡ false
     → list_any (is_unknown_label labels) args ≡ false → end_in_point labels args ≡ true
 moves_then_point labels [] l h k = absurd (omega arith)
-moves_then_point labels (p ∷ []) l h k = point_of labels p h (or_none (is_unknown_label labels p) false k).0
+moves_then_point labels (p ∷ []) l h k = point_of labels p h (or_parts (is_unknown_label labels p) false k).0
 moves_then_point labels (m ∷ p ∷ more) l h k =
-    let q = or_none (is_unknown_label labels m) (list_any (is_unknown_label labels) (p ∷ more)) k in
+    let q = or_parts (is_unknown_label labels m) (list_any (is_unknown_label labels) (p ∷ more)) k in
     and_from (is_move labels m) (end_in_point labels (p ∷ more)) (move_of labels m q.0)
     (moves_then_point labels (p ∷ more) (omega arith) (sym (last_of_more m p more) ∙ h) q.1)
 
@@ -154,9 +144,9 @@ least_arity function.XplayDefend = omega arith
 call_may : (labels : List LabelAt) (f : Function) (args : List Arg) → is_miscalled f args ≡ false
     → list_any (is_unknown_label labels) args ≡ false → may_call labels f args ≡ true
 call_may labels f args h k =
-    let p = or_none (nat_lt (length args) (arity_of f).0 || nat_lt (arity_of f).1 (length args))
+    let p = or_parts (nat_lt (length args) (arity_of f).0 || nat_lt (arity_of f).1 (length args))
     (has_stray_pass f args) h in
-    let q = or_none (nat_lt (length args) (arity_of f).0) (nat_lt (arity_of f).1 (length args)) p.0 in
+    let q = or_parts (nat_lt (length args) (arity_of f).0) (nat_lt (arity_of f).1 (length args)) p.0 in
     let low : (arity_of f).0 ≤ length args = ltb-false (length args) (arity_of f).0 q.0 in
     let high : length args ≤ (arity_of f).1 = ltb-false (arity_of f).1 (length args) q.1 in
     let some : 1 ≤ length args = omega (arith, low, least_arity f) in
@@ -188,9 +178,9 @@ meaning_can labels (written.Neg e) s u h k = meaning_can labels e s u h k
 meaning_can labels (written.Bin op a b) s u h k =
     let t = and_parts (list_all is_small_item (spelling a)) (list_all is_small_item (spelling b))
     (sym (all_append is_small_item (spelling a) (item.Operator op ∷ spelling b)) ∙ s) in
-    let v = or_none (some_call is_unknown_call a) (some_call is_unknown_call b) u in
-    let i = or_none (some_call misses a) (some_call misses b) h in
-    let l = or_none (some_call (is_unlabelled labels) a) (some_call (is_unlabelled labels) b) k in
+    let v = or_parts (some_call is_unknown_call a) (some_call is_unknown_call b) u in
+    let i = or_parts (some_call misses a) (some_call misses b) h in
+    let l = or_parts (some_call (is_unlabelled labels) a) (some_call (is_unlabelled labels) b) k in
     and_from (can_be labels (meaning_of a)) (can_be labels (meaning_of b)) (meaning_can labels a t.0 v.0 i.0 l.0)
     (meaning_can labels b t.1 v.1 i.1 l.1)
 

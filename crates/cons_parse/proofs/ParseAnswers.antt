@@ -1,5 +1,7 @@
 -- What the parts of parsing say together of a text.
 use Rattle.std.proofs.Common.{◌≡◌, ℕ, ◌≤◌, Bool, true, false, ◌||◌, cond, nat_lt, List, [], ◌∷◌, ◌++◌, length, Option, Some, None, refl, ap, sym, ◌∙◌}
+use Rattle.std.proofs.Math.Bool.{or-false, or_assoc}
+use Rattle.std.proofs.lemmas.Option.{same_Some}
 use Rattle.std.specs.List.{list_any}
 use Rattle.std.proofs.lemmas.Bool.{ltb-false, le-ltb}
 use Rattle.pat_types.specs.declared.pattern.LabelAt.{LabelAt}
@@ -18,7 +20,7 @@ use Rattle.cons_parse.specs.Scan.{scanned}
 use Rattle.cons_parse.specs.Trees.{tree_of}
 use Rattle.cons_parse.specs.Building.{trees, built}
 use Rattle.cons_parse.specs.Parsing.{items_within, Tells, Spells, Refuses}
-use Rattle.cons_parse.proofs.SpellingScans.{scanned_spelling, or_assoc}
+use Rattle.cons_parse.proofs.SpellingScans.{scanned_spelling}
 use Rattle.cons_parse.proofs.ScanSoundness.{scanned_is_spelled}
 use Rattle.cons_parse.proofs.Spellings.{built_spelling, tree_is_meaning}
 
@@ -28,19 +30,14 @@ any_append t [] js = refl
 any_append t (i ∷ is) js =
     ap (λ (b : Bool). t i || b) (any_append t is js) ∙ sym (or_assoc (t i) (list_any t is) (list_any t js))
 
--- a test joined with none
-or_false : (b : Bool) → (b || false) ≡ b
-or_false true = refl
-or_false false = refl
-
 -- some call of an expression passes exactly where some item of its spelling does
 pub some_call_spelled : (test : Name → List Arg → Bool) (w : Written)
     → list_any (calls test) (spelling w) ≡ some_call test w
 some_call_spelled test (Num n) = refl
-some_call_spelled test (Call name args) = or_false (test name args)
+some_call_spelled test (Call name args) = or-false (test name args)
 some_call_spelled test (Parens e) =
     any_append (calls test) (spelling e) (item.Close ∷ [])
-    ∙ (or_false (list_any (calls test) (spelling e)) ∙ some_call_spelled test e)
+    ∙ (or-false (list_any (calls test) (spelling e)) ∙ some_call_spelled test e)
 some_call_spelled test (Not e) = some_call_spelled test e
 some_call_spelled test (Neg e) = some_call_spelled test e
 some_call_spelled test (Bin op a b) =
@@ -54,10 +51,6 @@ pub record Told (text : List ℕ) (items : List Item) (deep : Bool) : Type 0 whe
   pub writes : Writes text w
   pub spells : spelling w ≡ items
   pub depth : is_too_deep 0 w ≡ deep
-
--- two values that are had are the same
-pub some_same : {X : Type 0} (x y : X) → Some x ≡ Some y → x ≡ y
-some_same x y h = cc
 
 -- a text whose items are given is short enough
 within_if : (t : Bool) (text : List ℕ) (items : List Item) → nat_lt most_bytes (length text) ≡ t
@@ -80,7 +73,7 @@ told text items deep h s =
       w = q.0;
       writes = record { short = p.0; well = q.1; spelled = p.1 ∙ ap (λ (is : List Item). Some is) (sym q.2) };
       spells = q.2;
-      depth = some_same (is_too_deep 0 q.0) deep (sym (scanned_spelling q.0 q.1) ∙ (ap scanned q.2 ∙ s));
+      depth = same_Some (is_too_deep 0 q.0) deep (sym (scanned_spelling q.0 q.1) ∙ (ap scanned q.2 ∙ s));
     }
 
 -- where a leaf stands too deep, TooDeep is the first fault
@@ -146,7 +139,7 @@ items_refused labels text NoMemory h = tt
 pub scan_refused : (labels : List LabelAt) (text : List ℕ) (items : List Item) (e : ConsError)
     → items_within text ≡ Some items → Fails e (scanned items) → Refuses labels text e
 scan_refused labels text items Syntax i h = λ w s.
-    let same : items ≡ spelling w = some_same items (spelling w) (sym i ∙ written_within text w s) in
+    let same : items ≡ spelling w = same_Some items (spelling w) (sym i ∙ written_within text w s) in
     let q : Some (is_too_deep 0 w) ≡ None = sym (scanned_spelling w s.well) ∙ (ap scanned (sym same) ∙ h) in cc
 scan_refused labels text items TooDeep i h = absurd h
 scan_refused labels text items UnknownFunction i h = absurd h

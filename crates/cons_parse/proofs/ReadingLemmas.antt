@@ -1,5 +1,6 @@
 -- A text spells one expression at most, and the computation finds it.
 use Rattle.std.proofs.Common.{◌≡◌, ℕ, Bool, List, Option, Some, None, refl, ap, sym, ◌∙◌, subst}
+use Rattle.std.proofs.lemmas.Option.{same_Some}
 use Rattle.std.specs.Option.{option_map, option_and_then}
 use Rattle.pat_types.specs.declared.pattern.LabelAt.{LabelAt}
 use Rattle.pat_types.specs.declared.expr.Expr.{Expr}
@@ -14,7 +15,7 @@ use Rattle.cons_parse.specs.Parsing.{items_within, Tells, Spells, Refuses}
 use Rattle.cons_parse.specs.Reading.{as_written, written_of, expression_in, fault_of_reading, fault_in, Blames}
 use Rattle.cons_parse.proofs.SpellingScans.{scanned_spelling}
 use Rattle.cons_parse.proofs.Spellings.{built_spelling}
-use Rattle.cons_parse.proofs.ParseAnswers.{told, written_within, some_same}
+use Rattle.cons_parse.proofs.ParseAnswers.{told, written_within}
 
 -- made of its parts again, an expression is the same
 valued_written : (w : Written) → valued as_written w ≡ w
@@ -37,9 +38,9 @@ is_found text w h =
     ∙ (ap (λ (d : Option Bool). option_map (λ deep. built as_written (spelling w)) d) (scanned_spelling w h.well)
     ∙ ap (λ (v : Written). Some v) (built_written w h.well))
 
--- so it is the only one
+-- a text writes one expression at most
 pub is_only : (text : List ℕ) (v w : Written) → Writes text v → Writes text w → v ≡ w
-is_only text v w h k = some_same v w (sym (is_found text v h) ∙ is_found text w k)
+is_only text v w h k = same_Some v w (sym (is_found text v h) ∙ is_found text w k)
 
 -- what is built of items in the grammar is spelled by the text
 items_found : (text : List ℕ) (w : Written) (is : List Item) (d : Option Bool) → items_within text ≡ Some is
@@ -50,7 +51,7 @@ items_found text w is (Some d) i s h =
     let t = told text is d i s in
     let e : t.w ≡ w =
     sym (built_written t.w t.writes.well)
-    ∙ (ap (built as_written) t.spells ∙ some_same (built as_written is) w h) in
+    ∙ (ap (built as_written) t.spells ∙ same_Some (built as_written is) w h) in
     subst (λ (v : Written). Writes text v) e t.writes
 
 -- what is built of the items of a text is spelled by it

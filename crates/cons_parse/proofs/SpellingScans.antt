@@ -1,5 +1,6 @@
 -- The scan of the items that spell an expression: it ends there, and tells how deep the leaves stand.
 use Rattle.std.proofs.Common.{◌≡◌, ◌<◌, ◌≤◌, Bool, true, false, ◌||◌, List, [], ◌∷◌, ◌++◌, length, Some, refl, ap, sym, ◌∙◌, arith, append_assoc}
+use Rattle.std.proofs.Math.Bool.{or_assoc}
 use Rattle.std.proofs.lemmas.List.{append-nil}
 use Rattle.pat_types.specs.declared.expr.Op.{Op}
 use Rattle.pat_types.specs.declared.expr.Op.TheVariants.{Or, And, Eq, Ne, Lt, Le, Gt, Ge, Add, Sub}
@@ -18,11 +19,6 @@ to_come ms d = record { open_marks = ms; after = false; deep = d }
 -- the place behind an operand
 abbrev pub come : List Mark → Bool → Spot
 come ms d = record { open_marks = ms; after = true; deep = d }
-
--- tests joined by `or` may be grouped either way
-pub or_assoc : (a b c : Bool) → ((a || b) || c) ≡ (a || (b || c))
-or_assoc true b c = refl
-or_assoc false b c = refl
 
 -- operators bind less tightly than signs
 pub op_level : (op : Op) → level_of_op op ≤ 4

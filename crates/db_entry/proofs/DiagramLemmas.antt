@@ -16,7 +16,7 @@ use Rattle.db_entry.specs.DiagramLines.{is_edge, shape_on}
 use Rattle.db_entry.specs.Reads.{Draws, kept_fault}
 use Rattle.db_entry.proofs.LineLemmas.{Classifies, first-passes, later_tests}
 
--- the faults of a line that is one, by what the lines before come to
+-- the fault of a row or an edge line, by what is kept of the lines before it
 by_parts : ℕ → ℕ → Bool → Bool → Option Shape → Bool → Shape → ℕ → Option FaultKind
 by_parts lines rows top bottom wants edge shape bytes = first_of (
     (edge && not (nat_lt 0 rows) && top || bottom || other_sides shape wants, EdgePlace)
@@ -24,7 +24,7 @@ by_parts lines rows top bottom wants edge shape bytes = first_of (
     ∷ (nat_lt largest_size bytes || nat_le largest_size lines, TooLarge)
     ∷ [])
 
--- the first fault of a word that is a line is one of these
+-- the first fault of a word that is a row or an edge line is that one
 by_parts-is : (words : List (List ℕ)) (word : List ℕ) → (is_edge_line word || is_row word) ≡ true
     → by_parts (length words) (length (rows_of words)) (has_top words) (has_bottom words) (wanted words)
     (is_edge_line word) (line_shape word) (length word)

@@ -1,7 +1,7 @@
 -- Of a colon line with too many fields the first 19 show the fault.
 use Rattle.std.proofs.Common.{◌≡◌, ℕ, ◌<◌, ◌≤◌, Bool, true, false, List, [], ◌∷◌, ◌++◌, length, map, take, drop, None, refl, sym, ap, subst, ◌∙◌, ⊎_elim, arith}
-use Rattle.std.specs.Prelude.{◌||◌, nat_lt}
-use Rattle.std.proofs.lemmas.Bool.{lt-ltb, ltb-false, cases_lt}
+use Rattle.std.specs.Prelude.{nat_lt, is_none}
+use Rattle.std.proofs.lemmas.Bool.{lt-ltb, ltb-false, cases_lt, or_parts, true≢false}
 use Rattle.std.proofs.Math.Seq.{take-append_seam}
 use Rattle.std.proofs.lemmas.List.{length-append, length-take, length-drop, take_all}
 use Rattle.db_lex.specs.Lines.{trimmed}
@@ -48,20 +48,31 @@ fifth_of_six false false false true e f k l m n o p none = absurd cc
 fifth_of_six false false false false true f k l m n o p none = absurd cc
 fifth_of_six false false false false false f k l m n o p none = refl
 
--- where one of two tests or the other does not pass, the first does not
-first_of_or : (a b : Bool) → (a || b) ≡ false → a ≡ false
-first_of_or true b none = absurd cc
-first_of_or false b none = refl
+-- of six tests of which none passes the third does not
+third_of_six : (a b c d e f : Bool) (k l m n o p : FaultKind)
+    → first_of ((a, k) ∷ (b, l) ∷ (c, m) ∷ (d, n) ∷ (e, o) ∷ (f, p) ∷ []) ≡ None → c ≡ false
+third_of_six true b c d e f k l m n o p none = absurd cc
+third_of_six false true c d e f k l m n o p none = absurd cc
+third_of_six false false true d e f k l m n o p none = absurd cc
+third_of_six false false false d e f k l m n o p none = refl
+
+-- fields without a fault begin with a mark
+pub mark_is_there : (helpers diagram fields : List (List ℕ)) → fields_fault helpers diagram fields ≡ None
+    → mark_of fields ≡ None → ⊥
+unfolding fields_fault
+mark_is_there helpers diagram fields none no_mark =
+    true≢false (sym (ap is_none no_mark)
+    ∙ third_of_six _ _ _ _ _ _ NoDiagram MoveCount BadMark BadClass BadItem UnknownHelper none)
 
 -- where the fields that are looked at have no fault they are all
 pub few_are_all : (helpers diagram all : List (List ℕ)) → fields_fault helpers diagram (take most_fields all) ≡ None
     → take most_fields all ≡ all
 unfolding fields_fault
 few_are_all helpers diagram all none =
-    let few = first_of_or (nat_lt 16 (length (further (take most_fields all)))) _
+    let few = or_parts (nat_lt 16 (length (further (take most_fields all)))) _
     (fifth_of_six _ _ _ _ _ _ NoDiagram MoveCount BadMark BadClass BadItem UnknownHelper none) in
     let further_few : length (drop 2 (take most_fields all)) ≤ 16 =
-    ltb-false 16 (length (drop 2 (take most_fields all))) few in
+    ltb-false 16 (length (drop 2 (take most_fields all))) few.0 in
     take_all most_fields all
     (omega (arith, further_few, length-drop 2 (take most_fields all), length-take most_fields all))
 

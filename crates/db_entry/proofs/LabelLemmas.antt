@@ -1,5 +1,6 @@
 -- A constraint diagram with one line more.
-use Rattle.std.proofs.Common.{◌≡◌, ◌≢◌, ℕ, suc, ◌+◌, ◌<◌, ◌≤◌, Bool, true, false, not, cond, List, [], ◌∷◌, ◌++◌, length, get_or, take, Some, refl, sym, ap, ◌∙◌, append_assoc, add-zero, arith}
+use Rattle.std.proofs.Common.{◌≡◌, ◌≢◌, ℕ, suc, ◌+◌, ◌<◌, ◌≤◌, Bool, true, false, not, List, [], ◌∷◌, ◌++◌, length, get_or, take, Some, refl, sym, ap, ◌∙◌, append_assoc, add-zero, arith}
+use Rattle.db_rules.proofs.ConstraintDiagrams.{length-rows_of-cons}
 use Rattle.std.specs.Prelude.{◌==◌, ◌&&◌, ◌||◌}
 use Rattle.std.proofs.lemmas.Bool.{and_right}
 use Rattle.std.proofs.lemmas.List.{length-append, take_more, append-nil}
@@ -47,15 +48,6 @@ under-cons : (row : ℕ) (main : List ℕ) (mains : List (List ℕ)) (word : Lis
     (row + drawn_line (is_row main)) mains words
 unfolding labels_under
 under-cons row main mains word words = refl
-
--- the first line of a diagram is one more of its rows where it is a row
-length-rows_of-cons : (main : List ℕ) (mains : List (List ℕ))
-    → length (rows_of (main ∷ mains)) ≡ drawn_line (is_row main) + length (rows_of mains)
-length-rows_of-cons main mains = by_row (is_row main)
-  where
-    by_row : (b : Bool) → length (cond b (main ∷ rows_of mains) (rows_of mains)) ≡ drawn_line b + length (rows_of mains)
-    by_row true = omega arith
-    by_row false = omega arith
 
 -- the labels of the last line stand behind those of the lines above it
 labels_under-push : (row : ℕ) (mains words : List (List ℕ)) (word : List ℕ) → length words < length mains

@@ -6,7 +6,7 @@ use Rattle.db_entry.specs.declared.marks.Marks.{Marks}
 use Rattle.db_entry.specs.Reads.{IsMarked}
 use Rattle.db_entry.proofs.LabelLemmas.{under-nil}
 
--- short words and one more
+-- where all words are short, and so is one more, all are short with it
 pub shorts-push : (words : List (List ℕ)) (word : List ℕ) → ((k : ℕ) → length (get_or words k []) ≤ largest_size)
     → length word ≤ largest_size → (k : ℕ) → length (get_or (words ++ word ∷ []) k []) ≤ largest_size
 shorts-push [] word all short zero = short
@@ -14,7 +14,7 @@ shorts-push [] word all short (suc k) = omega arith
 shorts-push (w ∷ words) word all short zero = all 0
 shorts-push (w ∷ words) word all short (suc k) = shorts-push words word (λ k. all (suc k)) short k
 
--- the same of references, where a push may fail
+-- where a short word was put at the end, or that failed, all words are still short
 pub shorts-pushed : (b : Bool) (old new : List (Bor (List ℕ))) (word : Bor (List ℕ))
     → new ≡ cond b (old ++ word ∷ []) old → ((k : ℕ) → length (get_or (map (λ w. w.now) old) k []) ≤ largest_size)
     → length word.now ≤ largest_size

@@ -75,7 +75,7 @@ settled_fault helpers Semicolon Expression front done now line byte = refl
 settled_fault helpers Action Expression front done now line byte = refl
 settled_fault helpers Other Expression front done now line byte = refl
 
--- nor where the line goes, where it has no fault
+-- an expression that is left behind does not change where a line without a fault goes
 settled_after : (helpers : List (List ℕ)) (kind : LineKind) (stage : Stage) (front : List KeptLine) (done : List Block)
     (now : Option Block) (line : KeptLine) (byte : ℕ)
     → fault_by helpers (parts stage front done now) line kind (table stage kind byte) ≡ None

@@ -326,7 +326,7 @@ pattern_ok r n s k h stage begun drafts unjudged entries = record {
   draft = (drafts, (refl, refl, unjudged), λ e. absurd cc);
 }
 
--- what is closed behind a line of this kind: nothing, a constraint diagram or an expression without a fault
+-- where what was gathered has no fault, the line that closes it has none by it
 pub closed_fault : (number : ℕ) (kind : Option LineKind) (s : SoFar) → closes s.stage kind ≡ true
     → gathered_fault number s.stage s.now ≡ None → closing_fault number kind s ≡ None
 closed_fault number kind s leaves none = rw leaves none
@@ -336,7 +336,7 @@ pub closed_blames : (number : ℕ) (kind : Option LineKind) (s : SoFar) (e : DbE
     → BlamesAt e (gathered_fault number s.stage s.now) → BlamesAt e (closing_fault number kind s)
 closed_blames number kind s e leaves blames = rw leaves blames
 
--- a reader of lines is one of these lines behind which nothing is left
+-- where a line leaves no expression behind, the reader has read the same as before
 pub Shows-settled : (r : Reader) (kind : Option LineKind) (s : SoFar) → settled_stage s.stage kind ≡ s.stage → Shows r s
     → Shows r (settled kind s)
 Shows-settled r kind s same shows =

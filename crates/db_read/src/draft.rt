@@ -6,7 +6,7 @@ ghost use Rattle.std.specs.Prelude.{◌≡◌, ◌≤◌, ◌<◌, ℕ, [], leng
 mod lines;
 
 use db_entry::{ColonLine, Diagram, Marks};
-pub use lines::begin;
+pub use lines::{begin, nameless};
 use pat_types::{Bytes, Expr};
 
 /// What is kept of the expression lines of an entry.

@@ -10,8 +10,13 @@ use std::fmt::{self, Display, Formatter, Write};
 pub enum DbError {
     /// No memory was found.
     NoMemory,
-    /// The first fault: the number of its line, counted from 1, and its kind from 1 to 18.
-    Fault { line: u64, kind: u8 },
+    /// The first fault of the text.
+    Fault {
+        /// The number of its line, counted from 1.
+        line: u64,
+        /// Its kind, from 1 to 18.
+        kind: u8,
+    },
 }
 
 impl Display for DbError {

@@ -1,19 +1,23 @@
 //! Reading a text, line by line.
 
-ghost use Rattle.std.specs.Prelude.{◌≡◌, ◌↔◌, ◌++◌, Option, IsTrue, ◌≤◌, ◌<◌, ◌^◌, ℕ, Bool, true, false, List, [], ◌∷◌, length, map, OnOk, IfOk, IfErr, Some, None, fold, slice_index};
+ghost use Rattle.std.specs.Prelude.{◌≡◌, ◌↔◌, ◌++◌, Option, IsTrue, ◌≤◌, ◌<◌, ◌^◌, ℕ, Bool, true, false, List, [], ◌∷◌};
+ghost use Rattle.std.specs.Prelude.{length, map, OnOk, IfOk, IfErr, Some, None, fold, slice_index};
 ghost use Rattle.db_lex.specs.declared.line.LineKind.{LineKind};
 ghost use Rattle.db_lex.specs.Lines.{KeptLine, kind_of, word_of};
 ghost use Rattle.db_rules.specs.declared.stage.TableCell.{TableCell};
 ghost use Rattle.db_rules.specs.declared.stage.Stage.{Stage};
-ghost use Rattle.db_rules.specs.Blocks.{SoFar, Block, at_start, placed, blocks_of, after_line, cell_for, table as next_by_table};
-ghost use Rattle.db_rules.specs.Faults.{pattern_fault as first_pattern_fault, own_fault, table_fault, closes as closes_stage, gathered_fault as fault_gathered, closing_fault as fault_closed, found, found_at_end, first_fault, entries};
+ghost use Rattle.db_rules.specs.Blocks.{SoFar, Block, at_start, placed, blocks_of, after_line, cell_for};
+ghost use Rattle.db_rules.specs.Blocks.{table as next_by_table};
+ghost use Rattle.db_rules.specs.Faults.{pattern_fault as first_pattern_fault, own_fault, table_fault};
+ghost use Rattle.db_rules.specs.Faults.{closes as closes_stage, gathered_fault as fault_gathered};
+ghost use Rattle.db_rules.specs.Faults.{closing_fault as fault_closed, found, found_at_end, first_fault, entries};
 ghost use Rattle.std.specs.Option.{option_to_list};
 ghost use Rattle.db_rules.specs.Entries.{entry_of, entry_of_block};
 ghost use Rattle.db_read.specs.Drafts.{IsComplete};
 ghost use Rattle.db_read.specs.Reading.{BlamesAt, ReadsNow, Shows, IsReading, IsTaking, settled};
 ghost use Rattle.db_rules.specs.Faults.{Blames};
 
-use crate::draft::{Draft, begin};
+use crate::draft::{Draft, begin, nameless};
 use crate::error::DbError;
 use crate::names::pattern_fault;
 use crate::stages::{at, closes, end_kind, fault_at, finish, labels_fault, table};
@@ -32,7 +36,7 @@ pub struct Reader<'a> {
     pub done: Vec<Pattern>,
     /// The number of entries that were begun.
     pub begun: usize,
-    /// The entry that may go on; of no meaning at the start.
+    /// The entry that may go on. Before the first Pattern line it is `nameless`, and no entry.
     pub draft: Draft<'a>,
 }
 
@@ -334,19 +338,16 @@ impl<'a> Reader<'a> {
     }
 }
 
-fn start<'a>(alloc: Global, out: Vec<Pattern>) -> Result<Reader<'a>, DbError>
+/// The reader before the first line of a text.
+fn start<'a>(alloc: Global, out: Vec<Pattern>) -> Reader<'a>
     requires { out.items ≡ [] }
-    ensures ok { IfOk result (λ r. Shows r at_start) }
-    ensures err { IfErr result (λ e. e ≡ DbError.NoMemory) }
+    ensures { Shows result at_start }
 {
-    match begin(alloc, &[]) {
-        Ok(draft) => Ok(Reader {
-            stage: Stage::Start,
-            done: out,
-            begun: 0,
-            draft,
-        }),
-        Err(_) => Err(DbError::NoMemory),
+    Reader {
+        stage: Stage::Start,
+        done: out,
+        begun: 0,
+        draft: nameless(alloc),
     }
 }
 
@@ -366,7 +367,7 @@ pub fn read(
     // A fault that is told is the first one.
     ensures err { IfErr result (λ e. BlamesAt e (first_fault helpers.now text.now)) }
 {
-    let mut reader = start(alloc, out)?;
+    let mut reader = start(alloc, out);
     let mut lexer = lines(text);
     while let Some(told) = lexer.next() {
         match told {

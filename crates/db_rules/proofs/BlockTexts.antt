@@ -6,7 +6,7 @@ use Rattle.std.specs.Option.{option_to_list}
 use Rattle.std.proofs.lemmas.Bool.{leb-false}
 use Rattle.std.proofs.lemmas.List.{append-nil, length-append, map-append}
 use Rattle.std.proofs.lemmas.List.Concat.{flat_map-append}
-use Rattle.std.proofs.lemmas.List.Elements.{All-nil, All-cons, All-append}
+use Rattle.std.proofs.lemmas.List.Elements.{All-nil, All-append, All-push}
 use Rattle.db_lex.specs.declared.line.LineKind.{LineKind}
 use Rattle.db_lex.specs.declared.line.LineKind.TheVariants.{Pattern, Colon, Semicolon, Action, Other}
 use Rattle.db_lex.specs.Lines.{KeptLine, kind_of, word_of, kept_lines}
@@ -36,10 +36,6 @@ parts stage front done now = record { stage = stage; front = front; done = done;
 -- all lines so far
 abbrev all_in : SoFar → List KeptLine
 all_in s = s.front ++ flat_map lines_in (blocks_of s)
-
--- a list with one more element of which something holds
-all-push : {X : Type 0} (P : X → Type 0) (xs : List X) (x : X) → All P xs → P x → All P (xs ++ x ∷ [])
-all-push P xs x all one = All-append P xs (x ∷ []) all (All-cons P x [] one (All-nil P))
 
 -- the block that goes on stands last
 lines_of_last : (front : List KeptLine) (done : List Block) (b : Block)
@@ -76,7 +72,7 @@ diagram_line_ends b line h =
     ∙ ap (λ t. b.head ∷ (t ++ b.actions)) (past (b.diagram ++ b.colon ++ b.constraint) b.expression line h.2)
     ∙ ap (λ t. b.head ∷ t) (past (b.diagram ++ b.colon ++ b.constraint ++ b.expression) b.actions line h.3)
 
--- so does a colon line
+-- a colon line stands at the end of a block that has nothing behind the main diagram
 colon_line_ends : (b : Block) (line : KeptLine) → AreEmptyBehindDiagram b
     → lines_in (record b { colon = b.colon ++ line ∷ [] }) ≡ lines_in b ++ line ∷ []
 colon_line_ends b line h =
@@ -85,7 +81,7 @@ colon_line_ends b line h =
     ∙ ap (λ t. b.head ∷ (t ++ b.actions)) (past (b.diagram ++ b.colon ++ b.constraint) b.expression line h.2)
     ∙ ap (λ t. b.head ∷ t) (past (b.diagram ++ b.colon ++ b.constraint ++ b.expression) b.actions line h.3)
 
--- a line of the constraint diagram
+-- a line of the constraint diagram stands at the end of a block that has nothing behind it
 constraint_line_ends : (b : Block) (line : KeptLine) → AreEmptyBehindLabels b
     → lines_in (record b { constraint = b.constraint ++ line ∷ [] }) ≡ lines_in b ++ line ∷ []
 constraint_line_ends b line h =
@@ -93,20 +89,20 @@ constraint_line_ends b line h =
     ∙ ap (λ t. b.head ∷ (t ++ b.actions)) (past (b.diagram ++ b.colon ++ b.constraint) b.expression line h.0)
     ∙ ap (λ t. b.head ∷ t) (past (b.diagram ++ b.colon ++ b.constraint ++ b.expression) b.actions line h.1)
 
--- a line of an expression
+-- an expression line stands at the end of a block without action lines
 expression_line_ends : (b : Block) (line : KeptLine) → b.actions ≡ []
     → lines_in (record b { expression = b.expression ++ line ∷ [] }) ≡ lines_in b ++ line ∷ []
 expression_line_ends b line h =
     ap (λ t. b.head ∷ (t ++ b.actions)) (at_end (b.diagram ++ b.colon ++ b.constraint) b.expression line)
     ∙ ap (λ t. b.head ∷ t) (past (b.diagram ++ b.colon ++ b.constraint ++ b.expression) b.actions line h)
 
--- and a line of actions
+-- an action line stands at the end of its block
 action_line_ends : (b : Block) (line : KeptLine)
     → lines_in (record b { actions = b.actions ++ line ∷ [] }) ≡ lines_in b ++ line ∷ []
 action_line_ends b line =
     ap (λ t. b.head ∷ t) (at_end (b.diagram ++ b.colon ++ b.constraint ++ b.expression) b.actions line)
 
--- what is no fault at a line is none
+-- where no fault is told at a line the line has none
 no_kind : (number : ℕ) (kind : Option FaultKind) → at_line number kind ≡ None → kind ≡ None
 no_kind number None none = refl
 no_kind number (Some kind) none = absurd cc
@@ -159,7 +155,7 @@ gathered_at_pattern number Labels front done (Some b) none = none
 gathered_at_pattern number Expression front done (Some b) none = none
 gathered_at_pattern number Actions front done (Some b) none = refl
 
--- and so for what the end closes
+-- what the end closes has no fault where it is found to have none
 gathered_at_end : (number : ℕ) (stage : Stage) (front : List KeptLine) (done : List Block) (now : Option Block)
     → closing_fault number None (parts stage front done now) ≡ None → gathered_fault number stage now ≡ None
 gathered_at_end number stage front done None none = refl
@@ -169,7 +165,7 @@ gathered_at_end number Labels front done (Some b) none = none
 gathered_at_end number Expression front done (Some b) none = none
 gathered_at_end number Actions front done (Some b) none = refl
 
--- a text does not end in a main diagram
+-- a text whose end is not refused does not end in a main diagram
 not_in_diagram : (number : ℕ) (stage : Stage) → at_line number (end_refused stage) ≡ None → stage ≢ Diagram
 not_in_diagram number Start none = λ same. absurd cc
 not_in_diagram number Diagram none = absurd cc
@@ -186,7 +182,7 @@ record IsFine (helpers : List (List ℕ)) (s : SoFar) (line : KeptLine) : Type 0
   cell : cell_for s.stage line ≡ Next next
   own : own_fault helpers s line (kind_of line.bytes) ≡ None
 
--- a line at which nothing is found is fine in each of these ways
+-- a line at which no fault is found is fine
 nothing_found : (helpers : List (List ℕ)) (s : SoFar) (line : KeptLine) → found helpers s line ≡ None
     → IsFine helpers s line
 unfolding found
@@ -286,7 +282,7 @@ module _ (helpers : List (List ℕ)) where
   all_whole number stage done None all fits none left =
       All-append (IsBlock helpers) done [] all (All-nil (IsBlock helpers))
   all_whole number stage done (Some b) all fits none left =
-      all-push (IsBlock helpers) done b all (whole_block number stage b fits.0 fits.1 none left)
+      All-push (IsBlock helpers) done b all (whole_block number stage b fits.0 fits.1 none left)
 
   -- a block that goes on with one line more
   grown : (stage next : Stage) (front : List KeptLine) (done : List Block) (b d : Block) (line : KeptLine)
@@ -314,7 +310,7 @@ module _ (helpers : List (List ℕ)) where
       record {
         lines = rw none (simp append-nil);
         stands = record {
-          front = all-push IsInFront front line stands.front fine;
+          front = All-push IsInFront front line stands.front fine;
           done = stands.done;
           few =
               stands.few;
@@ -375,7 +371,7 @@ module _ (helpers : List (List ℕ)) where
       (record {
         head = begun.head;
         named = begun.named;
-        diagram = all-push (IsLineOf Other) b.diagram line begun.diagram other;
+        diagram = All-push (IsLineOf Other) b.diagram line begun.diagram other;
         drawn = drawn;
         constraint = begun.constraint;
         labelled = labelled;
@@ -438,7 +434,7 @@ module _ (helpers : List (List ℕ)) where
         named = begun.named;
         diagram = begun.diagram;
         drawn = begun.drawn;
-        constraint = all-push (IsLineOf Other) b.constraint line begun.constraint other;
+        constraint = All-push (IsLineOf Other) b.constraint line begun.constraint other;
         labelled = labelled;
         expression = begun.expression;
         actions = begun.actions;
@@ -466,7 +462,7 @@ module _ (helpers : List (List ℕ)) where
         drawn = begun.drawn;
         constraint = begun.constraint;
         labelled = begun.labelled;
-        expression = all-push (IsLineOf Semicolon) b.expression line begun.expression semicolon;
+        expression = All-push (IsLineOf Semicolon) b.expression line begun.expression semicolon;
         actions = begun.actions;
       })
       (colon, closed, empty)
@@ -493,7 +489,7 @@ module _ (helpers : List (List ℕ)) where
         constraint = begun.constraint;
         labelled = begun.labelled;
         expression = begun.expression;
-        actions = all-push (IsLineOf Action) b.actions line begun.actions action;
+        actions = All-push (IsLineOf Action) b.actions line begun.actions action;
       })
       (block.colon, block.closed, block.judged)
 

@@ -4,7 +4,7 @@ use Rattle.std.specs.Prelude.{◌&&◌, ◌||◌, ◌==◌, nat_lt, slice_get, s
 use Rattle.std.specs.List.{list_all}
 use Rattle.std.proofs.Math.ListN.{get_or-append}
 use Rattle.std.proofs.Math.Seq.{get_or-append_seam}
-use Rattle.std.proofs.lemmas.Bool.{and_parts, lt-ltb, eqb-true, cases_lt}
+use Rattle.std.proofs.lemmas.Bool.{and_parts, lt-ltb, eqb-true, cases_lt, not-false}
 use Rattle.std.proofs.lemmas.List.{length-append, length-take, get_or-take}
 use Rattle.std.proofs.lemmas.List.Folds.{list_all-append}
 use Rattle.std.proofs.lemmas.Option.{slice_get-get_or, slice_get_past}
@@ -16,8 +16,8 @@ use Rattle.db_rules.specs.Kinds.{first_of}
 use Rattle.db_rules.specs.Diagram.{is_letter, is_dash, plus, bar, ends, without_left, inner, is_edge_line, is_row, shape_of, rows_of, wanted, width_of}
 use Rattle.db_rules.specs.Labels.{is_label, repeats, labels_from, labels_of_line, labels_under, labels_of, repeats_main, constraint_fault}
 use Rattle.db_rules.specs.Accepted.{IsDrawn, IsLabelled, no_line, one_line_more}
-use Rattle.db_rules.proofs.OneMoreLine.{shape_of-width}
-use Rattle.db_rules.proofs.MainDiagrams.{drawn_even, drawn_line_kinds, is_true}
+use Rattle.db_rules.proofs.OneMoreLine.{shape_of-width, row_letters}
+use Rattle.db_rules.proofs.MainDiagrams.{drawn_even, drawn_line_kinds}
 
 -- where all elements pass, each does
 each_passes : (P : ℕ → Bool) (bytes : List ℕ) (k : ℕ) → k < length bytes → list_all P bytes ≡ true
@@ -68,15 +68,10 @@ pub record IsMainLine (cols : ℕ) (main : List ℕ) : Type 0 where
   pub of_row : (k : ℕ) → k < length (without_left bar main) → is_letter (get_or (without_left bar main) k 0) ≡ true
       → is_row main ≡ true
 
--- the letters of a row are its inner part
-letters_of_bar : (main : List ℕ) → is_row main ≡ true → list_all is_letter (inner bar main) ≡ true
-unfolding is_row
-letters_of_bar main row = (and_parts (nat_lt 0 (length (inner bar main))) _ row).1
-
 -- a row is a main line of as many columns as it has letters
 main_row : (main : List ℕ) (cols : ℕ) → is_row main ≡ true → (shape_of bar main).width ≡ cols → IsMainLine cols main
 main_row main cols row wide = record {
-  in_columns = λ k lt letter. elim (byte_of_line is_letter bar main k (letters_of_bar main row) lt) [
+  in_columns = λ k lt letter. elim (byte_of_line is_letter bar main k (row_letters main row) lt) [
     | inl inside ↦ let width : length (inner bar main) ≡ cols =
         sym (shape_of-width bar main) ∙ wide in omega (arith, width, inside.0)
     | inr edge ↦ let is_bar : is_letter 124 ≡ true = subst (λ b. is_letter b ≡ true) edge letter in absurd (cc is_bar)
@@ -272,7 +267,7 @@ unfolding constraint_fault
 fine_label_line diagram words word none =
     let both =
     and_parts (repeats_main (slice_get diagram (length words)) word)
-    (are_apart (labels_of diagram (words ++ word ∷ []))) (is_true _ (none_of_one _ ConstraintShape none)) in
+    (are_apart (labels_of diagram (words ++ word ∷ []))) (not-false _ (none_of_one _ ConstraintShape none)) in
     elim (cases_lt (length words) (length diagram)) [
       | inl within ↦ record {
         within = within;

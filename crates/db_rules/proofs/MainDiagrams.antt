@@ -2,7 +2,7 @@
 use Rattle.std.proofs.Common.{◌≡◌, ℕ, zero, suc, ◌+◌, ◌-◌, ◌*◌, ◌<◌, ◌≤◌, Bool, true, false, not, cond, List, [], ◌∷◌, ◌++◌, length, take, drop, get_or, Option, Some, None, refl, sym, ap, subst, ◌∙◌, arith}
 use Rattle.std.specs.Prelude.{◌&&◌, ◌||◌, ◌==◌, nat_lt, nat_le, slice_index, is_some, IfSome}
 use Rattle.std.specs.List.{list_all}
-use Rattle.std.proofs.lemmas.Bool.{and_parts, or_parts, ltb-false, leb-false, ltb-true, eqb-true, cases_lt}
+use Rattle.std.proofs.lemmas.Bool.{and_parts, or_parts, ltb-false, leb-false, ltb-true, eqb-true, cases_lt, not-false, false_from_ne_true}
 use Rattle.std.proofs.Common.{inl, inr}
 use Rattle.std.proofs.Math.ListN.{get_or-append}
 use Rattle.std.proofs.Math.Seq.{get_or-append_seam}
@@ -50,17 +50,12 @@ begins_one b false false e f letter dash =
     let minus_is : is_letter 45 ≡ true =
     subst (λ x. is_letter x ≡ true) (eqb-true b 45 (dash refl)) (letter refl) in absurd cc
 
--- a test that cannot pass fails
-pub fails : (b : Bool) → (b ≡ true → ⊥) → b ≡ false
-fails true never = absurd (never refl)
-fails false never = refl
-
 -- a row is no edge line
 pub row_is_no_edge_line : (word : List ℕ) → is_row word ≡ true → is_edge_line word ≡ false
 unfolding is_row is_edge_line
 row_is_no_edge_line [] row = absurd cc
 row_is_no_edge_line (b ∷ bs) row =
-    fails _ (λ edge. begins_one b _ _ refl refl (λ apart. first_passes is_letter bar b bs row apart)
+    false_from_ne_true _ (λ edge. begins_one b _ _ refl refl (λ apart. first_passes is_letter bar b bs row apart)
     (λ apart. first_passes is_dash plus b bs edge apart))
 
 -- the inner part of a rest and the byte behind it are within the rest, where the byte is not 0
@@ -126,11 +121,6 @@ pub record IsFineLine (words : List (List ℕ)) (word : List ℕ) : Type 0 where
   pub short : length word ≤ largest_size
   pub few : length words < largest_size
 
--- a test that is not the negation's is true
-pub is_true : (b : Bool) → not b ≡ false → b ≡ true
-is_true true e = refl
-is_true false e = absurd cc
-
 -- a further line without a fault passes each test
 pub fine_line : (words : List (List ℕ)) (word : List ℕ) → diagram_fault words word ≡ None → IsFineLine words word
 unfolding diagram_fault is_misplaced
@@ -143,7 +133,7 @@ fine_line words word none =
     or_parts (is_edge_line word && not (has_row words) && has_top words) (has_bottom words) placed.0 in
     let large = or_parts (nat_lt largest_size (length word)) (nat_le largest_size (length words)) tests.fourth in
     record {
-      line = is_true (is_edge_line word || is_row word) tests.first;
+      line = not-false (is_edge_line word || is_row word) tests.first;
       no_bottom = top_or_bottom.1;
       even = tests.third;
       short = ltb-false _ _ large.0;
@@ -224,13 +214,13 @@ same_width : (kept : Bool) (s : Shape) (o : Option Shape) → is_some o ≡ true
     → width_of (cond kept o (Some s)) ≡ width_of o
 same_width true s o there even = refl
 same_width false s None there even = absurd cc
-same_width false s (Some w) there even = eqb-true _ _ (is_true (s.width == w.width) even)
+same_width false s (Some w) there even = eqb-true _ _ (not-false (s.width == w.width) even)
 
 -- the shape that is kept has the width of the further line
 width_now : (kept : Bool) (s : Shape) (o : Option Shape) → (kept ≡ true → is_some o ≡ true) → other_width s o ≡ false
     → s.width ≡ width_of (cond kept o (Some s))
 width_now true s None there even = absurd (cc (there refl))
-width_now true s (Some w) there even = eqb-true _ _ (is_true (s.width == w.width) even)
+width_now true s (Some w) there even = eqb-true _ _ (not-false (s.width == w.width) even)
 width_now false s o there even = refl
 
 -- whether the shape so far is kept behind a further line

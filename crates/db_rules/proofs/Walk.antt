@@ -21,7 +21,7 @@ or_else-assoc : (a b c : Option Fault) → or_else (or_else a b) c ≡ or_else a
 or_else-assoc None b c = refl
 or_else-assoc (Some a) b c = refl
 
--- no fault behind a fault changes nothing
+-- where there is no second fault the first decides
 or_else-none : (a : Option Fault) → or_else a None ≡ a
 or_else-none None = refl
 or_else-none (Some a) = refl
@@ -87,7 +87,7 @@ Reaches-fault helpers text s line left f r some =
     let one : walk helpers (end_number text) s (line ∷ left) ≡ Some f = rw some refl in
     sym r.fault ∙ one
 
--- the end decides
+-- where no line is left, the first fault of the text is the one at its end
 pub Reaches-end : (helpers : List (List ℕ)) (text : List ℕ) (s : SoFar) → Reaches helpers text s []
     → first_fault helpers text ≡ found_at_end (end_number text) s
 unfolding walk

@@ -45,7 +45,7 @@ drawn_below _ accepted.no_line = tt
 drawn_below _ (accepted.one_line_more words word drawn none) =
     below-push diagram_fault [] words word (drawn_below words drawn) none
 
--- and so has each line of a constraint diagram
+-- each line of a constraint diagram has no fault below the lines above it
 labelled_below : (diagram words : List (List ℕ)) → IsLabelled diagram words
     → AreBelow (constraint_fault diagram) [] words
 labelled_below diagram _ accepted.no_line = tt
@@ -66,12 +66,12 @@ record Leads (helpers : List (List ℕ)) (s : SoFar) (lines : List KeptLine) (t 
   clean : AreClean helpers s lines
   there : fold after_line s lines ≡ t
 
--- no line leads nowhere
+-- no lines at all leave what there is as it is
 leads-none : (helpers : List (List ℕ)) (s : SoFar) → Leads helpers s [] s
 unfolding AreClean
 leads-none helpers s = record { clean = tt; there = refl }
 
--- one line that leads on, and more behind it
+-- a line without a fault, and lines that lead on behind it, lead on together
 leads-more : (helpers : List (List ℕ)) (s t u : SoFar) (line : KeptLine) (lines : List KeptLine)
     → (found helpers s line ≡ None) × (after_line s line ≡ t) → Leads helpers t lines u
     → Leads helpers s (line ∷ lines) u
@@ -281,7 +281,7 @@ module _ (helpers : List (List ℕ)) (front : List KeptLine) (done : List Block)
       leads-more helpers start then_one end line lines step
       (over_more_actions b (line ∷ []) lines (All-tail (IsLineOf Action) line lines all))
 
--- a fault that there is not is not there on any condition
+-- where there is no fault none is found, whatever the condition
 on_condition : (c : Bool) (fault : Option Fault) → fault ≡ None → cond c fault None ≡ None
 on_condition true fault none = none
 on_condition false fault none = refl

@@ -22,7 +22,7 @@ use Rattle.go_rules.proofs.CaptureLaws.{replay_size}
 pub shown : (a : Inside) → IsKept a → reached a.board ≡ replay a.board.base.size a.moves.items
 shown a kept = ap (λ b. replay_from b a.board.moves) kept.base ∙ ap (replay a.board.base.size) kept.moves
 
--- so it is the position of the game
+-- what the board shows is the position of the game that is seen
 pub shown_of : (a : Inside) (game : Game) → IsKept a → game_of a ≡ game → reached a.board ≡ position_of game
 shown_of a game kept view = shown a kept ∙ ap position_of view
 

@@ -23,7 +23,7 @@ illegal_is r x is e = (λ same. is ∙ ap Err (inside x e same), λ other. same_
         → ◌≡◌ {A = Told} (Err (illegal x)) (Err (illegal e))
     same_error x e same = cc
 
--- and so where it is told in these words
+-- a move whose failure tells the refusal has an outcome that tells it
 pub told_is : (r : Result BoardState Illegal) (t : HistoryError) (e : Illegal) → ((t ≡ illegal e) ↔ (r ≡ Err e))
     → (◌≡◌ {A = Told} (Err t) (Err (illegal e))) ↔ (r ≡ Err e)
 told_is r t e both = (λ same. both.0 (inside t (illegal e) same), λ other. ap Err (both.1 other))

@@ -10,7 +10,9 @@ use go_base::Colour;
 /// The stones that each colour took.
 #[derive(Clone, Copy)]
 pub struct Captures {
+    /// How many white stones Black took.
     pub by_black: u32,
+    /// How many black stones White took.
     pub by_white: u32,
 }
 

@@ -96,12 +96,15 @@ module _ (old : Command) (m : ArgMatches) (p : IsParsedFrom old m) (is : app_of 
         there = ap (λ (a : Arg). a.id.now) n.at ∙ n.id_is
 
     module _ (x : MatchedArg) (found : matched_of (found_of m) id ≡ Some x) where
+      -- what was found for the option is an entry of its name
       entry : (e : Entry) × (e.1 ≡ x) × (bytes_eq e.0.now id ≡ true) × EntryPasses p.built e
       entry = entry_by_id (EntryPasses p.built) (found_of m).entries.items id x parsed.values found
 
+      -- the entry has the name of the option
       key : entry.0.0.now ≡ id
       key = (bytes_eq-Decides entry.0.0.now id).0 entry.2
 
+      -- the entry is not that of a group, since the command has none
       no_group : entry.0.1.is_group ≡ true → ⊥
       no_group group = elim (entry.3.3 group) [
         | inl empty ↦ n.named (sym key ∙ empty)
@@ -110,6 +113,7 @@ module _ (old : Command) (m : ArgMatches) (p : IsParsedFrom old m) (is : app_of 
             absurd (omega arith)
       ]
 
+      -- an option that is given has a value, since it takes one
       has_value : 0 < length x.vals.items
       has_value = elim entry.3.1 [
         | inl group ↦ absurd (no_group group.0)
@@ -135,6 +139,7 @@ module _ (old : Command) (m : ArgMatches) (p : IsParsedFrom old m) (is : app_of 
             ]
       ]
 
+      -- a value that the option's parser takes is a whole number in the option's range
       passes : (v : Bor Text) → PassesArg p.built entry.0.0.now v.now → IsSignedIn (pos low) (pos high) v.now
       passes v any =
           let rules = same_rules any.0 any.1 any.2 any.3
@@ -143,6 +148,7 @@ module _ (old : Command) (m : ArgMatches) (p : IsParsedFrom old m) (is : app_of 
           ap parser_of_value (rules.parser (whole_from low high) n.parser) in
           subst (λ (w : ValueParser). Accepts any.1.ignore_case w v.now) q any.4.1
 
+      -- the value is read in the way that the option's parser reads one
       reading : x.reading ≡ WithoutMinus
       reading = elim entry.3.4 [
         | inl group ↦ absurd (no_group group)
@@ -154,6 +160,7 @@ module _ (old : Command) (m : ArgMatches) (p : IsParsedFrom old m) (is : app_of 
             ap (λ (y : MatchedArg). y.reading) (sym entry.1) ∙ (sym any.4.1 ∙ ap reading_of q)
       ]
 
+      -- each value of the entry is one that the option's parser takes
       values : All (λ v. PassesArg p.built entry.0.0.now v.now) x.vals.items
       values = elim entry.3.0 [
         | inl group ↦ absurd (no_group group)

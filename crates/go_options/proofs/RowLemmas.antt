@@ -63,7 +63,7 @@ pub words_read : (f : Found) (id : Text) (o : Option (List Text)) → o ≡ opti
     → unwrap_or o [] ≡ words_in id (rows_of f)
 words_read f id o is = ap (λ (w : Option (List Text)). unwrap_or w []) (is ∙ raw_values-rows f id)
 
--- and so does the number of an option that may have none
+-- a number that an option may have lies in its range where it is there
 pub only_from : (f : Found) (id : Text) (low high : ℕ) (o : Option ℕ) → HasOnlyNumber f id low high
     → o ≡ number_in id (rows_of f)
     → MatchOption o (Unit {0}) (IsFrom low high)

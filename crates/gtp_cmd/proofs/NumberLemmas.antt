@@ -1,5 +1,6 @@
 -- What a word of digits writes when it is read from its front.
-use Rattle.std.proofs.Common.{◌≡◌, ℕ, ◌+◌, ◌-◌, ◌*◌, ◌<◌, ◌≤◌, Bool, true, false, cond, ◌&&◌, List, [], ◌∷◌, ◌++◌}
+use Rattle.std.proofs.Common.{◌≡◌, ℕ, ◌+◌, ◌-◌, ◌*◌, ◌<◌, ◌≤◌, true, false, cond, ◌&&◌, List, [], ◌∷◌, ◌++◌}
+use Rattle.std.proofs.Math.Bool.{and-false}
 use Rattle.std.proofs.Common.{length, take, drop, get_or, min, unwrap_or, leb, Option, Some, None, IfSome, refl, sym}
 use Rattle.std.proofs.Common.{ap, subst, ◌∙◌, arith, take-append-drop}
 use Rattle.std.specs.List.{list_all}
@@ -74,7 +75,7 @@ digits_more word i within here digit all =
     ap (list_all is_ascii_digit) (kept-more word i within here)
     ∙ digits-push (kept (take i word)) (get_or word i 0) all digit
 
--- and what it writes goes on with that digit
+-- the number of a word whose bytes so far are digits goes on with the next digit
 pub number_more : (word : List ℕ) (i : ℕ) (value : Option ℕ) → i < length word → is_kept (get_or word i 0) ≡ true
     → is_ascii_digit (get_or word i 0) ≡ true
     → list_all is_ascii_digit (kept (take i word)) ≡ true → value ≡ capped (number_of (kept (take i word)))
@@ -98,11 +99,6 @@ kept-cut word i within here =
     ∙ ap (λ t. kept (take i word)
     ++ cond t (get_or word i 0 ∷ kept (drop (i + 1) word)) (kept (drop (i + 1) word))) here
 
--- nothing and something false is false
-and_false : (a : Bool) → (a && false) ≡ false
-and_false true = refl
-and_false false = refl
-
 -- a word with a byte that is no digit is no number
 pub not_number : (word : List ℕ) (i : ℕ) → i < length word → is_kept (get_or word i 0) ≡ true
     → is_ascii_digit (get_or word i 0) ≡ false → None ≡ capped (number_of (kept word))
@@ -113,9 +109,9 @@ not_number word i within here other =
     ap (list_all is_ascii_digit) (kept-cut word i within here)
     ∙ list_all-append is_ascii_digit front (get_or word i 0 ∷ rest)
     ∙ ap (λ t. list_all is_ascii_digit front && (t && list_all is_ascii_digit rest)) other
-    ∙ and_false (list_all is_ascii_digit front) in
+    ∙ and-false (list_all is_ascii_digit front) in
     sym (ap (λ t. capped (cond (has_bytes (kept word) && t) (Some (digits_value 10 (kept word))) None)) none
-    ∙ ap (λ t. capped (cond t (Some (digits_value 10 (kept word))) None)) (and_false (has_bytes (kept word))))
+    ∙ ap (λ t. capped (cond t (Some (digits_value 10 (kept word))) None)) (and-false (has_bytes (kept word))))
 
 -- where the number is above the greatest id there is no id
 pub id-above : (o : Option ℕ) (n : ℕ) → Some n ≡ capped o → most_id < n → None ≡ up_to most_id o
@@ -126,7 +122,7 @@ id-above (Some m) n is above =
     let test : leb m most_id ≡ false = grind (arith, nat_tests) in
     sym (ap (λ t. cond t (Some m) None) test)
 
--- and else it is the id
+-- a number that is not above the greatest id is the id
 pub id-within : (o : Option ℕ) (n : ℕ) → Some n ≡ capped o → n ≤ most_id → Some n ≡ up_to most_id o
 id-within None n is within = absurd (cc)
 id-within (Some m) n is within =

@@ -37,7 +37,7 @@ one_digit : (n : ℕ) → n < 10 → row_number_of ((48 + n) ∷ []) ≡ Some n
 unfolding is_number
 one_digit n h = number_from _ n (any_below_none 10 (λ k. not (is_number (row_number_of ((48 + k) ∷ [])) k)) n refl h)
 
--- and two digits one below a hundred
+-- two digits write a number below a hundred
 two_digits : (n : ℕ) → n < 100 → row_number_of ((48 + n / 10) ∷ (48 + n % 10) ∷ []) ≡ Some n
 unfolding is_number
 two_digits n h = number_from _ n

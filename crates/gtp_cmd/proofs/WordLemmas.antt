@@ -140,7 +140,7 @@ first_word (b ∷ bs) some begins =
     ap (filter has_bytes) f.parts ∙ ap (λ t. cond t (word ∷ filter has_bytes f.tail) (filter has_bytes f.tail)) bytes
     ∙ ap (λ ws. word ∷ ws) f.words
 
--- the same, where the rest is cut off behind it
+-- the first word of the bytes from a place on, and the words of what follows it
 pub next_from : (text : List ℕ) (i n : ℕ) → words_of (plain (drop i text)) ≡ words_of (plain text)
     → (i < length text → is_skipped (get_or text i 0) ≡ false)
     → 0 < length (take (length text - i) (drop i text))
@@ -164,7 +164,7 @@ pub found_first : (p : ℕ → Bool) (xs : List ℕ) (i : ℕ) → i < length xs
     → p (get_or xs i 0) ≡ true → i ≡ position_or_len p xs
 found_first p xs i within none here = sym (position_or_len_is p xs i 0 (omega arith) none (λ _. here))
 
--- and none is found where none passes
+-- where no byte passes none is found
 pub found_none : (p : ℕ → Bool) (xs : List ℕ) (i : ℕ) → length xs ≤ i → ((k : ℕ) → k < i → p (get_or xs k 0) ≡ false)
     → length xs ≡ position_or_len p xs
 found_none p xs i past none =

@@ -48,7 +48,7 @@ lines_from-byte : (held : RawLine) (b : ℕ) (bs : List ℕ) → eqb b line_feed
 lines_from-byte held b bs other =
     ap (λ t. cond t (held ∷ lines_from (Line []) bs) (lines_from (longer held b) bs)) other
 
--- and it makes the line longer
+-- a byte that is no line feed makes the line longer
 held_from-byte : (held : RawLine) (b : ℕ) (bs : List ℕ) → eqb b line_feed ≡ false
     → held_from held (b ∷ bs) ≡ held_from (longer held b) bs
 held_from-byte held b bs other = ap (λ t. cond t (held_from (Line []) bs) (held_from (longer held b) bs)) other
@@ -149,7 +149,7 @@ prepend-feed line l text texts some =
     subst (λ r. all_but_last ((line ++ []) ∷ r) ≡ line ∷ all_but_last r) (sym some)
     (ap (λ t. t ∷ all_but_last (text ∷ texts)) (append-nil line))
 
--- and the last text is that of what follows
+-- behind a line feed the last text is that of what follows
 prepend-feed-last : (line : List ℕ) (l : List (List ℕ)) (text : List ℕ) (texts : List (List ℕ)) → l ≡ text ∷ texts
     → last_text (prepend line ([] ∷ l)) ≡ last_text l
 unfolding prepend

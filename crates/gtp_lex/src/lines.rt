@@ -20,15 +20,20 @@ const LONGEST_HELD: usize = LONGEST_LINE + 1;
 /// What `take` and `finish` tell of a line: it stands in `bytes`, or it is too long.
 #[derive(Clone, Copy, Debug, PartialEq, Eq)]
 pub enum Taken {
+    /// The line stands in `bytes`.
     Line,
+    /// The line has more than 65,536 bytes.
     TooLong,
 }
 
 /// Where the line stands: it is still open, its line feed has come, or it was given out.
 #[derive(Clone, Copy, Debug, PartialEq, Eq)]
 enum Phase {
+    /// Its line feed has not come.
     Open,
+    /// Its line feed has come, and it was not given out.
     Full,
+    /// It was given out.
     Given,
 }
 

@@ -187,7 +187,7 @@ module _ (m : List ℕ) (on : Bool) (times : List ℕ → ℕ) where
       (rest_asked (or_from (has_name m s) (list_any (has_name m) before) other unseen)
       (sym (ap (λ t. slot_on (cond t (Some s) (named m slots))) other) ∙ is))
 
-  -- the same for the places behind some others
+  -- the helper of the name m, which no place before has, is asked once more, where it is on
   asked_from : (before slots : List SlotState) → list_any (has_name m) before ≡ false → slot_on (named m slots) ≡ on
       → change_first (has_name m) slot_asked (raised_from before times slots)
       ≡ raised_from before (one_more_of m on times) slots

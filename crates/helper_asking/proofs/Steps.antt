@@ -1,5 +1,6 @@
 -- What one more name at the end of the list of names changes, where the helpers of all names before it said yes.
 use Rattle.std.proofs.Common.{◌≡◌, ℕ, suc, Bool, true, false, cond, ◌&&◌, List, [], ◌∷◌, ◌++◌, refl, sym, ap, subst}
+use Rattle.std.proofs.Math.Bool.{and-true}
 use Rattle.std.proofs.Common.{◌∙◌}
 use Rattle.std.specs.List.{list_all, list_any}
 use Rattle.std.specs.Str.{bytes_eq}
@@ -17,18 +18,13 @@ module _ (slots : List SlotState) (board : BoardState) (at : ℕ) (friend : Colo
   says : List ℕ → Bool
   says n = says_yes slots n board at friend
 
-  -- a yes beside an answer leaves it as it is
-  and_true : (b : Bool) → (b && true) ≡ b
-  and_true true = refl
-  and_true false = refl
-
   -- the answer for one more name
   pub all_say_yes-more : (ms : List (List ℕ)) (m : List ℕ) → all_say_yes slots ms board at friend ≡ true
       → all_say_yes slots (ms ++ m ∷ []) board at friend ≡ says_yes slots m board at friend
   all_say_yes-more ms m agree =
       list_all-append (λ n. says_yes slots n board at friend) ms (m ∷ [])
       ∙ ap (λ b. b && (says_yes slots m board at friend && true)) agree
-      ∙ and_true (says_yes slots m board at friend)
+      ∙ and-true (says_yes slots m board at friend)
 
   -- before any name nothing was asked
   pub asked_for-none : IsAskedFor slots [] board at friend true slots

@@ -32,7 +32,7 @@ module _ (times : List ℕ → ℕ) (slots : List SlotState) (board : BoardState
       (says_yes-raised times slots n board at friend)
       ∙ ap (λ b. says_yes slots n board at friend && b) (all_say_yes-raised names)
 
-  -- and is asked the same
+  -- a list whose counts rose is asked the same
   pub asks_of-raised : (names : List (List ℕ)) (name : List ℕ)
       → asks_of (raised times slots) names board at friend name ≡ asks_of slots names board at friend name
   asks_of-raised names name =
@@ -53,7 +53,7 @@ module _ (slots : List SlotState) (board : BoardState) (friend : Colour) where
       asked.answer ∙ ap (λ l. all_say_yes l names board at friend) is
       ∙ all_say_yes-raised (asks_over slots plays board friend) slots board at friend names
 
-  -- and its calls are added to those before
+  -- one more play: its calls are added to those of the plays before
   pub asked_over-more : (plays : List (List (List ℕ) × ℕ)) (names : List (List ℕ)) (at : ℕ) (now after : List SlotState)
       (answer : Bool) → now ≡ raised (asks_over slots plays board friend) slots
       → IsAskedFor now names board at friend answer after

@@ -96,7 +96,7 @@ module _ {X Y : Type 0} (see : X → Y) (test : Y → Bool) where
   position_from-here xs i x within passes = from xs i x within
       ∙ ap (λ b. cond b (Some i) (position_from test (i + 1) (map see (drop (i + 1) xs)))) passes
 
-  -- where it does not, the search goes on behind it
+  -- where the i-th element does not pass, the search goes on behind it
   pub position_from-next : (xs : List X) (i : ℕ) (x : X) → i < length xs → test (see (get_or xs i x)) ≡ false
       → position_from test i (map see (drop i xs)) ≡ position_from test (i + 1) (map see (drop (i + 1) xs))
   position_from-next xs i x within fails = from xs i x within

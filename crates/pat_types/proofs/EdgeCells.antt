@@ -107,6 +107,7 @@ module _ (p : Pattern) (r c : ℤ) where
       drawn_from _ _ (letters_are_crossed _ _ _ r cell.in_row) (letters_are_crossed _ _ _ c cell.in_column)
       ∙ ap Shows (sym cell.there)
 
+  -- a cell shows no more than one letter
   shown_is : (a b : Letter) → Shows a ≡ Shows b → a ≡ b
   shown_is a b e = cc
 

@@ -8,16 +8,22 @@ use crate::pattern::Pattern;
 /// A row or a column: it crosses the letters, is an edge, or neither.
 #[derive(Clone, Copy, Debug, PartialEq, Eq)]
 pub enum Line {
+    /// It crosses the letters, as this row or column of theirs.
     Crosses(u8),
+    /// It is an edge that is drawn.
     Edge,
+    /// It lies outside the letters and the edges that are drawn.
     Beyond,
 }
 
 /// What a pattern draws in a cell.
 #[derive(Clone, Copy, Debug, PartialEq, Eq)]
 pub enum Drawn {
+    /// Nothing: the cell is none of the pattern's.
     Nothing,
+    /// An edge: the cell lies off the board.
     OffBoard,
+    /// A letter.
     Shows(Letter),
 }
 

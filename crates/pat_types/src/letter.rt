@@ -8,12 +8,19 @@ use go_base::{Cell, Colour};
 /// What a cell of a diagram asks of the cell of the board under it.
 #[derive(Clone, Copy, Debug, PartialEq, Eq)]
 pub enum Letter {
+    /// `O`: a stone of the colour for which the pattern is asked.
     Friend,
+    /// `X`: a stone of the other colour.
     Enemy,
+    /// `.`: no stone.
     Empty,
+    /// `o`: a stone of the colour for which the pattern is asked, or none.
     FriendOrEmpty,
+    /// `x`: a stone of the other colour, or none.
     EnemyOrEmpty,
+    /// `?`: anything.
     Any,
+    /// `*`: no stone; the move is played here.
     Star,
 }
 

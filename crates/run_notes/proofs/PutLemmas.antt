@@ -71,16 +71,6 @@ pub on_err_from : {T E P : Type 0} (result : Result T E) → P → OnErr result 
 on_err_from (Ok x) p = tt
 on_err_from (Err e) p = p
 
--- a fact of a call that failed gives what follows from it
-pub on_err_map : {T E P Q : Type 0} (result : Result T E) → (P → Q) → OnErr result P → OnErr result Q
-on_err_map (Ok x) words p = tt
-on_err_map (Err e) words p = words p
-
--- a fact of a call that succeeded gives what follows from it
-pub on_ok_map : {T E P Q : Type 0} (result : Result T E) → (P → Q) → OnOk result P → OnOk result Q
-on_ok_map (Ok x) words p = words p
-on_ok_map (Err e) words p = tt
-
 -- the notes, by what a call put on them
 pub noted : {T E : Type 0} (a b : Option (List ℕ)) (before now : ℕ) (text : List ℕ) (r : Result T E)
     → OnOk r (Appends a b text)

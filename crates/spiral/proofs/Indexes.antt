@@ -28,6 +28,7 @@ same_ℤ (pos a) (negsuc b) = false
 same_ℤ (negsuc a) (pos b) = false
 same_ℤ (negsuc a) (negsuc b) = a == b
 
+-- integers that pass the test are one
 pub same_ℤ-true : (a b : ℤ) → same_ℤ a b ≡ true → a ≡ b
 same_ℤ-true (pos a) (pos b) e = ap pos (eqb-true a b e)
 same_ℤ-true (pos a) (negsuc b) e = absurd (false≢true e)
@@ -41,6 +42,7 @@ is_indexed row column =
     && (same_ℤ (offset_at (index_at row column)).0 (pos row -ℤ pos largest_offset)
     && same_ℤ (offset_at (index_at row column)).1 (pos column -ℤ pos largest_offset))
 
+-- the index of each row and column of the square has the offset there, computed over all of them
 all_indexed : agree_below (λ row. agree_below (is_indexed row) (λ _. true) square_side) (λ _. true) square_side ≡ true
 unfolding offset_at
 all_indexed = refl
@@ -61,6 +63,7 @@ indexed row column p q =
     let both = and_parts (same_ℤ (offset_at (index_at row column)).0 (pos row -ℤ pos largest_offset)) _ parts.1 in
     record { bound = ltb-true _ _ parts.0; row_back = same_ℤ-true _ _ both.0; column_back = same_ℤ-true _ _ both.1 }
 
+-- an offset whose parts are known by its index is the one in that row and column
 pub indexed_as : (row column : ℕ) → IsIndexed row column
     → offset_at (index_at row column) ≡ (pos row -ℤ pos largest_offset, pos column -ℤ pos largest_offset)
 indexed_as row column i =
@@ -69,7 +72,7 @@ indexed_as row column i =
       pos column -ℤ pos largest_offset,
     ) refl i.row_back i.column_back
 
--- the steps of the code give the index
+-- the start of the ring of an offset and its place in that ring make its index
 pub found_at : (row column from_row from_column k start place : ℕ) → from_row ≡ apart row largest_offset
     → from_column ≡ apart column largest_offset → k ≡ max from_row from_column
     → start ≡ ring_start k → place ≡ place_in k (row + k - largest_offset) (column + k - largest_offset)
@@ -80,6 +83,7 @@ found_at row column from_row from_column k start place r c m s p = rw (s, p, m, 
 abbrev index_by : Offset → ℕ
 index_by d = index_at (nat_abs (d.0 +ℤ pos largest_offset)) (nat_abs (d.1 +ℤ pos largest_offset))
 
+-- each index is that of its offset, computed over all of them
 all_back : agree_below (λ i. index_by (offset_at i) == i) (λ _. true) offset_count ≡ true
 unfolding offset_at
 all_back = refl
@@ -88,6 +92,7 @@ all_back = refl
 index_back : (i : ℕ) → i < offset_count → index_by (offset_at i) ≡ i
 index_back i p = eqb-true _ _ (agree_below_at (λ n. index_by (offset_at n) == n) (λ _. true) offset_count i all_back p)
 
+-- no two indices have one offset
 pub offsets_differ : (i j : ℕ) → i < offset_count → j < offset_count → offset_at i ≡ offset_at j → i ≡ j
 offsets_differ i j p q e = sym (index_back i p) ∙ ap index_by e ∙ index_back j q
 
@@ -96,10 +101,12 @@ abbrev is_near : Offset → Bool
 is_near d = (le_z (neg_ℤ (pos largest_offset)) d.0 && le_z d.0 (pos largest_offset))
     && (le_z (neg_ℤ (pos largest_offset)) d.1 && le_z d.1 (pos largest_offset))
 
+-- no offset of the spiral has a part beyond the largest, computed over all of them
 all_near : agree_below (λ i. is_near (offset_at i)) (λ _. true) offset_count ≡ true
 unfolding offset_at
 all_near = refl
 
+-- no offset of the spiral has a part beyond the largest
 pub offsets_near : (i : ℕ) → i < offset_count → IsNear (offset_at i)
 offsets_near i p =
     let d : Offset = offset_at i in
@@ -114,6 +121,7 @@ offsets_near i p =
       column_high = le_z_yes (T_from_true _ column.1);
     }
 
+-- a part that is not beyond the largest is that of some row or column of the square of all offsets
 from_middle : (z : ℤ) → neg_ℤ (pos largest_offset) ≤ℤ z → z ≤ℤ pos largest_offset
     → (n : ℕ) × (n < square_side) × (pos n -ℤ pos largest_offset ≡ z)
 from_middle (pos k) low high = (k + largest_offset, omega (arith, ints, high), omega (arith, ints))

@@ -42,6 +42,7 @@ abbrev is_followed : ℕ → Bool
 is_followed i = same_ℤ (offset_at (suc i)).0 (after (offset_at i)).0
     && same_ℤ (offset_at (suc i)).1 (after (offset_at i)).1
 
+-- each offset but the last is followed by the one that comes after it, computed over all of them
 all_followed : agree_below is_followed (λ _. true) (offset_count - 1) ≡ true
 unfolding offset_at
 all_followed = refl

@@ -37,7 +37,7 @@ pub fn following(dr: i8, dc: i8) -> (i8, i8)
     }
 }
 
-/// The index of the offset of `dr` rows down and `dc` columns to the right, the one whose offset this is.
+/// The index along the spiral of the offset of `dr` rows down and `dc` columns to the right.
 pub fn index(dr: i8, dc: i8) -> u16
     requires { IsNear (dr, dc) }
     ensures value { offset_at result ≡ (dr, dc) }

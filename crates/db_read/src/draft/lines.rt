@@ -1,6 +1,7 @@
 //! Reading an entry, line by line.
 
-ghost use Rattle.std.specs.Prelude.{◌==◌, if◌then◌else◌, ◌≡◌, ◌≤◌, ◌<◌, ◌^◌, ◌++◌, ◌∷◌, [], ℕ, List, length, map, IfOk, IfErr, OnOk, None};
+ghost use Rattle.std.specs.Prelude.{◌==◌, if◌then◌else◌, ◌≡◌, ◌≤◌, ◌<◌, ◌^◌, ◌++◌, ◌∷◌, [], ℕ, List, length, map, IfOk};
+ghost use Rattle.std.specs.Prelude.{IfErr, OnOk, None};
 ghost use Rattle.db_lex.specs.Lines.{KeptLine, word_of};
 ghost use Rattle.db_rules.specs.Blocks.{Block, begun_with, words_in};
 ghost use Rattle.db_rules.specs.Colon.{colon_fault};
@@ -8,6 +9,7 @@ ghost use Rattle.db_rules.specs.Labels.{constraint_fault};
 ghost use Rattle.db_rules.specs.Diagram.{diagram_fault};
 ghost use Rattle.db_read.specs.Drafts.{Drafts, KeepsText, IsTextOf, IsUnjudged, IsJudged};
 ghost use Rattle.db_read.specs.Reading.{BlamesAt, expression_error};
+ghost use Rattle.db_rules.specs.Entries.{name_on};
 ghost use Rattle.db_rules.specs.Expressions.{text_on};
 ghost use Rattle.db_rules.specs.Faults.{Blames, expression_kind, expression_fault};
 ghost use Rattle.db_entry.specs.Reads.{Draws, IsMarked};
@@ -52,7 +54,15 @@ pub fn begin<'a>(alloc: Global, line: &[u8]) -> Result<Draft<'a>, NoMemory>
     ensures unjudged { IfOk result (λ d. IsUnjudged d) }
 {
     let name = bytes_of(alloc, name_of(line))?;
-    Ok(Draft {
+    Ok(named(alloc, name))
+}
+
+/// The entry of this name of which no further line was read.
+fn named<'a>(alloc: Global, name: Bytes) -> Draft<'a>
+    ensures begun { (k : KeptLine) → name ≡ name_on k.bytes → Drafts result (begun_with k) }
+    ensures unjudged { IsUnjudged result }
+{
+    Draft {
         name,
         words: Vec::new(alloc),
         diagram: empty_diagram(alloc),
@@ -60,7 +70,12 @@ pub fn begin<'a>(alloc: Global, line: &[u8]) -> Result<Draft<'a>, NoMemory>
         marks: empty_marks(alloc),
         expression: None,
         constraint: None,
-    })
+    }
+}
+
+/// What stands for an entry before the first Pattern line: it has no name, and no line of it was read.
+pub fn nameless<'a>(alloc: Global) -> Draft<'a> {
+    named(alloc, Bytes::new(alloc))
 }
 
 impl<'a> Draft<'a> {

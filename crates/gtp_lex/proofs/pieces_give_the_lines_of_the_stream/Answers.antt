@@ -7,9 +7,11 @@ use Rattle.gtp_lex.proofs.HeldLemmas.{lines_from-append, lines_of-lines_from, li
 use Rattle.gtp_lex.proofs.HeldLemmas.{lines_in_turn-concat, held_after-concat}
 use Rattle.gtp_lex.proofs.pieces_give_the_lines_of_the_stream.Goals as goal
 
+-- the lines taken piece by piece are those of the joined pieces
 pub returns-clause-lines : goal.returns-clause-lines
 returns-clause-lines c = λ pieces. lines_in_turn-concat (Line []) pieces ∙ sym (lines_of-lines_from (concat pieces))
 
+-- with the bytes behind the last line feed they are all the lines of the joined pieces
 pub returns-clause-with_rest : goal.returns-clause-with_rest
 returns-clause-with_rest c =
     λ pieces.
@@ -17,5 +19,6 @@ returns-clause-with_rest c =
     ∙ ap (λ h. lines_from (Line []) (concat pieces) ++ held_line h) (held_after-concat (Line []) pieces)
     ∙ sym (lines_with_rest-lines_from (concat pieces))
 
+-- a piece that is cut in two has the same lines
 pub returns-clause-two_pieces : goal.returns-clause-two_pieces
 returns-clause-two_pieces c = lines_from-append

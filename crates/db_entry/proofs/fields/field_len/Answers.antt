@@ -3,6 +3,7 @@ use Rattle.db_rules.specs.Colon.{split_at_commas}
 use Rattle.db_entry.proofs.FieldLemmas.{with_fronts, split-some, split-goes, split-ends, split-whole}
 use Rattle.db_entry.proofs.fields.field_len.Goals as goal
 
+-- a text always has a first field, and before its first byte nothing of it is read
 pub loop-i-init : goal.loop-i-init
 loop-i-init c = (omega arith, split-some c.args.text.now)
 
@@ -24,6 +25,7 @@ loop-i-preserved c =
           (split_at_commas d (drop (c.loop-i.i + 1) c.args.text.now))) (sym c.depth_after-depth.ensures.value),
     )
 
+-- without a comma outside parentheses the whole text is one field
 pub returns-clause-first : goal.returns-clause-first
 returns-clause-first c =
     split-whole c.args.text.now c.loop-i.i c.loop-i.depth (omega (arith, c.loop-i.auto.i-end)) c.loop-i.invariant.1

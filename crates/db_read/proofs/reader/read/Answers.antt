@@ -13,14 +13,15 @@ use Rattle.db_read.proofs.ReaderProgress.{Walked}
 use Rattle.db_read.proofs.ReadLemmas.{bad_line, fine_line, found_bad, Walked-step, Walked-fault, Walked-blames}
 use Rattle.db_read.proofs.reader.read.Goals as goal
 
+-- before the first line nothing is read, and all lines are left
 pub loop-told-init : goal.loop-told-init
 loop-told-init c =
     subst (λ (x : Lexed). (x.text ≡ c.args.text.now)
-    × Walked c.args.helpers.now c.args.text.now c.in_ok-reader.reader x.left) (sym c.lines-lexer.ensures) (
+    × Walked c.args.helpers.now c.args.text.now c.start-reader.result x.left) (sym c.lines-lexer.ensures) (
       refl,
       record {
         so_far = _;
-        shown = c.in_ok-reader.ensures.ok;
+        shown = c.start-reader.ensures;
         reaches =
             Reaches-start c.args.helpers.now c.args.text.now;
       },
@@ -74,6 +75,7 @@ returns-in-Err-line-clause-err c =
     Walked-blames c.args.helpers.now c.args.text.now c.loop-told.reader h.line c.next.new.self.left c.in-Err-line.e w
     (c.in-Err-line.ensures.err w.so_far h.line fine.number fine.fine bytes fine.kind w.shown)
 
+-- where the end has no fault, the text has none, and the entries are those of the text
 pub returns-clause-ok : goal.returns-clause-ok
 returns-clause-ok c =
     let w : Walked c.args.helpers.now c.args.text.now c.loop-told.reader [] =
@@ -86,6 +88,7 @@ returns-clause-ok c =
       at_end.1 ∙ sym (Reaches-entries c.args.helpers.now c.args.text.now w.so_far w.reaches),
     )) c.end.ensures.ok
 
+-- a fault at the end is the first of the text
 pub returns-clause-err : goal.returns-clause-err
 returns-clause-err c =
     let w : Walked c.args.helpers.now c.args.text.now c.loop-told.reader [] =

@@ -5,6 +5,7 @@ use Rattle.db_rules.specs.Faults.{entries}
 use Rattle.db_rules.proofs.WholeBlocks.{database_is_read}
 use Rattle.db_rules.proofs.laws.entries_are_those_of_the_blocks.Goals as goal
 
+-- the entries of a database are those that its blocks say, in their order
 pub returns : goal.returns
 unfolding entries
 returns c = λ helpers text d. ap (map entry_of_block) (database_is_read helpers text d).blocks_are

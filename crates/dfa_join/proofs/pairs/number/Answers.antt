@@ -9,7 +9,7 @@ returns-then-len-limit-clause-ok c =
     IfOk-weaker c.known.result _ _ (λ r at. Adds-known c.args.limit c.args.pairs.now.keys c.args.pair r at)
     c.known.ensures.ok
 
--- it is known now
+-- a pair that was put in has its number now
 pub returns-in-Ok-clause-ok : goal.returns-in-Ok-clause-ok
 returns-in-Ok-clause-ok c =
     Adds-inserted c.args.limit c.args.pairs.now.keys c.insert_full.new.self.keys c.args.pair c.in-Ok.ensures.stored.0

@@ -4,11 +4,13 @@ use Rattle.dfa_join.specs.Pairs.{IsReached, AreLines, IsLine}
 use Rattle.dfa_join.proofs.Products.{AreLines-push}
 use Rattle.dfa_join.proofs.product.with_line.Goals as goal
 
+-- some word reaches the pair
 pub expand-requires-clause-reached : goal.expand-requires-clause-reached
 expand-requires-clause-reached c =
     subst (IsReached c.args.a.now c.args.b.now) c.requires.pair
     (c.requires.lines.work.reached (length c.args.rows) c.requires.next)
 
+-- the pairs so far are different and reached
 pub expand-requires-clause-work : goal.expand-requires-clause-work
 expand-requires-clause-work c = c.requires.lines.work
 
@@ -37,5 +39,6 @@ returns-in-Ok-clause-lines c =
     }))
     c.in_ok-targets.ensures.order)
 
+-- there is one row more
 pub returns-in-Ok-clause-more : goal.returns-in-Ok-clause-more
 returns-in-Ok-clause-more c = ap length c.in-Ok.ensures ∙ length_push c.args.rows _

@@ -4,6 +4,7 @@ use Rattle.clap.specs.declared.builder.value_parser.ValueParser.{ValueParser}
 use Rattle.go_options.specs.CommandLine.{command_line, default_rule, option_rule, whole_from}
 use Rattle.go_options.proofs.command.command.Goals as goal
 
+-- the command has the five options with their ranges, the flag and the files, in this order
 pub returns : goal.returns
 unfolding command_line
 returns c =

@@ -3,6 +3,7 @@ use Rattle.clap.specs.Matches.{found_of}
 use Rattle.go_options.proofs.RowLemmas.{number_from, only_from}
 use Rattle.go_options.proofs.options.options_in.Goals as goal
 
+-- a depth is at most 200, and so it is a byte
 pub overflow_cast-result : goal.overflow_cast-result
 overflow_cast-result c =
     omega (
@@ -11,6 +12,7 @@ overflow_cast-result c =
           (codes "depth") 1 200 c.given_number.result c.requires.depth c.given_number.ensures).1,
     )
 
+-- a branch is at most 12, and so it is a byte
 pub overflow_cast-result-2 : goal.overflow_cast-result-2
 overflow_cast-result-2 c =
     omega (
@@ -19,6 +21,7 @@ overflow_cast-result-2 c =
           (codes "branch") 0 12 c.given_number-2.result c.requires.branch c.given_number-2.ensures).1,
     )
 
+-- each number is the one that was found, which lies in its range
 pub returns-clause-ranges : goal.returns-clause-ranges
 returns-clause-ranges c =
     let found = found_of c.args.matches.now in

@@ -10,10 +10,12 @@ use Rattle.go_options.specs.declared.errors.OptionsError.{OptionsError}
 use Rattle.go_options.specs.declared.options.Options.{Options}
 use Rattle.go_options.proofs.options.read_options.Goals as goal
 
+-- words that are taken give each option that has a number one in its range
 pub options_in-requires : goal.options_in-requires
 options_in-requires c =
     numbers_found c.in_ok-command.field-0 c.in-Ok.matches c.in-Ok.ensures.parsed c.in_ok-command.ensures
 
+-- the options are those of the words, since the command is that of the program
 pub returns-in_ok-options_in-in-Ok-clause-found : goal.returns-in_ok-options_in-in-Ok-clause-found
 returns-in_ok-options_in-in-Ok-clause-found c =
     subst (λ (rows : List Row). AreFound rows c.in_ok-options_in-in-Ok.field-0)
@@ -21,6 +23,7 @@ returns-in_ok-options_in-in-Ok-clause-found c =
     (map string_bytes c.args.words.now) c.in-Ok.matches c.in_ok-command.ensures c.in-Ok.ensures.matches)
     c.in_ok-options_in-in-Ok.ensures.found
 
+-- words that give options are taken by the command line
 pub returns-in_ok-options_in-in-Ok-clause-taken : goal.returns-in_ok-options_in-in-Ok-clause-taken
 returns-in_ok-options_in-in-Ok-clause-taken c =
     is_taken_by (app_of c.in_ok-command.field-0)
@@ -30,6 +33,7 @@ returns-in_ok-options_in-in-Ok-clause-taken c =
 same_cause : (a b : OptionsError) → IsErrOf {T = Options} (Err a) b → a ≡ b
 same_cause a b e = cc
 
+-- a usage failure is none of memory, and so the command line does not take the words
 pub returns-in-Err-clause-usage : goal.returns-in-Err-clause-usage
 returns-in-Err-clause-usage c = λ usage.
     is_not_taken_by (app_of c.in_ok-command.field-0)

@@ -5,6 +5,7 @@ use Rattle.std.specs.String.{string_bytes}
 use Rattle.gtp_io.proofs.Names.{named-drop, named-here}
 use Rattle.gtp_io.proofs.shelf.find.Goals as goal
 
+-- the first name that is equal has the contents that are found
 pub returns-then-eq-clause-found : goal.returns-then-eq-clause-found
 returns-then-eq-clause-found c =
     let test = ap (λ b. bytes_eq b c.args.name.now) (sym (c.as_str.ensures.value ∙ ap string_bytes c.index-names-i.is))
@@ -14,6 +15,7 @@ returns-then-eq-clause-found c =
     (λ v. v.items) c.args.names.now c.args.contents.now c.args.name.now c.requires c.loop-i.i
     c.index-names-i.result c.loop-i-test.true test
 
+-- a name that is another leaves the search to those behind it
 pub loop-i-preserved : goal.loop-i-preserved
 loop-i-preserved c =
     let test = ap (λ b. bytes_eq b c.args.name.now) (sym (c.as_str.ensures.value ∙ ap string_bytes c.index-names-i.is))

@@ -3,5 +3,6 @@
 use Rattle.pat_types.proofs.EdgeCells.{drawn_as_seen}
 use Rattle.pat_types.proofs.laws.cells_are_drawn_as_seen.Goals as goal
 
+-- the cells of a pattern are drawn as a reader of its diagram sees them
 pub returns : goal.returns
 returns c = drawn_as_seen

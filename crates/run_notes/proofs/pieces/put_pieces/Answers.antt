@@ -5,6 +5,7 @@ use Rattle.run_notes.specs.Putting.{PutsFront}
 use Rattle.run_notes.proofs.PutLemmas.{on_err_from, piece_front, piece_more}
 use Rattle.run_notes.proofs.pieces.put_pieces.Goals as goal
 
+-- where the sink fails in a piece, it got those before it and a front of that piece
 pub returns-in_err-put_all-clause-part : goal.returns-in_err-put_all-clause-part
 returns-in_err-put_all-clause-part g c = on_err_from _
     (piece_front (g.K.Sink.written c.args.sink.now) (g.K.Sink.written c.loop-piece.sink)
@@ -14,6 +15,7 @@ returns-in_err-put_all-clause-part g c = on_err_from _
     (subst (λ (p : List ℕ). PutsFront (g.K.Sink.written c.loop-piece.sink) (g.K.Sink.written c.put_all.new.sink) p)
     c.as_slice.ensures c.in_err-put_all.ensures.part))
 
+-- one piece more went out behind those before it
 pub loop-piece-preserved : goal.loop-piece-preserved
 loop-piece-preserved g c = record {
   put = piece_more (g.K.Sink.written c.args.sink.now) (g.K.Sink.written c.loop-piece.sink)

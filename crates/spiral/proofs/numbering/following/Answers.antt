@@ -12,11 +12,13 @@ below c = fails-top (c.args.dr, c.args.dc) (elim c.else-dr-dc-lt0.branch [
   | else-dr-dc-lt0-via-else-dr-dc-lt0 w ↦ inl (omega (arith, ints))
 ])
 
+-- on the top of the ring the next offset lies to the right
 pub returns-then-dr-dc : goal.returns-then-dr-dc
 returns-then-dr-dc c = λ i low here.
     offset_by_parts _ _ _ _ _ (next-top (c.args.dr, c.args.dc) i low here (omega (arith, ints)) (omega (arith, ints)))
     (omega (arith, ints)) (omega (arith, ints))
 
+-- on the right side it lies below
 pub returns-then-dr-dc-2 : goal.returns-then-dr-dc-2
 returns-then-dr-dc-2 c = λ i low here.
     offset_by_parts _ _ _ _ _ (next-right (
@@ -25,6 +27,7 @@ returns-then-dr-dc-2 c = λ i low here.
     ) i low here (below (goal.at.returns-then-dr-dc-2 c).Joined-else-dr-dc-lt0) (omega (arith, ints)))
     (omega (arith, ints)) (omega (arith, ints))
 
+-- on the bottom it lies to the left
 pub returns-then-dr-dc-gt0 : goal.returns-then-dr-dc-gt0
 returns-then-dr-dc-gt0 c = λ i low here.
     offset_by_parts _ _ _ _ _ (next-bottom (
@@ -33,6 +36,7 @@ returns-then-dr-dc-gt0 c = λ i low here.
     ) i low here (below (goal.at.returns-then-dr-dc-gt0 c).Joined-else-dr-dc-lt0) (omega (arith, ints))
     (omega (arith, ints))) (omega (arith, ints)) (omega (arith, ints))
 
+-- on the left side it lies above
 pub returns-then-dr-dc-3 : goal.returns-then-dr-dc-3
 returns-then-dr-dc-3 c = λ i low here.
     offset_by_parts _ _ _ _ _
@@ -40,6 +44,7 @@ returns-then-dr-dc-3 c = λ i low here.
     (omega (arith, ints)) (omega (arith, ints)) (omega (arith, ints)))
     (omega (arith, ints)) (omega (arith, ints))
 
+-- the last offset of the ring is followed by the first of the next
 pub returns-else-dr-dc-3 : goal.returns-else-dr-dc-3
 returns-else-dr-dc-3 c = λ i low here.
     offset_by_parts _ _ _ _ _

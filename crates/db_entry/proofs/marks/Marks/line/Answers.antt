@@ -25,10 +25,12 @@ returns-then-not-repeats-clause-err c = λ words s.
     (omega (arith, length-map c.args.mains.now (λ f. f.now))) c.word_at-main.ensures
     ∙ rw fails refl
 
+-- a word that repeats its main line is as long as that line
 pub push_labels-requires-clause-same : goal.push_labels-requires-clause-same
 push_labels-requires-clause-same c =
     repeats-same c.word_at-main.result.now c.args.word.now (sym c.repeats.ensures ∙ c.if-not-repeats.false)
 
+-- a main line is no longer than the side of the largest board
 pub push_labels-requires-clause-short : goal.push_labels-requires-clause-short
 push_labels-requires-clause-short c = let short : length c.word_at-main.result.now ≤ largest_size =
     subst (λ (w : List ℕ). length w ≤ largest_size) (sym c.word_at-main.ensures)
@@ -48,6 +50,7 @@ returns-then-not-are_apart-clause-err c = λ words s.
     (omega (arith, length-map c.args.mains.now (λ f. f.now))) c.word_at-main.ensures
     ∙ rw (passes, fails) refl
 
+-- a word that repeats its main line, with no letter labelled twice, is one more line
 pub returns-clause-ok : goal.returns-clause-ok
 returns-clause-ok c = λ words s.
     let m = c.args.self.now in

@@ -8,6 +8,7 @@ use Rattle.db_entry.specs.Reads.{Draws}
 use Rattle.db_read.proofs.DraftLemmas.{shorts-pushed, IsMarked-under}
 use Rattle.db_read.proofs.draft.Draft.diagram_line.Goals as goal
 
+-- a line that the diagram took is short, and so all words are still
 pub invariant_of-self-2-clause-short : goal.invariant_of-self-2-clause-short
 invariant_of-self-2-clause-short c =
     shorts-pushed _ c.args.self.now.words.items c.push.new.self.items c.args.word c.push.ensures.items

@@ -1,10 +1,10 @@
--- A blank and the text of the line stand behind the text that was kept.
 use Rattle.std.proofs.Common.{◌∙◌, ◌++◌, ◌∷◌, [], ap, sym, subst, refl}
 use Rattle.db_rules.specs.Expressions.{blank}
 use Rattle.db_read.specs.Drafts.{KeepsText}
 use Rattle.db_read.proofs.ExpressionLemmas.{more_text}
 use Rattle.db_read.proofs.draft.lines.with_line.Goals as goal
 
+-- a blank and the text of the line stand behind the text that was kept
 pub returns-in_ok-extend-in-Some : goal.returns-in_ok-extend-in-Some
 returns-in_ok-extend-in-Some c = λ lines k number text keeps.
     let kept = subst (λ o. KeepsText o lines) c.in-Some.is keeps in

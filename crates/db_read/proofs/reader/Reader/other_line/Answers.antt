@@ -10,6 +10,7 @@ use Rattle.db_read.specs.Reading.{Shows}
 use Rattle.db_rules.proofs.TableLemmas.{other_diagram, other_labels}
 use Rattle.db_read.proofs.reader.Reader.other_line.Goals as goal
 
+-- a line that the table takes to the main diagram is read as one more of its lines
 pub returns-in-Diagram-clause-ok : goal.returns-in-Diagram-clause-ok
 returns-in-Diagram-clause-ok c = on_ok_weaker c.diagram_line.result (λ reads helpers s k e cell h.
     let there : s.stage ≡ Diagram =
@@ -22,6 +23,7 @@ returns-in-Diagram-clause-ok c = on_ok_weaker c.diagram_line.result (λ reads he
           (sym c.in-Diagram.is) read.1,
     )) c.diagram_line.ensures.ok
 
+-- its fault is that of a line of the main diagram
 pub returns-in-Diagram-clause-err : goal.returns-in-Diagram-clause-err
 returns-in-Diagram-clause-err c = IfErr-weaker c.diagram_line.result _ _ (λ err reads helpers s k e cell h.
     reads helpers s k (ap word_of e
@@ -29,6 +31,7 @@ returns-in-Diagram-clause-err c = IfErr-weaker c.diagram_line.result _ _ (λ err
     (other_diagram s.stage (slice_index c.args.line.now 0) (cell
     ∙ ap Next c.in-Diagram.is)) h) c.diagram_line.ensures.err
 
+-- a line that the table takes to the constraint diagram is read as one more of its lines
 pub returns-in-Labels-clause-ok : goal.returns-in-Labels-clause-ok
 returns-in-Labels-clause-ok c = on_ok_weaker c.constraint_line.result (λ reads helpers s k e cell h.
     let there : s.stage ≡ Labels =
@@ -41,6 +44,7 @@ returns-in-Labels-clause-ok c = on_ok_weaker c.constraint_line.result (λ reads 
           (sym c.in-Labels.is) read.1,
     )) c.constraint_line.ensures.ok
 
+-- its fault is that of a line of the constraint diagram
 pub returns-in-Labels-clause-err : goal.returns-in-Labels-clause-err
 returns-in-Labels-clause-err c = IfErr-weaker c.constraint_line.result _ _ (λ err reads helpers s k e cell h.
     reads helpers s k (ap word_of e

@@ -8,6 +8,7 @@ use Rattle.db_read.specs.declared.draft.Draft.{Draft}
 use Rattle.db_read.proofs.ReaderLemmas.{pattern_ok}
 use Rattle.db_read.proofs.reader.Reader.pattern_line.Goals as goal
 
+-- the entry before is done, and the line begins one with its name
 pub returns-clause-ok : goal.returns-clause-ok
 returns-clause-ok c = λ s k e h.
     let r = c.args.self.now in

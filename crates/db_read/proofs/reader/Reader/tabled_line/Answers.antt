@@ -6,6 +6,7 @@ use Rattle.db_rules.specs.Blocks.{cell_for, table}
 use Rattle.db_read.proofs.LineLemmas.{tabled_ok}
 use Rattle.db_read.proofs.reader.Reader.tabled_line.Goals as goal
 
+-- a line that the table takes is read, and the reader stands where the table leads
 pub returns-in-Next-clause-ok : goal.returns-in-Next-clause-ok
 returns-in-Next-clause-ok c = on_ok_weaker c.taken_line.result (λ reads s k number e kind h.
     let by_table : table s.stage c.args.kind (slice_index c.args.line.now 0) ≡ Next c.in-Next.stage =

@@ -12,6 +12,7 @@ use Rattle.db_rules.proofs.TableLemmas.{pattern_next}
 use Rattle.db_read.proofs.LineLemmas.{action_next, action_no_semicolon}
 use Rattle.db_read.proofs.reader.Reader.taken_line.Goals as goal
 
+-- a Pattern line begins an entry, and the table leads to its main diagram
 pub returns-in-Pattern-clause-ok : goal.returns-in-Pattern-clause-ok
 returns-in-Pattern-clause-ok c = on_ok_weaker c.pattern_line.result (λ reads s k number e cell h.
     let next : c.args.stage ≡ Diagram =
@@ -26,6 +27,7 @@ returns-in-Pattern-clause-ok c = on_ok_weaker c.pattern_line.result (λ reads s 
           (sym next) read.1,
     )) c.pattern_line.ensures.ok
 
+-- a line of another kind is read as one of the diagram that the table leads to
 pub returns-in-Other-clause-ok : goal.returns-in-Other-clause-ok
 returns-in-Other-clause-ok c = on_ok_weaker c.other_line.result (λ reads s k number e cell h.
     subst (λ t. (own_fault c.args.helpers.now s k t ≡ None)
@@ -33,6 +35,7 @@ returns-in-Other-clause-ok c = on_ok_weaker c.other_line.result (λ reads s k nu
     (reads c.args.helpers.now s k e (ap (λ t. table s.stage t (slice_index c.args.line.now 0)) (sym c.in-Other.is)
     ∙ cell) h)) c.other_line.ensures.ok
 
+-- its fault is that of a line of that diagram
 pub returns-in-Other-clause-err : goal.returns-in-Other-clause-err
 returns-in-Other-clause-err c = IfErr-weaker c.other_line.result _ _ (λ err reads s k number e cell h.
     subst (λ t. Blames err (own_fault c.args.helpers.now s k t)) (sym c.in-Other.is)

@@ -12,6 +12,7 @@ missing_among : (names names' contents contents' : List (List ℕ)) (name : List
     → contents ≡ contents' → named names contents name ≡ None → named names' contents' name ≡ None
 missing_among names names' contents contents' name same_names same_contents missing = cc
 
+-- a load fails where its call is listed, or where the shelf has no contents of the name
 pub returns-clause-failed : goal.returns-clause-failed
 returns-clause-failed c =
     λ _.

@@ -1,4 +1,3 @@
--- Each name was copied.
 use Rattle.std.proofs.Common.{take, map, sym, ap, ◌∙◌, arith}
 use Rattle.std.proofs.lemmas.List.{take_all}
 use Rattle.std.proofs.lemmas.Simd.{map-map}
@@ -6,6 +5,7 @@ use Rattle.helpers.specs.Asking.{SlotState}
 use Rattle.helpers.specs.Slots.{slot_state}
 use Rattle.helpers.proofs.slots.Helpers.names.Goals as goal
 
+-- each name was copied
 pub returns : goal.returns
 returns g c =
     let seen = slot_state (λ b. (goal.Helper-dyn g (b.vtable, b.value)).state b.value) in

@@ -23,15 +23,18 @@ here c = let same = next c in c.self.invariant.next (omega arith) ∙ ap offset_
 near : (c : Else-index-self-2) → IsNear c.self.inside.next
 near c = rw (here c) (offsets_near c.args.index c.requires)
 
+-- the next offset has no part beyond the largest, so it can be moved
 pub apply-by-requires : goal.apply-by-requires
 apply-by-requires c = near_by_parts c.self.inside.next _ _ (near (goal.at.apply-by-requires c).Else-index-self-2)
     (omega (arith, ints)) (omega (arith, ints))
 
+-- the next offset has no part beyond the largest, so another can follow it
 pub following-self-inside-requires : goal.following-self-inside-requires
 following-self-inside-requires c =
     near_by_parts c.self.inside.next _ _ (near (goal.at.following-self-inside-requires c).Else-index-self-2)
     (omega (arith, ints)) (omega (arith, ints))
 
+-- what was moved is the offset of the index
 pub returns-clause-value : goal.returns-clause-value
 returns-clause-value c =
     let moved = moved_by c.self.inside.transform (offset_at c.args.index) c.self.inside.next c.apply-by.result _ _

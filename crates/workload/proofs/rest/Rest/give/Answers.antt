@@ -2,6 +2,7 @@ use Rattle.std.proofs.Common.{◌∙◌, ap, drop, take, ℕ, List}
 use Rattle.workload.proofs.RestLemmas.{given_left}
 use Rattle.workload.proofs.rest.Rest.give.Goals as goal
 
+-- the bytes given are the first of those that were left
 pub returns-clause-bytes : goal.returns-clause-bytes
 returns-clause-bytes c =
     given_left c.args.self.now.lines c.args.self.now.made c.args.self.now.at c.copy_piece-given.result

@@ -2,6 +2,7 @@ use Rattle.std.proofs.Common.{◌∙◌, arith}
 use Rattle.workload.proofs.RestLemmas.{next_left, number_next}
 use Rattle.workload.proofs.rest.Rest.next_line.Goals as goal
 
+-- the number of the line that is made now follows that of the line before
 pub returns-clause-made : goal.returns-clause-made
 returns-clause-made c = record {
   some = omega arith;
@@ -10,6 +11,7 @@ returns-clause-made c = record {
   within = omega arith;
 }
 
+-- the line that is made now was the first of those that were left
 pub returns-clause-same : goal.returns-clause-same
 returns-clause-same c =
     next_left c.args.self.now.lines c.args.self.now.made c.next_number-self.result c.args.self.now.at
