@@ -6,7 +6,9 @@ ghost use Rattle.cons_eval.specs.Bounds.{IsWithin, most};
 ghost use Rattle.cons_eval.specs.Meanings.{Stays, is_on_board, are_on_board};
 ghost use Rattle.cons_eval.specs.Readings.{code_at as code_there};
 ghost use Rattle.cons_eval.specs.Functions.{holds_stone as holds, after_moves as moves_then};
-ghost use Rattle.cons_eval.specs.Values.{worth, only_point as only, two_points as two, point_value, pair_value, points_value, play_value, call_value, if_there, moves_and_point, arguments_of as taken_by};
+ghost use Rattle.cons_eval.specs.Values.{worth, only_point as only, two_points as two, point_value, pair_value};
+ghost use Rattle.cons_eval.specs.Values.{points_value, play_value, call_value, if_there, moves_and_point};
+ghost use Rattle.cons_eval.specs.Values.{arguments_of as taken_by};
 ghost use Rattle.cons_eval.specs.Asking.{is_reading};
 
 use crate::env::Env;

@@ -5,7 +5,9 @@ ghost use Rattle.cons_eval.specs.Meanings.{Stays};
 ghost use Rattle.cons_eval.specs.Readings.{code_at as code_there};
 ghost use Rattle.go_rules.specs.Strings.{cell_at};
 ghost use Rattle.cons_eval.specs.Bounds.{IsWithin};
-ghost use Rattle.cons_eval.specs.Functions.{colour_of, is_safe_move as safe_move, lack_after as lack_then, is_refuted as refuted, does_attack as attacks, does_defend as defends, is_defended_against as defended};
+ghost use Rattle.cons_eval.specs.Functions.{colour_of, is_safe_move as safe_move, lack_after as lack_then};
+ghost use Rattle.cons_eval.specs.Functions.{is_refuted as refuted, does_attack as attacks, does_defend as defends};
+ghost use Rattle.cons_eval.specs.Functions.{is_defended_against as defended};
 
 use crate::env::Env;
 use go_base::{Point, Position};

@@ -2,7 +2,8 @@
 
 ghost use Rattle.std.specs.Prelude.{◌≡◌, ◌*◌, ◌<◌, IfSome};
 ghost use Rattle.go_rules.specs.Play.{is_legal as may_play};
-ghost use Rattle.cons_eval.specs.Functions.{liberties_after as liberties_then, leaves_ban as bans_then, ko, same_worm, after_move as move_from};
+ghost use Rattle.cons_eval.specs.Functions.{liberties_after as liberties_then, leaves_ban as bans_then, ko, same_worm};
+ghost use Rattle.cons_eval.specs.Functions.{after_move as move_from};
 
 use go_base::{Point, Position};
 use go_rules::{Cell, Colour};

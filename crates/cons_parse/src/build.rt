@@ -4,7 +4,8 @@ ghost use Rattle.std.specs.Prelude.{◌≡◌, IfOk};
 ghost use Rattle.std.specs.Option.{option_map};
 ghost use Rattle.cons_parse.specs.Grammar.{level_of_op};
 ghost use Rattle.cons_parse.specs.Trees.{NotTree, NegTree, BinTree, tree_of, call_tree};
-ghost use Rattle.cons_parse.specs.Building.{trees, settled_in, joined_in, operated, closed_in, stepped, built, state_of, stack_of};
+ghost use Rattle.cons_parse.specs.Building.{trees, settled_in, joined_in, operated, closed_in, stepped, built};
+ghost use Rattle.cons_parse.specs.Building.{state_of, stack_of};
 
 use crate::calls::Item;
 use crate::token::Name;

@@ -1,7 +1,8 @@
 //! The items of an expression: its tokens, with each call as one.
 
 ghost use Rattle.std.specs.Prelude.{◌≡◌, ◌≤◌, length, IfOk};
-ghost use Rattle.cons_parse.specs.Calls.{arg_of as arg_in, is_open, is_close, is_comma, arguments_at as arguments_in, item_at as item_in, items_of as all_items};
+ghost use Rattle.cons_parse.specs.Calls.{arg_of as arg_in, is_open, is_close, is_comma, arguments_at as arguments_in};
+ghost use Rattle.cons_parse.specs.Calls.{item_at as item_in, items_of as all_items};
 ghost use Rattle.cons_parse.specs.Answers.{Gives};
 
 use crate::error::ConsError;

@@ -2,7 +2,8 @@
 
 ghost use Rattle.std.specs.Prelude.{◌≡◌, ◌<◌, reverse, true, false};
 ghost use Rattle.cons_parse.specs.Answers.{Gives, Steps};
-ghost use Rattle.cons_parse.specs.Scan.{settled, begun, gone_on, advance, ended, scanned, spot_of, is_prefixed as prefixed, Closes};
+ghost use Rattle.cons_parse.specs.Scan.{settled, begun, gone_on, advance, ended, scanned, spot_of};
+ghost use Rattle.cons_parse.specs.Scan.{is_prefixed as prefixed, Closes};
 
 use crate::calls::Item;
 use crate::error::ConsError;

@@ -1,8 +1,12 @@
 //! The tokens of an expression.
 
-ghost use Rattle.std.specs.Prelude.{◌≡◌, ◌≤◌, ◌<◌, ◌^◌, ◌+◌, ◌∷◌, ◌==◌, ◌&&◌, ◌||◌, nat_le, nat_lt, ℕ, length, IfSome, true, slice_index};
+ghost use Rattle.std.specs.Prelude.{◌≡◌, ◌≤◌, ◌<◌, ◌^◌, ◌+◌, ◌∷◌, ◌==◌, ◌&&◌, ◌||◌, nat_le, nat_lt, ℕ, length, IfSome};
+ghost use Rattle.std.specs.Prelude.{true, slice_index};
 ghost use Rattle.std.specs.List.{prefix_len};
-ghost use Rattle.cons_parse.specs.Tokens.{is_letter as letter, is_digit as digit, is_name_byte as name_byte, value_of as value, function_named as function_of, name_of as name_in, two_at as two, one_at as one, first_sign, first_token, tokens_of as all_tokens};
+ghost use Rattle.cons_parse.specs.Tokens.{is_letter as letter, is_digit as digit, is_name_byte as name_byte};
+ghost use Rattle.cons_parse.specs.Tokens.{value_of as value, function_named as function_of, name_of as name_in};
+ghost use Rattle.cons_parse.specs.Tokens.{two_at as two, one_at as one, first_sign, first_token};
+ghost use Rattle.cons_parse.specs.Tokens.{tokens_of as all_tokens};
 ghost use Rattle.cons_parse.specs.Answers.{Gives};
 
 use crate::error::ConsError;

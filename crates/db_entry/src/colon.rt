@@ -1,6 +1,7 @@
 //! The colon line: its faults, and what it says.
 
-ghost use Rattle.std.specs.Prelude.{◌≡◌, ◌≤◌, ◌<◌, ◌==◌, ◌&&◌, ◌||◌, not, nat_lt, nat_le, is_none, ℕ, List, [], ◌∷◌, ◌++◌, length, map, count_by, codes, Some, None, IfOk, IfErr, take};
+ghost use Rattle.std.specs.Prelude.{◌≡◌, ◌≤◌, ◌<◌, ◌==◌, ◌&&◌, ◌||◌, not, nat_lt, nat_le, is_none, ℕ, List, [], ◌∷◌};
+ghost use Rattle.std.specs.Prelude.{◌++◌, length, map, count_by, codes, Some, None, IfOk, IfErr, take};
 ghost use Rattle.std.specs.List.{list_any, list_all};
 ghost use Rattle.std.specs.Str.{bytes_eq};
 ghost use Rattle.db_lex.specs.Lines.{trimmed};
@@ -8,7 +9,10 @@ ghost use Rattle.pat_types.specs.Diagrams.{is_star};
 ghost use Rattle.db_rules.specs.Diagram.{star_count as stars};
 ghost use Rattle.db_rules.specs.declared.kind.FaultKind.{FaultKind};
 ghost use Rattle.db_rules.specs.Kinds.{first_of};
-ghost use Rattle.db_rules.specs.Colon.{fields_of as all_fields, mark_of as mark_in, class_field as second_field, further as others, is_item as item, item_of as item_from, names_nothing as nothing_named, class_letters as letters_in, null, are_classes as classes, fields_fault as first_fields_fault, colon_fault};
+ghost use Rattle.db_rules.specs.Colon.{fields_of as all_fields, mark_of as mark_in, class_field as second_field};
+ghost use Rattle.db_rules.specs.Colon.{further as others, is_item as item, item_of as item_from};
+ghost use Rattle.db_rules.specs.Colon.{names_nothing as nothing_named, class_letters as letters_in, null};
+ghost use Rattle.db_rules.specs.Colon.{are_classes as classes, fields_fault as first_fields_fault, colon_fault};
 ghost use Rattle.db_rules.specs.Faults.{Blames};
 ghost use Rattle.db_entry.specs.Says.{Says, most_fields};
 ghost use Rattle.db_entry.specs.Reads.{Draws};

@@ -1,9 +1,14 @@
 //! The fields of a colon line.
 
-ghost use Rattle.std.specs.Prelude.{◌≡◌, ◌≤◌, ◌<◌, ◌^◌, ◌+◌, ◌-◌, ◌==◌, ◌&&◌, ◌||◌, not, nat_lt, nat_le, ℕ, List, [], ◌∷◌, length, take, drop, map, IfOk, if◌then◌else◌};
+ghost use Rattle.std.specs.Prelude.{◌≡◌, ◌≤◌, ◌<◌, ◌^◌, ◌+◌, ◌-◌, ◌==◌, ◌&&◌, ◌||◌, not, nat_lt, nat_le, ℕ, List, []};
+ghost use Rattle.std.specs.Prelude.{◌∷◌, length, take, drop, map, IfOk, if◌then◌else◌};
 ghost use Rattle.std.specs.List.{list_all, position_or_len};
 ghost use Rattle.db_lex.specs.Lines.{trimmed};
-ghost use Rattle.db_rules.specs.Colon.{split_at_commas, depth_after as next_depth, fields_of as all_fields, is_digit as digit, is_name_byte as name_byte, is_name as name, is_text_byte as text_byte, is_closed_text as closed_text, is_item as item, name_part, after_open, comma, mark_by_byte, are_classes as classes, is_class_byte as class_byte, open_paren};
+ghost use Rattle.db_rules.specs.Colon.{split_at_commas, depth_after as next_depth, fields_of as all_fields};
+ghost use Rattle.db_rules.specs.Colon.{is_digit as digit, is_name_byte as name_byte, is_name as name};
+ghost use Rattle.db_rules.specs.Colon.{is_text_byte as text_byte, is_closed_text as closed_text, is_item as item};
+ghost use Rattle.db_rules.specs.Colon.{name_part, after_open, comma, mark_by_byte, are_classes as classes};
+ghost use Rattle.db_rules.specs.Colon.{is_class_byte as class_byte, open_paren};
 
 use crate::words::is_ascii_letter;
 use db_lex::trim;

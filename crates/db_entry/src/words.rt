@@ -3,7 +3,8 @@
 ghost use Rattle.std.specs.Prelude.{◌≡◌, ◌≤◌, ◌-◌, ◌==◌, ◌&&◌, nat_lt, length, slice_index, Some, None, if◌then◌else◌};
 ghost use Rattle.std.specs.List.{list_all};
 ghost use Rattle.db_rules.specs.Colon.{is_ascii_letter as ascii_letter};
-ghost use Rattle.db_rules.specs.Diagram.{letter_of, is_dash, is_letter as is_one_letter, begins, inner as inside, is_edge_line as edge_line, is_row as row, shape_of, bar, plus};
+ghost use Rattle.db_rules.specs.Diagram.{letter_of, is_dash, is_letter as is_one_letter, begins, inner as inside};
+ghost use Rattle.db_rules.specs.Diagram.{is_edge_line as edge_line, is_row as row, shape_of, bar, plus};
 
 use db_rules::Shape;
 use pat_types::Letter;

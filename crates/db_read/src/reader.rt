@@ -1,12 +1,16 @@
 //! Reading a text, line by line.
 
-ghost use Rattle.std.specs.Prelude.{◌≡◌, ◌↔◌, ◌++◌, Option, IsTrue, ◌≤◌, ◌<◌, ◌^◌, ℕ, Bool, true, false, List, [], ◌∷◌, length, map, OnOk, IfOk, IfErr, Some, None, fold, slice_index};
+ghost use Rattle.std.specs.Prelude.{◌≡◌, ◌↔◌, ◌++◌, Option, IsTrue, ◌≤◌, ◌<◌, ◌^◌, ℕ, Bool, true, false, List, [], ◌∷◌};
+ghost use Rattle.std.specs.Prelude.{length, map, OnOk, IfOk, IfErr, Some, None, fold, slice_index};
 ghost use Rattle.db_lex.specs.declared.line.LineKind.{LineKind};
 ghost use Rattle.db_lex.specs.Lines.{KeptLine, kind_of, word_of};
 ghost use Rattle.db_rules.specs.declared.stage.TableCell.{TableCell};
 ghost use Rattle.db_rules.specs.declared.stage.Stage.{Stage};
-ghost use Rattle.db_rules.specs.Blocks.{SoFar, Block, at_start, placed, blocks_of, after_line, cell_for, table as next_by_table};
-ghost use Rattle.db_rules.specs.Faults.{pattern_fault as first_pattern_fault, own_fault, table_fault, closes as closes_stage, gathered_fault as fault_gathered, closing_fault as fault_closed, found, found_at_end, first_fault, entries};
+ghost use Rattle.db_rules.specs.Blocks.{SoFar, Block, at_start, placed, blocks_of, after_line, cell_for};
+ghost use Rattle.db_rules.specs.Blocks.{table as next_by_table};
+ghost use Rattle.db_rules.specs.Faults.{pattern_fault as first_pattern_fault, own_fault, table_fault};
+ghost use Rattle.db_rules.specs.Faults.{closes as closes_stage, gathered_fault as fault_gathered};
+ghost use Rattle.db_rules.specs.Faults.{closing_fault as fault_closed, found, found_at_end, first_fault, entries};
 ghost use Rattle.std.specs.Option.{option_to_list};
 ghost use Rattle.db_rules.specs.Entries.{entry_of, entry_of_block};
 ghost use Rattle.db_read.specs.Drafts.{IsComplete};

@@ -1,10 +1,9 @@
 -- What holds of games that go on by one move.
-use Rattle.std.proofs.Common.{◌≡◌, ℕ, zero, suc, ◌+◌, ◌*◌, ◌<◌, ◌≤◌, List, [], ◌∷◌, ◌++◌, length, take, get_or, Option, Some, None, Result, Ok, Err, refl, sym, ap, subst, arith, ◌∙◌, add_assoc, inl, inr}
+use Rattle.std.proofs.Common.{◌≡◌, ℕ, zero, suc, ◌+◌, ◌*◌, ◌<◌, ◌≤◌, List, [], ◌∷◌, ◌++◌, length, take, get_or, Option, Some, None, refl, sym, ap, subst, arith, ◌∙◌, add_assoc, inl, inr}
 use Rattle.std.proofs.Math.ListN.{set}
 use Rattle.std.proofs.lemmas.Bool.{cases_Bool}
 use Rattle.std.proofs.lemmas.Nat.{mul-le}
 use Rattle.go_rules.specs.declared.Colour.{Colour}
-use Rattle.go_rules.specs.declared.Illegal.{Illegal}
 use Rattle.go_rules.specs.declared.Move.{Move}
 use Rattle.go_rules.specs.Board.{largest_size, largest_points}
 use Rattle.go_rules.specs.Position.{BoardState, same_colour, stone_of}
@@ -12,7 +11,6 @@ use Rattle.go_rules.specs.Play.{is_taken}
 use Rattle.go_rules.specs.Replay.{moved, led_to, replay_from, captures_from, taken_by, IsLegalMove, IsLegalGame}
 use Rattle.go_rules.proofs.Counts.{count_below_at_most}
 use Rattle.go_history.specs.Taken.{stones_taken}
-use Rattle.go_history.proofs.Stones.{played_from}
 use Rattle.go_rules.proofs.CaptureLaws.{moved_size}
 
 -- the stones of a game that goes on are those taken before and those that its last move takes

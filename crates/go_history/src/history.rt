@@ -1,6 +1,7 @@
 //! A game's list of moves.
 
-ghost use Rattle.std.specs.Prelude.{◌≡◌, ◌-◌, ◌*◌, ◌<◌, ◌≤◌, ◌↔◌, [], ◌∷◌, ◌++◌, take, length, Ok, Err, IsOk, IsErr, IfOk, IfSome, OnOk, OnErr};
+ghost use Rattle.std.specs.Prelude.{◌≡◌, ◌-◌, ◌*◌, ◌<◌, ◌≤◌, ◌↔◌, [], ◌∷◌, ◌++◌, take, length, Ok, Err, IsOk, IsErr};
+ghost use Rattle.std.specs.Prelude.{IfOk, IfSome, OnOk, OnErr};
 ghost use Rattle.go_rules.specs.declared.Illegal.{Illegal};
 ghost use Rattle.go_rules.specs.Replay.{empty_board, moved, captures, IsLegalGame};
 ghost use Rattle.go_strings.specs.Games.{reached};

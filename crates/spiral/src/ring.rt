@@ -2,7 +2,8 @@
 ghost use Rattle.std.specs.Prelude.{◌≡◌, ◌+◌, ◌*◌, ◌<◌, ◌≤◌, pos, ◌-ℤ◌, ◌-◌};
 ghost use Rattle.go_rules.specs.Board.{largest_size};
 ghost use Rattle.go_rules.specs.Transform.{IsNear, largest_offset};
-ghost use Rattle.spiral.specs.Spiral.{offset_count, square_side, ring_start as start_of, ring_place as offset_in, ring_up_to, offset_at, place_in};
+ghost use Rattle.spiral.specs.Spiral.{offset_count, square_side, ring_start as start_of, ring_place as offset_in};
+ghost use Rattle.spiral.specs.Spiral.{ring_up_to, offset_at, place_in};
 
 use go_base::size::MAX_OFFSET;
 

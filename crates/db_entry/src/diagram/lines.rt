@@ -1,7 +1,8 @@
 //! What a further line does to a main diagram.
 
 ghost use Rattle.go_rules.specs.Board.{largest_size};
-ghost use Rattle.std.specs.Prelude.{◌≡◌, ◌∷◌, [], ◌++◌, ◌&&◌, ◌||◌, not, nat_lt, nat_le, ℕ, List, OnOk, OnErr, IfErr, length, Some, None, ◌+◌, ◌<◌, ◌≤◌, ◌^◌, if◌then◌else◌};
+ghost use Rattle.std.specs.Prelude.{◌≡◌, ◌∷◌, [], ◌++◌, ◌&&◌, ◌||◌, not, nat_lt, nat_le, ℕ, List, OnOk, OnErr, IfErr};
+ghost use Rattle.std.specs.Prelude.{length, Some, None, ◌+◌, ◌<◌, ◌≤◌, ◌^◌, if◌then◌else◌};
 ghost use Rattle.std.specs.List.{filter_map};
 ghost use Rattle.pat_types.specs.Diagrams.{drawn_line};
 ghost use Rattle.db_rules.specs.declared.kind.FaultKind.{FaultKind};
