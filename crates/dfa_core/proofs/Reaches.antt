@@ -16,6 +16,7 @@ use Rattle.dfa_core.proofs.Lengths.{length_below-blank}
 abbrev ring_of : Offset → ℕ
 ring_of d = max (nat_abs d.0) (nat_abs d.1)
 
+-- each index stands before the first one of the ring after its own
 all_inside : agree_below (λ i. nat_lt i (ring_start (suc (ring_of (offset_at i))))) (λ _. true) offset_count ≡ true
 unfolding offset_at
 all_inside = refl

@@ -43,10 +43,12 @@ module _ {X : Type 0} (f : Word → X) (same_or_not : (x y : X) → (x ≡ y) �
   with_last : (ℕ → Word) → ℕ → Word → ℕ → Word
   with_last word n v i = cond (eqb i n) v (word i)
 
+  -- the word with the number n is v
   with_last-at : (word : ℕ → Word) (n : ℕ) (v : Word) → with_last word n v n ≡ v
   unfolding with_last
   with_last-at word n v = ap (λ b. cond b v (word n)) (eq-eqb n n refl)
 
+  -- the words with lower numbers are as before
   with_last-below : (word : ℕ → Word) (n : ℕ) (v : Word) (i : ℕ) → i < n → with_last word n v i ≡ word i
   unfolding with_last
   with_last-below word n v i l = ap (λ b. cond b v (word i)) (ne_eqb i n (λ e. absurd (omega (arith, l, e))))
@@ -225,6 +227,7 @@ none_live (p ∷ ps) w long =
     (lt-leb (length w) (pattern_length p) (omega (arith, long, pattern_length-most p))))
     ∙ ap (λ bs. false ∷ bs) (none_live ps w long)
 
+-- a list in which no pattern is live has none that is
 some_live-none : (ps : List Pattern) → some_live (map (λ _. false) ps) ≡ false
 some_live-none [] = refl
 some_live-none (p ∷ ps) = some_live-none ps

@@ -17,6 +17,7 @@ length-first_rows : (t : Flat) (n : ℕ) → length (first_rows t n) ≡ n
 length-first_rows t zero = refl
 length-first_rows t (suc n) = omega (arith, length_push (first_rows t n) (row_in t n), length-first_rows t n)
 
+-- a table has a row for each depth
 pub length-rows : (t : Flat) → length (rows_in t) ≡ length t.depths
 unfolding rows_in
 length-rows t = length-first_rows t (length t.depths)
@@ -33,6 +34,7 @@ first_rows-at t (suc n) r low =
           get_or_push (first_rows t n) (row_in t n) no_row r (length-first_rows t n ∙ same) ∙ ap (row_in t) same
     ]
 
+-- the row with a number is the one that the lists show at it
 pub row_at-rows : (t : Flat) (r : ℕ) → r < length t.depths → row_at (rows_in t) r ≡ row_in t r
 unfolding rows_in
 row_at-rows t r low = first_rows-at t (length t.depths) r low
@@ -59,12 +61,15 @@ module _ (t : Flat) (ts ns : List ℕ) (d : ℕ) (good : IsFlat t) (four : lengt
     depths = t.depths ++ d ∷ [];
   }
 
+  -- the numbers of the rows before begin where they did
   old_start : (r : ℕ) → r ≤ length t.depths → start_of more r ≡ start_of t r
   old_start r low = get_or_append_left t.starts (length (t.numbers ++ ns) ∷ []) 0 r (omega (arith, good.starts))
 
+  -- the numbers of the new row end at the end of all numbers
   new_start : start_of more (length t.depths + 1) ≡ length (t.numbers ++ ns)
   new_start = get_or_push t.starts (length (t.numbers ++ ns)) 0 (length t.depths + 1) good.starts
 
+  -- the rows before are as they were
   old_row : (r : ℕ) → r < length t.depths → row_in more r ≡ row_in t r
   old_row r low =
       let targets : part_of more.targets (4 * r) (4 * r + 4) ≡ part_of t.targets (4 * r) (4 * r + 4) =
@@ -78,6 +83,7 @@ module _ (t : Flat) (ts ns : List ℕ) (d : ℕ) (good : IsFlat t) (four : lengt
       let depth : get_or more.depths r 0 ≡ get_or t.depths r 0 = get_or_append_left t.depths (d ∷ []) 0 r low in
       λ i. record { targets = targets i; numbers = numbers i; depth = depth i }
 
+  -- the row behind them has the new targets, numbers and depth
   new_row : row_in more (length t.depths) ≡ record { targets = ts; numbers = ns; depth = d }
   new_row =
       let n : ℕ = length t.depths in
@@ -89,6 +95,7 @@ module _ (t : Flat) (ts ns : List ℕ) (d : ℕ) (good : IsFlat t) (four : lengt
       let depth : get_or more.depths n 0 ≡ d = get_or_push t.depths d 0 n refl in
       λ i. record { targets = targets i; numbers = numbers i; depth = depth i }
 
+  -- the first rows are as they were
   old_rows : (n : ℕ) → n ≤ length t.depths → first_rows more n ≡ first_rows t n
   old_rows zero low = refl
   old_rows (suc n) low = ap (λ rows. rows ++ row_in more n ∷ []) (old_rows n (omega arith))
@@ -141,9 +148,11 @@ module _ (old new : Flat) (ts mid first second : List ℕ) (d n : ℕ) (good : I
     (targets : new.targets ≡ old.targets ++ ts)
     (starts : new.starts ≡ old.starts ++ n ∷ []) (count : n ≡ length new.numbers) (front : mid ≡ old.numbers ++ first)
     (numbers : new.numbers ≡ mid ++ second) (depths : new.depths ≡ old.depths ++ d ∷ []) where
+  -- the numbers of the new row stand behind all others
   all_numbers : old.numbers ++ (first ++ second) ≡ new.numbers
   all_numbers = sym (append_assoc old.numbers first second) ∙ ap (λ xs. xs ++ second) (sym front) ∙ sym numbers
 
+  -- the four lists that have grown are the table with one row more
   grown : more old ts (first ++ second) d good four ≡ new
   grown =
       let begins : old.starts ++ length (old.numbers ++ (first ++ second)) ∷ [] ≡ new.starts =
@@ -154,6 +163,7 @@ module _ (old new : Flat) (ts mid first second : List ℕ) (d n : ℕ) (good : I
   pub rows_in-grown : rows_in new ≡ rows_in old ++ (record { targets = ts; numbers = first ++ second; depth = d }) ∷ []
   rows_in-grown = ap rows_in (sym grown) ∙ rows_in-more old ts (first ++ second) d good four
 
+  -- where each list has grown by one row, the lists still belong together
   pub IsFlat-grown : IsFlat new
   IsFlat-grown = subst IsFlat grown (IsFlat-more old ts (first ++ second) d good four)
 
@@ -162,6 +172,7 @@ pub rows_in-none : (t : Flat) → t.depths ≡ [] → rows_in t ≡ []
 unfolding rows_in
 rows_in-none t none = ap (λ ds. first_rows t (length ds)) none
 
+-- the lists of a table without rows belong together
 pub IsFlat-none : (t : Flat) → t.targets ≡ [] → t.starts ≡ 0 ∷ [] → t.numbers ≡ [] → t.depths ≡ [] → IsFlat t
 IsFlat-none t targets starts numbers depths = rw (targets, starts, numbers, depths) (record {
   targets = refl;

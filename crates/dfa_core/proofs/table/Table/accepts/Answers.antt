@@ -6,6 +6,7 @@ use Rattle.dfa_core.proofs.Tables.{flat_with, row_below, row_at-rows}
 use Rattle.dfa_core.proofs.table.Table.accepts.Goals.{After-index-to}
 use Rattle.dfa_core.proofs.table.Table.accepts.Goals as goal
 
+-- each row has an entry for where its numbers begin
 pub index-from-requires : goal.index-from-requires
 index-from-requires c =
     let t : Flat = flat_with c.self.inside.targets.items c.self.inside.starts.items c.self.inside.numbers.items
@@ -13,6 +14,7 @@ index-from-requires c =
     let low = row_below t c.args.self.now c.args.row c.self.view_is c.requires in
     omega (arith, c.self.inside.starts.ok.0, c.self.invariant.flat.starts)
 
+-- each row has an entry for where its numbers end
 pub index-to-requires : goal.index-to-requires
 index-to-requires c =
     let t : Flat = flat_with c.self.inside.targets.items c.self.inside.starts.items c.self.inside.numbers.items
@@ -40,6 +42,7 @@ to_start c =
     (c.args.row + 1) c.self.inside.starts.len c.index-to.result.now 0 c.index-to.ensures
     (omega (arith, c.self.inside.starts.ok.0, c.self.invariant.flat.starts)) c.self.inside.starts.ok.0
 
+-- the numbers of a row end no earlier than they begin
 pub between-requires-clause-order : goal.between-requires-clause-order
 between-requires-clause-order c =
     let t : Flat = flat_with c.self.inside.targets.items c.self.inside.starts.items c.self.inside.numbers.items
@@ -48,6 +51,7 @@ between-requires-clause-order c =
     let at = (goal.at.between-requires-clause-order c).After-index-to in
     omega (arith, from_start at, to_start at, c.self.invariant.flat.ordered c.args.row low)
 
+-- the numbers of a row end within those of all rows
 pub between-requires-clause-within : goal.between-requires-clause-within
 between-requires-clause-within c =
     let t : Flat = flat_with c.self.inside.targets.items c.self.inside.starts.items c.self.inside.numbers.items

@@ -5,6 +5,7 @@ use Rattle.dfa_core.specs.Tables.{Flat}
 use Rattle.dfa_core.proofs.Tables.{flat_with, row_below, row_at-rows}
 use Rattle.dfa_core.proofs.table.Table.depth.Goals as goal
 
+-- each row has an entry for its depth
 pub index-requires : goal.index-requires
 index-requires c =
     let t : Flat = flat_with c.self.inside.targets.items c.self.inside.starts.items c.self.inside.numbers.items

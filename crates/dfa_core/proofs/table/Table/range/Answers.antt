@@ -4,6 +4,7 @@ use Rattle.dfa_core.specs.Tables.{Flat, numbers_of}
 use Rattle.dfa_core.proofs.Tables.{flat_with, row_below, start-counts}
 use Rattle.dfa_core.proofs.table.Table.range.Goals as goal
 
+-- each row has an entry for where its numbers begin
 pub index-requires : goal.index-requires
 index-requires c =
     let t : Flat = flat_with c.self.inside.targets.items c.self.inside.starts.items c.self.inside.numbers.items
@@ -11,6 +12,7 @@ index-requires c =
     let low = row_below t c.args.self.now c.args.row c.self.view_is c.requires in
     omega (arith, c.self.inside.starts.ok.0, c.self.invariant.flat.starts)
 
+-- each row has an entry for where its numbers end
 pub index-requires-2 : goal.index-requires-2
 index-requires-2 c =
     let t : Flat = flat_with c.self.inside.targets.items c.self.inside.starts.items c.self.inside.numbers.items

@@ -5,6 +5,7 @@ use Rattle.dfa_core.specs.Tables.{Flat}
 use Rattle.dfa_core.proofs.Tables.{flat_with, row_below, target-at}
 use Rattle.dfa_core.proofs.table.Table.target.Goals as goal
 
+-- each row has an entry for the target of each letter
 pub index-requires : goal.index-requires
 index-requires c =
     let t : Flat = flat_with c.self.inside.targets.items c.self.inside.starts.items c.self.inside.numbers.items

@@ -1,10 +1,10 @@
 //! What a row means to a walk that enters it.
 ghost use Rattle.std.specs.Prelude.{◌≡◌, ◌++◌};
-ghost use Rattle.dfa_core.specs.Marks.{stays_at, mark_with};
+ghost use Rattle.dfa_core.specs.RowKinds.{stays_at, kind_with};
 
 /// What a row means to a walk that enters it. It follows from the row.
 #[derive(Clone, Copy, Debug, PartialEq, Eq)]
-pub enum Mark {
+pub enum RowKind {
     /// It accepts nothing, and some letter leads on.
     Plain,
     /// It accepts something.
@@ -23,16 +23,16 @@ fn is_never_left(row: usize, targets: [u32; 4]) -> bool
         && targets[3] as usize == row
 }
 
-/// The mark of a row that accepts the numbers of both lists.
-pub fn mark_of(row: usize, targets: [u32; 4], first: &[u16], second: &[u16]) -> Mark
-    ensures { result ≡ mark_with row targets (first.now ++ second.now) }
+/// The kind of a row that accepts the numbers of both lists.
+pub fn kind_of(row: usize, targets: [u32; 4], first: &[u16], second: &[u16]) -> RowKind
+    ensures { result ≡ kind_with row targets (first.now ++ second.now) }
 {
     if !first.is_empty() || !second.is_empty() {
-        return Mark::Accepting;
+        return RowKind::Accepting;
     }
     if is_never_left(row, targets) {
-        Mark::Dead
+        RowKind::Dead
     } else {
-        Mark::Plain
+        RowKind::Plain
     }
 }
