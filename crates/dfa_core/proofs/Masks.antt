@@ -1,6 +1,6 @@
 -- What the masks of a pattern say of its cells and of its length.
 use Rattle.std.proofs.Common.{◌≡◌, ℕ, ◌+◌, ◌-◌, ◌<◌, ◌≤◌, Bool, true, false, not, ◌&&◌, List, [], ◌∷◌, ◌++◌, length, get_or, refl, sym, ap, ◌∙◌, subst, arith, inl, inr}
-use Rattle.std.proofs.lemmas.Bool.{cases_lt}
+use Rattle.std.proofs.lemmas.Bool.{cases_lt, not-true, not-false}
 use Rattle.std.proofs.lemmas.List.{length_push, get_or_push, get_or_append_left}
 use Rattle.pat_types.specs.declared.letter.Letter.TheVariants.{Friend as LetterFriend, Enemy as LetterEnemy, Empty as LetterEmpty, FriendOrEmpty, EnemyOrEmpty, Any, Star}
 use Rattle.pat_types.specs.declared.cell.Drawn.{Drawn}
@@ -40,16 +40,6 @@ has_each-blank p i mask is =
     ∙ ap (λ a. admits p i Friend && admits p i Enemy && admits p i Empty && a) (is Off)
     ∙ all_admitted (drawn_along p i)
 
--- what is drawn where the mask lacks a letter
-not-drawn : (b : Bool) → not b ≡ false → b ≡ true
-not-drawn true e = refl
-not-drawn false e = sym e
-
--- what is blank where the mask lacks none
-not-blank : (b : Bool) → not b ≡ true → b ≡ false
-not-blank true e = sym e
-not-blank false e = refl
-
 module _ (p : Pattern) (masks : List LetterMask) (n : ℕ) (are : AreMasks p (length masks) masks) (some : 0 < n)
     (low : n ≤ length masks) (mask : LetterMask) (last : mask ≡ get_or masks (n - 1) no_mask) where
   -- the mask before the index has what the pattern admits there
@@ -59,12 +49,12 @@ module _ (p : Pattern) (masks : List LetterMask) (n : ℕ) (are : AreMasks p (le
   -- where the last mask lacks a letter, the length is the number of masks
   pub length_at_lacking : has_each mask ≡ false → n ≡ length_below p n
   length_at_lacking lacks = length_at_drawn p n some
-      (not-drawn (is_drawn (drawn_along p (n - 1))) (sym (has_each-blank p (n - 1) mask before) ∙ lacks))
+      (not-false (is_drawn (drawn_along p (n - 1))) (sym (has_each-blank p (n - 1) mask before) ∙ lacks))
 
   -- where the last mask lacks none, one mask fewer gives the same length
   pub length_at_whole : has_each mask ≡ true → length_below p (n - 1) ≡ length_below p n
   length_at_whole whole = length_at_blank p n some
-      (not-blank (is_drawn (drawn_along p (n - 1))) (sym (has_each-blank p (n - 1) mask before) ∙ whole))
+      (not-true (is_drawn (drawn_along p (n - 1))) (sym (has_each-blank p (n - 1) mask before) ∙ whole))
 
 -- no masks are those of no indices
 pub AreMasks-none : (p : Pattern) (masks : List LetterMask) → masks ≡ [] → AreMasks p 0 masks
