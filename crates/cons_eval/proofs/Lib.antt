@@ -1,8 +1,8 @@
 pub mod Strings
-pub mod Staying
+pub mod CallCounts
 pub mod Parts
 pub mod Sizes
 pub mod Callers
-pub mod Evaluating
+pub mod ExpressionValues
 pub mod Moves
-pub mod Calling
+pub mod CallArguments

@@ -12,9 +12,9 @@ use Rattle.cons_parse.specs.Trees.{Tree, tree_of, meaning_of}
 use Rattle.cons_parse.specs.Building.{built, valued}
 use Rattle.cons_parse.specs.Parsing.{items_within, Tells, Spells, Refuses}
 use Rattle.cons_parse.specs.Reading.{as_written, written_of, expression_in, fault_of_reading, fault_in, Blames}
-use Rattle.cons_parse.proofs.Spelled.{scanned_spelling}
+use Rattle.cons_parse.proofs.SpellingScans.{scanned_spelling}
 use Rattle.cons_parse.proofs.Spellings.{built_spelling}
-use Rattle.cons_parse.proofs.Told.{told, written_within, some_same}
+use Rattle.cons_parse.proofs.ParseAnswers.{told, written_within, some_same}
 
 -- made of its parts again, an expression is the same
 valued_written : (w : Written) → valued as_written w ≡ w

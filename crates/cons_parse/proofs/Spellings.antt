@@ -8,7 +8,7 @@ use Rattle.cons_parse.specs.declared.calls.Item.TheVariants as item
 use Rattle.cons_parse.specs.Grammar.{Written, Num, Call, Parens, Not, Neg, Bin, level_of_op, level_of, IsWell, spelling}
 use Rattle.cons_parse.specs.Trees.{meaning_of, NotTree, NegTree}
 use Rattle.cons_parse.specs.Building.{Forms, Pending, OpenNot, OpenNeg, OpenParens, OpenLeft, Standing, State, settled_in, joined_in, standing, waiting, operated, closed_in, run, built, finished, valued, trees}
-use Rattle.cons_parse.proofs.Spelled.{op_level}
+use Rattle.cons_parse.proofs.SpellingScans.{op_level}
 
 -- no sign is open at the top, and no operator as tight as this level
 abbrev pub IsLoose : {P : Type 0} → ℕ → List (Pending P) → Type 0

@@ -7,7 +7,7 @@ use Rattle.db_rules.specs.declared.kind.FaultKind.{FaultKind}
 use Rattle.db_rules.specs.declared.kind.FaultKind.TheVariants.{BadLetter, EdgePlace, Ragged, TooLarge}
 use Rattle.db_rules.specs.Kinds.{first_of}
 use Rattle.db_rules.specs.Diagram.{is_row as is_row_word, is_edge_line, shape_of, line_shape, bar, plus, other_width, wanted, is_misplaced, diagram_fault}
-use Rattle.db_rules.proofs.Drawn.{row_is_no_edge_line}
+use Rattle.db_rules.proofs.MainDiagrams.{row_is_no_edge_line}
 use Rattle.db_entry.specs.declared.line.DiagramLine.{DiagramLine}
 use Rattle.db_entry.specs.declared.line.DiagramLine.TheVariants.{Edge, Row}
 use Rattle.db_entry.specs.DiagramLines.{line_of, is_edge, is_row, shape_on}

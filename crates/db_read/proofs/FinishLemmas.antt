@@ -9,7 +9,7 @@ use Rattle.db_rules.specs.Diagram.{wanted}
 use Rattle.db_rules.specs.Entries.{shape_in}
 use Rattle.db_rules.specs.Blocks.{words_in}
 use Rattle.db_rules.proofs.EntryLemmas.{no_shape, diagram_of_entry, width_of-shape_in}
-use Rattle.db_rules.proofs.Labelled.{labels_are_labels}
+use Rattle.db_rules.proofs.ConstraintDiagrams.{labels_are_labels}
 use Rattle.db_lex.specs.declared.line.LineKind.TheVariants.{Pattern, Semicolon}
 use Rattle.db_rules.specs.declared.stage.Stage.{Stage}
 use Rattle.db_rules.specs.declared.stage.Stage.TheVariants.{Start, Diagram, Labels, Expression, Actions}

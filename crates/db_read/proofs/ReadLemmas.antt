@@ -14,7 +14,7 @@ use Rattle.db_rules.specs.Blocks.{SoFar, after_line, end_refused}
 use Rattle.db_rules.specs.Faults.{at_line, closing_fault, found, found_at_end, first_fault}
 use Rattle.db_read.specs.Reading.{BlamesAt, Shows}
 use Rattle.db_rules.proofs.Walk.{Reaches-step, Reaches-fault}
-use Rattle.db_read.proofs.Walked.{Walked}
+use Rattle.db_read.proofs.ReaderProgress.{Walked}
 
 -- what is handed out for a line with a bad byte
 abbrev bad_of : KeptLine → BadByte

@@ -8,8 +8,8 @@ use Rattle.db_rules.specs.declared.shape.Shape.{Shape}
 use Rattle.db_rules.specs.Diagram.{rows_of, has_top, has_bottom, wanted, letters_of, star_count, width_of}
 use Rattle.db_rules.specs.Entries.{shape_in, star_place}
 use Rattle.db_rules.specs.Accepted.{IsDrawn}
-use Rattle.db_rules.proofs.Drawn.{IsFit, drawn_few, drawn_lines, drawn_whole, drawn_fits}
-use Rattle.db_rules.proofs.Starred.{star_within, one_star_at}
+use Rattle.db_rules.proofs.MainDiagrams.{IsFit, drawn_few, drawn_lines, drawn_whole, drawn_fits}
+use Rattle.db_rules.proofs.StarPlaces.{star_within, one_star_at}
 
 -- the shape of no line
 abbrev pub no_shape : Shape

@@ -1,10 +1,10 @@
 pub mod OneMoreLine
 pub mod TableLemmas
 pub mod Walk
-pub mod Cut
-pub mod Whole
-pub mod Drawn
-pub mod Starred
-pub mod Labelled
+pub mod BlockTexts
+pub mod WholeBlocks
+pub mod MainDiagrams
+pub mod StarPlaces
+pub mod ConstraintDiagrams
 pub mod EntryLemmas
 mod Samples

@@ -3,10 +3,10 @@ ghost use Rattle.std.specs.Prelude.{◌≡◌, ◌+◌, ◌<◌, ◌≤◌, ◌+
 ghost use Rattle.dfa_core.specs.Automata.{Row, row_at, step_at};
 ghost use Rattle.dfa_core.specs.Words.{letter_number};
 ghost use Rattle.dfa_core.specs.Tables.{part_of, numbers_of};
-ghost use Rattle.dfa_core.specs.Marks.{mark_at};
+ghost use Rattle.dfa_core.specs.RowKinds.{kind_at};
 
 use crate::automaton::Seen;
-use crate::mark::{Mark, mark_of};
+use crate::kind::{RowKind, kind_of};
 use go_base::NoMemory;
 use std::alloc::Global;
 use std::marker::Model;
@@ -22,15 +22,15 @@ pub struct Table {
     numbers: Vec<u16>,
     /// The depth of each row.
     depths: Vec<u16>,
-    /// The mark of each row, which a walk asks for at each step.
-    marks: Vec<Mark>,
+    /// The kind of each row, which a walk asks for at each step.
+    kinds: Vec<RowKind>,
 }
 
 impl Model for Table {
     ghost use Rattle.std.specs.Prelude.{List};
     ghost use Rattle.dfa_core.specs.Automata.{Row};
     ghost use Rattle.dfa_core.specs.Tables.{rows_in};
-    ghost use Rattle.dfa_core.specs.Marks.{IsMarked};
+    ghost use Rattle.dfa_core.specs.RowKinds.{HasKinds};
 
     ghost Value = { List Row };
 
@@ -41,12 +41,12 @@ impl Model for Table {
       depths = t.depths.items;
     }) };
 
-    ghost invariant = { λ t. IsMarked (record {
+    ghost invariant = { λ t. HasKinds (record {
       targets = t.targets.items;
       starts = t.starts.items;
       numbers = t.numbers.items;
       depths = t.depths.items;
-    }) t.marks.items };
+    }) t.kinds.items };
 }
 
 /// The place of a letter's target among the four of a row.
@@ -78,7 +78,7 @@ impl Table {
             starts,
             numbers: Vec::new(alloc),
             depths: Vec::new(alloc),
-            marks: Vec::new(alloc),
+            kinds: Vec::new(alloc),
         })
     }
 
@@ -101,21 +101,21 @@ impl Table {
             mut starts,
             mut numbers,
             mut depths,
-            mut marks,
+            mut kinds,
         } = self;
-        let mark = mark_of(depths.len(), targets_of_row, first, second);
+        let kind = kind_of(depths.len(), targets_of_row, first, second);
         targets.extend_from_slice(&targets_of_row)?;
         numbers.extend_from_slice(first)?;
         numbers.extend_from_slice(second)?;
         starts.push(numbers.len())?;
         depths.push(depth)?;
-        marks.push(mark)?;
+        kinds.push(kind)?;
         Ok(Table {
             targets,
             starts,
             numbers,
             depths,
-            marks,
+            kinds,
         })
     }
 
@@ -142,12 +142,12 @@ impl Table {
         self.depths[row as usize]
     }
 
-    /// The mark of a row.
-    pub fn mark(&self, row: u32) -> Mark
+    /// The kind of a row.
+    pub fn kind(&self, row: u32) -> RowKind
         requires { row < length self.now }
-        ensures { result ≡ mark_at self.now row }
+        ensures { result ≡ kind_at self.now row }
     {
-        self.marks[row as usize]
+        self.kinds[row as usize]
     }
 
     /// The numbers of all rows, one row after the other.

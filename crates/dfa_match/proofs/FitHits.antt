@@ -15,7 +15,7 @@ use Rattle.dfa_match.specs.Sights.{seen_at, word_at}
 use Rattle.dfa_match.specs.Hits.{IsHit}
 use Rattle.dfa_match.specs.Fitting.{IsFit}
 use Rattle.dfa_match.proofs.SeenWords.{word_length}
-use Rattle.dfa_match.proofs.Fitting.{fits_from_match, match_from_fits}
+use Rattle.dfa_match.proofs.WordFits.{fits_from_match, match_from_fits}
 
 -- a number among those from k on is that of a pattern that matches
 pub record IsNumbered (k : ℕ) (ps : List Pattern) (w : Word) (n : ℕ) : Type 0 where

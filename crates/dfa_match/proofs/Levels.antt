@@ -8,11 +8,11 @@ use Rattle.go_rules.specs.Position.{BoardState}
 use Rattle.match_rules.proofs.Lists.{Contains-map, Contains-map_from, Contains-filter, Contains-filter_from, Contains-below, Contains-below_from, AllPairs-map, range_rises}
 use Rattle.dfa_core.specs.declared.automaton.Seen.{Seen}
 use Rattle.dfa_core.specs.declared.automaton.Seen.TheVariants.{Off}
-use Rattle.dfa_core.specs.declared.mark.Mark.{Mark}
-use Rattle.dfa_core.specs.declared.mark.Mark.TheVariants.{Plain, Accepting, Dead}
+use Rattle.dfa_core.specs.declared.kind.RowKind.{RowKind}
+use Rattle.dfa_core.specs.declared.kind.RowKind.TheVariants.{Plain, Accepting, Dead}
 use Rattle.dfa_core.specs.Automata.{Row, step_at, reach, IsAutomaton, IsDead}
-use Rattle.dfa_core.specs.Marks.{mark_at}
-use Rattle.dfa_core.proofs.Marks.{mark-dead, mark-plain}
+use Rattle.dfa_core.specs.RowKinds.{kind_at}
+use Rattle.dfa_core.proofs.RowKinds.{kind-dead, kind-plain}
 use Rattle.dfa_core.proofs.Walks.{reach_from-push}
 use Rattle.dfa_match.specs.declared.walks.Walk.{Walk}
 use Rattle.dfa_match.specs.Sights.{seen_at, word_from}
@@ -22,7 +22,7 @@ use Rattle.dfa_match.specs.Walks.{walk_at, after_letter, IsWithin, is_alive, goe
 use Rattle.dfa_match.proofs.SeenWords.{word_split, word_from-zero, word_from-suc}
 
 -- a row that is not left by a walk that goes on is dead
-not_alive : (mark : Mark) → is_alive mark ≡ false → mark ≡ Dead
+not_alive : (kind : RowKind) → is_alive kind ≡ false → kind ≡ Dead
 not_alive Plain e = absurd (let h : ⊥ = cc in h)
 not_alive Accepting e = absurd (let h : ⊥ = cc in h)
 not_alive Dead e = refl
@@ -34,15 +34,15 @@ module _ (machine : List Row) (size : ℕ) (row : ℕ → ℕ) (walks : List Wal
     each = λ w there. are.each w (Contains-filter (goes_on machine) walks w there).0;
     all = λ m low. elim (are.all m low) [
       | inl dead ↦ inl dead
-      | inr there ↦ kept m there (is_alive (mark_at machine (row m))) refl
+      | inr there ↦ kept m there (is_alive (kind_at machine (row m))) refl
     ];
     rising = AllPairs-filter (λ v w. v.anchor < w.anchor) (goes_on machine) walks are.rising;
   }
     where
-      kept : (m : ℕ) → Contains walks (walk_at size (row m) m) → (b : Bool) → is_alive (mark_at machine (row m)) ≡ b
+      kept : (m : ℕ) → Contains walks (walk_at size (row m) m) → (b : Bool) → is_alive (kind_at machine (row m)) ≡ b
           → IsDead machine (row m) ⊎ Contains (filter (goes_on machine) walks) (walk_at size (row m) m)
       kept m there true is = inr (Contains-filter_from (goes_on machine) walks (walk_at size (row m) m) there is)
-      kept m there false is = inl (mark-dead machine (row m) (not_alive (mark_at machine (row m)) is))
+      kept m there false is = inl (kind-dead machine (row m) (not_alive (kind_at machine (row m)) is))
 
 -- a walk stands at a row and on the padded board after a letter too
 pub within_letter : (machine : List Row) (letters : List Seen) (step : ℕ) (walks : List Walk) → IsAutomaton machine
@@ -69,7 +69,7 @@ pub hits_of-plain : (machine : List Row) (t : ℕ) (walks : List Walk) → All (
     → hits_of machine t walks ≡ []
 hits_of-plain machine t [] plain = refl
 hits_of-plain machine t (w ∷ walks) plain =
-    ap (λ ns. hits_at t w.anchor ns ++ hits_of machine t walks) (mark-plain machine w.row (plain 0 w (omega arith)))
+    ap (λ ns. hits_at t w.anchor ns ++ hits_of machine t walks) (kind-plain machine w.row (plain 0 w (omega arith)))
     ∙ hits_of-plain machine t walks (λ k d low. plain (suc k) d (omega arith))
 
 -- and all of them go on

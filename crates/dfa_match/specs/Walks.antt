@@ -5,10 +5,10 @@ use Rattle.go_rules.specs.declared.Colour.{Colour}
 use Rattle.go_rules.specs.Position.{BoardState}
 use Rattle.dfa_core.specs.declared.automaton.Seen.{Seen}
 use Rattle.dfa_core.specs.declared.automaton.Seen.TheVariants.{Off}
-use Rattle.dfa_core.specs.declared.mark.Mark.{Mark}
-use Rattle.dfa_core.specs.declared.mark.Mark.TheVariants.{Plain, Accepting, Dead}
+use Rattle.dfa_core.specs.declared.kind.RowKind.{RowKind}
+use Rattle.dfa_core.specs.declared.kind.RowKind.TheVariants.{Plain, Accepting, Dead}
 use Rattle.dfa_core.specs.Automata.{Row, row_at, step_at, reach, IsDead}
-use Rattle.dfa_core.specs.Marks.{mark_at}
+use Rattle.dfa_core.specs.RowKinds.{kind_at}
 use Rattle.dfa_match.specs.declared.Hit.{Hit}
 use Rattle.dfa_match.specs.declared.walks.Walk.{Walk}
 use Rattle.dfa_match.specs.Hits.{hits_at}
@@ -38,19 +38,19 @@ pub record IsWithin (rows : ℕ) (w : Walk) : Type 0 where
   pub row : w.row < rows
   pub corner : w.corner ≤ last_corner
 
--- whether a walk at a row with this mark goes on
-abbrev pub is_alive : Mark → Bool
+-- whether a walk at a row of this kind goes on
+abbrev pub is_alive : RowKind → Bool
 is_alive Plain = true
 is_alive Accepting = true
 is_alive Dead = false
 
 -- whether the walk goes on from the row where it stands
 abbrev pub goes_on : List Row → Walk → Bool
-goes_on machine w = is_alive (mark_at machine w.row)
+goes_on machine w = is_alive (kind_at machine w.row)
 
 -- what is accepted at the row where the walk stands is nothing, and the walk goes on
 abbrev pub IsPlain : List Row → Walk → Type 0
-IsPlain machine w = mark_at machine w.row ≡ Plain
+IsPlain machine w = kind_at machine w.row ≡ Plain
 
 -- the hits of the rows where the walks stand
 abbrev pub hits_of : List Row → ℕ → List Walk → List Hit

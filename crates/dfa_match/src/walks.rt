@@ -3,14 +3,14 @@ ghost use Rattle.std.specs.Prelude.{◌≡◌, ℕ, ◌+◌, ◌*◌, ◌/◌, �
 ghost use Rattle.std.specs.List.{range_with_len};
 ghost use Rattle.go_rules.specs.Board.{largest_size};
 ghost use Rattle.dfa_core.specs.Automata.{row_at, step_at};
-ghost use Rattle.dfa_core.specs.Marks.{mark_at};
+ghost use Rattle.dfa_core.specs.RowKinds.{kind_at};
 ghost use Rattle.dfa_match.specs.Hits.{hits_at};
 ghost use Rattle.dfa_match.specs.Steps.{last_corner, last_step};
 ghost use Rattle.dfa_match.specs.Walks.{walk_at, after_letter, IsWithin, goes_on, IsPlain, hits_of};
 
 use crate::sights::{Sights, corner_of};
 use crate::{Hit, add};
-use dfa_core::{Automaton, Mark, Seen};
+use dfa_core::{Automaton, RowKind, Seen};
 use go_base::{NoMemory, Point, Size, Transform};
 use std::alloc::Global;
 
@@ -76,12 +76,12 @@ fn next_row(machine: &Automaton, sights: &Sights, step: u16, row: u32, corner: u
 /// Whether a row accepts something or is dead.
 fn is_marked(machine: &Automaton, row: u32) -> bool
     requires { row < length machine.now }
-    ensures { result ≡ false → mark_at machine.now row ≡ Mark.Plain }
+    ensures { result ≡ false → kind_at machine.now row ≡ RowKind.Plain }
 {
-    match machine.mark(row) {
-        Mark::Plain => false,
-        Mark::Accepting => true,
-        Mark::Dead => true,
+    match machine.kind(row) {
+        RowKind::Plain => false,
+        RowKind::Accepting => true,
+        RowKind::Dead => true,
     }
 }
 
@@ -114,10 +114,10 @@ fn give_out(
         (out.new.items ≡ out.old.items ++ hits_at t walk.anchor (row_at machine.now walk.row).numbers) }
     ensures alive { IfOk result (λ b. b ≡ goes_on machine.now walk) }
 {
-    match machine.mark(walk.row) {
-        Mark::Plain => Ok(true),
-        Mark::Dead => Ok(false),
-        Mark::Accepting => {
+    match machine.kind(walk.row) {
+        RowKind::Plain => Ok(true),
+        RowKind::Dead => Ok(false),
+        RowKind::Accepting => {
             add(out, machine.accepts(walk.row), t, walk.anchor)?;
             Ok(true)
         }

@@ -18,7 +18,7 @@ use Rattle.go_base.specs.Sides.{neighbour_at}
 use Rattle.go_base.specs.Takes.{TakenBeside, HasWholeStrings}
 use Rattle.go_base.specs.WithoutLiberty.{stones_without_liberty}
 use Rattle.go_base.proofs.WithoutLiberty.{found_without, none_without}
-use Rattle.go_base.proofs.Beside.{neighbour_at-all}
+use Rattle.go_base.proofs.SidesOfPoints.{neighbour_at-all}
 
 -- what the first n sides gave
 pub record Takes (s : ℕ) (put : List Cell) (c : Colour) (p n : ℕ) (taken : sets.FinSet nat_cmp) : Type 0 where

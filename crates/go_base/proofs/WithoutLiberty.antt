@@ -14,8 +14,8 @@ use Rattle.go_base.specs.Sides.{neighbour_at}
 use Rattle.go_base.specs.Trails.{has_point, add_once}
 use Rattle.go_base.specs.Floods.{Spreads}
 use Rattle.go_base.specs.WithoutLiberty.{has_empty_neighbour, stones_without_liberty}
-use Rattle.go_base.proofs.Beside.{neighbour_at-all, neighbour_at-near}
-use Rattle.go_base.proofs.Flooded.{Flooded, Flooded-start, Flooded-next, Flooded-all, Spreads-none, Spreads-skip, Spreads-add, at_append, has_index, string_is}
+use Rattle.go_base.proofs.SidesOfPoints.{neighbour_at-all, neighbour_at-near}
+use Rattle.go_base.proofs.FloodResults.{Flooded, Flooded-start, Flooded-next, Flooded-all, Spreads-none, Spreads-skip, Spreads-add, at_append, has_index, string_is}
 
 -- the side gives an empty neighbour
 pub empty_found : (s : ℕ) (cells : List Cell) (q side r : ℕ) → q < s * s → neighbour_at s q side ≡ Some r

@@ -1,4 +1,4 @@
 pub mod GameLemmas
-pub mod Keeping
-pub mod Refusing
+pub mod KeptGames
+pub mod RefusedMoves
 pub mod Stones

@@ -10,7 +10,7 @@ use Rattle.helpers.specs.Asking.{SlotState, says_yes, after_asking}
 use Rattle.helper_asking.specs.Rule.{is_on, all_say_yes, asks_of, raised, IsAskedFor}
 use Rattle.helper_asking.proofs.Times.{same_name, times-other, times-again, times-none, times-new, times-stop}
 use Rattle.helper_asking.proofs.Times.{says-again}
-use Rattle.helper_asking.proofs.Raised.{one_more_of, raised-cong, raised-zero, says_yes-raised, after_asking-raised}
+use Rattle.helper_asking.proofs.CallCounts.{one_more_of, raised-cong, raised-zero, says_yes-raised, after_asking-raised}
 
 module _ (slots : List SlotState) (board : BoardState) (at : ℕ) (friend : Colour) where
   -- what the helper of a name says

@@ -26,7 +26,7 @@ use Rattle.helper_asking.specs.Fields.{helper_names}
 use Rattle.match_engine.proofs.Corners.{on_all}
 use Rattle.match_rules.proofs.InWords.{each_cell, all_cells, letter_from_cell}
 use Rattle.match_engine.proofs.Machine.{count_within, hit_of_accept, accept_of_hit, has_hit-true}
-use Rattle.match_engine.proofs.Filtered.{matches_by-filter, all_agreed, and_yes, asked_last}
+use Rattle.match_engine.proofs.FilteredMatches.{matches_by-filter, all_agreed, and_yes, asked_last}
 use Rattle.match_rules.proofs.Orders.{IsBy, by-has, by-from, by-in_order, same_matches}
 use Rattle.match_engine.proofs.Places.{sum_of, placed_on, place_at-sum}
 

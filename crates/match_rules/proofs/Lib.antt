@@ -1,5 +1,5 @@
 pub mod Lists
 pub mod Orders
 pub mod InWords
-pub mod Allowed
-pub mod Listed
+pub mod ConditionTests
+pub mod MatchLists

@@ -1,7 +1,7 @@
 pub mod Each
 pub mod Places
-pub mod Lasting
-pub mod Seen
+pub mod LastingVariants
+pub mod MapEntries
 pub mod Sizes
-pub mod Sound
-pub mod Standing
+pub mod CacheSoundness
+pub mod StandingVariants

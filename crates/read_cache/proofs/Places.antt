@@ -14,8 +14,8 @@ use Rattle.read_cache.specs.Kept.{Kept, AreVariants, IsSound, IsFound, seen_entr
 use Rattle.read_cache.specs.Places.{HasAt, StandsAt, front_of}
 use Rattle.read_cache.specs.Variants.{IsFirstStanding, most_variants}
 use Rattle.read_cache.specs.declared.variants.Variant.{Variant}
-use Rattle.read_cache.proofs.Seen.{seen-promoted}
-use Rattle.read_cache.proofs.Sound.{AreVariants-brought}
+use Rattle.read_cache.proofs.MapEntries.{seen-promoted}
+use Rattle.read_cache.proofs.CacheSoundness.{AreVariants-brought}
 
 module _ {A : Type 0} {pos : BoardState} {vs : List (Variant A)} {i : ℕ} (first : IsFirstStanding pos vs i) where
   -- the first that stands is one of the variants

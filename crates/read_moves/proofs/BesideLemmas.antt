@@ -11,7 +11,7 @@ use Rattle.go_rules.proofs.Counts.{any_below_gives, any_below_from}
 use Rattle.go_rules.proofs.Sets.{contains-insert_nat}
 use Rattle.go_base.specs.Sides.{neighbour_at}
 use Rattle.go_base.specs.Views.{alone, neighbours_of}
-use Rattle.go_base.proofs.Beside.{neighbour_at-all, neighbour_at-near}
+use Rattle.go_base.proofs.SidesOfPoints.{neighbour_at-all, neighbour_at-near}
 use Rattle.read_rules.specs.Candidates.{is_empty_beside}
 
 -- two tests that follow from each other are the same

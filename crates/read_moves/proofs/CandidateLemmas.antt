@@ -16,7 +16,7 @@ use Rattle.go_rules.proofs.Counts.{any_below_gives, any_below_from, any_below_sa
 use Rattle.go_rules.proofs.Paths.{IsLiberty-from_test, is_is_in_string-from_fact}
 use Rattle.go_base.specs.Surroundings.{is_last_liberty_of_enemy}
 use Rattle.go_base.specs.Views.{alone, neighbours_of}
-use Rattle.go_base.proofs.Closing.{whole_self, whole_string, close_next, close_again, close_alone, close_mono, alone_self}
+use Rattle.go_base.proofs.PointNeighbourhoods.{whole_self, whole_string, close_next, close_again, close_alone, close_mono, alone_self}
 use Rattle.go_base.proofs.LastLiberties.{contains-liberty_points}
 use Rattle.go_base.proofs.Liberties.{len-liberty_points}
 use Rattle.trial_board.specs.Overlays.{neighbourhood_twice}

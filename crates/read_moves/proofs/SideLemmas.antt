@@ -16,7 +16,7 @@ use Rattle.go_rules.specs.Below.{set_below, count_below}
 use Rattle.go_rules.proofs.Paths.{same_cell-true, is_liberty-from_fact}
 use Rattle.go_rules.proofs.PlayLaws.{others_stay, stone_after}
 use Rattle.go_base.specs.Views.{alone, neighbours_of}
-use Rattle.go_base.proofs.Closing.{whole_self, close_next, close_again, alone_self}
+use Rattle.go_base.proofs.PointNeighbourhoods.{whole_self, close_next, close_again, alone_self}
 use Rattle.trial_board.specs.Overlays.{neighbourhood_twice}
 use Rattle.go_base.proofs.LastLiberties.{contains-liberty_points}
 use Rattle.go_base.proofs.Liberties.{len-liberty_points}

@@ -7,7 +7,7 @@ use Rattle.go_rules.specs.Board.{are_neighbours}
 use Rattle.go_rules.specs.Neighbourhood.{neighbourhood_of}
 use Rattle.go_rules.proofs.Sets.{contains-set_below}
 use Rattle.go_base.specs.Views.{alone}
-use Rattle.go_base.proofs.Closing.{close_alone, close_around}
+use Rattle.go_base.proofs.PointNeighbourhoods.{close_alone, close_around}
 use Rattle.go_rules.specs.declared.Cell.{Cell}
 use Rattle.go_rules.specs.declared.Cell.TheVariants.{Empty}
 use Rattle.go_rules.specs.declared.Colour.{Colour}

@@ -8,15 +8,15 @@ use Rattle.gtp_cmd.specs.declared.commands.CommandName.{CommandName}
 use Rattle.run_notes.specs.declared.notes.Counts.{Counts}
 use Rattle.match_engine.specs.declared.keys.Key.{Key}
 use Rattle.match_engine.specs.Readings.{KeptReadings}
-use Rattle.match_engine.proofs.Again.{IsAtHand, IsAtHand-first, IsAtHand-later, IsAtHand-kept, HasRead-capacity, HasRead-refused}
+use Rattle.match_engine.proofs.RepeatedQuestions.{IsAtHand, IsAtHand-first, IsAtHand-later, IsAtHand-kept, HasRead-capacity, HasRead-refused}
 use Rattle.session.specs.Machine.{Machine, position_of}
 use Rattle.session.specs.Kept.{Kept, machine_of}
 use Rattle.session.specs.Counting.{counted, is_read_line}
 use Rattle.session.specs.Asking.{Asks, Nothing, One, Many, ReadsAs, ReadsOnce, IsAfterLine, asks_of_line}
 use Rattle.session.specs.Turns.{Turn, IsAlong}
 use Rattle.session.specs.CertainHit.{IsCertainHit, HaveCertainHits, board_at, is_reading, is_matching, named_in, reading_lines, matching_lines}
-use Rattle.session.proofs.Named.{Fits, Fits-line, is_read_line-one}
-use Rattle.session.proofs.Tallying.{IsAlong-append, IsAlong-split}
+use Rattle.session.proofs.CommandQuestions.{Fits, Fits-line, is_read_line-one}
+use Rattle.session.proofs.TallyLemmas.{IsAlong-append, IsAlong-split}
 
 -- how many questions may be kept
 abbrev room_of : Kept → ℕ

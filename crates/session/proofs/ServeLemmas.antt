@@ -18,7 +18,7 @@ use Rattle.session.specs.Kept.{Kept}
 use Rattle.session.specs.Turns.{Turn}
 use Rattle.session.specs.Tallies.{Progress, kept_sum, IsTallied, tally_of, cut_tally, no_tally, together}
 use Rattle.session.specs.Serving.{Puts, Replies, RepliesPart, RunsTo, RunsPart}
-use Rattle.session.proofs.Tallying.{kept_sum-twice, Advances-none, Advances-trans, IsTallied-nil, IsTallied-one, IsTallied-append, IsTallied-ended, BreaksOff-one, BreaksOff-after, BreaksOff-more, BreaksOff-is}
+use Rattle.session.proofs.TallyLemmas.{kept_sum-twice, Advances-none, Advances-trans, IsTallied-nil, IsTallied-one, IsTallied-append, IsTallied-ended, BreaksOff-one, BreaksOff-after, BreaksOff-more, BreaksOff-is}
 
 -- the sink took n bytes more of the rest, and they were counted
 pub put_more : (a b c : Option (List ℕ)) (before now : Sent) (bytes done rest : List ℕ) (n total : ℕ) → bytes ≡ done

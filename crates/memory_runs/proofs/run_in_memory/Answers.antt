@@ -1,6 +1,6 @@
 -- The feed tells what it has left, and the page what it holds.
 use Rattle.session.specs.Outcomes.{phase_of}
-use Rattle.memory_runs.proofs.Telling.{told}
+use Rattle.memory_runs.proofs.StreamContents.{told}
 use Rattle.memory_runs.proofs.run_in_memory.Goals as goal
 
 pub returns : goal.returns

@@ -3,7 +3,7 @@ use Rattle.std.proofs.Common.{◌∙◌, ap, sym, map, w64}
 use Rattle.std.proofs.lemmas.Int.{to_z-of_z}
 use Rattle.cons_eval.specs.declared.calls.Arguments.TheVariants.{Point, Pair, Points, Play}
 use Rattle.cons_eval.specs.Values.{point_value, pair_value, if_there}
-use Rattle.cons_eval.proofs.Calling.{only_on_board, two_on_board, call_by}
+use Rattle.cons_eval.proofs.CallArguments.{only_on_board, two_on_board, call_by}
 use Rattle.cons_eval.proofs.calls.call.Goals as goal
 
 -- the only point is on the board

@@ -3,7 +3,7 @@ use Rattle.std.proofs.Common.{Bool, List, Some, sym, ◌∙◌, ap, true, false}
 use Rattle.cons_parse.specs.declared.calls.Item.{Item}
 use Rattle.cons_parse.specs.Faults.{call_fault}
 use Rattle.cons_parse.specs.Scan.{scanned}
-use Rattle.cons_parse.proofs.Told.{told, too_deep, call_refused, scan_refused, spelled}
+use Rattle.cons_parse.proofs.ParseAnswers.{told, too_deep, call_refused, scan_refused, spelled}
 use Rattle.cons_parse.proofs.parsing.read.Goals as goal
 
 -- a leaf stands too deep

@@ -9,7 +9,7 @@ use Rattle.db_rules.specs.Faults.{first_fault, found_at_end}
 use Rattle.db_read.specs.declared.error.DbError.{DbError}
 use Rattle.db_read.specs.Reading.{BlamesAt}
 use Rattle.db_rules.proofs.Walk.{Reaches-start, Reaches-end, Reaches-entries}
-use Rattle.db_read.proofs.Walked.{Walked}
+use Rattle.db_read.proofs.ReaderProgress.{Walked}
 use Rattle.db_read.proofs.ReadLemmas.{bad_line, fine_line, found_bad, Walked-step, Walked-fault, Walked-blames}
 use Rattle.db_read.proofs.reader.read.Goals as goal
 

@@ -1,5 +1,5 @@
 use Rattle.std.proofs.Common.{◌≡◌, length}
-use Rattle.db_read.proofs.Walked.{Walked}
+use Rattle.db_read.proofs.ReaderProgress.{Walked}
 use Rattle.db_read.proofs.reader.read.Given as goal
 
 abbrev pub invariant-loop-told : goal.invariant-loop-told

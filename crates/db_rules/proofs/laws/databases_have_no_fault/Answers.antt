@@ -1,6 +1,6 @@
 -- Each line of a text without a fault goes to its place in a whole block; and whole blocks are read without a fault.
-use Rattle.db_rules.proofs.Cut.{faultless_is_database}
-use Rattle.db_rules.proofs.Whole.{database_is_read}
+use Rattle.db_rules.proofs.BlockTexts.{faultless_is_database}
+use Rattle.db_rules.proofs.WholeBlocks.{database_is_read}
 use Rattle.db_rules.proofs.laws.databases_have_no_fault.Goals as goal
 
 pub returns : goal.returns

@@ -2,7 +2,7 @@
 use Rattle.std.proofs.Common.{ap, map}
 use Rattle.db_rules.specs.Entries.{entry_of_block}
 use Rattle.db_rules.specs.Faults.{entries}
-use Rattle.db_rules.proofs.Whole.{database_is_read}
+use Rattle.db_rules.proofs.WholeBlocks.{database_is_read}
 use Rattle.db_rules.proofs.laws.entries_are_those_of_the_blocks.Goals as goal
 
 pub returns : goal.returns

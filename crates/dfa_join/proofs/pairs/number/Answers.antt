@@ -1,6 +1,6 @@
 use Rattle.std.proofs.Common.{arith}
 use Rattle.std.proofs.lemmas.Result.{IfOk-weaker}
-use Rattle.dfa_join.proofs.Numbering.{Adds-known, Adds-inserted}
+use Rattle.dfa_join.proofs.PairLists.{Adds-known, Adds-inserted}
 use Rattle.dfa_join.proofs.pairs.number.Goals as goal
 
 -- the pair was known

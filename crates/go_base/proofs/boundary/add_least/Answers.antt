@@ -1,6 +1,6 @@
 use Rattle.std.proofs.Common.{arith, ◌∙◌, sym}
 use Rattle.go_rules.proofs.Boundary.{AddsLeast-some, AddsLeast-none, AddsLeast-seen, KnowsLeast-join}
-use Rattle.go_base.proofs.Looking.{Looks-none}
+use Rattle.go_base.proofs.LookSequences.{Looks-none}
 use Rattle.go_base.proofs.boundary.add_least.Goals as goal
 
 -- a string that was seen is known

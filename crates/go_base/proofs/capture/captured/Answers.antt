@@ -4,9 +4,9 @@ use Rattle.std.specs.Ordering.{nat_cmp}
 use Rattle.std.specs.FinSet as set
 use Rattle.go_base.specs.Sides.{neighbour_at}
 use Rattle.go_base.proofs.Takes.{Takes-none, Takes-next, Takes-nothing, Takes-all}
-use Rattle.go_base.proofs.PlayNear.{near_taken_from}
-use Rattle.go_base.proofs.Beside.{neighbour_at-near}
-use Rattle.go_base.proofs.Looking.{Looks-none, Looks-more}
+use Rattle.go_base.proofs.PlayLooks.{near_taken_from}
+use Rattle.go_base.proofs.SidesOfPoints.{neighbour_at-near}
+use Rattle.go_base.proofs.LookSequences.{Looks-none, Looks-more}
 use Rattle.go_base.proofs.capture.captured.Goals as goal
 use Rattle.go_base.proofs.capture.captured.Goals.{in-Some, in_default}
 

@@ -10,9 +10,9 @@ use Rattle.go_rules.proofs.Cells.{stone_test}
 use Rattle.go_rules.proofs.Plays.{stone_is}
 use Rattle.go_base.specs.Views.{anywhere, alone}
 use Rattle.go_base.specs.TakenBack.{before_play}
-use Rattle.go_base.proofs.PlayNear.{Leaves, twice_self, twice_taken, twice_own}
-use Rattle.go_base.proofs.PlayedOn.{PlaysOn, plays_suicide, plays_done}
-use Rattle.go_base.proofs.TakenBack.{after_here, takers_live, plays_back, suicide_back}
+use Rattle.go_base.proofs.PlayLooks.{Leaves, twice_self, twice_taken, twice_own}
+use Rattle.go_base.proofs.PlayResults.{PlaysOn, plays_suicide, plays_done}
+use Rattle.go_base.proofs.BoardsBefore.{after_here, takers_live, plays_back, suicide_back}
 use Rattle.go_base.proofs.capture.play_on.Given.{Over}
 use Rattle.go_base.proofs.capture.play_on.Goals as goal
 use Rattle.go_base.proofs.capture.play_on.Goals.{After-ne, After-is_suicide}

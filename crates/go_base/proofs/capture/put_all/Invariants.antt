@@ -2,7 +2,7 @@ use Rattle.std.proofs.Common.{◌-◌}
 use Rattle.go_rules.specs.Board.{largest_points}
 use Rattle.go_rules.specs.Position.{BoardState}
 use Rattle.go_base.specs.Views.{nowhere}
-use Rattle.go_base.proofs.Putting.{PutOn}
+use Rattle.go_base.proofs.PutPoints.{PutOn}
 use Rattle.go_base.proofs.capture.put_all.Given as goal
 
 -- it was put on the members below the next point

@@ -10,7 +10,7 @@ use Rattle.go_rules.proofs.Cells.{cells_same, eq_is_same_cell}
 use Rattle.go_rules.proofs.Paths.{same_cell-from}
 use Rattle.go_base.specs.Views.{Looks, anywhere, alone}
 use Rattle.go_base.proofs.Takes.{union_there, is_taken_from, not_taken_from, no_enemy_taken}
-use Rattle.go_base.proofs.Looking.{Looks-more, Looks-within}
+use Rattle.go_base.proofs.LookSequences.{Looks-more, Looks-within}
 use Rattle.go_base.proofs.capture.take.Given.{Over}
 use Rattle.go_base.proofs.capture.take.Goals as goal
 use Rattle.go_base.proofs.capture.take.Goals.{After-string_without_liberty}

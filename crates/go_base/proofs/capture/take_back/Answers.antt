@@ -1,6 +1,6 @@
 use Rattle.std.proofs.Common.{ap, ◌∙◌}
 use Rattle.go_rules.specs.Position.{stone_of}
-use Rattle.go_base.proofs.TakenBack.{put_back}
+use Rattle.go_base.proofs.BoardsBefore.{put_back}
 use Rattle.go_base.proofs.capture.take_back.Goals as goal
 
 -- the taken stones stand again, and the point is empty

@@ -1,10 +1,10 @@
 use Rattle.std.proofs.lemmas.Bool.{both_ways}
 use Rattle.std.proofs.Common.{[], inl, inr, ap, sym, refl, ◌∙◌, arith}
 use Rattle.go_base.specs.Trails.{add_once, has_point}
-use Rattle.go_base.proofs.Flooded.{string_is, string_is_none, has_at, stone_from, on_board_one, on_board_more}
-use Rattle.go_base.proofs.Visiting.{none_at, FloodsOut-start, FloodsOut-next, trail_like, flood_liberties, flood_enemies, no_liberties, no_enemies}
-use Rattle.go_base.proofs.Closing.{close_alone, close_around}
-use Rattle.go_base.proofs.Looking.{Looks-none, Looks-more, Looks-within}
+use Rattle.go_base.proofs.FloodResults.{string_is, string_is_none, has_at, stone_from, on_board_one, on_board_more}
+use Rattle.go_base.proofs.FloodVisits.{none_at, FloodsOut-start, FloodsOut-next, trail_like, flood_liberties, flood_enemies, no_liberties, no_enemies}
+use Rattle.go_base.proofs.PointNeighbourhoods.{close_alone, close_around}
+use Rattle.go_base.proofs.LookSequences.{Looks-none, Looks-more, Looks-within}
 use Rattle.go_rules.proofs.Cells.{cells_same, cells_differ}
 use Rattle.go_base.proofs.flood.flood.Goals as goal
 

@@ -5,7 +5,7 @@ use Rattle.go_rules.specs.Position.{BoardState}
 use Rattle.go_rules.specs.Neighbourhood.{neighbourhood_of}
 use Rattle.go_base.specs.Trails.{has_point}
 use Rattle.go_base.specs.Views.{Looks, anywhere, alone}
-use Rattle.go_base.proofs.Visiting.{FloodsOut}
+use Rattle.go_base.proofs.FloodVisits.{FloodsOut}
 use Rattle.go_base.proofs.flood.flood.Given as goal
 
 -- the stones of the trail so far have their neighbours where they belong

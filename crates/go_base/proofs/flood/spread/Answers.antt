@@ -1,9 +1,9 @@
 use Rattle.std.proofs.Common.{◌≡◌, ◌*◌, ◌<◌, inl, inr, ap, sym, subst, ◌∙◌, Some}
 use Rattle.go_base.specs.Sides.{neighbour_at}
-use Rattle.go_base.proofs.Beside.{neighbour_at-near}
-use Rattle.go_base.proofs.Flooded.{at_side}
-use Rattle.go_base.proofs.Visiting.{SpreadsOut-none, SpreadsOut-skip, SpreadsOut-visit}
-use Rattle.go_base.proofs.Looking.{Looks-none, Looks-more, Looks-within}
+use Rattle.go_base.proofs.SidesOfPoints.{neighbour_at-near}
+use Rattle.go_base.proofs.FloodResults.{at_side}
+use Rattle.go_base.proofs.FloodVisits.{SpreadsOut-none, SpreadsOut-skip, SpreadsOut-visit}
+use Rattle.go_base.proofs.LookSequences.{Looks-none, Looks-more, Looks-within}
 use Rattle.go_base.proofs.flood.spread.Goals as goal
 use Rattle.go_base.proofs.flood.spread.Goals.{in-Some, in_default}
 

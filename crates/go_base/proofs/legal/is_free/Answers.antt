@@ -2,7 +2,7 @@
 use Rattle.std.proofs.Common.{◌*◌, take, ap, ◌∙◌, Ok, Err, is_ok}
 use Rattle.go_base.specs.TakenBack.{before_play}
 use Rattle.go_base.specs.Flats.{KeepsRest-trans}
-use Rattle.go_base.proofs.Held.{held_free, held_position, holds_again, whole_after}
+use Rattle.go_base.proofs.HeldBoards.{held_free, held_position, holds_again, whole_after}
 use Rattle.go_base.proofs.legal.is_free.Goals as goal
 
 -- a play that is taken back leaves the board as it was

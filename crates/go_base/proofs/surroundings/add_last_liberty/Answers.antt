@@ -1,6 +1,6 @@
 use Rattle.std.proofs.Common.{sym, ◌∙◌}
 use Rattle.go_base.proofs.LastLiberties.{AddsLast-seen, AddsLast-one, AddsLast-none, KnowsLast-join}
-use Rattle.go_base.proofs.Looking.{Looks-none}
+use Rattle.go_base.proofs.LookSequences.{Looks-none}
 use Rattle.go_base.proofs.surroundings.add_last_liberty.Goals as goal
 
 -- a string that was seen is known

@@ -1,10 +1,10 @@
 use Rattle.std.proofs.Common.{◌*◌, arith}
 use Rattle.go_rules.specs.Neighbourhood.{neighbourhood_of}
 use Rattle.go_base.specs.Views.{alone}
-use Rattle.go_base.proofs.Closing.{close_again, close_point}
-use Rattle.go_base.proofs.Visiting.{enemy_beside, enemy_close, no_enemy}
+use Rattle.go_base.proofs.PointNeighbourhoods.{close_again, close_point}
+use Rattle.go_base.proofs.FloodVisits.{enemy_beside, enemy_close, no_enemy}
 use Rattle.go_base.proofs.LastLiberties.{Lasts-none, Lasts-jump, Lasts-add, Lasts-all, KnowsLast-none}
-use Rattle.go_base.proofs.Looking.{Looks-none, Looks-more}
+use Rattle.go_base.proofs.LookSequences.{Looks-none, Looks-more}
 use Rattle.go_base.proofs.surroundings.surroundings_of.Goals as goal
 
 -- no string has come

@@ -1,8 +1,8 @@
 use Rattle.std.proofs.Common.{◌≡◌, ◌*◌, ◌<◌, inl, inr, ap, sym, subst, ◌∙◌, arith, Some}
 use Rattle.go_base.specs.Sides.{neighbour_at}
-use Rattle.go_base.proofs.Beside.{neighbour_at-near}
-use Rattle.go_base.proofs.Flooded.{at_side}
-use Rattle.go_base.proofs.Looking.{Looks-none, Looks-more, Looks-within}
+use Rattle.go_base.proofs.SidesOfPoints.{neighbour_at-near}
+use Rattle.go_base.proofs.FloodResults.{at_side}
+use Rattle.go_base.proofs.LookSequences.{Looks-none, Looks-more, Looks-within}
 use Rattle.go_base.proofs.WithoutLiberty.{empty_found, Meets-none, Meets-skip, Meets-one, Meets-all}
 use Rattle.go_base.proofs.without_liberty.reaches_empty.Given.{Over}
 use Rattle.go_base.proofs.without_liberty.reaches_empty.Goals as goal

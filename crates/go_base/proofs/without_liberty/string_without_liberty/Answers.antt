@@ -6,10 +6,10 @@ use Rattle.go_rules.proofs.Cells.{cells_same, cells_differ}
 use Rattle.go_base.specs.Views.{Looks, anywhere, alone}
 use Rattle.go_base.specs.WithoutLiberty.{has_empty_neighbour}
 use Rattle.go_base.specs.Trails.{add_once, has_point}
-use Rattle.go_base.proofs.Flooded.{has_at, stone_from, on_board_one, on_board_more}
-use Rattle.go_base.proofs.Visiting.{trail_like}
-use Rattle.go_base.proofs.Closing.{close_alone, close_around}
-use Rattle.go_base.proofs.Looking.{Looks-none, Looks-more, Looks-within}
+use Rattle.go_base.proofs.FloodResults.{has_at, stone_from, on_board_one, on_board_more}
+use Rattle.go_base.proofs.FloodVisits.{trail_like}
+use Rattle.go_base.proofs.PointNeighbourhoods.{close_alone, close_around}
+use Rattle.go_base.proofs.LookSequences.{Looks-none, Looks-more, Looks-within}
 use Rattle.go_base.proofs.WithoutLiberty.{liberty_seen, no_string, Surrounds-start, Surrounds-next, Surrounds-all}
 use Rattle.go_base.proofs.without_liberty.string_without_liberty.Given.{Over}
 use Rattle.go_base.proofs.without_liberty.string_without_liberty.Goals as goal

@@ -4,7 +4,7 @@ use Rattle.clap.specs.Walk.{Row}
 use Rattle.std.specs.Prelude.{List}
 use Rattle.go_options.specs.Found.{AreFound}
 use Rattle.go_options.proofs.FoundNumbers.{numbers_found}
-use Rattle.go_options.proofs.Taken.{is_not_taken_by, is_taken_by, rows_found}
+use Rattle.go_options.proofs.ParsedWords.{is_not_taken_by, is_taken_by, rows_found}
 use Rattle.std.specs.Result.{IsErrOf}
 use Rattle.go_options.specs.declared.errors.OptionsError.{OptionsError}
 use Rattle.go_options.specs.declared.options.Options.{Options}

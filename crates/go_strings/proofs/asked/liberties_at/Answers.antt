@@ -7,7 +7,7 @@ use Rattle.go_rules.proofs.Plays.{empty_from}
 use Rattle.go_strings.specs.Named.{no_string}
 use Rattle.go_strings.specs.Stands.{cells_of}
 use Rattle.go_strings.proofs.Outcomes.{liberties-none}
-use Rattle.go_strings.proofs.Named.{named_there}
+use Rattle.go_strings.proofs.StringNames.{named_there}
 use Rattle.go_strings.proofs.asked.liberties_at.Goals as goal
 
 -- the point is empty

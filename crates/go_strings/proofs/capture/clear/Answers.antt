@@ -1,10 +1,10 @@
 use Rattle.std.proofs.Common.{◌+◌, ◌*◌, ◌<◌, ap, sym, subst, arith, ◌∙◌}
 use Rattle.go_rules.specs.declared.Cell.TheVariants.{Empty}
 use Rattle.go_base.specs.Flats.{KeepsRest-trans, flat_whole}
-use Rattle.go_base.proofs.Held.{whole_after}
-use Rattle.go_base.proofs.Putting.{PutOn, PutOn-next, PutOn-all}
+use Rattle.go_base.proofs.HeldBoards.{whole_after}
+use Rattle.go_base.proofs.PutPoints.{PutOn, PutOn-next, PutOn-all}
 use Rattle.go_strings.specs.Stands.{cells_of}
-use Rattle.go_strings.proofs.Noting.{noted_more}
+use Rattle.go_strings.proofs.NoteTrails.{noted_more}
 use Rattle.go_strings.proofs.capture.clear.Goals as goal
 
 -- there was no memory for a note

@@ -2,7 +2,7 @@ use Rattle.std.proofs.Common.{◌-◌}
 use Rattle.go_rules.specs.declared.Cell.TheVariants.{Empty}
 use Rattle.go_rules.specs.Board.{largest_points}
 use Rattle.go_base.specs.Flats.{KeepsRest}
-use Rattle.go_base.proofs.Putting.{PutOn}
+use Rattle.go_base.proofs.PutPoints.{PutOn}
 use Rattle.go_strings.specs.Notes.{IsNoted}
 use Rattle.go_strings.specs.Stands.{cells_of}
 use Rattle.go_strings.proofs.capture.clear.Given as goal

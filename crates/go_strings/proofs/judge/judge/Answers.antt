@@ -4,7 +4,7 @@ use Rattle.go_rules.proofs.Cells.{stone_test}
 use Rattle.go_rules.proofs.Results.{play_occupied, play_ko}
 use Rattle.go_strings.specs.Stands.{cells_of}
 use Rattle.go_strings.specs.Trails.{position_in}
-use Rattle.go_strings.proofs.Judged.{judged_suicide, judged_allowed}
+use Rattle.go_strings.proofs.StandingBoards.{judged_suicide, judged_allowed}
 use Rattle.go_strings.proofs.judge.judge.Goals as goal
 use Rattle.go_strings.proofs.judge.judge.Goals.{After-ne}
 

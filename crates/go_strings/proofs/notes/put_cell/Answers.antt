@@ -1,6 +1,6 @@
 use Rattle.std.proofs.Common.{◌*◌}
 use Rattle.std.proofs.Math.Seq.{take-set-lt}
-use Rattle.go_strings.proofs.Noting.{noted_cell, keeps_set}
+use Rattle.go_strings.proofs.NoteTrails.{noted_cell, keeps_set}
 use Rattle.go_strings.proofs.notes.put_cell.Goals as goal
 
 -- what the point had was noted

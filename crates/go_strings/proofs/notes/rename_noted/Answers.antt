@@ -1,6 +1,6 @@
 use Rattle.std.proofs.Common.{◌<◌, length, arith}
-use Rattle.go_strings.proofs.Noting.{noted_more, noted_name}
-use Rattle.go_strings.proofs.Renaming.{renamed_next}
+use Rattle.go_strings.proofs.NoteTrails.{noted_more, noted_name}
+use Rattle.go_strings.proofs.NewNames.{renamed_next}
 use Rattle.go_strings.proofs.notes.rename_noted.Goals as goal
 
 -- one more stone has the name, and what it had was noted

@@ -1,7 +1,7 @@
 use Rattle.std.proofs.Common.{◌-◌}
 use Rattle.go_rules.specs.Board.{largest_points}
 use Rattle.go_strings.specs.Notes.{IsNoted}
-use Rattle.go_strings.proofs.Renaming.{RenamedBelow}
+use Rattle.go_strings.proofs.NewNames.{RenamedBelow}
 use Rattle.go_strings.proofs.notes.rename_noted.Given as goal
 
 -- the stones below the next point have the name, and what they had was noted

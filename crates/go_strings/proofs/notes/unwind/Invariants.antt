@@ -1,5 +1,5 @@
 use Rattle.std.proofs.Common.{◌≡◌, length}
-use Rattle.go_strings.proofs.Noting.{Unwound}
+use Rattle.go_strings.proofs.NoteTrails.{Unwound}
 use Rattle.go_strings.proofs.notes.unwind.Given as goal
 
 -- the notes that were taken back lead from what stood to what stands

@@ -4,9 +4,9 @@ use Rattle.helpers.specs.Slots.{states_of}
 use Rattle.helper_asking.specs.Fields.{helper_names}
 use Rattle.helper_asking.specs.Rule.{IsAskedFor}
 use Rattle.match_engine.specs.MachineMatches.{IsFoundThere}
-use Rattle.helper_totals.proofs.AddedUp.{asked_over-none}
-use Rattle.match_engine.proofs.Kept.{KeepsFirst-none, kept_next, kept_there, read_old}
-use Rattle.match_engine.proofs.Agreed.{answer_is, calls_are}
+use Rattle.helper_totals.proofs.CallTotals.{asked_over-none}
+use Rattle.match_engine.proofs.AllowedMatches.{KeepsFirst-none, kept_next, kept_there, read_old}
+use Rattle.match_engine.proofs.AgreedMatches.{answer_is, calls_are}
 use Rattle.match_engine.proofs.agreeing.keep_agreed.Goals as goal
 
 -- the match that is read is one of the list, so it is of a pattern of the list

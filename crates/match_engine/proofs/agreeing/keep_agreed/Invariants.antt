@@ -3,7 +3,7 @@ use Rattle.helpers.specs.Asking.{says_yes}
 use Rattle.helpers.specs.Slots.{states_of}
 use Rattle.match_engine.specs.MachineMatches.{is_agreed_at}
 use Rattle.match_engine.specs.HelperCalls.{after_matches}
-use Rattle.match_engine.proofs.Kept.{KeepsFirst}
+use Rattle.match_engine.proofs.AllowedMatches.{KeepsFirst}
 use Rattle.match_engine.proofs.agreeing.keep_agreed.Given as goal
 
 -- of those that were asked about the agreed ones are kept, and the calls are those about them

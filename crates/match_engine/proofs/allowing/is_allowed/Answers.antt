@@ -2,8 +2,8 @@ use Rattle.std.proofs.Common.{◌∙◌, sym, ap}
 use Rattle.cons_eval.specs.Readings.{Codes}
 use Rattle.match_rules.specs.Conditions.{is_enemy_safe, is_constraint_true}
 use Rattle.match_engine.specs.Readings.{codes_of}
-use Rattle.match_engine.proofs.Counted.{Follows-trans, codes_stay}
-use Rattle.match_engine.proofs.Judged.{unsafe_refused, enemy_refused, by_constraint}
+use Rattle.match_engine.proofs.ReadingCounts.{Follows-trans, codes_stay}
+use Rattle.match_engine.proofs.MatchConditions.{unsafe_refused, enemy_refused, by_constraint}
 use Rattle.match_engine.proofs.allowing.is_allowed.Goals as goal
 
 -- the friend's stone is not safe

@@ -1,5 +1,5 @@
 use Rattle.match_engine.specs.Readings.{codes_of}
-use Rattle.match_engine.proofs.Placed.{constraint_placed}
+use Rattle.match_engine.proofs.ConstraintPoints.{constraint_placed}
 use Rattle.match_engine.proofs.asking.is_so.Goals as goal
 
 -- each argument is a pass, has no point, or has one on the board

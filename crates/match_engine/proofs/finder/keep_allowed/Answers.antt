@@ -6,8 +6,8 @@ use Rattle.match_rules.specs.Conditions.{is_allowed}
 use Rattle.match_engine.specs.MachineMatches.{is_allowed_at, IsFoundThere}
 use Rattle.match_engine.specs.Readings.{codes_of}
 use Rattle.match_engine.specs.Remembered.{Remembers}
-use Rattle.match_engine.proofs.Counted.{Follows-trans, codes_stay}
-use Rattle.match_engine.proofs.Kept.{kept_next, kept_there}
+use Rattle.match_engine.proofs.ReadingCounts.{Follows-trans, codes_stay}
+use Rattle.match_engine.proofs.AllowedMatches.{kept_next, kept_there}
 use Rattle.match_engine.proofs.finder.keep_allowed.Goals as goal
 
 -- the match that is read is one of the list, so it is of a pattern of the list

@@ -3,7 +3,7 @@ use Rattle.go_rules.specs.Position.{other}
 use Rattle.match_engine.specs.MachineMatches.{is_allowed_at}
 use Rattle.match_engine.specs.Readings.{Follows, codes_of}
 use Rattle.match_engine.specs.Remembered.{Remembers}
-use Rattle.match_engine.proofs.Kept.{KeepsFirst}
+use Rattle.match_engine.proofs.AllowedMatches.{KeepsFirst}
 use Rattle.match_engine.proofs.finder.keep_allowed.Given as goal
 
 -- of those that were read the allowed ones are kept, and what was read of plays is remembered

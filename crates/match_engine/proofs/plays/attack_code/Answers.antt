@@ -3,7 +3,7 @@ use Rattle.go_rules.specs.Strings.{cell_at}
 use Rattle.go_rules.specs.declared.Cell.TheVariants.{Empty}
 use Rattle.read_rules.specs.declared.question.Answer.{Answer}
 use Rattle.read_rules.specs.declared.question.Kind.TheVariants.{Attack}
-use Rattle.match_engine.proofs.Remembering.{read_code}
+use Rattle.match_engine.proofs.RememberedPlays.{read_code}
 use Rattle.match_engine.proofs.plays.attack_code.Goals as goal
 
 -- a stone stands there

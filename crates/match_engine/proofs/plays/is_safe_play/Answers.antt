@@ -1,6 +1,6 @@
 use Rattle.std.proofs.Common.{◌∙◌, sym}
 use Rattle.match_engine.specs.Readings.{codes_of}
-use Rattle.match_engine.proofs.Remembering.{safe_after, safe_never}
+use Rattle.match_engine.proofs.RememberedPlays.{safe_after, safe_never}
 use Rattle.match_engine.proofs.plays.is_safe_play.Goals as goal
 
 -- by the code of an attack on the stone

@@ -1,4 +1,4 @@
-use Rattle.match_rules.proofs.Listed.{are_matches, only_matches}
+use Rattle.match_rules.proofs.MatchLists.{are_matches, only_matches}
 use Rattle.match_rules.proofs.laws.matches_are_in_words.Goals as goal
 
 -- members and order are those of the ranges that the list is made of

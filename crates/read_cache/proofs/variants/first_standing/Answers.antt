@@ -1,4 +1,4 @@
-use Rattle.read_cache.proofs.Standing.{IsFirstStanding-at, NoneStands-more}
+use Rattle.read_cache.proofs.StandingVariants.{IsFirstStanding-at, NoneStands-more}
 use Rattle.read_cache.proofs.variants.first_standing.Goals as goal
 
 -- the first that stands

@@ -5,7 +5,7 @@ use Rattle.go_rules.specs.Strings.{cell_at}
 use Rattle.go_rules.specs.Position.{BoardState}
 use Rattle.go_base.specs.Facts.{Agrees, AddsIn, AddsIn-trans, AddsIn-mono, CellIs, agrees_before, same_size}
 use Rattle.go_base.specs.Views.{alone}
-use Rattle.go_base.proofs.Closing.{close_alone}
+use Rattle.go_base.proofs.PointNeighbourhoods.{close_alone}
 use Rattle.go_rules.specs.Neighbourhood.{neighbourhood_of}
 use Rattle.trial_board.specs.Trials.{after}
 use Rattle.read_rules.specs.declared.question.ReadingQuestion.{ReadingQuestion}

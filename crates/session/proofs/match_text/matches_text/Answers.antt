@@ -3,11 +3,11 @@ use Rattle.std.proofs.Common.{sym, ap, subst, ◌∙◌}
 use Rattle.helpers.specs.Asking.{says_yes}
 use Rattle.helpers.specs.Slots.{states_of}
 use Rattle.session.specs.Handed.{without_calls}
-use Rattle.session.proofs.Helped.{raised-quiet}
+use Rattle.session.proofs.HelperMeanings.{raised-quiet}
 use Rattle.match_engine.specs.MachineMatches.{machine_matches}
 use Rattle.match_engine.specs.Readings.{codes_of}
 use Rattle.session.specs.MatchTexts.{AreAmong}
-use Rattle.session.proofs.Finding.{AreAmong-found}
+use Rattle.session.proofs.MatcherSessions.{AreAmong-found}
 use Rattle.session.proofs.match_text.matches_text.Goals as goal
 
 pub list_text-requires : goal.list_text-requires

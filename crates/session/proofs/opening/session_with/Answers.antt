@@ -5,7 +5,7 @@ use Rattle.helpers.specs.Asking.{says_yes}
 use Rattle.helpers.specs.Slots.{states_of}
 use Rattle.session.specs.Kept.{NumbersPatterns, matcher_with}
 use Rattle.session.specs.Opened.{IsPlainWith}
-use Rattle.session.proofs.Finding.{plain-first}
+use Rattle.session.proofs.MatcherSessions.{plain-first}
 use Rattle.session.proofs.opening.session_with.Goals as goal
 
 pub new-requires-clause-numbers : goal.new-requires-clause-numbers

@@ -1,6 +1,6 @@
 -- A sum that stands still at the greatest value of a u64.
 use Rattle.std.proofs.Common.{◌∙◌, arith}
-use Rattle.session.proofs.Tallying.{kept_sum-is}
+use Rattle.session.proofs.TallyLemmas.{kept_sum-is}
 use Rattle.session.proofs.serve.added.Goals as goal
 
 pub returns : goal.returns

@@ -2,7 +2,7 @@
 use Rattle.std.proofs.Common.{◌∙◌}
 use Rattle.gtp_lex.specs.Raw.{raw_line}
 use Rattle.session.specs.declared.reply.Reply.TheVariants.{Short, Text, NoMemory}
-use Rattle.session.proofs.Replied.{Replies-nothing, Replies-part}
+use Rattle.session.proofs.ReplyBytes.{Replies-nothing, Replies-part}
 use Rattle.session.proofs.ServeLemmas.{on_err_from}
 use Rattle.session.proofs.serve.answer.Goals as goal
 

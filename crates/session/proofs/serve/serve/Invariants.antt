@@ -3,7 +3,7 @@ use Rattle.session.specs.Asking.{IsAfterLine}
 use Rattle.session.specs.Kept.{machine_of}
 use Rattle.session.specs.Sessions.{matcher_of, step_of}
 use Rattle.session.specs.Serving.{progress_of}
-use Rattle.session.proofs.Served.{Served}
+use Rattle.session.proofs.RunEnds.{Served}
 use Rattle.session.proofs.serve.serve.Given as goal
 
 -- the lines of the bytes taken so far were answered up to the one that is held, and nothing failed

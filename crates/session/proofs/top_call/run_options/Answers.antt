@@ -2,7 +2,7 @@
 use Rattle.std.proofs.Common.{Some, None, cond, ap, ◌∙◌}
 use Rattle.run_notes.specs.declared.notes.Counts.{Counts}
 use Rattle.session.specs.Outcomes.{phase_of}
-use Rattle.session.proofs.Running.{came-served}
+use Rattle.session.proofs.RunPhases.{came-served}
 use Rattle.session.proofs.top_call.run_options.Goals as goal
 
 pub returns-clause-came : goal.returns-clause-came

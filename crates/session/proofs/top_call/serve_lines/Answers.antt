@@ -3,7 +3,7 @@ use Rattle.std.proofs.Common.{ap, subst}
 use Rattle.std.specs.Prelude.{MatchOption}
 use Rattle.go_options.specs.Found.{IsFrom}
 use Rattle.workload.specs.Remaining.{WorkloadState}
-use Rattle.session.proofs.Running.{serves-generated, uncaused}
+use Rattle.session.proofs.RunPhases.{serves-generated, uncaused}
 use Rattle.session.proofs.top_call.serve_lines.Goals as goal
 
 pub returns-in-Some-clause-serves : goal.returns-in-Some-clause-serves

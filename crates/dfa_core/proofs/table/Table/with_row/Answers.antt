@@ -1,9 +1,9 @@
 use Rattle.std.proofs.Common.{◌≡◌, ◌∙◌, ◌++◌, ◌∷◌, [], sym, ap, arith}
 use Rattle.dfa_core.specs.Automata.{Row}
 use Rattle.dfa_core.specs.Tables.{Flat, rows_in}
-use Rattle.dfa_core.specs.Marks.{mark_with}
+use Rattle.dfa_core.specs.RowKinds.{kind_with}
 use Rattle.dfa_core.proofs.Tables.{flat_with, rows_in-grown, IsFlat-grown, length-rows}
-use Rattle.dfa_core.proofs.Marks.{AreMarks-more}
+use Rattle.dfa_core.proofs.RowKinds.{AreKinds-more}
 use Rattle.dfa_core.proofs.table.Table.with_row.Goals.{In_ok-push-3}
 use Rattle.dfa_core.proofs.table.Table.with_row.Goals as goal
 
@@ -52,7 +52,7 @@ returns c =
           c.args.depth;
     }) ∷ []) c.self.view_is
 
--- the lists belong together, and the row has its mark
+-- the lists belong together, and the row has its kind
 pub invariant_of-result : goal.invariant_of-result
 invariant_of-result c =
     let at = (goal.at.invariant_of-result c).In_ok-push-3 in
@@ -63,9 +63,9 @@ invariant_of-result c =
           c.self.invariant.flat (omega arith) c.in_ok-extend_from_slice.ensures.items c.in_ok-push.ensures.items
           (c.len-2.ensures ∙ c.extend_from_slice-3.new.self.ok.0) c.in_ok-extend_from_slice-2.ensures.items
           c.in_ok-extend_from_slice-3.ensures.items c.in_ok-push-2.ensures.items;
-      marked = AreMarks-more (rows_in (old_table at)) (rows_in (new_table at))
-          (row_of at) c.self.inside.marks.items c.push-3.new.self.items c.mark_of-mark.result c.self.invariant.marked
+      kinds = AreKinds-more (rows_in (old_table at)) (rows_in (new_table at))
+          (row_of at) c.self.inside.kinds.items c.push-3.new.self.items c.kind_of-kind.result c.self.invariant.kinds
           (one_more at) c.in_ok-push-3.ensures.items
-          (c.mark_of-mark.ensures ∙ ap (λ n. mark_with n c.args.targets_of_row (c.args.first.now ++ c.args.second.now))
+          (c.kind_of-kind.ensures ∙ ap (λ n. kind_with n c.args.targets_of_row (c.args.first.now ++ c.args.second.now))
           (c.len.ensures ∙ c.self.inside.depths.ok.0 ∙ sym (length-rows (old_table at))));
     }

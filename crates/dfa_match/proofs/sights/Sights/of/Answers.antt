@@ -3,7 +3,7 @@ use Rattle.go_rules.specs.Position.{BoardState}
 use Rattle.go_rules.specs.Strings.{cell_at}
 use Rattle.go_rules.specs.Transform.{largest_offset}
 use Rattle.dfa_match.specs.Sights.{padded_side, seen_of}
-use Rattle.dfa_match.proofs.Padding.{sights_none, sights_more, row_low, column_low}
+use Rattle.dfa_match.proofs.PaddedBoard.{sights_none, sights_more, row_low, column_low}
 use Rattle.dfa_match.proofs.sights.Sights.of.Goals as goal
 
 pub points-init : goal.points-init

@@ -1,5 +1,5 @@
 use Rattle.std.proofs.Common.{arith}
-use Rattle.go_base.proofs.MarkedBoth.{both_none, both_next, both_all}
+use Rattle.go_base.proofs.JoinedMarks.{both_none, both_next, both_all}
 use Rattle.go_base.proofs.bits.PointBits.join.Goals as goal
 
 -- no word has the bits of both yet

@@ -1,4 +1,4 @@
-use Rattle.go_base.proofs.MarkedBoth.{HasBoth}
+use Rattle.go_base.proofs.JoinedMarks.{HasBoth}
 use Rattle.go_base.proofs.bits.PointBits.join.Given as goal
 
 -- the words below i have the bits of both

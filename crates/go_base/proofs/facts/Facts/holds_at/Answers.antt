@@ -2,7 +2,7 @@ use Rattle.std.proofs.Common.{ap, ◌∙◌}
 use Rattle.go_rules.specs.declared.Cell.TheVariants.{Empty, Black, White}
 use Rattle.go_base.specs.Bits.{is_marked}
 use Rattle.go_base.specs.Told.{seen_as, is_admitted}
-use Rattle.go_base.proofs.Standing.{holds_test}
+use Rattle.go_base.proofs.StandingFacts.{holds_test}
 use Rattle.go_base.proofs.facts.Facts.holds_at.Goals as goal
 
 -- the cell and both bans are as they were seen, if they were

@@ -1,7 +1,7 @@
 use Rattle.std.proofs.Common.{below_more, false, ap, sym, ◌∙◌, ℕ, ◌≡◌, ◌*◌, ◌<◌, ◌≤◌, arith, refl}
 use Rattle.std.proofs.lemmas.Bool.{both_ways, eqb-true, eqb-false, not-true, not-false}
 use Rattle.go_base.specs.Told.{HoldsAt, is_fact_at}
-use Rattle.go_base.proofs.Standing.{stands_all, stands_each}
+use Rattle.go_base.proofs.StandingFacts.{stands_all, stands_each}
 use Rattle.go_base.proofs.About.{holds_up_to}
 use Rattle.go_base.proofs.facts.Facts.stands.Goals as goal
 

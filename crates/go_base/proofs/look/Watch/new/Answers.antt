@@ -1,5 +1,5 @@
 use Rattle.std.proofs.Common.{◌∙◌, refl}
-use Rattle.go_base.proofs.Seeing.{none_agrees, none_told}
+use Rattle.go_base.proofs.SeenFacts.{none_agrees, none_told}
 use Rattle.go_base.proofs.look.Watch.new.Goals as goal
 
 -- no fact but the size holds

@@ -1,5 +1,5 @@
 use Rattle.std.proofs.Common.{◌∙◌}
-use Rattle.go_base.proofs.Seeing.{cell_told, cell_grows, cell_near, cell_agrees}
+use Rattle.go_base.proofs.SeenFacts.{cell_told, cell_grows, cell_near, cell_agrees}
 use Rattle.go_base.proofs.look.WatchLook.cell.Goals as goal
 
 -- the position still agrees

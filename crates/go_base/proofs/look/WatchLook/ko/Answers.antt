@@ -1,5 +1,5 @@
 use Rattle.std.proofs.Common.{◌∙◌}
-use Rattle.go_base.proofs.Seeing.{ban_told, ban_grows, ban_near, ban_agrees}
+use Rattle.go_base.proofs.SeenFacts.{ban_told, ban_grows, ban_near, ban_agrees}
 use Rattle.go_base.proofs.look.WatchLook.ko.Goals as goal
 
 -- the position still agrees

@@ -1,5 +1,5 @@
 use Rattle.std.proofs.Common.{sym, ◌∙◌}
-use Rattle.go_base.proofs.Allowed.{banned_is_illegal, free_is_legal}
+use Rattle.go_base.proofs.AllowedPlays.{banned_is_illegal, free_is_legal}
 use Rattle.go_base.proofs.position.Position.is_legal_on.Goals as goal
 
 -- what the ban forbids is not legal

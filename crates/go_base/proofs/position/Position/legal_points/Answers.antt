@@ -1,7 +1,7 @@
 use Rattle.std.proofs.Common.{◌≡◌, ◌*◌, sym, ap, arith, ◌∙◌}
 use Rattle.go_rules.specs.Below.{set_below}
 use Rattle.go_rules.specs.Play.{is_legal}
-use Rattle.go_base.proofs.Allowed.{set_below-none, set_below-passes, set_below-fails, legal_points-all}
+use Rattle.go_base.proofs.AllowedPlays.{set_below-none, set_below-passes, set_below-fails, legal_points-all}
 use Rattle.go_base.proofs.position.Position.legal_points.Goals as goal
 use Rattle.go_base.proofs.position.Position.legal_points.Goals.{then-is_legal_on, else-is_legal_on}
 

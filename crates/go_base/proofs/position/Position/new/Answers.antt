@@ -1,6 +1,6 @@
 use Rattle.std.proofs.Common.{ap, List, None}
 use Rattle.go_rules.specs.declared.Cell.{Cell}
-use Rattle.go_base.proofs.Kept.{IsKept-empty, view_empty}
+use Rattle.go_base.proofs.EmptyBoard.{IsKept-empty, view_empty}
 use Rattle.go_base.proofs.position.Position.new.Goals as goal
 
 -- the empty board is kept as every position is

@@ -4,7 +4,7 @@ use Rattle.go_rules.specs.Play.{play, play_free}
 use Rattle.go_rules.specs.Position.{is_banned}
 use Rattle.go_rules.proofs.Results.{play_occupied, play_ko, play_else}
 use Rattle.go_base.specs.Positions.{position_of}
-use Rattle.go_base.proofs.Held.{stone_is_test}
+use Rattle.go_base.proofs.HeldBoards.{stone_is_test}
 use Rattle.go_base.proofs.position.Position.play.Goals as goal
 use Rattle.go_base.proofs.position.Position.play.Goals.{After-ne}
 

@@ -1,6 +1,6 @@
 use Rattle.std.proofs.Common.{ap, ◌∙◌}
 use Rattle.go_rules.specs.Strings.{string_at}
-use Rattle.go_base.proofs.Held.{whole_after}
+use Rattle.go_base.proofs.HeldBoards.{whole_after}
 use Rattle.go_base.proofs.position.Position.string.Goals as goal
 
 -- a flood over the position's board finds the string

@@ -1,6 +1,6 @@
 use Rattle.std.proofs.Common.{refl}
 use Rattle.go_rules.specs.Replay.{empty_board}
-use Rattle.go_history.proofs.Keeping.{IsKept-none}
+use Rattle.go_history.proofs.KeptGames.{IsKept-none}
 use Rattle.go_history.proofs.history.History.new.Goals as goal
 
 -- no moves are kept

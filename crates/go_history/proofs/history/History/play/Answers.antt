@@ -3,8 +3,8 @@ use Rattle.go_rules.specs.Replay.{moved}
 use Rattle.go_strings.specs.Games.{reached}
 use Rattle.go_history.specs.declared.history.HistoryError.TheVariants.{Illegal as illegal, NoMemory as no_memory}
 use Rattle.go_history.specs.Games.{most_moves, position_of}
-use Rattle.go_history.proofs.Keeping.{shown_of, point_shown, room_to_count, IsKept-push}
-use Rattle.go_history.proofs.Refusing.{Told, illegal_is, told_is, no_memory_is}
+use Rattle.go_history.proofs.KeptGames.{shown_of, point_shown, room_to_count, IsKept-push}
+use Rattle.go_history.proofs.RefusedMoves.{Told, illegal_is, told_is, no_memory_is}
 use Rattle.go_history.proofs.history.History.play.Goals as goal
 use Rattle.go_history.proofs.history.History.play.Goals.{After-self}
 

@@ -1,4 +1,4 @@
-use Rattle.go_history.proofs.Keeping.{IsKept-none}
+use Rattle.go_history.proofs.KeptGames.{IsKept-none}
 use Rattle.go_history.proofs.history.History.resize.Goals as goal
 
 -- no moves are kept

@@ -1,5 +1,5 @@
 use Rattle.std.proofs.Common.{◌∙◌}
-use Rattle.go_history.proofs.Keeping.{counted, IsKept-pop}
+use Rattle.go_history.proofs.KeptGames.{counted, IsKept-pop}
 use Rattle.go_history.proofs.history.History.undo.Goals as goal
 
 -- the stones of the last move were counted

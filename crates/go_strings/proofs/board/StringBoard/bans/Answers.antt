@@ -1,6 +1,6 @@
 use Rattle.std.proofs.Common.{sym, ap, ◌∙◌}
 use Rattle.go_rules.specs.Position.{BoardState, is_banned}
-use Rattle.go_strings.proofs.Reached.{shown}
+use Rattle.go_strings.proofs.ShownBoards.{shown}
 use Rattle.go_strings.proofs.board.StringBoard.bans.Goals as goal
 
 -- the ban is the one that is shown

@@ -1,5 +1,5 @@
 use Rattle.std.proofs.Common.{arith}
-use Rattle.go_strings.proofs.Making.{last_taken_is}
+use Rattle.go_strings.proofs.LastMoves.{last_taken_is}
 use Rattle.go_strings.proofs.board.StringBoard.last_taken.Goals as goal
 
 -- what the last of the trail took

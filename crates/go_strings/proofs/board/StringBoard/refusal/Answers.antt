@@ -1,7 +1,7 @@
 use Rattle.std.proofs.Common.{sym, ap, ◌∙◌}
 use Rattle.go_rules.specs.Play.{play}
 use Rattle.go_strings.specs.Refused.{refusal_of}
-use Rattle.go_strings.proofs.Reached.{shown, shown_point}
+use Rattle.go_strings.proofs.ShownBoards.{shown, shown_point}
 use Rattle.go_strings.proofs.board.StringBoard.refusal.Goals as goal
 
 -- the point is on the board

@@ -1,5 +1,5 @@
 use Rattle.go_strings.specs.Games.{reached}
-use Rattle.go_strings.proofs.Seeing.{all_agree}
+use Rattle.go_strings.proofs.PositionFacts.{all_agree}
 use Rattle.go_strings.proofs.look.BoardLook.new.Goals as goal
 
 -- all facts of the position agree with it

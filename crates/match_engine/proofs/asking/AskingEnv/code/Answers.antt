@@ -1,6 +1,6 @@
 use Rattle.std.proofs.Common.{ap}
 use Rattle.read_rules.specs.declared.question.Answer.{Answer}
-use Rattle.match_engine.proofs.Remembering.{answer_codes}
+use Rattle.match_engine.proofs.RememberedPlays.{answer_codes}
 use Rattle.match_engine.proofs.asking.AskingEnv.code.Goals as goal
 
 -- the answer's code is that of the present depths

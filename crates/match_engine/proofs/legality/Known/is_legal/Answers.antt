@@ -1,6 +1,6 @@
 use Rattle.std.proofs.Common.{◌∙◌, sym}
 use Rattle.go_rules.specs.Play.{is_legal}
-use Rattle.match_engine.proofs.Knowing.{Knows-more}
+use Rattle.match_engine.proofs.QuestionPoints.{Knows-more}
 use Rattle.match_engine.proofs.legality.Known.is_legal.Goals as goal
 
 -- one answer more

@@ -1,4 +1,4 @@
-use Rattle.match_engine.proofs.Knowing.{Knows-nothing}
+use Rattle.match_engine.proofs.QuestionPoints.{Knows-nothing}
 use Rattle.match_engine.proofs.legality.Known.new.Goals as goal
 
 -- both sets are empty

@@ -1,6 +1,6 @@
 use Rattle.std.proofs.Common.{◌∙◌, sym}
 use Rattle.match_engine.specs.Readings.{codes_of}
-use Rattle.match_engine.proofs.Remembering.{Remembers-more}
+use Rattle.match_engine.proofs.RememberedPlays.{Remembers-more}
 use Rattle.match_engine.proofs.plays.Plays.is_safe.Goals as goal
 
 -- one play more

@@ -1,4 +1,4 @@
-use Rattle.match_engine.proofs.Remembering.{Remembers-nothing}
+use Rattle.match_engine.proofs.RememberedPlays.{Remembers-nothing}
 use Rattle.match_engine.proofs.plays.Plays.new.Goals as goal
 
 -- both sets are empty

@@ -4,7 +4,7 @@ use Rattle.read_cache.specs.Kept.{IsMissing}
 use Rattle.match_engine.specs.Keys.{same_key}
 use Rattle.match_engine.specs.Caches.{kept_in}
 use Rattle.match_engine.specs.Readings.{ReadingsView, AllRest, WasFresh}
-use Rattle.match_engine.proofs.Reading.{AllRest-kept, as_asked}
+use Rattle.match_engine.proofs.KeptReadings.{AllRest-kept, as_asked}
 use Rattle.match_engine.proofs.readings.Readings.read_and_keep.Goals as goal
 use Rattle.match_engine.proofs.readings.Readings.read_and_keep.Goals.{then-not-keep_in, else-not-keep_in}
 

@@ -1,7 +1,7 @@
 use Rattle.std.proofs.Common.{sym, ap, ◌∙◌}
 use Rattle.std.specs.Option.{option_copied}
 use Rattle.read_cache.proofs.Places.{place_within, front_is, front_are}
-use Rattle.read_cache.proofs.Seen.{variants_of-there, variants_of-none, variants_are}
+use Rattle.read_cache.proofs.MapEntries.{variants_of-there, variants_of-none, variants_are}
 use Rattle.read_cache.proofs.Sizes.{variants_fit}
 use Rattle.read_cache.proofs.cache.Cache.brought_to_front.Goals as goal
 

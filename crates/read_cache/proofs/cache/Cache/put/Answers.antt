@@ -1,9 +1,9 @@
 use Rattle.std.proofs.Common.{IsOk, subst, sym, ap, ◌∙◌}
 use Rattle.std.proofs.lemmas.Bool.{false≢true}
 use Rattle.read_cache.specs.Kept.{Kept, IsSound, seen_entries, put_first}
-use Rattle.read_cache.proofs.Seen.{seen-put_entries, variants_of-none, none_unless, OnErr-any}
+use Rattle.read_cache.proofs.MapEntries.{seen-put_entries, variants_of-none, none_unless, OnErr-any}
 use Rattle.read_cache.proofs.Sizes.{variants_fit}
-use Rattle.read_cache.proofs.Sound.{IsSound-put_first}
+use Rattle.read_cache.proofs.CacheSoundness.{IsSound-put_first}
 use Rattle.read_cache.proofs.cache.Cache.put.Goals as goal
 
 -- the variants are small

@@ -2,9 +2,9 @@ use Rattle.std.proofs.Common.{sym, ap, subst, ◌∙◌}
 use Rattle.std.specs.Option.{option_copied}
 use Rattle.read_cache.specs.Variants.{IsFirstStanding}
 use Rattle.read_cache.proofs.Places.{found_right}
-use Rattle.read_cache.proofs.Seen.{variants_of-there, variants_of-none, variants_are}
+use Rattle.read_cache.proofs.MapEntries.{variants_of-there, variants_of-none, variants_are}
 use Rattle.read_cache.proofs.Sizes.{variants_fit}
-use Rattle.read_cache.proofs.Standing.{StandsAt-by, IsMissing-by, IsMissing-none, answer_at}
+use Rattle.read_cache.proofs.StandingVariants.{StandsAt-by, IsMissing-by, IsMissing-none, answer_at}
 use Rattle.read_cache.proofs.cache.Cache.standing.Goals as goal
 
 -- the variants are small

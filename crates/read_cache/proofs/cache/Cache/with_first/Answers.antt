@@ -1,8 +1,8 @@
 use Rattle.std.proofs.Common.{[], ◌∷◌, take, subst, sym, ap, ◌∙◌}
 use Rattle.std.specs.Option.{option_copied, option_map_or}
 use Rattle.read_cache.specs.Kept.{AreVariants}
-use Rattle.read_cache.proofs.Seen.{variants_of-there, variants_of-none, variants_are}
-use Rattle.read_cache.proofs.Sound.{AreVariants-with, AreVariants-alone}
+use Rattle.read_cache.proofs.MapEntries.{variants_of-there, variants_of-none, variants_are}
+use Rattle.read_cache.proofs.CacheSoundness.{AreVariants-with, AreVariants-alone}
 use Rattle.read_cache.proofs.cache.Cache.with_first.Goals as goal
 
 -- the first before three of those that are kept

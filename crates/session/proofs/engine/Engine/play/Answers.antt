@@ -3,7 +3,7 @@ use Rattle.std.proofs.Common.{Err, ap, subst, ◌∙◌}
 use Rattle.session.specs.BoardCommands.{played}
 use Rattle.session.specs.Kept.{Kept, machine_of}
 use Rattle.session.specs.Answers.{IsAnswer}
-use Rattle.session.proofs.Playing.{with_game, move_added, move_illegal, move_past_full, move_without_memory}
+use Rattle.session.proofs.MoveAnswers.{with_game, move_added, move_illegal, move_past_full, move_without_memory}
 use Rattle.session.proofs.engine.Engine.play.Goals as goal
 use Rattle.session.proofs.engine.Engine.play.Goals.{in-Ok, in-Err-Illegal, in-Err-Full, in-Err-NoMemory}
 

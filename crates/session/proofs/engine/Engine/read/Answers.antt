@@ -3,7 +3,7 @@ use Rattle.std.proofs.Common.{◌≡◌, true, refl, ap, subst, rules}
 use Rattle.session.specs.Kept.{Kept, machine_of}
 use Rattle.session.specs.Counting.{has_stone}
 use Rattle.session.specs.Asking.{CountsRefused}
-use Rattle.session.proofs.Asked.{ReadsAs-once}
+use Rattle.session.proofs.LineCounts.{ReadsAs-once}
 use Rattle.session.proofs.engine.Engine.read.Goals as goal
 
 pub returns-clause-read : goal.returns-clause-read

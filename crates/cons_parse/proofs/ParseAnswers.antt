@@ -1,0 +1,166 @@
+-- What the parts of parsing say together of a text.
+use Rattle.std.proofs.Common.{◌≡◌, ℕ, ◌≤◌, Bool, true, false, ◌||◌, cond, nat_lt, List, [], ◌∷◌, ◌++◌, length, Option, Some, None, refl, ap, sym, ◌∙◌}
+use Rattle.std.specs.List.{list_any}
+use Rattle.std.proofs.lemmas.Bool.{ltb-false, le-ltb}
+use Rattle.pat_types.specs.declared.pattern.LabelAt.{LabelAt}
+use Rattle.pat_types.specs.declared.expr.Arg.{Arg}
+use Rattle.pat_types.specs.declared.expr.Expr.{Expr}
+use Rattle.cons_parse.specs.declared.error.ConsError.{ConsError}
+use Rattle.cons_parse.specs.declared.error.ConsError.TheVariants.{Syntax, TooDeep, UnknownFunction, Arity, UnknownLabel, NoMemory}
+use Rattle.cons_parse.specs.declared.token.Name.{Name}
+use Rattle.cons_parse.specs.declared.calls.Item.{Item}
+use Rattle.cons_parse.specs.declared.calls.Item.TheVariants as item
+use Rattle.cons_parse.specs.Answers.{Fails}
+use Rattle.cons_parse.specs.Calls.{items_in}
+use Rattle.cons_parse.specs.Grammar.{Written, Num, Call, Parens, Not, Neg, Bin, spelling, Writes, most_bytes}
+use Rattle.cons_parse.specs.Faults.{is_too_deep, calls, some_call, first_of, fault_of, call_fault, is_unknown_call, misses, is_unlabelled}
+use Rattle.cons_parse.specs.Scan.{scanned}
+use Rattle.cons_parse.specs.Trees.{tree_of}
+use Rattle.cons_parse.specs.Building.{trees, built}
+use Rattle.cons_parse.specs.Parsing.{items_within, Tells, Spells, Refuses}
+use Rattle.cons_parse.proofs.SpellingScans.{scanned_spelling, or_assoc}
+use Rattle.cons_parse.proofs.ScanSoundness.{scanned_is_spelled}
+use Rattle.cons_parse.proofs.Spellings.{built_spelling, tree_is_meaning}
+
+-- some call passes exactly where the test of some item does
+any_append : (t : Item → Bool) (is js : List Item) → list_any t (is ++ js) ≡ (list_any t is || list_any t js)
+any_append t [] js = refl
+any_append t (i ∷ is) js =
+    ap (λ (b : Bool). t i || b) (any_append t is js) ∙ sym (or_assoc (t i) (list_any t is) (list_any t js))
+
+-- a test joined with none
+or_false : (b : Bool) → (b || false) ≡ b
+or_false true = refl
+or_false false = refl
+
+-- some call of an expression passes exactly where some item of its spelling does
+pub some_call_spelled : (test : Name → List Arg → Bool) (w : Written)
+    → list_any (calls test) (spelling w) ≡ some_call test w
+some_call_spelled test (Num n) = refl
+some_call_spelled test (Call name args) = or_false (test name args)
+some_call_spelled test (Parens e) =
+    any_append (calls test) (spelling e) (item.Close ∷ [])
+    ∙ (or_false (list_any (calls test) (spelling e)) ∙ some_call_spelled test e)
+some_call_spelled test (Not e) = some_call_spelled test e
+some_call_spelled test (Neg e) = some_call_spelled test e
+some_call_spelled test (Bin op a b) =
+    any_append (calls test) (spelling a) (item.Operator op ∷ spelling b)
+    ∙ (ap (λ (t : Bool). t || list_any (calls test) (spelling b)) (some_call_spelled test a)
+    ∙ ap (λ (t : Bool). some_call test a || t) (some_call_spelled test b))
+
+-- a text whose items are scanned to their end
+pub record Told (text : List ℕ) (items : List Item) (deep : Bool) : Type 0 where
+  pub w : Written
+  pub writes : Writes text w
+  pub spells : spelling w ≡ items
+  pub depth : is_too_deep 0 w ≡ deep
+
+-- two values that are had are the same
+pub some_same : {X : Type 0} (x y : X) → Some x ≡ Some y → x ≡ y
+some_same x y h = cc
+
+-- a text whose items are given is short enough
+within_if : (t : Bool) (text : List ℕ) (items : List Item) → nat_lt most_bytes (length text) ≡ t
+    → cond t None (items_in text) ≡ Some items → (length text ≤ most_bytes) × (items_in text ≡ Some items)
+within_if true text items e h = cc
+within_if false text items e h = (ltb-false most_bytes (length text) e, h)
+
+-- the items of what a text spells are those of the text
+pub written_within : (text : List ℕ) (w : Written) → Writes text w → items_within text ≡ Some (spelling w)
+written_within text w h =
+    ap (λ (t : Bool). cond t None (items_in text)) (le-ltb most_bytes (length text) h.short) ∙ h.spelled
+
+-- items that are scanned to their end are spelled by an expression
+pub told : (text : List ℕ) (items : List Item) (deep : Bool) → items_within text ≡ Some items
+    → scanned items ≡ Some deep → Told text items deep
+told text items deep h s =
+    let p = within_if (nat_lt most_bytes (length text)) text items refl h in
+    let q = scanned_is_spelled items deep s in
+    record {
+      w = q.0;
+      writes = record { short = p.0; well = q.1; spelled = p.1 ∙ ap (λ (is : List Item). Some is) (sym q.2) };
+      spells = q.2;
+      depth = some_same (is_too_deep 0 q.0) deep (sym (scanned_spelling q.0 q.1) ∙ (ap scanned q.2 ∙ s));
+    }
+
+-- where a leaf stands too deep, TooDeep is the first fault
+pub too_deep : (labels : List LabelAt) (text : List ℕ) (items : List Item) → Told text items true
+    → Tells labels text (Some TooDeep)
+unfolding fault_of
+too_deep labels text items t = record { written = t.w; writes = t.writes; first = rw t.depth refl }
+
+-- the first fault of what does not stand too deep
+shallow : (labels : List LabelAt) (w : Written) → is_too_deep 0 w ≡ false
+    → fault_of labels w ≡ call_fault labels (spelling w)
+unfolding fault_of
+shallow labels w h =
+    rw (
+      h,
+      ← some_call_spelled is_unknown_call w,
+      ← some_call_spelled misses w,
+      ← some_call_spelled
+          (is_unlabelled labels) w,
+    ) refl
+
+-- where none stands too deep, the first fault of the calls is the first fault
+pub call_told : (labels : List LabelAt) (text : List ℕ) (items : List Item) (fault : Option ConsError)
+    → Told text items false → call_fault labels items ≡ fault → Tells labels text fault
+call_told labels text items fault t h =
+    record {
+      written = t.w;
+      writes = t.writes;
+      first =
+          shallow labels t.w t.depth ∙ (ap (call_fault labels) t.spells ∙ h);
+    }
+
+-- no fault of the calls is Syntax
+no_syntax : (a b c : Bool) → first_of ((a, UnknownFunction) ∷ (b, Arity) ∷ (c, UnknownLabel) ∷ []) ≡ Some Syntax → ⊥
+no_syntax true b c h = cc
+no_syntax false true c h = cc
+no_syntax false false true h = cc
+no_syntax false false false h = cc
+
+-- a fault of the calls is refused rightly
+pub call_refused : (labels : List LabelAt) (text : List ℕ) (items : List Item) (e : ConsError) → Told text items false
+    → call_fault labels items ≡ Some e → Refuses labels text e
+call_refused labels text items Syntax t h =
+    absurd (no_syntax (list_any (calls is_unknown_call) items) (list_any (calls misses) items)
+    (list_any (calls (is_unlabelled labels)) items) h)
+call_refused labels text items TooDeep t h = call_told labels text items (Some TooDeep) t h
+call_refused labels text items UnknownFunction t h = call_told labels text items (Some UnknownFunction) t h
+call_refused labels text items Arity t h = call_told labels text items (Some Arity) t h
+call_refused labels text items UnknownLabel t h = call_told labels text items (Some UnknownLabel) t h
+call_refused labels text items NoMemory t h = tt
+
+-- no items, or items that are not in the grammar
+pub items_refused : (labels : List LabelAt) (text : List ℕ) (e : ConsError) → Fails e (items_within text)
+    → Refuses labels text e
+items_refused labels text Syntax h = λ w s. let q = sym (written_within text w s) ∙ h in cc
+items_refused labels text TooDeep h = absurd h
+items_refused labels text UnknownFunction h = absurd h
+items_refused labels text Arity h = absurd h
+items_refused labels text UnknownLabel h = absurd h
+items_refused labels text NoMemory h = tt
+
+-- items that are not in the grammar are refused rightly
+pub scan_refused : (labels : List LabelAt) (text : List ℕ) (items : List Item) (e : ConsError)
+    → items_within text ≡ Some items → Fails e (scanned items) → Refuses labels text e
+scan_refused labels text items Syntax i h = λ w s.
+    let same : items ≡ spelling w = some_same items (spelling w) (sym i ∙ written_within text w s) in
+    let q : Some (is_too_deep 0 w) ≡ None = sym (scanned_spelling w s.well) ∙ (ap scanned (sym same) ∙ h) in cc
+scan_refused labels text items TooDeep i h = absurd h
+scan_refused labels text items UnknownFunction i h = absurd h
+scan_refused labels text items Arity i h = absurd h
+scan_refused labels text items UnknownLabel i h = absurd h
+scan_refused labels text items NoMemory i h = tt
+
+-- what is built of items without faults is what the text spells
+pub spelled : (labels : List LabelAt) (text : List ℕ) (items : List Item) (e : Expr) → Told text items false
+    → call_fault labels items ≡ None → tree_of e ≡ built trees items → Spells labels text e
+spelled labels text items e t h b =
+    record {
+      written = t.w;
+      writes = t.writes;
+      faultless = shallow labels t.w t.depth ∙ (ap (call_fault labels) t.spells ∙ h);
+      same = b ∙ (ap (built trees) (sym t.spells) ∙ (built_spelling trees t.w t.writes.well ∙ tree_is_meaning t.w));
+    }

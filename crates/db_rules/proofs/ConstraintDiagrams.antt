@@ -1,0 +1,322 @@
+-- The labels of a constraint diagram without a fault lie in the diagram and have different letters.
+use Rattle.std.proofs.Common.{◌≡◌, ℕ, zero, suc, ◌+◌, ◌-◌, ◌<◌, ◌≤◌, ◌⊎◌, inl, inr, Bool, true, false, cond, List, [], ◌∷◌, ◌++◌, length, take, drop, get_or, None, refl, sym, ap, subst, ◌∙◌, arith}
+use Rattle.std.specs.Prelude.{◌&&◌, ◌||◌, ◌==◌, nat_lt, slice_get, slice_index}
+use Rattle.std.specs.List.{list_all}
+use Rattle.std.proofs.Math.ListN.{get_or-append}
+use Rattle.std.proofs.Math.Seq.{get_or-append_seam}
+use Rattle.std.proofs.lemmas.Bool.{and_parts, lt-ltb, eqb-true, cases_lt}
+use Rattle.std.proofs.lemmas.List.{length-append, length-take, get_or-take}
+use Rattle.std.proofs.lemmas.List.Folds.{list_all-append}
+use Rattle.std.proofs.lemmas.Option.{slice_get-get_or, slice_get_past}
+use Rattle.pat_types.specs.Diagrams.{drawn_line}
+use Rattle.pat_types.specs.Kept.{is_in, are_apart, are_labels}
+use Rattle.db_rules.specs.declared.kind.FaultKind.{FaultKind}
+use Rattle.db_rules.specs.declared.kind.FaultKind.TheVariants.{ConstraintShape}
+use Rattle.db_rules.specs.Kinds.{first_of}
+use Rattle.db_rules.specs.Diagram.{is_letter, is_dash, plus, bar, ends, without_left, inner, is_edge_line, is_row, shape_of, rows_of, wanted, width_of}
+use Rattle.db_rules.specs.Labels.{is_label, repeats, labels_from, labels_of_line, labels_under, labels_of, repeats_main, constraint_fault}
+use Rattle.db_rules.specs.Accepted.{IsDrawn, IsLabelled, no_line, one_line_more}
+use Rattle.db_rules.proofs.OneMoreLine.{shape_of-width}
+use Rattle.db_rules.proofs.MainDiagrams.{drawn_even, drawn_line_kinds, is_true}
+
+-- where all elements pass, each does
+each_passes : (P : ℕ → Bool) (bytes : List ℕ) (k : ℕ) → k < length bytes → list_all P bytes ≡ true
+    → P (get_or bytes k 0) ≡ true
+each_passes P [] k lt all = absurd (omega arith)
+each_passes P (b ∷ bytes) zero lt all = (and_parts (P b) (list_all P bytes) all).0
+each_passes P (b ∷ bytes) (suc k) lt all =
+    each_passes P bytes k (omega (arith, lt)) (and_parts (P b) (list_all P bytes) all).1
+
+-- a byte of a rest is one of its inner part, or it is the edge's byte at the end
+byte_of_rest : (P : ℕ → Bool) (m : ℕ) (rest : List ℕ) (e : Bool) (k : ℕ) → (slice_index rest (length rest - 1) == m) ≡ e
+    → list_all P (take (length rest - drawn_line e) rest) ≡ true → k < length rest
+    → ((k < length (take (length rest - drawn_line e) rest)) × (P (get_or rest k 0) ≡ true)) ⊎ (get_or rest k 0 ≡ m)
+byte_of_rest P m rest false k end all lt =
+    let within : k < length (take (length rest - 0) rest) =
+    rw (length-take (length rest - 0) rest) (omega (arith, lt)) in
+    inl (
+      within,
+      ap P (sym (get_or-take (length rest - 0) rest k 0 (omega (arith, lt))))
+          ∙ each_passes P (take (length rest - 0) rest) k within all,
+    )
+byte_of_rest P m rest true k end all lt = elim (cases_lt k (length rest - 1)) [
+  | inl before ↦
+      let within : k < length (take (length rest - 1) rest) =
+      rw (length-take (length rest - 1) rest) (omega (arith, lt, before)) in
+      inl (
+        within,
+        ap P (sym (get_or-take (length rest - 1) rest k 0 before))
+            ∙ each_passes P (take (length rest - 1) rest) k within all,
+      )
+  | inr last ↦
+      let is_last : k ≡ length rest - 1 = omega (arith, lt, last) in
+      inr (ap (λ n. get_or rest n 0) is_last ∙ eqb-true _ m end)
+]
+
+-- a byte of a word without its left edge is one of its inner part, or it is the edge's byte at the end
+byte_of_line : (P : ℕ → Bool) (m : ℕ) (word : List ℕ) (k : ℕ) → list_all P (inner m word) ≡ true
+    → k < length (without_left m word)
+    → ((k < length (inner m word)) × (P (get_or (without_left m word) k 0) ≡ true))
+    ⊎ (get_or (without_left m word) k 0 ≡ m)
+byte_of_line P m word k all lt = byte_of_rest P m (without_left m word) (ends m word) k refl all lt
+
+-- the letters of a line, whose left edge is taken away, stand in so many columns, and the line has some only where it
+-- is a row
+pub record IsMainLine (cols : ℕ) (main : List ℕ) : Type 0 where
+  pub in_columns : (k : ℕ) → k < length (without_left bar main) → is_letter (get_or (without_left bar main) k 0) ≡ true
+      → k < cols
+  pub of_row : (k : ℕ) → k < length (without_left bar main) → is_letter (get_or (without_left bar main) k 0) ≡ true
+      → is_row main ≡ true
+
+-- the letters of a row are its inner part
+letters_of_bar : (main : List ℕ) → is_row main ≡ true → list_all is_letter (inner bar main) ≡ true
+unfolding is_row
+letters_of_bar main row = (and_parts (nat_lt 0 (length (inner bar main))) _ row).1
+
+-- a row is a main line of as many columns as it has letters
+main_row : (main : List ℕ) (cols : ℕ) → is_row main ≡ true → (shape_of bar main).width ≡ cols → IsMainLine cols main
+main_row main cols row wide = record {
+  in_columns = λ k lt letter. elim (byte_of_line is_letter bar main k (letters_of_bar main row) lt) [
+    | inl inside ↦ let width : length (inner bar main) ≡ cols =
+        sym (shape_of-width bar main) ∙ wide in omega (arith, width, inside.0)
+    | inr edge ↦ let is_bar : is_letter 124 ≡ true = subst (λ b. is_letter b ≡ true) edge letter in absurd (cc is_bar)
+  ];
+  of_row = λ k lt letter. row;
+}
+
+-- the inner part of an edge line is of `-` alone
+dashes_of_plus : (main : List ℕ) → is_edge_line main ≡ true → list_all is_dash (inner plus main) ≡ true
+unfolding is_edge_line
+dashes_of_plus main edge = (and_parts (nat_lt 0 (length (inner plus main))) _ edge).1
+
+-- a dash and a plus are no letters
+no_letter : (b : ℕ) → (is_dash b ≡ true) ⊎ (b ≡ plus) → is_letter b ≡ true → ⊥
+no_letter b (inl dash) letter = let is : is_letter 45 ≡ true =
+    subst (λ x. is_letter x ≡ true) (eqb-true b 45 dash) letter in cc is
+no_letter b (inr cross) letter = let is : is_letter 43 ≡ true = subst (λ x. is_letter x ≡ true) cross letter in cc is
+
+-- each byte is a dash or a plus
+abbrev AreDashes : List ℕ → Type 0
+AreDashes bytes = (n : ℕ) → n < length bytes → (is_dash (get_or bytes n 0) ≡ true) ⊎ (get_or bytes n 0 ≡ plus)
+
+-- the bytes of an edge line without its left edge are dashes, and perhaps a plus
+dashes_behind : (main : List ℕ) → is_edge_line main ≡ true → AreDashes (without_left plus main)
+dashes_behind main edge n lt = elim (byte_of_line is_dash plus main n (dashes_of_plus main edge) lt) [
+  | inl inside ↦ inl inside.1
+  | inr cross ↦ inr cross
+]
+
+-- no byte of an edge line is a letter
+edge_has_no_letter : (main : List ℕ) → is_edge_line main ≡ true → (k : ℕ) → k < length main
+    → is_letter (get_or main k 0) ≡ true → ⊥
+edge_has_no_letter [] edge k lt letter = omega (arith, lt)
+edge_has_no_letter (b ∷ bs) edge k lt letter = by_begin (b == plus) refl (dashes_behind (b ∷ bs) edge) k lt letter
+  where
+    by_begin : (c : Bool) → (b == plus) ≡ c → AreDashes (without_left plus (b ∷ bs)) → (k : ℕ) → k < length (b ∷ bs)
+        → is_letter (get_or (b ∷ bs) k 0) ≡ true → ⊥
+    by_begin true is dashes zero lt letter = no_letter b (inr (eqb-true b plus is)) letter
+    by_begin true is dashes (suc k) lt letter =
+        no_letter (get_or bs k 0)
+        (subst AreDashes (ap (λ x. drop (drawn_line x) (b ∷ bs)) is) dashes k (omega (arith, lt))) letter
+    by_begin false is dashes k lt letter =
+        no_letter (get_or (b ∷ bs) k 0) (subst AreDashes (ap (λ x. drop (drawn_line x) (b ∷ bs)) is) dashes k lt) letter
+
+-- an edge line is a main line of any number of columns
+main_edge : (main : List ℕ) (cols : ℕ) → is_edge_line main ≡ true → IsMainLine cols main
+main_edge [] cols edge =
+    record {
+      in_columns = λ k lt letter. absurd (omega (arith, lt));
+      of_row =
+          λ k lt letter. absurd (omega (arith, lt));
+    }
+main_edge (b ∷ bs) cols edge =
+    record {
+      in_columns = λ k lt letter. absurd (none (b == bar) refl k lt letter);
+      of_row =
+          λ k lt letter. absurd (none (b == bar) refl k lt letter);
+    }
+  where
+    none : (c : Bool) → (b == bar) ≡ c → (k : ℕ) → k < length (without_left bar (b ∷ bs))
+        → is_letter (get_or (without_left bar (b ∷ bs)) k 0) ≡ true → ⊥
+    none true is k lt letter =
+        let rest : without_left bar (b ∷ bs) ≡ bs = ap (λ x. drop (drawn_line x) (b ∷ bs)) is in
+        edge_has_no_letter (b ∷ bs) edge (suc k) (let within : k < length bs =
+        subst (λ (r : List ℕ). k < length r) rest lt in
+        omega (arith, within)) (subst (λ (r : List ℕ). is_letter (get_or r k 0) ≡ true) rest letter)
+    none false is k lt letter =
+        let rest : without_left bar (b ∷ bs) ≡ b ∷ bs = ap (λ x. drop (drawn_line x) (b ∷ bs)) is in
+        edge_has_no_letter (b ∷ bs) edge k (subst (λ (r : List ℕ). k < length r) rest lt)
+        (subst (λ (r : List ℕ). is_letter (get_or r k 0) ≡ true) rest letter)
+
+-- each line of a main diagram without a fault is a main line of its width
+main_lines : (diagram : List (List ℕ)) → IsDrawn diagram → (k : ℕ) → k < length diagram
+    → IsMainLine (width_of (wanted diagram)) (get_or diagram k [])
+main_lines diagram drawn k lt =
+    by_kind (is_edge_line (get_or diagram k [])) (is_row (get_or diagram k [])) refl refl
+    (drawn_line_kinds diagram drawn k lt)
+  where
+    by_kind : (edge row : Bool) → is_edge_line (get_or diagram k []) ≡ edge → is_row (get_or diagram k []) ≡ row
+        → (edge || row) ≡ true → IsMainLine (width_of (wanted diagram)) (get_or diagram k [])
+    by_kind true row e r some = main_edge (get_or diagram k []) (width_of (wanted diagram)) e
+    by_kind false true e r some =
+        main_row (get_or diagram k []) (width_of (wanted diagram)) r (drawn_even diagram drawn k lt r)
+    by_kind false false e r some = absurd cc
+
+-- where the letters of a line stand in so many columns, its labels do; they stand over letters alone
+labels_from_in : (row col total cols : ℕ) (main word : List ℕ) → repeats main word ≡ true
+    → ((k : ℕ) → k < length main → is_letter (get_or main k 0) ≡ true → (row < total) × (col + k < cols))
+    → list_all (is_in total cols) (labels_from row col main word) ≡ true
+labels_from_in row col total cols [] word same within = refl
+labels_from_in row col total cols (m ∷ ms) [] same within = refl
+labels_from_in row col total cols (m ∷ ms) (w ∷ ws) same within =
+    let parts = and_parts (w == m || is_label w && is_letter m) (repeats ms ws) same in
+    let rest =
+    labels_from_in row (col + 1) total cols ms ws parts.1 (λ k lt letter. let far =
+    within (suc k) (omega (arith, lt)) letter in
+    (far.0, let next : col + suc k < cols = far.1 in omega (arith, next))) in
+    by_same (w == m) parts.0 rest (within zero (omega arith))
+  where
+    by_same : (same : Bool) → (same || is_label w && is_letter m) ≡ true
+        → list_all (is_in total cols) (labels_from row (col + 1) ms ws) ≡ true
+        → (is_letter m ≡ true → (row < total) × (col + zero < cols))
+        → list_all (is_in total cols) (cond same (labels_from row (col + 1) ms ws) (record {
+          letter = w;
+          row =
+              row;
+          col = col;
+        } ∷ labels_from row (col + 1) ms ws)) ≡ true
+    by_same true over rest here = rest
+    by_same false over rest here =
+        let place = here (and_parts (is_label w) (is_letter m) over).1 in
+        rw (
+          lt-ltb row total place.0,
+          lt-ltb col cols (let there : col + zero < cols = place.1 in
+              omega (arith, there)),
+        ) rest
+
+-- the labels of a line stand in the diagram
+labels_of_line_in : (row total cols : ℕ) (main word : List ℕ) → repeats main word ≡ true → IsMainLine cols main
+    → (is_row main ≡ true → row < total) → list_all (is_in total cols) (labels_of_line row main word) ≡ true
+labels_of_line_in row total cols [] word same fine above = refl
+labels_of_line_in row total cols (m ∷ ms) [] same fine above = refl
+labels_of_line_in row total cols (m ∷ ms) (w ∷ ws) same fine above = by_edge (m == bar) refl
+  where
+    within : (body : List ℕ) → without_left bar (m ∷ ms) ≡ body → (k : ℕ) → k < length body
+        → is_letter (get_or body k 0) ≡ true → (row < total) × (0 + k < cols)
+    within body is k lt letter =
+        let lt_there : k < length (without_left bar (m ∷ ms)) = subst (λ (r : List ℕ). k < length r) (sym is) lt in
+        let letter_there : is_letter (get_or (without_left bar (m ∷ ms)) k 0) ≡ true =
+        subst (λ (r : List ℕ). is_letter (get_or r k 0) ≡ true) (sym is) letter in (
+          above (fine.of_row k lt_there letter_there),
+          let column : k < cols = fine.in_columns k lt_there letter_there in
+              omega (arith, column),
+        )
+
+    by_edge : (c : Bool) → (m == bar) ≡ c
+        → list_all (is_in total cols) (cond c (labels_from row 0 ms ws) (labels_from row 0 (m ∷ ms) (w ∷ ws))) ≡ true
+    by_edge true is =
+        labels_from_in row 0 total cols ms ws (and_parts (w == m || is_label w
+        && is_letter m) (repeats ms ws) same).1 (within ms (ap (λ x. drop (drawn_line x) (m ∷ ms)) is))
+    by_edge false is =
+        labels_from_in row 0 total cols (m ∷ ms) (w ∷ ws) same
+        (within (m ∷ ms) (ap (λ x. drop (drawn_line x) (m ∷ ms)) is))
+
+-- the rows of a diagram with one line in front
+pub length-rows_of-cons : (main : List ℕ) (mains : List (List ℕ))
+    → length (rows_of (main ∷ mains)) ≡ drawn_line (is_row main) + length (rows_of mains)
+length-rows_of-cons main mains = by_row (is_row main)
+  where
+    by_row : (b : Bool) → length (cond b (main ∷ rows_of mains) (rows_of mains)) ≡ drawn_line b + length (rows_of mains)
+    by_row true = omega arith
+    by_row false = omega arith
+
+-- each of the words repeats the main line at its place
+abbrev Repeat : List (List ℕ) → List (List ℕ) → Type 0
+Repeat mains words =
+    (k : ℕ) → k < length words → (k < length mains) × (repeats (get_or mains k []) (get_or words k []) ≡ true)
+
+-- the labels of all lines stand in the diagram
+labels_under_in : (row total cols : ℕ) (mains words : List (List ℕ)) → Repeat mains words
+    → ((k : ℕ) → k < length mains → IsMainLine cols (get_or mains k [])) → row + length (rows_of mains) ≤ total
+    → list_all (is_in total cols) (labels_under row mains words) ≡ true
+unfolding labels_under
+labels_under_in row total cols [] words same fine few = refl
+labels_under_in row total cols (main ∷ mains) [] same fine few = refl
+labels_under_in row total cols (main ∷ mains) (word ∷ words) same fine few =
+    let first =
+    labels_of_line_in row total cols main word (same 0 (omega arith)).1 (fine 0 (omega arith))
+    (λ is. let one : drawn_line (is_row main) ≡ 1 = ap drawn_line is in
+    omega (arith, one, few, length-rows_of-cons main mains)) in
+    let rest = labels_under_in (row + drawn_line (is_row main)) total cols mains words
+    (λ k lt. let there = same (suc k) (omega (arith, lt)) in (omega (arith, there.0), there.1))
+    (λ k lt. fine (suc k) (omega (arith, lt)))
+    (omega (arith, few, length-rows_of-cons main mains)) in
+    list_all-append (is_in total cols) (labels_of_line row main word)
+    (labels_under (row + drawn_line (is_row main)) mains words) ∙ rw (first, rest) refl
+
+-- the only fault of a list does not fit
+none_of_one : (b : Bool) (k : FaultKind) → first_of ((b, k) ∷ []) ≡ None → b ≡ false
+none_of_one true k e = absurd cc
+none_of_one false k e = refl
+
+-- a further line without a fault repeats its main line, and leaves the labels apart
+pub record IsFineLabelLine (diagram words : List (List ℕ)) (word : List ℕ) : Type 0 where
+  pub within : length words < length diagram
+  pub same : repeats (get_or diagram (length words) []) word ≡ true
+  pub apart : are_apart (labels_of diagram (words ++ word ∷ [])) ≡ true
+
+-- a further line without a fault passes each test
+fine_label_line : (diagram words : List (List ℕ)) (word : List ℕ) → constraint_fault diagram words word ≡ None
+    → IsFineLabelLine diagram words word
+unfolding constraint_fault
+fine_label_line diagram words word none =
+    let both =
+    and_parts (repeats_main (slice_get diagram (length words)) word)
+    (are_apart (labels_of diagram (words ++ word ∷ []))) (is_true _ (none_of_one _ ConstraintShape none)) in
+    elim (cases_lt (length words) (length diagram)) [
+      | inl within ↦ record {
+        within = within;
+        same =
+            subst (λ o. repeats_main o word ≡ true) (slice_get-get_or diagram (length words) [] within) both.0;
+        apart =
+            both.1;
+      }
+      | inr past ↦ let never : repeats_main None word ≡ true =
+          subst (λ o. repeats_main o word ≡ true) (slice_get_past diagram (length words) past) both.0 in
+          absurd (cc never)
+    ]
+
+-- each line of a constraint diagram without a fault repeats its main line
+labelled_repeat : (diagram words : List (List ℕ)) → IsLabelled diagram words → Repeat diagram words
+labelled_repeat diagram _ no_line k lt = absurd (omega (arith, lt))
+labelled_repeat diagram _ (one_line_more words word labelled none) k lt =
+    let fine = fine_label_line diagram words word none in
+    elim (cases_lt k (length words)) [
+      | inl before ↦
+          let was = labelled_repeat diagram words labelled k before in
+          (was.0, ap (repeats (get_or diagram k [])) (get_or-append words (word ∷ []) [] k before) ∙ was.1)
+      | inr last ↦
+          let is_last : k ≡ length words = omega (arith, lt, last, length-append words (word ∷ [])) in
+          let there : get_or (words ++ word ∷ []) k [] ≡ word =
+          ap (λ n. get_or (words ++ word ∷ []) n []) is_last ∙ get_or-append_seam words word [] [] in (
+            omega (arith, is_last, fine.within),
+            ap (repeats (get_or diagram k [])) there
+                ∙ ap (λ n. repeats (get_or diagram n []) word) is_last ∙ fine.same,
+          )
+    ]
+
+-- the labels of a constraint diagram without a fault have different letters
+labelled_apart : (diagram words : List (List ℕ)) → IsLabelled diagram words → are_apart (labels_of diagram words) ≡ true
+unfolding labels_under
+labelled_apart [] _ no_line = refl
+labelled_apart (main ∷ mains) _ no_line = refl
+labelled_apart diagram _ (one_line_more words word labelled none) = (fine_label_line diagram words word none).apart
+
+-- the labels of an entry without a fault lie in its diagram and have different letters
+pub labels_are_labels : (diagram words : List (List ℕ)) → IsDrawn diagram → IsLabelled diagram words
+    → are_labels (length (rows_of diagram)) (width_of (wanted diagram)) (labels_of diagram words) ≡ true
+labels_are_labels diagram words drawn labelled =
+    let inside =
+    labels_under_in 0 (length (rows_of diagram)) (width_of (wanted diagram)) diagram words
+    (labelled_repeat diagram words labelled) (main_lines diagram drawn) (omega arith) in
+    rw (inside, labelled_apart diagram words labelled) refl

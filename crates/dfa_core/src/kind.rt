@@ -1,0 +1,38 @@
+//! What a row means to a walk that enters it.
+ghost use Rattle.std.specs.Prelude.{◌≡◌, ◌++◌};
+ghost use Rattle.dfa_core.specs.RowKinds.{stays_at, kind_with};
+
+/// What a row means to a walk that enters it. It follows from the row.
+#[derive(Clone, Copy, Debug, PartialEq, Eq)]
+pub enum RowKind {
+    /// It accepts nothing, and some letter leads on.
+    Plain,
+    /// It accepts something.
+    Accepting,
+    /// It accepts nothing, and each letter leads back to it.
+    Dead,
+}
+
+/// Whether each of its targets is the row itself.
+fn is_never_left(row: usize, targets: [u32; 4]) -> bool
+    ensures { result ≡ stays_at row targets }
+{
+    targets[0] as usize == row
+        && targets[1] as usize == row
+        && targets[2] as usize == row
+        && targets[3] as usize == row
+}
+
+/// The kind of a row that accepts the numbers of both lists.
+pub fn kind_of(row: usize, targets: [u32; 4], first: &[u16], second: &[u16]) -> RowKind
+    ensures { result ≡ kind_with row targets (first.now ++ second.now) }
+{
+    if !first.is_empty() || !second.is_empty() {
+        return RowKind::Accepting;
+    }
+    if is_never_left(row, targets) {
+        RowKind::Dead
+    } else {
+        RowKind::Plain
+    }
+}

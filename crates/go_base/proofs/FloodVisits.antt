@@ -1,0 +1,328 @@
+-- What a flood gathers as it visits the neighbours of its stones.
+use Rattle.std.proofs.Common.{◌≡◌, ◌≢◌, ℕ, ◌+◌, ◌*◌, ◌<◌, ◌≤◌, ◌&&◌, Bool, true, false, cond, ltb, Some, List, [], ◌++◌, length, get_or, refl, sym, ap, subst, arith, inl, inr, ◌∙◌}
+use Rattle.std.proofs.lemmas.Bool.{cases_Bool, cases_eq, cases_lt, eq-eqb, eqb-true, or_cases, or_left, or_right, both_ways, and_parts, and_from, lt-ltb, ltb-true}
+use Rattle.std.specs.Ordering.{nat_cmp}
+use Rattle.std.specs.FinSet as sets
+use Rattle.go_rules.specs.declared.Cell.{Cell}
+use Rattle.go_rules.specs.declared.Cell.TheVariants.{Empty, Black, White}
+use Rattle.go_rules.specs.Board.{are_neighbours}
+use Rattle.go_rules.specs.Below.{set_below}
+use Rattle.go_rules.specs.Strings.{cell_at, same_cell, is_stone, is_in_string, is_liberty, liberty_points}
+use Rattle.go_rules.specs.Boundary.{is_enemy, is_beside_string}
+use Rattle.go_rules.proofs.Counts.{any_below_gives, any_below_from}
+use Rattle.go_rules.proofs.Sets.{contains-set_below, contains-insert_nat, same_nat_set}
+use Rattle.go_rules.proofs.Paths.{path_on_board, same_cell-true, same_cell-from, IsInString-from_test, is_is_in_string-from_fact}
+use Rattle.go_rules.proofs.Links.{path_same}
+use Rattle.go_rules.specs.Neighbourhood.{neighbourhood_of}
+use Rattle.go_rules.proofs.Tests.{same_tests, and-false}
+use Rattle.go_base.specs.Views.{alone}
+use Rattle.go_base.proofs.PointNeighbourhoods.{close_next, whole_string, alone_self}
+use Rattle.go_base.specs.Sides.{neighbour_at}
+use Rattle.go_base.specs.Trails.{add_once}
+use Rattle.go_base.specs.Floods.{Spreads, Gathers, Visits, SpreadsOut, enemy_points}
+use Rattle.go_base.proofs.SidesOfPoints.{neighbour_at-all, neighbour_at-near}
+use Rattle.go_base.proofs.FloodResults.{Flooded, Flooded-start, Flooded-next, Flooded-all, Spreads-none, Spreads-skip, Spreads-add, has_at, has_index, at_append}
+
+module _ (s : ℕ) (cells : List Cell) (test : Cell → Bool) (q : ℕ) where
+  -- no side was visited
+  Gathers-none : (old : sets.FinSet nat_cmp) → Gathers s cells test q 0 old old
+  Gathers-none old = record { kept = λ r h. h; all = λ side l. absurd (omega arith); only = λ r h. inl h }
+
+  -- the next side gave nothing, or a point that fails the test
+  Gathers-skip : (n : ℕ) (old new : sets.FinSet nat_cmp) → Gathers s cells test q n old new
+      → ((r : ℕ) → neighbour_at s q n ≡ Some r → test (cell_at cells r) ≡ true → ⊥)
+      → Gathers s cells test q (n + 1) old new
+  Gathers-skip n old new h none = record {
+    kept = h.kept;
+    all = λ side l r e t. elim (cases_eq side n) [
+      | inl f ↦ absurd (none r (ap (neighbour_at s q) (sym f) ∙ e) t)
+      | inr ne ↦ h.all side (omega arith) r e t
+    ];
+    only = h.only;
+  }
+
+  -- the next side gave a point that passes
+  Gathers-add : (n r : ℕ) (old new : sets.FinSet nat_cmp) → Gathers s cells test q n old new → q < s * s
+      → neighbour_at s q n ≡ Some r → test (cell_at cells r) ≡ true
+      → Gathers s cells test q (n + 1) old (sets.insert new r)
+  Gathers-add n r old new h on e t = record {
+    kept = λ x k. contains-insert_nat new r x ∙ or_right _ _ (h.kept x k);
+    all = λ side l x e' t'. contains-insert_nat new r x ∙ elim (cases_eq side n) [
+      | inl f ↦ or_left _ _ (eq-eqb x r (let k : Some x ≡ Some r = sym e' ∙ ap (neighbour_at s q) f ∙ e in cc))
+      | inr ne ↦ or_right _ _ (h.all side (omega arith) x e' t')
+    ];
+    only = λ x k. elim (or_cases _ _ (sym (contains-insert_nat new r x) ∙ k)) [
+      | inl f ↦
+          let near = neighbour_at-near s q n r on e in
+          inr (subst (λ y. (y < s * s) × (are_neighbours s q y ≡ true)
+          × (test (cell_at cells y) ≡ true)) (sym (eqb-true x r f)) (near.0, near.1, t))
+      | inr before ↦ h.only x before
+    ];
+  }
+
+  -- the next side gave a point, which came where it passes
+  Gathers-visit : (n r : ℕ) (old mid new : sets.FinSet nat_cmp) → Gathers s cells test q n old mid → q < s * s
+      → neighbour_at s q n ≡ Some r
+      → new ≡ cond (test (cell_at cells r)) (sets.insert mid r) mid → Gathers s cells test q (n + 1) old new
+  Gathers-visit n r old mid new h on e is =
+      subst (Gathers s cells test q (n + 1) old) (sym is) (elim (cases_Bool (test (cell_at cells r))) [
+        | inl t ↦ rw t (Gathers-add n r old mid h on e t)
+        | inr f ↦ rw f (Gathers-skip n old mid h (λ x e' t'.
+            let same : r ≡ x = (let k : Some r ≡ Some x = sym e ∙ e' in cc) in
+            both_ways (test (cell_at cells x)) (ap (λ y. test (cell_at cells y)) (sym same) ∙ f) t'))
+      ])
+
+module _ (s : ℕ) (cells : List Cell) (own : Cell) (q : ℕ) where
+  -- no side was visited
+  pub SpreadsOut-none : (old : List ℕ) (free foes : sets.FinSet nat_cmp)
+      → SpreadsOut s cells own q 0 old old free free foes foes
+  SpreadsOut-none old free foes =
+      record {
+        stones = Spreads-none s cells q old;
+        liberties = Gathers-none s cells _ q free;
+        enemies = Gathers-none s cells _ q foes;
+      }
+
+  -- the next side gave nothing
+  pub SpreadsOut-skip : (n : ℕ) (old new : List ℕ) (free freed foes foed : sets.FinSet nat_cmp)
+      → SpreadsOut s cells own q n old new free freed foes foed
+      → ((r : ℕ) → neighbour_at s q n ≡ Some r → ⊥) → SpreadsOut s cells own q (n + 1) old new free freed foes foed
+  SpreadsOut-skip n old new free freed foes foed h none = record {
+    stones = Spreads-skip s cells q n old new h.stones (λ r e same. none r e);
+    liberties = Gathers-skip s cells _ q n free freed h.liberties (λ r e t. none r e);
+    enemies = Gathers-skip s cells _ q n foes foed h.enemies (λ r e t. none r e);
+  }
+
+  -- the next side gave a point, which was visited
+  pub SpreadsOut-visit : (n r : ℕ) (old mid new : List ℕ) (free freed freed' foes foed foed' : sets.FinSet nat_cmp)
+      → SpreadsOut s cells own q n old mid free freed foes foed
+      → q < s * s → cell_at cells q ≡ own → neighbour_at s q n ≡ Some r
+      → Visits own (cell_at cells r) r mid new freed freed' foed foed'
+      → SpreadsOut s cells own q (n + 1) old new free freed' foes foed'
+  SpreadsOut-visit n r old mid new free freed freed' foes foed foed' h on like e v = record {
+    stones = subst (Spreads s cells q (n + 1) old) (sym v.trail) (elim (cases_Bool (same_cell (cell_at cells r) own)) [
+      | inl t ↦ rw t (Spreads-add s cells q n r old mid h.stones on e (same_cell-true _ _ t ∙ sym like))
+      | inr f ↦ rw f (Spreads-skip s cells q n old mid h.stones (λ x e' same.
+          let it : r ≡ x = (let k : Some r ≡ Some x = sym e ∙ e' in cc) in
+          both_ways (same_cell (cell_at cells r) own) f (same_cell-from _ _ (ap (cell_at cells) it ∙ same ∙ like))))
+    ]);
+    liberties = Gathers-visit s cells _ q n r free freed freed' h.liberties on e v.liberties;
+    enemies = Gathers-visit s cells _ q n r foes foed foed' h.enemies on e v.enemies;
+  }
+
+-- the neighbours of the first n stones of the trail whose cell passes the test are there, and nothing else is
+pub record Gathered (s : ℕ) (cells : List Cell) (test : Cell
+    → Bool) (n : ℕ) (trail : List ℕ) (found : sets.FinSet nat_cmp) : Type 0 where
+  pub all : (i : ℕ) → i < n → (l : ℕ) → l < s * s → are_neighbours s (get_or trail i 0) l ≡ true
+      → test (cell_at cells l) ≡ true → sets.contains found l ≡ true
+  pub only : (l : ℕ) → sets.contains found l ≡ true
+      → (i : ℕ) × (i < n) × (l < s * s) × (are_neighbours s (get_or trail i 0) l ≡ true)
+      × (test (cell_at cells l) ≡ true)
+
+-- nothing was gathered from no stone
+Gathered-none : (s : ℕ) (cells : List Cell) (test : Cell → Bool) (trail : List ℕ) (found : sets.FinSet nat_cmp)
+    → found ≡ sets.empty → Gathered s cells test 0 trail found
+Gathered-none s cells test trail found e = record {
+  all = λ i l. absurd (omega arith);
+  only = λ l h. absurd (both_ways (sets.contains found l)
+      (ap (λ t. sets.contains t l) e ∙ sets.contains-empty nat_cmp l) h);
+}
+
+-- what is beside one more stone was gathered
+Gathered-next : (s : ℕ) (cells : List Cell) (test : Cell
+    → Bool) (n : ℕ) (trail new more : List ℕ) (found next : sets.FinSet nat_cmp) → Gathered s cells test n trail found
+    → n < length trail
+    → new ≡ trail ++ more → get_or trail n 0 < s * s → Gathers s cells test (get_or trail n 0) 4 found next
+    → Gathered s cells test (n + 1) new next
+Gathered-next s cells test n trail new more found next h l is on g =
+    let at = λ (i : ℕ) (li : i < length trail). ap (λ xs. get_or xs i 0) is ∙ at_append trail more i li in
+    record {
+      all = λ i li x x_on near t. elim (cases_lt i n) [
+        | inl below ↦ g.kept x (h.all i below x x_on
+            (ap (λ y. are_neighbours s y x) (sym (at i (omega arith))) ∙ near) t)
+        | inr here ↦
+            let i_is : i ≡ n = omega arith in
+            let near' : are_neighbours s (get_or trail n 0) x ≡ true =
+            ap (λ y. are_neighbours s y x) (sym (at n l) ∙ ap (λ j. get_or new j 0) (sym i_is)) ∙ near in
+            let side = neighbour_at-all s (get_or trail n 0) x on x_on near' in
+            g.all side.0 side.1 x side.2 t
+      ];
+      only = λ x k. elim (g.only x k) [
+        | inl before ↦ let o = h.only x before in
+            (o.0, omega (arith, o.1), o.2, ap (λ y. are_neighbours s y x) (at o.0 (omega (arith, o.1))) ∙ o.3, o.4)
+        | inr fresh ↦ (n, omega arith, fresh.0, ap (λ y. are_neighbours s y x) (at n l) ∙ fresh.1, fresh.2)
+      ];
+    }
+
+-- what a flood over the whole trail gathered
+Gathered-all : (s : ℕ) (cells : List Cell) (test : Cell → Bool) (p n : ℕ) (trail : List ℕ) (found : sets.FinSet nat_cmp)
+    → p < s * s → is_stone (cell_at cells p) ≡ true
+    → Flooded s cells p n trail → length trail ≤ n → Gathered s cells test n trail found
+    → found ≡ set_below (s * s) (λ l. is_beside_string s cells p l && test (cell_at cells l))
+unfolding is_beside_string
+Gathered-all s cells test p n trail found on stone h l g =
+    same_nat_set _ _ (λ x. same_tests _ _
+    (λ k.
+    let o = g.only x k in
+    let path = h.only _ (has_at trail o.0 (omega (arith, o.1, h.within))) in
+    and_from _ _ (lt-ltb x (s * s) o.2)
+    (and_from _ _ (any_below_from (s * s) _ (get_or trail o.0 0) (path_on_board s cells p on path)
+    (and_from _ _ (is_is_in_string-from_fact s cells p _ on (record { stone = stone; path = path })) o.3)) o.4))
+    (λ k.
+    let parts = and_parts _ _ k in
+    let both = and_parts _ _ parts.1 in
+    let it = any_below_gives (s * s) _ both.0 in
+    let link = and_parts _ _ it.2 in
+    let i = has_index trail it.0 (Flooded-all s cells p n trail h l (IsInString-from_test s cells p it.0 link.0).path)
+    in
+    g.all i.0 (omega (arith, i.1, l)) x (ltb-true x (s * s) parts.0)
+    (ap (λ y. are_neighbours s y x) i.2 ∙ link.1) both.1)
+    ∙ sym (contains-set_below (s * s) (λ y. is_beside_string s cells p y && test (cell_at cells y)) x))
+
+-- which of two tests comes first does not matter
+and_swapped : (a b c : Bool) → (a && (b && c)) ≡ (a && (a && c && b))
+and_swapped true true true = refl
+and_swapped true true false = refl
+and_swapped true false true = refl
+and_swapped true false false = refl
+and_swapped false b c = refl
+
+-- the liberties are the empty points next to the string
+pub liberties_beside : (s : ℕ) (cells : List Cell) (p : ℕ)
+    → set_below (s * s) (λ l. is_beside_string s cells p l && same_cell (cell_at cells l) Empty)
+    ≡ liberty_points s cells p
+unfolding liberty_points is_liberty is_beside_string
+liberties_beside s cells p =
+    same_nat_set _ _ (λ x. contains-set_below (s * s)
+    (λ l. is_beside_string s cells p l && same_cell (cell_at cells l) Empty) x
+    ∙ and_swapped (ltb x (s * s)) (is_beside_string s cells p x) (same_cell (cell_at cells x) Empty)
+    ∙ sym (contains-set_below (s * s) (is_liberty s cells p) x))
+
+-- what the first n stones of a flood's trail gave
+pub record FloodsOut (s : ℕ) (cells : List Cell) (own : Cell) (p n : ℕ) (trail : List ℕ)
+    (free foes : sets.FinSet nat_cmp) : Type 0 where
+  pub stones : Flooded s cells p n trail
+  pub liberties : Gathered s cells (λ cell. same_cell cell Empty) n trail free
+  pub enemies : Gathered s cells (is_enemy own) n trail foes
+
+-- at first nothing but the point is known
+pub FloodsOut-start : (s : ℕ) (cells : List Cell) (own : Cell) (p : ℕ) (trail : List ℕ)
+    (free foes : sets.FinSet nat_cmp) → trail ≡ add_once [] p → free ≡ sets.empty → foes ≡ sets.empty
+    → FloodsOut s cells own p 0 trail free foes
+FloodsOut-start s cells own p trail free foes t f e = record {
+  stones = subst (Flooded s cells p 0) (sym t) (Flooded-start s cells p);
+  liberties = Gathered-none s cells _ trail free f;
+  enemies = Gathered-none s cells _ trail foes e;
+}
+
+-- each point of the trail holds what the first does
+pub trail_like : (s : ℕ) (cells : List Cell) (p n : ℕ) (trail : List ℕ) → Flooded s cells p n trail → n < length trail
+    → cell_at cells (get_or trail n 0) ≡ cell_at cells p
+trail_like s cells p n trail h l = path_same s cells p (h.only (get_or trail n 0) (has_at trail n l))
+
+-- one more stone was visited
+pub FloodsOut-next : (s : ℕ) (cells : List Cell) (own : Cell) (p n : ℕ) (trail new : List ℕ)
+    (free freed foes foed : sets.FinSet nat_cmp) → p < s * s
+    → FloodsOut s cells own p n trail free foes → n < length trail
+    → SpreadsOut s cells own (get_or trail n 0) 4 trail new free freed foes foed
+    → FloodsOut s cells own p (n + 1) new freed foed
+FloodsOut-next s cells own p n trail new free freed foes foed on h l sp =
+    let q_on = path_on_board s cells p on (h.stones.only (get_or trail n 0) (has_at trail n l)) in
+    record {
+      stones = Flooded-next s cells p n trail new on h.stones l sp.stones;
+      liberties = Gathered-next s cells _ n trail new sp.stones.kept.0 free freed h.liberties l sp.stones.kept.1 q_on
+          sp.liberties;
+      enemies = Gathered-next s cells _ n trail new sp.stones.kept.0 foes foed h.enemies l sp.stones.kept.1 q_on
+          sp.enemies;
+    }
+
+module _ (s : ℕ) (cells : List Cell) (own : Cell) (p n : ℕ) (trail : List ℕ) (free foes : sets.FinSet nat_cmp)
+    (on : p < s * s) (like : own ≡ cell_at cells p) (stone : own ≢ Empty)
+    (h : FloodsOut s cells own p n trail free foes) (l : length trail ≤ n) where
+  -- the point holds a stone
+  pub stone_at : is_stone (cell_at cells p) ≡ true
+  stone_at = by_cell (cell_at cells p) (λ e. stone (like ∙ e))
+    where
+      by_cell : (k : Cell) → k ≢ Empty → is_stone k ≡ true
+      by_cell Empty not_empty = absurd (not_empty refl)
+      by_cell Black not_empty = refl
+      by_cell White not_empty = refl
+
+  -- the empty points gathered are the liberties
+  pub flood_liberties : free ≡ liberty_points s cells p
+  flood_liberties = Gathered-all s cells _ p n trail free on stone_at h.stones l h.liberties
+      ∙ liberties_beside s cells p
+
+  -- the enemies gathered are those next to the string
+  pub flood_enemies : foes ≡ enemy_points s cells p
+  flood_enemies = subst (λ k. foes ≡ set_below (s * s)
+      (λ q. is_beside_string s cells p q && is_enemy k (cell_at cells q))) like
+      (Gathered-all s cells (is_enemy own) p n trail foes on stone_at h.stones l h.enemies)
+
+-- nothing is next to an empty point's string
+beside_empty : (s : ℕ) (cells : List Cell) (p q : ℕ) → cell_at cells p ≡ Empty → is_beside_string s cells p q ≡ false
+unfolding is_beside_string is_in_string
+beside_empty s cells p q e = elim (cases_Bool (is_beside_string s cells p q)) [
+  | inl t ↦
+      let it = any_below_gives (s * s) _ t in
+      let stone = (and_parts _ _ (and_parts _ _ it.2).0).0 in
+      absurd (both_ways (is_stone (cell_at cells p)) (ap is_stone e) stone)
+  | inr f ↦ f
+]
+
+-- an empty point's string has no neighbour of any kind
+none_beside : (s : ℕ) (cells : List Cell) (p : ℕ) (test : Cell → Bool) (found : sets.FinSet nat_cmp)
+    → cell_at cells p ≡ Empty → found ≡ sets.empty
+    → found ≡ set_below (s * s) (λ q. is_beside_string s cells p q && test (cell_at cells q))
+none_beside s cells p test found e is =
+    is ∙ same_nat_set _ _ (λ q. sets.contains-empty nat_cmp q
+    ∙ sym (contains-set_below (s * s) (λ x. is_beside_string s cells p x && test (cell_at cells x)) q
+    ∙ ap (λ b. ltb q (s * s) && (b && test (cell_at cells q))) (beside_empty s cells p q e)
+    ∙ and-false (ltb q (s * s))))
+
+-- an empty point has no liberties
+pub no_liberties : (s : ℕ) (cells : List Cell) (p : ℕ) (free : sets.FinSet nat_cmp) → cell_at cells p ≡ Empty
+    → free ≡ sets.empty → free ≡ liberty_points s cells p
+no_liberties s cells p free e is =
+    none_beside s cells p (λ cell. same_cell cell Empty) free e is ∙ liberties_beside s cells p
+
+-- nor enemies next to it
+pub no_enemies : (s : ℕ) (cells : List Cell) (p : ℕ) (foes : sets.FinSet nat_cmp) → cell_at cells p ≡ Empty
+    → foes ≡ sets.empty → foes ≡ enemy_points s cells p
+no_enemies s cells p foes e is = none_beside s cells p (is_enemy (cell_at cells p)) foes e is
+
+-- an empty set has no member
+pub none_at : (found : sets.FinSet nat_cmp) (q : ℕ) → found ≡ sets.empty → sets.contains found q ≡ true → ⊥
+none_at found q e h = both_ways (sets.contains found q)
+    (ap (λ t. sets.contains t q) e ∙ sets.contains-empty nat_cmp q) h
+
+module _ (s : ℕ) (cells : List Cell) (p q : ℕ) (foes : sets.FinSet nat_cmp) (e : foes ≡ enemy_points s cells p) where
+  -- a member is a point of the board beside the string that holds an enemy
+  its_parts : (ltb q (s * s) && (is_beside_string s cells p q && is_enemy (cell_at cells p) (cell_at cells q)))
+      ≡ sets.contains foes q
+  its_parts = sym (contains-set_below (s * s)
+      (λ x. is_beside_string s cells p x && is_enemy (cell_at cells p) (cell_at cells x)) q)
+      ∙ ap (λ t. sets.contains t q) (sym e)
+
+  -- a member is an enemy next to the string
+  pub enemy_beside : sets.contains foes q ≡ true
+      → (is_beside_string s cells p q ≡ true) × (is_enemy (cell_at cells p) (cell_at cells q) ≡ true)
+  enemy_beside h = and_parts _ _ (and_parts _ _ (its_parts ∙ h)).1
+
+  -- a point of the board that is none of them is no enemy next to the string
+  pub no_enemy : q < s * s → sets.contains foes q ≡ false → is_beside_string s cells p q ≡ true
+      → is_enemy (cell_at cells p) (cell_at cells q) ≡ true → ⊥
+  no_enemy on miss beside enemy =
+      both_ways (sets.contains foes q) miss (sym its_parts
+      ∙ and_from _ _ (lt-ltb q (s * s) on) (and_from _ _ beside enemy))
+
+-- an enemy next to the string is close to its points
+pub enemy_close : (s : ℕ) (cells : List Cell) (p q : ℕ) (foes : sets.FinSet nat_cmp) → p < s * s
+    → foes ≡ enemy_points s cells p → sets.contains foes q ≡ true → neighbourhood_of s cells (alone p) q ≡ true
+unfolding is_beside_string
+enemy_close s cells p q foes on e h =
+    let it = any_below_gives (s * s) _ (enemy_beside s cells p q foes e h).0 in
+    let both = and_parts _ _ it.2 in
+    let q_on = ltb-true q (s * s) (and_parts _ _
+    (sym (ap (λ t. sets.contains t q) e ∙ contains-set_below (s * s) _ q) ∙ h)).0 in
+    close_next s cells (alone p) it.0 q q_on (whole_string s cells (alone p) p it.0 on (alone_self p) both.0) both.1

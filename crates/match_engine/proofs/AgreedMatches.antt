@@ -1,0 +1,44 @@
+-- One match more about which helpers are asked.
+use Rattle.std.proofs.Common.{◌≡◌, ℕ, ◌+◌, ◌<◌, Bool, List, [], ◌∷◌, ◌++◌, length, take, get_or, map, slice_get, Option, Some, sym, ap, ◌∙◌}
+use Rattle.std.proofs.lemmas.List.{take_more, map-append}
+use Rattle.go_rules.specs.declared.Colour.{Colour}
+use Rattle.go_rules.specs.Position.{BoardState}
+use Rattle.pat_types.specs.declared.pattern.Pattern.{Pattern}
+use Rattle.helpers.specs.Asking.{SlotState, says_yes}
+use Rattle.helper_asking.specs.Fields.{helper_names}
+use Rattle.helper_asking.specs.Rule.{raised, IsAskedFor}
+use Rattle.helper_totals.specs.Totals.{asks_over}
+use Rattle.helper_totals.proofs.CallTotals.{answer_over-more, asked_over-more}
+use Rattle.match_rules.specs.declared.found.Match.{Match}
+use Rattle.match_engine.specs.MachineMatches.{is_agreed_at}
+use Rattle.match_engine.specs.HelperCalls.{names_of, plays_of, after_matches}
+
+module _ (slots : List SlotState) (patterns : List Pattern) (board : BoardState) (friend : Colour) (old : List Match)
+    (n : ℕ)
+    (z : Match) (p : Pattern) (now after : List SlotState) (answer : Bool) (low : n < length old)
+    (read : z ≡ get_or old n z)
+    (number : slice_get patterns z.pattern ≡ Some p)
+    (so_far : now ≡ after_matches slots patterns (take n old) board friend)
+    (asked : IsAskedFor now (helper_names p.items) board z.at friend answer after) where
+  -- the answer is that of the helpers as they were at first
+  pub answer_is : answer ≡ is_agreed_at (says_yes slots) board friend (slice_get patterns z.pattern) z
+  answer_is =
+      answer_over-more slots board friend (plays_of patterns (take n old))
+      (helper_names p.items) z.at now after answer so_far asked
+      ∙ sym (ap (λ o. is_agreed_at (says_yes slots) board friend o z) number)
+
+  -- the plays up to this one
+  plays_more : plays_of patterns (take n old) ++ (helper_names p.items, z.at) ∷ []
+      ≡ plays_of patterns (take (n + 1) old)
+  plays_more =
+      ap (λ o. plays_of patterns (take n old) ++ (names_of o, z.at) ∷ []) (sym number)
+      ∙ ap (λ y. plays_of patterns (take n old) ++ (names_of (slice_get patterns y.pattern), y.at) ∷ []) read
+      ∙ sym (ap (plays_of patterns) (take_more old n z low)
+      ∙ map-append (λ y. (names_of (slice_get patterns y.pattern), y.at)) (take n old) (get_or old n z ∷ []))
+
+  -- and the calls are those about the matches up to this one
+  pub calls_are : after ≡ after_matches slots patterns (take (n + 1) old) board friend
+  calls_are =
+      asked_over-more slots board friend (plays_of patterns (take n old))
+      (helper_names p.items) z.at now after answer so_far asked
+      ∙ ap (λ plays. raised (asks_over slots plays board friend) slots) plays_more

@@ -1,0 +1,136 @@
+-- A question that was read is found again while the facts of its answer hold and few other questions were read.
+use Rattle.std.proofs.Common.{◌≡◌, ◌∙◌, ℕ, suc, ◌≤◌, arith, inl, inr, sym, ap, subst, None, refl, true, rules}
+use Rattle.go_rules.specs.Position.{BoardState, IsPosition}
+use Rattle.go_base.specs.Facts.{Fact, SizeIs, CellIs, BanIs, IsFactOf, Agrees}
+use Rattle.go_base.specs.Told.{told}
+use Rattle.read_rules.specs.declared.question.Answer.{Answer}
+use Rattle.read_rules.specs.ActiveArea.{InActiveArea, AgreeOn, IsAboutOne}
+use Rattle.read_cache.specs.Variants.{Stands}
+use Rattle.read_cache.specs.declared.variants.Variant.{Variant}
+use Rattle.read_cache.proofs.LastingVariants.{IsAmongFirst, of_first, IsAmongFirst-stands, IsAmongFirst-kept, IsAmongFirst-found, IsAmongFirst-first, IsAmongFirst-again}
+use Rattle.match_engine.specs.declared.keys.Key.{Key}
+use Rattle.match_engine.specs.Keys.{same_key, same_key-is}
+use Rattle.match_engine.specs.Readings.{ReadingsView, KeptReadings, raised, Rests, AllRest, HasRead}
+
+-- a question equals itself
+same_key-self : (q : Key) → same_key q q ≡ true
+same_key-self q = search rules
+
+-- a fact about a point of S is so on each of two positions that agree on S
+IsFactOf-agree : (S : ℕ → Type 0) (a b : BoardState) (fact : Fact) → AgreeOn S a b → IsAboutOne S fact
+    → IsFactOf a fact → IsFactOf b fact
+IsFactOf-agree S a b (SizeIs n) agree near is = sym agree.sizes ∙ is
+IsFactOf-agree S a b (CellIs p cell) agree near is = sym (agree.cells p near) ∙ is
+IsFactOf-agree S a b (BanIs p c forbidden) agree near is = sym (agree.bans p c near) ∙ is
+
+-- a variant that stands on a position and rests on its facts stands where the active area is the same
+Stands-agree : (key : Key) (variant : Variant Answer) (a b : BoardState) → Rests key variant → Stands a variant
+    → IsPosition b
+    → AgreeOn (InActiveArea key.question a) a b → Stands b variant
+Stands-agree key variant a b rests stands sound agree = record {
+  sound = sound;
+  each = λ fact seen. IsFactOf-agree (InActiveArea key.question a) a b fact agree (rests.near a stands fact seen)
+      (stands.each fact seen);
+}
+
+-- an answer to the question that stands on the position and rests on its facts is among its first n, and the question
+-- among the first n
+pub record IsAtHand (key : Key) (pos : BoardState) (n : ℕ) (kept : KeptReadings) : Type 0 where
+  pub variant : Variant Answer
+  pub rests : Rests key variant
+  pub stands : Stands pos variant
+  pub among : IsAmongFirst same_key key variant n kept
+
+-- a count that was raised is not 0
+raised-some : (count : ℕ) → raised count 1 ≡ 0 → ⊥
+raised-some count none = omega (arith, none)
+
+-- where no keeping was refused, the question that was read is the first, and its answer the first of its answers
+pub IsAtHand-first : (key : Key) (pos : BoardState) (answer : Answer) (old new : ReadingsView)
+    → HasRead key pos answer old new → AllRest new.kept
+    → new.refused ≡ 0 → IsAtHand key pos 1 new.kept
+IsAtHand-first key pos answer old new has rest none = elim has.read [
+  | inl fresh ↦ elim fresh.keeping [
+    | inl first ↦ record {
+      variant = record { facts = first.facts; answer = answer };
+      rests = first.rests;
+      stands = first.holds;
+      among = subst (IsAmongFirst same_key key (record { facts = first.facts; answer = answer }) 1) (sym first.kept)
+          (IsAmongFirst-first same_key same_key-is same_key-self key
+          (record { facts = first.facts; answer = answer }) old.kept);
+    }
+    | inr refused ↦ absurd (raised-some old.refused (sym refused.refused ∙ none))
+  ]
+  | inr kept ↦
+      let found = kept.found.brought.first.found in
+      let among = IsAmongFirst-again same_key same_key-is same_key-self key pos old.kept new.kept answer kept.found in
+      record {
+        variant = found;
+        rests = of_first same_key Rests same_key-is key found 1 new.kept rest among;
+        stands = kept.found.brought.first.stands;
+        among = among;
+      }
+]
+
+-- another reading moves it back by one place at most
+pub IsAtHand-later : (key : Key) (pos : BoardState) (n : ℕ) (other : Key) (there : BoardState) (answer : Answer)
+    (old new : ReadingsView)
+    → HasRead other there answer old new → new.refused ≡ 0 → n ≤ 3 → 8 ≤ old.kept.1 → IsAtHand key pos n old.kept
+    → IsAtHand key pos (suc n) new.kept
+IsAtHand-later key pos n other there answer old new has none few room hand = elim has.read [
+  | inl fresh ↦ elim fresh.keeping [
+    | inl first ↦ record {
+      variant = hand.variant;
+      rests = hand.rests;
+      stands = hand.stands;
+      among = subst (IsAmongFirst same_key key hand.variant (suc n)) (sym first.kept)
+          (IsAmongFirst-kept same_key same_key-is same_key-self other key
+          (record { facts = first.facts; answer = answer }) hand.variant old.kept n few
+          (omega (arith, few, room)) hand.among);
+    }
+    | inr refused ↦ absurd (raised-some old.refused (sym refused.refused ∙ none))
+  ]
+  | inr kept ↦ record {
+    variant = hand.variant;
+    rests = hand.rests;
+    stands = hand.stands;
+    among = IsAmongFirst-found same_key same_key-is same_key-self other key there old.kept new.kept answer
+        hand.variant n
+        (omega (arith, few, room)) hand.among kept.found;
+  }
+]
+
+-- where the active area is the same, a reading of the question is not fresh
+pub IsAtHand-kept : (key : Key) (pos : BoardState) (n : ℕ) (here : BoardState) (answer : Answer)
+    (old new : ReadingsView) → IsAtHand key pos n old.kept
+    → IsPosition here → AgreeOn (InActiveArea key.question pos) pos here → HasRead key here answer old new
+    → new.last ≡ None
+IsAtHand-kept key pos n here answer old new hand sound agree has = elim has.read [
+  | inl fresh ↦ absurd (IsAmongFirst-stands same_key key hand.variant n old.kept here hand.among
+      (Stands-agree key hand.variant pos here hand.rests hand.stands sound agree) fresh.missing)
+  | inr kept ↦ kept.last
+]
+
+-- as many questions may be kept after a reading as before
+pub HasRead-capacity : (key : Key) (pos : BoardState) (answer : Answer) (old new : ReadingsView)
+    → HasRead key pos answer old new
+    → new.kept.1 ≡ old.kept.1
+HasRead-capacity key pos answer old new has = elim has.read [
+  | inl fresh ↦ elim fresh.keeping [
+    | inl first ↦ ap (λ (k : KeptReadings). k.1) first.kept
+    | inr refused ↦ ap (λ (k : KeptReadings). k.1) refused.kept
+  ]
+  | inr kept ↦ ap (λ (k : KeptReadings). k.1) kept.found.new_is
+]
+
+-- where no keeping is counted as refused after a reading, none was before
+pub HasRead-refused : (key : Key) (pos : BoardState) (answer : Answer) (old new : ReadingsView)
+    → HasRead key pos answer old new
+    → new.refused ≡ 0 → old.refused ≡ 0
+HasRead-refused key pos answer old new has none = elim has.read [
+  | inl fresh ↦ elim fresh.keeping [
+    | inl first ↦ sym first.refused ∙ none
+    | inr refused ↦ absurd (raised-some old.refused (sym refused.refused ∙ none))
+  ]
+  | inr kept ↦ sym kept.refused ∙ none
+]

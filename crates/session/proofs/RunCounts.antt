@@ -1,0 +1,174 @@
+-- The counts that a run tells are those of the lines that it answered.
+use Rattle.std.proofs.Common.{◌≡◌, ℕ, suc, ◌+◌, ◌^◌, ◌<◌, ◌≤◌, Bool, true, false, cond, List, [], ◌∷◌, length, Option, Some, None, refl, sym, ap, subst, ◌∙◌, arith, inl, inr}
+use Rattle.std.specs.Prelude.{◌==◌}
+use Rattle.std.proofs.lemmas.List.{length-append}
+use Rattle.std.proofs.lemmas.List.Sums.{sum_by-cons}
+use Rattle.gtp_rules.specs.Lines.{RawLine, Line, TooLong, line_feed, lines_of, lines_with_rest, rest_of, rest_line}
+use Rattle.gtp_rules.specs.Steps.{Step}
+use Rattle.gtp_lex.specs.Held.{lines_from, held_from, held_line, longer}
+use Rattle.gtp_lex.proofs.HeldLemmas.{lines_with_rest-lines_from}
+use Rattle.run_notes.specs.declared.notes.Counts.{Counts}
+use Rattle.session.specs.Machine.{Machine}
+use Rattle.session.specs.Kept.{Kept, no_counts}
+use Rattle.session.specs.Counting.{counted, is_read_line, readings_in}
+use Rattle.session.specs.Asking.{IsAfterLine}
+use Rattle.session.specs.Serving.{HasFewFresh}
+use Rattle.session.specs.Turns.{Turn, IsAlong}
+use Rattle.session.specs.Tallies.{Tally, IsTallied, BreaksOff, one_turn}
+use Rattle.session.specs.Ends.{Streams, Serves, AreTallied, IsRight, most_taken}
+use Rattle.session.specs.Headline.{ServesLines, AreCountsOf}
+use Rattle.session.specs.declared.outcome.End.{End}
+use Rattle.session.specs.declared.outcome.End.TheVariants.{Done, InputFault, OutputFault, InputTooLong}
+use Rattle.session.proofs.LineCounts.{few_fresh-line}
+use Rattle.session.proofs.CertainHits.{hits_are_kept}
+
+-- How many lines a run answers.
+
+-- no more lines end in some bytes than these are
+lines_from-few : (held : RawLine) (bytes : List ℕ) → length (lines_from held bytes) ≤ length bytes
+lines_from-few held [] = omega arith
+lines_from-few held (b ∷ bs) =
+    by (b == line_feed) (lines_from-few (Line []) bs) (lines_from-few (longer held b) bs)
+  where
+    by : (ends : Bool) → length (lines_from (Line []) bs) ≤ length bs
+        → length (lines_from (longer held b) bs) ≤ length bs
+        → length (cond ends (held ∷ lines_from (Line []) bs) (lines_from (longer held b) bs)) ≤ suc (length bs)
+    by true ended goes_on = omega (arith, ended)
+    by false ended goes_on = omega (arith, goes_on)
+
+-- a line that is held is one at most
+held_line-few : (held : RawLine) → length (held_line held) ≤ 1
+held_line-few TooLong = omega arith
+held_line-few (Line []) = omega arith
+held_line-few (Line (b ∷ bs)) = omega arith
+
+-- the lines of some bytes are one more than these at most
+lines-few : (bytes : List ℕ) → length (lines_with_rest bytes) ≤ length bytes + 1
+lines-few bytes =
+    let all = ap length (lines_with_rest-lines_from bytes) in
+    let both = length-append (lines_from (Line []) bytes) (held_line (held_from (Line []) bytes)) in
+    let ended = lines_from-few (Line []) bytes in
+    let held = held_line-few (held_from (Line []) bytes) in
+    omega (arith, all, both, ended, held)
+
+-- those that have their line feed are among them
+ended-few : (bytes : List ℕ) → length (lines_of bytes) ≤ length bytes + 1
+ended-few bytes =
+    let both = length-append (lines_of bytes) (rest_line (rest_of bytes)) in
+    let all = lines-few bytes in
+    omega (arith, both, all)
+
+module _ {M : Type 0} (step : M → RawLine → Step M) where
+  -- no more lines are tallied than there are
+  turns-few : (old : M) (lines : List RawLine) (tally : Tally M) (new : M) (ended : Bool)
+      → IsTallied step old lines tally new ended
+      → length tally.turns ≤ length lines
+  turns-few old [] tally new ended p = let none = ap (λ (t : Tally M). length t.turns) p.0 in omega (arith, none)
+  turns-few old (x ∷ xs) tally new ended (first, rest, mid, true, answers, joined, h) =
+      let none = ap (λ (t : Tally M). length t.turns) h.0 in
+      let all = ap (λ (t : Tally M). length t.turns) joined in
+      let both = length-append (one_turn old x) rest.turns in
+      omega (arith, none, all, both)
+  turns-few old (x ∷ xs) tally new ended (first, rest, mid, false, answers, joined, h) =
+      let later = turns-few mid xs rest new ended h in
+      let all = ap (λ (t : Tally M). length t.turns) joined in
+      let both = length-append (one_turn old x) rest.turns in
+      omega (arith, later, all, both)
+
+  -- nor where a reply broke off
+  cut-few : (first : M) (lines : List RawLine) (tally : Tally M) → BreaksOff step first lines tally
+      → length tally.turns ≤ length lines
+  cut-few first lines tally cut =
+      let before = turns-few first cut.before cut.whole cut.mid false cut.answered in
+      let all = ap (λ (t : Tally M). length t.turns) cut.tallied in
+      let both = length-append cut.whole.turns (one_turn cut.mid cut.line) in
+      let lens = ap length cut.place ∙ length-append cut.before (cut.line ∷ cut.after) in
+      omega (arith, before, all, both, lens)
+
+  -- by the end of a run
+  tallied-few : (first : M) (taken : List ℕ) (tally : Tally M) (end : End) → AreTallied step first taken tally end
+      → length tally.turns ≤ length taken + 1
+  tallied-few first taken tally Done (inl (last, ended, run)) =
+      let few = turns-few first (lines_with_rest taken) tally last ended run in let lines = lines-few taken in
+      omega (arith, few, lines)
+  tallied-few first taken tally Done (inr (last, run)) =
+      let few = turns-few first (lines_of taken) tally last true run in let lines = ended-few taken in
+      omega (arith, few, lines)
+  tallied-few first taken tally InputFault (last, run) =
+      let few = turns-few first (lines_of taken) tally last false run in let lines = ended-few taken in
+      omega (arith, few, lines)
+  tallied-few first taken tally InputTooLong (last, run) =
+      let few = turns-few first (lines_of taken) tally last false run in let lines = ended-few taken in
+      omega (arith, few, lines)
+  tallied-few first taken tally OutputFault cut =
+      let few = cut-few first (lines_with_rest taken) tally cut in let lines = lines-few taken in
+      omega (arith, few, lines)
+
+  -- no run takes more bytes than it may
+  taken-few : (first : M) (left : Option (List ℕ)) (taken put : List ℕ) (piece : ℕ) (end : End)
+      → IsRight step first left taken put piece end
+      → length taken ≤ most_taken
+  taken-few first left taken put piece Done (inl read) = let few = read.few in omega (arith, few)
+  taken-few first left taken put piece Done (inr ended) = ended.few
+  taken-few first left taken put piece InputFault (run, few) = omega (arith, few)
+  taken-few first left taken put piece InputTooLong (run, few) = omega (arith, few)
+  taken-few first left taken put piece OutputFault cut = cut.few
+
+  -- so it answers few lines
+  serves-few : (first : M) (before after : Streams) (end : End) (tally : Tally M)
+      → Serves step first before after end tally
+      → length tally.turns ≤ most_taken + 1
+  serves-few first before after end tally serves =
+      let lines = tallied-few first serves.taken tally end serves.tallied in
+      let bytes = taken-few first after.left serves.taken tally.out after.piece end serves.right in
+      omega (arith, lines, bytes)
+
+  -- those of the source or generated ones
+  pub served-few : (generate : Option ℕ) (first : M) (before after : Streams) (end : End) (tally : Tally M)
+      → ServesLines generate step first before after end tally → length tally.turns ≤ most_taken + 1
+  served-few None first before after end tally serves = serves-few first before after end tally serves
+  served-few (Some n) first before after end tally serves = let lines = serves.generated in
+      serves-few first _ _ end tally lines.2
+
+-- What was counted.
+
+-- the readings of the lines are counted
+readings_along : (turns : List (Turn Machine)) (a b : Kept) → IsAlong IsAfterLine a turns b
+    → a.counts.readings + length turns < 2 ^ 64
+    → b.counts.readings ≡ a.counts.readings + readings_in turns
+readings_along [] a b along small = let same = ap (λ (k : Kept). k.counts.readings) along in omega (arith, same)
+readings_along (turn ∷ turns) a b (mid, first, rest) small =
+    let counts = sum_by-cons (λ (t : Turn Machine). cond (is_read_line t.machine t.line) 1 0) turn turns in
+    let here = by (is_read_line turn.machine turn.line) first.readings in
+    let later = readings_along turns mid b rest (omega (arith, small, here.1)) in
+    omega (arith, counts, here.0, later)
+  where
+    by : (reads : Bool) → mid.counts.readings ≡ counted a.counts.readings reads
+        → (mid.counts.readings ≡ a.counts.readings + cond reads 1 0) × (mid.counts.readings ≤ a.counts.readings + 1)
+    by true is = (omega (arith, is, small), omega (arith, is))
+    by false is = (omega (arith, is), omega (arith, is))
+
+-- no more are fresh than were counted
+few_along : (turns : List (Turn Machine)) (a b : Kept) → IsAlong IsAfterLine a turns b → HasFewFresh a.counts
+    → HasFewFresh b.counts
+few_along [] a b along few = subst (λ (k : Kept). HasFewFresh k.counts) (sym along) few
+few_along (turn ∷ turns) a b (mid, first, rest) few =
+    few_along turns mid b rest (few_fresh-line turn.machine turn.line a mid first.readings first.read few)
+
+-- the counts of a session that has answered few lines since it had counted nothing
+pub counts_of : (first last : Kept) (turns : List (Turn Machine)) → IsAlong IsAfterLine first turns last
+    → first.counts ≡ no_counts
+    → 8 ≤ first.readings.kept.1 → length turns ≤ most_taken + 1 → AreCountsOf turns last.counts
+counts_of first last turns along none room few =
+    let readings = ap (λ (c : Counts). c.readings) none in
+    let fresh = ap (λ (c : Counts). c.fresh) none in
+    let small : first.counts.readings + length turns < 2 ^ 64 = omega (arith, readings, few) in
+    let all = readings_along turns first last along small in
+    let start : HasFewFresh first.counts =
+    record { few = omega (arith, readings, fresh); small = omega (arith, readings) } in
+    record {
+      readings = omega (arith, readings, all);
+      fresh = (few_along turns first last along start).few;
+      hits = λ unrefused n hits. (let law = hits_are_kept first [] turns first last 0 n refl along room unrefused hits
+          (omega (arith, readings, fresh)) small in omega (arith, law));
+    }

@@ -1,0 +1,304 @@
+-- A run so far, and what it says by its outcome when it stops here.
+use Rattle.std.proofs.Common.{◌≡◌, ℕ, ◌+◌, ◌-◌, ◌<◌, ◌≤◌, Bool, true, false, List, [], ◌∷◌, ◌++◌, length, take, Option, None, refl, sym, ap, subst, ◌∙◌, append-nil, arith, inl, inr, length-append}
+use Rattle.std.specs.Io.KnownBytes.{Appends, Consumes, IsAtEnd, Keeps}
+use Rattle.std.proofs.KnownBytes.{Consumes-nil, Consumes-trans, Consumes-kept}
+use Rattle.std.proofs.lemmas.List.{take_at, take_all, length-take-le}
+use Rattle.gtp_rules.specs.Lines.{RawLine, Line, lines_of, lines_with_rest, rest_of, rest_line}
+use Rattle.gtp_rules.specs.Steps.{Step}
+use Rattle.gtp_rules.specs.Transcript.{GoesOn}
+use Rattle.gtp_rules.proofs.Runs.{Cut-front}
+use Rattle.gtp_lex.specs.Held.{lines_from, held_from, held_line}
+use Rattle.gtp_lex.proofs.HeldLemmas.{lines_from-append, held_from-append, lines_of-lines_from, lines_with_rest-lines_from}
+use Rattle.session.specs.Kept.{Kept}
+use Rattle.session.specs.Turns.{Turn}
+use Rattle.session.specs.Tallies.{Tally, Progress, Advances, IsTallied, no_tally, together}
+use Rattle.session.specs.Serving.{RunsTo, RunsPart}
+use Rattle.session.specs.Ends.{most_taken, Streams, earlier}
+use Rattle.session.specs.Opened.{ServesCounting}
+use Rattle.session.proofs.TallyLemmas.{Advances-none, Advances-trans, IsTallied-nil, IsTallied-append, IsTallied-run, BreaksOff-after, BreaksOff-more, BreaksOff-is, BreaksOff-cut}
+use Rattle.session.specs.declared.outcome.End.TheVariants.{Done, InputFault, OutputFault, InputTooLong}
+
+-- some bytes were taken and some put, each line that ended was answered, the rest is held, and room bytes may still
+-- be taken
+pub record Served {M : Type 0} (step : M → RawLine → Step M) (goes : Kept → Turn M → Kept → Type 0) (first now : M)
+    (left_old left_new : Option (List ℕ)) (old new : Progress) (held : RawLine) (room : ℕ) : Type 0 where
+  pub taken : List ℕ
+  pub tally : Tally M
+  pub reads : Consumes left_old left_new taken
+  pub advances : Advances goes old new tally
+  pub run : IsTallied step first (lines_from (Line []) taken) tally now false
+  pub held_is : held ≡ held_from (Line []) taken
+  pub few : length taken + room ≡ most_taken
+
+-- what was answered of the lines from the front was answered of the lines of the bytes
+tallied_lines : {M : Type 0} (step : M → RawLine → Step M) (taken : List ℕ) (first now : M)
+    (tally : Tally M) (ended : Bool) → IsTallied step first (lines_from (Line []) taken) tally now ended
+    → IsTallied step first (lines_of taken) tally now ended
+tallied_lines step taken first now tally ended run =
+    subst (λ l. IsTallied step first l tally now ended) (sym (lines_of-lines_from taken)) run
+
+-- the lines of the bytes taken so far and of a piece more
+lines_of-append : (taken part : List ℕ) (held : RawLine) → held ≡ held_from (Line []) taken
+    → lines_of (taken ++ part) ≡ lines_from (Line []) taken ++ lines_from held part
+lines_of-append taken part held is =
+    lines_of-lines_from (taken ++ part) ∙ lines_from-append (Line []) taken part
+    ∙ ap (λ h. lines_from (Line []) taken ++ lines_from h part) (sym is)
+
+-- the bytes taken before the last piece
+earlier-append : (taken part : List ℕ) (piece : ℕ) → length part ≡ piece → earlier (taken ++ part) piece ≡ taken
+earlier-append taken part piece len =
+    ap (λ n. take n (taken ++ part)) (let whole = length-append taken part in omega (arith, whole))
+    ∙ take_at taken part (length taken) refl
+
+-- before the first byte
+pub served_start : (M : Type 0) (step : M → RawLine → Step M) (goes : Kept → Turn M → Kept → Type 0) (m : M)
+    (l : Option (List ℕ))
+    (p : Progress) → Served step goes m m l l p p (Line []) most_taken
+served_start M step goes m l p = record {
+  taken = [];
+  tally = no_tally;
+  reads = Consumes-nil l;
+  advances = Advances-none goes p;
+  run = IsTallied-nil M step m;
+  held_is = refl;
+  few = refl;
+}
+
+-- The source gave a piece, its lines were answered, and none ended the session.
+pub served_more : (M : Type 0) (step : M → RawLine → Step M) (goes : Kept → Turn M → Kept → Type 0) (first now : M)
+    (l0 l1 : Option (List ℕ)) (p0 p1 : Progress) (held : RawLine) (room : ℕ)
+    → Served step goes first now l0 l1 p0 p1 held room → (l2 : Option (List ℕ)) (p2 : Progress) (part : List ℕ)
+    → Consumes l1 l2 part → (n : ℕ) (new : M) (held' : RawLine) → length part ≡ n → n ≤ room
+    → RunsTo step goes now (lines_from held part) new false p1 p2
+    → held' ≡ held_from held part → Served step goes first new l0 l2 p0 p2 held' (room - n)
+served_more M step goes first now l0 l1 p0 p1 held room s l2 p2 part reads n new held' len within runs is = record {
+  taken = s.taken ++ part;
+  tally = together s.tally runs.tally;
+  reads = Consumes-trans l0 l1 l2 s.taken part s.reads reads;
+  advances = Advances-trans goes p0 p1 p2 s.tally runs.tally s.advances runs.advances;
+  run =
+      subst (λ l. IsTallied step first l (together s.tally runs.tally) new false)
+      (sym (lines_from-append (Line []) s.taken part ∙ ap (λ h. lines_from (Line []) s.taken ++ lines_from h part)
+      (sym s.held_is)))
+      (IsTallied-append M step first _ _ s.tally runs.tally now new false s.run runs.run);
+  held_is = is ∙ ap (λ h. held_from h part) s.held_is ∙ sym (held_from-append (Line []) s.taken part);
+  few = let few = s.few in let both = length-append s.taken part in omega (arith, few, both);
+}
+
+module _ (M : Type 0) (step : M → RawLine → Step M) (goes : Kept → Turn M → Kept → Type 0) (first now : M)
+    (before : Streams)
+    (l1 : Option (List ℕ)) (p0 p1 : Progress) (held : RawLine) (room : ℕ)
+    (s : Served step goes first now before.left l1 p0 p1 held room) (opened : before.written ≡ p0.written) where
+  -- every line of the bytes so far was answered, and none ended the session
+  tallied : IsTallied step first (lines_of s.taken) s.tally now false
+  tallied = tallied_lines step s.taken first now s.tally false s.run
+
+  -- so they are in a transcript
+  answered : GoesOn step first (lines_of s.taken) s.tally.out
+  answered = (now, IsTallied-run M step first (lines_of s.taken) s.tally now false tallied)
+
+  -- bytes that were put since the run began
+  put_since : (after : Streams) (p : Progress) (tally : Tally M) → p.written ≡ after.written → Advances goes p0 p tally
+      → Appends before.written after.written tally.out
+  put_since after p tally is advances =
+      subst (λ w. Appends w after.written tally.out) (sym opened)
+      (subst (λ w. Appends p0.written w tally.out) is advances.writes)
+
+  -- the source failed
+  pub served_fault : (after : Streams) → Keeps l1 after.left → p1.written ≡ after.written → 0 < room
+      → ServesCounting None step goes first before after InputFault p0 p1
+  served_fault after kept same some = record {
+    tally = s.tally;
+    serves = record {
+      taken = s.taken;
+      reads = Consumes-kept before.left l1 after.left s.taken s.reads kept;
+      writes = put_since after p1 s.tally same s.advances;
+      right = (answered, (let few = s.few in omega arith));
+      tallied = (now, tallied);
+    };
+    advances = s.advances;
+  }
+
+  -- no byte more may be taken
+  pub served_too_long : (after : Streams) → l1 ≡ after.left → p1.written ≡ after.written → room ≡ 0
+      → ServesCounting None step goes first before after InputTooLong p0 p1
+  served_too_long after unread unput none = record {
+    tally = s.tally;
+    serves = record {
+      taken = s.taken;
+      reads = subst (λ l. Consumes before.left l s.taken) unread s.reads;
+      writes = put_since after p1 s.tally unput s.advances;
+      right = (answered, (let few = s.few in omega arith));
+      tallied = (now, tallied);
+    };
+    advances = s.advances;
+  }
+
+  -- The source came to its end.
+  module _ (after : Streams) (p2 : Progress) (holds : p2.written ≡ after.written) (reads : Consumes l1 after.left [])
+      (at_end : IsAtEnd after.left) (last : after.piece ≡ 0) where
+    -- nothing more was taken
+    reads_end : Consumes before.left after.left s.taken
+    reads_end = subst (Consumes before.left after.left) (append-nil s.taken)
+        (Consumes-trans before.left l1 after.left s.taken [] s.reads reads)
+
+    -- the lines with the rest are those answered so far and what is held
+    with_held : lines_with_rest s.taken ≡ lines_from (Line []) s.taken ++ held_line held
+    with_held = lines_with_rest-lines_from s.taken ∙ ap (λ h. lines_from (Line []) s.taken ++ held_line h)
+        (sym s.held_is)
+
+    -- the rest was answered as a last line
+    pub served_end : (new : M) (ended : Bool) → 0 < room → RunsTo step goes now (held_line held) new ended p1 p2
+        → ServesCounting None step goes first before after Done p0 p2
+    served_end new ended some runs =
+        let tally = together s.tally runs.tally in
+        let both = Advances-trans goes p0 p1 p2 s.tally runs.tally s.advances runs.advances in
+        let whole = subst (λ l. IsTallied step first l tally new ended) (sym with_held)
+        (IsTallied-append M step first _ _ s.tally runs.tally now new ended s.run runs.run) in
+        record {
+          tally = tally;
+          serves = record {
+            taken = s.taken;
+            reads = reads_end;
+            writes = put_since after p2 tally holds both;
+            right = inl (record {
+              at_end = at_end;
+              last = last;
+              few = let few = s.few in omega arith;
+              transcript = (
+                new,
+                ended,
+                IsTallied-run M step first
+                    (lines_with_rest s.taken) tally new ended whole,
+              );
+              none_ended = (s.tally.out, (runs.tally.out, refl), answered);
+            });
+            tallied = inl (new, ended, whole);
+          };
+          advances = both;
+        }
+
+    -- the reply to the rest broke off
+    pub served_cut_end : RunsPart step goes now (held_line held) p1 p2
+        → ServesCounting None step goes first before after OutputFault p0 p2
+    served_cut_end runs =
+        let tally = together s.tally runs.tally in
+        let both = Advances-trans goes p0 p1 p2 s.tally runs.tally s.advances runs.advances in
+        let off = BreaksOff-is M step first _ _ tally with_held
+        (BreaksOff-after M step first (lines_from (Line []) s.taken) (held_line held) s.tally runs.tally now s.run
+        runs.cut) in
+        let broken = BreaksOff-cut M step first _ tally off in
+        let none_later : earlier s.taken after.piece ≡ s.taken =
+        ap (λ n. take n s.taken) (omega arith) ∙ take_all (length s.taken) s.taken (omega arith) in
+        record {
+          tally = tally;
+          serves = record {
+            taken = s.taken;
+            reads = reads_end;
+            writes = put_since after p2 tally holds both;
+            right = record {
+              few = let few = s.few in omega arith;
+              front = Cut-front M step first _ _ broken;
+              cut = broken;
+              in_last =
+                  subst (λ t. length (lines_of t) ≤ length (lines_from (Line []) s.taken ++ runs.cut.before))
+                  (sym none_later)
+                  (let before_it = length-append (lines_from (Line []) s.taken) runs.cut.before in
+                  let lines = ap length (lines_of-lines_from s.taken) in
+                  omega (arith, before_it, lines));
+              has_feed = inr (at_end, last);
+            };
+            tallied = off;
+          };
+          advances = both;
+        }
+
+  -- The source gave a piece.
+  module _ (after : Streams) (p2 : Progress) (holds : p2.written ≡ after.written) (part : List ℕ)
+      (reads : Consumes l1 after.left part) where
+    -- the bytes so far and the piece were taken
+    reads_more : Consumes before.left after.left (s.taken ++ part)
+    reads_more = Consumes-trans before.left l1 after.left s.taken part s.reads reads
+
+    -- one of its lines ended the session
+    pub served_ended : (new : M) → length part ≡ after.piece → after.piece ≤ room
+        → RunsTo step goes now (lines_from held part) new true p1 p2
+        → ServesCounting None step goes first before after Done p0 p2
+    served_ended new len within runs =
+        let tally = together s.tally runs.tally in
+        let both = Advances-trans goes p0 p1 p2 s.tally runs.tally s.advances runs.advances in
+        let whole = subst (λ l. IsTallied step first l tally new true)
+        (sym (lines_of-append s.taken part held s.held_is))
+        (IsTallied-append M step first _ _ s.tally runs.tally now new true s.run runs.run) in
+        record {
+          tally = tally;
+          serves = record {
+            taken = s.taken ++ part;
+            reads = reads_more;
+            writes = put_since after p2 tally holds both;
+            right = inr (record {
+              few = let few = s.few in let lens = length-append s.taken part in omega (arith, few, lens);
+              ended = (new, IsTallied-run M step first (lines_of (s.taken ++ part)) tally new true whole);
+              in_last = (
+                s.tally.out,
+                (runs.tally.out, refl),
+                subst (λ t. GoesOn step first (lines_of t) s.tally.out)
+                    (sym (earlier-append s.taken part after.piece len))
+                    answered,
+              );
+            });
+            tallied = inr (new, whole);
+          };
+          advances = both;
+        }
+
+    -- the reply to one of its lines broke off
+    pub served_cut : length part ≡ after.piece → after.piece ≤ room → RunsPart step goes now
+        (lines_from held part) p1 p2
+        → ServesCounting None step goes first before after OutputFault p0 p2
+    served_cut len within runs =
+        let tally = together s.tally runs.tally in
+        let both = Advances-trans goes p0 p1 p2 s.tally runs.tally s.advances runs.advances in
+        let answered_lines = lines_from (Line []) s.taken in
+        let rest = rest_line (rest_of (s.taken ++ part)) in
+        let same = lines_of-append s.taken part held s.held_is in
+        let cut = BreaksOff-after M step first answered_lines
+        (lines_from held part) s.tally runs.tally now s.run runs.cut in
+        let off = BreaksOff-is M step first _ _ tally (ap (λ l. l ++ rest) same)
+        (BreaksOff-more M step first (answered_lines ++ lines_from held part) rest tally cut) in
+        let broken = BreaksOff-cut M step first _ tally off in
+        record {
+          tally = tally;
+          serves = record {
+            taken = s.taken ++ part;
+            reads = reads_more;
+            writes = put_since after p2 tally holds both;
+            right = record {
+              few = let few = s.few in let lens = length-append s.taken part in omega (arith, few, lens);
+              front = Cut-front M step first _ _ broken;
+              cut = broken;
+              in_last =
+                  subst (λ t. length (lines_of t) ≤ length (answered_lines ++ runs.cut.before))
+                  (sym (earlier-append s.taken part after.piece len))
+                  (let lens = length-append answered_lines runs.cut.before in
+                  let lines = ap length (lines_of-lines_from s.taken) in
+                  omega (arith, lens, lines));
+              has_feed =
+                  inl (let place = ap length (same ∙ cut.place) in
+                  let lens = length-append cut.before (cut.line ∷ cut.after) in
+                  omega (arith, place, lens));
+            };
+            tallied = off;
+          };
+          advances = both;
+        }
+
+-- Of a piece of n bytes.
+
+-- a piece of no bytes takes nothing
+pub nothing_taken : (a b : Option (List ℕ)) (buf : List ℕ) (n : ℕ) → n ≡ 0 → Consumes a b (take n buf) → Consumes a b []
+nothing_taken a b buf n none reads = subst (λ k. Consumes a b (take k buf)) none reads
+
+-- how many bytes a piece has
+pub piece_len : (buf : List ℕ) (n piece : ℕ) → n ≤ length buf → piece ≡ n → length (take n buf) ≡ piece
+piece_len buf n piece within is = let len = length-take-le n buf within in cc

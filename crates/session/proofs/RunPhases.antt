@@ -1,0 +1,186 @@
+-- How a run of a command line came to its end, by how it read its options, opened its files and served its lines.
+use Rattle.std.proofs.Common.{◌≡◌, ◌≢◌, ℕ, ◌+◌, Bool, true, false, cond, List, ◌++◌, length, Option, Some, None, refl, sym, ap, subst, ◌∙◌, inr, ◌≤◌, ◌<◌, arith}
+use Rattle.std.proofs.lemmas.List.{length-append}
+use Rattle.std.specs.Prelude.{option_map}
+use Rattle.gtp_lex.specs.Lines.{LinesState}
+use Rattle.go_options.specs.CommandLine.{is_taken, rows_in}
+use Rattle.go_options.specs.Found.{AreFound}
+use Rattle.go_options.specs.declared.options.Options.{Options}
+use Rattle.run_notes.specs.declared.notes.Counts.{Counts}
+use Rattle.run_notes.specs.declared.notes.Sent.{Sent}
+use Rattle.session.specs.Machine.{Machine}
+use Rattle.session.specs.Turns.{Turn}
+use Rattle.session.specs.Asking.{IsAfterLine}
+use Rattle.session.specs.Tallies.{Tally, Progress, kept_sum}
+use Rattle.gtp_rules.specs.Lines.{RawLine}
+use Rattle.gtp_rules.specs.Steps.{Step}
+use Rattle.workload.specs.GeneratedLines.{generated_text}
+use Rattle.workload.proofs.LengthLemmas.{generated_length}
+use Rattle.helpers.specs.Asking.{SlotState, says_yes}
+use Rattle.session.specs.Answering.{step}
+use Rattle.session.specs.Handed.{helper_names}
+use Rattle.session.specs.Matcher.{Matcher}
+use Rattle.session.specs.Kept.{Kept, machine_of}
+use Rattle.session.specs.Opening.{IsRefused, MissedIn}
+use Rattle.session.specs.Opened.{Opens, CameBy, ServesCounting}
+use Rattle.session.specs.Outcomes.{Phase, NotTaken, NotOpened, Served}
+use Rattle.session.specs.Ends.{Streams, IsRight, most_taken}
+use Rattle.session.specs.Headline.{Came, AreCounts, AreCountsOf, IsSent, IsCauseOf, MissedAfter, files_in}
+use Rattle.session.specs.Serving.{progress_of}
+use Rattle.session.specs.declared.outcome.End.{End}
+use Rattle.session.specs.declared.outcome.End.TheVariants.{InputTooLong}
+use Rattle.session.specs.declared.outcome.OpenError.{OpenError}
+use Rattle.session.proofs.RunCounts.{counts_of, served-few}
+use Rattle.session.proofs.MatcherSessions.{ServesLines-plain}
+
+-- the counts of a session are told where they are asked for
+counts-told : (asked : Bool) (counts : Counts) (tally : Tally Machine) → AreCountsOf tally.turns counts
+    → AreCounts asked (cond asked (Some counts) None) tally
+counts-told true counts tally are = are
+counts-told false counts tally are = refl
+
+-- what was sent is told where lines were generated
+sent-told : {M : Type 0} (generate : Option ℕ) (sent : Sent) (tally : Tally M) → sent.lines ≡ kept_sum 0 tally.replies
+    → sent.bytes ≡ kept_sum 0 (length tally.out) → IsSent generate (option_map (λ _. sent) generate) tally
+sent-told None sent tally lines bytes = refl
+sent-told (Some n) sent tally lines bytes = (lines, bytes)
+
+-- the files were opened, and the session served the lines
+pub came-served : (helpers : List SlotState) (contents : List ℕ → Option (List ℕ)) (options : Options)
+    (session now : Kept) (matcher : Matcher) (lines : LinesState)
+    (before after : Streams) (end : End) (w0 w1 : Option (List ℕ)) (sent : Sent) (told : Option Counts)
+    (noted : Option Sent)
+    (phase : Phase) → Opens helpers contents options session matcher lines
+    → ServesCounting options.generate (step matcher) IsAfterLine (machine_of session) before after end
+    (progress_of w0 session (record { lines = 0; bytes = 0 })) (progress_of w1 now sent)
+    → told ≡ cond options.stats (Some now.counts) None → noted ≡ option_map (λ _. sent) options.generate
+    → phase ≡ Served end → CameBy helpers options contents before after told noted phase
+came-served helpers contents options session now matcher lines before after end w0 w1 sent told noted phase opens
+    counting tells notes is =
+    let lines = served-few (step matcher) options.generate
+    (machine_of session) before after end counting.tally counting.serves in
+    let counts = counts_of session now counting.tally.turns counting.advances.along opens.plain.counts opens.plain.room
+    lines in
+    subst (CameBy helpers options contents before after told noted) (sym is) (record {
+      patterns = opens.patterns;
+      opened = opens.opened;
+      tally = counting.tally;
+      serves = ServesLines-plain (says_yes helpers) opens.patterns options.depth options.branch session matcher
+          options.generate before after end
+          counting.tally opens.plain counting.serves;
+      counted = subst (λ o. AreCounts options.stats o counting.tally) (sym tells)
+          (counts-told options.stats now.counts counting.tally counts);
+      told = subst (λ o. IsSent options.generate o counting.tally) (sym notes)
+          (sent-told options.generate sent counting.tally counting.advances.replies counting.advances.bytes);
+    })
+
+-- the words gave the options of the run
+pub came-given : (helpers : List SlotState) (words : List (List ℕ)) (options : Options) (contents : List ℕ
+    → Option (List ℕ))
+    (before after : Streams) (counts : Option Counts)
+    (sent : Option Sent) (phase : Phase) → is_taken words ≡ true → AreFound (rows_in words) options
+    → CameBy helpers options contents before after counts sent phase
+    → Came helpers words contents before after counts sent phase
+came-given helpers words options contents before after counts sent NotTaken taken found came = absurd came
+came-given helpers words options contents before after counts sent (NotOpened error) taken found came =
+    (inr (options, record { taken = taken; found = found }, came.0), came.1)
+came-given helpers words options contents before after counts sent (Served end) taken found came =
+    (options, record { taken = taken; found = found }, came)
+
+-- the names missed are among the file words
+pub missed-given : (words : List (List ℕ)) (options : Options) (before now : List (List ℕ)) (phase : Phase)
+    → AreFound (rows_in words) options
+    → MissedAfter options.files before now phase → MissedAfter (files_in words) before now phase
+missed-given words options before now phase found missed = subst (λ files. MissedAfter files before now phase)
+    (sym found.files) missed
+
+-- a source that never fails causes no fault
+pub uncaused : (fault : Type 0) (count : ℕ) → IsCauseOf fault 0 0 → IsCauseOf fault count count
+uncaused fault count cause = record {
+  later = omega arith;
+  rose = λ f. absurd (let risen : 1 ≤ 0 = cause.rose f in omega (arith, risen));
+  told = λ less. absurd (omega (arith, less));
+}
+
+-- a run that took a part of so many generated lines did not take as many bytes as the longest input has
+not_too_long : {M : Type 0} (step : M → RawLine → Step M) (first : M) (left : Option (List ℕ))
+    (text rest taken put : List ℕ) (piece n : ℕ) (end : End) → n ≤ 100000 → text ≡ generated_text n
+    → text ≡ taken ++ rest → IsRight step first left taken put piece end → end ≢ InputTooLong
+not_too_long step first left text rest taken put piece n end few is reads right too_long =
+    let taken_all : length taken ≡ most_taken = (subst (IsRight step first left taken put piece) too_long right).1 in
+    let short : length text < most_taken = subst (λ t. length t < most_taken) (sym is) (generated_length n few) in
+    let parts : length text ≡ length taken + length rest = ap length reads ∙ length-append taken rest in
+    omega (arith, taken_all, short, parts)
+
+-- generated lines were served in place of the source
+pub serves-generated : {M : Type 0} (n : ℕ) (step : M → RawLine → Step M) (goes : Kept → Turn M → Kept → Type 0)
+    (first : M)
+    (left : Option (List ℕ)) (piece faults : ℕ) (w0 w1 : Option (List ℕ)) (c0 c1 f0 f1 p : ℕ) (text rest : List ℕ)
+    (last : ℕ)
+    (end : End) (old new : Progress) (generate : Option ℕ) → generate ≡ Some n → n ≤ 100000
+    → text ≡ generated_text n → ServesCounting None step goes first
+    (record { left = Some text; piece = p; input_faults = f0; written = w0; output_faults = c0 })
+    (record { left = Some rest; piece = last; input_faults = f1; written = w1; output_faults = c1 }) end old new
+    → ServesCounting generate step goes first
+    (record { left = left; piece = piece; input_faults = faults; written = w0; output_faults = c0 })
+    (record { left = left; piece = piece; input_faults = faults; written = w1; output_faults = c1 }) end old new
+serves-generated n step goes first left piece faults w0 w1 c0 c1 f0 f1 p text rest last end old new generate some few
+    is counting =
+    let before : Streams = record {
+      left = left;
+      piece = piece;
+      input_faults = faults;
+      written = w0;
+      output_faults = c0;
+    } in
+    let after : Streams = record {
+      left = left;
+      piece = piece;
+      input_faults = faults;
+      written = w1;
+      output_faults = c1;
+    } in
+    subst (λ o. ServesCounting o step goes first before after end old new) (sym some) (record {
+      tally = counting.tally;
+      serves = record {
+        left = refl;
+        piece = refl;
+        input_faults = refl;
+        generated = (
+          rest,
+          last,
+          record {
+            taken = counting.serves.taken;
+            reads = sym is ∙ counting.serves.reads;
+            writes = counting.serves.writes;
+            right = counting.serves.right;
+            tallied = counting.serves.tallied;
+          },
+        );
+        not_too_long = not_too_long step first (Some rest) text rest counting.serves.taken counting.tally.out last n end
+            few is counting.serves.reads counting.serves.right;
+      };
+      advances = counting.advances;
+    })
+
+-- the files were not opened
+module _ (options : Options) (error : OpenError) (phase : Phase) (is : phase ≡ NotOpened error) where
+  -- nothing was taken, put or counted, and the error says why
+  pub came-unopened : (helpers : List SlotState) (contents : List ℕ
+      → Option (List ℕ)) (before : Streams) (counts : Option Counts)
+      (sent : Option Sent)
+      → IsRefused (helper_names helpers) contents options.files options.states error → counts ≡ None → sent ≡ None
+      → CameBy helpers options contents before before counts sent phase
+  came-unopened helpers contents before counts sent refused uncounted unsent =
+      subst (CameBy helpers options contents before before counts sent) (sym is)
+      (refused, record { streams = refl; uncounted = uncounted; unsent = unsent })
+
+  -- the names missed are as the error says
+  pub missed-unopened : (before now : List (List ℕ)) → MissedIn options.files before now error
+      → MissedAfter options.files before now phase
+  missed-unopened before now missed = subst (MissedAfter options.files before now) (sym is) missed
+
+-- the lines were served, and no name was missed
+pub missed-served : (names before now : List (List ℕ)) (end : End) (phase : Phase) → phase ≡ Served end → now ≡ before
+    → MissedAfter names before now phase
+missed-served names before now end phase is same = subst (MissedAfter names before now) (sym is) same
