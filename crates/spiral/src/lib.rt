@@ -13,7 +13,7 @@ mod ring;
 mod turned;
 
 pub use moving::{place, place_from};
-pub use numbering::{OFFSETS, index, offset, offsets_differ};
+pub use numbering::{OFFSETS, following, index, offset, offsets_differ};
 pub use turned::TurnedSpiral;
 
 #[cfg(test)]
