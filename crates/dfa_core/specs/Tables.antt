@@ -1,7 +1,9 @@
 -- How four flat lists are seen as the rows of an automaton.
 use Rattle.std.specs.Prelude.{◌≡◌, ℕ, zero, suc, ◌+◌, ◌-◌, ◌*◌, ◌<◌, ◌≤◌, List, [], ◌∷◌, ◌++◌, length, take, drop, slice_index_or}
 use Rattle.std.specs.List.{flat_map}
-use Rattle.dfa_core.specs.Automata.{Row}
+use Rattle.dfa_core.specs.declared.automaton.Seen.{Seen}
+use Rattle.dfa_core.specs.Automata.{Row, step_at}
+use Rattle.dfa_core.specs.Words.{letter_number}
 
 -- four targets for each row, where the numbers of each row begin and where those of the last end, the numbers of all
 -- rows, and the depths
@@ -49,3 +51,9 @@ pub record IsFlat (table : Flat) : Type 0 where
 -- the numbers of all rows, one row after the other
 abbrev pub numbers_of : List Row → List ℕ
 numbers_of rows = flat_map (λ row. row.numbers) rows
+
+-- the targets are those of the rows, four for each row in the order of the letters
+pub record AreTargets (rows : List Row) (targets : List ℕ) : Type 0 where
+  pub many : length targets ≡ 4 * length rows
+  pub each : (r : ℕ) (x : Seen) → r < length rows
+      → slice_index_or targets (4 * r + letter_number x) 0 ≡ step_at rows r x

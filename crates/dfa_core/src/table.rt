@@ -1,9 +1,9 @@
 //! The flat table of an automaton: five vectors for all rows.
-ghost use Rattle.std.specs.Prelude.{◌≡◌, ◌+◌, ◌<◌, ◌≤◌, ◌++◌, ◌∷◌, [], length, take, IfOk};
+ghost use Rattle.std.specs.Prelude.{◌≡◌, ◌+◌, ◌*◌, ◌<◌, ◌≤◌, ◌++◌, ◌∷◌, [], length, take, slice_index_or, IfOk};
 ghost use Rattle.dfa_core.specs.Automata.{Row, row_at, step_at};
 ghost use Rattle.dfa_core.specs.Words.{letter_number};
-ghost use Rattle.dfa_core.specs.Tables.{part_of, numbers_of};
-ghost use Rattle.dfa_core.specs.RowKinds.{kind_at};
+ghost use Rattle.dfa_core.specs.Tables.{AreTargets, part_of, numbers_of};
+ghost use Rattle.dfa_core.specs.RowKinds.{kind_at, AreKinds};
 
 use crate::automaton::Seen;
 use crate::kind::{RowKind, kind_of};
@@ -55,6 +55,14 @@ fn column(letter: Seen) -> usize
     ensures bound { result < 4 }
 {
     letter as usize
+}
+
+/// The row that a letter leads to from a row, of the targets of an automaton.
+pub fn target_in(targets: &[u32], row: u32, letter: Seen) -> u32
+    requires { 4 * row + 4 ≤ length targets.now }
+    ensures { result ≡ slice_index_or targets.now (4 * row + letter_number letter) 0 }
+{
+    targets[4 * row as usize + column(letter)]
 }
 
 /// The numbers from one place to another.
@@ -132,6 +140,20 @@ impl Table {
         ensures { result ≡ step_at self.now row letter }
     {
         self.targets[4 * row as usize + column(letter)]
+    }
+
+    /// The rows that the letters lead to, four for each row.
+    pub fn targets(&self) -> &[u32]
+        ensures { AreTargets self.now result.now }
+    {
+        self.targets.as_slice()
+    }
+
+    /// The kind of each row.
+    pub fn kinds(&self) -> &[RowKind]
+        ensures { AreKinds self.now result.now }
+    {
+        self.kinds.as_slice()
     }
 
     /// How many letters lead to a row.

@@ -1,24 +1,28 @@
 -- The walks from all anchors, when each has read as many letters.
-use Rattle.std.proofs.Common.{◌≡◌, ℕ, suc, ◌+◌, ◌*◌, ◌<◌, Bool, true, false, List, [], ◌∷◌, ◌++◌, length, get_or, map, filter, Contains, refl, sym, ap, ◌∙◌, subst, arith, ◌⊎◌, inl, inr}
+use Rattle.std.proofs.Common.{◌≡◌, ℕ, suc, ◌+◌, ◌*◌, ◌<◌, Bool, true, false, List, [], ◌∷◌, ◌++◌, length, get_or, map, filter, Contains, refl, sym, ap, ◌∙◌, subst, arith, ◌⊎◌, inl, inr, pos as plus}
 use Rattle.std.specs.List.{range_with_len, All}
 use Rattle.std.proofs.lemmas.List.Elements.{All-map, All-filter}
 use Rattle.std.proofs.lemmas.List.Kept.{AllPairs-filter}
 use Rattle.go_rules.specs.declared.Colour.{Colour}
 use Rattle.go_rules.specs.Position.{BoardState}
+use Rattle.go_rules.specs.Transform.{IsNear, transformed}
+use Rattle.spiral.specs.Spiral.{offset_at}
+use Rattle.spiral.proofs.Indexes.{offsets_near}
 use Rattle.match_rules.proofs.Lists.{Contains-map, Contains-map_from, Contains-filter, Contains-filter_from, Contains-below, Contains-below_from, AllPairs-map, range_rises}
 use Rattle.dfa_core.specs.declared.automaton.Seen.{Seen}
 use Rattle.dfa_core.specs.declared.automaton.Seen.TheVariants.{Off}
 use Rattle.dfa_core.specs.declared.kind.RowKind.{RowKind}
 use Rattle.dfa_core.specs.declared.kind.RowKind.TheVariants.{Plain, Accepting, Dead}
-use Rattle.dfa_core.specs.Automata.{Row, step_at, reach, IsAutomaton, IsDead}
+use Rattle.dfa_core.specs.Automata.{Row, row_at, step_at, reach, IsAutomaton, IsDead}
 use Rattle.dfa_core.specs.RowKinds.{kind_at}
 use Rattle.dfa_core.proofs.RowKinds.{kind-dead, kind-plain}
 use Rattle.dfa_core.proofs.Walks.{reach_from-push}
 use Rattle.dfa_match.specs.declared.walks.Walk.{Walk}
-use Rattle.dfa_match.specs.Sights.{seen_at, word_from}
+use Rattle.dfa_match.specs.Sights.{seen_at, word_from, AreSights}
 use Rattle.dfa_match.specs.Hits.{hits_at}
-use Rattle.dfa_match.specs.Steps.{corner_at}
-use Rattle.dfa_match.specs.Walks.{walk_at, after_letter, IsWithin, is_alive, goes_on, IsPlain, hits_of, row_after, AreWalks}
+use Rattle.dfa_match.specs.Steps.{corner_at, no_step}
+use Rattle.dfa_match.specs.Walks.{walk_at, first_walks_of, second_walks_of, after_letter, IsWithin, is_alive, goes_on, IsPlain, hits_of, row_after, AreWalks}
+use Rattle.dfa_match.proofs.PaddedBoard.{letter_seen}
 use Rattle.dfa_match.proofs.SeenWords.{word_split, word_from-zero, word_from-suc}
 
 -- a row that is not left by a walk that goes on is dead
@@ -64,13 +68,19 @@ within_after machine letters step walks good within =
     All-filter (goes_on machine) (IsWithin (length machine)) (map (after_letter machine letters step) walks)
     (within_letter machine letters step walks good within)
 
--- walks at rows that are not marked give out nothing
+-- walks at rows that accept nothing give out nothing
+pub hits_of-silent : (machine : List Row) (t : ℕ) (walks : List Walk)
+    → All (λ w. (row_at machine w.row).numbers ≡ []) walks → hits_of machine t walks ≡ []
+hits_of-silent machine t [] silent = refl
+hits_of-silent machine t (w ∷ walks) silent =
+    ap (λ ns. hits_at t w.anchor ns ++ hits_of machine t walks) (silent 0 w (omega arith))
+    ∙ hits_of-silent machine t walks (λ k d low. silent (suc k) d (omega arith))
+
+-- so do walks at plain rows
 pub hits_of-plain : (machine : List Row) (t : ℕ) (walks : List Walk) → All (IsPlain machine) walks
     → hits_of machine t walks ≡ []
-hits_of-plain machine t [] plain = refl
-hits_of-plain machine t (w ∷ walks) plain =
-    ap (λ ns. hits_at t w.anchor ns ++ hits_of machine t walks) (kind-plain machine w.row (plain 0 w (omega arith)))
-    ∙ hits_of-plain machine t walks (λ k d low. plain (suc k) d (omega arith))
+hits_of-plain machine t walks plain =
+    hits_of-silent machine t walks (λ k d low. kind-plain machine (get_or walks k d).row (plain k d low))
 
 -- and all of them go on
 pub alive-plain : (machine : List Row) (walks : List Walk) → All (IsPlain machine) walks
@@ -81,6 +91,37 @@ alive-plain machine (w ∷ walks) plain =
     let rest : filter (goes_on machine) walks ≡ walks =
     alive-plain machine walks (λ k d low. plain (suc k) d (omega arith)) in
     rw on (ap (λ ws. w ∷ ws) rest)
+
+-- walks at the start give out nothing where it accepts nothing
+pub hits_of-start : (machine : List Row) (t : ℕ) (walks : List Walk) → All (λ w. w.row ≡ 0) walks
+    → (row_at machine 0).numbers ≡ [] → hits_of machine t walks ≡ []
+hits_of-start machine t walks start silent = hits_of-silent machine t walks
+    (λ k d low. subst (λ r. (row_at machine r).numbers ≡ []) (sym (start k d low)) silent)
+
+-- a walk that is dropped would give out nothing
+alive_one : (machine : List Row) (t : ℕ) (w : Walk) (walks : List Walk) (b : Bool) → goes_on machine w ≡ b
+    → hits_of machine t (filter (goes_on machine) walks) ≡ hits_of machine t walks
+    → hits_of machine t (filter (goes_on machine) (w ∷ walks)) ≡ hits_of machine t (w ∷ walks)
+alive_one machine t w walks true on rest =
+    rw on (ap (λ hs. hits_at t w.anchor (row_at machine w.row).numbers ++ hs) rest)
+alive_one machine t w walks false off rest = rw off (rest ∙ ap (λ ns. hits_at t w.anchor ns ++ hits_of machine t walks)
+    (sym (kind-dead machine w.row (not_alive (kind_at machine w.row) off)).silent))
+
+-- the walks that go on give out what all of them would
+pub hits_of-alive : (machine : List Row) (t : ℕ) (walks : List Walk)
+    → hits_of machine t (filter (goes_on machine) walks) ≡ hits_of machine t walks
+hits_of-alive machine t [] = refl
+hits_of-alive machine t (w ∷ walks) =
+    alive_one machine t w walks (goes_on machine w) refl (hits_of-alive machine t walks)
+
+-- the first offset of the spiral leads nowhere
+offset_at-zero : offset_at 0 ≡ (plus 0, plus 0)
+unfolding offset_at
+offset_at-zero = refl
+
+-- and it is moved nowhere by any transformation
+still : (t : ℕ) → transformed t (plus 0, plus 0) ≡ (plus 0, plus 0)
+still t = grind arith
 
 module _ (machine : List Row) (pos : BoardState) (friend : Colour) (t : ℕ) where
   -- before the first letter there is a walk from each point, at the start
@@ -147,3 +188,19 @@ module _ (machine : List Row) (pos : BoardState) (friend : Colour) (t : ℕ) whe
         ];
         rising = AllPairs-map (λ v w. v.anchor < w.anchor) (after_letter machine letters step) walks are.rising;
       }
+
+  -- each walk has read the anchor's own letter
+  pub walks_begun : (size : ℕ) (letters : List Seen) → AreSights pos friend size letters
+      → AreWalks machine pos.size (row_after machine pos friend t 1)
+      (map (after_letter machine letters no_step) (first_walks_of pos.size))
+  walks_begun size letters sights = walks_after 0 no_step letters (first_walks_of pos.size)
+      (λ m on. letter_seen pos friend size letters t m 0 no_step (plus 0, plus 0) sights on
+      (subst IsNear offset_at-zero (offsets_near 0 (omega arith)))
+      (sym (ap (transformed t) offset_at-zero ∙ still t)) refl)
+      walks_first
+
+  -- and of these those go on whose row is not dead
+  pub walks_second : (size : ℕ) (letters : List Seen) → AreSights pos friend size letters
+      → AreWalks machine pos.size (row_after machine pos friend t 1) (second_walks_of machine letters pos.size)
+  walks_second size letters sights = walks_alive machine pos.size (row_after machine pos friend t 1)
+      (map (after_letter machine letters no_step) (first_walks_of pos.size)) (walks_begun size letters sights)

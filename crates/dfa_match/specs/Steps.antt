@@ -24,3 +24,7 @@ last_corner = (largest_size - 1) * padded_side + (largest_size - 1)
 -- how far behind the beginning of a square its last place lies
 abbrev pub last_step : ℕ
 last_step = 2 * largest_offset * padded_side + 2 * largest_offset
+
+-- how far behind the beginning of a square its own point lies
+abbrev pub no_step : ℕ
+no_step = step_by (pos 0, pos 0)

@@ -1,5 +1,5 @@
 -- Walks of an automaton from all anchors at once, letter by letter.
-use Rattle.std.specs.Prelude.{◌≡◌, ◌⊎◌, ℕ, ◌+◌, ◌*◌, ◌<◌, ◌≤◌, Bool, true, false, List, map, slice_index_or, Contains, AllPairs}
+use Rattle.std.specs.Prelude.{◌≡◌, ◌⊎◌, ℕ, ◌+◌, ◌*◌, ◌<◌, ◌≤◌, Bool, true, false, List, map, filter, slice_index_or, Contains, AllPairs}
 use Rattle.std.specs.List.{flat_map, range_with_len}
 use Rattle.go_rules.specs.declared.Colour.{Colour}
 use Rattle.go_rules.specs.Position.{BoardState}
@@ -13,7 +13,7 @@ use Rattle.dfa_match.specs.declared.Hit.{Hit}
 use Rattle.dfa_match.specs.declared.walks.Walk.{Walk}
 use Rattle.dfa_match.specs.Hits.{hits_at}
 use Rattle.dfa_match.specs.Sights.{word_at}
-use Rattle.dfa_match.specs.Steps.{corner_at, last_corner}
+use Rattle.dfa_match.specs.Steps.{corner_at, last_corner, no_step}
 
 -- the walk from the point m of a board of size s that stands at row r
 abbrev pub walk_at : ℕ → ℕ → ℕ → Walk
@@ -51,6 +51,11 @@ goes_on machine w = is_alive (kind_at machine w.row)
 -- what is accepted at the row where the walk stands is nothing, and the walk goes on
 abbrev pub IsPlain : List Row → Walk → Type 0
 IsPlain machine w = kind_at machine w.row ≡ Plain
+
+-- the walks from all points of a board of size s behind the letters of the points, but for those at dead rows
+abbrev pub second_walks_of : List Row → List Seen → ℕ → List Walk
+second_walks_of machine letters s =
+    filter (goes_on machine) (map (after_letter machine letters no_step) (first_walks_of s))
 
 -- the hits of the rows where the walks stand
 abbrev pub hits_of : List Row → ℕ → List Walk → List Hit

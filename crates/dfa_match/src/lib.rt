@@ -3,8 +3,9 @@
 //! A hit is a number that the automaton accepts at the end of a word, which is what is seen along the moved spiral from
 //! an anchor. `scan` gives exactly the hits, each once; it is given no diagrams. It reads letter by letter from all
 //! anchors at once: on a padded board each letter of a transformation is one step for all of them, and only where some
-//! row accepts something or is dead are the walks looked at. Two laws say that a word that is read from an anchor
-//! matches a pattern exactly where the pattern fits there.
+//! row accepts something or is dead are the walks looked at. The anchor's own letter is read once for all
+//! transformations. Two laws say that a word that is read from an anchor matches a pattern exactly where the pattern
+//! fits there.
 //!
 //! After GNU Go Manual, "The DFA pattern matcher".
 #![tactic(auto)]
@@ -21,13 +22,13 @@ ghost use Rattle.dfa_core.specs.States.{is_matched, IsMachineOf};
 ghost use Rattle.dfa_match.specs.Fitting.{FitsAt, IsFit};
 ghost use Rattle.dfa_match.specs.declared.Hit.{Hit as HitSeen};
 ghost use Rattle.dfa_match.specs.Hits.{hits_at, IsHit, AreHits, AreHitsBefore};
-ghost use Rattle.dfa_match.specs.Walks.{IsWithin, first_walks_of};
+ghost use Rattle.dfa_match.specs.Walks.{IsWithin, first_walks_of, second_walks_of};
 
 mod sights;
 mod walks;
 
 use crate::sights::{Sights, step_of};
-use crate::walks::{Walk, copied, first_walks, read_letter, settle};
+use crate::walks::{Walk, copied, first_walks, give_all, give_start, read_letter, second_walks};
 use dfa_core::Automaton;
 use go_base::transform::TRANSFORMATIONS;
 use go_base::{Colour, Look, NoMemory, Point, Transform};
@@ -59,26 +60,29 @@ fn add(out: &mut Vec<Hit>, numbers: &[u16], t: Transform, anchor: Point) -> Resu
 }
 
 /// Runs the automaton from all anchors at once under one transformation, until no walk is left. `first` are the walks
-/// before the first letter, which are the same under each transformation.
+/// before the first letter and `second` those behind it; they are the same under each transformation.
 fn sweep(
     machine: &Automaton,
     sights: &Sights,
     first: &[Walk],
+    second: &[Walk],
     t: Transform,
     out: &mut Vec<Hit>,
 ) -> Result<(), NoMemory>
     requires transform { t < transformations }
     requires first { first.now ≡ first_walks_of sights.now.size }
+    requires second { second.now ≡ second_walks_of machine.now sights.now.letters sights.now.size }
     requires within { All (IsWithin (length machine.now)) first.now }
     ensures ok { (at : BoardState) (friend : ColourSeen) → AreSights at friend sights.now.size sights.now.letters
         → AreHitsBefore machine.now at friend t 0 out.old.items
         → OnOk result (AreHitsBefore machine.now at friend (t + 1) 0 out.new.items) }
 {
     let _ = machine.rows();
+    give_start(machine, t, first, out)?;
+    give_all(machine, t, second, out)?;
+    let mut walks = copied(*out.allocator(), second)?;
     let mut spiral = TurnedSpiral::new(t);
-    let mut walks = copied(*out.allocator(), first)?;
-    settle(machine, t, &mut walks, out)?;
-    'letters: for index in 0..OFFSETS {
+    'letters: for index in 1..OFFSETS {
         if walks.is_empty() {
             return Ok(());
         }
@@ -104,9 +108,10 @@ pub fn scan<L: Look>(
     let mut out = out;
     let sights = Sights::of(look, friend);
     let first = first_walks(*out.allocator(), sights.size)?;
+    let second = second_walks(*out.allocator(), machine, &sights, &first)?;
     'transforms: for n in 0..TRANSFORMATIONS {
         if let Some(t) = Transform::new(n) {
-            sweep(machine, &sights, &first, t, &mut out)?;
+            sweep(machine, &sights, &first, &second, t, &mut out)?;
         }
     }
     Ok(out)

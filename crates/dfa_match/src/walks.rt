@@ -1,16 +1,17 @@
 //! The walks of an automaton from all anchors at once, letter by letter.
-ghost use Rattle.std.specs.Prelude.{◌≡◌, ℕ, ◌+◌, ◌*◌, ◌/◌, ◌%◌, ◌<◌, ◌≤◌, ◌++◌, false, slice_index_or, length, map, filter, All, IfOk, OnOk};
+ghost use Rattle.std.specs.Prelude.{◌≡◌, true, false, ℕ, ◌+◌, ◌*◌, ◌/◌, ◌%◌, ◌<◌, ◌≤◌, ◌++◌, List, slice_index_or, length, map, filter, All, IfOk, OnOk};
 ghost use Rattle.std.specs.List.{range_with_len};
 ghost use Rattle.go_rules.specs.Board.{largest_size};
-ghost use Rattle.dfa_core.specs.Automata.{row_at, step_at};
+ghost use Rattle.dfa_core.specs.Automata.{Row, row_at, step_at};
+ghost use Rattle.dfa_core.specs.Tables.{AreTargets};
 ghost use Rattle.dfa_core.specs.RowKinds.{kind_at};
 ghost use Rattle.dfa_match.specs.Hits.{hits_at};
-ghost use Rattle.dfa_match.specs.Steps.{last_corner, last_step};
-ghost use Rattle.dfa_match.specs.Walks.{walk_at, after_letter, IsWithin, goes_on, IsPlain, hits_of};
+ghost use Rattle.dfa_match.specs.Steps.{last_corner, last_step, no_step};
+ghost use Rattle.dfa_match.specs.Walks.{walk_at, after_letter, IsWithin, is_alive as is_alive_at, goes_on, IsPlain, hits_of};
 
-use crate::sights::{Sights, corner_of};
+use crate::sights::{Sights, corner_of, step_of};
 use crate::{Hit, add};
-use dfa_core::{Automaton, RowKind, Seen};
+use dfa_core::{Automaton, RowKind, Seen, target_in};
 use go_base::{NoMemory, Point, Size, Transform};
 use std::alloc::Global;
 
@@ -102,30 +103,157 @@ fn read_on(machine: &Automaton, sights: &Sights, step: u16, walks: &mut [Walk]) 
     marked
 }
 
-/// Adds the hits of the row where a walk stands, and answers whether the walk goes on.
-fn give_out(
-    machine: &Automaton,
-    t: Transform,
-    walk: Walk,
-    out: &mut Vec<Hit>,
-) -> Result<bool, NoMemory>
-    requires { walk.row < length machine.now }
-    ensures hits { OnOk result
-        (out.new.items ≡ out.old.items ++ hits_at t walk.anchor (row_at machine.now walk.row).numbers) }
-    ensures alive { IfOk result (λ b. b ≡ goes_on machine.now walk) }
+/// The walk after one letter more, which it reads at this step behind its corner.
+fn moved_on(targets: &[u32], sights: &Sights, step: u16, walk: Walk) -> Walk
+    requires row { 4 * walk.row + 4 ≤ length targets.now }
+    requires corner { walk.corner ≤ last_corner }
+    requires step { step ≤ last_step }
+    ensures { (machine : List Row) → AreTargets machine targets.now → walk.row < length machine
+        → result ≡ after_letter machine sights.now.letters step walk }
 {
-    match machine.kind(walk.row) {
-        RowKind::Plain => Ok(true),
-        RowKind::Dead => Ok(false),
-        RowKind::Accepting => {
-            add(out, machine.accepts(walk.row), t, walk.anchor)?;
-            Ok(true)
-        }
+    Walk {
+        row: target_in(targets, walk.row, sights.letter(walk.corner, step)),
+        corner: walk.corner,
+        anchor: walk.anchor,
     }
 }
 
+/// The kind of a row, of the kinds of an automaton.
+fn kind_in(kinds: &[RowKind], row: u32) -> RowKind
+    requires { row < length kinds.now }
+    ensures { result ≡ slice_index_or kinds.now row RowKind.Plain }
+{
+    kinds[row as usize]
+}
+
+/// Whether a walk goes on from a row with this kind.
+fn is_alive(kind: RowKind) -> bool
+    ensures { result ≡ is_alive_at kind }
+{
+    match kind {
+        RowKind::Plain => true,
+        RowKind::Accepting => true,
+        RowKind::Dead => false,
+    }
+}
+
+/// Whether a row with this kind accepts something.
+fn is_accepting(kind: RowKind) -> bool
+    ensures { result ≡ false → is_alive_at kind ≡ true → kind ≡ RowKind.Plain }
+{
+    match kind {
+        RowKind::Accepting => true,
+        RowKind::Plain | RowKind::Dead => false,
+    }
+}
+
+/// Adds the hits of the row where a walk stands, which has this kind.
+fn give_out(
+    machine: &Automaton,
+    kind: RowKind,
+    t: Transform,
+    walk: Walk,
+    out: &mut Vec<Hit>,
+) -> Result<(), NoMemory>
+    requires row { walk.row < length machine.now }
+    requires kind { kind ≡ kind_at machine.now walk.row }
+    ensures { OnOk result
+        (out.new.items ≡ out.old.items ++ hits_at t walk.anchor (row_at machine.now walk.row).numbers) }
+{
+    match kind {
+        RowKind::Accepting => add(out, machine.accepts(walk.row), t, walk.anchor),
+        RowKind::Plain | RowKind::Dead => Ok(()),
+    }
+}
+
+/// Adds the hits of the rows where the walks stand.
+pub fn give_all(
+    machine: &Automaton,
+    t: Transform,
+    walks: &[Walk],
+    out: &mut Vec<Hit>,
+) -> Result<(), NoMemory>
+    requires { All (IsWithin (length machine.now)) walks.now }
+    ensures { OnOk result (out.new.items ≡ out.old.items ++ hits_of machine.now t walks.now) }
+{
+    'walks: for walk in walks {
+        give_out(machine, machine.kind(walk.row), t, *walk, out)?;
+    }
+    Ok(())
+}
+
+/// Adds the hits of the start where the walks stand before their first letter. For most automata there are none.
+pub fn give_start(
+    machine: &Automaton,
+    t: Transform,
+    walks: &[Walk],
+    out: &mut Vec<Hit>,
+) -> Result<(), NoMemory>
+    requires within { All (IsWithin (length machine.now)) walks.now }
+    requires start { All (λ w. w.row ≡ 0) walks.now }
+    ensures { OnOk result (out.new.items ≡ out.old.items ++ hits_of machine.now t walks.now) }
+{
+    let _ = machine.rows();
+    match machine.kind(0) {
+        RowKind::Accepting => give_all(machine, t, walks, out),
+        RowKind::Plain | RowKind::Dead => Ok(()),
+    }
+}
+
+/// The walks behind the letter of their anchors, but for those at a dead row. Under each transformation it is the same
+/// letter. Takes memory.
+pub fn second_walks(
+    alloc: Global,
+    machine: &Automaton,
+    sights: &Sights,
+    first: &[Walk],
+) -> Result<Vec<Walk>, NoMemory>
+    requires { All (IsWithin (length machine.now)) first.now }
+    ensures { IfOk result (λ walks. walks.items ≡ filter (goes_on machine.now)
+        (map (after_letter machine.now sights.now.letters no_step) first.now)) }
+{
+    let _ = machine.rows();
+    let targets = machine.targets();
+    let kinds = machine.kinds();
+    let step = step_of((0, 0));
+    let mut walks = Vec::with_capacity(alloc, first.len())?;
+    'walks: for walk in first {
+        let next = moved_on(targets, sights, step, *walk);
+        if is_alive(kind_in(kinds, next.row)) {
+            walks.push(next)?;
+        }
+    }
+    Ok(walks)
+}
+
+/// Drops the walks that are dead, and answers whether one of those that are left stands at a row that accepts
+/// something.
+///
+/// A walk is written behind those that go on, whether it goes on or not; the next one is written over one that does
+/// not. So nothing is decided for a walk, and no choice can be foretold wrongly.
+fn drop_dead(machine: &Automaton, walks: &mut Vec<Walk>) -> bool
+    requires { All (IsWithin (length machine.now)) walks.old.items }
+    ensures alive { walks.new.items ≡ filter (goes_on machine.now) walks.old.items }
+    ensures plain { result ≡ false → All (IsPlain machine.now) walks.new.items }
+{
+    let kinds = machine.kinds();
+    let mut accepts = false;
+    let mut kept = 0;
+    'walks: for index in 0..walks.len() {
+        let walk = walks[index];
+        let kind = kind_in(kinds, walk.row);
+        walks[kept] = walk;
+        accepts |= is_accepting(kind);
+        if is_alive(kind) {
+            kept += 1;
+        }
+    }
+    walks.truncate(kept);
+    accepts
+}
+
 /// Adds the hits of the rows where the walks stand, and drops the walks that are dead.
-pub fn settle(
+fn settle(
     machine: &Automaton,
     t: Transform,
     walks: &mut Vec<Walk>,
@@ -135,15 +263,9 @@ pub fn settle(
     ensures hits { OnOk result (out.new.items ≡ out.old.items ++ hits_of machine.now t walks.old.items) }
     ensures alive { OnOk result (walks.new.items ≡ filter (goes_on machine.now) walks.old.items) }
 {
-    let mut kept = 0;
-    'walks: for index in 0..walks.len() {
-        let walk = walks[index];
-        if give_out(machine, t, walk, out)? {
-            walks[kept] = walk;
-            kept += 1;
-        }
+    if drop_dead(machine, walks) {
+        return give_all(machine, t, walks, out);
     }
-    walks.truncate(kept);
     Ok(())
 }
 

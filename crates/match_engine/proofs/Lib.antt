@@ -12,5 +12,6 @@ pub mod MatchConditions
 pub mod Labels
 pub mod ConstraintPoints
 pub mod QuestionPoints
+pub mod OpenPlays
 pub mod FilteredMatches
 pub mod AgreedMatches

@@ -9,3 +9,4 @@ pub mod Asked
 pub use Rattle.match_rules.specs.Fits
 pub use Rattle.match_rules.specs.Match
 pub mod Known
+pub mod Open

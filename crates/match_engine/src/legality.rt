@@ -1,11 +1,13 @@
 //! Where a colour may play on a position, each point asked once.
-ghost use Rattle.std.specs.Prelude.{◌≡◌, ℕ, Bool, ◌*◌, ◌<◌, if◌then◌else◌};
+ghost use Rattle.std.specs.Prelude.{◌≡◌, ℕ, Bool, true, ◌*◌, ◌<◌, if◌then◌else◌};
 ghost use Rattle.std.specs.FinSet as set;
 ghost use Rattle.go_rules.specs.Board.{largest_points};
 ghost use Rattle.go_rules.specs.Play.{is_legal as is_legal_on};
 ghost use Rattle.match_engine.specs.Known.{Knows};
+ghost use Rattle.match_engine.specs.Open.{IsEmptyBeside};
 
-use go_base::{Colour, Point, PointSet, Position};
+use go_base::sides::neighbour;
+use go_base::{Cell, Colour, Point, PointSet, Position};
 
 /// The points that a question was asked about, and those of them where the answer is yes.
 #[derive(Drop)]
@@ -57,10 +59,45 @@ impl Known {
     }
 }
 
-/// Whether a play is legal.
+/// Whether the point on one side of a point lies on the board and is empty.
+fn is_empty_beside(position: &Position, p: Point, side: u8) -> bool
+    requires on_board { p < position.now.size * position.now.size }
+    requires side { side < 4 }
+    ensures { result ≡ true → (q : ℕ) × IsEmptyBeside position.now p q }
+{
+    match neighbour(position.size(), p, side) {
+        Some(q) => position.cell(q) == Cell::Empty,
+        None => false,
+    }
+}
+
+/// Whether a neighbour of a point is empty.
+fn has_empty_neighbour(position: &Position, p: Point) -> bool
+    requires { p < position.now.size * position.now.size }
+    ensures { result ≡ true → (q : ℕ) × IsEmptyBeside position.now p q }
+{
+    'sides: for side in 0..4 {
+        if is_empty_beside(position, p, side) {
+            return true;
+        }
+    }
+    false
+}
+
+/// Whether a play is legal. A stone that has an empty neighbour needs no trial.
 fn is_legal(position: &Position, colour: Colour, at: Point) -> bool
     requires { at < position.now.size * position.now.size }
     ensures { result ≡ is_legal_on position.now colour at }
 {
+    let _ = position.size();
+    if position.cell(at) != Cell::Empty {
+        return false;
+    }
+    if position.bans(colour, at) {
+        return false;
+    }
+    if has_empty_neighbour(position, at) {
+        return true;
+    }
     position.play(colour, at).is_ok()
 }

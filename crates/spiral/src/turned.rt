@@ -1,43 +1,34 @@
-//! The spiral, moved by one transformation as far as it is read.
-ghost use Rattle.std.specs.Prelude.{◌≡◌, ℕ, ◌*◌, ◌/◌, ◌%◌, ◌<◌, replicate, pos, IfSome};
-ghost use Rattle.go_rules.specs.Transform.{transformed};
+//! The spiral, moved by one transformation offset by offset.
+ghost use Rattle.std.specs.Prelude.{◌≡◌, ℕ, ◌*◌, ◌/◌, ◌%◌, ◌<◌, IfSome};
+ghost use Rattle.go_rules.specs.Transform.{IsNear, transformed};
 ghost use Rattle.spiral.specs.Spiral.{offset_count, offset_at, place_at};
 
 use crate::moving::stepped;
-use crate::numbering::{OFFSETS, following, offset};
+use crate::numbering::{following, offset};
 use go_base::{Point, Size, Transform};
 use std::marker::Model;
 
 /// The offsets of the spiral in order, each moved by one transformation. Seen as the transformation.
 ///
-/// It is made once where many places are read under one transformation. Each offset is moved when it is asked for after
-/// all those before it, so that each later place is one look-up, and offsets that nothing asks for cost nothing.
+/// An offset that is asked for behind the one before it is found in a few comparisons, any other from its index alone.
 #[derive(Drop)]
 pub struct TurnedSpiral {
     transform: Transform,
-    /// How many offsets were moved: those with the indices below.
-    made: u16,
-    /// The offset with the index `made`, not moved.
+    /// The index of the next offset.
+    at: u16,
+    /// The offset with this index, not moved.
     next: (i8, i8),
-    offsets: [(i8, i8); OFFSETS as usize],
 }
 
 impl Model for TurnedSpiral {
     ghost use Rattle.std.specs.Prelude.{ℕ};
-    ghost use Rattle.spiral.specs.Turned.{IsTurned};
+    ghost use Rattle.spiral.specs.Turned.{IsOffsetAt};
 
     ghost Value = { ℕ };
 
     ghost view = { λ a. a.transform };
 
-    ghost invariant = { λ a. IsTurned a.transform a.made a.next a.offsets };
-}
-
-/// A table that holds the offset (0, 0) everywhere.
-fn no_offsets() -> [(i8, i8); OFFSETS as usize]
-    ensures { result ≡ replicate offset_count (pos 0, pos 0) }
-{
-    [(0, 0); OFFSETS as usize]
+    ghost invariant = { λ a. IsOffsetAt a.at a.next };
 }
 
 impl TurnedSpiral {
@@ -47,9 +38,8 @@ impl TurnedSpiral {
     {
         TurnedSpiral {
             transform: t,
-            made: 0,
+            at: 0,
             next: offset(0),
-            offsets: no_offsets(),
         }
     }
 
@@ -60,25 +50,29 @@ impl TurnedSpiral {
         self.transform
     }
 
-    /// The offset with an index, moved. It is one look-up where it was asked for before.
+    /// The offset with an index, not moved.
+    fn unmoved(&self, index: u16) -> (i8, i8)
+        requires { index < offset_count }
+        ensures value { result ≡ offset_at index }
+        ensures near { IsNear result }
+    {
+        if index == self.at {
+            self.next
+        } else {
+            offset(index)
+        }
+    }
+
+    /// The offset with an index, moved.
     pub fn moved(&mut self, index: u16) -> (i8, i8)
         requires { index < offset_count }
         ensures value { result ≡ transformed self.old (offset_at index) }
         ensures same { self.new ≡ self.old }
     {
-        if index < self.made {
-            return self.offsets[index as usize];
-        }
-        if index > self.made {
-            let (dr, dc) = offset(index);
-            return self.transform.apply(dr, dc);
-        }
-        let (dr, dc) = self.next;
-        let by = self.transform.apply(dr, dc);
-        self.offsets[index as usize] = by;
+        let (dr, dc) = self.unmoved(index);
         self.next = following(dr, dc);
-        self.made += 1;
-        by
+        self.at = index + 1;
+        self.transform.apply(dr, dc)
     }
 
     /// The point that the offset with an index leads to from the anchor in a row and a column; None exactly off the
