@@ -31,10 +31,12 @@ struct Ran {
     left: usize,
 }
 
-/// How a run is to go: how many bytes a call moves at most, and which call fails, if one is to.
+/// How a run is to go: how many bytes a call moves at most, how many a call of the sink takes, and which call fails, if
+/// one is to.
 #[derive(Clone, Copy)]
 struct Way {
     piece: usize,
+    sink_takes: usize,
     loader_fails: u64,
     source_fails: u64,
     sink_fails: u64,
@@ -44,6 +46,7 @@ struct Way {
 /// Nothing fails, and each call moves as much as it can.
 const WHOLE: Way = Way {
     piece: PIECE,
+    sink_takes: ROOM,
     loader_fails: 0,
     source_fails: 0,
     sink_fails: 0,
@@ -97,7 +100,9 @@ fn go_with(
     assert!(rt; way.piece > 0, "a call moves some bytes");
     let bytes = Vec::from_slice(alloc, input)?;
     let mut feed = Feed::new(bytes, way.piece, once(alloc, way.source_fails)?);
-    let mut output = Page::new(alloc, ROOM, way.piece, once(alloc, way.sink_fails)?)?;
+    let takes = way.piece.min(way.sink_takes);
+    assert!(rt; takes > 0, "a call of the sink takes some bytes");
+    let mut output = Page::new(alloc, ROOM, takes, once(alloc, way.sink_fails)?)?;
     let mut notes = Page::new(alloc, ROOM, way.piece, once(alloc, way.notes_fail)?)?;
     let words = words(alloc, options, files)?;
     let mut shelf = shelf(rt, alloc, files, way.loader_fails)?;
@@ -242,7 +247,7 @@ const BAD_FILE: &[File] = &[File {
 
 /// Runs in which one call is set to fail that is not to be made, and how they end: the exit status, and how many bytes
 /// are left.
-const UNMADE_CALLS: [(&str, &[File], &[u8], Way, u8, usize); 8] = [
+const UNMADE_CALLS: [(&str, &[File], &[u8], Way, u8, usize); 9] = [
     (
         "each file is loaded once",
         TWO_FILES,
@@ -312,6 +317,17 @@ const UNMADE_CALLS: [(&str, &[File], &[u8], Way, u8, usize); 8] = [
         0,
     ),
     (
+        "the replies of a piece are put together",
+        &[],
+        b"name\nversion\nboardsize 9\ncountlib A1\nname\n",
+        Way {
+            sink_fails: 2,
+            ..WHOLE
+        },
+        0,
+        0,
+    ),
+    (
         "no bytes are asked for where the files have a fault",
         BAD_FILE,
         b"name\n",
@@ -342,6 +358,73 @@ fn no_call_is_made_that_is_not_needed(rt: HostRuntime) -> Result<(), Fail> {
         assert_eq!(rt; ran.outcome.code(), status, "{what}");
         assert_eq!(rt; ran.left, left, "{what}");
     }
+    Ok(())
+}
+
+/// Which call of a sink that takes one byte fails, and how the note of the counts begins.
+const CUT_REPLIES: [(&str, u64, &[u8]); 10] = [
+    ("no byte is out", 1, b"readings 0 fresh 0 "),
+    (
+        "the last byte before the first reading's reply",
+        3,
+        b"readings 0 fresh 0 ",
+    ),
+    ("the first byte of that reply", 4, b"readings 1 fresh 1 "),
+    ("the last byte of it", 8, b"readings 1 fresh 1 "),
+    ("the reply to the second reading", 9, b"readings 2 fresh 1 "),
+    (
+        "the first byte of a reply that waits behind it",
+        14,
+        b"readings 2 fresh 1 ",
+    ),
+    ("the last byte of that", 22, b"readings 2 fresh 1 "),
+    (
+        "the first byte of the third reading's reply",
+        23,
+        b"readings 3 fresh 1 ",
+    ),
+    ("the last byte of all", 27, b"readings 3 fresh 1 "),
+    ("no byte is missing", 28, b"readings 3 fresh 1 "),
+];
+
+// All lines are one piece, so later ones are answered before the output fails.
+#[test]
+fn counts_at_a_fault_are_those_of_the_line_whose_reply_is_cut(rt: HostRuntime) -> Result<(), Fail> {
+    let replies = b"=\n\n= 0\n\n= 0\n\n= gopat\n\n= 0\n\n".as_slice();
+    for (what, call, counts) in CUT_REPLIES {
+        let way = Way {
+            sink_takes: 1,
+            sink_fails: call,
+            ..WHOLE
+        };
+        let input = b"play b D4\nattack D4\nattack D4\nname\nattack D4\n";
+        let ran = go_with(&rt, rt.alloc(), &["--stats"], &[], input, way)?;
+        assert!(rt; replies.starts_with(ran.output.bytes()), "{what}");
+        assert_eq!(rt; ran.output.bytes().len() as u64 + 1, call, "{what}");
+        assert!(rt; ran.notes.bytes().starts_with(counts), "{what}");
+    }
+    Ok(())
+}
+
+// Boards of more bytes than may wait, and more short replies than may wait, each between others; whole pieces, in which
+// replies wait, give the same as pieces of some bytes, in which none does.
+#[test]
+fn replies_that_wait_keep_their_order(rt: HostRuntime) -> Result<(), Fail> {
+    let mut input = Vec::new(rt.alloc());
+    for _ in 0..9 {
+        input.extend_from_slice(b"name\nshowboard\nplay b D4\nundo\nlist_commands\n")?;
+    }
+    for _ in 0..300 {
+        input.extend_from_slice(b"12 version\n")?;
+    }
+    let small = Way { piece: 9, ..WHOLE };
+    let apart = go(&rt, rt.alloc(), &[], &input, small)?;
+    let whole = go(&rt, rt.alloc(), &[], &input, WHOLE)?;
+    assert_eq!(rt; whole.output.bytes(), apart.output.bytes());
+    assert!(rt;
+        whole.output.bytes().len() > 2 * PIECE,
+        "more than may wait"
+    );
     Ok(())
 }
 

@@ -16,3 +16,4 @@ pub mod HelperMeanings
 pub mod CommandQuestions
 pub mod CertainHits
 pub mod RunCounts
+pub mod WaitingReplies

@@ -1,5 +1,5 @@
 -- A reply as it is put on the output.
-use Rattle.std.proofs.Common.{◌≡◌, ℕ, Bool, false, List, [], length, Option, refl, sym, ap, subst, ◌∙◌, inl, inr}
+use Rattle.std.proofs.Common.{◌≡◌, ⊎_elim, ℕ, Bool, false, List, [], ◌∷◌, length, Option, refl, sym, ap, subst, ◌∙◌, inl, inr}
 use Rattle.std.specs.Io.KnownBytes.{Appends}
 use Rattle.gtp_rules.specs.Lines.{RawLine}
 use Rattle.gtp_rules.specs.Steps.{Step}
@@ -13,7 +13,11 @@ use Rattle.session.specs.Counting.{counted, is_read_line}
 use Rattle.session.specs.Asking.{ReadsAs, IsAfterLine, asks_of_line}
 use Rattle.session.specs.Turns.{IsAlong}
 use Rattle.session.specs.Tallies.{kept_sum, one_turn, reply_count}
-use Rattle.session.specs.Serving.{PutsPart, PutsReply, Replies, RepliesPart, progress_of}
+use Rattle.session.specs.Machine.{Machine}
+use Rattle.run_notes.specs.declared.notes.Counts.{Counts}
+use Rattle.session.specs.Serving.{PutsPart, PutsReply, Replies, RepliesPart, RunsTo, progress_of}
+use Rattle.session.specs.Waiting.{WaitingState, holds_with, sent_with, progress_with, Stop, IsStop, CutsReply, MayStop, MayCut, Sends}
+use Rattle.session.proofs.ServeLemmas.{RunsTo-one, RunsPart-one}
 use Rattle.session.specs.Replies.{IsReply, IsReplyTo, IsRefusal, IsSound, reply_bytes, reply_ends}
 use Rattle.session.specs.declared.reply.Reply.{Reply}
 use Rattle.session.specs.declared.reply.Reply.TheVariants.{Nothing, Short, Text, NoMemory}
@@ -105,6 +109,56 @@ Replies-nothing matcher old new line w s answers readings read = record {
     bytes = refl;
   };
 }
+
+-- The session answered a line, and its reply came behind those that wait; session is what it kept, and now what it is.
+module _ (matcher : Matcher) (old new now : Kept) (same : now ≡ new) (line : RawLine) (reply : Reply)
+    (answers : IsReplyTo (machine_of old) (step matcher (machine_of old) line) reply (machine_of new))
+    (readings : new.counts.readings ≡ counted old.counts.readings (is_read_line (machine_of old) line))
+    (read : ReadsAs (asks_of_line (machine_of old) line) old new)
+    (w0 : Option (List ℕ)) (s0 : Sent) (b0 : WaitingState) where
+  -- nothing came
+  pub turn-nothing : reply ≡ Nothing → RunsTo (step matcher) IsAfterLine (machine_of old) (line ∷ []) (machine_of now)
+      false (progress_with w0 old s0 b0) (progress_with w0 now s0 b0)
+  turn-nothing is =
+      subst (λ (k : Kept). RunsTo (step matcher) IsAfterLine (machine_of old) (line ∷ []) (machine_of k) false
+      (progress_with w0 old s0 b0) (progress_with w0 k s0 b0)) (sym same)
+      (RunsTo-one Machine (step matcher) IsAfterLine (machine_of old) line (machine_of new) false
+      (progress_with w0 old s0 b0) (progress_with w0 new s0 b0) (line ∷ []) refl
+      (Replies-nothing matcher old new line (holds_with w0 b0) (sent_with s0 b0)
+      (subst (λ r. IsReplyTo (machine_of old) (step matcher (machine_of old) line) r (machine_of new)) is answers)
+      readings read))
+
+  -- its bytes were sent
+  pub turn-whole : (w1 : Option (List ℕ)) (s1 : Sent) (b1 : WaitingState) (sent : List ℕ) (counts : Counts)
+      → sent ≡ reply_bytes reply → reply_count (reply_bytes reply) ≡ 1
+      → Sends w0 w1 s0 s1 b0 b1 sent counts
+      → RunsTo (step matcher) IsAfterLine (machine_of old) (line ∷ []) (machine_of now) (reply_ends reply)
+      (progress_with w0 old s0 b0) (progress_with w1 now s1 b1)
+  turn-whole w1 s1 b1 sent counts bytes some sends =
+      subst (λ (k : Kept). RunsTo (step matcher) IsAfterLine (machine_of old) (line ∷ []) (machine_of k)
+      (reply_ends reply) (progress_with w0 old s0 b0) (progress_with w1 k s1 b1)) (sym same)
+      (RunsTo-one Machine (step matcher) IsAfterLine (machine_of old) line (machine_of new) (reply_ends reply)
+      (progress_with w0 old s0 b0) (progress_with w1 new s1 b1) (line ∷ []) refl
+      (Replies-whole matcher old new line reply answers readings read (holds_with w0 b0) (holds_with w1 b1)
+      (sent_with s0 b0) (sent_with s1 b1) sent bytes some sends.whole))
+
+  -- the output may fail within it
+  pub turn-stop : (sent : List ℕ) (counts : Counts) (stop : Stop) → sent ≡ reply_bytes reply → counts ≡ now.counts
+      → MayStop w0 s0 b0 sent counts stop
+      → MayCut (step matcher) IsAfterLine (machine_of old) (line ∷ []) w0 old s0 b0 stop
+  turn-stop sent counts stop bytes noted may =
+      let a = progress_with w0 old s0 b0 in
+      ⊎_elim (λ (at : IsStop w0 s0 b0 stop). inl at)
+      (λ (cuts : CutsReply (holds_with w0 b0) (sent_with s0 b0) sent counts stop).
+      inr (record {
+        kept = new;
+        same = cuts.same ∙ noted ∙ ap (λ (k : Kept). k.counts) same;
+        runs = RunsPart-one Machine (step matcher) IsAfterLine (machine_of old) line a
+            (progress_of stop.written new stop.sent) (line ∷ []) [] refl
+            (Replies-part matcher old new line reply answers readings read (holds_with w0 b0) stop.written
+            (sent_with s0 b0) stop.sent sent bytes cuts.puts);
+      }))
+      may
 
 -- Where the step keeps its word, a reply that is a refusal leaves the machine as it was.
 reply-refused : {M : Type 0} (old : M) (given : Step M) (bytes : List ℕ) (new : M) (ends : Bool) → IsSound old given

@@ -22,7 +22,7 @@ use Rattle.session.specs.Handed.{helper_names}
 use Rattle.session.specs.Matcher.{Matcher}
 use Rattle.session.specs.Kept.{Kept, machine_of}
 use Rattle.session.specs.Opening.{IsRefused, MissedIn}
-use Rattle.session.specs.Opened.{Opens, CameBy, ServesCounting}
+use Rattle.session.specs.Opened.{Opens, CameBy, ServesCounting, EndsCounting}
 use Rattle.session.specs.Outcomes.{Phase, NotTaken, NotOpened, Served}
 use Rattle.session.specs.Ends.{Streams, IsRight, most_taken}
 use Rattle.session.specs.Headline.{Came, AreCounts, AreCountsOf, IsSent, IsCauseOf, MissedAfter, files_in}
@@ -47,19 +47,21 @@ sent-told (Some n) sent tally lines bytes = (lines, bytes)
 
 -- the files were opened, and the session served the lines
 pub came-served : (helpers : List SlotState) (contents : List ℕ → Option (List ℕ)) (options : Options)
-    (session now : Kept) (matcher : Matcher) (lines : LinesState)
-    (before after : Streams) (end : End) (w0 w1 : Option (List ℕ)) (sent : Sent) (told : Option Counts)
-    (noted : Option Sent)
+    (session : Kept) (matcher : Matcher) (lines : LinesState)
+    (before after : Streams) (end : End) (counts : Counts) (w0 w1 : Option (List ℕ)) (sent : Sent)
+    (told : Option Counts) (noted : Option Sent)
     (phase : Phase) → Opens helpers contents options session matcher lines
-    → ServesCounting options.generate (step matcher) IsAfterLine (machine_of session) before after end
-    (progress_of w0 session (record { lines = 0; bytes = 0 })) (progress_of w1 now sent)
-    → told ≡ cond options.stats (Some now.counts) None → noted ≡ option_map (λ _. sent) options.generate
+    → EndsCounting options.generate (step matcher) IsAfterLine (machine_of session) before after end counts
+    (progress_of w0 session (record { lines = 0; bytes = 0 })) w1 sent
+    → told ≡ cond options.stats (Some counts) None → noted ≡ option_map (λ _. sent) options.generate
     → phase ≡ Served end → CameBy helpers options contents before after told noted phase
-came-served helpers contents options session now matcher lines before after end w0 w1 sent told noted phase opens
-    counting tells notes is =
+came-served helpers contents options session matcher lines before after end counts w0 w1 sent told noted phase opens
+    ends tells notes is =
+    let counting = ends.serves in
+    let now = ends.kept in
     let lines = served-few (step matcher) options.generate
     (machine_of session) before after end counting.tally counting.serves in
-    let counts = counts_of session now counting.tally.turns counting.advances.along opens.plain.counts opens.plain.room
+    let are = counts_of session now counting.tally.turns counting.advances.along opens.plain.counts opens.plain.room
     lines in
     subst (CameBy helpers options contents before after told noted) (sym is) (record {
       patterns = opens.patterns;
@@ -68,8 +70,9 @@ came-served helpers contents options session now matcher lines before after end 
       serves = ServesLines-plain (says_yes helpers) opens.patterns options.depth options.branch session matcher
           options.generate before after end
           counting.tally opens.plain counting.serves;
-      counted = subst (λ o. AreCounts options.stats o counting.tally) (sym tells)
-          (counts-told options.stats now.counts counting.tally counts);
+      counted = subst (λ o. AreCounts options.stats o counting.tally)
+          (sym (tells ∙ ap (λ (k : Counts). cond options.stats (Some k) None) ends.same))
+          (counts-told options.stats now.counts counting.tally are);
       told = subst (λ o. IsSent options.generate o counting.tally) (sym notes)
           (sent-told options.generate sent counting.tally counting.advances.replies counting.advances.bytes);
     })
@@ -113,7 +116,7 @@ not_too_long step first left text rest taken put piece n end few is reads right 
     omega (arith, taken_all, short, parts)
 
 -- generated lines were served in place of the source
-pub serves-generated : {M : Type 0} (n : ℕ) (step : M → RawLine → Step M) (goes : Kept → Turn M → Kept → Type 0)
+serves-generated : {M : Type 0} (n : ℕ) (step : M → RawLine → Step M) (goes : Kept → Turn M → Kept → Type 0)
     (first : M)
     (left : Option (List ℕ)) (piece faults : ℕ) (w0 w1 : Option (List ℕ)) (c0 c1 f0 f1 p : ℕ) (text rest : List ℕ)
     (last : ℕ)
@@ -162,6 +165,28 @@ serves-generated n step goes first left piece faults w0 w1 c0 c1 f0 f1 p text re
       };
       advances = counting.advances;
     })
+
+-- the same, with the counts that are noted
+pub ends-generated : {M : Type 0} (n : ℕ) (step : M → RawLine → Step M) (goes : Kept → Turn M → Kept → Type 0)
+    (first : M)
+    (left : Option (List ℕ)) (piece faults : ℕ) (w0 w1 : Option (List ℕ)) (c0 c1 f0 f1 p : ℕ) (text rest : List ℕ)
+    (last : ℕ)
+    (end : End) (counts : Counts) (old : Progress) (written : Option (List ℕ)) (sent : Sent) (generate : Option ℕ)
+    → generate ≡ Some n → n ≤ 100000 → text ≡ generated_text n → EndsCounting None step goes first
+    (record { left = Some text; piece = p; input_faults = f0; written = w0; output_faults = c0 })
+    (record { left = Some rest; piece = last; input_faults = f1; written = w1; output_faults = c1 }) end counts old
+    written sent
+    → EndsCounting generate step goes first
+    (record { left = left; piece = piece; input_faults = faults; written = w0; output_faults = c0 })
+    (record { left = left; piece = piece; input_faults = faults; written = w1; output_faults = c1 }) end counts old
+    written sent
+ends-generated n step goes first left piece faults w0 w1 c0 c1 f0 f1 p text rest last end counts old written sent
+    generate some few is ends = record {
+      kept = ends.kept;
+      same = ends.same;
+      serves = serves-generated n step goes first left piece faults w0 w1 c0 c1 f0 f1 p text rest last end old
+          (progress_of written ends.kept sent) generate some few is ends.serves;
+    }
 
 -- the files were not opened
 module _ (options : Options) (error : OpenError) (phase : Phase) (is : phase ≡ NotOpened error) where

@@ -1,45 +1,26 @@
 -- The steps of the loops of a run, over plain values.
-use Rattle.std.proofs.Common.{◌≡◌, ◌≢◌, ℕ, ◌+◌, ◌-◌, ◌≤◌, Bool, true, false, List, [], ◌∷◌, ◌++◌, length, take, drop, Option, Some, None, Result, Ok, Err, OnErr, IfOk, refl, sym, ap, subst, ◌∙◌, append_assoc, take-append-drop, length-append, arith}
-use Rattle.std.specs.Io.KnownBytes.{Appends}
-use Rattle.std.proofs.KnownBytes.{Appends-trans}
-use Rattle.std.proofs.lemmas.List.{take_rest, take_all, length-take-le}
+use Rattle.std.proofs.Common.{◌≡◌, ◌≢◌, ⊎_elim, inl, inr, ℕ, ◌-◌, Bool, true, false, List, [], ◌∷◌, ◌++◌, length, take, drop, Option, Some, None, Result, OnOk, IfErr, refl, sym, ap, subst, ◌∙◌, append_assoc, append-nil, take-append-drop, arith}
+use Rattle.std.proofs.lemmas.List.{take_rest, take_all}
 use Rattle.gtp_rules.specs.Lines.{RawLine, Line, TooLong}
 use Rattle.gtp_rules.specs.Steps.{Step}
 use Rattle.gtp_lex.specs.Held.{lines_from, held_from, held_line}
 use Rattle.gtp_lex.specs.Lines.{LinesState, Feeds}
 use Rattle.gtp_lex.specs.LinesTaken.{taken_of, given_state}
 use Rattle.gtp_lex.specs.declared.lines.Taken.{Taken}
+use Rattle.gtp_lex.specs.declared.lines.Taken.TheVariants as taken
 use Rattle.gtp_lex.proofs.HeldLemmas.{lines_from-append, held_from-append}
+use Rattle.run_notes.specs.declared.notes.Counts.{Counts}
 use Rattle.run_notes.specs.declared.notes.Sent.{Sent}
 use Rattle.session.specs.Machine.{Machine}
 use Rattle.session.specs.Matcher.{Matcher}
 use Rattle.session.specs.Answering as answering
 use Rattle.session.specs.Kept.{Kept}
 use Rattle.session.specs.Turns.{Turn}
-use Rattle.session.specs.Tallies.{Progress, kept_sum, IsTallied, tally_of, cut_tally, no_tally, together}
-use Rattle.session.specs.Serving.{Puts, Replies, RepliesPart, RunsTo, RunsPart}
-use Rattle.session.proofs.TallyLemmas.{kept_sum-twice, Advances-none, Advances-trans, IsTallied-nil, IsTallied-one, IsTallied-append, IsTallied-ended, BreaksOff-one, BreaksOff-after, BreaksOff-more, BreaksOff-is}
-
--- the sink took n bytes more of the rest, and they were counted
-pub put_more : (a b c : Option (List ℕ)) (before now : Sent) (bytes done rest : List ℕ) (n total : ℕ) → bytes ≡ done
-    ++ rest
-    → Puts a b before now done → Appends b c (take n rest) → n ≤ length rest → total ≡ kept_sum now.bytes n
-    → (put : List ℕ) × (bytes ≡ put ++ take (length rest - n) (drop n rest))
-    × Puts a c before (record { lines = now.lines; bytes = total }) put
-put_more a b c before now bytes done rest n total whole puts more within counted =
-    let split : rest ≡ take n rest ++ take (length rest - n) (drop n rest) =
-    sym (ap (λ l. take n rest ++ l) (take_rest rest n) ∙ take-append-drop n rest) in
-    let lens : length (done ++ take n rest) ≡ length done + n =
-    length-append done (take n rest) ∙ ap (λ k. length done + k) (length-take-le n rest within) in (
-      done ++ take n rest,
-      whole ∙ ap (λ l. done ++ l) split ∙ sym (append_assoc done (take n rest) (take (length rest - n) (drop n rest))),
-      record {
-        writes = Appends-trans a b c done (take n rest) puts.writes more;
-        lines = puts.lines;
-        bytes_sent = counted ∙ ap (λ k. kept_sum k n) puts.bytes_sent ∙ kept_sum-twice before.bytes (length done) n
-            ∙ ap (kept_sum before.bytes) (sym lens);
-      },
-    )
+use Rattle.session.specs.Tallies.{Progress, IsTallied, tally_of, cut_tally, no_tally, together}
+use Rattle.session.specs.Serving.{Replies, RepliesPart, RunsTo, RunsPart, progress_of}
+use Rattle.session.specs.Waiting.{WaitingState, none_wait, holds_with, Stop, IsStop, MayCut, CutsShort, Stays, progress_with}
+use Rattle.session.proofs.WaitingReplies.{kept-none, none-appends}
+use Rattle.session.proofs.TallyLemmas.{Advances-none, Advances-trans, IsTallied-nil, IsTallied-one, IsTallied-append, IsTallied-ended, BreaksOff-one, BreaksOff-after, BreaksOff-more, BreaksOff-is}
 
 -- The line that `take` or `finish` gives.
 
@@ -109,6 +90,19 @@ no_rest TooLong result new old is none some = absurd (let told = (some (λ e. cc
 no_rest (Line []) result new old is none some = refl
 no_rest (Line (b ∷ bs)) result new old is none some = absurd (let told = (some (λ e. cc)).0 in cc)
 
+-- a line was given, and its bytes are those that are told
+pub given_line : (held : RawLine) (told : Taken) (lines : LinesState) (bytes : List ℕ) → lines ≡ given_state held
+    → told ≡ taken_of held → told ≡ taken.Line → lines.given ≡ Some bytes → held ≡ Line bytes
+given_line (Line text) told lines bytes is of_held as_line given =
+    let same : Some text ≡ Some bytes = sym (ap (λ (s : LinesState). s.given) is) ∙ given in
+    ap Line (let bytes_same : text ≡ bytes = cc in bytes_same)
+given_line TooLong told lines bytes is of_held as_line given = absurd cc
+
+-- a line was given that is too long
+pub given_too_long : (held : RawLine) (told : Taken) → told ≡ taken_of held → told ≡ taken.TooLong → held ≡ TooLong
+given_too_long (Line text) told of_held as_long = absurd cc
+given_too_long TooLong told of_held as_long = refl
+
 -- The lines of a piece, of which n bytes more were taken.
 
 -- the lines of the piece are those of the bytes taken, and then those of what is left
@@ -126,16 +120,6 @@ held_from-take held held' rest n after =
     ap (held_from held) (sym (take-append-drop n rest)) ∙ held_from-append held (take n rest) (drop n rest)
     ∙ ap (λ k. held_from k (drop n rest)) (sym after) ∙ ap (held_from held') (sym (take_rest rest n))
 
--- what holds always holds of an error
-pub on_err_from : {T E P : Type 0} (result : Result T E) → P → OnErr result P
-on_err_from (Ok x) p = tt
-on_err_from (Err e) p = p
-
--- what an error says, it says in other words
-pub on_err_map : {T E P Q : Type 0} (result : Result T E) → (P → Q) → OnErr result P → OnErr result Q
-on_err_map (Ok x) words p = tt
-on_err_map (Err e) words p = words p
-
 -- Two sessions that find matches in one way answer by one step.
 module _ (goes : Kept → Turn Machine → Kept → Type 0) (now first : Matcher) (same : now ≡ first) where
   -- lines that were answered whole
@@ -144,10 +128,17 @@ module _ (goes : Kept → Turn Machine → Kept → Type 0) (now first : Matcher
       (answering.step first) goes from lines to ended a b
   RunsTo-by from lines to ended a b runs = subst (λ m. RunsTo (answering.step m) goes from lines to ended a b) same runs
 
-  -- lines of which one broke off
-  pub RunsPart-by : (from : Machine) (lines : List RawLine) (a b : Progress)
-      → RunsPart (answering.step now) goes from lines a b → RunsPart (answering.step first) goes from lines a b
-  RunsPart-by from lines a b runs = subst (λ m. RunsPart (answering.step m) goes from lines a b) same runs
+  -- lines where the output failed
+  pub MayCut-by : (from : Machine) (lines : List RawLine) (w : Option (List ℕ)) (kept : Kept) (s : Sent)
+      (b : WaitingState) (stop : Stop) → MayCut (answering.step now) goes from lines w kept s b stop
+      → MayCut (answering.step first) goes from lines w kept s b stop
+  MayCut-by from lines w kept s b stop may = subst (λ m. MayCut (answering.step m) goes from lines w kept s b stop)
+      same may
+
+  -- lines where it did
+  pub CutsShort-by : (from : Machine) (lines : List RawLine) (a : Progress) (stop : Stop)
+      → CutsShort (answering.step now) goes from lines a stop → CutsShort (answering.step first) goes from lines a stop
+  CutsShort-by from lines a stop cuts = subst (λ m. CutsShort (answering.step m) goes from lines a stop) same cuts
 
 module _ (M : Type 0) (step : M → RawLine → Step M) (goes : Kept → Turn M → Kept → Type 0) where
   -- one line, answered whole
@@ -220,77 +211,219 @@ module _ (M : Type 0) (step : M → RawLine → Step M) (goes : Kept → Turn M 
       → RunsTo step goes from ys to ended a b → RunsTo step goes from xs to ended a b
   RunsTo-is from to xs ys ended a b same runs = subst (λ l. RunsTo step goes from l to ended a b) (sym same) runs
 
-  -- the same lines, of which one broke off
-  pub RunsPart-is : (from : M) (xs ys : List RawLine) (a b : Progress) → xs ≡ ys → RunsPart step goes from ys a b
-      → RunsPart step goes from xs a b
-  RunsPart-is from xs ys a b same runs = subst (λ l. RunsPart step goes from l a b) (sym same) runs
-
   -- a flag that says whether the session ended
   pub RunsTo-flag : (from to : M) (lines : List RawLine) (ended flag : Bool) (a b : Progress) → ended ≡ flag
       → RunsTo step goes from lines to ended a b → RunsTo step goes from lines to flag a b
   RunsTo-flag from to lines ended flag a b same runs = subst (λ t. RunsTo step goes from lines to t a b) same runs
 
-  -- the line that was taken broke off, so the lines of the rest did
-  pub taken_part : (from : M) (held line : RawLine) (rest : List ℕ) (n : ℕ) (a b : Progress)
+  -- lines that broke off, after lines answered whole
+  CutsShort-after : (from mid : M) (xs ys : List RawLine) (a b : Progress) (stop : Stop)
+      → RunsTo step goes from xs mid false a b → CutsShort step goes mid ys b stop
+      → CutsShort step goes from (xs ++ ys) a stop
+  CutsShort-after from mid xs ys a b stop earlier cuts = record {
+    kept = cuts.kept;
+    same = cuts.same;
+    runs = RunsPart-after from mid xs ys a b (progress_of stop.written cuts.kept stop.sent) earlier cuts.runs;
+  }
+
+  -- lines that broke off, before other lines
+  CutsShort-more : (from : M) (xs ys : List RawLine) (a : Progress) (stop : Stop) → CutsShort step goes from xs a stop
+      → CutsShort step goes from (xs ++ ys) a stop
+  CutsShort-more from xs ys a stop cuts = record {
+    kept = cuts.kept;
+    same = cuts.same;
+    runs = RunsPart-more from xs ys a (progress_of stop.written cuts.kept stop.sent) cuts.runs;
+  }
+
+  -- the same lines
+  CutsShort-is : (from : M) (xs ys : List RawLine) (a : Progress) (stop : Stop) → xs ≡ ys
+      → CutsShort step goes from ys a stop → CutsShort step goes from xs a stop
+  CutsShort-is from xs ys a stop same cuts = subst (λ l. CutsShort step goes from l a stop) (sym same) cuts
+
+  -- the same lines, where the output may fail
+  pub MayCut-is : (from : M) (xs ys : List RawLine) (w : Option (List ℕ)) (kept : Kept) (s : Sent) (b : WaitingState)
+      (stop : Stop) → xs ≡ ys → MayCut step goes from ys w kept s b stop → MayCut step goes from xs w kept s b stop
+  MayCut-is from xs ys w kept s b stop same may =
+      subst (λ l. MayCut step goes from l w kept s b stop) (sym same) may
+
+  -- the line that was taken may break off, so the lines of the rest may
+  pub taken_part : (from : M) (held line : RawLine) (rest : List ℕ) (n : ℕ) (w : Option (List ℕ)) (kept : Kept)
+      (s : Sent) (b : WaitingState) (stop : Stop)
       → lines_from held (take n rest) ≡ line ∷ [] → held_from held (take n rest) ≡ Line []
-      → RepliesPart step goes from line a b
-      → RunsPart step goes from (lines_from held rest) a b
-  taken_part from held line rest n a b one none replies =
+      → MayCut step goes from (line ∷ []) w kept s b stop
+      → MayCut step goes from (lines_from held rest) w kept s b stop
+  taken_part from held line rest n w kept s b stop one none may =
       let more = lines_from (Line []) (take (length rest - n) (drop n rest)) in
-      RunsPart-one from line a b (lines_from held rest) more
+      let a = progress_with w kept s b in
+      ⊎_elim (λ (at : IsStop w s b stop). inl at)
+      (λ (cuts : CutsShort step goes from (line ∷ []) a stop).
+      inr (CutsShort-is from (lines_from held rest) ((line ∷ []) ++ more) a stop
       (lines_from-take held (Line []) rest n (sym none) ∙ ap (λ l. l ++ more) one)
-      replies
+      (CutsShort-more from (line ∷ []) more a stop cuts))) may
 
-  -- Of a piece some lines were answered, and those of the rest are left.
-  module _ (from mid : M) (held0 held : RawLine) (piece rest : List ℕ) (lines : List RawLine) (a b c : Progress)
-      (whole : lines_from held0 piece ≡ lines ++ lines_from held rest)
-      (answered : RunsTo step goes from lines mid false a b) where
-    -- a line of the rest broke off
-    pub piece_part : RunsPart step goes mid (lines_from held rest) b c → RunsPart step goes from
-        (lines_from held0 piece) a c
-    piece_part later = RunsPart-is from _ _ a c whole
-        (RunsPart-after from mid lines (lines_from held rest) a b c answered later)
+  -- all that waits is put, and what was answered is out
+  flushed : (from to : M) (lines : List RawLine) (ended : Bool) (a : Progress) (w0 w1 : Option (List ℕ)) (kept : Kept)
+      (s0 s1 : Sent) (b : WaitingState) → RunsTo step goes from lines to ended a (progress_with w0 kept s0 b)
+      → Stays w0 w1 s0 s1 b none_wait → RunsTo step goes from lines to ended a (progress_of w1 kept s1)
+  flushed from to lines ended a w0 w1 kept s0 s1 b runs stays = record {
+    tally = runs.tally;
+    run = runs.run;
+    advances = record {
+      writes = kept-none a.written (holds_with w0 b) w1 runs.tally.out runs.advances.writes stays.holds;
+      along = runs.advances.along;
+      replies = ap (λ (s : Sent). s.lines) stays.sends ∙ runs.advances.replies;
+      bytes = ap (λ (s : Sent). s.bytes) stays.sends ∙ runs.advances.bytes;
+    };
+  }
 
-    -- n bytes more were taken, and their lines were answered
-    module _ (to : M) (held' : RawLine) (n : ℕ) (ended : Bool)
-        (later : RunsTo step goes mid (lines_from held (take n rest)) to ended b c)
-        (after : held' ≡ held_from held (take n rest)) where
-      -- one of them ended the session
-      pub piece_ended : ended ≡ true → RunsTo step goes from (lines_from held0 piece) to true a c
-      piece_ended is =
-          let next = lines_from held (take n rest) in
-          let more = lines_from held' (take (length rest - n) (drop n rest)) in
-          let joined : lines_from held0 piece ≡ (lines ++ next) ++ more =
-          whole ∙ ap (λ l. lines ++ l) (lines_from-take held held' rest n after) ∙ sym (append_assoc lines next more) in
-          RunsTo-is from to _ _ true a c joined
-          (RunsTo-ended from to (lines ++ next) more a c
-          (RunsTo-append from mid to lines next true a b c answered (RunsTo-flag mid to next ended true b c is later)))
+-- Some lines were answered, their replies are out or wait, and the output may fail within those that wait.
+pub record PieceSoFar {M : Type 0} (step : M → RawLine → Step M) (goes : Kept → Turn M → Kept → Type 0) (from to : M)
+    (all left : List RawLine) (old : Progress) (w : Option (List ℕ)) (kept : Kept) (s : Sent)
+    (b : WaitingState) : Type 0 where
+  pub lines : List RawLine
+  pub whole : all ≡ lines ++ left
+  pub runs : RunsTo step goes from lines to false old (progress_with w kept s b)
+  pub stops : (stop : Stop) → IsStop w s b stop → CutsShort step goes from lines old stop
 
-      -- none of them did, and the lines of what is left stay
-      pub piece_more : ended ≡ false
-          → (done : List RawLine) × (lines_from held0 piece ≡ done ++ lines_from held'
-          (take (length rest - n) (drop n rest)))
-          × RunsTo step goes from done to false a c
+module _ (M : Type 0) (step : M → RawLine → Step M) (goes : Kept → Turn M → Kept → Type 0) where
+  -- nothing was answered, and no reply waits
+  start_runs : (from : M) (w : Option (List ℕ)) (kept : Kept) (s : Sent) (b : WaitingState) → b ≡ none_wait
+      → RunsTo step goes from [] from false (progress_of w kept s) (progress_with w kept s b)
+  start_runs from w kept s b none =
+      subst (λ (b : WaitingState). RunsTo step goes from [] from false (progress_of w kept s)
+      (progress_with w kept s b)) (sym none) (record {
+        tally = no_tally;
+        run = IsTallied-nil M step from;
+        advances = record { writes = none-appends w; along = refl; replies = refl; bytes = refl };
+      })
+
+  -- none was answered, and no reply waits
+  pub piece_start : (from : M) (all : List RawLine) (w : Option (List ℕ)) (kept : Kept) (s : Sent) (b : WaitingState)
+      → b ≡ none_wait → PieceSoFar step goes from from all all (progress_of w kept s) w kept s b
+  piece_start from all w kept s b none =
+      subst (λ (b : WaitingState). PieceSoFar step goes from from all all (progress_of w kept s) w kept s b) (sym none)
+      (record {
+        lines = [];
+        whole = refl;
+        runs = record {
+          tally = no_tally;
+          run = IsTallied-nil M step from;
+          advances = record { writes = none-appends w; along = refl; replies = refl; bytes = refl };
+        };
+        stops = λ stop at. absurd (let within = at.within in omega (arith, within));
+      })
+
+  module _ (from mid : M) (all left : List RawLine) (old : Progress) (w : Option (List ℕ)) (kept : Kept) (s : Sent)
+      (b : WaitingState) (so_far : PieceSoFar step goes from mid all left old w kept s b) where
+    -- a reply broke off
+    pub piece_cut : (stop : Stop) → MayCut step goes mid left w kept s b stop → CutsShort step goes from all old stop
+    piece_cut stop may =
+        CutsShort-is M step goes from all (so_far.lines ++ left) old stop so_far.whole
+        (⊎_elim (λ (at : IsStop w s b stop).
+        CutsShort-more M step goes from so_far.lines left old stop (so_far.stops stop at))
+        (λ (cuts : CutsShort step goes mid left (progress_with w kept s b) stop).
+        CutsShort-after M step goes from mid so_far.lines left old (progress_with w kept s b) stop so_far.runs cuts)
+        may)
+
+    -- the lines were answered, and what waited was put
+    pub piece_done : (w' : Option (List ℕ)) (s' : Sent) → left ≡ [] → Stays w w' s s' b none_wait
+        → RunsTo step goes from all mid false old (progress_of w' kept s')
+    piece_done w' s' none stays =
+        RunsTo-is M step goes from mid all so_far.lines false old (progress_of w' kept s')
+        (so_far.whole ∙ ap (λ l. so_far.lines ++ l) none ∙ append-nil so_far.lines)
+        (flushed M step goes from mid so_far.lines false old w w' kept s s' b so_far.runs stays)
+
+    -- More lines were answered.
+    module _ (next more : List RawLine) (parts : left ≡ next ++ more) (to : M) (ended : Bool) (w' : Option (List ℕ))
+        (kept' : Kept) (s' : Sent) (b' : WaitingState)
+        (later : RunsTo step goes mid next to ended (progress_with w kept s b) (progress_with w' kept' s' b'))
+        (stops : (stop : Stop) → IsStop w' s' b' stop → MayCut step goes mid next w kept s b stop) where
+      -- the lines so far, and what is left
+      joined : all ≡ (so_far.lines ++ next) ++ more
+      joined = so_far.whole ∙ ap (λ l. so_far.lines ++ l) parts ∙ sym (append_assoc so_far.lines next more)
+
+      -- where the output may fail
+      stops-so-far : (stop : Stop) → IsStop w' s' b' stop → CutsShort step goes from (so_far.lines ++ next) old stop
+      stops-so-far stop at =
+          ⊎_elim (λ (before : IsStop w s b stop).
+          CutsShort-more M step goes from so_far.lines next old stop (so_far.stops stop before))
+          (λ (cuts : CutsShort step goes mid next (progress_with w kept s b) stop).
+          CutsShort-after M step goes from mid so_far.lines next old (progress_with w kept s b) stop so_far.runs cuts)
+          (stops stop at)
+
+      -- one of them ended the session, and what waited was put
+      pub piece_ended : ended ≡ true → (w'' : Option (List ℕ)) (s'' : Sent) → Stays w' w'' s' s'' b' none_wait
+          → RunsTo step goes from all to true old (progress_of w'' kept' s'')
+      piece_ended is w'' s'' stays =
+          let a = progress_with w kept s b in
+          let c = progress_with w' kept' s' b' in
+          flushed M step goes from to all true old w' w'' kept' s' s'' b'
+          (RunsTo-is M step goes from to all ((so_far.lines ++ next) ++ more) true old c joined
+          (RunsTo-ended M step goes from to (so_far.lines ++ next) more old c
+          (RunsTo-append M step goes from mid to so_far.lines next true old a c so_far.runs
+          (RunsTo-flag M step goes mid to next ended true a c is later))))
+          stays
+
+      -- what waited was put in part
+      pub piece_stop : (stop : Stop) → IsStop w' s' b' stop → CutsShort step goes from all old stop
+      piece_stop stop at =
+          CutsShort-is M step goes from all ((so_far.lines ++ next) ++ more) old stop joined
+          (CutsShort-more M step goes from (so_far.lines ++ next) more old stop (stops-so-far stop at))
+
+      -- none of them ended the session
+      pub piece_more : ended ≡ false → PieceSoFar step goes from to all more old w' kept' s' b'
       piece_more is =
-          let next = lines_from held (take n rest) in
-          let more = lines_from held' (take (length rest - n) (drop n rest)) in (
-            lines ++ next,
-            whole ∙ ap (λ l. lines ++ l) (lines_from-take held held' rest n after) ∙ sym (append_assoc lines next more),
-            RunsTo-append from mid to lines next false a b c answered
-                (RunsTo-flag mid to next ended false b c is later),
-          )
+          let a = progress_with w kept s b in
+          let c = progress_with w' kept' s' b' in
+          record {
+            lines = so_far.lines ++ next;
+            whole = joined;
+            runs = RunsTo-append M step goes from mid to so_far.lines next false old a c so_far.runs
+                (RunsTo-flag M step goes mid to next ended false a c is later);
+            stops = stops-so-far;
+          }
 
-  -- the last line was answered whole
-  pub last_whole : {E : Type 0} (from to : M) (line : RawLine) (lines : List RawLine) (a b : Progress)
-      (result : Result Bool E) → lines ≡ line ∷ []
-      → IfOk result (λ ends. Replies step goes from line to ends a b) → IfOk result
-      (λ ends. RunsTo step goes from lines to ends a b)
-  last_whole from to line lines a b (Ok ends) one replies = RunsTo-one from line to ends a b lines one replies
-  last_whole from to line lines a b (Err x) one replies = tt
+  -- No reply waited, and one line was answered.
+  module _ (from : M) (all lines : List RawLine) (same : all ≡ lines) (w0 : Option (List ℕ)) (kept0 : Kept)
+      (s0 : Sent) (b0 : WaitingState) (none : b0 ≡ none_wait) where
+    -- where the output may fail
+    pub rest_cut : (stop : Stop) → MayCut step goes from lines w0 kept0 s0 b0 stop
+        → CutsShort step goes from all (progress_of w0 kept0 s0) stop
+    rest_cut stop may =
+        piece_cut from from all all (progress_of w0 kept0 s0) w0 kept0 s0 b0 (piece_start from all w0 kept0 s0 b0 none)
+        stop (MayCut-is M step goes from all lines w0 kept0 s0 b0 stop same may)
 
-  -- the last line broke off
-  pub last_part : {T E : Type 0} (from : M) (line : RawLine) (lines : List RawLine) (a b : Progress)
-      (result : Result T E) → lines ≡ line ∷ []
-      → OnErr result (RepliesPart step goes from line a b) → OnErr result (RunsPart step goes from lines a b)
-  last_part from line lines a b (Ok x) one replies = tt
-  last_part from line lines a b (Err x) one replies = RunsPart-one from line a b lines [] one replies
+    -- what waited is out
+    pub rest_done : (to : M) (ended : Bool) (w1 w2 : Option (List ℕ)) (kept1 : Kept) (s1 s2 : Sent) (b1 : WaitingState)
+        → RunsTo step goes from lines to ended (progress_with w0 kept0 s0 b0) (progress_with w1 kept1 s1 b1)
+        → Stays w1 w2 s1 s2 b1 none_wait
+        → RunsTo step goes from all to ended (progress_of w0 kept0 s0) (progress_of w2 kept1 s2)
+    rest_done to ended w1 w2 kept1 s1 s2 b1 runs stays =
+        let a = progress_of w0 kept0 s0 in
+        let c = progress_with w1 kept1 s1 b1 in
+        flushed M step goes from to all ended a w1 w2 kept1 s1 s2 b1
+        (RunsTo-is M step goes from to all lines ended a c same
+        (RunsTo-append M step goes from from to [] lines ended a (progress_with w0 kept0 s0 b0) c
+        (start_runs from w0 kept0 s0 b0 none) runs))
+        stays
+
+  -- One line was answered.
+  module _ {T E : Type 0} (from : M) (held line : RawLine) (same : held ≡ line) (w0 w1 : Option (List ℕ))
+      (kept0 : Kept) (s0 s1 : Sent) (b0 b1 : WaitingState) (result : Result T E) where
+    -- where the output may fail after it
+    pub stops-line : OnOk result ((stop : Stop) → IsStop w1 s1 b1 stop
+        → MayCut step goes from (line ∷ []) w0 kept0 s0 b0 stop)
+        → OnOk result ((stop : Stop) → IsStop w1 s1 b1 stop → MayCut step goes from (held ∷ []) w0 kept0 s0 b0 stop)
+    stops-line stops = subst (λ (l : RawLine). OnOk result ((stop : Stop) → IsStop w1 s1 b1 stop
+        → MayCut step goes from (l ∷ []) w0 kept0 s0 b0 stop)) (sym same) stops
+
+  -- where the output failed within it
+  pub part-line : {T : Type 0} (from : M) (held line : RawLine) → held ≡ line → (w0 w1 : Option (List ℕ)) (kept0 : Kept)
+      (s0 s1 : Sent) (b0 : WaitingState) (result : Result T Counts) → IfErr result
+      (λ noted. MayCut step goes from (line ∷ []) w0 kept0 s0 b0
+      (record { written = w1; sent = s1; counts = noted }))
+      → IfErr result (λ noted. MayCut step goes from (held ∷ []) w0 kept0 s0 b0
+      (record { written = w1; sent = s1; counts = noted }))
+  part-line from held line same w0 w1 kept0 s0 s1 b0 result part =
+      subst (λ (l : RawLine). IfErr result (λ noted. MayCut step goes from (l ∷ []) w0 kept0 s0 b0
+      (record { written = w1; sent = s1; counts = noted }))) (sym same) part

@@ -26,3 +26,4 @@ pub mod Opened
 pub mod Serving
 pub mod Sessions
 pub mod Handed
+pub mod Waiting

@@ -15,6 +15,7 @@ use Rattle.session.specs.Ends.{Streams}
 use Rattle.session.specs.Headline.{ServesLines, IsServed, IsUntouched}
 use Rattle.session.specs.Turns.{Turn}
 use Rattle.session.specs.Tallies.{Tally, Progress, Advances}
+use Rattle.session.specs.Serving.{progress_of}
 use Rattle.gtp_rules.specs.Lines.{RawLine}
 use Rattle.gtp_rules.specs.Steps.{Step}
 use Rattle.session.specs.declared.outcome.End.{End}
@@ -56,3 +57,11 @@ pub record ServesCounting {M : Type 0} (generate : Option ℕ) (step : M → Raw
   pub tally : Tally M
   pub serves : ServesLines generate step first before after end tally
   pub advances : Advances goes old new tally
+
+-- the lines were served so, and these counts are those of what is kept then
+pub record EndsCounting {M : Type 0} (generate : Option ℕ) (step : M → RawLine → Step M)
+    (goes : Kept → Turn M → Kept → Type 0) (first : M) (before after : Streams) (end : End) (counts : Counts)
+    (old : Progress) (written : Option (List ℕ)) (sent : Sent) : Type 0 where
+  pub kept : Kept
+  pub same : counts ≡ kept.counts
+  pub serves : ServesCounting generate step goes first before after end old (progress_of written kept sent)

@@ -1,6 +1,6 @@
 -- What the loops of a run say of the lines that they answer, of the bytes that they put and of what they count, by any
 -- machine M, any step, and any relation that says how what is kept goes on with a line.
-use Rattle.std.specs.Prelude.{◌≡◌, ℕ, ◌^◌, ◌<◌, ◌≤◌, Bool, List, ◌++◌, length, Option}
+use Rattle.std.specs.Prelude.{◌≡◌, ℕ, ◌^◌, ◌<◌, ◌≤◌, Bool, List, ◌++◌, length, take, Option}
 use Rattle.std.specs.Io.KnownBytes.{Appends}
 use Rattle.gtp_rules.specs.Lines.{RawLine}
 use Rattle.gtp_rules.specs.Steps.{Step}
@@ -34,6 +34,11 @@ pub record PutsPart (old new : Option (List ℕ)) (before now : Sent) (bytes : L
   pub whole : bytes ≡ part ++ missing
   pub proper : 0 < length missing
   pub puts : Puts old new before now part
+
+-- the first n of the bytes were put and counted, and not all of them
+pub record PutsFront (old new : Option (List ℕ)) (before now : Sent) (bytes : List ℕ) (n : ℕ) : Type 0 where
+  pub within : n < length bytes
+  pub puts : Puts old new before now (take n bytes)
 
 -- the bytes were put and counted, and so was the reply that they are
 pub record PutsReply (old new : Option (List ℕ)) (before now : Sent) (bytes : List ℕ) : Type 0 where

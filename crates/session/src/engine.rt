@@ -71,6 +71,8 @@ pub struct Engine {
     patterns: Vec<Pattern>,
     automaton: Automaton,
     counts: ReadingCounts,
+    // whether a line may have taken long since `took_long` was asked last
+    long: bool,
 }
 
 impl Model for Engine {
@@ -137,7 +139,17 @@ impl Engine {
             patterns,
             automaton: machine,
             counts: NO_COUNTS,
+            long: false,
         })
+    }
+
+    /// Whether a line since the last call of this may have taken long: it was read afresh, or asked for matches.
+    pub(crate) fn took_long(&mut self) -> bool
+        ensures { self.new ≡ self.old }
+    {
+        let long = self.long;
+        self.long = false;
+        long
     }
 
     /// What the session counted: its lines that asked for a reading and were answered with a code, those of them that

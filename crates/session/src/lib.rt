@@ -12,6 +12,7 @@ mod engine;
 pub mod laws;
 mod match_text;
 mod opening;
+mod outbox;
 mod outcome;
 mod pattern_text;
 mod readings;

@@ -1,7 +1,7 @@
-//! The loops of a run: a reply that is put, the lines of a piece, and the pieces of a source.
-ghost use Rattle.std.specs.Prelude.{◌≡◌, ◌≤◌, ◌<◌, true, false, ◌++◌, length, take, IfOk, OnOk, OnErr};
+//! The loops of a run: the lines of a piece, and the pieces of a source.
+ghost use Rattle.std.specs.Prelude.{◌≡◌, ◌≤◌, ◌<◌, false, None, [], ◌∷◌, length, take, IfOk, IfErr, OnOk};
 ghost use Rattle.std.specs.Io.{ReadsAtMost};
-ghost use Rattle.std.specs.Io.KnownBytes.{Appends, ReadConsumes};
+ghost use Rattle.std.specs.Io.KnownBytes.{ReadConsumes};
 ghost use Rattle.gtp_io.specs.Outside.{IsCounted, Gave};
 ghost use Rattle.gtp_rules.specs.Lines.{RawLine};
 ghost use Rattle.gtp_lex.specs.Held.{lines_from, held_from, held_line};
@@ -10,19 +10,20 @@ ghost use Rattle.gtp_lex.specs.LinesTaken.{taken_of, given_state};
 ghost use Rattle.gtp_lex.specs.Raw.{raw_line};
 ghost use Rattle.session.specs.Asking.{IsAfterLine};
 ghost use Rattle.session.specs.Headline.{IsCauseOf};
-ghost use Rattle.session.specs.Opened.{ServesCounting};
+ghost use Rattle.session.specs.Opened.{EndsCounting};
 ghost use Rattle.session.specs.Kept.{machine_of};
 ghost use Rattle.session.specs.Sessions.{matcher_of, step_of};
-ghost use Rattle.session.specs.Tallies.{kept_sum};
-ghost use Rattle.session.specs.Serving.{Puts, PutsPart, PutsReply, progress_of, Replies, RepliesPart, RunsTo, RunsPart};
+ghost use Rattle.session.specs.Serving.{progress_of, RunsTo};
+ghost use Rattle.session.specs.Waiting.{none_wait, progress_with, Stop, IsStop, MayCut, CutsShort};
 
+use crate::outbox::Outbox;
 use crate::outcome::End;
 use crate::reply::Reply;
 use crate::session::Session;
 use gtp_cmd::{RefuseText, refusal};
 use gtp_io::{Failed, Sink, Source};
 use gtp_lex::{Lines, Raw, Taken};
-use run_notes::Sent;
+use run_notes::{Counts, Sent};
 
 /// The most bytes that are asked of a source at once.
 const PIECE: usize = 4096;
@@ -30,73 +31,44 @@ const PIECE: usize = 4096;
 /// How many bytes are too many to take.
 const MOST_TAKEN: usize = 1 << 32;
 
-/// A count after n more; it stands still at the greatest value of a u64.
-fn added(count: u64, n: u64) -> u64
-    ensures { result ≡ kept_sum count n }
-{
-    count.saturating_add(n)
-}
-
-/// Puts all the bytes, and counts them, or fails where the sink does.
-fn put_all<K: Sink>(output: &mut K, bytes: &[u8], sent: &mut Sent) -> Result<(), Failed>
-    ensures ok { OnOk result (Puts (K.written output.old) (K.written output.new) sent.old sent.new bytes.now) }
-    ensures part { OnErr result (PutsPart (K.written output.old) (K.written output.new) sent.old sent.new bytes.now) }
-    ensures cause { IsCounted (K.faults output.old) (K.faults output.new) result }
-{
-    let mut rest = bytes;
-    while !rest.is_empty() {
-        let count = output.put(rest)?;
-        sent.bytes = added(sent.bytes, count as u64);
-        rest = &rest[count..];
-    }
-    Ok(())
-}
-
-/// Puts a reply, and counts it where it went out whole.
-fn put_reply<K: Sink>(output: &mut K, reply: &[u8], sent: &mut Sent) -> Result<(), Failed>
-    ensures ok { OnOk result (PutsReply (K.written output.old) (K.written output.new) sent.old sent.new reply.now) }
-    ensures part { OnErr result (PutsPart (K.written output.old) (K.written output.new) sent.old sent.new reply.now) }
-    ensures cause { IsCounted (K.faults output.old) (K.faults output.new) result }
-{
-    put_all(output, reply, sent)?;
-    sent.lines = added(sent.lines, 1);
-    Ok(())
-}
-
 // Answers one line, and says whether it ends the session.
 fn answer<K: Sink>(
     session: &mut Session,
     raw: Raw<'_>,
+    outbox: &mut Outbox,
     output: &mut K,
     sent: &mut Sent,
-) -> Result<bool, Failed>
-    ensures ok { IfOk result (λ ends. Replies (step_of state session.old) IsAfterLine (machine_of session.old.engine)
-        (raw_line raw.entry)
-        (machine_of session.new.engine) ends (progress_of (K.written output.old) session.old.engine sent.old)
-        (progress_of (K.written output.new) session.new.engine sent.new)) }
-    ensures part { OnErr result (RepliesPart (step_of state session.old) IsAfterLine (machine_of session.old.engine)
-        (raw_line raw.entry)
-        (progress_of (K.written output.old) session.old.engine sent.old)
-        (progress_of (K.written output.new) session.new.engine sent.new)) }
+) -> Result<bool, Counts>
+    ensures ok { IfOk result (λ ends. RunsTo (step_of state session.old) IsAfterLine (machine_of session.old.engine)
+        (raw_line raw.entry ∷ []) (machine_of session.new.engine) ends
+        (progress_with (K.written output.old) session.old.engine sent.old outbox.old)
+        (progress_with (K.written output.new) session.new.engine sent.new outbox.new)) }
+    ensures stops { OnOk result ((stop : Stop) → IsStop (K.written output.new) sent.new outbox.new stop
+        → MayCut (step_of state session.old) IsAfterLine (machine_of session.old.engine) (raw_line raw.entry ∷ [])
+        (K.written output.old) session.old.engine sent.old outbox.old stop) }
+    ensures part { IfErr result (λ noted. MayCut (step_of state session.old) IsAfterLine
+        (machine_of session.old.engine) (raw_line raw.entry ∷ [])
+        (K.written output.old) session.old.engine sent.old outbox.old
+        (record { written = K.written output.new; sent = sent.new; counts = noted })) }
     ensures same { matcher_of state session.new ≡ matcher_of state session.old }
     ensures cause { IsCounted (K.faults output.old) (K.faults output.new) result }
 {
-    match session.line(raw) {
+    let reply = session.line(raw);
+    let now = session.engine.took_long();
+    let counts = session.stats();
+    match reply {
         Reply::Nothing => Ok(false),
         Reply::Short { text, quit } => {
-            put_reply(output, text.as_slice(), sent)?;
+            outbox.put(text.as_slice(), counts, now, output, sent)?;
             Ok(quit)
         }
         Reply::Text { bytes } => {
-            put_reply(output, bytes.as_slice(), sent)?;
+            outbox.put(bytes.as_slice(), counts, now, output, sent)?;
             Ok(false)
         }
         Reply::NoMemory { id } => {
-            put_reply(
-                output,
-                refusal(id, RefuseText::OutOfMemory).as_slice(),
-                sent,
-            )?;
+            let text = refusal(id, RefuseText::OutOfMemory);
+            outbox.put(text.as_slice(), counts, now, output, sent)?;
             Ok(false)
         }
     }
@@ -107,24 +79,30 @@ fn answer_taken<K: Sink>(
     session: &mut Session,
     lines: &Lines,
     taken: Taken,
+    outbox: &mut Outbox,
     output: &mut K,
     sent: &mut Sent,
-) -> Result<bool, Failed>
+) -> Result<bool, Counts>
     requires { (held : RawLine) × (lines.now ≡ given_state held) × (taken ≡ taken_of held) }
     ensures ok { (held : RawLine) → lines.now ≡ given_state held → taken ≡ taken_of held → IfOk result
-        (λ ends. Replies (step_of state session.old) IsAfterLine (machine_of session.old.engine) held
-        (machine_of session.new.engine) ends (progress_of (K.written output.old) session.old.engine sent.old)
-        (progress_of (K.written output.new) session.new.engine sent.new)) }
-    ensures part { (held : RawLine) → lines.now ≡ given_state held → taken ≡ taken_of held → OnErr result
-        (RepliesPart (step_of state session.old) IsAfterLine (machine_of session.old.engine) held
-        (progress_of (K.written output.old) session.old.engine sent.old)
-        (progress_of (K.written output.new) session.new.engine sent.new)) }
+        (λ ends. RunsTo (step_of state session.old) IsAfterLine (machine_of session.old.engine) (held ∷ [])
+        (machine_of session.new.engine) ends
+        (progress_with (K.written output.old) session.old.engine sent.old outbox.old)
+        (progress_with (K.written output.new) session.new.engine sent.new outbox.new)) }
+    ensures stops { (held : RawLine) → lines.now ≡ given_state held → taken ≡ taken_of held → OnOk result
+        ((stop : Stop) → IsStop (K.written output.new) sent.new outbox.new stop
+        → MayCut (step_of state session.old) IsAfterLine (machine_of session.old.engine) (held ∷ [])
+        (K.written output.old) session.old.engine sent.old outbox.old stop) }
+    ensures part { (held : RawLine) → lines.now ≡ given_state held → taken ≡ taken_of held → IfErr result
+        (λ noted. MayCut (step_of state session.old) IsAfterLine (machine_of session.old.engine) (held ∷ [])
+        (K.written output.old) session.old.engine sent.old outbox.old
+        (record { written = K.written output.new; sent = sent.new; counts = noted })) }
     ensures same { matcher_of state session.new ≡ matcher_of state session.old }
     ensures cause { IsCounted (K.faults output.old) (K.faults output.new) result }
 {
     match taken {
-        Taken::Line => answer(session, Raw::Line(lines.bytes()), output, sent),
-        Taken::TooLong => answer(session, Raw::TooLong, output, sent),
+        Taken::Line => answer(session, Raw::Line(lines.bytes()), outbox, output, sent),
+        Taken::TooLong => answer(session, Raw::TooLong, outbox, output, sent),
     }
 }
 
@@ -134,87 +112,103 @@ fn answer_next<K: Sink>(
     session: &mut Session,
     lines: &mut Lines,
     rest: &[u8],
+    outbox: &mut Outbox,
     output: &mut K,
     sent: &mut Sent,
-) -> Result<(usize, bool), Failed>
+) -> Result<(usize, bool), Counts>
     requires { lines.old.waits ≡ false }
     ensures bound { IfOk result (λ turn. (turn.0 ≤ length rest.now) × (0 < length rest.now → 0 < turn.0)) }
     ensures ok { IfOk result (λ turn. RunsTo (step_of state session.old) IsAfterLine (machine_of session.old.engine)
         (lines_from lines.old.held (take turn.0 rest.now)) (machine_of session.new.engine) turn.1
-        (progress_of (K.written output.old) session.old.engine sent.old)
-        (progress_of (K.written output.new) session.new.engine sent.new)) }
+        (progress_with (K.written output.old) session.old.engine sent.old outbox.old)
+        (progress_with (K.written output.new) session.new.engine sent.new outbox.new)) }
     ensures held { IfOk result (λ turn. (lines.new.held ≡ held_from lines.old.held (take turn.0 rest.now))
         × (lines.new.waits ≡ false)) }
-    ensures part { OnErr result (RunsPart (step_of state session.old) IsAfterLine (machine_of session.old.engine)
-        (lines_from lines.old.held rest.now)
-        (progress_of (K.written output.old) session.old.engine sent.old)
-        (progress_of (K.written output.new) session.new.engine sent.new)) }
+    ensures stops { IfOk result (λ turn. (stop : Stop) → IsStop (K.written output.new) sent.new outbox.new stop
+        → MayCut (step_of state session.old) IsAfterLine (machine_of session.old.engine)
+        (lines_from lines.old.held (take turn.0 rest.now))
+        (K.written output.old) session.old.engine sent.old outbox.old stop) }
+    ensures part { IfErr result (λ noted. MayCut (step_of state session.old) IsAfterLine
+        (machine_of session.old.engine) (lines_from lines.old.held rest.now)
+        (K.written output.old) session.old.engine sent.old outbox.old
+        (record { written = K.written output.new; sent = sent.new; counts = noted })) }
     ensures same { matcher_of state session.new ≡ matcher_of state session.old }
     ensures cause { IsCounted (K.faults output.old) (K.faults output.new) result }
 {
     let count = lines.feed(rest);
     match lines.take() {
         Some(taken) => {
-            let ended = answer_taken(session, lines, taken, output, sent)?;
+            let ended = answer_taken(session, lines, taken, outbox, output, sent)?;
             Ok((count, ended))
         }
         None => Ok((count, false)),
     }
 }
 
-// Answers the lines that end in a piece, and says whether one of them ends the session.
+// Answers the lines that end in a piece, and says whether one of them ends the session. No reply waits after it.
 fn answer_piece<K: Sink>(
     session: &mut Session,
     lines: &mut Lines,
     piece: &[u8],
+    outbox: &mut Outbox,
     output: &mut K,
     sent: &mut Sent,
-) -> Result<bool, Failed>
-    requires { lines.old.waits ≡ false }
+) -> Result<bool, Counts>
+    requires open_ended { lines.old.waits ≡ false }
+    requires none { outbox.old ≡ none_wait }
     ensures ok { IfOk result (λ ended. RunsTo (step_of state session.old) IsAfterLine (machine_of session.old.engine)
         (lines_from lines.old.held piece.now)
         (machine_of session.new.engine) ended (progress_of (K.written output.old) session.old.engine sent.old)
         (progress_of (K.written output.new) session.new.engine sent.new)) }
     ensures held { IfOk result (λ ended. ended ≡ false →
         (lines.new.held ≡ held_from lines.old.held piece.now) × (lines.new.waits ≡ false)) }
-    ensures part { OnErr result (RunsPart (step_of state session.old) IsAfterLine (machine_of session.old.engine)
-        (lines_from lines.old.held piece.now)
+    ensures none { OnOk result (outbox.new ≡ none_wait) }
+    ensures part { IfErr result (λ noted. CutsShort (step_of state session.old) IsAfterLine
+        (machine_of session.old.engine) (lines_from lines.old.held piece.now)
         (progress_of (K.written output.old) session.old.engine sent.old)
-        (progress_of (K.written output.new) session.new.engine sent.new)) }
+        (record { written = K.written output.new; sent = sent.new; counts = noted })) }
     ensures same { matcher_of state session.new ≡ matcher_of state session.old }
     ensures cause { IsCounted (K.faults output.old) (K.faults output.new) result }
 {
     let mut rest = piece;
     while !rest.is_empty() {
-        let (count, ended) = answer_next(session, lines, rest, output, sent)?;
+        let (count, ended) = answer_next(session, lines, rest, outbox, output, sent)?;
         if ended {
+            outbox.flush(output, sent)?;
             return Ok(true);
         }
         rest = &rest[count..];
     }
+    outbox.flush(output, sent)?;
     Ok(false)
 }
 
-// Answers the rest as a last line, if there is one.
+// Answers the rest as a last line, if there is one. No reply waits after it.
 fn answer_rest<K: Sink>(
     session: &mut Session,
     lines: &mut Lines,
+    outbox: &mut Outbox,
     output: &mut K,
     sent: &mut Sent,
-) -> Result<bool, Failed>
-    requires { lines.old.waits ≡ false }
+) -> Result<bool, Counts>
+    requires open_ended { lines.old.waits ≡ false }
+    requires none { outbox.old ≡ none_wait }
     ensures ok { IfOk result (λ ended. RunsTo (step_of state session.old) IsAfterLine (machine_of session.old.engine)
         (held_line lines.old.held)
         (machine_of session.new.engine) ended (progress_of (K.written output.old) session.old.engine sent.old)
         (progress_of (K.written output.new) session.new.engine sent.new)) }
-    ensures part { OnErr result (RunsPart (step_of state session.old) IsAfterLine (machine_of session.old.engine)
-        (held_line lines.old.held)
+    ensures part { IfErr result (λ noted. CutsShort (step_of state session.old) IsAfterLine
+        (machine_of session.old.engine) (held_line lines.old.held)
         (progress_of (K.written output.old) session.old.engine sent.old)
-        (progress_of (K.written output.new) session.new.engine sent.new)) }
+        (record { written = K.written output.new; sent = sent.new; counts = noted })) }
     ensures cause { IsCounted (K.faults output.old) (K.faults output.new) result }
 {
     match lines.finish() {
-        Some(taken) => answer_taken(session, lines, taken, output, sent),
+        Some(taken) => {
+            let ended = answer_taken(session, lines, taken, outbox, output, sent)?;
+            outbox.flush(output, sent)?;
+            Ok(ended)
+        }
         None => Ok(false),
     }
 }
@@ -233,16 +227,28 @@ fn next_piece<S: Source>(input: &mut S, buf: &mut [u8], room: usize) -> Result<u
     input.next(&mut buf[..most])
 }
 
+/// Why no more lines were served, and the counts to note: those after the last line, or after the one whose reply
+/// broke off.
+#[derive(Clone, Copy)]
+pub(crate) struct Ended {
+    /// Why.
+    pub(crate) end: End,
+    /// The counts.
+    pub(crate) counts: Counts,
+}
+
 /// Answers the lines of the source until its end, a fault, or the line that ends the session.
+///
+/// The replies of a piece wait and go out together, before the next piece is asked for.
 pub(crate) fn serve<S: Source, K: Sink>(
     session: &mut Session,
     lines: &mut Lines,
     input: &mut S,
     output: &mut K,
     sent: &mut Sent,
-) -> End
+) -> Ended
     requires { lines.old ≡ no_line }
-    ensures serves { ServesCounting None (step_of state session.old) IsAfterLine (machine_of session.old.engine)
+    ensures serves { EndsCounting None (step_of state session.old) IsAfterLine (machine_of session.old.engine)
         (record {
           left = S.left input.old;
           piece = S.piece input.old;
@@ -256,32 +262,57 @@ pub(crate) fn serve<S: Source, K: Sink>(
           input_faults = S.faults input.new;
           written = K.written output.new;
           output_faults = K.faults output.new;
-        }) result
+        }) result.end result.counts
         (progress_of (K.written output.old) session.old.engine sent.old)
-        (progress_of (K.written output.new) session.new.engine sent.new) }
-    ensures input { IsCauseOf (result ≡ End.InputFault) (S.faults input.old) (S.faults input.new) }
-    ensures output { IsCauseOf (result ≡ End.OutputFault) (K.faults output.old) (K.faults output.new) }
+        (K.written output.new) sent.new }
+    ensures input { IsCauseOf (result.end ≡ End.InputFault) (S.faults input.old) (S.faults input.new) }
+    ensures output { IsCauseOf (result.end ≡ End.OutputFault) (K.faults output.old) (K.faults output.new) }
 {
+    let mut outbox = Outbox::new();
     let mut buf = [0u8; PIECE];
     let mut room = MOST_TAKEN;
     while room > 0 {
         match next_piece(input, &mut buf, room) {
-            Err(_) => return End::InputFault,
+            Err(_) => {
+                return Ended {
+                    end: End::InputFault,
+                    counts: session.stats(),
+                };
+            }
             Ok(0) => {
-                return match answer_rest(session, lines, output, sent) {
-                    Ok(_) => End::Done,
-                    Err(_) => End::OutputFault,
+                return match answer_rest(session, lines, &mut outbox, output, sent) {
+                    Ok(_) => Ended {
+                        end: End::Done,
+                        counts: session.stats(),
+                    },
+                    Err(counts) => Ended {
+                        end: End::OutputFault,
+                        counts,
+                    },
                 };
             }
             Ok(count) => {
                 room -= count;
-                match answer_piece(session, lines, &buf[..count], output, sent) {
+                match answer_piece(session, lines, &buf[..count], &mut outbox, output, sent) {
                     Ok(false) => {}
-                    Ok(true) => return End::Done,
-                    Err(_) => return End::OutputFault,
+                    Ok(true) => {
+                        return Ended {
+                            end: End::Done,
+                            counts: session.stats(),
+                        };
+                    }
+                    Err(counts) => {
+                        return Ended {
+                            end: End::OutputFault,
+                            counts,
+                        };
+                    }
                 }
             }
         }
     }
-    End::InputTooLong
+    Ended {
+        end: End::InputTooLong,
+        counts: session.stats(),
+    }
 }

@@ -1,7 +1,7 @@
 //! The top call of the program.
 ghost use Rattle.std.specs.Prelude.{◌≡◌, ◌↔◌, MatchOption, Option, None, Some, ℕ, if◌then◌else◌, option_map, map, string_bytes};
 ghost use Rattle.session.specs.Headline.{Came, IsCauseOf, MissedAfter, Runs, RunsHad, files_in};
-ghost use Rattle.session.specs.Opened.{CameBy, ServesCounting};
+ghost use Rattle.session.specs.Opened.{CameBy, EndsCounting};
 ghost use Rattle.session.specs.Serving.{progress_of};
 ghost use Rattle.go_options.specs.Found.{AreInRange, IsFrom};
 ghost use Rattle.session.specs.Asking.{IsAfterLine};
@@ -17,7 +17,7 @@ ghost use Rattle.run_notes.specs.Putting.{IsNoted};
 
 use crate::opening::{Opened, open};
 use crate::outcome::{End, Outcome, WordsError, note};
-use crate::serve::serve;
+use crate::serve::{Ended, serve};
 use go_options::{Options, OptionsError, read_options};
 use gtp_io::{Loader, Sink, Source};
 use helpers::{Helper, Helpers};
@@ -69,10 +69,10 @@ fn serve_lines<S: Source, K: Sink>(
     input: &mut S,
     output: &mut K,
     sent: &mut Sent,
-) -> End
+) -> Ended
     requires none { opened.old.lines ≡ no_line }
     requires few { MatchOption generate (Unit {0}) (IsFrom 1 100000) }
-    ensures serves { ServesCounting generate (step_of state opened.old.session) IsAfterLine
+    ensures serves { EndsCounting generate (step_of state opened.old.session) IsAfterLine
         (machine_of opened.old.session.engine)
         (record {
           left = S.left input.old;
@@ -87,11 +87,11 @@ fn serve_lines<S: Source, K: Sink>(
           input_faults = S.faults input.new;
           written = K.written output.new;
           output_faults = K.faults output.new;
-        }) result
+        }) result.end result.counts
         (progress_of (K.written output.old) opened.old.session.engine sent.old)
-        (progress_of (K.written output.new) opened.new.session.engine sent.new) }
-    ensures input { IsCauseOf (result ≡ End.InputFault) (S.faults input.old) (S.faults input.new) }
-    ensures output { IsCauseOf (result ≡ End.OutputFault) (K.faults output.old) (K.faults output.new) }
+        (K.written output.new) sent.new }
+    ensures input { IsCauseOf (result.end ≡ End.InputFault) (S.faults input.old) (S.faults input.new) }
+    ensures output { IsCauseOf (result.end ≡ End.OutputFault) (K.faults output.old) (K.faults output.new) }
 {
     let Opened { session, lines } = opened;
     match generate {
@@ -136,8 +136,8 @@ fn run_options<L: Loader, S: Source, K: Sink>(
         Err(error) => return unserved(error.outcome()),
     };
     let mut sent = Sent { lines: 0, bytes: 0 };
-    let end = serve_lines(options.generate, &mut opened, input, output, &mut sent);
-    served(end, options, opened.session.stats(), sent)
+    let ended = serve_lines(options.generate, &mut opened, input, output, &mut sent);
+    served(ended.end, options, ended.counts, sent)
 }
 
 // Hands the helpers in, opens the files of the options and serves the lines.
@@ -231,8 +231,9 @@ fn put_ran<D: Sink>(notes: &mut D, ran: Ran)
 /// where those that it names say yes. The files are loaded in their order and joined, their patterns are made one
 /// automaton of at most the options' states, and memory is sought, before the first line is read; the first file that
 /// fails, the first fault of the joined files, or a further state ends the run there. Where lines are to be generated
-/// the input is not called, and these lines go through the same loop. Replies go out as they are made, and no read is
-/// made before every line that has ended is answered. Nothing more is read or answered after the first failure of the
+/// the input is not called, and these lines go through the same loop. Replies of one read wait for each other, up to
+/// some thousand bytes, but not for more than one long reading, and no read is made before every line that has ended is
+/// answered and every reply is out. Nothing more is read or answered after the first failure of the
 /// input or the output, after a line that ends the session, and after 2^32 bytes. The notes get the counts and what
 /// was sent, where these are asked for, and how the run ended; a failure of the notes changes no outcome.
 pub fn run<L: Loader, S: Source, K: Sink, D: Sink>(

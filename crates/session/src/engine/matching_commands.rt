@@ -28,6 +28,7 @@ impl Engine {
         ensures read { ReadsMany self.old self.new }
         ensures helpers { without_calls (states_of state helpers.new) ≡ without_calls (states_of state helpers.old) }
     {
+        self.long = true;
         let position = self.position();
         grown(matches_text(
             self.alloc,

@@ -32,6 +32,7 @@ impl Engine {
         if let Some(trials) = tried {
             self.counts.fresh = self.counts.fresh.saturating_add(1);
             self.counts.trials = self.counts.trials.saturating_add(trials);
+            self.long = true;
         }
     }
 

@@ -1,20 +1,19 @@
-use Rattle.std.proofs.Common.{◌≡◌, List, ◌++◌, length, false}
-use Rattle.gtp_rules.specs.Lines.{RawLine}
+use Rattle.std.proofs.Common.{◌≡◌, length, false}
 use Rattle.gtp_lex.specs.Held.{lines_from, held_from}
 use Rattle.session.specs.Asking.{IsAfterLine}
 use Rattle.session.specs.Kept.{machine_of}
 use Rattle.session.specs.Sessions.{matcher_of, step_of}
-use Rattle.session.specs.Serving.{RunsTo, progress_of}
+use Rattle.session.specs.Serving.{progress_of}
+use Rattle.session.proofs.ServeLemmas.{PieceSoFar}
 use Rattle.session.proofs.serve.answer_piece.Given as goal
 
 -- some of the piece's lines were answered, and those of the rest are left
 abbrev pub invariant-loop-rest : goal.invariant-loop-rest
 invariant-loop-rest g l = record {
-  answered : (lines : List RawLine) × (lines_from l.fn.lines.held l.fn.piece ≡ lines ++ lines_from l.lines.held l.rest)
-      × RunsTo (step_of (λ z. (goal.Helper-dyn g z).state z.1) l.fn.session) IsAfterLine
-      (machine_of l.fn.session.engine) lines (machine_of l.session.engine) false
-      (progress_of (g.K.Sink.written l.fn.output) l.fn.session.engine l.fn.sent)
-      (progress_of (g.K.Sink.written l.output) l.session.engine l.sent);
+  answered : PieceSoFar (step_of (λ z. (goal.Helper-dyn g z).state z.1) l.fn.session) IsAfterLine
+      (machine_of l.fn.session.engine) (machine_of l.session.engine) (lines_from l.fn.lines.held l.fn.piece)
+      (lines_from l.lines.held l.rest) (progress_of (g.K.Sink.written l.fn.output) l.fn.session.engine l.fn.sent)
+      (g.K.Sink.written l.output) l.session.engine l.sent l.outbox;
   held : held_from l.fn.lines.held l.fn.piece ≡ held_from l.lines.held l.rest;
   same : matcher_of (λ z. (goal.Helper-dyn g z).state z.1) l.session
       ≡ matcher_of (λ z. (goal.Helper-dyn g z).state z.1) l.fn.session;

@@ -3,6 +3,7 @@ use Rattle.session.specs.Asking.{IsAfterLine}
 use Rattle.session.specs.Kept.{machine_of}
 use Rattle.session.specs.Sessions.{matcher_of, step_of}
 use Rattle.session.specs.Serving.{progress_of}
+use Rattle.session.specs.Waiting.{none_wait}
 use Rattle.session.proofs.RunEnds.{Served}
 use Rattle.session.proofs.serve.serve.Given as goal
 
@@ -17,6 +18,7 @@ invariant-loop-room g l = record {
   same : matcher_of (λ z. (goal.Helper-dyn g z).state z.1) l.session
       ≡ matcher_of (λ z. (goal.Helper-dyn g z).state z.1) l.fn.session;
   open_ended : l.lines.waits ≡ false;
+  none : l.outbox ≡ none_wait;
   buffer : length l.buf ≡ 4096;
   input_faults : g.S.Source.faults l.input ≡ g.S.Source.faults l.fn.input;
   output_faults : g.K.Sink.faults l.output ≡ g.K.Sink.faults l.fn.output;

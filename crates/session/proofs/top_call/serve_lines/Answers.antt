@@ -3,12 +3,12 @@ use Rattle.std.proofs.Common.{ap, subst}
 use Rattle.std.specs.Prelude.{MatchOption}
 use Rattle.go_options.specs.Found.{IsFrom}
 use Rattle.workload.specs.Remaining.{WorkloadState}
-use Rattle.session.proofs.RunPhases.{serves-generated, uncaused}
+use Rattle.session.proofs.RunPhases.{ends-generated, uncaused}
 use Rattle.session.proofs.top_call.serve_lines.Goals as goal
 
 pub returns-in-Some-clause-serves : goal.returns-in-Some-clause-serves
 returns-in-Some-clause-serves g c =
-    serves-generated c.in-Some.n _ _ _ _ _ _ _ _ _ _ _ _ _ c.new.result.left _ _ _ _ _ c.args.generate c.in-Some.is
+    ends-generated c.in-Some.n _ _ _ _ _ _ _ _ _ _ _ _ _ c.new.result.left _ _ _ _ _ _ _ c.args.generate c.in-Some.is
     (subst (λ o. MatchOption o (Unit {0}) (IsFrom 1 100000)) c.in-Some.is c.requires.few).1
     (ap (λ (w : WorkloadState). w.left) c.new.ensures) c.serve.ensures.serves
 

@@ -1,0 +1,301 @@
+-- Replies that wait: one more of them, and how they go out or break off.
+use Rattle.std.proofs.Common.{◌≡◌, ⊎_elim, inl, inr, ℕ, suc, ◌+◌, ◌-◌, ◌<◌, ◌≤◌, Bool, true, false, cond, nat_le, List, [], ◌∷◌, ◌++◌, length, take, drop, Option, Some, None, Result, Ok, Err, OnOk, IfErr, IsErrAnd, refl, sym, ap, subst, ◌∙◌, append_assoc, append-nil, take-append-drop, take-add, length-append, le-leb, set, arith}
+use Rattle.std.specs.Io.KnownBytes.{Appends, Keeps, append_known}
+use Rattle.std.proofs.KnownBytes.{Appends-trans, Appends-kept}
+use Rattle.std.proofs.lemmas.Bool.{cases_lt, lt-leb}
+use Rattle.std.proofs.lemmas.List.{take_more_set, take_rest, take-append-le, length-take-le, length-drop}
+use Rattle.std.proofs.Math.Seq.{take-append-add}
+use Rattle.run_notes.specs.declared.notes.Counts.{Counts}
+use Rattle.run_notes.specs.declared.notes.Sent.{Sent}
+use Rattle.session.specs.Kept.{no_counts}
+use Rattle.session.specs.Tallies.{kept_sum}
+use Rattle.session.specs.Serving.{Puts, PutsFront, PutsPart, PutsReply}
+use Rattle.session.specs.Waiting.{WaitingState, none_wait, gone, counts_at, AreMarked, holds_with, sent_with, Stop, IsStop, CutsReply, Stays, Sends}
+use Rattle.session.specs.declared.outbox.Mark.{Mark}
+use Rattle.session.proofs.TallyLemmas.{kept_sum-twice}
+
+-- what holds of every success follows from what does
+pub on_ok_map : {T E P Q : Type 0} (result : Result T E) → (P → Q) → OnOk result P → OnOk result Q
+on_ok_map (Ok x) words p = words p
+on_ok_map (Err e) words p = tt
+
+-- what holds of an error follows from what does
+pub if_err_map : {T E : Type 0} {P Q : E → Type 0} (result : Result T E) → ((e : E) → P e → Q e) → IfErr result P
+    → IfErr result Q
+if_err_map (Ok x) words p = tt
+if_err_map (Err e) words p = words e p
+
+-- what holds of an error holds where it is passed up
+pub passed_up : {T E : Type 0} (result : Result T E) (error : E) (P : E → Type 0) → IsErrAnd result (λ e. e ≡ error)
+    → P error → IfErr result P
+passed_up (Ok x) error P same p = tt
+passed_up (Err e) error P same p = subst P (sym same) p
+
+-- The bytes as they are put.
+
+-- the bytes were put in part
+pub part-front : (old new : Option (List ℕ)) (before now : Sent) (bytes : List ℕ) (n : ℕ)
+    → PutsFront old new before now bytes n → PutsPart old new before now bytes
+part-front old new before now bytes n front =
+    let within = front.within in
+    let left = length-drop n bytes in
+    record {
+      part = take n bytes;
+      missing = drop n bytes;
+      whole = sym (take-append-drop n bytes);
+      proper = omega (arith, left, within);
+      puts = front.puts;
+    }
+
+-- bytes of a rest are no more than are left
+pub within_rest : (bytes : List ℕ) (done n : ℕ) → n ≤ length (take (length bytes - done) (drop done bytes))
+    → n ≤ length bytes - done
+within_rest bytes done n fits =
+    let len = ap length (take_rest bytes done) ∙ length-drop done bytes in omega (arith, len, fits)
+
+-- the sink took n bytes more behind the first done of the bytes, and they were counted
+pub put_further : (a b c : Option (List ℕ)) (before now : Sent) (bytes : List ℕ) (done n total : ℕ)
+    → done ≤ length bytes → Puts a b before now (take done bytes)
+    → Appends b c (take n (take (length bytes - done) (drop done bytes)))
+    → n ≤ length (take (length bytes - done) (drop done bytes))
+    → total ≡ kept_sum now.bytes n
+    → Puts a c before (record { lines = now.lines; bytes = total }) (take (done + n) bytes)
+put_further a b c before now bytes done n total start puts more fits counted =
+    let within = within_rest bytes done n fits in
+    let rest = drop done bytes in
+    let next : Appends b c (take n rest) = subst (λ l. Appends b c (take n l)) (take_rest bytes done) more in
+    let joined : take (done + n) bytes ≡ take done bytes ++ take n rest = take-add done n bytes in
+    let first = length-take-le done bytes start in
+    let whole = length-take-le (done + n) bytes (omega (arith, start, within)) in
+    record {
+      writes = subst (Appends a c) (sym joined)
+          (Appends-trans a b c (take done bytes) (take n rest) puts.writes next);
+      lines = puts.lines;
+      bytes_sent = counted ∙ ap (λ k. kept_sum k n) (puts.bytes_sent ∙ ap (kept_sum before.bytes) first)
+          ∙ kept_sum-twice before.bytes done n ∙ ap (kept_sum before.bytes) (sym whole);
+    }
+
+-- The marks of replies.
+
+-- a reply before others, of which not each has ended
+front-step : (ended : Bool) (g g' n : ℕ) (c c' own : Counts) → (g < n → (g' ≡ g) × (c' ≡ c))
+    → cond ended (suc g) 0 < suc n
+    → (cond ended (suc g') 0 ≡ cond ended (suc g) 0) × (cond ended c' own ≡ cond ended c own)
+front-step true g g' n c c' own later less =
+    let same = later (omega (arith, less)) in (ap suc same.0, same.1)
+front-step false g g' n c c' own later less = (refl, refl)
+
+-- where not each of some replies has ended, those behind them do not count
+gone-front : (ms ns : List Mark) (k : ℕ) → gone ms k < length ms
+    → (gone (ms ++ ns) k ≡ gone ms k) × (counts_at (ms ++ ns) k ≡ counts_at ms k)
+gone-front [] ns k less = absurd (omega (arith, less))
+gone-front (m ∷ ms) ns k less =
+    front-step (nat_le m.end k) (gone ms k) (gone (ms ++ ns) k) (length ms) (counts_at ms k) (counts_at (ms ++ ns) k)
+    m.counts (gone-front ms ns k) less
+
+-- a reply before others that have all ended
+back-step : (ended : Bool) (g g' n h : ℕ) (c c' own : Counts) → (g ≡ n → (g' ≡ n + h) × (c' ≡ c))
+    → cond ended (suc g) 0 ≡ suc n → (cond ended (suc g') 0 ≡ suc n + h) × (cond ended c' own ≡ c)
+back-step true g g' n h c c' own later all =
+    let same = later (omega (arith, all)) in ((let one = same.0 in omega (arith, one)), same.1)
+back-step false g g' n h c c' own later all = absurd (omega (arith, all))
+
+-- where some replies have all ended, those behind them decide
+gone-back : (ms ns : List Mark) (k : ℕ) → gone ms k ≡ length ms
+    → (gone (ms ++ ns) k ≡ length ms + gone ns k) × (counts_at (ms ++ ns) k ≡ counts_at ns k)
+gone-back [] ns k all = ((let same : gone ns k ≡ 0 + gone ns k = omega arith in same), refl)
+gone-back (m ∷ ms) ns k all =
+    back-step (nat_le m.end k) (gone ms k) (gone (ms ++ ns) k) (length ms) (gone ns k) (counts_at ns k)
+    (counts_at (ms ++ ns) k) m.counts (gone-back ms ns k) all
+
+-- one reply that has not ended
+one-past : (m : Mark) (k : ℕ) → k < m.end → (gone (m ∷ []) k ≡ 0) × (counts_at (m ∷ []) k ≡ m.counts)
+one-past m k past =
+    let test : nat_le m.end k ≡ false = lt-leb m.end k past in
+    (ap (λ b. cond b (suc 0) 0) test, ap (λ b. cond b no_counts m.counts) test)
+
+-- one reply that has ended
+one-within : (m : Mark) (k : ℕ) → m.end ≤ k → gone (m ∷ []) k ≡ 1
+one-within m k within =
+    let test : nat_le m.end k ≡ true = le-leb m.end k within in ap (λ b. cond b (suc 0) 0) test
+
+-- A reply more waits.
+module _ (bytes reply : List ℕ) (marks : List Mark) (m : Mark) (are : AreMarked bytes marks)
+    (ends : m.end ≡ length bytes + length reply) where
+  -- its mark stands behind the others
+  pub marked-more : AreMarked (bytes ++ reply) (marks ++ m ∷ [])
+  marked-more =
+      let bytes_more = length-append bytes reply in
+      let marks_more = length-append marks (m ∷ []) in
+      record {
+        all = λ k past.
+            let earlier = (gone-back marks (m ∷ []) k (are.all k (omega (arith, past, bytes_more)))).0 in
+            let last = one-within m k (omega (arith, past, bytes_more, ends)) in
+            omega (arith, earlier, last, marks_more);
+        some = λ k less. ⊎_elim
+            (λ (front : k < length bytes).
+            let some = are.some k front in
+            let same = (gone-front marks (m ∷ []) k some).0 in
+            omega (arith, some, same, marks_more))
+            (λ (back : length bytes ≤ k).
+            let earlier = (gone-back marks (m ∷ []) k (are.all k back)).0 in
+            let last = (one-past m k (omega (arith, less, bytes_more, ends))).0 in
+            omega (arith, earlier, last, marks_more))
+            (cases_lt k (length bytes));
+      }
+
+-- known bytes, and some behind them
+known-append : (known : Option (List ℕ)) (bytes more : List ℕ)
+    → Appends (append_known known bytes) (append_known known (bytes ++ more)) more
+known-append None bytes more = tt
+known-append (Some xs) bytes more = sym (append_assoc xs bytes more)
+
+-- some bytes were put, of which the first are counted before
+known-behind : (known written : Option (List ℕ)) (bytes more : List ℕ) → Appends known written (bytes ++ more)
+    → Appends (append_known known bytes) written more
+known-behind None written bytes more puts = tt
+known-behind (Some xs) None bytes more puts = absurd puts
+known-behind (Some xs) (Some ys) bytes more puts = puts ∙ sym (append_assoc xs bytes more)
+
+-- with no byte more known bytes are as they were
+pub none-appends : (known : Option (List ℕ)) → Appends known (append_known known []) []
+none-appends None = tt
+none-appends (Some xs) = refl
+
+-- what was to be put is out, and nothing waits
+pub kept-none : (first known written : Option (List ℕ)) (bytes : List ℕ) → Appends first known bytes
+    → Keeps known (append_known written []) → Appends first written bytes
+kept-none None known written bytes puts same = tt
+kept-none (Some xs) None written bytes puts same = absurd puts
+kept-none (Some xs) (Some ys) None bytes puts same = absurd same
+kept-none (Some xs) (Some ys) (Some zs) bytes puts same = sym (append-nil zs) ∙ same ∙ puts
+
+-- A reply more waits, and nothing is put.
+module _ (written : Option (List ℕ)) (sent : Sent) (bytes reply : List ℕ) (marks : List Mark) (m : Mark)
+    (are : AreMarked bytes marks) (ends : m.end ≡ length bytes + length reply) where
+  -- what waits before and after
+  abbrev before : WaitingState
+  before = record { bytes = bytes; marks = marks }
+
+  abbrev after : WaitingState
+  after = record { bytes = bytes ++ reply; marks = marks ++ m ∷ [] }
+
+  -- the reply is out with what waits
+  added-whole : PutsReply (holds_with written before) (holds_with written after) (sent_with sent before)
+      (sent_with sent after) reply
+  added-whole = record {
+    writes = known-append written bytes reply;
+    lines = ap (kept_sum sent.lines) (length-append marks (m ∷ [])) ∙ sym (kept_sum-twice sent.lines (length marks) 1);
+    bytes_sent = ap (kept_sum sent.bytes) (length-append bytes reply)
+        ∙ sym (kept_sum-twice sent.bytes (length bytes) (length reply));
+  }
+
+  -- the output may fail within a reply before
+  added-front : (stop : Stop) (at : IsStop written sent after stop) → at.place < length bytes
+      → IsStop written sent before stop
+  added-front stop at front =
+      let same = gone-front marks (m ∷ []) at.place (are.some at.place front) in
+      record {
+        place = at.place;
+        within = front;
+        writes = subst (Appends written stop.written)
+            (take-append-le at.place bytes reply (omega (arith, front))) at.writes;
+        lines = at.lines ∙ ap (kept_sum sent.lines) same.0;
+        bytes = at.bytes;
+        counts = at.counts ∙ same.1;
+      }
+
+  -- the output may fail within the reply
+  added-back : (stop : Stop) (at : IsStop written sent after stop) → length bytes ≤ at.place
+      → CutsReply (holds_with written before) (sent_with sent before) reply m.counts stop
+  added-back stop at back =
+      let n = at.place - length bytes in
+      let within = at.within in
+      let both = length-append bytes reply in
+      let place : at.place ≡ length bytes + n = omega (arith, back) in
+      let same = gone-back marks (m ∷ []) at.place (are.all at.place back) in
+      let past = one-past m at.place (omega (arith, within, both, ends)) in
+      let none = past.0 in
+      let gone_all : gone (marks ++ m ∷ []) at.place ≡ length marks = (let all = same.0 in omega (arith, all, none)) in
+      let len = length-take-le n reply (omega (arith, within, both)) in
+      let left = length-drop n reply in
+      record {
+        puts = record {
+          part = take n reply;
+          missing = drop n reply;
+          whole = sym (take-append-drop n reply);
+          proper = omega (arith, left, within, both, back);
+          puts = record {
+            writes = known-behind written stop.written bytes (take n reply)
+                (subst (Appends written stop.written)
+                (ap (λ k. take k (bytes ++ reply)) place ∙ take-append-add bytes reply n) at.writes);
+            lines = at.lines ∙ ap (kept_sum sent.lines) gone_all;
+            bytes_sent = at.bytes ∙ ap (kept_sum sent.bytes) place
+                ∙ sym (kept_sum-twice sent.bytes (length bytes) n)
+                ∙ ap (kept_sum (kept_sum sent.bytes (length bytes))) (sym len);
+          };
+        };
+        same = at.counts ∙ same.1 ∙ past.1;
+      }
+
+  -- so the reply is sent
+  pub sends-added : Sends written written sent sent before after reply m.counts
+  sends-added = record {
+    whole = added-whole;
+    stops = λ stop at. ⊎_elim (λ (front : at.place < length bytes). inl (added-front stop at front))
+        (λ (back : length bytes ≤ at.place). inr (added-back stop at back)) (cases_lt at.place (length bytes));
+  }
+
+-- all stayed, and nothing waits after it
+pub stays-none : (w0 w1 : Option (List ℕ)) (s0 s1 : Sent) (b0 b1 : WaitingState) → b1 ≡ none_wait
+    → Stays w0 w1 s0 s1 b0 b1 → Stays w0 w1 s0 s1 b0 none_wait
+stays-none w0 w1 s0 s1 b0 b1 none stays = subst (λ (b : WaitingState). Stays w0 w1 s0 s1 b0 b) none stays
+
+-- a reply came, and then all stayed with what waits
+pub sends-stays : (w0 w1 w2 : Option (List ℕ)) (s0 s1 s2 : Sent) (b0 b1 b2 : WaitingState) (reply : List ℕ)
+    (counts : Counts) → Sends w0 w1 s0 s1 b0 b1 reply counts → Stays w1 w2 s1 s2 b1 b2
+    → Sends w0 w2 s0 s2 b0 b2 reply counts
+sends-stays w0 w1 w2 s0 s1 s2 b0 b1 b2 reply counts sends stays = record {
+  whole = record {
+    writes = Appends-kept (holds_with w0 b0) (holds_with w1 b1) (holds_with w2 b2) reply sends.whole.writes
+        stays.holds;
+    lines = ap (λ (s : Sent). s.lines) stays.sends ∙ sends.whole.lines;
+    bytes_sent = ap (λ (s : Sent). s.bytes) stays.sends ∙ sends.whole.bytes_sent;
+  };
+  stops = λ stop at. sends.stops stop (stays.stops stop at);
+}
+
+-- The fields of an outbox after a reply more.
+module _ (len count : ℕ) (old new reply : List ℕ) (marks : List Mark) (m : Mark)
+    (wrote : take (len + length reply) new ≡ take len old ++ reply) (some : count < length marks)
+    (fits : len ≤ length old) (ends : m.end ≡ len + length reply) where
+  -- what waits after it
+  abbrev waits-more : WaitingState
+  waits-more = record {
+    bytes = take (len + length reply) new;
+    marks = take (count + 1) (set marks count m);
+  }
+
+  -- its parts
+  waits-is : waits-more ≡ record { bytes = take len old ++ reply; marks = take count marks ++ m ∷ [] }
+  waits-is = λ i. record { bytes = wrote i; marks = take_more_set marks count m some i }
+
+  -- where it ends
+  ends-behind : m.end ≡ length (take len old) + length reply
+  ends-behind = let front = length-take-le len old fits in omega (arith, front, ends)
+
+  -- its mark stands behind the others
+  pub marked-added : AreMarked (take len old) (take count marks) → AreMarked (take (len + length reply) new)
+      (take (count + 1) (set marks count m))
+  marked-added are = subst (λ (w : WaitingState). AreMarked w.bytes w.marks) (sym waits-is)
+      (marked-more (take len old) reply (take count marks) m are ends-behind)
+
+  -- the reply is sent
+  pub sends-more : (waits : WaitingState) → record { bytes = take len old; marks = take count marks } ≡ waits
+      → AreMarked (take len old) (take count marks) → (written : Option (List ℕ)) (sent : Sent)
+      → Sends written written sent sent waits waits-more reply m.counts
+  sends-more waits is are written sent =
+      subst (λ (b : WaitingState). Sends written written sent sent b waits-more reply m.counts) is
+      (subst (λ (w : WaitingState). Sends written written sent sent
+      (record { bytes = take len old; marks = take count marks }) w reply m.counts) (sym waits-is)
+      (sends-added written sent (take len old) reply (take count marks) m are ends-behind))

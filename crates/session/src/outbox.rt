@@ -1,0 +1,260 @@
+//! Replies that wait, so that those of many lines go out in one call of the output.
+ghost use Rattle.std.specs.Prelude.{◌≡◌, ◌+◌, ◌<◌, ◌≤◌, ◌++◌, true, length, take, OnOk, IfErr, Option, List, ℕ};
+ghost use Rattle.std.specs.Io.KnownBytes.{append_known};
+ghost use Rattle.gtp_io.specs.Outside.{IsCounted};
+ghost use Rattle.run_notes.specs.declared.notes.Sent.{Sent};
+ghost use Rattle.session.specs.Tallies.{kept_sum};
+ghost use Rattle.session.specs.Serving.{Puts, PutsFront, PutsReply};
+ghost use Rattle.session.specs.Waiting.{none_wait, outbox_room, most_marks, gone, counts_at, CutsReply, IsStop, MayStop, Sends, Stays};
+
+use gtp_io::Sink;
+use run_notes::{Counts, Sent};
+use std::marker::Model;
+
+/// How many bytes may wait.
+const ROOM: usize = 4096;
+
+/// How many replies may wait.
+const MOST_MARKS: usize = 128;
+
+/// Where a reply that waits ends, and what was counted up to and with its line.
+#[derive(Clone, Copy)]
+pub(crate) struct Mark {
+    /// How many bytes wait up to its end.
+    pub(crate) end: usize,
+    /// The counts after its line.
+    pub(crate) counts: Counts,
+}
+
+/// No reply's mark.
+const NO_MARK: Mark = Mark {
+    end: 0,
+    counts: Counts {
+        readings: 0,
+        fresh: 0,
+        trials: 0,
+        refused: 0,
+    },
+};
+
+/// Replies that wait to be put on an output, in their order, seen as their bytes and their marks.
+#[derive(Drop)]
+pub(crate) struct Outbox {
+    bytes: [u8; ROOM],
+    len: usize,
+    marks: [Mark; MOST_MARKS],
+    count: usize,
+}
+
+impl Model for Outbox {
+    ghost use Rattle.std.specs.Prelude.{◌≤◌, take};
+    ghost use Rattle.session.specs.Waiting.{WaitingState, AreMarked, outbox_room, most_marks};
+
+    ghost Value = { WaitingState };
+
+    ghost view = { λ b. record { bytes = take b.len b.bytes; marks = take b.count b.marks } };
+
+    ghost invariant = { λ b. (b.len ≤ outbox_room) × (b.count ≤ most_marks)
+        × AreMarked (take b.len b.bytes) (take b.count b.marks) };
+}
+
+/// A count after n more; it stands still at the greatest value of a u64.
+fn added(count: u64, n: u64) -> u64
+    ensures { result ≡ kept_sum count n }
+{
+    count.saturating_add(n)
+}
+
+/// Puts all the bytes, and counts them, or says how many went out before the sink failed.
+fn put_all<K: Sink>(output: &mut K, bytes: &[u8], sent: &mut Sent) -> Result<(), usize>
+    ensures ok { OnOk result (Puts (K.written output.old) (K.written output.new) sent.old sent.new bytes.now) }
+    ensures part { IfErr result
+        (λ n. PutsFront (K.written output.old) (K.written output.new) sent.old sent.new bytes.now n) }
+    ensures cause { IsCounted (K.faults output.old) (K.faults output.new) result }
+{
+    let mut done = 0;
+    while done < bytes.len() {
+        match output.put(&bytes[done..]) {
+            Ok(count) => {
+                sent.bytes = added(sent.bytes, count as u64);
+                done += count;
+            }
+            Err(_) => return Err(done),
+        }
+    }
+    Ok(())
+}
+
+/// How many of the marks end within the first `place` bytes, and the counts of the first that does not.
+fn cut_at(marks: &[Mark], place: usize) -> (usize, Counts)
+    ensures gone { result.0 ≡ gone marks.now place }
+    ensures counts { result.1 ≡ counts_at marks.now place }
+{
+    for (at, mark) in marks.iter().enumerate() {
+        if place < mark.end {
+            return (at, mark.counts);
+        }
+    }
+    (marks.len(), NO_MARK.counts)
+}
+
+/// Writes a text over the bytes from a place on.
+fn write_at(bytes: &mut [u8], place: usize, more: &[u8])
+    requires { place + length more.now ≤ length bytes.old }
+    ensures { take (place + length more.now) bytes.new ≡ take place bytes.old ++ more.now }
+{
+    bytes[place..place + more.len()].copy_from_slice(more);
+}
+
+/// Puts a reply behind no other, and counts it where it went out whole.
+fn put_directly<K: Sink>(
+    reply: &[u8],
+    counts: Counts,
+    output: &mut K,
+    sent: &mut Sent,
+) -> Result<(), Counts>
+    ensures ok { OnOk result (PutsReply (K.written output.old) (K.written output.new) sent.old sent.new reply.now) }
+    ensures part { IfErr result (λ noted. CutsReply (K.written output.old) sent.old reply.now counts
+        (record { written = K.written output.new; sent = sent.new; counts = noted })) }
+    ensures cause { IsCounted (K.faults output.old) (K.faults output.new) result }
+{
+    match put_all(output, reply, sent) {
+        Ok(()) => {
+            sent.lines = added(sent.lines, 1);
+            Ok(())
+        }
+        Err(_) => Err(counts),
+    }
+}
+
+impl Outbox {
+    /// No reply waits.
+    pub(crate) fn new() -> Outbox
+        ensures { result ≡ none_wait }
+    {
+        Outbox {
+            bytes: [0; ROOM],
+            len: 0,
+            marks: [NO_MARK; MOST_MARKS],
+            count: 0,
+        }
+    }
+
+    /// Whether a reply of so many bytes may wait too.
+    fn has_room(&self, n: usize) -> bool
+        ensures { result ≡ true → (length self.now.bytes + n ≤ outbox_room)
+            × (length self.now.marks < most_marks) }
+    {
+        self.count < MOST_MARKS && n <= ROOM - self.len
+    }
+
+    /// A reply more waits, with the counts after its line.
+    fn add(&mut self, reply: &[u8], counts: Counts)
+        requires bytes { length self.old.bytes + length reply.now ≤ outbox_room }
+        requires marks { length self.old.marks < most_marks }
+        ensures { (written : Option (List ℕ)) (sent : Sent)
+            → Sends written written sent sent self.old self.new reply.now counts }
+    {
+        write_at(&mut self.bytes, self.len, reply);
+        self.len += reply.len();
+        self.marks[self.count] = Mark {
+            end: self.len,
+            counts,
+        };
+        self.count += 1;
+    }
+
+    /// Puts what waits, or says what was counted up to and with the line whose reply broke off.
+    pub(crate) fn flush<K: Sink>(&mut self, output: &mut K, sent: &mut Sent) -> Result<(), Counts>
+        ensures ok { OnOk result (Stays (K.written output.old) (K.written output.new) sent.old sent.new self.old
+            self.new) }
+        ensures none { OnOk result (self.new ≡ none_wait) }
+        ensures part { IfErr result (λ noted. IsStop (K.written output.old) sent.old self.old
+            (record { written = K.written output.new; sent = sent.new; counts = noted })) }
+        ensures cause { IsCounted (K.faults output.old) (K.faults output.new) result }
+    {
+        match put_all(output, &self.bytes[..self.len], sent) {
+            Ok(()) => {
+                sent.lines = added(sent.lines, self.count as u64);
+                self.len = 0;
+                self.count = 0;
+                Ok(())
+            }
+            Err(place) => {
+                let (gone, counts) = cut_at(&self.marks[..self.count], place);
+                sent.lines = added(sent.lines, gone as u64);
+                Err(counts)
+            }
+        }
+    }
+
+    /// Puts what waits, if no reply of so many bytes may wait behind it.
+    fn make_room<K: Sink>(
+        &mut self,
+        n: usize,
+        output: &mut K,
+        sent: &mut Sent,
+    ) -> Result<(), Counts>
+        ensures ok { OnOk result (Stays (K.written output.old) (K.written output.new) sent.old sent.new self.old
+            self.new) }
+        ensures room { OnOk result (n ≤ outbox_room → (length self.new.bytes + n ≤ outbox_room)
+            × (length self.new.marks < most_marks)) }
+        ensures none { OnOk result (outbox_room < n → self.new ≡ none_wait) }
+        ensures part { IfErr result (λ noted. IsStop (K.written output.old) sent.old self.old
+            (record { written = K.written output.new; sent = sent.new; counts = noted })) }
+        ensures cause { IsCounted (K.faults output.old) (K.faults output.new) result }
+    {
+        if self.has_room(n) {
+            return Ok(());
+        }
+        self.flush(output, sent)
+    }
+
+    /// A reply that may wait waits, and is put at once with what waits where `now` says so.
+    fn keep<K: Sink>(
+        &mut self,
+        reply: &[u8],
+        counts: Counts,
+        now: bool,
+        output: &mut K,
+        sent: &mut Sent,
+    ) -> Result<(), Counts>
+        requires bytes { length self.old.bytes + length reply.now ≤ outbox_room }
+        requires marks { length self.old.marks < most_marks }
+        ensures ok { OnOk result (Sends (K.written output.old) (K.written output.new) sent.old sent.new self.old
+            self.new reply.now counts) }
+        ensures part { IfErr result (λ noted. MayStop (K.written output.old) sent.old self.old reply.now counts
+            (record { written = K.written output.new; sent = sent.new; counts = noted })) }
+        ensures cause { IsCounted (K.faults output.old) (K.faults output.new) result }
+    {
+        self.add(reply, counts);
+        if now {
+            return self.flush(output, sent);
+        }
+        Ok(())
+    }
+
+    /// Takes a reply behind those that wait, with the counts after its line. What waits is put before it where there
+    /// is no room for it, and with it where `now` says so.
+    pub(crate) fn put<K: Sink>(
+        &mut self,
+        reply: &[u8],
+        counts: Counts,
+        now: bool,
+        output: &mut K,
+        sent: &mut Sent,
+    ) -> Result<(), Counts>
+        ensures ok { OnOk result (Sends (K.written output.old) (K.written output.new) sent.old sent.new self.old
+            self.new reply.now counts) }
+        ensures part { IfErr result (λ noted. MayStop (K.written output.old) sent.old self.old reply.now counts
+            (record { written = K.written output.new; sent = sent.new; counts = noted })) }
+        ensures cause { IsCounted (K.faults output.old) (K.faults output.new) result }
+    {
+        self.make_room(reply.len(), output, sent)?;
+        if reply.len() <= ROOM {
+            self.keep(reply, counts, now, output, sent)
+        } else {
+            put_directly(reply, counts, output, sent)
+        }
+    }
+}
