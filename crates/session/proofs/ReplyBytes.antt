@@ -129,7 +129,8 @@ module _ (matcher : Matcher) (old new now : Kept) (same : now ≡ new) (line : R
       readings read))
 
   -- its bytes were sent
-  pub turn-whole : (w1 : Option (List ℕ)) (s1 : Sent) (b1 : WaitingState) (sent : List ℕ) (counts : Counts) → sent ≡ reply_bytes reply → reply_count (reply_bytes reply) ≡ 1
+  pub turn-whole : (w1 : Option (List ℕ)) (s1 : Sent) (b1 : WaitingState) (sent : List ℕ) (counts : Counts)
+      → sent ≡ reply_bytes reply → reply_count (reply_bytes reply) ≡ 1
       → Sends w0 w1 s0 s1 b0 b1 sent counts
       → RunsTo (step matcher) IsAfterLine (machine_of old) (line ∷ []) (machine_of now) (reply_ends reply)
       (progress_with w0 old s0 b0) (progress_with w1 now s1 b1)

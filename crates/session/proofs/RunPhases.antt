@@ -48,8 +48,8 @@ sent-told (Some n) sent tally lines bytes = (lines, bytes)
 -- the files were opened, and the session served the lines
 pub came-served : (helpers : List SlotState) (contents : List ℕ → Option (List ℕ)) (options : Options)
     (session : Kept) (matcher : Matcher) (lines : LinesState)
-    (before after : Streams) (end : End) (counts : Counts) (w0 w1 : Option (List ℕ)) (sent : Sent) (told : Option Counts)
-    (noted : Option Sent)
+    (before after : Streams) (end : End) (counts : Counts) (w0 w1 : Option (List ℕ)) (sent : Sent)
+    (told : Option Counts) (noted : Option Sent)
     (phase : Phase) → Opens helpers contents options session matcher lines
     → EndsCounting options.generate (step matcher) IsAfterLine (machine_of session) before after end counts
     (progress_of w0 session (record { lines = 0; bytes = 0 })) w1 sent

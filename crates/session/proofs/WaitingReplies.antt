@@ -1,7 +1,7 @@
 -- Replies that wait: one more of them, and how they go out or break off.
 use Rattle.std.proofs.Common.{◌≡◌, ⊎_elim, inl, inr, ℕ, suc, ◌+◌, ◌-◌, ◌<◌, ◌≤◌, Bool, true, false, cond, nat_le, List, [], ◌∷◌, ◌++◌, length, take, drop, Option, Some, None, Result, Ok, Err, OnOk, IfErr, IsErrAnd, refl, sym, ap, subst, ◌∙◌, append_assoc, append-nil, take-append-drop, take-add, length-append, le-leb, set, arith}
 use Rattle.std.specs.Io.KnownBytes.{Appends, Keeps, append_known}
-use Rattle.std.proofs.KnownBytes.{Appends-trans, Appends-kept, Keeps-refl}
+use Rattle.std.proofs.KnownBytes.{Appends-trans, Appends-kept}
 use Rattle.std.proofs.lemmas.Bool.{cases_lt, lt-leb}
 use Rattle.std.proofs.lemmas.List.{take_more_set, take_rest, take-append-le, length-take-le, length-drop}
 use Rattle.std.proofs.Math.Seq.{take-append-add}
@@ -10,7 +10,7 @@ use Rattle.run_notes.specs.declared.notes.Sent.{Sent}
 use Rattle.session.specs.Kept.{no_counts}
 use Rattle.session.specs.Tallies.{kept_sum}
 use Rattle.session.specs.Serving.{Puts, PutsFront, PutsPart, PutsReply}
-use Rattle.session.specs.Waiting.{WaitingState, none_wait, gone, counts_at, AreMarked, holds_with, sent_with, Stop, IsStop, CutsReply, MayStop, Stays, Sends}
+use Rattle.session.specs.Waiting.{WaitingState, none_wait, gone, counts_at, AreMarked, holds_with, sent_with, Stop, IsStop, CutsReply, Stays, Sends}
 use Rattle.session.specs.declared.outbox.Mark.{Mark}
 use Rattle.session.proofs.TallyLemmas.{kept_sum-twice}
 
@@ -119,10 +119,6 @@ one-within : (m : Mark) (k : ℕ) → m.end ≤ k → gone (m ∷ []) k ≡ 1
 one-within m k within =
     let test : nat_le m.end k ≡ true = le-leb m.end k within in ap (λ b. cond b (suc 0) 0) test
 
--- no reply waits
-pub marked-none : AreMarked [] []
-marked-none = record { all = λ k _. refl; some = λ k less. absurd (omega (arith, less)) }
-
 -- A reply more waits.
 module _ (bytes reply : List ℕ) (marks : List Mark) (m : Mark) (are : AreMarked bytes marks)
     (ends : m.end ≡ length bytes + length reply) where
@@ -161,20 +157,6 @@ known-behind None written bytes more puts = tt
 known-behind (Some xs) None bytes more puts = absurd puts
 known-behind (Some xs) (Some ys) bytes more puts = puts ∙ sym (append_assoc xs bytes more)
 
--- what waited was put
-known-put : (known written : Option (List ℕ)) (bytes : List ℕ) → Appends known written bytes
-    → Keeps (append_known known bytes) (append_known written [])
-known-put None written bytes puts = tt
-known-put (Some xs) None bytes puts = absurd puts
-known-put (Some xs) (Some ys) bytes puts = append-nil ys ∙ puts
-
--- with no byte more it is the same
-known-none : (known written : Option (List ℕ)) (bytes : List ℕ) → Appends known written bytes
-    → Appends (append_known known []) (append_known written []) bytes
-known-none None written bytes puts = tt
-known-none (Some xs) None bytes puts = absurd puts
-known-none (Some xs) (Some ys) bytes puts = append-nil ys ∙ puts ∙ ap (λ l. l ++ bytes) (sym (append-nil xs))
-
 -- with no byte more known bytes are as they were
 pub none-appends : (known : Option (List ℕ)) → Appends known (append_known known []) []
 none-appends None = tt
@@ -187,13 +169,6 @@ kept-none None known written bytes puts same = tt
 kept-none (Some xs) None written bytes puts same = absurd puts
 kept-none (Some xs) (Some ys) None bytes puts same = absurd same
 kept-none (Some xs) (Some ys) (Some zs) bytes puts same = sym (append-nil zs) ∙ same ∙ puts
-
--- known bytes that stayed grew
-pub kept-appends : (a b c : Option (List ℕ)) (bytes : List ℕ) → Keeps a b → Appends b c bytes → Appends a c bytes
-kept-appends None b c bytes same puts = tt
-kept-appends (Some xs) None c bytes same puts = absurd same
-kept-appends (Some xs) (Some ys) None bytes same puts = absurd puts
-kept-appends (Some xs) (Some ys) (Some zs) bytes same puts = puts ∙ ap (λ l. l ++ bytes) same
 
 -- A reply more waits, and nothing is put.
 module _ (written : Option (List ℕ)) (sent : Sent) (bytes reply : List ℕ) (marks : List Mark) (m : Mark)
@@ -271,92 +246,10 @@ module _ (written : Option (List ℕ)) (sent : Sent) (bytes reply : List ℕ) (m
         (λ (back : length bytes ≤ at.place). inr (added-back stop at back)) (cases_lt at.place (length bytes));
   }
 
--- nothing waits, so the output cannot fail within it
-none-stops : (written : Option (List ℕ)) (sent : Sent) (stop : Stop) → IsStop written sent none_wait stop → ⊥
-none-stops written sent stop at = let within = at.within in omega (arith, within)
-
 -- all stayed, and nothing waits after it
 pub stays-none : (w0 w1 : Option (List ℕ)) (s0 s1 : Sent) (b0 b1 : WaitingState) → b1 ≡ none_wait
     → Stays w0 w1 s0 s1 b0 b1 → Stays w0 w1 s0 s1 b0 none_wait
 stays-none w0 w1 s0 s1 b0 b1 none stays = subst (λ (b : WaitingState). Stays w0 w1 s0 s1 b0 b) none stays
-
--- nothing was put
-pub stays-same : (w : Option (List ℕ)) (s : Sent) (b : WaitingState) → Stays w w s s b b
-stays-same w s b = record { holds = Keeps-refl (holds_with w b); sends = refl; stops = λ stop at. at }
-
--- what waits was put
-pub stays-put : (w0 w1 : Option (List ℕ)) (s0 s1 : Sent) (lines count : ℕ) (b : WaitingState) → Puts w0 w1 s0 s1 b.bytes
-    → lines ≡ kept_sum s1.lines count → count ≡ length b.marks
-    → Stays w0 w1 s0 (record { lines = lines; bytes = s1.bytes }) b none_wait
-stays-put w0 w1 s0 s1 lines count b puts counted all = record {
-  holds = known-put w0 w1 b.bytes puts.writes;
-  sends = λ i. record {
-    lines = (counted ∙ ap (λ k. kept_sum k count) puts.lines ∙ ap (kept_sum s0.lines) all) i;
-    bytes = puts.bytes_sent i;
-  };
-  stops = λ stop at. absurd (none-stops w1 (record { lines = lines; bytes = s1.bytes }) stop at);
-}
-
--- what waits was put in part
-pub stop-put : (w0 w1 : Option (List ℕ)) (s0 s1 : Sent) (lines ended n : ℕ) (counts : Counts) (b : WaitingState)
-    → PutsFront w0 w1 s0 s1 b.bytes n → lines ≡ kept_sum s1.lines ended → ended ≡ gone b.marks n
-    → counts ≡ counts_at b.marks n
-    → IsStop w0 s0 b (record { written = w1; sent = record { lines = lines; bytes = s1.bytes }; counts = counts })
-stop-put w0 w1 s0 s1 lines ended n counts b part counted which noted =
-    let within = part.within in
-    record {
-      place = n;
-      within = part.within;
-      writes = part.puts.writes;
-      lines = counted ∙ ap (λ k. kept_sum k ended) part.puts.lines ∙ ap (kept_sum s0.lines) which;
-      bytes = part.puts.bytes_sent ∙ ap (kept_sum s0.bytes) (length-take-le n b.bytes (omega (arith, within)));
-      counts = noted;
-    }
-
--- a reply broke off that goes out behind what stays
-cuts-later : (h0 h1 : Option (List ℕ)) (s0 s1 : Sent) (reply : List ℕ) (counts : Counts) (stop : Stop) → Keeps h0 h1
-    → s1 ≡ s0 → CutsReply h1 s1 reply counts stop → CutsReply h0 s0 reply counts stop
-cuts-later h0 h1 s0 s1 reply counts stop holds same cuts =
-    let moved = subst (λ s. CutsReply h1 s reply counts stop) same cuts in
-    record {
-      puts = record {
-        part = moved.puts.part;
-        missing = moved.puts.missing;
-        whole = moved.puts.whole;
-        proper = moved.puts.proper;
-        puts = record {
-          writes = kept-appends h0 h1 stop.written moved.puts.part holds moved.puts.puts.writes;
-          lines = moved.puts.puts.lines;
-          bytes_sent = moved.puts.puts.bytes_sent;
-        };
-      };
-      same = moved.same;
-    }
-
--- All stayed with what waits, and then a reply came.
-module _ (w0 w1 : Option (List ℕ)) (s0 s1 : Sent) (b0 b1 : WaitingState) (reply : List ℕ) (counts : Counts)
-    (stays : Stays w0 w1 s0 s1 b0 b1) where
-  -- where the output may fail after it
-  pub stays-stop : (stop : Stop) → MayStop w1 s1 b1 reply counts stop → MayStop w0 s0 b0 reply counts stop
-  stays-stop stop may = ⊎_elim (λ (at : IsStop w1 s1 b1 stop). inl (stays.stops stop at))
-      (λ (cuts : CutsReply (holds_with w1 b1) (sent_with s1 b1) reply counts stop).
-      inr (cuts-later (holds_with w0 b0) (holds_with w1 b1) (sent_with s0 b0) (sent_with s1 b1) reply counts stop
-      stays.holds stays.sends cuts)) may
-
-  -- the reply was sent
-  pub stays-sends : (w2 : Option (List ℕ)) (s2 : Sent) (b2 : WaitingState) → Sends w1 w2 s1 s2 b1 b2 reply counts
-      → Sends w0 w2 s0 s2 b0 b2 reply counts
-  stays-sends w2 s2 b2 sends =
-      let whole = subst (λ s. PutsReply (holds_with w1 b1) (holds_with w2 b2) s (sent_with s2 b2) reply) stays.sends
-      sends.whole in
-      record {
-        whole = record {
-          writes = kept-appends (holds_with w0 b0) (holds_with w1 b1) (holds_with w2 b2) reply stays.holds whole.writes;
-          lines = whole.lines;
-          bytes_sent = whole.bytes_sent;
-        };
-        stops = λ stop at. stays-stop stop (sends.stops stop at);
-      }
 
 -- a reply came, and then all stayed with what waits
 pub sends-stays : (w0 w1 w2 : Option (List ℕ)) (s0 s1 s2 : Sent) (b0 b1 b2 : WaitingState) (reply : List ℕ)
@@ -371,37 +264,6 @@ sends-stays w0 w1 w2 s0 s1 s2 b0 b1 b2 reply counts sends stays = record {
   };
   stops = λ stop at. sends.stops stop (stays.stops stop at);
 }
-
--- A reply went out behind none that waits.
-module _ (w0 w1 : Option (List ℕ)) (s0 s1 : Sent) (reply : List ℕ) (counts : Counts) where
-  -- whole
-  pub sends-directly : PutsReply w0 w1 s0 s1 reply → Sends w0 w1 s0 s1 none_wait none_wait reply counts
-  sends-directly puts = record {
-    whole = record {
-      writes = known-none w0 w1 reply puts.writes;
-      lines = puts.lines;
-      bytes_sent = puts.bytes_sent;
-    };
-    stops = λ stop at. absurd (none-stops w1 s1 stop at);
-  }
-
-  -- in part
-  pub cuts-directly : (stop : Stop) → CutsReply w0 s0 reply counts stop
-      → CutsReply (holds_with w0 none_wait) (sent_with s0 none_wait) reply counts stop
-  cuts-directly stop cuts = record {
-    puts = record {
-      part = cuts.puts.part;
-      missing = cuts.puts.missing;
-      whole = cuts.puts.whole;
-      proper = cuts.puts.proper;
-      puts = record {
-        writes = known-behind w0 stop.written [] cuts.puts.part cuts.puts.puts.writes;
-        lines = cuts.puts.puts.lines;
-        bytes_sent = cuts.puts.puts.bytes_sent;
-      };
-    };
-    same = cuts.same;
-  }
 
 -- The fields of an outbox after a reply more.
 module _ (len count : ℕ) (old new reply : List ℕ) (marks : List Mark) (m : Mark)

@@ -47,7 +47,8 @@ returns-in_ok-put-in-Short-clause-stops g c = λ stop at.
 -- a reply that took memory broke off, or one before it
 pub returns-in_err-put-in-Text-clause-part : goal.returns-in_err-put-in-Text-clause-part
 returns-in_err-put-in-Text-clause-part g c =
-    passed_up c.from_residual-in_err-put-in-Text.result c.in_err-put-in-Text.field-0.0 _ c.from_residual-in_err-put-in-Text.ensures.1
+    passed_up c.from_residual-in_err-put-in-Text.result c.in_err-put-in-Text.field-0.0 _
+    c.from_residual-in_err-put-in-Text.ensures.1
     (turn-stop _ c.args.session.now.engine c.line-reply.new.self.engine c.took_long-now.new.self
     c.took_long-now.ensures (raw_line c.args.raw) (Text c.in-Text.bytes) c.in-Text.ensures.reply
     c.in-Text.ensures.readings c.in-Text.ensures.read (g.K.Sink.written c.args.output.now) c.args.sent.now
@@ -61,7 +62,8 @@ returns-in_ok-put-in-Text-clause-ok g c =
     c.took_long-now.ensures (raw_line c.args.raw) (Text c.in-Text.bytes) c.in-Text.ensures.reply
     c.in-Text.ensures.readings c.in-Text.ensures.read (g.K.Sink.written c.args.output.now) c.args.sent.now
     c.args.outbox.now
-    (g.K.Sink.written c.put-in-Text.new.output) c.put-in-Text.new.sent c.put-in-Text.new.self c.as_slice-in-Text.result.now c.stats-counts.result
+    (g.K.Sink.written c.put-in-Text.new.output) c.put-in-Text.new.sent c.put-in-Text.new.self
+    c.as_slice-in-Text.result.now c.stats-counts.result
     c.as_slice-in-Text.ensures (c.in-Text.ensures.bytes (λ e. cc)) c.in_ok-put-in-Text.ensures.ok
 
 -- the output may fail within a reply that took memory
@@ -77,12 +79,14 @@ returns-in_ok-put-in-Text-clause-stops g c = λ stop at.
 -- the refusal in place of a growing reply broke off, or one before it
 pub returns-in_err-put-in-NoMemory-clause-part : goal.returns-in_err-put-in-NoMemory-clause-part
 returns-in_err-put-in-NoMemory-clause-part g c =
-    passed_up c.from_residual-in_err-put-in-NoMemory.result c.in_err-put-in-NoMemory.field-0.0 _ c.from_residual-in_err-put-in-NoMemory.ensures.1
+    passed_up c.from_residual-in_err-put-in-NoMemory.result c.in_err-put-in-NoMemory.field-0.0 _
+    c.from_residual-in_err-put-in-NoMemory.ensures.1
     (turn-stop _ c.args.session.now.engine c.line-reply.new.self.engine c.took_long-now.new.self
     c.took_long-now.ensures (raw_line c.args.raw) (NoMemory c.in-NoMemory.id) c.in-NoMemory.ensures.reply
     c.in-NoMemory.ensures.readings c.in-NoMemory.ensures.read (g.K.Sink.written c.args.output.now) c.args.sent.now
     c.args.outbox.now c.as_slice-in-NoMemory.result.now
-    c.stats-counts.result _ (c.as_slice-in-NoMemory.ensures ∙ c.refusal-text.ensures) c.stats-counts.ensures c.in_err-put-in-NoMemory.ensures.part)
+    c.stats-counts.result _ (c.as_slice-in-NoMemory.ensures ∙ c.refusal-text.ensures) c.stats-counts.ensures
+    c.in_err-put-in-NoMemory.ensures.part)
 
 -- the refusal in place of a growing reply is out or waits
 pub returns-in_ok-put-in-NoMemory-clause-ok : goal.returns-in_ok-put-in-NoMemory-clause-ok
@@ -91,8 +95,10 @@ returns-in_ok-put-in-NoMemory-clause-ok g c =
     c.took_long-now.ensures (raw_line c.args.raw) (NoMemory c.in-NoMemory.id) c.in-NoMemory.ensures.reply
     c.in-NoMemory.ensures.readings c.in-NoMemory.ensures.read (g.K.Sink.written c.args.output.now) c.args.sent.now
     c.args.outbox.now
-    (g.K.Sink.written c.put-in-NoMemory.new.output) c.put-in-NoMemory.new.sent c.put-in-NoMemory.new.self c.as_slice-in-NoMemory.result.now c.stats-counts.result
-    (c.as_slice-in-NoMemory.ensures ∙ c.refusal-text.ensures) (c.in-NoMemory.ensures.bytes (λ e. cc)) c.in_ok-put-in-NoMemory.ensures.ok
+    (g.K.Sink.written c.put-in-NoMemory.new.output) c.put-in-NoMemory.new.sent c.put-in-NoMemory.new.self
+    c.as_slice-in-NoMemory.result.now c.stats-counts.result
+    (c.as_slice-in-NoMemory.ensures ∙ c.refusal-text.ensures) (c.in-NoMemory.ensures.bytes (λ e. cc))
+    c.in_ok-put-in-NoMemory.ensures.ok
 
 -- the output may fail within the refusal in place of a growing reply
 pub returns-in_ok-put-in-NoMemory-clause-stops : goal.returns-in_ok-put-in-NoMemory-clause-stops

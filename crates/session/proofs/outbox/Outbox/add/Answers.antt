@@ -11,7 +11,8 @@ invariant_of-self c =
       search rules,
       search rules,
       marked-added c.self.inside.len c.self.inside.count c.self.inside.bytes
-          c.write_at.new.bytes c.args.reply.now c.self.inside.marks _ c.write_at.ensures room fits refl c.self.invariant.2,
+          c.write_at.new.bytes c.args.reply.now c.self.inside.marks _ c.write_at.ensures room fits refl
+          c.self.invariant.2,
     )
 
 -- the reply is sent
