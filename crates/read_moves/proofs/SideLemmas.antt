@@ -1,37 +1,19 @@
--- A stone with two empty sides has two liberties at least.
-use Rattle.std.proofs.Common.{◌≡◌, ◌≢◌, ℕ, ◌+◌, ◌*◌, ◌/◌, ◌%◌, ◌<◌, ◌||◌, ◌&&◌, Bool, true, false, eqb, ltb, Result, Ok, Err, List, refl, sym, ap, subst, arith, inl, inr, ◌∙◌}
-use Rattle.std.proofs.lemmas.Bool.{cases_Bool, cases_eq, or_cases, eqb-true, and_parts, ltb-true}
+-- The empty sides of a point.
+use Rattle.std.proofs.Common.{◌≡◌, ℕ, ◌+◌, ◌*◌, ◌/◌, ◌%◌, ◌<◌, ◌||◌, ◌&&◌, Bool, true, false, eqb, ltb, List, refl, sym, ap, subst, arith, inl, inr, ◌∙◌}
+use Rattle.std.proofs.lemmas.Bool.{or_cases, eqb-true, and_parts, and_from, eq-eqb, lt-ltb, ltb-true}
 use Rattle.std.specs.Ordering.{nat_cmp}
 use Rattle.std.specs.FinSet as sets
 use Rattle.go_rules.specs.declared.Cell.{Cell}
-use Rattle.go_rules.specs.declared.Colour.{Colour}
-use Rattle.go_rules.specs.declared.Illegal.{Illegal}
 use Rattle.go_rules.specs.Board.{are_neighbours, are_one_apart}
-use Rattle.go_rules.specs.Strings.{start, IsLiberty, is_liberty, liberties, liberty_points}
-use Rattle.go_rules.specs.Position.{BoardState}
-use Rattle.go_rules.specs.Play.{play_free}
-use Rattle.go_rules.proofs.Counts.{any_below_gives}
+use Rattle.go_rules.proofs.Counts.{any_below_gives, any_below_from}
 use Rattle.go_rules.proofs.Sets.{same_nat_set, contains-set_below, len-set_below}
 use Rattle.go_rules.specs.Below.{set_below, count_below}
-use Rattle.go_rules.proofs.Paths.{same_cell-true, is_liberty-from_fact}
-use Rattle.go_rules.proofs.PlayLaws.{others_stay, stone_after}
+use Rattle.go_rules.proofs.Paths.{same_cell-true, same_cell-from}
 use Rattle.go_base.specs.Views.{alone, neighbours_of}
-use Rattle.go_base.proofs.PointNeighbourhoods.{whole_self, close_next, close_again, alone_self}
+use Rattle.go_base.proofs.PointNeighbourhoods.{whole_self, close_next, close_again, close_mono, alone_self}
+use Rattle.go_rules.specs.Neighbourhood.{neighbourhood_of}
 use Rattle.trial_board.specs.Overlays.{neighbourhood_twice}
-use Rattle.go_base.proofs.LastLiberties.{contains-liberty_points}
-use Rattle.go_base.proofs.Liberties.{len-liberty_points}
-use Rattle.read_rules.specs.Candidates.{is_empty_beside, leaves_only, IsEmptyNeighbour}
-use Rattle.read_rules.proofs.CandidateLaws.{size_played, only_parts}
-use Rattle.read_moves.specs.Steps.{HasOther, HasOtherSide}
-use Rattle.read_moves.proofs.BackfillingLemmas.{one_member}
-
--- of two members of a set, one is not p
-pub one_is_other : (points : sets.FinSet nat_cmp) (a b p : ℕ) → a < b → sets.contains points a ≡ true
-    → sets.contains points b ≡ true → HasOther points p
-one_is_other points a b p less has_a has_b = elim (cases_eq a p) [
-  | inl e ↦ record { member = b; inside = has_b; other = λ same. omega (arith, less, e, same) }
-  | inr ne ↦ record { member = a; inside = has_a; other = ne }
-]
+use Rattle.read_rules.specs.Candidates.{is_empty_beside, IsEmptyNeighbour}
 
 -- the test for an empty neighbour of l
 pub side_gives : (s : ℕ) (cells : List Cell) (l x : ℕ) → is_empty_beside s cells (alone l) x ≡ true
@@ -48,18 +30,13 @@ side_gives s cells l x h =
       beside = subst (λ y. are_neighbours s y x ≡ true) (eqb-true k.0 l both.0) both.1;
     }
 
--- an empty neighbour of l is a liberty of a stone that is played there
-side_is_liberty : (pos : BoardState) (c : Colour) (l : ℕ) (new : BoardState) (x : ℕ) → l < pos.size * pos.size
-    → play_free pos c l ≡ Ok new → x ≢ l
-    → IsEmptyNeighbour pos.size pos.cells l x → IsLiberty pos.size new.cells l x
-side_is_liberty pos c l new x on legal ne side = record {
-  on_board = side.on_board;
-  is_empty = elim (others_stay pos c l new x legal side.on_board ne) [
-    | inl kept ↦ kept ∙ side.is_empty
-    | inr taken ↦ taken.1
-  ];
-  beside = (l, record { stone = stone_after pos c l new on legal; path = start }, side.beside);
-}
+-- and back
+pub side_from : (s : ℕ) (cells : List Cell) (l x : ℕ) → l < s * s → IsEmptyNeighbour s cells l x
+    → is_empty_beside s cells (alone l) x ≡ true
+unfolding is_empty_beside
+side_from s cells l x on side =
+    and_from _ _ (and_from _ _ (lt-ltb x (s * s) side.on_board) (same_cell-from _ _ side.is_empty))
+    (any_below_from (s * s) _ l on (and_from _ _ (eq-eqb l l refl) side.beside))
 
 -- no number is one apart from itself
 not_apart : (a : ℕ) → are_one_apart a a ≡ true → ⊥
@@ -69,43 +46,13 @@ not_apart a h = elim (or_cases _ _ h) [
 ]
 
 -- no point is its own neighbour
-not_its_own : (s l : ℕ) → are_neighbours s l l ≡ true → ⊥
+pub not_its_own : (s l : ℕ) → are_neighbours s l l ≡ true → ⊥
 unfolding are_neighbours
 not_its_own s l h = elim (or_cases (eqb (l / s) (l / s) && are_one_apart (l % s) (l % s))
     (eqb (l % s) (l % s) && are_one_apart (l / s) (l / s)) h) [
       | inl e ↦ not_apart (l % s) (and_parts (eqb (l / s) (l / s)) (are_one_apart (l % s) (l % s)) e).1
       | inr e ↦ not_apart (l / s) (and_parts (eqb (l % s) (l % s)) (are_one_apart (l / s) (l / s)) e).1
     ]
-
--- where a string has one liberty, two are the same
-same_liberty : (s : ℕ) (cells : List Cell) (l p x : ℕ) → liberties s cells l ≡ 1 → is_liberty s cells l p ≡ true
-    → is_liberty s cells l x ≡ true → x ≡ p
-same_liberty s cells l p x one its also = one_member (liberty_points s cells l) p x (len-liberty_points s cells l ∙ one)
-    (contains-liberty_points s cells l p ∙ its) (contains-liberty_points s cells l x ∙ also)
-
--- a stone that is played at a point with two empty sides has not p as its one liberty
-none_by_sides : (pos : BoardState) (c : Colour) (l p : ℕ) → l < pos.size * pos.size
-    → HasOtherSide pos.size pos.cells l p
-    → (r : Result BoardState Illegal) → play_free pos c l ≡ r → leaves_only l p r ≡ true → ⊥
-none_by_sides pos c l p on other (Err why) is h = cc
-none_by_sides pos c l p on other (Ok new) is h =
-    let side = other.is_side in
-    let apart : other.side ≢ l =
-    λ e. not_its_own pos.size l (subst (λ x. are_neighbours pos.size l x ≡ true) e side.beside) in
-    let size = size_played pos c l new is in
-    let lib = side_is_liberty pos c l new other.side on is apart side in
-    let only = only_parts new.size new.cells l p h in
-    other.other (same_liberty new.size new.cells l p other.side only.0 only.1
-    (ap (λ n. is_liberty n new.cells l other.side) size ∙ is_liberty-from_fact pos.size new.cells l other.side on lib))
-
--- a play at l, which has an empty side other than p, does not leave its stone the one liberty p
-pub sides_leave_none : (pos : BoardState) (c : Colour) (l p : ℕ) → l < pos.size * pos.size
-    → HasOtherSide pos.size pos.cells l p
-    → leaves_only l p (play_free pos c l) ≡ false
-sides_leave_none pos c l p on other = elim (cases_Bool (leaves_only l p (play_free pos c l))) [
-  | inl t ↦ absurd (none_by_sides pos c l p on other (play_free pos c l) refl t)
-  | inr f ↦ f
-]
 
 -- what a set has after points were added to none was added
 pub added_to_none : (old : sets.FinSet nat_cmp) (x : ℕ) (b : Bool) → old ≡ sets.empty
@@ -147,3 +94,11 @@ sides_near s cells l on r h =
     let near = and_parts _ _ h in
     close_again s cells (alone l) r (close_next s cells (alone l) l r (ltb-true r (s * s) near.0)
     (whole_self s cells (alone l) l on (alone_self l)) near.1)
+
+-- and so is what is looked at around the string of a neighbour
+pub string_near : (s : ℕ) (cells : List Cell) (l q : ℕ) → l < s * s → q < s * s → are_neighbours s l q ≡ true
+    → (r : ℕ) → neighbourhood_of s cells (alone q) r ≡ true → neighbourhood_twice s cells l r ≡ true
+string_near s cells l q on q_on beside r h =
+    let first = neighbourhood_of s cells (alone l) in
+    let q_near = close_next s cells (alone l) l q q_on (whole_self s cells (alone l) l on (alone_self l)) beside in
+    close_mono s cells (alone q) first (λ x same. ap first (eqb-true x q same) ∙ q_near) r h

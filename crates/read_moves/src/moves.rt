@@ -1,6 +1,6 @@
 //! The candidates of a target: the points that a reading tries.
 
-ghost use Rattle.std.specs.Prelude.{◌≡◌, ℕ, ◌*◌, ◌<◌, ◌≤◌, ◌&&◌, ◌||◌, Bool, true, IsTrue, IfSome, nat_lt, length, if◌then◌else◌};
+ghost use Rattle.std.specs.Prelude.{◌≡◌, ◌≢◌, ℕ, ◌*◌, ◌<◌, ◌≤◌, ◌&&◌, ◌||◌, Bool, true, IsTrue, IfSome, IfNone, nat_lt, length, if◌then◌else◌};
 ghost use Rattle.std.specs.FinSet as set;
 ghost use Rattle.go_rules.specs.Below.{any_below, count_below};
 ghost use Rattle.go_rules.specs.Board.{largest_points};
@@ -9,10 +9,11 @@ ghost use Rattle.go_rules.specs.Position.{BoardState};
 ghost use Rattle.go_base.specs.Facts.{Agrees, AddsIn};
 ghost use Rattle.go_base.specs.Views.{alone, neighbours_of};
 ghost use Rattle.go_rules.specs.Play.{play_free};
+ghost use Rattle.go_rules.specs.Neighbourhood.{neighbourhood_of};
 ghost use Rattle.trial_board.specs.Overlays.{neighbourhood_twice};
 ghost use Rattle.trial_board.specs.Trials.{Stays, most_moves, after};
 ghost use Rattle.read_rules.specs.Candidates.{attacker_of, is_empty_beside, leaves_only, is_candidate, near_candidates};
-ghost use Rattle.read_moves.specs.Steps.{is_at, is_only_member, is_left, HasOther, HasOtherSide};
+ghost use Rattle.read_moves.specs.Steps.{is_at, is_only_member, is_left, Reaches, AddsString, AddsStrings, LivesWithout, IsQuiet};
 
 use go_base::points::PointSet;
 use go_base::sides::neighbour;
@@ -139,28 +140,132 @@ fn only_liberty_after<L: Look>(board: &mut Trial<L>, c: Colour, l: Point) -> Opt
     }
 }
 
-/// Whether a set has two members at least.
-fn has_two(points: &PointSet) -> bool
-    ensures { result ≡ true → (p : ℕ) → HasOther points.now p }
+/// The least member from `from` on that is not l.
+fn first_other(points: &PointSet, l: Point, from: u16) -> Option<Point>
+    requires { l < largest_points }
+    ensures some { IfSome result (λ p. (from ≤ p) × (p < largest_points) × IsTrue (set.contains points.now p) × (p ≢ l)
+        × ((r : ℕ) → from ≤ r → r < p → IsTrue (set.contains points.now r) → r ≡ l)) }
+    ensures none { IfNone result ((r : ℕ) → from ≤ r → IsTrue (set.contains points.now r) → r ≡ l) }
 {
-    match points.first_from(0) {
-        Some(first) => points.first_from(first + 1).is_some(),
-        None => false,
+    match points.first_from(from) {
+        Some(p) => {
+            if p == l {
+                return points.first_from(l + 1);
+            }
+            Some(p)
+        }
+        None => None,
     }
 }
 
-/// Whether two sides of l are empty at least.
-fn has_two_empty_sides<L: Look>(board: &mut Trial<L>, l: Point) -> bool
+/// Adds the liberties of the string of q, where it holds a stone of the colour.
+fn add_string<L: Look>(board: &mut Trial<L>, c: Colour, q: Point, found: &mut PointSet)
+    requires { q < (L.shows board.old.look).size * (L.shows board.old.look).size }
+    ensures stays { Stays L.shows L.seen board.old board.new }
+    ensures over { (pos : BoardState) → Agrees (L.seen board.new.look) pos
+        → AddsString pos.size (after pos board.old.moves).cells c q found.old found.new }
+    ensures near { (pos : BoardState) → Agrees (L.seen board.new.look) pos
+        → AddsIn (L.seen board.old.look) (L.seen board.new.look)
+        (neighbourhood_of pos.size (after pos board.old.moves).cells (alone q)) }
+{
+    if board.cell(q) == c.cell() {
+        found.join(&board.liberties(q));
+    }
+}
+
+/// Adds the liberties of the strings of the colour that are next to l.
+fn add_strings<L: Look>(board: &mut Trial<L>, c: Colour, l: Point, found: &mut PointSet)
     requires { l < (L.shows board.old.look).size * (L.shows board.old.look).size }
     ensures stays { Stays L.shows L.seen board.old board.new }
-    ensures over { (pos : BoardState) → Agrees (L.seen board.new.look) pos → result ≡ true → (p : ℕ)
-        → HasOtherSide pos.size (after pos board.old.moves).cells l p }
+    ensures over { (pos : BoardState) → Agrees (L.seen board.new.look) pos
+        → AddsStrings pos.size (after pos board.old.moves).cells c l found.old found.new }
     ensures near { (pos : BoardState) → Agrees (L.seen board.new.look) pos
-        → AddsIn (L.seen board.old.look) (L.seen board.new.look) (neighbours_of pos.size l) }
+        → AddsIn (L.seen board.old.look) (L.seen board.new.look)
+        (neighbourhood_twice pos.size (after pos board.old.moves).cells l) }
 {
-    let mut sides = PointSet::new();
-    add_sides(board, l, &mut sides);
-    has_two(&sides)
+    let size = board.size();
+    for side in 0..4 {
+        if let Some(beside) = neighbour(size, l, side) {
+            add_string(board, c, beside, found);
+        }
+    }
+}
+
+/// What a stone at a point reaches: its empty sides, and the other liberties of the strings that it joins.
+#[derive(Clone, Copy, Debug, PartialEq, Eq)]
+pub enum Reach {
+    /// It reaches nothing.
+    Nothing,
+    /// It reaches this point alone.
+    Only(Point),
+    /// It reaches two points at least.
+    More,
+}
+
+/// What a stone of the colour at l would reach.
+fn reach_of<L: Look>(board: &mut Trial<L>, c: Colour, l: Point) -> Reach
+    requires { l < (L.shows board.old.look).size * (L.shows board.old.look).size }
+    ensures stays { Stays L.shows L.seen board.old board.new }
+    ensures inside { (p : ℕ) → result ≡ Reach.Only p → p < largest_points }
+    ensures over { (pos : BoardState) → Agrees (L.seen board.new.look) pos
+        → Reaches pos.size (after pos board.old.moves).cells c l result }
+    ensures near { (pos : BoardState) → Agrees (L.seen board.new.look) pos
+        → AddsIn (L.seen board.old.look) (L.seen board.new.look)
+        (neighbourhood_twice pos.size (after pos board.old.moves).cells l) }
+{
+    let _ = board.size().points();
+    let mut reached = PointSet::new();
+    add_sides(board, l, &mut reached);
+    add_strings(board, c, l, &mut reached);
+    match first_other(&reached, l, 0) {
+        Some(p) => match first_other(&reached, l, p + 1) {
+            Some(_) => Reach::More,
+            None => Reach::Only(p),
+        },
+        None => Reach::Nothing,
+    }
+}
+
+/// Whether the string of q, where it is of the other colour, has a liberty that is not l.
+fn lives_without<L: Look>(board: &mut Trial<L>, c: Colour, l: Point, q: Point) -> bool
+    requires small { l < largest_points }
+    requires on_board { q < (L.shows board.old.look).size * (L.shows board.old.look).size }
+    ensures stays { Stays L.shows L.seen board.old board.new }
+    ensures over { (pos : BoardState) → Agrees (L.seen board.new.look) pos → result ≡ true
+        → LivesWithout pos.size (after pos board.old.moves).cells c l q }
+    ensures near { (pos : BoardState) → Agrees (L.seen board.new.look) pos
+        → AddsIn (L.seen board.old.look) (L.seen board.new.look)
+        (neighbourhood_of pos.size (after pos board.old.moves).cells (alone q)) }
+{
+    if board.cell(q) != c.other().cell() {
+        return true;
+    }
+    first_other(&board.liberties(q), l, 0).is_some()
+}
+
+/// Whether l is empty, and a stone of the colour there takes nothing: each enemy string next to it has another liberty.
+fn is_quiet<L: Look>(board: &mut Trial<L>, c: Colour, l: Point) -> bool
+    requires { l < (L.shows board.old.look).size * (L.shows board.old.look).size }
+    ensures stays { Stays L.shows L.seen board.old board.new }
+    ensures over { (pos : BoardState) → Agrees (L.seen board.new.look) pos → result ≡ true
+        → IsQuiet (after pos board.old.moves) c l }
+    ensures near { (pos : BoardState) → Agrees (L.seen board.new.look) pos
+        → AddsIn (L.seen board.old.look) (L.seen board.new.look)
+        (neighbourhood_twice pos.size (after pos board.old.moves).cells l) }
+{
+    let size = board.size();
+    let _ = size.points();
+    if board.cell(l) != Cell::Empty {
+        return false;
+    }
+    for side in 0..4 {
+        if let Some(beside) = neighbour(size, l, side) {
+            if !lives_without(board, c, l, beside) {
+                return false;
+            }
+        }
+    }
+    true
 }
 
 /// How many sides of l are empty.
@@ -179,8 +284,25 @@ pub fn empty_sides<L: Look>(board: &mut Trial<L>, l: Point) -> u16
     sides.count()
 }
 
-/// Adds the one liberty that a stone of this colour at l would have, where it is empty now. With two empty sides the
-/// stone has two liberties at least, so no play is tried.
+/// Adds the one liberty that a stone of this colour at l would have, where it is empty now, by a trial play.
+fn try_backfilling<L: Look>(board: &mut Trial<L>, c: Colour, l: Point, found: &mut PointSet)
+    requires room { length board.old.moves < most_moves }
+    requires on_board { l < (L.shows board.old.look).size * (L.shows board.old.look).size }
+    ensures stays { Stays L.shows L.seen board.old board.new }
+    ensures over { (pos : BoardState) → Agrees (L.seen board.new.look) pos → (p : ℕ)
+        → set.contains found.new p ≡ (set.contains found.old p || is_left (after pos board.old.moves) c l p) }
+    ensures near { (pos : BoardState) → Agrees (L.seen board.new.look) pos
+        → AddsIn (L.seen board.old.look) (L.seen board.new.look)
+        (neighbourhood_twice pos.size (after pos board.old.moves).cells l) }
+{
+    if let Some(p) = only_liberty_after(board, c, l) {
+        add_empty(board, p, found);
+    }
+}
+
+/// Adds the one liberty that a stone of this colour at l would have, where it is empty now. A stone that takes nothing
+/// has just what it reaches as liberties, and one that reaches two points has two liberties at least; so a play is tried
+/// only where it would take something.
 fn add_backfilling_at<L: Look>(board: &mut Trial<L>, c: Colour, l: Point, found: &mut PointSet)
     requires room { length board.old.moves < most_moves }
     requires on_board { l < (L.shows board.old.look).size * (L.shows board.old.look).size }
@@ -191,11 +313,20 @@ fn add_backfilling_at<L: Look>(board: &mut Trial<L>, c: Colour, l: Point, found:
         → AddsIn (L.seen board.old.look) (L.seen board.new.look)
         (neighbourhood_twice pos.size (after pos board.old.moves).cells l) }
 {
-    if has_two_empty_sides(board, l) {
-        return;
-    }
-    if let Some(p) = only_liberty_after(board, c, l) {
-        add_empty(board, p, found);
+    match reach_of(board, c, l) {
+        Reach::More => {}
+        Reach::Nothing => {
+            if !is_quiet(board, c, l) {
+                try_backfilling(board, c, l, found);
+            }
+        }
+        Reach::Only(p) => {
+            if is_quiet(board, c, l) {
+                found.add(p);
+            } else {
+                try_backfilling(board, c, l, found);
+            }
+        }
     }
 }
 
@@ -231,8 +362,8 @@ fn add_backfilling<L: Look>(
 /// if there are at most two of these, and the one liberty that a stone of the attacker on one of its liberties would
 /// have.
 ///
-/// The trial moves stay as they were; the plays that are tried for the last kind, at liberties with one empty side at
-/// most, count among the trials. After GNU Go Manual, "Tactical reading"; the choice of these points is this project's
+/// The trial moves stay as they were. For the last kind a play is tried only where it would take something, and counts
+/// among the trials. After GNU Go Manual, "Tactical reading"; the choice of these points is this project's
 /// own.
 pub fn candidates<L: Look>(board: &mut Trial<L>, target: Point, wide: u8) -> PointSet
     requires room { length board.old.moves < most_moves }

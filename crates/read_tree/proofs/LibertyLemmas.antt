@@ -1,22 +1,22 @@
 -- A play takes away one liberty of a string at most, and none where it is not on one; so a target with many liberties
 -- is not captured.
-use Rattle.std.proofs.Common.{◌≡◌, ◌≢◌, ℕ, zero, suc, ◌+◌, ◌-◌, ◌*◌, ◌/◌, ◌<◌, ◌≤◌, ◌⊎◌, Bool, true, false, not, ◌||◌, cond, List, Ok, refl, sym, ap, subst, ◌∙◌, arith, inl, inr, ltb, eqb, set, add-one}
+use Rattle.std.proofs.Common.{◌≡◌, ◌≢◌, ℕ, zero, suc, ◌+◌, ◌-◌, ◌*◌, ◌/◌, ◌<◌, ◌≤◌, ◌⊎◌, Bool, true, false, not, ◌||◌, cond, List, Ok, refl, sym, ap, subst, ◌∙◌, arith, inl, inr, ltb, eqb, add-one}
 use Rattle.std.proofs.lemmas.Bool.{cases_Bool, cases_eq, or_cases, lt-ltb, ltb-true, both_ways, eq-eqb, eqb-true, or_left, or_right}
 use Rattle.go_rules.specs.declared.Cell.{Cell}
 use Rattle.go_rules.specs.declared.Cell.TheVariants.{Empty, Black, White}
 use Rattle.go_rules.specs.declared.Colour.{Colour}
 use Rattle.go_rules.specs.Below.{count_below}
-use Rattle.go_rules.specs.Strings.{cell_at, is_stone, same_cell, Path, start, IsInString, IsLiberty, is_liberty, liberties}
-use Rattle.go_rules.specs.Position.{BoardState, stone_of, is_banned}
-use Rattle.go_rules.specs.Play.{play, play_free, pass, cells_after, is_taken}
+use Rattle.go_rules.specs.Strings.{cell_at, is_stone, same_cell, IsLiberty, is_liberty, liberties}
+use Rattle.go_rules.specs.Position.{BoardState}
+use Rattle.go_rules.specs.Play.{play_free, pass}
 use Rattle.go_rules.proofs.Counts.{count_below_mono}
-use Rattle.go_rules.proofs.Links.{path_same, path_on, path_back, path_keeps, liberties_some, liberties_from}
-use Rattle.go_rules.proofs.Paths.{path_on_board, IsLiberty-from_test, is_liberty-from_fact}
-use Rattle.go_rules.proofs.Plays.{at_put_other, at_after, alive_not_taken}
-use Rattle.go_rules.proofs.Results.{after_on, play_occupied, play_ko, play_else}
+use Rattle.go_rules.proofs.Links.{liberties_some}
+use Rattle.go_rules.proofs.Paths.{IsLiberty-from_test, is_liberty-from_fact}
+use Rattle.go_rules.proofs.Results.{after_on}
 use Rattle.go_rules.proofs.PlayLaws.{done_state}
 use Rattle.read_rules.specs.declared.node.Node.{Node}
 use Rattle.read_tree.specs.declared.turn.Turn.{Turn}
+use Rattle.read_moves.proofs.AfterPlays.{after_liberty, legal_free}
 use Rattle.read_rules.specs.ActiveArea.{IsUndecided}
 use Rattle.read_tree.specs.Allowances.{Ko, under}
 use Rattle.read_rules.specs.GameTree.{is_captured, has_many_liberties, mover_of, allowance_of, next_node, attacker_wins}
@@ -28,78 +28,6 @@ use Rattle.read_rules.proofs.RuleLemmas.{many_from, many_gives, attacker_gives, 
 -- what half of the plies is
 pub half_more : (n l : ℕ) → (suc n + 1) / 2 < l → n / 2 + 1 < l
 half_more n l h = omega arith
-
--- A string with a liberty that is not the point of the play. The board is of size s; c plays at p.
-module _ (s : ℕ) (cells : List Cell) (c : Colour) (p : ℕ) (was_empty : cell_at cells p ≡ Empty) (t : ℕ)
-    (on : t < s * s) where
-  -- the cells once the stone was put at p, before any stone is taken
-  abbrev put : List Cell
-  put = set cells p (stone_of c)
-
-  -- no stone of the string stands at p, which was empty
-  apart : (q : ℕ) → IsInString s cells t q → q ≢ p
-  apart q inside e = stone_not_empty (cell_at cells t) inside.stone
-      (sym (path_same s cells t inside.path) ∙ ap (cell_at cells) e ∙ was_empty)
-    where
-      stone_not_empty : (k : Cell) → is_stone k ≡ true → k ≡ Empty → ⊥
-      stone_not_empty Empty h e = cc
-      stone_not_empty Black h e = cc
-      stone_not_empty White h e = cc
-
-  -- the string and its liberty stand after the stone was put
-  put_liberty : (l : ℕ) → IsLiberty s cells t l → l ≢ p → IsLiberty s put t l
-  put_liberty l lib ne = record {
-    on_board = lib.on_board;
-    is_empty = at_put_other cells p l (stone_of c) ne ∙ lib.is_empty;
-    beside = (
-      lib.beside.0,
-      record {
-        stone = ap is_stone (at_put_other cells p t (stone_of c)
-            (apart t (record { stone = lib.beside.1.stone; path = start }))) ∙ lib.beside.1.stone;
-        path = path_keeps s cells put t (λ x path.
-            at_put_other cells p x (stone_of c) (apart x (record { stone = lib.beside.1.stone; path = path })))
-            lib.beside.1.path;
-      },
-      lib.beside.2,
-    );
-  }
-
-  -- no stone of the string is taken
-  pub after_liberty : (l : ℕ) → IsLiberty s cells t l → l ≢ p → IsLiberty s (cells_after s put c) t l
-  after_liberty l lib ne =
-      let after = cells_after s put c in
-      let there = put_liberty l lib ne in
-      let stays : (x : ℕ) → Path s put t x → cell_at after x ≡ cell_at put x = λ x path.
-      let x_on = path_on_board s put t on path in
-      let alive = liberties_from s put x l x_on (record {
-        on_board = there.on_board;
-        is_empty = there.is_empty;
-        beside = (
-          there.beside.0,
-          record {
-            stone = ap is_stone (path_same s put t path) ∙ there.beside.1.stone;
-            path = path_on s put x t (path_back s put t on path) there.beside.1.path;
-          },
-          there.beside.2,
-        );
-      }) in
-      at_after s put c x x_on ∙ ap (λ b. cond b Empty (cell_at put x)) (alive_not_taken s put c x alive) in
-      record {
-        on_board = there.on_board;
-        is_empty = at_after s put c l there.on_board ∙ empty_both (is_taken s put c l) (cell_at put l) there.is_empty;
-        beside = (
-          there.beside.0,
-          record {
-            stone = ap is_stone (stays t start) ∙ there.beside.1.stone;
-            path = path_keeps s put after t stays there.beside.1.path;
-          },
-          there.beside.2,
-        );
-      }
-    where
-      empty_both : (b : Bool) (k : Cell) → k ≡ Empty → cond b Empty k ≡ Empty
-      empty_both true k e = refl
-      empty_both false k e = e
 
 -- all but one pass the other test
 count_but_one : (n : ℕ) (a b : ℕ → Bool) (p : ℕ) → ((k : ℕ) → k < n → k ≢ p → a k ≡ true → b k ≡ true)
@@ -168,17 +96,6 @@ play_takes_none pos c p new t on e off =
 pub play_size : (pos : BoardState) (c : Colour) (p : ℕ) (new : BoardState) → play_free pos c p ≡ Ok new
     → new.size ≡ pos.size
 play_size pos c p new e = ap (λ (n : BoardState). n.size) (done_state pos c p new e).1
-
--- a legal play is one with no regard to the ban
-pub legal_free : (pos : BoardState) (c : Colour) (p : ℕ) (new : BoardState) → play pos c p ≡ Ok new
-    → play_free pos c p ≡ Ok new
-legal_free pos c p new e = elim (cases_Bool (is_stone (cell_at pos.cells p))) [
-  | inl t ↦ absurd (let w = play_occupied pos c p t ∙ e in cc)
-  | inr f ↦ elim (cases_Bool (is_banned pos.ban c p)) [
-    | inl b ↦ absurd (let w = play_ko pos c p f b ∙ e in cc)
-    | inr n ↦ play_else pos c p f n ∙ e
-  ]
-]
 
 -- a child comes of a play by the side whose turn it is
 pub child_free : (node : Node) (pos : BoardState) (p : ℕ) (next : Node) (new : BoardState) → IsChild node pos p next new

@@ -1,5 +1,5 @@
 -- The attacker takes a target by its only liberty, where the ban lets him play there.
-use Rattle.std.proofs.Common.{◌≡◌, ◌≢◌, ℕ, suc, ◌*◌, ◌<◌, Bool, true, false, cond, List, [], ◌∷◌, length, Result, Ok, Err, refl, sym, ap, subst, ◌∙◌, arith, add-one, set, inl, inr, ◌||◌, eqb}
+use Rattle.std.proofs.Common.{◌≡◌, ◌≢◌, ℕ, suc, ◌*◌, ◌<◌, true, false, cond, List, length, refl, sym, ap, subst, ◌∙◌, arith, add-one, set, inl, inr, ◌||◌, eqb}
 use Rattle.std.proofs.lemmas.Bool.{or_cases, or_right, and_parts, and_from, lt-ltb}
 use Rattle.std.specs.FinSet as sets
 use Rattle.std.specs.Ordering.{nat_cmp}
@@ -12,54 +12,23 @@ use Rattle.go_rules.specs.declared.Cell.{Cell}
 use Rattle.go_rules.specs.declared.Cell.TheVariants.{Empty}
 use Rattle.go_rules.specs.declared.Colour.{Colour}
 use Rattle.go_rules.specs.declared.Colour.TheVariants.{Black as black, White as white}
-use Rattle.go_rules.specs.declared.Illegal.{Illegal}
 use Rattle.go_rules.specs.Strings.{cell_at, is_stone, same_cell, Path, start, IsLiberty, is_liberty, liberties, liberty_points}
 use Rattle.go_rules.specs.Position.{BoardState, other, stone_of}
-use Rattle.go_rules.specs.Play.{play, play_free, cells_after, is_taken}
+use Rattle.go_rules.specs.Play.{play, cells_after, is_taken}
 use Rattle.go_rules.proofs.Links.{path_same, path_keeps, liberties_from, are_neighbours_comm}
 use Rattle.go_rules.proofs.Paths.{path_on_board, same_cell-from, IsLiberty-from_test, is_liberty-from_fact}
-use Rattle.go_rules.proofs.Plays.{at_put_same, at_put_other, at_after, enemy_differs, own_not_taken, taken_whole, stone_is, length_after}
-use Rattle.go_rules.proofs.Results.{put_on, result_of, free_done, play_else}
-use Rattle.go_rules.proofs.PlayLaws.{taken_by_words, done_state}
-use Rattle.trial_board.specs.declared.moves.TrialMove.{TrialMove}
-use Rattle.trial_board.specs.declared.moves.TrialMove.TheVariants.{Pass, Play}
-use Rattle.trial_board.specs.Trials.{given, after}
+use Rattle.go_rules.proofs.Plays.{at_put_same, at_put_other, at_after, enemy_differs, own_not_taken, taken_whole, stone_is}
+use Rattle.go_rules.proofs.Results.{result_of, free_done, play_else}
+use Rattle.go_rules.proofs.PlayLaws.{taken_by_words}
 use Rattle.read_rules.specs.Candidates.{fills}
 use Rattle.read_rules.proofs.CandidateLaws.{candidate_from}
 use Rattle.read_tree.specs.declared.turn.Turn.{Turn}
+use Rattle.read_moves.proofs.AfterPlays.{IsWhole}
 use Rattle.read_rules.specs.GameTree.{has_many_liberties, attacker_wins, next_node, allowance_of}
 use Rattle.read_tree.specs.Allowances.{Ko, under}
 use Rattle.read_tree.specs.Steps.{IsTaken}
-use Rattle.read_tree.proofs.LibertyLemmas.{legal_free}
 use Rattle.read_rules.proofs.RuleLemmas.{attacker_from}
 use Rattle.read_rules.proofs.WinLemmas.{wins-captured}
-
--- the cells after trial moves are those of the whole board
-abbrev IsWhole : BoardState → Type 0
-IsWhole pos = length pos.cells ≡ pos.size * pos.size
-
--- after a play or its refusal the board is whole, where it was so before and a legal play leaves it so
-whole_given : (pos : BoardState) (r : Result BoardState Illegal) → ((new : BoardState) → r ≡ Ok new → IsWhole new)
-    → IsWhole pos → IsWhole (given pos r)
-whole_given pos (Ok new) h w = h new refl
-whole_given pos (Err e) h w = w
-
--- a legal play, with no regard to the ban, leaves a whole board
-whole_free : (pos : BoardState) (c : Colour) (p : ℕ) (new : BoardState) → play_free pos c p ≡ Ok new → IsWhole new
-whole_free pos c p new e = subst IsWhole (sym (done_state pos c p new e).1) (length_after pos.size (put_on pos c p) c)
-
--- a trial play on a whole board, with the ban dropped or not, leaves a whole board
-whole_play : (pos : BoardState) (c : Colour) (p : ℕ) (dropped : Bool) → IsWhole pos
-    → IsWhole (given pos (cond dropped (play_free pos c p) (play pos c p)))
-whole_play pos c p true w = whole_given pos (play_free pos c p) (whole_free pos c p) w
-whole_play pos c p false w =
-    whole_given pos (play pos c p) (λ new e. whole_free pos c p new (legal_free pos c p new e)) w
-
--- trial moves on a whole board leave a whole board
-pub whole_after : (pos : BoardState) (ms : List TrialMove) → IsWhole pos → IsWhole (after pos ms)
-whole_after pos [] w = w
-whole_after pos (Pass ∷ ms) w = whole_after pos ms w
-whole_after pos (Play m ∷ ms) w = whole_play (after pos ms) m.colour m.at m.dropped (whole_after pos ms w)
 
 -- a stone is no empty point
 not_empty : (c : Colour) → stone_of c ≡ Empty → ⊥

@@ -9,7 +9,7 @@ ghost use Rattle.go_rules.specs.Neighbourhood.{neighbourhood_of};
 ghost use Rattle.go_base.specs.Surroundings.{is_last_liberty_of_enemy};
 ghost use Rattle.go_base.specs.Views.{alone};
 ghost use Rattle.trial_board.specs.Overlays.{neighbourhood_twice};
-ghost use Rattle.go_rules.specs.Position.{BoardState, is_banned};
+ghost use Rattle.go_rules.specs.Position.{BoardState, IsPosition, is_banned};
 ghost use Rattle.go_rules.specs.Play.{play_free};
 ghost use Rattle.go_base.specs.Facts.{Agrees, Grows, AddsIn};
 ghost use Rattle.trial_board.specs.declared.moves.TrialMove.{TrialMove};
@@ -127,7 +127,7 @@ impl<L: Look> Trial<L> {
         self.trials
     }
 
-    /// What stands at p after the trial moves.
+    /// What stands at p after the trial moves, which lead to a position.
     pub fn cell(&mut self, p: Point) -> Cell
         requires { p < (L.shows self.old.look).size * (L.shows self.old.look).size }
         ensures stays { Stays L.shows L.seen self.old self.new }
@@ -135,6 +135,8 @@ impl<L: Look> Trial<L> {
         ensures over { (pos : BoardState) → Agrees (L.seen self.new.look) pos
             → result ≡ cell_at (after pos self.old.moves).cells p }
         ensures answer { result ≡ cell_at (after (L.shows self.old.look) self.old.moves).cells p }
+        ensures sound { (pos : BoardState) → Agrees (L.seen self.new.look) pos
+            → IsPosition (after pos self.old.moves) }
         ensures near { AddsIn (L.seen self.old.look) (L.seen self.new.look) (alone p) }
     {
         self.board.at(p)

@@ -24,7 +24,8 @@ use Rattle.read_tree.proofs.AllowanceLemmas.{some_of, suits_child, suits_none, T
 use Rattle.read_tree.proofs.StageLemmas.{by_done, by_over, by_none, by_same, stage_done, stage_over, none_other, nothing_near, liberty_is_candidate, its_liberty, its_count, known_inside, off_is}
 use Rattle.read_tree.proofs.OrderLemmas.{none_tried, newest_or_before, fewer_left, none_left, order_near}
 use Rattle.read_tree.proofs.LibertyLemmas.{bounded_at, undecided_at}
-use Rattle.read_tree.proofs.TakeLemmas.{whole_after, take_wins}
+use Rattle.read_moves.proofs.AfterPlays.{whole_after}
+use Rattle.read_tree.proofs.TakeLemmas.{take_wins}
 use Rattle.read_tree.proofs.CarryLemmas.{carries, made_free}
 use Rattle.read_rules.proofs.AreaLemmas.{AddsNear-in, AddsNear-trans, AddsNear-mono, area_target, area_once, area_candidates, area_play, pred_tree, undecided_defender, target_on}
 use Rattle.read_rules.proofs.WinLemmas.{wins-captured, wins-no_plies, wins-by_move}

@@ -1,0 +1,128 @@
+-- What a play leaves of a string, and that trial moves leave a whole board.
+use Rattle.std.proofs.Common.{◌≡◌, ◌≢◌, ℕ, ◌*◌, ◌<◌, Bool, true, false, cond, List, [], ◌∷◌, length, Result, Ok, Err, refl, sym, ap, subst, ◌∙◌, inl, inr, set}
+use Rattle.std.proofs.lemmas.Bool.{cases_Bool}
+use Rattle.go_rules.specs.declared.Cell.{Cell}
+use Rattle.go_rules.specs.declared.Cell.TheVariants.{Empty, Black, White}
+use Rattle.go_rules.specs.declared.Colour.{Colour}
+use Rattle.go_rules.specs.declared.Illegal.{Illegal}
+use Rattle.go_rules.specs.Strings.{cell_at, is_stone, Path, start, IsInString, IsLiberty}
+use Rattle.go_rules.specs.Position.{BoardState, stone_of, is_banned}
+use Rattle.go_rules.specs.Play.{play, play_free, cells_after, is_taken}
+use Rattle.go_rules.proofs.Links.{path_same, path_on, path_back, path_keeps, liberties_from}
+use Rattle.go_rules.proofs.Paths.{path_on_board}
+use Rattle.go_rules.proofs.Plays.{at_put_other, at_after, alive_not_taken, length_after}
+use Rattle.go_rules.proofs.PlayLaws.{done_state}
+use Rattle.go_rules.proofs.Results.{put_on, play_occupied, play_ko, play_else}
+use Rattle.trial_board.specs.declared.moves.TrialMove.{TrialMove}
+use Rattle.trial_board.specs.declared.moves.TrialMove.TheVariants.{Pass, Play}
+use Rattle.trial_board.specs.Trials.{given, after}
+
+-- A string with a liberty that is not the point of the play. The board is of size s; c plays at p.
+module _ (s : ℕ) (cells : List Cell) (c : Colour) (p : ℕ) (was_empty : cell_at cells p ≡ Empty) (t : ℕ)
+    (on : t < s * s) where
+  -- the cells with the stone put
+  abbrev put : List Cell
+  put = set cells p (stone_of c)
+
+  -- no stone of the string is at the point of the play
+  apart : (q : ℕ) → IsInString s cells t q → q ≢ p
+  apart q inside e = stone_not_empty (cell_at cells t) inside.stone
+      (sym (path_same s cells t inside.path) ∙ ap (cell_at cells) e ∙ was_empty)
+    where
+      stone_not_empty : (k : Cell) → is_stone k ≡ true → k ≡ Empty → ⊥
+      stone_not_empty Empty h e = cc
+      stone_not_empty Black h e = cc
+      stone_not_empty White h e = cc
+
+  -- the string and its liberty stand after the stone was put
+  pub put_liberty : (l : ℕ) → IsLiberty s cells t l → l ≢ p → IsLiberty s put t l
+  put_liberty l lib ne = record {
+    on_board = lib.on_board;
+    is_empty = at_put_other cells p l (stone_of c) ne ∙ lib.is_empty;
+    beside = (
+      lib.beside.0,
+      record {
+        stone = ap is_stone (at_put_other cells p t (stone_of c)
+            (apart t (record { stone = lib.beside.1.stone; path = start }))) ∙ lib.beside.1.stone;
+        path = path_keeps s cells put t (λ x path.
+            at_put_other cells p x (stone_of c) (apart x (record { stone = lib.beside.1.stone; path = path })))
+            lib.beside.1.path;
+      },
+      lib.beside.2,
+    );
+  }
+
+  -- no stone of the string is taken
+  pub after_liberty : (l : ℕ) → IsLiberty s cells t l → l ≢ p → IsLiberty s (cells_after s put c) t l
+  after_liberty l lib ne =
+      let after = cells_after s put c in
+      let there = put_liberty l lib ne in
+      let stays : (x : ℕ) → Path s put t x → cell_at after x ≡ cell_at put x = λ x path.
+      let x_on = path_on_board s put t on path in
+      let alive = liberties_from s put x l x_on (record {
+        on_board = there.on_board;
+        is_empty = there.is_empty;
+        beside = (
+          there.beside.0,
+          record {
+            stone = ap is_stone (path_same s put t path) ∙ there.beside.1.stone;
+            path = path_on s put x t (path_back s put t on path) there.beside.1.path;
+          },
+          there.beside.2,
+        );
+      }) in
+      at_after s put c x x_on ∙ ap (λ b. cond b Empty (cell_at put x)) (alive_not_taken s put c x alive) in
+      record {
+        on_board = there.on_board;
+        is_empty = at_after s put c l there.on_board ∙ empty_both (is_taken s put c l) (cell_at put l) there.is_empty;
+        beside = (
+          there.beside.0,
+          record {
+            stone = ap is_stone (stays t start) ∙ there.beside.1.stone;
+            path = path_keeps s put after t stays there.beside.1.path;
+          },
+          there.beside.2,
+        );
+      }
+    where
+      empty_both : (b : Bool) (k : Cell) → k ≡ Empty → cond b Empty k ≡ Empty
+      empty_both true k e = refl
+      empty_both false k e = e
+
+-- a legal play is one with no regard to the ban
+pub legal_free : (pos : BoardState) (c : Colour) (p : ℕ) (new : BoardState) → play pos c p ≡ Ok new
+    → play_free pos c p ≡ Ok new
+legal_free pos c p new e = elim (cases_Bool (is_stone (cell_at pos.cells p))) [
+  | inl t ↦ absurd (let w = play_occupied pos c p t ∙ e in cc)
+  | inr f ↦ elim (cases_Bool (is_banned pos.ban c p)) [
+    | inl b ↦ absurd (let w = play_ko pos c p f b ∙ e in cc)
+    | inr n ↦ play_else pos c p f n ∙ e
+  ]
+]
+
+-- the cells after trial moves are those of the whole board
+abbrev pub IsWhole : BoardState → Type 0
+IsWhole pos = length pos.cells ≡ pos.size * pos.size
+
+-- a play that is refused leaves the board, and one that is made gives a whole one
+whole_given : (pos : BoardState) (r : Result BoardState Illegal) → ((new : BoardState) → r ≡ Ok new → IsWhole new)
+    → IsWhole pos → IsWhole (given pos r)
+whole_given pos (Ok new) h w = h new refl
+whole_given pos (Err e) h w = w
+
+-- a play with no regard to the ban gives a whole board
+whole_free : (pos : BoardState) (c : Colour) (p : ℕ) (new : BoardState) → play_free pos c p ≡ Ok new → IsWhole new
+whole_free pos c p new e = subst IsWhole (sym (done_state pos c p new e).1) (length_after pos.size (put_on pos c p) c)
+
+-- and so does a play, with its ban dropped or not
+whole_play : (pos : BoardState) (c : Colour) (p : ℕ) (dropped : Bool) → IsWhole pos
+    → IsWhole (given pos (cond dropped (play_free pos c p) (play pos c p)))
+whole_play pos c p true w = whole_given pos (play_free pos c p) (whole_free pos c p) w
+whole_play pos c p false w =
+    whole_given pos (play pos c p) (λ new e. whole_free pos c p new (legal_free pos c p new e)) w
+
+-- the board is whole after trial moves on a whole one
+pub whole_after : (pos : BoardState) (ms : List TrialMove) → IsWhole pos → IsWhole (after pos ms)
+whole_after pos [] w = w
+whole_after pos (Pass ∷ ms) w = whole_after pos ms w
+whole_after pos (Play m ∷ ms) w = whole_play (after pos ms) m.colour m.at m.dropped (whole_after pos ms w)

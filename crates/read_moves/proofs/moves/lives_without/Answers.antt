@@ -1,0 +1,45 @@
+-- The string has another liberty, where it is of the other colour.
+use Rattle.std.proofs.Common.{◌≡◌, ℕ, ◌*◌, ◌<◌, true, Option, Some, None, IfSome, is_some, ap, sym, subst, ◌∙◌}
+use Rattle.std.specs.FinSet as set
+use Rattle.go_rules.proofs.Paths.{IsLiberty-from_test}
+use Rattle.go_base.specs.Facts.{agrees_before, AddsIn-trans, AddsIn-mono, same_size}
+use Rattle.go_base.proofs.PointNeighbourhoods.{close_alone}
+use Rattle.go_base.proofs.LastLiberties.{contains-liberty_points}
+use Rattle.trial_board.specs.Trials.{after}
+use Rattle.read_moves.proofs.moves.lives_without.Goals as goal
+
+-- what is said of the point that is there
+when_some : {P : ℕ → Type 0} (o : Option ℕ) → IfSome o P → is_some o ≡ true → (p : ℕ) × P p
+when_some None h e = cc
+when_some (Some p) h e = (p, h)
+
+pub returns-clause-over : goal.returns-clause-over
+returns-clause-over g c = λ pos a e enemy.
+    let q = c.args.q in
+    let cells = (after pos c.args.board.now.moves).cells in
+    let its = rw c.cell.ensures.stays.moves at (c.liberties.ensures.over pos a) in
+    let found = when_some c.first_other.result c.first_other.ensures.some (sym c.is_some.ensures ∙ e) in
+    record {
+      point = found.0;
+      liberty = IsLiberty-from_test pos.size cells q found.0
+          (sym (ap (λ t. set.contains t found.0) its ∙ contains-liberty_points pos.size cells q found.0) ∙ found.1.2);
+      other = found.1.3;
+    }
+
+-- the stone and its string were looked at
+pub returns-clause-near : goal.returns-clause-near
+returns-clause-near g c = λ pos a.
+    let a0 = agrees_before c.liberties.ensures.stays.grows a in
+    let cells = (after pos c.args.board.now.moves).cells in
+    let e = same_size (g.met.L.Look.sized c.cell.new.self.look) a0 ∙ ap (λ y. y.size) c.cell.ensures.stays.shown in
+    let on = subst (λ n. c.args.q < n * n) (sym e) c.requires.on_board in
+    AddsIn-trans (AddsIn-mono c.cell.ensures.near (λ r h. close_alone pos.size cells c.args.q r on h))
+    (rw c.cell.ensures.stays.moves at (c.liberties.ensures.near pos a))
+
+-- or its point alone
+pub returns-then-ne-clause-near : goal.returns-then-ne-clause-near
+returns-then-ne-clause-near g c = λ pos a.
+    let cells = (after pos c.args.board.now.moves).cells in
+    let e = same_size (g.met.L.Look.sized c.cell.new.self.look) a ∙ ap (λ y. y.size) c.cell.ensures.stays.shown in
+    let on = subst (λ n. c.args.q < n * n) (sym e) c.requires.on_board in
+    AddsIn-mono c.cell.ensures.near (λ r h. close_alone pos.size cells c.args.q r on h)
