@@ -10,7 +10,7 @@ use Rattle.match_engine.specs.declared.keys.Key.{Key}
 use Rattle.match_engine.specs.Readings.{KeptReadings}
 use Rattle.match_engine.proofs.RepeatedQuestions.{IsAtHand, IsAtHand-first, IsAtHand-later, IsAtHand-kept, HasRead-capacity, HasRead-refused}
 use Rattle.session.specs.Machine.{Machine, position_of}
-use Rattle.session.specs.Kept.{Kept, machine_of}
+use Rattle.session.specs.SessionState.{SessionState, machine_of}
 use Rattle.session.specs.Counting.{counted, is_read_line}
 use Rattle.session.specs.Asking.{Asks, Nothing, One, Many, ReadsAs, ReadsOnce, IsAfterLine, asks_of_line}
 use Rattle.session.specs.Turns.{Turn, IsAlong}
@@ -19,7 +19,7 @@ use Rattle.session.proofs.CommandQuestions.{Fits, Fits-line, is_read_line-one}
 use Rattle.session.proofs.TallyLemmas.{IsAlong-append, IsAlong-split}
 
 -- how many questions may be kept
-abbrev room_of : Kept → ℕ
+abbrev room_of : SessionState → ℕ
 room_of session = session.readings.kept.1
 
 -- 1 where a test is passed
@@ -31,7 +31,7 @@ none_passes : (passes : Bool) (rest : ℕ) → one_if passes + rest ≡ 0 → (p
 none_passes true rest none = absurd (let some : 1 + rest ≡ 0 = none in omega arith)
 none_passes false rest none = (refl, (let same : 0 + rest ≡ 0 = none in omega arith))
 
-module _ (old new : Kept) where
+module _ (old new : SessionState) where
   -- where no refused keeping is counted after a line, none was before it
   unrefused : (asks : Asks) → ReadsAs asks old new → new.counts.refused ≡ 0 → old.counts.refused ≡ 0
   unrefused Nothing read none = sym (ap (λ (c : Counts). c.refused) read.counts) ∙ none
@@ -68,14 +68,14 @@ module _ (old new : Kept) where
       absurd (let both : true ≡ false = sym fits ∙ apart in cc)
 
 -- where no refused keeping is counted after some lines, none was before them
-unrefused_along : (turns : List (Turn Machine)) (a b : Kept) → IsAlong IsAfterLine a turns b → b.counts.refused ≡ 0
+unrefused_along : (turns : List (Turn Machine)) (a b : SessionState) → IsAlong IsAfterLine a turns b → b.counts.refused ≡ 0
     → a.counts.refused ≡ 0
-unrefused_along [] a b along none = subst (λ (k : Kept). k.counts.refused ≡ 0) along none
+unrefused_along [] a b along none = subst (λ (k : SessionState). k.counts.refused ≡ 0) along none
 unrefused_along (turn ∷ turns) a b (mid, first, rest) none =
     unrefused a mid (asks_of_line turn.machine turn.line) first.read (unrefused_along turns mid b rest none)
 
 -- as many questions may be kept after some lines as before them
-same_room_along : (turns : List (Turn Machine)) (a b : Kept) → IsAlong IsAfterLine a turns b → room_of b ≡ room_of a
+same_room_along : (turns : List (Turn Machine)) (a b : SessionState) → IsAlong IsAfterLine a turns b → room_of b ≡ room_of a
 same_room_along [] a b along = ap room_of along
 same_room_along (turn ∷ turns) a b (mid, first, rest) =
     same_room_along turns mid b rest ∙ same_room a mid (asks_of_line turn.machine turn.line) first.read
@@ -93,13 +93,13 @@ reading_lines-cons : (turn : Turn Machine) (turns : List (Turn Machine))
 reading_lines-cons turn turns = sum_by-cons (λ (t : Turn Machine). cond (is_reading (named_in t.line)) 1 0) turn turns
 
 -- so what is at hand stays so along few `attack` and `defend` lines and no `match_patterns` line
-at_hand_along : (key : Key) (pos : BoardState) (turns : List (Turn Machine)) (n : ℕ) (a b : Kept)
+at_hand_along : (key : Key) (pos : BoardState) (turns : List (Turn Machine)) (n : ℕ) (a b : SessionState)
     → IsAlong IsAfterLine a turns b
     → b.counts.refused ≡ 0 → 8 ≤ room_of a → matching_lines turns ≡ 0 → n + reading_lines turns ≤ 4
     → IsAtHand key pos n a.readings.kept
     → (m : ℕ) × IsAtHand key pos m b.readings.kept
 at_hand_along key pos [] n a b along none room apart few hand =
-    (n, subst (λ (k : Kept). IsAtHand key pos n k.readings.kept) (sym along) hand)
+    (n, subst (λ (k : SessionState). IsAtHand key pos n k.readings.kept) (sym along) hand)
 at_hand_along key pos (turn ∷ turns) n a b (mid, first, rest) none room apart few hand =
     let here = matching_lines-cons turn turns apart in
     let count = reading_lines-cons turn turns in
@@ -111,7 +111,7 @@ at_hand_along key pos (turn ∷ turns) n a b (mid, first, rest) none room apart 
     (omega (arith, few, count, later.1)) later.2
 
 -- what is asked of two machines that are one
-module _ (k0 k new : Kept) (before : List (Turn Machine)) (now : Turn Machine) (along : IsAlong IsAfterLine k0 before k)
+module _ (k0 k new : SessionState) (before : List (Turn Machine)) (now : Turn Machine) (along : IsAlong IsAfterLine k0 before k)
     (line : IsAfterLine k now new) (none : new.counts.refused ≡ 0) (room : 8 ≤ room_of k0) where
   -- a certain hit is not fresh
   pub hit_is_kept : IsCertainHit before now → new.counts.fresh ≡ k.counts.fresh
@@ -150,7 +150,7 @@ module _ (k0 k new : Kept) (before : List (Turn Machine)) (now : Turn Machine) (
       (is_read_line-one now.machine now.line (record { question = hit.question }) hit.again)
 
 -- A line that is counted may be fresh; no other is.
-module _ (old new : Kept) (m : ℕ) where
+module _ (old new : SessionState) (m : ℕ) where
   -- by what is asked
   gap_by : (asks : Asks) (counts : Bool) → ((key : Key) → asks ≡ One key → counts ≡ true) → ReadsAs asks old new
       → new.counts.readings ≡ counted old.counts.readings counts → old.counts.readings + 1 < 2 ^ 64
@@ -185,14 +185,14 @@ module _ (old new : Kept) (m : ℕ) where
       line.readings small gap
 
 -- n certain hits among the lines leave n readings more that are not fresh
-pub hits_are_kept : (k0 : Kept) (before turns : List (Turn Machine)) (k b : Kept) (m n : ℕ)
+pub hits_are_kept : (k0 : SessionState) (before turns : List (Turn Machine)) (k b : SessionState) (m n : ℕ)
     → IsAlong IsAfterLine k0 before k
     → IsAlong IsAfterLine k turns b → 8 ≤ room_of k0 → b.counts.refused ≡ 0 → HaveCertainHits before turns n
     → k.counts.fresh + m ≤ k.counts.readings → k.counts.readings + length turns < 2 ^ 64
     → b.counts.fresh + (m + n) ≤ b.counts.readings
 hits_are_kept k0 before [] k b m n earlier along room none hits gap small =
-    let fresh = ap (λ (s : Kept). s.counts.fresh) along in
-    let readings = ap (λ (s : Kept). s.counts.readings) along in
+    let fresh = ap (λ (s : SessionState). s.counts.fresh) along in
+    let readings = ap (λ (s : SessionState). s.counts.readings) along in
     omega (arith, fresh, readings, hits, gap)
 hits_are_kept k0 before (turn ∷ turns) k b m n earlier (mid, first, rest) room none (inl later) gap small =
     let next = gap_after k mid m turn first (omega (arith, small)) gap in

@@ -16,12 +16,12 @@ use Rattle.run_notes.specs.declared.notes.Counts.{Counts}
 use Rattle.match_engine.specs.declared.keys.Key.{Key}
 use Rattle.match_engine.specs.Readings.{ReadingsView, HasRead, AllRest}
 use Rattle.session.specs.Machine.{Machine, position_of}
-use Rattle.session.specs.Kept.{Kept, machine_of}
+use Rattle.session.specs.SessionState.{SessionState, machine_of}
 use Rattle.session.specs.Counting.{counted, has_stone, is_read, is_parsed_read, is_read_line}
 use Rattle.session.specs.Asking.{Nothing, One, ReadsAs, ReadsNothing, KeepsCounts, CountsRefused, after_trials, key_at, asks_at, asks_of, asks_of_parsed, asks_of_line}
 use Rattle.session.specs.Serving.{HasFewFresh}
 
-module _ (old new : Kept) where
+module _ (old new : SessionState) where
   -- no reading was made, and so the counts are as before
   nothing-kept : ReadsNothing old new → KeepsCounts old new
   nothing-kept none = record {
@@ -94,14 +94,14 @@ module _ (old new : Kept) where
     few_fresh-parsed _ readings read few = few-kept (nothing-kept read) few
 
 -- and of the line
-pub counts_kept-line : (machine : Machine) (line : RawLine) (old new : Kept)
+pub counts_kept-line : (machine : Machine) (line : RawLine) (old new : SessionState)
     → ReadsAs (asks_of_line machine line) old new → (is_read_line machine line ≡ true → ⊥) → KeepsCounts old new
 unfolding asks_of_line is_read_line
 counts_kept-line machine TooLong old new read never = nothing-kept old new read
 counts_kept-line machine (Line text) old new read never =
     counts_kept-parsed old new machine (parsed_of text machine.size) read never
 
-pub few_fresh-line : (machine : Machine) (line : RawLine) (old new : Kept)
+pub few_fresh-line : (machine : Machine) (line : RawLine) (old new : SessionState)
     → new.counts.readings ≡ counted old.counts.readings (is_read_line machine line)
     → ReadsAs (asks_of_line machine line) old new → HasFewFresh old.counts → HasFewFresh new.counts
 unfolding asks_of_line is_read_line
@@ -110,7 +110,7 @@ few_fresh-line machine (Line text) old new readings read few =
     few_fresh-parsed old new machine (parsed_of text machine.size) readings read few
 
 -- one call of the readings was made on the board of a session
-module _ (old new : Kept) (kind : Kind) (p : ℕ) (pos : BoardState) (answer : Answer) (before after : ReadingsView)
+module _ (old new : SessionState) (kind : Kind) (p : ℕ) (pos : BoardState) (answer : Answer) (before after : ReadingsView)
     (board : pos ≡ position_of (machine_of old)) (was : before ≡ old.readings) (plies : before.plies ≡ old.plies)
     (wide : before.wide ≡ old.wide) (is : new.readings ≡ after) where
   -- it was about the string of the point, on this board

@@ -15,7 +15,7 @@ use Rattle.session.specs.Matcher.{Matcher, plain_matcher, codes_of}
 use Rattle.cons_eval.specs.Readings.{Codes}
 use Rattle.session.specs.Answering.{step}
 use Rattle.session.specs.Tallies.{Tally}
-use Rattle.session.specs.Kept.{Kept, machine_of, matcher_with, first_kept}
+use Rattle.session.specs.SessionState.{SessionState, machine_of, matcher_with, first_kept}
 use Rattle.session.specs.Opened.{IsPlainWith}
 use Rattle.session.specs.Ends.{Streams}
 use Rattle.session.specs.Headline.{ServesLines}
@@ -48,7 +48,7 @@ plain-first advice patterns rows plies wide capacity room accepts = record {
 }
 
 -- a session that is plain with some patterns served the lines as the plain machine does
-pub ServesLines-plain : (advice : Advice) (patterns : List Pattern) (plies wide : ℕ) (session : Kept)
+pub ServesLines-plain : (advice : Advice) (patterns : List Pattern) (plies wide : ℕ) (session : SessionState)
     (matcher : Matcher)
     (generate : Option ℕ) (before after : Streams) (end : End) (tally : Tally Machine)
     → IsPlainWith advice patterns plies wide session matcher

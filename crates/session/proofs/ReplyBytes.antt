@@ -8,7 +8,7 @@ use Rattle.std.proofs.KnownBytes.{Appends-nil}
 use Rattle.run_notes.specs.declared.notes.Sent.{Sent}
 use Rattle.session.specs.Answering.{step}
 use Rattle.session.specs.Matcher.{Matcher}
-use Rattle.session.specs.Kept.{Kept, machine_of}
+use Rattle.session.specs.SessionState.{SessionState, machine_of}
 use Rattle.session.specs.Counting.{counted, is_read_line}
 use Rattle.session.specs.Asking.{ReadsAs, IsAfterLine, asks_of_line}
 use Rattle.session.specs.Turns.{IsAlong}
@@ -47,7 +47,7 @@ IsReply-some old given (Text bytes) new is none = cc
 IsReply-some old given (NoMemory id) new is none = cc
 
 -- The session answered a line with a reply of some bytes.
-module _ (matcher : Matcher) (old new : Kept) (line : RawLine) (reply : Reply)
+module _ (matcher : Matcher) (old new : SessionState) (line : RawLine) (reply : Reply)
     (answers : IsReplyTo (machine_of old) (step matcher (machine_of old) line) reply (machine_of new))
     (readings : new.counts.readings ≡ counted old.counts.readings (is_read_line (machine_of old) line))
     (read : ReadsAs (asks_of_line (machine_of old) line) old new)
@@ -93,7 +93,7 @@ module _ (matcher : Matcher) (old new : Kept) (line : RawLine) (reply : Reply)
   }
 
 -- the session passed the line over, and nothing was put
-pub Replies-nothing : (matcher : Matcher) (old new : Kept) (line : RawLine) (w : Option (List ℕ)) (s : Sent)
+pub Replies-nothing : (matcher : Matcher) (old new : SessionState) (line : RawLine) (w : Option (List ℕ)) (s : Sent)
     → IsReplyTo (machine_of old) (step matcher (machine_of old) line) Nothing (machine_of new)
     → new.counts.readings ≡ counted old.counts.readings (is_read_line (machine_of old) line)
     → ReadsAs (asks_of_line (machine_of old) line) old new
@@ -111,7 +111,7 @@ Replies-nothing matcher old new line w s answers readings read = record {
 }
 
 -- The session answered a line, and its reply came behind those that wait; session is what it kept, and now what it is.
-module _ (matcher : Matcher) (old new now : Kept) (same : now ≡ new) (line : RawLine) (reply : Reply)
+module _ (matcher : Matcher) (old new now : SessionState) (same : now ≡ new) (line : RawLine) (reply : Reply)
     (answers : IsReplyTo (machine_of old) (step matcher (machine_of old) line) reply (machine_of new))
     (readings : new.counts.readings ≡ counted old.counts.readings (is_read_line (machine_of old) line))
     (read : ReadsAs (asks_of_line (machine_of old) line) old new)
@@ -120,7 +120,7 @@ module _ (matcher : Matcher) (old new now : Kept) (same : now ≡ new) (line : R
   pub turn-nothing : reply ≡ Nothing → RunsTo (step matcher) IsAfterLine (machine_of old) (line ∷ []) (machine_of now)
       false (progress_with w0 old s0 b0) (progress_with w0 now s0 b0)
   turn-nothing is =
-      subst (λ (k : Kept). RunsTo (step matcher) IsAfterLine (machine_of old) (line ∷ []) (machine_of k) false
+      subst (λ (k : SessionState). RunsTo (step matcher) IsAfterLine (machine_of old) (line ∷ []) (machine_of k) false
       (progress_with w0 old s0 b0) (progress_with w0 k s0 b0)) (sym same)
       (RunsTo-one Machine (step matcher) IsAfterLine (machine_of old) line (machine_of new) false
       (progress_with w0 old s0 b0) (progress_with w0 new s0 b0) (line ∷ []) refl
@@ -135,7 +135,7 @@ module _ (matcher : Matcher) (old new now : Kept) (same : now ≡ new) (line : R
       → RunsTo (step matcher) IsAfterLine (machine_of old) (line ∷ []) (machine_of now) (reply_ends reply)
       (progress_with w0 old s0 b0) (progress_with w1 now s1 b1)
   turn-whole w1 s1 b1 sent counts bytes some sends =
-      subst (λ (k : Kept). RunsTo (step matcher) IsAfterLine (machine_of old) (line ∷ []) (machine_of k)
+      subst (λ (k : SessionState). RunsTo (step matcher) IsAfterLine (machine_of old) (line ∷ []) (machine_of k)
       (reply_ends reply) (progress_with w0 old s0 b0) (progress_with w1 k s1 b1)) (sym same)
       (RunsTo-one Machine (step matcher) IsAfterLine (machine_of old) line (machine_of new) (reply_ends reply)
       (progress_with w0 old s0 b0) (progress_with w1 new s1 b1) (line ∷ []) refl
@@ -152,7 +152,7 @@ module _ (matcher : Matcher) (old new now : Kept) (same : now ≡ new) (line : R
       (λ (cuts : CutsReply (holds_with w0 b0) (sent_with s0 b0) sent counts stop).
       inr (record {
         kept = new;
-        same = cuts.same ∙ noted ∙ ap (λ (k : Kept). k.counts) same;
+        same = cuts.same ∙ noted ∙ ap (λ (k : SessionState). k.counts) same;
         runs = RunsPart-one Machine (step matcher) IsAfterLine (machine_of old) line a
             (progress_of stop.written new stop.sent) (line ∷ []) [] refl
             (Replies-part matcher old new line reply answers readings read (holds_with w0 b0) stop.written

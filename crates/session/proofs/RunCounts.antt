@@ -9,7 +9,7 @@ use Rattle.gtp_lex.specs.Held.{lines_from, held_from, held_line, longer}
 use Rattle.gtp_lex.proofs.HeldLemmas.{lines_with_rest-lines_from}
 use Rattle.run_notes.specs.declared.notes.Counts.{Counts}
 use Rattle.session.specs.Machine.{Machine}
-use Rattle.session.specs.Kept.{Kept, no_counts}
+use Rattle.session.specs.SessionState.{SessionState, no_counts}
 use Rattle.session.specs.Counting.{counted, is_read_line, readings_in}
 use Rattle.session.specs.Asking.{IsAfterLine}
 use Rattle.session.specs.Serving.{HasFewFresh}
@@ -133,10 +133,10 @@ module _ {M : Type 0} (step : M → RawLine → Step M) where
 -- What was counted.
 
 -- the readings of the lines are counted
-readings_along : (turns : List (Turn Machine)) (a b : Kept) → IsAlong IsAfterLine a turns b
+readings_along : (turns : List (Turn Machine)) (a b : SessionState) → IsAlong IsAfterLine a turns b
     → a.counts.readings + length turns < 2 ^ 64
     → b.counts.readings ≡ a.counts.readings + readings_in turns
-readings_along [] a b along small = let same = ap (λ (k : Kept). k.counts.readings) along in omega (arith, same)
+readings_along [] a b along small = let same = ap (λ (k : SessionState). k.counts.readings) along in omega (arith, same)
 readings_along (turn ∷ turns) a b (mid, first, rest) small =
     let counts = sum_by-cons (λ (t : Turn Machine). cond (is_read_line t.machine t.line) 1 0) turn turns in
     let here = by (is_read_line turn.machine turn.line) first.readings in
@@ -149,14 +149,14 @@ readings_along (turn ∷ turns) a b (mid, first, rest) small =
     by false is = (omega (arith, is), omega (arith, is))
 
 -- no more are fresh than were counted
-few_along : (turns : List (Turn Machine)) (a b : Kept) → IsAlong IsAfterLine a turns b → HasFewFresh a.counts
+few_along : (turns : List (Turn Machine)) (a b : SessionState) → IsAlong IsAfterLine a turns b → HasFewFresh a.counts
     → HasFewFresh b.counts
-few_along [] a b along few = subst (λ (k : Kept). HasFewFresh k.counts) (sym along) few
+few_along [] a b along few = subst (λ (k : SessionState). HasFewFresh k.counts) (sym along) few
 few_along (turn ∷ turns) a b (mid, first, rest) few =
     few_along turns mid b rest (few_fresh-line turn.machine turn.line a mid first.readings first.read few)
 
 -- the counts of a session that has answered few lines since it had counted nothing
-pub counts_of : (first last : Kept) (turns : List (Turn Machine)) → IsAlong IsAfterLine first turns last
+pub counts_of : (first last : SessionState) (turns : List (Turn Machine)) → IsAlong IsAfterLine first turns last
     → first.counts ≡ no_counts
     → 8 ≤ first.readings.kept.1 → length turns ≤ most_taken + 1 → AreCountsOf turns last.counts
 counts_of first last turns along none room few =

@@ -20,7 +20,7 @@ use Rattle.helpers.specs.Asking.{SlotState, says_yes}
 use Rattle.session.specs.Answering.{step}
 use Rattle.session.specs.Handed.{helper_names}
 use Rattle.session.specs.Matcher.{Matcher}
-use Rattle.session.specs.Kept.{Kept, machine_of}
+use Rattle.session.specs.SessionState.{SessionState, machine_of}
 use Rattle.session.specs.Opening.{IsRefused, MissedIn}
 use Rattle.session.specs.Opened.{Opens, CameBy, ServesCounting, EndsCounting}
 use Rattle.session.specs.Outcomes.{Phase, NotTaken, NotOpened, Served}
@@ -47,7 +47,7 @@ sent-told (Some n) sent tally lines bytes = (lines, bytes)
 
 -- the files were opened, and the session served the lines
 pub came-served : (helpers : List SlotState) (contents : List ℕ → Option (List ℕ)) (options : Options)
-    (session : Kept) (matcher : Matcher) (lines : LinesState)
+    (session : SessionState) (matcher : Matcher) (lines : LinesState)
     (before after : Streams) (end : End) (counts : Counts) (w0 w1 : Option (List ℕ)) (sent : Sent)
     (told : Option Counts) (noted : Option Sent)
     (phase : Phase) → Opens helpers contents options session matcher lines
@@ -116,7 +116,7 @@ not_too_long step first left text rest taken put piece n end few is reads right 
     omega (arith, taken_all, short, parts)
 
 -- generated lines were served in place of the source
-serves-generated : {M : Type 0} (n : ℕ) (step : M → RawLine → Step M) (goes : Kept → Turn M → Kept → Type 0)
+serves-generated : {M : Type 0} (n : ℕ) (step : M → RawLine → Step M) (goes : SessionState → Turn M → SessionState → Type 0)
     (first : M)
     (left : Option (List ℕ)) (piece faults : ℕ) (w0 w1 : Option (List ℕ)) (c0 c1 f0 f1 p : ℕ) (text rest : List ℕ)
     (last : ℕ)
@@ -167,7 +167,7 @@ serves-generated n step goes first left piece faults w0 w1 c0 c1 f0 f1 p text re
     })
 
 -- the same, with the counts that are noted
-pub ends-generated : {M : Type 0} (n : ℕ) (step : M → RawLine → Step M) (goes : Kept → Turn M → Kept → Type 0)
+pub ends-generated : {M : Type 0} (n : ℕ) (step : M → RawLine → Step M) (goes : SessionState → Turn M → SessionState → Type 0)
     (first : M)
     (left : Option (List ℕ)) (piece faults : ℕ) (w0 w1 : Option (List ℕ)) (c0 c1 f0 f1 p : ℕ) (text rest : List ℕ)
     (last : ℕ)

@@ -14,7 +14,7 @@ use Rattle.run_notes.specs.declared.notes.Sent.{Sent}
 use Rattle.session.specs.Machine.{Machine}
 use Rattle.session.specs.Matcher.{Matcher}
 use Rattle.session.specs.Answering as answering
-use Rattle.session.specs.Kept.{Kept}
+use Rattle.session.specs.SessionState.{SessionState}
 use Rattle.session.specs.Turns.{Turn}
 use Rattle.session.specs.Tallies.{Progress, IsTallied, tally_of, cut_tally, no_tally, together}
 use Rattle.session.specs.Serving.{Replies, RepliesPart, RunsTo, RunsPart, progress_of}
@@ -121,7 +121,7 @@ held_from-take held held' rest n after =
     ∙ ap (λ k. held_from k (drop n rest)) (sym after) ∙ ap (held_from held') (sym (take_rest rest n))
 
 -- Two sessions that find matches in one way answer by one step.
-module _ (goes : Kept → Turn Machine → Kept → Type 0) (now first : Matcher) (same : now ≡ first) where
+module _ (goes : SessionState → Turn Machine → SessionState → Type 0) (now first : Matcher) (same : now ≡ first) where
   -- lines that were answered whole
   pub RunsTo-by : (from : Machine) (lines : List RawLine) (to : Machine) (ended : Bool) (a b : Progress)
       → RunsTo (answering.step now) goes from lines to ended a b → RunsTo
@@ -129,7 +129,7 @@ module _ (goes : Kept → Turn Machine → Kept → Type 0) (now first : Matcher
   RunsTo-by from lines to ended a b runs = subst (λ m. RunsTo (answering.step m) goes from lines to ended a b) same runs
 
   -- lines where the output failed
-  pub MayCut-by : (from : Machine) (lines : List RawLine) (w : Option (List ℕ)) (kept : Kept) (s : Sent)
+  pub MayCut-by : (from : Machine) (lines : List RawLine) (w : Option (List ℕ)) (kept : SessionState) (s : Sent)
       (b : WaitingState) (stop : Stop) → MayCut (answering.step now) goes from lines w kept s b stop
       → MayCut (answering.step first) goes from lines w kept s b stop
   MayCut-by from lines w kept s b stop may = subst (λ m. MayCut (answering.step m) goes from lines w kept s b stop)
@@ -140,7 +140,7 @@ module _ (goes : Kept → Turn Machine → Kept → Type 0) (now first : Matcher
       → CutsShort (answering.step now) goes from lines a stop → CutsShort (answering.step first) goes from lines a stop
   CutsShort-by from lines a stop cuts = subst (λ m. CutsShort (answering.step m) goes from lines a stop) same cuts
 
-module _ (M : Type 0) (step : M → RawLine → Step M) (goes : Kept → Turn M → Kept → Type 0) where
+module _ (M : Type 0) (step : M → RawLine → Step M) (goes : SessionState → Turn M → SessionState → Type 0) where
   -- one line, answered whole
   pub RunsTo-one : (from : M) (line : RawLine) (to : M) (ends : Bool) (a b : Progress) (lines : List RawLine)
       → lines ≡ line ∷ []
@@ -241,13 +241,13 @@ module _ (M : Type 0) (step : M → RawLine → Step M) (goes : Kept → Turn M 
   CutsShort-is from xs ys a stop same cuts = subst (λ l. CutsShort step goes from l a stop) (sym same) cuts
 
   -- the same lines, where the output may fail
-  pub MayCut-is : (from : M) (xs ys : List RawLine) (w : Option (List ℕ)) (kept : Kept) (s : Sent) (b : WaitingState)
+  pub MayCut-is : (from : M) (xs ys : List RawLine) (w : Option (List ℕ)) (kept : SessionState) (s : Sent) (b : WaitingState)
       (stop : Stop) → xs ≡ ys → MayCut step goes from ys w kept s b stop → MayCut step goes from xs w kept s b stop
   MayCut-is from xs ys w kept s b stop same may =
       subst (λ l. MayCut step goes from l w kept s b stop) (sym same) may
 
   -- the line that was taken may break off, so the lines of the rest may
-  pub taken_part : (from : M) (held line : RawLine) (rest : List ℕ) (n : ℕ) (w : Option (List ℕ)) (kept : Kept)
+  pub taken_part : (from : M) (held line : RawLine) (rest : List ℕ) (n : ℕ) (w : Option (List ℕ)) (kept : SessionState)
       (s : Sent) (b : WaitingState) (stop : Stop)
       → lines_from held (take n rest) ≡ line ∷ [] → held_from held (take n rest) ≡ Line []
       → MayCut step goes from (line ∷ []) w kept s b stop
@@ -262,7 +262,7 @@ module _ (M : Type 0) (step : M → RawLine → Step M) (goes : Kept → Turn M 
       (CutsShort-more from (line ∷ []) more a stop cuts))) may
 
   -- all that waits is put, and what was answered is out
-  flushed : (from to : M) (lines : List RawLine) (ended : Bool) (a : Progress) (w0 w1 : Option (List ℕ)) (kept : Kept)
+  flushed : (from to : M) (lines : List RawLine) (ended : Bool) (a : Progress) (w0 w1 : Option (List ℕ)) (kept : SessionState)
       (s0 s1 : Sent) (b : WaitingState) → RunsTo step goes from lines to ended a (progress_with w0 kept s0 b)
       → Stays w0 w1 s0 s1 b none_wait → RunsTo step goes from lines to ended a (progress_of w1 kept s1)
   flushed from to lines ended a w0 w1 kept s0 s1 b runs stays = record {
@@ -277,17 +277,17 @@ module _ (M : Type 0) (step : M → RawLine → Step M) (goes : Kept → Turn M 
   }
 
 -- Some lines were answered, their replies are out or wait, and the output may fail within those that wait.
-pub record PieceSoFar {M : Type 0} (step : M → RawLine → Step M) (goes : Kept → Turn M → Kept → Type 0) (from to : M)
-    (all left : List RawLine) (old : Progress) (w : Option (List ℕ)) (kept : Kept) (s : Sent)
+pub record PieceSoFar {M : Type 0} (step : M → RawLine → Step M) (goes : SessionState → Turn M → SessionState → Type 0) (from to : M)
+    (all left : List RawLine) (old : Progress) (w : Option (List ℕ)) (kept : SessionState) (s : Sent)
     (b : WaitingState) : Type 0 where
   pub lines : List RawLine
   pub whole : all ≡ lines ++ left
   pub runs : RunsTo step goes from lines to false old (progress_with w kept s b)
   pub stops : (stop : Stop) → IsStop w s b stop → CutsShort step goes from lines old stop
 
-module _ (M : Type 0) (step : M → RawLine → Step M) (goes : Kept → Turn M → Kept → Type 0) where
+module _ (M : Type 0) (step : M → RawLine → Step M) (goes : SessionState → Turn M → SessionState → Type 0) where
   -- nothing was answered, and no reply waits
-  start_runs : (from : M) (w : Option (List ℕ)) (kept : Kept) (s : Sent) (b : WaitingState) → b ≡ none_wait
+  start_runs : (from : M) (w : Option (List ℕ)) (kept : SessionState) (s : Sent) (b : WaitingState) → b ≡ none_wait
       → RunsTo step goes from [] from false (progress_of w kept s) (progress_with w kept s b)
   start_runs from w kept s b none =
       subst (λ (b : WaitingState). RunsTo step goes from [] from false (progress_of w kept s)
@@ -298,7 +298,7 @@ module _ (M : Type 0) (step : M → RawLine → Step M) (goes : Kept → Turn M 
       })
 
   -- none was answered, and no reply waits
-  pub piece_start : (from : M) (all : List RawLine) (w : Option (List ℕ)) (kept : Kept) (s : Sent) (b : WaitingState)
+  pub piece_start : (from : M) (all : List RawLine) (w : Option (List ℕ)) (kept : SessionState) (s : Sent) (b : WaitingState)
       → b ≡ none_wait → PieceSoFar step goes from from all all (progress_of w kept s) w kept s b
   piece_start from all w kept s b none =
       subst (λ (b : WaitingState). PieceSoFar step goes from from all all (progress_of w kept s) w kept s b) (sym none)
@@ -313,7 +313,7 @@ module _ (M : Type 0) (step : M → RawLine → Step M) (goes : Kept → Turn M 
         stops = λ stop at. absurd (let within = at.within in omega (arith, within));
       })
 
-  module _ (from mid : M) (all left : List RawLine) (old : Progress) (w : Option (List ℕ)) (kept : Kept) (s : Sent)
+  module _ (from mid : M) (all left : List RawLine) (old : Progress) (w : Option (List ℕ)) (kept : SessionState) (s : Sent)
       (b : WaitingState) (so_far : PieceSoFar step goes from mid all left old w kept s b) where
     -- a reply broke off
     pub piece_cut : (stop : Stop) → MayCut step goes mid left w kept s b stop → CutsShort step goes from all old stop
@@ -335,7 +335,7 @@ module _ (M : Type 0) (step : M → RawLine → Step M) (goes : Kept → Turn M 
 
     -- More lines were answered.
     module _ (next more : List RawLine) (parts : left ≡ next ++ more) (to : M) (ended : Bool) (w' : Option (List ℕ))
-        (kept' : Kept) (s' : Sent) (b' : WaitingState)
+        (kept' : SessionState) (s' : Sent) (b' : WaitingState)
         (later : RunsTo step goes mid next to ended (progress_with w kept s b) (progress_with w' kept' s' b'))
         (stops : (stop : Stop) → IsStop w' s' b' stop → MayCut step goes mid next w kept s b stop) where
       -- the lines so far, and what is left
@@ -384,7 +384,7 @@ module _ (M : Type 0) (step : M → RawLine → Step M) (goes : Kept → Turn M 
           }
 
   -- No reply waited, and one line was answered.
-  module _ (from : M) (all lines : List RawLine) (same : all ≡ lines) (w0 : Option (List ℕ)) (kept0 : Kept)
+  module _ (from : M) (all lines : List RawLine) (same : all ≡ lines) (w0 : Option (List ℕ)) (kept0 : SessionState)
       (s0 : Sent) (b0 : WaitingState) (none : b0 ≡ none_wait) where
     -- where the output may fail
     pub rest_cut : (stop : Stop) → MayCut step goes from lines w0 kept0 s0 b0 stop
@@ -394,7 +394,7 @@ module _ (M : Type 0) (step : M → RawLine → Step M) (goes : Kept → Turn M 
         stop (MayCut-is M step goes from all lines w0 kept0 s0 b0 stop same may)
 
     -- what waited is out
-    pub rest_done : (to : M) (ended : Bool) (w1 w2 : Option (List ℕ)) (kept1 : Kept) (s1 s2 : Sent) (b1 : WaitingState)
+    pub rest_done : (to : M) (ended : Bool) (w1 w2 : Option (List ℕ)) (kept1 : SessionState) (s1 s2 : Sent) (b1 : WaitingState)
         → RunsTo step goes from lines to ended (progress_with w0 kept0 s0 b0) (progress_with w1 kept1 s1 b1)
         → Stays w1 w2 s1 s2 b1 none_wait
         → RunsTo step goes from all to ended (progress_of w0 kept0 s0) (progress_of w2 kept1 s2)
@@ -409,7 +409,7 @@ module _ (M : Type 0) (step : M → RawLine → Step M) (goes : Kept → Turn M 
 
   -- One line was answered.
   module _ {T E : Type 0} (from : M) (held line : RawLine) (same : held ≡ line) (w0 w1 : Option (List ℕ))
-      (kept0 : Kept) (s0 s1 : Sent) (b0 b1 : WaitingState) (result : Result T E) where
+      (kept0 : SessionState) (s0 s1 : Sent) (b0 b1 : WaitingState) (result : Result T E) where
     -- where the output may fail after it
     pub stops-line : OnOk result ((stop : Stop) → IsStop w1 s1 b1 stop
         → MayCut step goes from (line ∷ []) w0 kept0 s0 b0 stop)
@@ -418,7 +418,7 @@ module _ (M : Type 0) (step : M → RawLine → Step M) (goes : Kept → Turn M 
         → MayCut step goes from (l ∷ []) w0 kept0 s0 b0 stop)) (sym same) stops
 
   -- where the output failed within it
-  pub part-line : {T : Type 0} (from : M) (held line : RawLine) → held ≡ line → (w0 w1 : Option (List ℕ)) (kept0 : Kept)
+  pub part-line : {T : Type 0} (from : M) (held line : RawLine) → held ≡ line → (w0 w1 : Option (List ℕ)) (kept0 : SessionState)
       (s0 s1 : Sent) (b0 : WaitingState) (result : Result T Counts) → IfErr result
       (λ noted. MayCut step goes from (line ∷ []) w0 kept0 s0 b0
       (record { written = w1; sent = s1; counts = noted }))

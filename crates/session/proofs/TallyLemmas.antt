@@ -7,7 +7,7 @@ use Rattle.std.proofs.Common.{◌≡◌, ⊎_elim, ℕ, zero, suc, ◌+◌, ◌-
 use Rattle.gtp_rules.specs.Lines.{RawLine}
 use Rattle.gtp_rules.specs.Steps.{Step}
 use Rattle.gtp_rules.specs.Transcript.{Answers, IsRun, Cut}
-use Rattle.session.specs.Kept.{Kept}
+use Rattle.session.specs.SessionState.{SessionState}
 use Rattle.session.specs.Turns.{Turn, IsAlong}
 use Rattle.session.specs.Tallies.{Tally, no_tally, together, tally_of, cut_tally, kept_sum, Progress, Advances, IsTallied, BreaksOff}
 
@@ -74,11 +74,11 @@ IsAlong-split goes a c (x ∷ xs) ys (mid, first, rest) =
     let parts = IsAlong-split goes mid c xs ys rest in (parts.0, (mid, first, parts.1), parts.2)
 
 -- nothing was put
-pub Advances-none : {M : Type 0} (goes : Kept → Turn M → Kept → Type 0) (a : Progress) → Advances goes a a no_tally
+pub Advances-none : {M : Type 0} (goes : SessionState → Turn M → SessionState → Type 0) (a : Progress) → Advances goes a a no_tally
 Advances-none goes a = record { writes = Appends-nil a.written; along = refl; replies = refl; bytes = refl }
 
 -- one tally was put and then another
-pub Advances-trans : {M : Type 0} (goes : Kept → Turn M → Kept → Type 0) (a b c : Progress) (s t : Tally M)
+pub Advances-trans : {M : Type 0} (goes : SessionState → Turn M → SessionState → Type 0) (a b c : Progress) (s t : Tally M)
     → Advances goes a b s → Advances goes b c t → Advances goes a c (together s t)
 Advances-trans goes a b c s t earlier later = record {
   writes = Appends-trans a.written b.written c.written s.out t.out earlier.writes later.writes;

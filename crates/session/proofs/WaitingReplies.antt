@@ -7,11 +7,11 @@ use Rattle.std.proofs.lemmas.List.{take_more_set, take_rest, take-append-le, len
 use Rattle.std.proofs.Math.Seq.{take-append-add}
 use Rattle.run_notes.specs.declared.notes.Counts.{Counts}
 use Rattle.run_notes.specs.declared.notes.Sent.{Sent}
-use Rattle.session.specs.Kept.{no_counts}
+use Rattle.session.specs.SessionState.{no_counts}
 use Rattle.session.specs.Tallies.{kept_sum}
 use Rattle.session.specs.Serving.{Puts, PutsFront, PutsPart, PutsReply}
 use Rattle.session.specs.Waiting.{WaitingState, none_wait, gone, counts_at, AreMarked, holds_with, sent_with, Stop, IsStop, CutsReply, Stays, Sends}
-use Rattle.session.specs.declared.outbox.Mark.{Mark}
+use Rattle.session.specs.declared.outbox.ReplyMark.{ReplyMark}
 use Rattle.session.proofs.TallyLemmas.{kept_sum-twice}
 
 -- what holds of every success follows from what does
@@ -86,7 +86,7 @@ front-step true g g' n c c' own later less =
 front-step false g g' n c c' own later less = (refl, refl)
 
 -- where not each of some replies has ended, those behind them do not count
-gone-front : (ms ns : List Mark) (k : ℕ) → gone ms k < length ms
+gone-front : (ms ns : List ReplyMark) (k : ℕ) → gone ms k < length ms
     → (gone (ms ++ ns) k ≡ gone ms k) × (counts_at (ms ++ ns) k ≡ counts_at ms k)
 gone-front [] ns k less = absurd (omega (arith, less))
 gone-front (m ∷ ms) ns k less =
@@ -101,7 +101,7 @@ back-step true g g' n h c c' own later all =
 back-step false g g' n h c c' own later all = absurd (omega (arith, all))
 
 -- where some replies have all ended, those behind them decide
-gone-back : (ms ns : List Mark) (k : ℕ) → gone ms k ≡ length ms
+gone-back : (ms ns : List ReplyMark) (k : ℕ) → gone ms k ≡ length ms
     → (gone (ms ++ ns) k ≡ length ms + gone ns k) × (counts_at (ms ++ ns) k ≡ counts_at ns k)
 gone-back [] ns k all = ((let same : gone ns k ≡ 0 + gone ns k = omega arith in same), refl)
 gone-back (m ∷ ms) ns k all =
@@ -109,18 +109,18 @@ gone-back (m ∷ ms) ns k all =
     (counts_at (ms ++ ns) k) m.counts (gone-back ms ns k) all
 
 -- one reply that has not ended
-one-past : (m : Mark) (k : ℕ) → k < m.end → (gone (m ∷ []) k ≡ 0) × (counts_at (m ∷ []) k ≡ m.counts)
+one-past : (m : ReplyMark) (k : ℕ) → k < m.end → (gone (m ∷ []) k ≡ 0) × (counts_at (m ∷ []) k ≡ m.counts)
 one-past m k past =
     let test : nat_le m.end k ≡ false = lt-leb m.end k past in
     (ap (λ b. cond b (suc 0) 0) test, ap (λ b. cond b no_counts m.counts) test)
 
 -- one reply that has ended
-one-within : (m : Mark) (k : ℕ) → m.end ≤ k → gone (m ∷ []) k ≡ 1
+one-within : (m : ReplyMark) (k : ℕ) → m.end ≤ k → gone (m ∷ []) k ≡ 1
 one-within m k within =
     let test : nat_le m.end k ≡ true = le-leb m.end k within in ap (λ b. cond b (suc 0) 0) test
 
 -- A reply more waits.
-module _ (bytes reply : List ℕ) (marks : List Mark) (m : Mark) (are : AreMarked bytes marks)
+module _ (bytes reply : List ℕ) (marks : List ReplyMark) (m : ReplyMark) (are : AreMarked bytes marks)
     (ends : m.end ≡ length bytes + length reply) where
   -- its mark stands behind the others
   pub marked-more : AreMarked (bytes ++ reply) (marks ++ m ∷ [])
@@ -171,7 +171,7 @@ kept-none (Some xs) (Some ys) None bytes puts same = absurd same
 kept-none (Some xs) (Some ys) (Some zs) bytes puts same = sym (append-nil zs) ∙ same ∙ puts
 
 -- A reply more waits, and nothing is put.
-module _ (written : Option (List ℕ)) (sent : Sent) (bytes reply : List ℕ) (marks : List Mark) (m : Mark)
+module _ (written : Option (List ℕ)) (sent : Sent) (bytes reply : List ℕ) (marks : List ReplyMark) (m : ReplyMark)
     (are : AreMarked bytes marks) (ends : m.end ≡ length bytes + length reply) where
   -- what waits before and after
   abbrev before : WaitingState
@@ -266,7 +266,7 @@ sends-stays w0 w1 w2 s0 s1 s2 b0 b1 b2 reply counts sends stays = record {
 }
 
 -- The fields of an outbox after a reply more.
-module _ (len count : ℕ) (old new reply : List ℕ) (marks : List Mark) (m : Mark)
+module _ (len count : ℕ) (old new reply : List ℕ) (marks : List ReplyMark) (m : ReplyMark)
     (wrote : take (len + length reply) new ≡ take len old ++ reply) (some : count < length marks)
     (fits : len ≤ length old) (ends : m.end ≡ len + length reply) where
   -- what waits after it

@@ -14,7 +14,7 @@ use Rattle.read_rules.specs.Answer.{asked_on}
 use Rattle.match_engine.specs.declared.keys.Key.{Key}
 use Rattle.match_engine.specs.Readings.{HasRead, AllRest}
 use Rattle.session.specs.Machine.{Machine, position_of}
-use Rattle.session.specs.Kept.{Kept, machine_of}
+use Rattle.session.specs.SessionState.{SessionState, machine_of}
 use Rattle.session.specs.Counting.{has_stone, counted, is_read_line}
 use Rattle.session.specs.Turns.{Turn}
 use Rattle.read_rules.specs.declared.question.Answer.{Answer}
@@ -54,7 +54,7 @@ asks_of_line machine TooLong = Nothing
 asks_of_line machine (Line text) = asks_of_parsed machine (parsed_of text machine.size)
 
 -- what is counted of the readings of lines is as before
-pub record KeepsCounts (old new : Kept) : Type 0 where
+pub record KeepsCounts (old new : SessionState) : Type 0 where
   pub readings : new.counts.readings ≡ old.counts.readings
   pub fresh : new.counts.fresh ≡ old.counts.fresh
   pub trials : new.counts.trials ≡ old.counts.trials
@@ -66,12 +66,12 @@ after_trials count None = count
 after_trials count (Some n) = min (count + n) (2 ^ 64 - 1)
 
 -- the session counts as many refused keepings as its readings
-abbrev pub CountsRefused : Kept → Type 0
+abbrev pub CountsRefused : SessionState → Type 0
 CountsRefused session = session.counts.refused ≡ session.readings.refused
 
 -- One call of the readings was made, for this question. It counts as fresh, with its trial plays, exactly where the
 -- readings say so. The board is a position, and each kept answer rests on its facts.
-pub record ReadsOnce (key : Key) (old new : Kept) : Type 0 where
+pub record ReadsOnce (key : Key) (old new : SessionState) : Type 0 where
   pub answer : Answer
   pub read : HasRead key (position_of (machine_of old)) answer old.readings new.readings
   pub board : IsPosition (position_of (machine_of old))
@@ -83,24 +83,24 @@ pub record ReadsOnce (key : Key) (old new : Kept) : Type 0 where
 
 -- Any number of readings was made for patterns, none of which counts as that of a line. As many questions may be kept
 -- as before.
-pub record ReadsMany (old new : Kept) : Type 0 where
+pub record ReadsMany (old new : SessionState) : Type 0 where
   pub counts : KeepsCounts old new
   pub capacity : new.readings.kept.1 ≡ old.readings.kept.1
 
 -- no reading was made, and what is kept stays
-pub record ReadsNothing (old new : Kept) : Type 0 where
+pub record ReadsNothing (old new : SessionState) : Type 0 where
   pub counts : new.counts ≡ old.counts
   pub kept : new.readings.kept ≡ old.readings.kept
 
 -- new is old after the readings that were asked for
-abbrev pub ReadsAs : Asks → Kept → Kept → Type 0
+abbrev pub ReadsAs : Asks → SessionState → SessionState → Type 0
 ReadsAs Nothing old new = ReadsNothing old new
 ReadsAs (One key) old new = ReadsOnce key old new
 ReadsAs Many old new = ReadsMany old new
 
 -- A session that keeps old keeps new after a line that came to its machine: the line is counted where it asks for a
 -- reading and is answered with a code, and what it asks was read.
-pub record IsAfterLine (old : Kept) (turn : Turn Machine) (new : Kept) : Type 0 where
+pub record IsAfterLine (old : SessionState) (turn : Turn Machine) (new : SessionState) : Type 0 where
   pub machine : turn.machine ≡ machine_of old
   pub readings : new.counts.readings ≡ counted old.counts.readings (is_read_line turn.machine turn.line)
   pub read : ReadsAs (asks_of_line turn.machine turn.line) old new

@@ -14,7 +14,7 @@ pub mod MatchingCommands
 pub mod Answering
 pub mod Counting
 pub mod Tallies
-pub mod Kept
+pub mod SessionState
 pub mod Answers
 pub mod Replies
 pub mod Outcomes

@@ -8,7 +8,7 @@ use Rattle.helpers.specs.Asking.{SlotState, says_yes}
 use Rattle.match_rules.specs.Conditions.{Advice}
 use Rattle.session.specs.Handed.{helper_names}
 use Rattle.session.specs.Matcher.{Matcher, plain_matcher}
-use Rattle.session.specs.Kept.{Kept, machine_of, no_counts}
+use Rattle.session.specs.SessionState.{SessionState, machine_of, no_counts}
 use Rattle.session.specs.Opening.{IsOpened, IsRefused}
 use Rattle.session.specs.Outcomes.{Phase, NotTaken, NotOpened, Served}
 use Rattle.session.specs.Ends.{Streams}
@@ -24,7 +24,7 @@ use Rattle.run_notes.specs.declared.notes.Sent.{Sent}
 
 -- the session is the first machine with these plies and wide plies, its matcher finds the matches of these patterns as
 -- the plain one does, by what the helpers say, it has counted nothing, and eight questions and more may be kept
-pub record IsPlainWith (advice : Advice) (patterns : List Pattern) (plies wide : ℕ) (session : Kept)
+pub record IsPlainWith (advice : Advice) (patterns : List Pattern) (plies wide : ℕ) (session : SessionState)
     (matcher : Matcher) : Type 0 where
   pub machine : machine_of session ≡ first_machine plies wide
   pub counts : session.counts ≡ no_counts
@@ -33,7 +33,7 @@ pub record IsPlainWith (advice : Advice) (patterns : List Pattern) (plies wide :
 
 -- the files of the options were opened, in which the helpers may be named, the session is plain with their patterns,
 -- and no line has come
-pub record Opens (helpers : List SlotState) (contents : List ℕ → Option (List ℕ)) (options : Options) (session : Kept)
+pub record Opens (helpers : List SlotState) (contents : List ℕ → Option (List ℕ)) (options : Options) (session : SessionState)
     (matcher : Matcher) (lines : LinesState) : Type 0 where
   pub patterns : List Pattern
   pub opened : IsOpened (helper_names helpers) contents options.files options.states patterns
@@ -52,7 +52,7 @@ CameBy helpers options contents before after counts sent (Served end) =
 
 -- the lines were served with a tally, by which the counts rose, and along which what is kept went on
 pub record ServesCounting {M : Type 0} (generate : Option ℕ) (step : M → RawLine → Step M)
-    (goes : Kept → Turn M → Kept → Type 0) (first : M) (before after : Streams) (end : End)
+    (goes : SessionState → Turn M → SessionState → Type 0) (first : M) (before after : Streams) (end : End)
     (old new : Progress) : Type 0 where
   pub tally : Tally M
   pub serves : ServesLines generate step first before after end tally
@@ -60,8 +60,8 @@ pub record ServesCounting {M : Type 0} (generate : Option ℕ) (step : M → Raw
 
 -- the lines were served so, and these counts are those of what is kept then
 pub record EndsCounting {M : Type 0} (generate : Option ℕ) (step : M → RawLine → Step M)
-    (goes : Kept → Turn M → Kept → Type 0) (first : M) (before after : Streams) (end : End) (counts : Counts)
+    (goes : SessionState → Turn M → SessionState → Type 0) (first : M) (before after : Streams) (end : End) (counts : Counts)
     (old : Progress) (written : Option (List ℕ)) (sent : Sent) : Type 0 where
-  pub kept : Kept
+  pub kept : SessionState
   pub same : counts ≡ kept.counts
   pub serves : ServesCounting generate step goes first before after end old (progress_of written kept sent)

@@ -7,7 +7,7 @@ use Rattle.gtp_rules.specs.Steps.{Step}
 use Rattle.gtp_rules.specs.Transcript.{Answers}
 use Rattle.run_notes.specs.declared.notes.Counts.{Counts}
 use Rattle.run_notes.specs.declared.notes.Sent.{Sent}
-use Rattle.session.specs.Kept.{Kept}
+use Rattle.session.specs.SessionState.{SessionState}
 use Rattle.session.specs.Turns.{Turn}
 use Rattle.session.specs.Tallies.{Tally, Progress, Advances, IsTallied, BreaksOff, tally_of, cut_tally, kept_sum}
 
@@ -17,7 +17,7 @@ pub record HasFewFresh (counts : Counts) : Type 0 where
   pub small : counts.readings < 2 ^ 64
 
 -- how far a run is: what its output holds, what its session keeps, and what was sent
-abbrev pub progress_of : Option (List ℕ) → Kept → Sent → Progress
+abbrev pub progress_of : Option (List ℕ) → SessionState → Sent → Progress
 progress_of written session sent =
     record { written = written; kept = session; replies = sent.lines; bytes = sent.bytes }
 
@@ -47,14 +47,14 @@ pub record PutsReply (old new : Option (List ℕ)) (before now : Sent) (bytes : 
   pub bytes_sent : now.bytes ≡ kept_sum before.bytes (length bytes)
 
 -- the line was answered, and its reply was put whole
-pub record Replies {M : Type 0} (step : M → RawLine → Step M) (goes : Kept → Turn M → Kept → Type 0) (from : M)
+pub record Replies {M : Type 0} (step : M → RawLine → Step M) (goes : SessionState → Turn M → SessionState → Type 0) (from : M)
     (line : RawLine) (to : M) (ends : Bool) (old new : Progress) : Type 0 where
   pub reply : List ℕ
   pub answers : Answers step from line reply to ends
   pub advances : Advances goes old new (tally_of from line reply)
 
 -- the line was answered, and its reply was put in part
-pub record RepliesPart {M : Type 0} (step : M → RawLine → Step M) (goes : Kept → Turn M → Kept → Type 0) (from : M)
+pub record RepliesPart {M : Type 0} (step : M → RawLine → Step M) (goes : SessionState → Turn M → SessionState → Type 0) (from : M)
     (line : RawLine) (old new : Progress) : Type 0 where
   pub part : List ℕ
   pub missing : List ℕ
@@ -65,14 +65,14 @@ pub record RepliesPart {M : Type 0} (step : M → RawLine → Step M) (goes : Ke
   pub advances : Advances goes old new (cut_tally from line part)
 
 -- the lines were answered, and their replies were put whole
-pub record RunsTo {M : Type 0} (step : M → RawLine → Step M) (goes : Kept → Turn M → Kept → Type 0) (from : M)
+pub record RunsTo {M : Type 0} (step : M → RawLine → Step M) (goes : SessionState → Turn M → SessionState → Type 0) (from : M)
     (lines : List RawLine) (to : M) (ended : Bool) (old new : Progress) : Type 0 where
   pub tally : Tally M
   pub run : IsTallied step from lines tally to ended
   pub advances : Advances goes old new tally
 
 -- the lines were answered up to one, whose reply was put in part
-pub record RunsPart {M : Type 0} (step : M → RawLine → Step M) (goes : Kept → Turn M → Kept → Type 0) (from : M)
+pub record RunsPart {M : Type 0} (step : M → RawLine → Step M) (goes : SessionState → Turn M → SessionState → Type 0) (from : M)
     (lines : List RawLine) (old new : Progress) : Type 0 where
   pub tally : Tally M
   pub cut : BreaksOff step from lines tally

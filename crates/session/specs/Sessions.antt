@@ -7,7 +7,7 @@ use Rattle.helpers.specs.Slots.{states_of}
 use Rattle.session.specs.Machine.{Machine}
 use Rattle.session.specs.Matcher.{Matcher}
 use Rattle.session.specs.Answering.{step}
-use Rattle.session.specs.Kept.{matcher_with}
+use Rattle.session.specs.SessionState.{matcher_with}
 use Rattle.session.specs.declared.session.Session.{Session}
 
 -- how a session finds matches: by its automaton and its helpers

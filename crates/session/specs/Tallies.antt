@@ -6,7 +6,7 @@ use Rattle.std.specs.Io.KnownBytes.{Appends}
 use Rattle.gtp_rules.specs.Lines.{RawLine}
 use Rattle.gtp_rules.specs.Steps.{Step}
 use Rattle.gtp_rules.specs.Transcript.{Answers}
-use Rattle.session.specs.Kept.{Kept}
+use Rattle.session.specs.SessionState.{SessionState}
 use Rattle.session.specs.Turns.{Turn, IsAlong}
 
 -- the bytes that were put, how many replies they are, and the lines that were answered, each with its machine
@@ -75,12 +75,12 @@ kept_sum count (suc n) = min (count + suc n) (2 ^ 64 - 1)
 -- what an output holds, what the session keeps, and how many replies and bytes were sent so far
 pub record Progress : Type 0 where
   pub written : Option (List ℕ)
-  pub kept : Kept
+  pub kept : SessionState
   pub replies : ℕ
   pub bytes : ℕ
 
 -- bytes were put on the output, what the session keeps went along the lines, and the counts rose by their tally
-pub record Advances {M : Type 0} (goes : Kept → Turn M → Kept → Type 0) (old new : Progress)
+pub record Advances {M : Type 0} (goes : SessionState → Turn M → SessionState → Type 0) (old new : Progress)
     (tally : Tally M) : Type 0 where
   pub writes : Appends old.written new.written tally.out
   pub along : IsAlong goes old.kept tally.turns new.kept

@@ -5,16 +5,16 @@ use Rattle.run_notes.specs.declared.notes.Counts.{Counts}
 use Rattle.run_notes.specs.declared.notes.Sent.{Sent}
 use Rattle.gtp_rules.specs.Lines.{RawLine}
 use Rattle.gtp_rules.specs.Steps.{Step}
-use Rattle.session.specs.Kept.{Kept, no_counts}
+use Rattle.session.specs.SessionState.{SessionState, no_counts}
 use Rattle.session.specs.Turns.{Turn}
 use Rattle.session.specs.Tallies.{Progress, kept_sum}
 use Rattle.session.specs.Serving.{PutsPart, PutsReply, RunsPart, progress_of}
-use Rattle.session.specs.declared.outbox.Mark.{Mark}
+use Rattle.session.specs.declared.outbox.ReplyMark.{ReplyMark}
 
 -- the bytes of the replies that wait, in their order, and where each ends, with the counts after its line
 pub record WaitingState : Type 0 where
   pub bytes : List ℕ
-  pub marks : List Mark
+  pub marks : List ReplyMark
 
 -- no reply waits
 abbrev pub none_wait : WaitingState
@@ -29,17 +29,17 @@ abbrev pub most_marks : ℕ
 most_marks = 128
 
 -- how many of the replies up to the first that does not end within k bytes
-abbrev pub gone : List Mark → ℕ → ℕ
+abbrev pub gone : List ReplyMark → ℕ → ℕ
 gone [] k = 0
 gone (m ∷ ms) k = if nat_le m.end k then suc (gone ms k) else 0
 
 -- the counts after the line of the first reply that does not end within k bytes
-abbrev pub counts_at : List Mark → ℕ → Counts
+abbrev pub counts_at : List ReplyMark → ℕ → Counts
 counts_at [] k = no_counts
 counts_at (m ∷ ms) k = if nat_le m.end k then counts_at ms k else m.counts
 
 -- within all the bytes each reply ends, and within fewer of them not each
-pub record AreMarked (bytes : List ℕ) (marks : List Mark) : Type 0 where
+pub record AreMarked (bytes : List ℕ) (marks : List ReplyMark) : Type 0 where
   pub all : (k : ℕ) → length bytes ≤ k → gone marks k ≡ length marks
   pub some : (k : ℕ) → k < length bytes → gone marks k < length marks
 
@@ -93,18 +93,18 @@ pub record Sends (w0 w1 : Option (List ℕ)) (s0 s1 : Sent) (b0 b1 : WaitingStat
   pub stops : (stop : Stop) → IsStop w1 s1 b1 stop → MayStop w0 s0 b0 reply counts stop
 
 -- how far a run is with what waits
-abbrev pub progress_with : Option (List ℕ) → Kept → Sent → WaitingState → Progress
+abbrev pub progress_with : Option (List ℕ) → SessionState → Sent → WaitingState → Progress
 progress_with written session sent waiting = progress_of (holds_with written waiting) session (sent_with sent waiting)
 
 -- The output failed within a reply to one of these lines, and what is noted are the counts after that line.
-pub record CutsShort {M : Type 0} (step : M → RawLine → Step M) (goes : Kept → Turn M → Kept → Type 0) (from : M)
+pub record CutsShort {M : Type 0} (step : M → RawLine → Step M) (goes : SessionState → Turn M → SessionState → Type 0) (from : M)
     (lines : List RawLine) (old : Progress) (stop : Stop) : Type 0 where
-  pub kept : Kept
+  pub kept : SessionState
   pub same : stop.counts ≡ kept.counts
   pub runs : RunsPart step goes from lines old (progress_of stop.written kept stop.sent)
 
 -- the output may fail so within what waits, or within a reply to one of these lines behind it
-abbrev pub MayCut : {M : Type 0} → (M → RawLine → Step M) → (Kept → Turn M → Kept → Type 0) → M → List RawLine
-    → Option (List ℕ) → Kept → Sent → WaitingState → Stop → Type 0
+abbrev pub MayCut : {M : Type 0} → (M → RawLine → Step M) → (SessionState → Turn M → SessionState → Type 0) → M → List RawLine
+    → Option (List ℕ) → SessionState → Sent → WaitingState → Stop → Type 0
 MayCut step goes from lines written session sent waiting stop = IsStop written sent waiting stop
     ⊎ CutsShort step goes from lines (progress_with written session sent waiting) stop

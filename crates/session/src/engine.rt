@@ -9,7 +9,7 @@ ghost use Rattle.session.specs.Machine.{position_of};
 ghost use Rattle.helpers.specs.Asking.{says_yes};
 ghost use Rattle.helpers.specs.Slots.{states_of};
 ghost use Rattle.session.specs.Handed.{without_calls};
-ghost use Rattle.session.specs.Kept.{machine_of, matcher_with, first_kept, NumbersPatterns};
+ghost use Rattle.session.specs.SessionState.{machine_of, matcher_with, first_kept, NumbersPatterns};
 ghost use Rattle.session.specs.Answering.{step, parsed_step, effect_of, word_of};
 ghost use Rattle.session.specs.Answers.{IsAnswer};
 ghost use Rattle.session.specs.Tallies.{reply_count};
@@ -61,7 +61,7 @@ const NO_COUNTS: ReadingCounts = ReadingCounts {
 /// The size of the board before the first line that says one.
 const FIRST_SIZE: u8 = 19;
 
-/// What a session keeps beside its helpers, seen by contracts as `Kept`; `machine_of` is the machine that this is.
+/// What a session keeps beside its helpers, seen by contracts as `SessionState`; `machine_of` is the machine that this is.
 #[derive(Drop)]
 pub struct Engine {
     alloc: Global,
@@ -76,11 +76,11 @@ pub struct Engine {
 }
 
 impl Model for Engine {
-    ghost use Rattle.session.specs.Kept.{Kept, NumbersPatterns};
+    ghost use Rattle.session.specs.SessionState.{SessionState, NumbersPatterns};
     ghost use Rattle.pat_types.specs.contracts.expr.Expr as expr;
     ghost use Rattle.std.specs.Coded.{codes};
 
-    ghost Value = { Kept };
+    ghost Value = { SessionState };
 
     ghost coded = { Prim.hlevel (codes, expr.the_row.coded) };
 

@@ -5,7 +5,7 @@ ghost use Rattle.helpers.specs.Slots.{states_of};
 ghost use Rattle.match_engine.specs.MachineMatches.{machine_matches};
 ghost use Rattle.match_engine.specs.Readings.{codes_of};
 ghost use Rattle.session.specs.Handed.{without_calls};
-ghost use Rattle.session.specs.Kept.{NumbersPatterns};
+ghost use Rattle.session.specs.SessionState.{NumbersPatterns};
 ghost use Rattle.session.specs.MatchTexts.{name_of, match_text, matches_text, AreAmong, SameDepths};
 ghost use Rattle.session.specs.PatternTexts.{feed_after};
 

@@ -19,7 +19,7 @@ const MOST_MARKS: usize = 128;
 
 /// Where a reply that waits ends, and what was counted up to and with its line.
 #[derive(Clone, Copy)]
-pub(crate) struct Mark {
+pub(crate) struct ReplyMark {
     /// How many bytes wait up to its end.
     pub(crate) end: usize,
     /// The counts after its line.
@@ -27,7 +27,7 @@ pub(crate) struct Mark {
 }
 
 /// No reply's mark.
-const NO_MARK: Mark = Mark {
+const NO_MARK: ReplyMark = ReplyMark {
     end: 0,
     counts: Counts {
         readings: 0,
@@ -42,7 +42,7 @@ const NO_MARK: Mark = Mark {
 pub(crate) struct Outbox {
     bytes: [u8; ROOM],
     len: usize,
-    marks: [Mark; MOST_MARKS],
+    marks: [ReplyMark; MOST_MARKS],
     count: usize,
 }
 
@@ -86,7 +86,7 @@ fn put_all<K: Sink>(output: &mut K, bytes: &[u8], sent: &mut Sent) -> Result<(),
 }
 
 /// How many of the marks end within the first `place` bytes, and the counts of the first that does not.
-fn cut_at(marks: &[Mark], place: usize) -> (usize, Counts)
+fn cut_at(marks: &[ReplyMark], place: usize) -> (usize, Counts)
     ensures gone { result.0 ≡ gone marks.now place }
     ensures counts { result.1 ≡ counts_at marks.now place }
 {
@@ -157,7 +157,7 @@ impl Outbox {
     {
         write_at(&mut self.bytes, self.len, reply);
         self.len += reply.len();
-        self.marks[self.count] = Mark {
+        self.marks[self.count] = ReplyMark {
             end: self.len,
             counts,
         };

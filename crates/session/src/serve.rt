@@ -11,7 +11,7 @@ ghost use Rattle.gtp_lex.specs.Raw.{raw_line};
 ghost use Rattle.session.specs.Asking.{IsAfterLine};
 ghost use Rattle.session.specs.Headline.{IsCauseOf};
 ghost use Rattle.session.specs.Opened.{EndsCounting};
-ghost use Rattle.session.specs.Kept.{machine_of};
+ghost use Rattle.session.specs.SessionState.{machine_of};
 ghost use Rattle.session.specs.Sessions.{matcher_of, step_of};
 ghost use Rattle.session.specs.Serving.{progress_of, RunsTo};
 ghost use Rattle.session.specs.Waiting.{none_wait, progress_with, Stop, IsStop, MayCut, CutsShort};

@@ -4,7 +4,7 @@ ghost use Rattle.gtp_lex.specs.Raw.{raw_line};
 ghost use Rattle.go_options.specs.Found.{AreInRange};
 ghost use Rattle.helpers.specs.Slots.{states_of};
 ghost use Rattle.session.specs.Handed.{without_calls};
-ghost use Rattle.session.specs.Kept.{machine_of, first_kept, NumbersPatterns};
+ghost use Rattle.session.specs.SessionState.{machine_of, first_kept, NumbersPatterns};
 ghost use Rattle.session.specs.Sessions.{matcher_of};
 ghost use Rattle.session.specs.Answering.{step};
 ghost use Rattle.session.specs.Tallies.{reply_count};

@@ -5,7 +5,7 @@ ghost use Rattle.session.specs.Opened.{CameBy, EndsCounting};
 ghost use Rattle.session.specs.Serving.{progress_of};
 ghost use Rattle.go_options.specs.Found.{AreInRange, IsFrom};
 ghost use Rattle.session.specs.Asking.{IsAfterLine};
-ghost use Rattle.session.specs.Kept.{machine_of};
+ghost use Rattle.session.specs.SessionState.{machine_of};
 ghost use Rattle.session.specs.Sessions.{step_of};
 ghost use Rattle.helpers.specs.Slots.{states_of};
 ghost use Rattle.session.specs.Handed.{handed};

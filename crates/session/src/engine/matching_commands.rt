@@ -3,7 +3,7 @@ ghost use Rattle.std.specs.Prelude.{◌≡◌};
 ghost use Rattle.helpers.specs.Asking.{says_yes};
 ghost use Rattle.helpers.specs.Slots.{states_of};
 ghost use Rattle.session.specs.Handed.{without_calls};
-ghost use Rattle.session.specs.Kept.{machine_of, matcher_with};
+ghost use Rattle.session.specs.SessionState.{machine_of, matcher_with};
 ghost use Rattle.session.specs.Effects.{Grown};
 ghost use Rattle.session.specs.MatchingCommands.{matches_listed};
 ghost use Rattle.session.specs.PatternTexts.{patterns_text};

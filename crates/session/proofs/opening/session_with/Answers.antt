@@ -3,7 +3,7 @@ use Rattle.std.proofs.Common.{sym, subst}
 use Rattle.dfa_core.specs.States.{IsMachineOf}
 use Rattle.helpers.specs.Asking.{says_yes}
 use Rattle.helpers.specs.Slots.{states_of}
-use Rattle.session.specs.Kept.{NumbersPatterns, matcher_with}
+use Rattle.session.specs.SessionState.{NumbersPatterns, matcher_with}
 use Rattle.session.specs.Opened.{IsPlainWith}
 use Rattle.session.proofs.MatcherSessions.{plain-first}
 use Rattle.session.proofs.opening.session_with.Goals as goal

@@ -1,7 +1,7 @@
 use Rattle.std.proofs.Common.{◌≡◌, length, false}
 use Rattle.gtp_lex.specs.Held.{lines_from, held_from}
 use Rattle.session.specs.Asking.{IsAfterLine}
-use Rattle.session.specs.Kept.{machine_of}
+use Rattle.session.specs.SessionState.{machine_of}
 use Rattle.session.specs.Sessions.{matcher_of, step_of}
 use Rattle.session.specs.Serving.{progress_of}
 use Rattle.session.proofs.ServeLemmas.{PieceSoFar}

@@ -1,6 +1,6 @@
 use Rattle.std.proofs.Common.{◌≡◌, length, false}
 use Rattle.session.specs.Asking.{IsAfterLine}
-use Rattle.session.specs.Kept.{machine_of}
+use Rattle.session.specs.SessionState.{machine_of}
 use Rattle.session.specs.Sessions.{matcher_of, step_of}
 use Rattle.session.specs.Serving.{progress_of}
 use Rattle.session.specs.Waiting.{none_wait}

@@ -1,6 +1,6 @@
 -- The automaton's numbers are those of the session's patterns.
 use Rattle.std.proofs.Common.{sym, subst}
-use Rattle.session.specs.Kept.{NumbersPatterns}
+use Rattle.session.specs.SessionState.{NumbersPatterns}
 use Rattle.session.proofs.engine.Engine.list_matches.Goals as goal
 
 pub matches_text-requires : goal.matches_text-requires

@@ -1,7 +1,7 @@
 -- The answer says what the history answered.
 use Rattle.std.proofs.Common.{Err, ap, subst, ◌∙◌}
 use Rattle.session.specs.BoardCommands.{played}
-use Rattle.session.specs.Kept.{Kept, machine_of}
+use Rattle.session.specs.SessionState.{SessionState, machine_of}
 use Rattle.session.specs.Answers.{IsAnswer}
 use Rattle.session.proofs.MoveAnswers.{with_game, move_added, move_illegal, move_past_full, move_without_memory}
 use Rattle.session.proofs.engine.Engine.play.Goals as goal
@@ -27,7 +27,7 @@ returns-clause-answer c =
       readings = c.self.inside.readings;
     }) in
     let new = c.play.new.self in
-    let family : Kept → Type 0 = λ old. IsAnswer (machine_of old)
+    let family : SessionState → Type 0 = λ old. IsAnswer (machine_of old)
     (played (machine_of old) c.args.m) c.match-play.result (with_game new kept) in
     subst family c.self.view_is (elim c.match-play.branch as
     (λ _. IsAnswer kept (played kept c.args.m) c.match-play.result (with_game new kept)) [

@@ -1,6 +1,6 @@
 -- One call of the readings was made on the session's board, and was counted.
 use Rattle.std.proofs.Common.{◌≡◌, true, refl, ap, subst, rules}
-use Rattle.session.specs.Kept.{Kept, machine_of}
+use Rattle.session.specs.SessionState.{SessionState, machine_of}
 use Rattle.session.specs.Counting.{has_stone}
 use Rattle.session.specs.Asking.{CountsRefused}
 use Rattle.session.proofs.LineCounts.{ReadsAs-once}
@@ -16,7 +16,7 @@ returns-clause-read c =
     let stone : has_stone (machine_of old) c.args.p ≡ true = search rules in
     ReadsAs-once old new c.args.kind c.args.p c.position-position.result read.result c.self.inside.readings
     read.new.self
-    board (ap (λ (k : Kept). k.readings) view) (ap (λ (k : Kept). k.plies) view)
-    (ap (λ (k : Kept). k.wide) view) c.count_reading.ensures.kept read.ensures.read c.size.ensures.position
+    board (ap (λ (k : SessionState). k.readings) view) (ap (λ (k : SessionState). k.plies) view)
+    (ap (λ (k : SessionState). k.wide) view) c.count_reading.ensures.kept read.ensures.read c.size.ensures.position
     read.ensures.rest
     (subst CountsRefused view refl) c.count_reading.ensures.refused (search rules) (search rules) stone

@@ -12,7 +12,7 @@ use Rattle.session.specs.Matcher.{Matcher, automaton_matcher}
 
 -- settings and moves, the patterns, the automaton by which their matches are found, what was counted, and the readings
 -- with those that are kept
-pub record Kept : Type 0 where
+pub record SessionState : Type 0 where
   pub size : ℕ
   pub moves : List Move
   pub komi : List ℕ
@@ -24,7 +24,7 @@ pub record Kept : Type 0 where
   pub readings : ReadingsView
 
 -- the machine that a session is
-abbrev pub machine_of : Kept → Machine
+abbrev pub machine_of : SessionState → Machine
 machine_of kept = record {
   size = kept.size;
   moves = kept.moves;
@@ -34,7 +34,7 @@ machine_of kept = record {
 }
 
 -- how matches are found: by the automaton, and by what helpers say
-abbrev pub matcher_with : Advice → Kept → Matcher
+abbrev pub matcher_with : Advice → SessionState → Matcher
 matcher_with advice kept = automaton_matcher advice kept.patterns kept.automaton
 
 -- nothing was counted
@@ -43,7 +43,7 @@ no_counts = record { readings = 0; fresh = 0; trials = 0; refused = 0 }
 
 -- what a session with these patterns, this automaton and readings of this many plies and wide plies keeps before the
 -- first line, where so many questions may be kept
-abbrev pub first_kept : List Pattern → List Row → ℕ → ℕ → ℕ → Kept
+abbrev pub first_kept : List Pattern → List Row → ℕ → ℕ → ℕ → SessionState
 first_kept patterns automaton plies wide capacity = record {
   size = first_size;
   moves = [];
