@@ -29,6 +29,7 @@ line_from s (pos n) k e =
     ]
 line_from s (negsuc n) k e = absurd (let h : ⊥ = cc in h)
 
+-- a number below the size is a line of the board
 line_there : (s k : ℕ) (z : ℤ) → z ≡ pos k → k < s → line_of s z ≡ Some k
 line_there s k z e low = ap (line_of s) e ∙ ap (λ b. cond b (Some k) None) (lt-ltb k s low)
 
@@ -40,6 +41,7 @@ record HasParts (s : ℕ) (a b : Option ℕ) (q : ℕ) : Type 0 where
   in_column : b ≡ Some column
   number : row * s + column ≡ q
 
+-- a point that a row and a column give has both, and its number is theirs
 point_parts : (s : ℕ) (a b : Option ℕ) (q : ℕ) → point_of s a b ≡ Some q → HasParts s a b q
 point_parts s None b q e = absurd (let h : ⊥ = cc in h)
 point_parts s (Some r) None q e = absurd (let h : ⊥ = cc in h)
@@ -52,6 +54,7 @@ record IsThere (s r c q : ℕ) : Type 0 where
   column : c ≡ q % s + largest_offset
   below : q < s * s
 
+-- a place of the padded board that has a point stands in that point's row and column
 point_from : (s r c q : ℕ) → padded_point s r c ≡ Some q → IsThere s r c q
 point_from s r c q e =
     let parts = point_parts s (line_of s (pos r -ℤ pos largest_offset)) (line_of s (pos c -ℤ pos largest_offset)) q e in
@@ -67,6 +70,7 @@ point_from s r c q e =
       below = subst (λ n. n < s * s) parts.number (mul-add-lt parts.row s parts.column s row.1 column.1);
     }
 
+-- behind the margin each point of the board stands in its row and column
 point_there : (s q : ℕ) → 0 < s → q < s * s → padded_point s (q / s + largest_offset) (q % s + largest_offset) ≡ Some q
 point_there s q some low =
     let row : line_of s (pos (q / s + largest_offset) -ℤ pos largest_offset) ≡ Some (q / s) =
@@ -80,6 +84,7 @@ point_there s q some low =
 pub row_low : (s q : ℕ) → 0 < s → s ≤ largest_size → q < s * s → q / s + largest_offset < padded_side
 row_low s q some few low = omega (arith, div_below q s s some low)
 
+-- the column of a point lies on the padded board
 pub column_low : (s q : ℕ) → 0 < s → s ≤ largest_size → q % s + largest_offset < padded_side
 column_low s q some few = omega (arith, mod_below q s some)
 
@@ -102,10 +107,12 @@ pub corner_at-most : (s m : ℕ) → 0 < s → s ≤ largest_size → m < s * s 
 corner_at-most s m some few on = omega (arith, div_below m s s some on, mod_below m s some)
 
 module _ (at : BoardState) (friend : Colour) where
+  -- of no points nothing is seen but what is off the board
   below_none : (o : Option ℕ) → seen_below 0 at friend o ≡ Off
   below_none None = refl
   below_none (Some q) = ap (λ b. cond b (seen_of friend (cell_at at.cells q)) Off) (le-ltb q 0 (omega arith))
 
+  -- one point more changes nothing that is seen at other places
   below_more : (n : ℕ) (o : Option ℕ) → (o ≡ Some n → ⊥) → seen_below n at friend o ≡ seen_below (n + 1) at friend o
   below_more n None other = refl
   below_more n (Some q) other =
@@ -119,6 +126,7 @@ module _ (at : BoardState) (friend : Colour) where
         ]
       ]
 
+  -- where all points are looked at, each place shows what is seen there
   below_all : (n : ℕ) (o : Option ℕ) → ((q : ℕ) → o ≡ Some q → q < n)
       → seen_below n at friend o ≡ seen_at_place at friend o
   below_all n None low = refl

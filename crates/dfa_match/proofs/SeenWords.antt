@@ -4,10 +4,12 @@ use Rattle.dfa_core.specs.declared.automaton.Seen.{Seen}
 use Rattle.dfa_match.specs.Sights.{word_from}
 
 module _ (seen : ℕ → Seen) where
+  -- a word begins with what is seen at its first index
   pub word_from-suc : (i n : ℕ) → word_from seen i (suc n) ≡ seen i ∷ word_from seen (suc i) n
   unfolding word_from
   word_from-suc i n = refl
 
+  -- of no letters the word is empty
   pub word_from-zero : (i : ℕ) → word_from seen i 0 ≡ []
   unfolding word_from
   word_from-zero i = refl

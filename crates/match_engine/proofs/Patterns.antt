@@ -69,6 +69,7 @@ module _ (code : Codes) (advice : Advice) (patterns : List Pattern) (machine : L
   abbrev matched : ℕ → Pattern → ℕ → ℕ → Bool
   matched number p t m = is_match code advice p board friend t m
 
+  -- the test of a match by the machine
   abbrev by_machine : ℕ → Pattern → ℕ → ℕ → Bool
   by_machine = is_machine_match code advice machine board friend
 

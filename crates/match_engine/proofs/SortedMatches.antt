@@ -82,6 +82,7 @@ record IsFrom {X : Type 0} (xs ys : List X) (a b m : ℕ) (d : X) : Type 0 where
   pub which : ((m ≡ a) × (place ≡ b)) ⊎ (((m ≡ b) × (place ≡ a)) ⊎ ((m ≢ a) × (m ≢ b) × (place ≡ m)))
 
 module _ {X : Type 0} where
+  -- after two places are swapped, an element comes from the other of the two, or from where it stands
   from_swap : (xs : List X) (a b m : ℕ) (d : X) → a < length xs → b < length xs → IsFrom xs (swap xs a b) a b m d
   from_swap xs a b m d p q =
       let swapped = swapped_from_swap xs (swap xs a b) a b d p q refl in

@@ -3,6 +3,7 @@ use Rattle.session.specs.Outcomes.{phase_of}
 use Rattle.memory_runs.proofs.StreamContents.{told}
 use Rattle.memory_runs.proofs.run_in_memory.Goals as goal
 
+-- what a run says of its streams holds of the feed and the page
 pub returns : goal.returns
 returns g c =
     let runs = c.run.ensures.runs in

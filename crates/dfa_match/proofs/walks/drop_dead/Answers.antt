@@ -20,6 +20,7 @@ same_walk old now i w rest is =
     is ∙ ap (λ n. get_or now n w) (sym here) ∙ sym (get_or-drop i now 0 w) ∙ ap (λ ws. get_or ws 0 w) rest
     ∙ get_or-drop i old 0 w ∙ ap (λ n. get_or old n w) here
 
+-- the walk that is looked at was not changed before
 same : (c : After-index-walk) → c.index-walk.result.now ≡ get_or c.args.walks.now.items c.walks.index
     c.index-walk.result.now
 same c = same_walk c.args.walks.now.items c.walks.walks.items c.walks.index c.index-walk.result.now
@@ -30,6 +31,7 @@ here : (c : After-index-walk) → IsWithin (length c.args.machine.now) c.index-w
 here c = subst (IsWithin (length c.args.machine.now)) (sym (same c))
     (c.requires c.walks.index c.index-walk.result.now (omega (arith, c.args.walks.now.ok.0)))
 
+-- its row has a kind
 pub kind_in-kind-requires : goal.kind_in-kind-requires
 kind_in-kind-requires c =
     let within = here (goal.at.kind_in-kind-requires c).After-index-walk in

@@ -16,6 +16,7 @@ whole n new old long = ap (λ k. take k (new ++ drop (length new) old)) (sym lon
 long : (n : ℕ) (walks new : List Walk) (f : Walk → Walk) → new ≡ map f walks → n ≡ length walks → length new ≡ n
 long n walks new f read count = ap length read ∙ length-map walks f ∙ sym count
 
+-- after the letter the walks stand at rows
 pub settle-requires : goal.settle-requires
 settle-requires c =
     subst (All (IsWithin (length c.args.machine.now)))

@@ -58,6 +58,7 @@ returns-clause-calls g c =
     (if_yes (codes_of c.args.readings.now) c.args.patterns.now c.args.machine.now c.args.position.now c.args.friend _ _
     c.in_ok-found.ensures.found c.keep_allowed.ensures.kept)
 
+-- by the machine of the patterns the helpers are asked about the matches of the patterns
 pub returns-clause-calls_of_patterns : goal.returns-clause-calls_of_patterns
 returns-clause-calls_of_patterns g c = λ theirs.
     c.keep_agreed.ensures.calls

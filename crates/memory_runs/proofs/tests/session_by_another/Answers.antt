@@ -2,6 +2,7 @@
 use Rattle.std.proofs.Common.{ℕ, ◌<◌, length, arith}
 use Rattle.memory_runs.proofs.tests.session_by_another.Goals as goal
 
+-- each accepted number is below the length of the other list
 pub new-requires-3-clause-numbers : goal.new-requires-3-clause-numbers
 new-requires-3-clause-numbers g c = λ w n accepted.
     let below : n < length c.deref.result.now = c.in-Ok.ensures.numbers w n accepted in

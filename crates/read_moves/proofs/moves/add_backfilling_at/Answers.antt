@@ -79,11 +79,13 @@ returns-else-not-is_quiet-clause-near g c = λ pos a.
     AddsIn-trans (c.reach_of.ensures.near pos (agrees_before c.is_quiet.ensures.stays.grows a))
     (rw c.reach_of.ensures.stays.moves at (c.is_quiet.ensures.near pos a))
 
+-- where the one point that is reached came, each look is near the point
 pub returns-then-is_quiet-clause-near : goal.returns-then-is_quiet-clause-near
 returns-then-is_quiet-clause-near g c = λ pos a.
     AddsIn-trans (c.reach_of.ensures.near pos (agrees_before c.is_quiet-in-Only.ensures.stays.grows a))
     (rw c.reach_of.ensures.stays.moves at (c.is_quiet-in-Only.ensures.near pos a))
 
+-- where nothing is reached and a play is tried, each look is near the point
 pub returns-then-not-is_quiet-clause-near : goal.returns-then-not-is_quiet-clause-near
 returns-then-not-is_quiet-clause-near g c = λ pos a.
     let a1 = agrees_before c.try_backfilling.ensures.stays.grows a in
@@ -92,6 +94,7 @@ returns-then-not-is_quiet-clause-near g c = λ pos a.
     (AddsIn-trans (rw m1 at (c.is_quiet.ensures.near pos a1))
     (rw (c.is_quiet.ensures.stays.moves ∙ m1) at (c.try_backfilling.ensures.near pos a)))
 
+-- where one point is reached and a play is tried, each look is near the point
 pub returns-else-is_quiet-clause-near : goal.returns-else-is_quiet-clause-near
 returns-else-is_quiet-clause-near g c = λ pos a.
     let a1 = agrees_before c.try_backfilling-else-is_quiet.ensures.stays.grows a in

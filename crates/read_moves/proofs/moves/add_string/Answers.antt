@@ -12,6 +12,7 @@ use Rattle.go_base.proofs.LastLiberties.{contains-liberty_points}
 use Rattle.trial_board.specs.Trials.{after}
 use Rattle.read_moves.proofs.moves.add_string.Goals as goal
 
+-- of a stone of the colour the liberties of its string came, and nothing else
 pub returns-then-eq-clause-over : goal.returns-then-eq-clause-over
 returns-then-eq-clause-over g c = λ pos a.
     let a0 = agrees_before c.liberties.ensures.stays.grows a in

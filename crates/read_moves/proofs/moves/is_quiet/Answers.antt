@@ -25,6 +25,7 @@ returns-then-ne-clause-near g c = λ pos a.
     AddsIn-mono c.cell.ensures.near (λ r h.
     close_again pos.size cells _ r (close_alone pos.size cells c.args.l r on h))
 
+-- the trial moves stay where an enemy string has no other liberty
 pub returns-then-not-lives_without-clause-stays : goal.returns-then-not-lives_without-clause-stays
 returns-then-not-lives_without-clause-stays g c =
     let first = c.cell.ensures.stays in
@@ -36,6 +37,7 @@ returns-then-not-lives_without-clause-stays g c =
       grows = Grows-trans first.grows (Grows-trans i.grows last.grows);
     }
 
+-- up to that enemy string each look is near the point
 pub returns-then-not-lives_without-clause-near : goal.returns-then-not-lives_without-clause-near
 returns-then-not-lives_without-clause-near g c = λ pos a.
     let i = c.loop-side.invariant in

@@ -13,6 +13,7 @@ when_some : {P : ℕ → Type 0} (o : Option ℕ) → IfSome o P → is_some o �
 when_some None h e = cc
 when_some (Some p) h e = (p, h)
 
+-- the liberty that was found is another one of the string of q
 pub returns-clause-over : goal.returns-clause-over
 returns-clause-over g c = λ pos a e enemy.
     let q = c.args.q in

@@ -84,6 +84,7 @@ returns-in-Some-first_other-clause-over g c = λ pos a p.
       }
     ]
 
+-- where two points are reached, each look is near the point
 pub returns-in-Some-first_other-clause-near : goal.returns-in-Some-first_other-clause-near
 returns-in-Some-first_other-clause-near g c =
     near g (goal.at.returns-in-Some-first_other-clause-near g c).After-add_strings
@@ -106,6 +107,7 @@ returns-in-None-first_other-clause-over g c = λ pos a.
           ],
     )
 
+-- where one point is reached, each look is near the point
 pub returns-in-None-first_other-clause-near : goal.returns-in-None-first_other-clause-near
 returns-in-None-first_other-clause-near g c =
     near g (goal.at.returns-in-None-first_other-clause-near g c).After-add_strings
@@ -116,5 +118,6 @@ returns-in-None-clause-over g c = λ pos a x reached.
     let d = (goal.at.returns-in-None-clause-over g c).After-add_strings in
     off g d pos a x reached (c.in-None.ensures.none x (omega arith) (all g d pos a x reached))
 
+-- where nothing is reached, each look is near the point
 pub returns-in-None-clause-near : goal.returns-in-None-clause-near
 returns-in-None-clause-near g c = near g (goal.at.returns-in-None-clause-near g c).After-add_strings

@@ -10,6 +10,7 @@ use Rattle.read_rules.specs.Candidates.{leaves_only}
 use Rattle.read_moves.proofs.BackfillingLemmas.{added_if_empty, left_near}
 use Rattle.read_moves.proofs.moves.try_backfilling.Goals as goal
 
+-- the one liberty that the play leaves came, where it is empty
 pub returns-in-Some-clause-over : goal.returns-in-Some-clause-over
 returns-in-Some-clause-over g c = λ pos a.
     let a0 = agrees_before c.add_empty.ensures.stays.grows a in

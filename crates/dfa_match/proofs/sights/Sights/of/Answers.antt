@@ -6,6 +6,7 @@ use Rattle.dfa_match.specs.Sights.{padded_side, seen_of}
 use Rattle.dfa_match.proofs.PaddedBoard.{sights_none, sights_more, row_low, column_low}
 use Rattle.dfa_match.proofs.sights.Sights.of.Goals as goal
 
+-- before the first point each place is off the board
 pub points-init : goal.points-init
 points-init g c = record {
   shows = refl;

@@ -15,6 +15,7 @@ pub invariant_of-self-2 : goal.invariant_of-self-2
 invariant_of-self-2 c = AllRest-found c.args.key.now c.args.position.now (kept_in c.self.inside.cache)
     (kept_in c.find_in.new.cache) c.in_ok-answer.answer c.self.invariant c.in_ok-answer.ensures.found
 
+-- each kept answer still rests on its facts
 pub returns-clause-rest : goal.returns-clause-rest
 returns-clause-rest c = AllRest-found c.args.key.now c.args.position.now (kept_in c.self.inside.cache)
     (kept_in c.find_in.new.cache) c.in_ok-answer.answer c.self.invariant c.in_ok-answer.ensures.found
