@@ -27,6 +27,7 @@ use Rattle.read_tree.specs.Allowances.{Ko, under}
 use Rattle.read_tree.specs.Steps.{IsCarried}
 use Rattle.read_moves.proofs.AfterPlays.{after_liberty}
 use Rattle.read_tree.proofs.LibertyLemmas.{child_free}
+use Rattle.read_tree.proofs.TakeLemmas.{other_twice}
 
 -- a stone of one colour is no stone of the other
 colours_differ : (c : Colour) → stone_of c ≡ stone_of (other c) → ⊥
@@ -162,11 +163,6 @@ carried_set pos c p new t n known next whole size p_on on legal enemy is without
     ∙ carried pos c p new t whole (subst (λ m. p < m * m) (sym size) p_on)
     (subst (λ m. t < m * m) (sym size) on) legal enemy q
     ∙ ap (λ m. is_liberty m new.cells t q) size ∙ sym (contains-liberty_points n new.cells t q))
-
--- the other colour of the other colour is the colour
-other_twice : (c : Colour) → other (other c) ≡ c
-other_twice black = refl
-other_twice white = refl
 
 -- an attacker's child comes of a play of the attacker's colour
 pub made_free : (turn : Turn) (ko : Ko) (here : BoardState) (p : ℕ) (next : Node) (new : BoardState)

@@ -108,8 +108,8 @@ module _ (s : ℕ) (cells : List Cell) (c : Colour) (l t : ℕ) (whole : length 
       }) in
       omega arith
 
--- the play at the only liberty takes the target
-other_twice : (c : Colour) → other (other c) ≡ c
+-- the other colour of the other colour is the colour
+pub other_twice : (c : Colour) → other (other c) ≡ c
 other_twice black = refl
 other_twice white = refl
 
