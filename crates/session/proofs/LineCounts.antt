@@ -53,6 +53,7 @@ module _ (old new : SessionState) where
     at-kept true read never = absurd (never refl)
     at-kept false read never = nothing-kept read
 
+    -- a question about a point, with a stone or empty, still leaves no more fresh readings than were counted
     at-few : (stone : Bool) → new.counts.readings ≡ counted old.counts.readings stone
         → ReadsAs (cond stone (One key) Nothing) old new
         → HasFewFresh old.counts → HasFewFresh new.counts
@@ -87,6 +88,7 @@ module _ (old new : SessionState) where
     counts_kept-parsed (parsed.Command id c) read never = counts_kept-command c read never
     counts_kept-parsed _ read never = nothing-kept read
 
+    -- whatever a line says, a command or not, still no more readings are fresh than were counted
     few_fresh-parsed : (p : Parsed) → new.counts.readings ≡ counted old.counts.readings (is_parsed_read machine p)
         → ReadsAs (asks_of_parsed machine p) old new
         → HasFewFresh old.counts → HasFewFresh new.counts
@@ -101,6 +103,7 @@ counts_kept-line machine TooLong old new read never = nothing-kept old new read
 counts_kept-line machine (Line text) old new read never =
     counts_kept-parsed old new machine (parsed_of text machine.size) read never
 
+-- after any line, too long or not, still no more readings are fresh than the session counted
 pub few_fresh-line : (machine : Machine) (line : RawLine) (old new : SessionState)
     → new.counts.readings ≡ counted old.counts.readings (is_read_line machine line)
     → ReadsAs (asks_of_line machine line) old new → HasFewFresh old.counts → HasFewFresh new.counts

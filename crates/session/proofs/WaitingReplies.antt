@@ -177,6 +177,7 @@ module _ (written : Option (List ℕ)) (sent : Sent) (bytes reply : List ℕ) (m
   abbrev before : WaitingState
   before = record { bytes = bytes; marks = marks }
 
+  -- what waits once the reply stands behind the others, with its mark last
   abbrev after : WaitingState
   after = record { bytes = bytes ++ reply; marks = marks ++ m ∷ [] }
 

@@ -3,6 +3,7 @@ use Rattle.session.specs.BoardText.{row_text}
 use Rattle.session.proofs.Texts.{text-next}
 use Rattle.session.proofs.board_text.board_text.Goals as goal
 
+-- each row of the board stands below those from the top that were put before it
 pub loop-row-preserved : goal.loop-row-preserved
 loop-row-preserved c =
     text-next (row_text c.args.position.now.size c.args.position.now.cells) c.push.new.self c.loop-row.text

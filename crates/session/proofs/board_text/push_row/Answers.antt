@@ -3,6 +3,7 @@ use Rattle.session.specs.BoardText.{cell_text}
 use Rattle.session.proofs.Texts.{text-next}
 use Rattle.session.proofs.board_text.push_row.Goals as goal
 
+-- each point of a row stands behind the row's number and the points to its left
 pub loop-column-preserved : goal.loop-column-preserved
 loop-column-preserved c =
     text-next (cell_text c.args.position.now.size c.args.position.now.cells c.args.row) c.push_row_number.new.text

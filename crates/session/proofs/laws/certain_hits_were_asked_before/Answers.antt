@@ -7,6 +7,7 @@ never_empty : {X : Type 0} (xs : List X) (y : X) (ys : List X) → [] ≡ xs ++ 
 never_empty [] y ys none = cc
 never_empty (x ∷ xs) y ys none = cc
 
+-- a line that asks a question is a certain hit where it comes again at once to an equal machine
 pub returns-clause-again : goal.returns-clause-again
 returns-clause-again c = λ before turn q asked. record {
   first = before;
@@ -21,5 +22,6 @@ returns-clause-again c = λ before turn q asked. record {
   no_matching = refl;
 }
 
+-- the first line of a session is no certain hit
 pub returns-clause-first : goal.returns-clause-first
 returns-clause-first c = λ turn hit. never_empty hit.first hit.earlier hit.between hit.place

@@ -2,5 +2,6 @@
 use Rattle.session.proofs.Soundness.{step-sound}
 use Rattle.session.proofs.laws.replies_are_sound.Goals as goal
 
+-- a refused line keeps the machine, and a reply that grows or ends the session is a success
 pub returns : goal.returns
 returns c = step-sound

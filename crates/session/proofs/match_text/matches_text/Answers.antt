@@ -10,6 +10,7 @@ use Rattle.session.specs.MatchTexts.{AreAmong}
 use Rattle.session.proofs.MatcherSessions.{AreAmong-found}
 use Rattle.session.proofs.match_text.matches_text.Goals as goal
 
+-- the matches that the automaton finds are of the patterns, each at a point of the board
 pub list_text-requires : goal.list_text-requires
 list_text-requires g c =
     let patterns = c.args.patterns.now in

@@ -5,6 +5,7 @@ use Rattle.session.specs.Opening.{Adds}
 use Rattle.session.proofs.OpeningLemmas.{IsJoined-next}
 use Rattle.session.proofs.opening.joined.Goals as goal
 
+-- the contents of each file follow those of the files named before it, none of which was missed
 pub loop-name-preserved : goal.loop-name-preserved
 loop-name-preserved g c =
     let contents = g.L.Loader.contents c.args.files.now in

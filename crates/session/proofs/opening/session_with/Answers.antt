@@ -8,11 +8,13 @@ use Rattle.session.specs.Opened.{IsPlainWith}
 use Rattle.session.proofs.MatcherSessions.{plain-first}
 use Rattle.session.proofs.opening.session_with.Goals as goal
 
+-- each number that the patterns' automaton accepts is that of one of them
 pub new-requires-clause-numbers : goal.new-requires-clause-numbers
 new-requires-clause-numbers g c =
     subst (λ patterns. NumbersPatterns c.in_ok-machine.machine patterns) c.as_slice.ensures.value
     c.in_ok-machine.ensures.numbers
 
+-- a session made with patterns starts as the plain machine with them, at the depths of the options
 pub returns-clause-ok : goal.returns-clause-ok
 returns-clause-ok g c =
     let patterns = c.args.patterns.items in

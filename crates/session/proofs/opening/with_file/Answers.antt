@@ -4,6 +4,7 @@ use Rattle.session.specs.Opening.{added_feed}
 use Rattle.session.proofs.OpeningLemmas.{Adds-loaded}
 use Rattle.session.proofs.opening.with_file.Goals as goal
 
+-- a file's contents stand behind the text, and a line feed behind them unless they are empty or end in one
 pub returns-clause-ok : goal.returns-clause-ok
 returns-clause-ok g c =
     let loaded = c.in_ok-text.text.items in

@@ -3,6 +3,7 @@ use Rattle.std.proofs.Common.{◌∙◌, arith}
 use Rattle.session.proofs.WaitingReplies.{put_further, within_rest}
 use Rattle.session.proofs.outbox.put_all.Goals as goal
 
+-- the bytes that the output took so far are a front of those to put, and as many count as sent
 pub loop-done-preserved : goal.loop-done-preserved
 loop-done-preserved g c =
     let before = c.loop-done.invariant.within in

@@ -3,6 +3,7 @@ use Rattle.session.specs.Outcomes.{phase_of}
 use Rattle.session.proofs.RunPhases.{came-served}
 use Rattle.session.proofs.top_call.run_options.Goals as goal
 
+-- a run whose files could be opened ends as the serving of its lines ended
 pub returns-clause-came : goal.returns-clause-came
 returns-clause-came g c =
     let options = c.args.options.now in

@@ -5,6 +5,7 @@ use Rattle.session.proofs.Texts.{vertices-passes, vertices-fails}
 use Rattle.session.proofs.vertices.points_text.Goals as goal
 use Rattle.session.proofs.vertices.points_text.Goals.{then-has+in_ok-push_next, else-has}
 
+-- the vertices so far are those of the set's points up to this one, in reading order
 pub loop-p-preserved : goal.loop-p-preserved
 loop-p-preserved c =
     let member = set.contains c.args.points.now in

@@ -3,6 +3,7 @@ use Rattle.std.proofs.Common.{sym, subst}
 use Rattle.session.specs.SessionState.{NumbersPatterns}
 use Rattle.session.proofs.engine.Engine.list_matches.Goals as goal
 
+-- each number that the session's automaton accepts is that of one of its patterns
 pub matches_text-requires : goal.matches_text-requires
 matches_text-requires g c = subst (λ patterns. NumbersPatterns c.self.inside.automaton patterns)
     (sym c.deref.ensures.value) c.self.invariant

@@ -7,6 +7,7 @@ use Rattle.session.proofs.MoveAnswers.{with_game, move_added, move_illegal, move
 use Rattle.session.proofs.engine.Engine.play.Goals as goal
 use Rattle.session.proofs.engine.Engine.play.Goals.{in-Ok, in-Err-Illegal, in-Err-Full, in-Err-NoMemory}
 
+-- a legal move is added, finds the history full or lacks memory, and an illegal one is refused
 pub returns-clause-answer : goal.returns-clause-answer
 returns-clause-answer c =
     let game = c.self.inside.history in

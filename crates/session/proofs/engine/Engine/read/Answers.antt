@@ -6,6 +6,7 @@ use Rattle.session.specs.Asking.{CountsRefused}
 use Rattle.session.proofs.LineCounts.{ReadsAs-once}
 use Rattle.session.proofs.engine.Engine.read.Goals as goal
 
+-- attack or defend on a stone makes one reading, of the session's position and at the session's depths
 pub returns-clause-read : goal.returns-clause-read
 returns-clause-read c =
     let old = c.args.self.now in
