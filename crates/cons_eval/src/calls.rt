@@ -50,7 +50,7 @@ fn two_points<E: Env>(env: &E, args: &[Arg]) -> Option<(Point, Point)>
 }
 
 /// The value of a function of one point.
-#[tactic(auto, using(crate::proofs::Staying::stays_same))]
+#[tactic(auto, using(crate::proofs::CallCounts::stays_same))]
 fn of_point<E: Env>(env: &mut E, function: Function, a: Point) -> i64
     requires { a < (E.view env.old).meanings.position.size * (E.view env.old).meanings.position.size }
     ensures value { result ≡ point_value (E.view env.old).meanings function a }
@@ -77,7 +77,7 @@ fn of_point<E: Env>(env: &mut E, function: Function, a: Point) -> i64
 }
 
 /// The value of a function of two points.
-#[tactic(auto, using(crate::proofs::Staying::stays_same))]
+#[tactic(auto, using(crate::proofs::CallCounts::stays_same))]
 fn of_pair<E: Env>(env: &mut E, function: Function, a: Point, b: Point) -> i64
     requires a_on_board { a < (E.view env.old).meanings.position.size * (E.view env.old).meanings.position.size }
     requires b_on_board { b < (E.view env.old).meanings.position.size * (E.view env.old).meanings.position.size }
@@ -170,7 +170,7 @@ fn code_after<E: Env>(env: &mut E, kind: Kind, first: Colour, moves: &[Arg], at:
 }
 
 /// The value of a function of moves and a point, at these.
-#[tactic(auto, using(crate::proofs::Staying::stays_same))]
+#[tactic(auto, using(crate::proofs::CallCounts::stays_same))]
 fn of_moves<E: Env>(env: &mut E, function: Function, moves: &[Arg], at: Point) -> i64
     requires at_on_board { at < (E.view env.old).meanings.position.size * (E.view env.old).meanings.position.size }
     requires moves_on_board { are_on_board (E.view env.old).meanings.position.size (E.view env.old).meanings.point
@@ -193,7 +193,7 @@ fn of_moves<E: Env>(env: &mut E, function: Function, moves: &[Arg], at: Point) -
 }
 
 /// The value of a function of moves and a point, 0 where the last argument has no point.
-#[tactic(auto, using(crate::proofs::Staying::stays_same))]
+#[tactic(auto, using(crate::proofs::CallCounts::stays_same))]
 fn of_play<E: Env>(env: &mut E, function: Function, args: &[Arg]) -> i64
     requires { are_on_board (E.view env.old).meanings.position.size (E.view env.old).meanings.point args.now ≡ true }
     ensures value { result ≡ if_there (play_value (E.view env.old).meanings function)
@@ -244,7 +244,7 @@ fn arguments_of(function: Function) -> Arguments
 }
 
 /// The value of a call, 0 where the arguments are not as the function takes them.
-#[tactic(auto, using(crate::proofs::Staying::stays_same))]
+#[tactic(auto, using(crate::proofs::CallCounts::stays_same))]
 pub fn call<E: Env>(env: &mut E, function: Function, args: &[Arg]) -> i64
     requires { are_on_board (E.view env.old).meanings.position.size (E.view env.old).meanings.point args.now ≡ true }
     ensures value { result ≡ call_value (E.view env.old).meanings function

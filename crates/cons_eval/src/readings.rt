@@ -15,7 +15,7 @@ use go_rules::{Cell, Colour};
 use read_rules::Kind;
 
 /// The code of a reading at a point, 0 where it is empty.
-#[tactic(auto, using(crate::proofs::Staying::stays_same))]
+#[tactic(auto, using(crate::proofs::CallCounts::stays_same))]
 pub fn code_at<E: Env>(env: &mut E, kind: Kind, on: &Position, at: Point) -> u8
     requires { at < on.now.size * on.now.size }
     ensures value { result ≡ code_there (E.view env.old).meanings.code kind on.now at }
@@ -28,7 +28,7 @@ pub fn code_at<E: Env>(env: &mut E, kind: Kind, on: &Position, at: Point) -> u8
 }
 
 /// Whether `colour` may play at `at` and cannot be captured there afterwards.
-#[tactic(auto, using(crate::proofs::Staying::stays_same), unfolding(crate::specs::Functions::is_safe_move))]
+#[tactic(auto, using(crate::proofs::CallCounts::stays_same), unfolding(crate::specs::Functions::is_safe_move))]
 pub fn is_safe_move<E: Env>(env: &mut E, position: &Position, colour: Colour, at: Point) -> bool
     requires { at < position.now.size * position.now.size }
     ensures value { result ≡ safe_move (E.view env.old).meanings.code position.now colour at }
@@ -53,7 +53,7 @@ fn colour_at(position: &Position, at: Point) -> Option<Colour>
 }
 
 /// 3 minus the code of a reading at `target` after `colour` plays at `at`, 0 where the play is illegal.
-#[tactic(auto, using(crate::proofs::Staying::stays_same), unfolding(crate::specs::Functions::lack_after))]
+#[tactic(auto, using(crate::proofs::CallCounts::stays_same), unfolding(crate::specs::Functions::lack_after))]
 fn lack_after<E: Env>(
     env: &mut E,
     kind: Kind,
@@ -75,7 +75,7 @@ fn lack_after<E: Env>(
 }
 
 /// How much a play at `at` attacks the string at `target`, 0 where that is empty or the play is illegal.
-#[tactic(auto, using(crate::proofs::Staying::stays_same))]
+#[tactic(auto, using(crate::proofs::CallCounts::stays_same))]
 pub fn does_attack<E: Env>(env: &mut E, position: &Position, at: Point, target: Point) -> i64
     requires at_on_board { at < position.now.size * position.now.size }
     requires target_on_board { target < position.now.size * position.now.size }
@@ -90,7 +90,7 @@ pub fn does_attack<E: Env>(env: &mut E, position: &Position, at: Point, target: 
 }
 
 /// How much a play at `at` defends the string at `target`, 0 where that is empty or the play is illegal.
-#[tactic(auto, using(crate::proofs::Staying::stays_same))]
+#[tactic(auto, using(crate::proofs::CallCounts::stays_same))]
 pub fn does_defend<E: Env>(env: &mut E, position: &Position, at: Point, target: Point) -> i64
     requires at_on_board { at < position.now.size * position.now.size }
     requires target_on_board { target < position.now.size * position.now.size }
@@ -105,7 +105,7 @@ pub fn does_defend<E: Env>(env: &mut E, position: &Position, at: Point, target: 
 }
 
 /// Whether `colour` may play at `at`, and the other colour then may not play at `against` or can be captured there.
-#[tactic(auto, using(crate::proofs::Staying::stays_same), unfolding(crate::specs::Functions::is_defended_against))]
+#[tactic(auto, using(crate::proofs::CallCounts::stays_same), unfolding(crate::specs::Functions::is_defended_against))]
 pub fn is_defended_against<E: Env>(
     env: &mut E,
     position: &Position,
@@ -125,7 +125,7 @@ pub fn is_defended_against<E: Env>(
 }
 
 /// Whether `colour` may not play at `at`, or can be captured there afterwards.
-#[tactic(auto, using(crate::proofs::Staying::stays_same), unfolding(crate::specs::Functions::is_refuted))]
+#[tactic(auto, using(crate::proofs::CallCounts::stays_same), unfolding(crate::specs::Functions::is_refuted))]
 fn is_refuted<E: Env>(env: &mut E, position: &Position, colour: Colour, at: Point) -> bool
     requires { at < position.now.size * position.now.size }
     ensures value { result ≡ refuted (E.view env.old).meanings.code position.now colour at }
