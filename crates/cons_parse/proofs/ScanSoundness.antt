@@ -124,7 +124,8 @@ record Settled (ms : List Opener) (is : List Item) : Type 0 where
   read : read_by open_ps ++ spelling now ≡ is
 
 -- what an operand closes, by equal openers and equal items
-with_read : (ms ns : List Opener) (is js : List Item) → settled ms ≡ settled ns → is ≡ js → Settled ms is → Settled ns js
+with_read : (ms ns : List Opener) (is js : List Item) → settled ms ≡ settled ns → is ≡ js → Settled ms is
+    → Settled ns js
 with_read ms ns is js e f s =
     record {
       open_ps = s.open_ps;

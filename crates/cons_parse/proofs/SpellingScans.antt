@@ -34,7 +34,8 @@ op_level Add = omega arith
 op_level Sub = omega arith
 
 -- the items of an expression, in front of others
-pub operand : (w : Written) (ms : List Opener) (d : Bool) (is : List Item) → IsWell w → (level_of w < 5 → settled ms ≡ ms)
+pub operand : (w : Written) (ms : List Opener) (d : Bool) (is : List Item) → IsWell w
+    → (level_of w < 5 → settled ms ≡ ms)
     → scanned_from (to_come ms d) (spelling w ++ is)
     ≡ scanned_from (come (settled ms) (d || is_too_deep (length ms) w)) is
 unfolding scanned_from

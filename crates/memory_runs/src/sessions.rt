@@ -55,8 +55,10 @@ pub const SESSIONS: [Session; 29] = [
     Session {
         name: "board_sizes_and_the_smallest_board",
         files: &[],
-        input: b"boardsize 1\nboardsize 26\nboardsize x\nboardsize 2\nplay b A1\nplay b B2\nis_legal w B1\nall_legal w\nall_legal b\ncountlib A1\nshowboard\n",
-        output: b"? unacceptable size\n\n? unacceptable size\n\n? syntax error\n\n=\n\n=\n\n=\n\n= 0\n\n=\n\n= A2 B1\n\n= 2\n\n= \n 2 . X\n 1 X .\n   A B\n\n",
+        input: b"boardsize 1\nboardsize 26\nboardsize x\nboardsize 2\nplay b A1\nplay b B2\nis_legal w B1\n\
+            all_legal w\nall_legal b\ncountlib A1\nshowboard\n",
+        output: b"? unacceptable size\n\n? unacceptable size\n\n? syntax error\n\n=\n\n=\n\n=\n\n= 0\n\n=\n\n\
+            = A2 B1\n\n= 2\n\n= \n 2 . X\n 1 X .\n   A B\n\n",
     },
     Session {
         name: "first_board_has_19_rows",
@@ -76,7 +78,8 @@ pub const SESSIONS: [Session; 29] = [
     Session {
         name: "stone_in_atari_is_captured",
         files: &[],
-        input: b"boardsize 9\ndepths 3 2\nplay b D4\nplay w C4\nplay w E4\nplay w D5\nattack D4\ndepths 1 0\nattack D4\ndefend D4\n",
+        input: b"boardsize 9\ndepths 3 2\nplay b D4\nplay w C4\nplay w E4\nplay w D5\nattack D4\ndepths 1 0\n\
+            attack D4\ndefend D4\n",
         output: b"=\n\n=\n\n=\n\n=\n\n=\n\n=\n\n= 3 D3\n\n=\n\n= 3 D3\n\n= 3 PASS\n\n",
     },
     Session {
@@ -88,14 +91,17 @@ pub const SESSIONS: [Session; 29] = [
     Session {
         name: "lone_stone_is_safe",
         files: &[],
-        input: b"boardsize 9\ndepths 3 2\nplay b D4\nattack D4\ndefend D4\ncountlib D4\nfindlib D4\ncountlib E5\nfindlib E5\n",
-        output: b"=\n\n=\n\n=\n\n= 0\n\n= 3 PASS\n\n= 4\n\n= D5 C4 E4 D3\n\n? vertex must not be empty\n\n? vertex must not be empty\n\n",
+        input: b"boardsize 9\ndepths 3 2\nplay b D4\nattack D4\ndefend D4\ncountlib D4\nfindlib D4\ncountlib E5\n\
+            findlib E5\n",
+        output: b"=\n\n=\n\n=\n\n= 0\n\n= 3 PASS\n\n= 4\n\n= D5 C4 E4 D3\n\n? vertex must not be empty\n\n\
+            ? vertex must not be empty\n\n",
     },
     Session {
         name: "reading_needs_a_stone",
         files: &[],
         input: b"boardsize 9\nplay b D4\nattack E5\ndefend E5\nattack pass\nattack I5\n",
-        output: b"=\n\n=\n\n? vertex must not be empty\n\n? vertex must not be empty\n\n? syntax error\n\n? syntax error\n\n",
+        output: b"=\n\n=\n\n? vertex must not be empty\n\n? vertex must not be empty\n\n? syntax error\n\n\
+            ? syntax error\n\n",
     },
     Session {
         name: "depths_lie_in_their_ranges",
@@ -108,19 +114,24 @@ pub const SESSIONS: [Session; 29] = [
     Session {
         name: "ko_capture_needs_the_attackers_allowance",
         files: &[],
-        input: b"boardsize 5\ndepths 3 4\nplay b B3\nplay b C4\nplay b C2\nplay b D3\nplay w D4\nplay w E3\nplay w D2\nplay w C3\ncaptures w\nplay b D3\nis_legal b D3\nis_legal w D3\nattack C3\n",
+        input: b"boardsize 5\ndepths 3 4\nplay b B3\nplay b C4\nplay b C2\nplay b D3\nplay w D4\nplay w E3\n\
+            play w D2\nplay w C3\ncaptures w\nplay b D3\nis_legal b D3\nis_legal w D3\nattack C3\n",
         output: b"=\n\n=\n\n=\n\n=\n\n=\n\n=\n\n=\n\n=\n\n=\n\n=\n\n= 1\n\n? illegal move\n\n= 0\n\n= 1\n\n= 1 D3\n\n",
     },
     Session {
         name: "passes_lift_the_ban_and_undo_restores_stones",
         files: &[],
-        input: b"boardsize 5\ndepths 3 4\nplay b B3\nplay b C4\nplay b C2\nplay b D3\nplay w D4\nplay w E3\nplay w D2\nplay w C3\nplay b pass\nplay w pass\nis_legal b D3\nattack C3\nundo\nundo\nundo\ncountlib D3\ncaptures w\n",
-        output: b"=\n\n=\n\n=\n\n=\n\n=\n\n=\n\n=\n\n=\n\n=\n\n=\n\n=\n\n=\n\n= 1\n\n= 3 D3\n\n=\n\n=\n\n=\n\n= 1\n\n= 0\n\n",
+        input: b"boardsize 5\ndepths 3 4\nplay b B3\nplay b C4\nplay b C2\nplay b D3\nplay w D4\nplay w E3\n\
+            play w D2\nplay w C3\nplay b pass\nplay w pass\nis_legal b D3\nattack C3\nundo\nundo\nundo\n\
+            countlib D3\ncaptures w\n",
+        output: b"=\n\n=\n\n=\n\n=\n\n=\n\n=\n\n=\n\n=\n\n=\n\n=\n\n=\n\n=\n\n= 1\n\n= 3 D3\n\n=\n\n=\n\n=\n\n\
+            = 1\n\n= 0\n\n",
     },
     Session {
         name: "filling_the_ko_saves_the_stone",
         files: &[],
-        input: b"boardsize 5\ndepths 3 4\nplay b B3\nplay b C4\nplay b C2\nplay b D3\nplay w D4\nplay w E3\nplay w D2\nplay w C3\ndefend C3\n",
+        input: b"boardsize 5\ndepths 3 4\nplay b B3\nplay b C4\nplay b C2\nplay b D3\nplay w D4\nplay w E3\n\
+            play w D2\nplay w C3\ndefend C3\n",
         output: b"=\n\n=\n\n=\n\n=\n\n=\n\n=\n\n=\n\n=\n\n=\n\n=\n\n= 3 D3\n\n",
     },
     // O . . . .
@@ -130,7 +141,8 @@ pub const SESSIONS: [Session; 29] = [
     Session {
         name: "defender_ignores_the_ban_once",
         files: &[],
-        input: b"boardsize 5\ndepths 3 2\nplay b A1\nplay b B2\nplay b C1\nplay b A3\nplay w A4\nplay w B3\nplay w C2\nplay w D1\nattack A1\n",
+        input: b"boardsize 5\ndepths 3 2\nplay b A1\nplay b B2\nplay b C1\nplay b A3\nplay w A4\nplay w B3\n\
+            play w C2\nplay w D1\nattack A1\n",
         output: b"=\n\n=\n\n=\n\n=\n\n=\n\n=\n\n=\n\n=\n\n=\n\n=\n\n= 2 A2\n\n",
     },
     Session {
@@ -220,7 +232,8 @@ pub const SESSIONS: [Session; 29] = [
             name: "p",
             text: b"Pattern P\nO*|\n:O,s,no_ban\n",
         }],
-        input: b"boardsize 5\nplay b B3\nplay b C4\nplay b C2\nplay b D3\nplay w D4\nplay w E3\nplay w D2\nplay w C3\nmatch_patterns w\nplay b pass\nmatch_patterns w\n",
+        input: b"boardsize 5\nplay b B3\nplay b C4\nplay b C2\nplay b D3\nplay w D4\nplay w E3\nplay w D2\n\
+            play w C3\nmatch_patterns w\nplay b pass\nmatch_patterns w\n",
         output: b"=\n\n=\n\n=\n\n=\n\n=\n\n=\n\n=\n\n=\n\n=\n\n=\n\n=\n\n= P 0 E4\nP 0 E2\n\n",
     },
     Session {
@@ -236,6 +249,8 @@ pub const SESSIONS: [Session; 29] = [
         name: "every_command_is_listed_in_order",
         files: &[],
         input: b"protocol_version\nversion\nlist_commands\n",
-        output: b"= 2\n\n= 1\n\n= protocol_version\nname\nversion\nknown_command\nlist_commands\nquit\nboardsize\nclear_board\nkomi\nget_komi\nplay\nundo\nshowboard\nis_legal\nall_legal\ncountlib\nfindlib\ncaptures\nattack\ndefend\ndepths\nmatch_patterns\nlist_patterns\n\n",
+        output: b"= 2\n\n= 1\n\n= protocol_version\nname\nversion\nknown_command\nlist_commands\nquit\n\
+            boardsize\nclear_board\nkomi\nget_komi\nplay\nundo\nshowboard\nis_legal\nall_legal\ncountlib\n\
+            findlib\ncaptures\nattack\ndefend\ndepths\nmatch_patterns\nlist_patterns\n\n",
     },
 ];

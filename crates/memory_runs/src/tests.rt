@@ -870,13 +870,17 @@ const KEPT_READINGS: [(&str, &[u8], &[u8], &[u8]); 4] = [
     ),
     (
         "a near move asks afresh, and undo finds the first again",
-        b"boardsize 9\ndepths 3 2\nplay b D4\nplay b C5\nplay b E5\nplay b C6\nplay b E6\nplay b C7\nplay w C4\nplay w E4\nplay w C3\nplay w E3\nplay w D2\nplay w D5\nplay w D6\nplay w D7\ndefend D4\nplay b D8\ndefend D4\nundo\ndefend D4\n",
-        b"=\n\n=\n\n=\n\n=\n\n=\n\n=\n\n=\n\n=\n\n=\n\n=\n\n=\n\n=\n\n=\n\n=\n\n=\n\n=\n\n= 0\n\n=\n\n= 3 E7\n\n=\n\n= 0\n\n",
+        b"boardsize 9\ndepths 3 2\nplay b D4\nplay b C5\nplay b E5\nplay b C6\nplay b E6\nplay b C7\nplay w C4\n\
+            play w E4\nplay w C3\nplay w E3\nplay w D2\nplay w D5\nplay w D6\nplay w D7\ndefend D4\nplay b D8\n\
+            defend D4\nundo\ndefend D4\n",
+        b"=\n\n=\n\n=\n\n=\n\n=\n\n=\n\n=\n\n=\n\n=\n\n=\n\n=\n\n=\n\n=\n\n=\n\n=\n\n=\n\n= 0\n\n=\n\n= 3 E7\n\n\
+            =\n\n= 0\n\n",
         b"readings 3 fresh 2 trials ",
     ),
     (
         "other depths are another question",
-        b"depths 3 2\nplay b D4\nplay w C4\nplay w E4\nplay w D5\nattack D4\ndepths 4 2\nattack D4\ndepths 4 1\nattack D4\ndepths 3 2\nattack D4\n",
+        b"depths 3 2\nplay b D4\nplay w C4\nplay w E4\nplay w D5\nattack D4\ndepths 4 2\nattack D4\ndepths 4 1\n\
+            attack D4\ndepths 3 2\nattack D4\n",
         b"=\n\n=\n\n=\n\n=\n\n=\n\n= 3 D3\n\n=\n\n= 3 D3\n\n=\n\n= 3 D3\n\n=\n\n= 3 D3\n\n",
         b"readings 4 fresh 3 trials ",
     ),

@@ -68,14 +68,16 @@ module _ (old new : SessionState) where
       absurd (let both : true ≡ false = sym fits ∙ apart in cc)
 
 -- where no refused keeping is counted after some lines, none was before them
-unrefused_along : (turns : List (Turn Machine)) (a b : SessionState) → IsAlong IsAfterLine a turns b → b.counts.refused ≡ 0
+unrefused_along : (turns : List (Turn Machine)) (a b : SessionState) → IsAlong IsAfterLine a turns b
+    → b.counts.refused ≡ 0
     → a.counts.refused ≡ 0
 unrefused_along [] a b along none = subst (λ (k : SessionState). k.counts.refused ≡ 0) along none
 unrefused_along (turn ∷ turns) a b (mid, first, rest) none =
     unrefused a mid (asks_of_line turn.machine turn.line) first.read (unrefused_along turns mid b rest none)
 
 -- as many questions may be kept after some lines as before them
-same_room_along : (turns : List (Turn Machine)) (a b : SessionState) → IsAlong IsAfterLine a turns b → room_of b ≡ room_of a
+same_room_along : (turns : List (Turn Machine)) (a b : SessionState) → IsAlong IsAfterLine a turns b
+    → room_of b ≡ room_of a
 same_room_along [] a b along = ap room_of along
 same_room_along (turn ∷ turns) a b (mid, first, rest) =
     same_room_along turns mid b rest ∙ same_room a mid (asks_of_line turn.machine turn.line) first.read
@@ -111,7 +113,8 @@ at_hand_along key pos (turn ∷ turns) n a b (mid, first, rest) none room apart 
     (omega (arith, few, count, later.1)) later.2
 
 -- what is asked of two machines that are one
-module _ (k0 k new : SessionState) (before : List (Turn Machine)) (now : Turn Machine) (along : IsAlong IsAfterLine k0 before k)
+module _ (k0 k new : SessionState) (before : List (Turn Machine)) (now : Turn Machine)
+    (along : IsAlong IsAfterLine k0 before k)
     (line : IsAfterLine k now new) (none : new.counts.refused ≡ 0) (room : 8 ≤ room_of k0) where
   -- a certain hit is not fresh
   pub hit_is_kept : IsCertainHit before now → new.counts.fresh ≡ k.counts.fresh

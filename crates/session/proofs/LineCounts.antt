@@ -113,7 +113,8 @@ few_fresh-line machine (Line text) old new readings read few =
     few_fresh-parsed old new machine (parsed_of text machine.size) readings read few
 
 -- one call of the readings was made on the board of a session
-module _ (old new : SessionState) (kind : Kind) (p : ℕ) (pos : BoardState) (answer : Answer) (before after : ReadingsView)
+module _ (old new : SessionState) (kind : Kind) (p : ℕ) (pos : BoardState) (answer : Answer)
+    (before after : ReadingsView)
     (board : pos ≡ position_of (machine_of old)) (was : before ≡ old.readings) (plies : before.plies ≡ old.plies)
     (wide : before.wide ≡ old.wide) (is : new.readings ≡ after) where
   -- it was about the string of the point, on this board

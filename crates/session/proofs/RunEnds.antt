@@ -20,7 +20,8 @@ use Rattle.session.specs.declared.outcome.End.TheVariants.{Done, InputFault, Out
 
 -- some bytes were taken and some put, each line that ended was answered, the rest is held, and room bytes may still
 -- be taken
-pub record Served {M : Type 0} (step : M → RawLine → Step M) (goes : SessionState → Turn M → SessionState → Type 0) (first now : M)
+pub record Served {M : Type 0} (step : M → RawLine → Step M) (goes : SessionState → Turn M → SessionState → Type 0)
+    (first now : M)
     (left_old left_new : Option (List ℕ)) (old new : Progress) (held : RawLine) (room : ℕ) : Type 0 where
   pub taken : List ℕ
   pub tally : Tally M
@@ -51,7 +52,8 @@ earlier-append taken part piece len =
     ∙ take_at taken part (length taken) refl
 
 -- before the first byte
-pub served_start : (M : Type 0) (step : M → RawLine → Step M) (goes : SessionState → Turn M → SessionState → Type 0) (m : M)
+pub served_start : (M : Type 0) (step : M → RawLine → Step M) (goes : SessionState → Turn M → SessionState → Type 0)
+    (m : M)
     (l : Option (List ℕ))
     (p : Progress) → Served step goes m m l l p p (Line []) most_taken
 served_start M step goes m l p = record {
@@ -65,7 +67,8 @@ served_start M step goes m l p = record {
 }
 
 -- The source gave a piece, its lines were answered, and none ended the session.
-pub served_more : (M : Type 0) (step : M → RawLine → Step M) (goes : SessionState → Turn M → SessionState → Type 0) (first now : M)
+pub served_more : (M : Type 0) (step : M → RawLine → Step M) (goes : SessionState → Turn M → SessionState → Type 0)
+    (first now : M)
     (l0 l1 : Option (List ℕ)) (p0 p1 : Progress) (held : RawLine) (room : ℕ)
     → Served step goes first now l0 l1 p0 p1 held room → (l2 : Option (List ℕ)) (p2 : Progress) (part : List ℕ)
     → Consumes l1 l2 part → (n : ℕ) (new : M) (held' : RawLine) → length part ≡ n → n ≤ room
@@ -85,7 +88,8 @@ served_more M step goes first now l0 l1 p0 p1 held room s l2 p2 part reads n new
   few = let few = s.few in let both = length-append s.taken part in omega (arith, few, both);
 }
 
-module _ (M : Type 0) (step : M → RawLine → Step M) (goes : SessionState → Turn M → SessionState → Type 0) (first now : M)
+module _ (M : Type 0) (step : M → RawLine → Step M) (goes : SessionState → Turn M → SessionState → Type 0)
+    (first now : M)
     (before : Streams)
     (l1 : Option (List ℕ)) (p0 p1 : Progress) (held : RawLine) (room : ℕ)
     (s : Served step goes first now before.left l1 p0 p1 held room) (opened : before.written ≡ p0.written) where

@@ -116,7 +116,8 @@ not_too_long step first left text rest taken put piece n end few is reads right 
     omega (arith, taken_all, short, parts)
 
 -- generated lines were served in place of the source
-serves-generated : {M : Type 0} (n : ℕ) (step : M → RawLine → Step M) (goes : SessionState → Turn M → SessionState → Type 0)
+serves-generated : {M : Type 0} (n : ℕ) (step : M → RawLine → Step M)
+    (goes : SessionState → Turn M → SessionState → Type 0)
     (first : M)
     (left : Option (List ℕ)) (piece faults : ℕ) (w0 w1 : Option (List ℕ)) (c0 c1 f0 f1 p : ℕ) (text rest : List ℕ)
     (last : ℕ)
@@ -167,7 +168,8 @@ serves-generated n step goes first left piece faults w0 w1 c0 c1 f0 f1 p text re
     })
 
 -- the same, with the counts that are noted
-pub ends-generated : {M : Type 0} (n : ℕ) (step : M → RawLine → Step M) (goes : SessionState → Turn M → SessionState → Type 0)
+pub ends-generated : {M : Type 0} (n : ℕ) (step : M → RawLine → Step M)
+    (goes : SessionState → Turn M → SessionState → Type 0)
     (first : M)
     (left : Option (List ℕ)) (piece faults : ℕ) (w0 w1 : Option (List ℕ)) (c0 c1 f0 f1 p : ℕ) (text rest : List ℕ)
     (last : ℕ)

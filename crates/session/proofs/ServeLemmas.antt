@@ -241,7 +241,8 @@ module _ (M : Type 0) (step : M → RawLine → Step M) (goes : SessionState →
   CutsShort-is from xs ys a stop same cuts = subst (λ l. CutsShort step goes from l a stop) (sym same) cuts
 
   -- the same lines, where the output may fail
-  pub MayCut-is : (from : M) (xs ys : List RawLine) (w : Option (List ℕ)) (kept : SessionState) (s : Sent) (b : WaitingState)
+  pub MayCut-is : (from : M) (xs ys : List RawLine) (w : Option (List ℕ)) (kept : SessionState) (s : Sent)
+      (b : WaitingState)
       (stop : Stop) → xs ≡ ys → MayCut step goes from ys w kept s b stop → MayCut step goes from xs w kept s b stop
   MayCut-is from xs ys w kept s b stop same may =
       subst (λ l. MayCut step goes from l w kept s b stop) (sym same) may
@@ -262,7 +263,8 @@ module _ (M : Type 0) (step : M → RawLine → Step M) (goes : SessionState →
       (CutsShort-more from (line ∷ []) more a stop cuts))) may
 
   -- all that waits is put, and what was answered is out
-  flushed : (from to : M) (lines : List RawLine) (ended : Bool) (a : Progress) (w0 w1 : Option (List ℕ)) (kept : SessionState)
+  flushed : (from to : M) (lines : List RawLine) (ended : Bool) (a : Progress) (w0 w1 : Option (List ℕ))
+      (kept : SessionState)
       (s0 s1 : Sent) (b : WaitingState) → RunsTo step goes from lines to ended a (progress_with w0 kept s0 b)
       → Stays w0 w1 s0 s1 b none_wait → RunsTo step goes from lines to ended a (progress_of w1 kept s1)
   flushed from to lines ended a w0 w1 kept s0 s1 b runs stays = record {
@@ -277,7 +279,8 @@ module _ (M : Type 0) (step : M → RawLine → Step M) (goes : SessionState →
   }
 
 -- Some lines were answered, their replies are out or wait, and the output may fail within those that wait.
-pub record PieceSoFar {M : Type 0} (step : M → RawLine → Step M) (goes : SessionState → Turn M → SessionState → Type 0) (from to : M)
+pub record PieceSoFar {M : Type 0} (step : M → RawLine → Step M)
+    (goes : SessionState → Turn M → SessionState → Type 0) (from to : M)
     (all left : List RawLine) (old : Progress) (w : Option (List ℕ)) (kept : SessionState) (s : Sent)
     (b : WaitingState) : Type 0 where
   pub lines : List RawLine
@@ -298,7 +301,8 @@ module _ (M : Type 0) (step : M → RawLine → Step M) (goes : SessionState →
       })
 
   -- none was answered, and no reply waits
-  pub piece_start : (from : M) (all : List RawLine) (w : Option (List ℕ)) (kept : SessionState) (s : Sent) (b : WaitingState)
+  pub piece_start : (from : M) (all : List RawLine) (w : Option (List ℕ)) (kept : SessionState) (s : Sent)
+      (b : WaitingState)
       → b ≡ none_wait → PieceSoFar step goes from from all all (progress_of w kept s) w kept s b
   piece_start from all w kept s b none =
       subst (λ (b : WaitingState). PieceSoFar step goes from from all all (progress_of w kept s) w kept s b) (sym none)
@@ -313,7 +317,8 @@ module _ (M : Type 0) (step : M → RawLine → Step M) (goes : SessionState →
         stops = λ stop at. absurd (let within = at.within in omega (arith, within));
       })
 
-  module _ (from mid : M) (all left : List RawLine) (old : Progress) (w : Option (List ℕ)) (kept : SessionState) (s : Sent)
+  module _ (from mid : M) (all left : List RawLine) (old : Progress) (w : Option (List ℕ)) (kept : SessionState)
+      (s : Sent)
       (b : WaitingState) (so_far : PieceSoFar step goes from mid all left old w kept s b) where
     -- a reply broke off
     pub piece_cut : (stop : Stop) → MayCut step goes mid left w kept s b stop → CutsShort step goes from all old stop
@@ -394,7 +399,8 @@ module _ (M : Type 0) (step : M → RawLine → Step M) (goes : SessionState →
         stop (MayCut-is M step goes from all lines w0 kept0 s0 b0 stop same may)
 
     -- what waited is out
-    pub rest_done : (to : M) (ended : Bool) (w1 w2 : Option (List ℕ)) (kept1 : SessionState) (s1 s2 : Sent) (b1 : WaitingState)
+    pub rest_done : (to : M) (ended : Bool) (w1 w2 : Option (List ℕ)) (kept1 : SessionState) (s1 s2 : Sent)
+        (b1 : WaitingState)
         → RunsTo step goes from lines to ended (progress_with w0 kept0 s0 b0) (progress_with w1 kept1 s1 b1)
         → Stays w1 w2 s1 s2 b1 none_wait
         → RunsTo step goes from all to ended (progress_of w0 kept0 s0) (progress_of w2 kept1 s2)
@@ -418,7 +424,8 @@ module _ (M : Type 0) (step : M → RawLine → Step M) (goes : SessionState →
         → MayCut step goes from (l ∷ []) w0 kept0 s0 b0 stop)) (sym same) stops
 
   -- where the output failed within it
-  pub part-line : {T : Type 0} (from : M) (held line : RawLine) → held ≡ line → (w0 w1 : Option (List ℕ)) (kept0 : SessionState)
+  pub part-line : {T : Type 0} (from : M) (held line : RawLine) → held ≡ line
+      → (w0 w1 : Option (List ℕ)) (kept0 : SessionState)
       (s0 s1 : Sent) (b0 : WaitingState) (result : Result T Counts) → IfErr result
       (λ noted. MayCut step goes from (line ∷ []) w0 kept0 s0 b0
       (record { written = w1; sent = s1; counts = noted }))

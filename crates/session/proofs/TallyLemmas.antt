@@ -74,11 +74,13 @@ IsAlong-split goes a c (x ∷ xs) ys (mid, first, rest) =
     let parts = IsAlong-split goes mid c xs ys rest in (parts.0, (mid, first, parts.1), parts.2)
 
 -- nothing was put
-pub Advances-none : {M : Type 0} (goes : SessionState → Turn M → SessionState → Type 0) (a : Progress) → Advances goes a a no_tally
+pub Advances-none : {M : Type 0} (goes : SessionState → Turn M → SessionState → Type 0) (a : Progress)
+    → Advances goes a a no_tally
 Advances-none goes a = record { writes = Appends-nil a.written; along = refl; replies = refl; bytes = refl }
 
 -- one tally was put and then another
-pub Advances-trans : {M : Type 0} (goes : SessionState → Turn M → SessionState → Type 0) (a b c : Progress) (s t : Tally M)
+pub Advances-trans : {M : Type 0} (goes : SessionState → Turn M → SessionState → Type 0) (a b c : Progress)
+    (s t : Tally M)
     → Advances goes a b s → Advances goes b c t → Advances goes a c (together s t)
 Advances-trans goes a b c s t earlier later = record {
   writes = Appends-trans a.written b.written c.written s.out t.out earlier.writes later.writes;

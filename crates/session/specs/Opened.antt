@@ -33,7 +33,8 @@ pub record IsPlainWith (advice : Advice) (patterns : List Pattern) (plies wide :
 
 -- the files of the options were opened, in which the helpers may be named, the session is plain with their patterns,
 -- and no line has come
-pub record Opens (helpers : List SlotState) (contents : List ℕ → Option (List ℕ)) (options : Options) (session : SessionState)
+pub record Opens (helpers : List SlotState) (contents : List ℕ → Option (List ℕ)) (options : Options)
+    (session : SessionState)
     (matcher : Matcher) (lines : LinesState) : Type 0 where
   pub patterns : List Pattern
   pub opened : IsOpened (helper_names helpers) contents options.files options.states patterns
@@ -60,8 +61,8 @@ pub record ServesCounting {M : Type 0} (generate : Option ℕ) (step : M → Raw
 
 -- the lines were served so, and these counts are those of what is kept then
 pub record EndsCounting {M : Type 0} (generate : Option ℕ) (step : M → RawLine → Step M)
-    (goes : SessionState → Turn M → SessionState → Type 0) (first : M) (before after : Streams) (end : End) (counts : Counts)
-    (old : Progress) (written : Option (List ℕ)) (sent : Sent) : Type 0 where
+    (goes : SessionState → Turn M → SessionState → Type 0) (first : M) (before after : Streams) (end : End)
+    (counts : Counts) (old : Progress) (written : Option (List ℕ)) (sent : Sent) : Type 0 where
   pub kept : SessionState
   pub same : counts ≡ kept.counts
   pub serves : ServesCounting generate step goes first before after end old (progress_of written kept sent)

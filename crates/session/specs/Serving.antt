@@ -47,14 +47,16 @@ pub record PutsReply (old new : Option (List ℕ)) (before now : Sent) (bytes : 
   pub bytes_sent : now.bytes ≡ kept_sum before.bytes (length bytes)
 
 -- the line was answered, and its reply was put whole
-pub record Replies {M : Type 0} (step : M → RawLine → Step M) (goes : SessionState → Turn M → SessionState → Type 0) (from : M)
+pub record Replies {M : Type 0} (step : M → RawLine → Step M) (goes : SessionState → Turn M → SessionState → Type 0)
+    (from : M)
     (line : RawLine) (to : M) (ends : Bool) (old new : Progress) : Type 0 where
   pub reply : List ℕ
   pub answers : Answers step from line reply to ends
   pub advances : Advances goes old new (tally_of from line reply)
 
 -- the line was answered, and its reply was put in part
-pub record RepliesPart {M : Type 0} (step : M → RawLine → Step M) (goes : SessionState → Turn M → SessionState → Type 0) (from : M)
+pub record RepliesPart {M : Type 0} (step : M → RawLine → Step M)
+    (goes : SessionState → Turn M → SessionState → Type 0) (from : M)
     (line : RawLine) (old new : Progress) : Type 0 where
   pub part : List ℕ
   pub missing : List ℕ
@@ -65,14 +67,16 @@ pub record RepliesPart {M : Type 0} (step : M → RawLine → Step M) (goes : Se
   pub advances : Advances goes old new (cut_tally from line part)
 
 -- the lines were answered, and their replies were put whole
-pub record RunsTo {M : Type 0} (step : M → RawLine → Step M) (goes : SessionState → Turn M → SessionState → Type 0) (from : M)
+pub record RunsTo {M : Type 0} (step : M → RawLine → Step M) (goes : SessionState → Turn M → SessionState → Type 0)
+    (from : M)
     (lines : List RawLine) (to : M) (ended : Bool) (old new : Progress) : Type 0 where
   pub tally : Tally M
   pub run : IsTallied step from lines tally to ended
   pub advances : Advances goes old new tally
 
 -- the lines were answered up to one, whose reply was put in part
-pub record RunsPart {M : Type 0} (step : M → RawLine → Step M) (goes : SessionState → Turn M → SessionState → Type 0) (from : M)
+pub record RunsPart {M : Type 0} (step : M → RawLine → Step M) (goes : SessionState → Turn M → SessionState → Type 0)
+    (from : M)
     (lines : List RawLine) (old new : Progress) : Type 0 where
   pub tally : Tally M
   pub cut : BreaksOff step from lines tally

@@ -97,14 +97,16 @@ abbrev pub progress_with : Option (List ℕ) → SessionState → Sent → Waiti
 progress_with written session sent waiting = progress_of (holds_with written waiting) session (sent_with sent waiting)
 
 -- The output failed within a reply to one of these lines, and what is noted are the counts after that line.
-pub record CutsShort {M : Type 0} (step : M → RawLine → Step M) (goes : SessionState → Turn M → SessionState → Type 0) (from : M)
+pub record CutsShort {M : Type 0} (step : M → RawLine → Step M) (goes : SessionState → Turn M → SessionState → Type 0)
+    (from : M)
     (lines : List RawLine) (old : Progress) (stop : Stop) : Type 0 where
   pub kept : SessionState
   pub same : stop.counts ≡ kept.counts
   pub runs : RunsPart step goes from lines old (progress_of stop.written kept stop.sent)
 
 -- the output may fail so within what waits, or within a reply to one of these lines behind it
-abbrev pub MayCut : {M : Type 0} → (M → RawLine → Step M) → (SessionState → Turn M → SessionState → Type 0) → M → List RawLine
+abbrev pub MayCut : {M : Type 0} → (M → RawLine → Step M) → (SessionState → Turn M → SessionState → Type 0) → M
+    → List RawLine
     → Option (List ℕ) → SessionState → Sent → WaitingState → Stop → Type 0
 MayCut step goes from lines written session sent waiting stop = IsStop written sent waiting stop
     ⊎ CutsShort step goes from lines (progress_with written session sent waiting) stop

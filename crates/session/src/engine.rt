@@ -61,7 +61,8 @@ const NO_COUNTS: ReadingCounts = ReadingCounts {
 /// The size of the board before the first line that says one.
 const FIRST_SIZE: u8 = 19;
 
-/// What a session keeps beside its helpers, seen by contracts as `SessionState`; `machine_of` is the machine that this is.
+/// What a session keeps beside its helpers, seen by contracts as `SessionState`; `machine_of` is the machine that
+/// this is.
 #[derive(Drop)]
 pub struct Engine {
     alloc: Global,
