@@ -5,19 +5,8 @@ use Rattle.std.proofs.lemmas.Int.{ints}
 use Rattle.std.proofs.lemmas.Nat.{mul-add-lt, div-mul-add, mod-mul-add, div_below, mod_below, div-add-mod'}
 use Rattle.std.proofs.lemmas.Option.{none-some, same_Some, cond_some}
 use Rattle.go_rules.specs.Transform.{Offset, transformed, transformations}
+use Rattle.go_rules.proofs.Transforms.{each_of_eight}
 use Rattle.spiral.specs.Spiral.{line_of, point_of, place_at}
-
--- what holds of each of the eight holds of every transformation
-each_of_eight : (P : ℕ → Type 0) → P 0 → P 1 → P 2 → P 3 → P 4 → P 5 → P 6 → P 7 → (t : ℕ) → t < transformations → P t
-each_of_eight P a b c d e f g h zero l = a
-each_of_eight P a b c d e f g h (suc zero) l = b
-each_of_eight P a b c d e f g h (suc (suc zero)) l = c
-each_of_eight P a b c d e f g h (suc (suc (suc zero))) l = d
-each_of_eight P a b c d e f g h (suc (suc (suc (suc zero)))) l = e
-each_of_eight P a b c d e f g h (suc (suc (suc (suc (suc zero))))) l = f
-each_of_eight P a b c d e f g h (suc (suc (suc (suc (suc (suc zero)))))) l = g
-each_of_eight P a b c d e f g h (suc (suc (suc (suc (suc (suc (suc zero))))))) l = h
-each_of_eight P a b c d e f g h (suc (suc (suc (suc (suc (suc (suc (suc t)))))))) l = absurd (omega arith)
 
 -- one offset after another
 abbrev pub sum_of : Offset → Offset → Offset

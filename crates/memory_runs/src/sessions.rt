@@ -1,15 +1,18 @@
 //! Worked sessions: the pattern files, what goes in, and what must come out.
 
 /// A pattern file.
-pub struct File {
+#[derive(Clone, Copy)]
+pub struct File<'a> {
+    /// Its name.
     pub name: &'static str,
-    pub text: &'static [u8],
+    /// What it holds.
+    pub text: &'a [u8],
 }
 
 /// A session, by the name of what it shows.
 pub struct Session {
     pub name: &'static str,
-    pub files: &'static [File],
+    pub files: &'static [File<'static>],
     pub input: &'static [u8],
     pub output: &'static [u8],
 }

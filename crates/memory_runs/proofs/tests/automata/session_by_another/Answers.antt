@@ -1,6 +1,6 @@
 -- The automaton accepts the numbers of one list, and the other list is as long.
 use Rattle.std.proofs.Common.{ℕ, ◌<◌, length, arith}
-use Rattle.memory_runs.proofs.tests.session_by_another.Goals as goal
+use Rattle.memory_runs.proofs.tests.automata.session_by_another.Goals as goal
 
 -- each accepted number is below the length of the other list
 pub new-requires-3-clause-numbers : goal.new-requires-3-clause-numbers

@@ -1,0 +1,66 @@
+//! What is counted of readings.
+use super::runs::{WHOLE, go_with};
+use session::Outcome;
+use std::test::Fail;
+
+// A refused question counts nothing; the first that is answered with a code is read afresh, and tries some moves here;
+// the second is kept.
+#[test]
+fn readings_are_counted(rt: HostRuntime) -> Result<(), Fail> {
+    let input =
+        b"boardsize 9\ndepths 3 2\nplay b D4\nplay w C4\nplay w E4\nplay w D5\nattack D4\nattack E5\nattack D4\n";
+    let ran = go_with(&rt, rt.alloc(), &["--stats"], &[], input, WHOLE)?;
+    assert_eq!(rt; ran.outcome, Outcome::Done);
+    assert!(rt; ran.notes.bytes().starts_with(b"readings 2 fresh 1 trials "));
+    assert!(rt;
+        !ran.notes
+            .bytes()
+            .starts_with(b"readings 2 fresh 1 trials 0")
+    );
+    assert!(rt; ran.notes.bytes().ends_with(b" refused 0\n"));
+    Ok(())
+}
+
+/// What was asked, the lines, the replies, and how the note of the counts begins.
+const KEPT_READINGS: [(&str, &[u8], &[u8], &[u8]); 4] = [
+    (
+        "a distant move keeps a reading",
+        b"depths 3 2\nplay b D4\nplay w C4\nplay w E4\nplay w D5\nattack D4\nplay b Q16\nattack D4\n",
+        b"=\n\n=\n\n=\n\n=\n\n=\n\n= 3 D3\n\n=\n\n= 3 D3\n\n",
+        b"readings 2 fresh 1 trials ",
+    ),
+    (
+        "a near move asks afresh, and undo finds the first again",
+        b"boardsize 9\ndepths 3 2\nplay b D4\nplay b C5\nplay b E5\nplay b C6\nplay b E6\nplay b C7\nplay w C4\n\
+            play w E4\nplay w C3\nplay w E3\nplay w D2\nplay w D5\nplay w D6\nplay w D7\ndefend D4\nplay b D8\n\
+            defend D4\nundo\ndefend D4\n",
+        b"=\n\n=\n\n=\n\n=\n\n=\n\n=\n\n=\n\n=\n\n=\n\n=\n\n=\n\n=\n\n=\n\n=\n\n=\n\n=\n\n= 0\n\n=\n\n= 3 E7\n\n\
+            =\n\n= 0\n\n",
+        b"readings 3 fresh 2 trials ",
+    ),
+    (
+        "other depths are another question",
+        b"depths 3 2\nplay b D4\nplay w C4\nplay w E4\nplay w D5\nattack D4\ndepths 4 2\nattack D4\ndepths 4 1\n\
+            attack D4\ndepths 3 2\nattack D4\n",
+        b"=\n\n=\n\n=\n\n=\n\n=\n\n= 3 D3\n\n=\n\n= 3 D3\n\n=\n\n= 3 D3\n\n=\n\n= 3 D3\n\n",
+        b"readings 4 fresh 3 trials ",
+    ),
+    (
+        "attack and defend are two questions",
+        b"depths 3 2\nplay b D4\nattack D4\ndefend D4\nattack D4\ndefend D4\n",
+        b"=\n\n=\n\n= 0\n\n= 3 PASS\n\n= 0\n\n= 3 PASS\n\n",
+        b"readings 4 fresh 2 trials ",
+    ),
+];
+
+// Readings are used again where what they looked at is as it was, and with ample memory no keeping is refused.
+#[test]
+fn no_keeping_is_refused_with_ample_memory(rt: HostRuntime) -> Result<(), Fail> {
+    for (what, input, output, counts) in KEPT_READINGS {
+        let ran = go_with(&rt, rt.alloc(), &["--stats"], &[], input, WHOLE)?;
+        assert_eq!(rt; ran.output.bytes(), output, "{what}");
+        assert!(rt; ran.notes.bytes().starts_with(counts), "{what}");
+        assert!(rt; ran.notes.bytes().ends_with(b" refused 0\n"), "{what}");
+    }
+    Ok(())
+}
