@@ -82,26 +82,6 @@ module _ (M : Type 0) (step : M → RawLine → Step M) where
     out = cut.out;
   }
 
-  -- a cut of equal lines is one
-  abbrev pub Cut-is : (first : M) (xs ys : List RawLine) (put : List ℕ) → xs ≡ ys → Cut step first ys put
-      → Cut step first xs put
-  Cut-is first xs ys put e cut = record {
-    before = cut.before;
-    line = cut.line;
-    after = cut.after;
-    whole = cut.whole;
-    part = cut.part;
-    missing = cut.missing;
-    mid = cut.mid;
-    next = cut.next;
-    ends = cut.ends;
-    place = e ∙ cut.place;
-    answered = cut.answered;
-    reply = cut.reply;
-    proper = cut.proper;
-    out = cut.out;
-  }
-
   -- where the lines behind a line have a transcript, those with it have one
   total-step : (old : M) (line : RawLine) (lines : List RawLine) (ends : Bool) → (step old line).ends ≡ ends
       → (out : List ℕ) × IsTranscript step (step old line).next lines out

@@ -183,8 +183,8 @@ fn as_many_bytes_wait_as_there_is_room_for(rt: HostRuntime) -> Result<(), Fail> 
     Ok(())
 }
 
-/// The calls of the output for `name`, `list_patterns` with a reply of more bytes than may wait, and `version`: which one
-/// fails, and how many bytes are out then.
+/// The calls of the output for `name`, `list_patterns` with a reply of more bytes than may wait, and `version`: which
+/// one fails, and how many bytes are out then.
 const LONG_REPLY: [(u64, usize); 3] = [(1, 0), (2, 9), (3, 9 + PIECE)];
 
 // A reply of more bytes than may wait goes out behind those that wait, as many bytes a call as the output takes.
