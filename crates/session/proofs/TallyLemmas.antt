@@ -217,7 +217,22 @@ module _ (M : Type 0) (step : M → RawLine → Step M) where
   -- the same lines
   abbrev pub BreaksOff-is : (first : M) (xs ys : List RawLine) (a : Tally M) → xs ≡ ys → BreaksOff step first ys a
       → BreaksOff step first xs a
-  BreaksOff-is first xs ys a same cut = subst (λ lines. BreaksOff step first lines a) (sym same) cut
+  BreaksOff-is first xs ys a same cut = record {
+    before = cut.before;
+    line = cut.line;
+    after = cut.after;
+    whole = cut.whole;
+    part = cut.part;
+    missing = cut.missing;
+    mid = cut.mid;
+    next = cut.next;
+    ends = cut.ends;
+    place = same ∙ cut.place;
+    answered = cut.answered;
+    reply = cut.reply;
+    proper = cut.proper;
+    tallied = cut.tallied;
+  }
 
   -- what broke off is a cut
   abbrev pub BreaksOff-cut : (first : M) (lines : List RawLine) (tally : Tally M) → BreaksOff step first lines tally
