@@ -7,12 +7,12 @@ use Rattle.go_rules.specs.declared.Cell.{Cell}
 use Rattle.go_rules.specs.declared.Cell.TheVariants.{Empty}
 use Rattle.go_rules.specs.Board.{are_neighbours}
 use Rattle.go_rules.specs.Below.{set_below, count_below}
-use Rattle.go_rules.specs.Strings.{cell_at, is_stone, is_liberty, liberties, Path, step}
+use Rattle.go_rules.specs.Strings.{cell_at, is_stone, is_liberty, string_at, liberties, Path, step}
 use Rattle.go_rules.proofs.Counts.{count_below_mono}
 use Rattle.go_rules.proofs.Sets.{contains-set_below, same_nat_set, len-set_below}
 use Rattle.go_rules.proofs.Paths.{same_cell-true, is_liberty-from_fact}
 use Rattle.go_rules.proofs.Links.{path_same}
-use Rattle.go_rules.proofs.Tests.{same_tests}
+use Rattle.go_rules.proofs.Tests.{same_tests, and-false}
 use Rattle.go_base.specs.Trails.{has_point, add_once}
 use Rattle.go_base.specs.Floods.{SpreadsOut, SpreadsUnder, Searches}
 use Rattle.go_base.specs.declared.flood.Found.{Found}
@@ -152,4 +152,20 @@ pub one_seen : (s : ℕ) (cells : List Cell) (p n : ℕ) (found : Found) → Sea
 one_seen s cells p n found h count one = elim (cases_lt 1 n) [
   | inl more ↦ (let over = h.more (omega (arith, count, more)) in absurd (omega (arith, over, one)))
   | inr few ↦ Searches-count s cells p 1 n found h count few ∙ one
+]
+
+-- a search for two liberties tells whether the string is one stone with one liberty
+pub one_of_each : (s : ℕ) (cells : List Cell) (p stones free : ℕ) (found : Found) → Searches s cells p 1 found
+    → stones ≡ sets.len found.stones → free ≡ sets.len found.liberties
+    → (eqb stones 1 && eqb free 1) ≡ (eqb (sets.len (string_at s cells p)) 1 && eqb (liberties s cells p) 1)
+one_of_each s cells p stones free found h counted count = elim (cases_lt 1 free) [
+  | inl more ↦
+      let over = h.more (omega (arith, count, more)) in
+      let none : eqb free 1 ≡ false = ne_eqb free 1 (λ e. omega (arith, e, more)) in
+      let none_there : eqb (liberties s cells p) 1 ≡ false = ne_eqb (liberties s cells p) 1 (λ e. omega (arith, e, over)) in
+      ap (λ b. eqb stones 1 && b) none ∙ and-false _
+      ∙ sym (ap (λ b. eqb (sets.len (string_at s cells p)) 1 && b) none_there ∙ and-false _)
+  | inr few ↦
+      ap (λ n. eqb n 1 && eqb free 1) (counted ∙ ap sets.len (h.stones (omega (arith, count, few))))
+      ∙ ap (λ n. eqb (sets.len (string_at s cells p)) 1 && eqb n 1) (Searches-count s cells p 1 free found h count few)
 ]

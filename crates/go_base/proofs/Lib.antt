@@ -1,6 +1,7 @@
 pub mod Marks
 pub mod JoinedMarks
 pub mod Lowest
+pub mod UsedWords
 pub mod SidesOfPoints
 pub mod TrailOrder
 pub mod FloodResults

@@ -121,3 +121,9 @@ no_member words p None h = λ r l. elim (cases_lt r largest_points) [
   | inr g ↦ contains-above words r g
 ]
 no_member words p (Some x) h = tt
+
+-- nor has it one where no point at all is marked from p on
+pub no_member_from : (words : List ℕ) (p : ℕ) (o : Option ℕ) → IfNone o ((r : ℕ) → p ≤ r → is_marked words r ≡ false)
+    → IfNone o ((r : ℕ) → p ≤ r → sets.contains (marked words) r ≡ false)
+no_member_from words p None h = λ r l. not_member words r (h r l)
+no_member_from words p (Some x) h = tt

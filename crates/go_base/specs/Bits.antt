@@ -1,5 +1,5 @@
 -- A set of points kept as bits.
-use Rattle.std.specs.Prelude.{ℕ, ◌+◌, ◌/◌, ◌%◌, ◌==◌, Bool, List, slice_index}
+use Rattle.std.specs.Prelude.{◌≡◌, ℕ, ◌+◌, ◌/◌, ◌%◌, ◌==◌, ◌<◌, Bool, IsTrue, List, slice_index}
 use Rattle.std.specs.Int.{bit_at}
 use Rattle.std.specs.Ordering.{nat_cmp}
 use Rattle.std.specs.FinSet as set
@@ -17,3 +17,10 @@ is_marked words q = bit_at (slice_index words (q / 64)) (q % 64) == 1
 -- the set that the words keep
 unfoldable pub marked : List ℕ → set.FinSet nat_cmp
 marked words = set_below largest_points (is_marked words)
+
+-- used notes the words that mark a point: each marked point is one of the largest board, the bit of its word is set in
+-- used, and each bit that is set in used is that of a word that marks a point
+pub record IsNoteOf (words : List ℕ) (used : ℕ) : Type 0 where
+  pub on_board : (q : ℕ) → IsTrue (is_marked words q) → q < largest_points
+  pub noted : (q : ℕ) → IsTrue (is_marked words q) → bit_at used (q / 64) ≡ 1
+  pub only : (i : ℕ) → bit_at used i ≡ 1 → (q : ℕ) × (q / 64 ≡ i) × IsTrue (is_marked words q)

@@ -1,5 +1,5 @@
 -- Which facts a record of facts has.
-use Rattle.std.specs.Prelude.{◌≡◌, ◌⊎◌, ℕ, ◌*◌, ◌==◌, ◌&&◌, ◌||◌, Bool, true, false, not, nat_lt, IsTrue, List}
+use Rattle.std.specs.Prelude.{◌≡◌, ◌⊎◌, ℕ, ◌*◌, ◌<◌, ◌==◌, ◌&&◌, ◌||◌, Bool, true, false, nat_lt, IsTrue, List, Option}
 use Rattle.go_rules.specs.declared.Cell.{Cell}
 use Rattle.go_rules.specs.declared.Cell.TheVariants.{Empty, Black, White}
 use Rattle.go_rules.specs.declared.Colour.{Colour}
@@ -54,16 +54,14 @@ pub record AsksBan (old new : Facts) (p : ℕ) (c : Colour) : Type 0 where
       → (is_marked (asked_of old k) q ≡ true) ⊎ ((q ≡ p) × (k ≡ c))
   pub cells : (cell : Cell) → seen_as new cell ≡ seen_as old cell
 
--- the facts about q are so on the position
-pub record HoldsAt (f : Facts) (pos : BoardState) (q : ℕ) : Type 0 where
-  pub cell : (cell : Cell) → IsTrue (is_marked (seen_as f cell) q) → cell_at pos.cells q ≡ cell
-  pub ban : (c : Colour) → IsTrue (is_marked (asked_of f c) q) → is_banned pos.ban c q ≡ is_banned f.ban c q
+-- each marked point of the board holds this cell
+abbrev pub AllShow : List ℕ → Cell → BoardState → Type 0
+AllShow points cell pos = (q : ℕ) → q < pos.size * pos.size → IsTrue (is_marked points q) → cell_at pos.cells q ≡ cell
 
--- the cell may be what was seen, where it was seen to be empty, to hold a black stone or a white one
-abbrev pub is_admitted : Cell → Bool → Bool → Bool → Bool
-is_admitted Empty was_empty was_black was_white = not was_black && not was_white
-is_admitted Black was_empty was_black was_white = not was_empty && not was_white
-is_admitted White was_empty was_black was_white = not was_empty && not was_black
+-- at each marked point of the board the position's ban forbids the colour exactly where this ban does
+abbrev pub BanStays : List ℕ → Option (ℕ × Colour) → Colour → BoardState → Type 0
+BanStays points ban c pos =
+    (q : ℕ) → q < pos.size * pos.size → IsTrue (is_marked points q) → is_banned pos.ban c q ≡ is_banned ban c q
 
 -- some fact is about q
 abbrev pub is_fact_at : Facts → ℕ → Bool

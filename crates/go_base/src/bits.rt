@@ -4,13 +4,13 @@ ghost use Rattle.std.specs.Prelude.{◌≡◌, ◌≢◌, ℕ, ◌<◌, ◌≤�
 ghost use Rattle.std.specs.Prelude.{IfSome, IfNone, Some, None, nat_lt, if◌then◌else◌};
 ghost use Rattle.std.specs.Int.{bit_at};
 ghost use Rattle.go_rules.specs.Board.{largest_points};
-ghost use Rattle.go_base.specs.Bits.{is_marked};
+ghost use Rattle.go_base.specs.Bits.{is_marked, IsNoteOf};
 
 use crate::size::{MAX_POINTS, Point};
 use std::marker::Model;
 
 /// How many bits a word has.
-const WORD_BITS: u16 = 64;
+pub(crate) const WORD_BITS: u16 = 64;
 
 /// How many words of 64 bits have a bit for each point of the largest board.
 pub const WORDS: usize = (MAX_POINTS + 63) / 64;
@@ -74,6 +74,40 @@ impl PointBits {
     {
         first_marked(&self.words, first, end)
     }
+
+    /// The least point from `first` on whose bit is set, None exactly where there is none. Of the words, `used` notes those
+    /// that have a bit, and the others are passed over.
+    pub(crate) fn first_in_use(&self, used: u16, first: u16) -> Option<Point>
+        requires { IsNoteOf self.now used }
+        ensures some { IfSome result (λ q. (first ≤ q) × (q < largest_points) × IsTrue (is_marked self.now q)
+            × ((r : ℕ) → first ≤ r → r < q → is_marked self.now r ≡ false)) }
+        ensures none { IfNone result ((r : ℕ) → first ≤ r → is_marked self.now r ≡ false) }
+    {
+        first_in_words(&self.words, used, first)
+    }
+}
+
+/// The least point from `first` on that the words mark, None exactly where there is none. It looks at the word of `first`,
+/// and then at the next one that `used` notes, which has a bit.
+fn first_in_words(words: &[u64; WORDS], used: u16, first: u16) -> Option<Point>
+    requires { IsNoteOf words.now used }
+    ensures some { IfSome result (λ q. (first ≤ q) × (q < largest_points) × IsTrue (is_marked words.now q)
+        × ((r : ℕ) → first ≤ r → r < q → is_marked words.now r ≡ false)) }
+    ensures none { IfNone result ((r : ℕ) → first ≤ r → is_marked words.now r ≡ false) }
+{
+    if first >= MAX_POINTS as u16 {
+        return None;
+    }
+    let word = first / WORD_BITS;
+    let bit = lowest_bit(words[word as usize], first % WORD_BITS);
+    if bit < WORD_BITS {
+        return Some(word * WORD_BITS + bit);
+    }
+    let next = lowest_bit(used as u64, word + 1);
+    if next >= WORD_BITS {
+        return None;
+    }
+    Some(next * WORD_BITS + lowest_bit(words[next as usize], 0))
 }
 
 /// The least point from `first` on that the words mark, None exactly where there is none below `end`. It takes no memory.

@@ -13,7 +13,7 @@ ghost use Rattle.go_base.specs.Takes.{TakenBeside, HasWholeStrings, near_taken};
 ghost use Rattle.go_base.specs.TakenBack.{before_play, cells_before, ban_or_refusal};
 ghost use Rattle.go_base.specs.Views.{Looks, anywhere, nowhere, alone};
 
-use crate::flood::flood;
+use crate::flood::search;
 use crate::points::PointSet;
 use crate::sides::neighbour;
 use crate::size::{Point, Size};
@@ -104,7 +104,7 @@ fn is_suicide<V: View>(board: &mut V, p: Point, taken: &PointSet) -> bool
 
 /// The ban after c took these stones by the one at p: where one stone was taken by one that is alone and has one
 /// liberty, the other colour may not play where the taken one stood. The string of p is searched only where one stone
-/// was taken.
+/// was taken, and no further once a second liberty is seen.
 pub fn ban_of<V: View>(
     board: &mut V,
     c: Colour,
@@ -122,7 +122,7 @@ pub fn ban_of<V: View>(
     if taken.count() != 1 {
         return None;
     }
-    let own = flood(board, p);
+    let own = search(board, p, 1);
     if !are_one(own.stones.count(), own.liberties.count()) {
         return None;
     }

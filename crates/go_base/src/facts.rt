@@ -1,7 +1,7 @@
 //! The recorded facts of a reading: its size, cells of points, and for a point and a colour whether the ko ban forbids
 //! the play.
 
-ghost use Rattle.std.specs.Prelude.{◌≡◌, ℕ, ◌*◌, ◌<◌, ◌↔◌, IsTrue, false, not, ◌||◌, ◌&&◌};
+ghost use Rattle.std.specs.Prelude.{◌≡◌, ℕ, ◌*◌, ◌<◌, ◌↔◌, IsTrue, false};
 ghost use Rattle.std.specs.FinSet as set;
 ghost use Rattle.go_rules.specs.Below.{set_below};
 ghost use Rattle.go_rules.specs.Board.{largest_points};
@@ -10,7 +10,7 @@ ghost use Rattle.go_rules.specs.declared.Colour.{Colour};
 ghost use Rattle.go_rules.specs.Position.{BoardState, is_banned};
 ghost use Rattle.go_base.specs.Bits.{is_marked};
 ghost use Rattle.go_base.specs.Facts.{Agrees};
-ghost use Rattle.go_base.specs.Told.{told, seen_as, asked_of, SeesCell, AsksBan, HoldsAt, is_admitted, is_fact_at, same_bool};
+ghost use Rattle.go_base.specs.Told.{told, seen_as, asked_of, SeesCell, AsksBan, AllShow, BanStays, is_fact_at};
 
 use crate::ban::is_banned;
 use crate::bits::PointBits;
@@ -88,70 +88,41 @@ impl Facts {
         }
     }
 
-    /// Whether it was asked for the ban of the colour at p.
-    fn is_asked(&self, c: Colour, p: Point) -> bool
-        requires { p < largest_points }
-        ensures { result ≡ is_marked (asked_of self.now c) p }
+    /// Whether each cell is as it was seen.
+    fn cells_stand(&self, position: &Position) -> bool
+        ensures { IsTrue result ↔ ((cell : Cell) → AllShow (seen_as self.now cell) cell position.now) }
     {
-        match c {
-            Colour::Black => self.asked_of_black.has(p),
-            Colour::White => self.asked_of_white.has(p),
+        if !all_show(&self.empty, Cell::Empty, position) {
+            return false;
         }
-    }
-
-    /// Whether the cell of q is as it was seen, if it was.
-    fn cell_stands(&self, q: Point, cell: Cell) -> bool
-        requires { q < largest_points }
-        ensures { result ≡ is_admitted cell (is_marked (seen_as self.now Cell.Empty) q)
-            (is_marked (seen_as self.now Cell.Black) q) (is_marked (seen_as self.now Cell.White) q) }
-    {
-        let empty = self.empty.has(q);
-        let black = self.black.has(q);
-        let white = self.white.has(q);
-        is_admitted(cell, empty, black, white)
-    }
-
-    /// Whether the ban of the colour is as it was seen, if it was.
-    fn ban_stands(&self, position: &Position, c: Colour, q: Point) -> bool
-        requires { q < largest_points }
-        ensures { result ≡ (not (is_marked (asked_of self.now c) q)
-            || same_bool (is_banned position.now.ban c q) (is_banned self.now.ban c q)) }
-    {
-        if !self.is_asked(c, q) {
-            return true;
+        if !all_show(&self.black, Cell::Black, position) {
+            return false;
         }
-        is_banned(self.ban, c, q) == position.bans(c, q)
+        all_show(&self.white, Cell::White, position)
     }
 
-    /// Whether what was seen at q is so on the position.
-    fn holds_at(&self, position: &Position, q: Point) -> bool
-        requires { q < position.now.size * position.now.size }
-        ensures { IsTrue result ↔ HoldsAt self.now position.now q }
+    /// Whether the ban is as it was seen wherever it was asked for.
+    fn ban_stands(&self, position: &Position) -> bool
+        ensures { IsTrue result ↔ ((c : Colour) → BanStays (asked_of self.now c) self.now.ban c position.now) }
     {
-        let _ = position.size().points();
-        let cell = self.cell_stands(q, position.cell(q));
-        let black = self.ban_stands(position, Colour::Black, q);
-        let white = self.ban_stands(position, Colour::White, q);
-        all(cell, black, white)
+        if !ban_stays(&self.asked_of_black, self.ban, Colour::Black, position) {
+            return false;
+        }
+        ban_stays(&self.asked_of_white, self.ban, Colour::White, position)
     }
 
-    /// Whether the position has the same size and every fact holds there.
+    /// Whether the position has the same size and every fact holds there. It looks only at points that a fact is about,
+    /// and at none after one where it does not hold.
     pub fn stands(&self, position: &Position) -> bool
         ensures { IsTrue result ↔ Agrees (told self.now) position.now }
     {
         if self.size != position.size() {
             return false;
         }
-        let end = position.size().points();
-        let about = self.about();
-        let mut next = 0;
-        while let Some(q) = about.first_from(next, end) {
-            if !self.holds_at(position, q) {
-                return false;
-            }
-            next = q + 1;
+        if !self.cells_stand(position) {
+            return false;
         }
-        true
+        self.ban_stands(position)
     }
 
     /// The points that some fact is about.
@@ -182,19 +153,37 @@ impl Facts {
     }
 }
 
-fn all(a: bool, b: bool, c: bool) -> bool
-    ensures { result ≡ (a && b && c) }
+/// Whether each marked point of the board holds this cell.
+fn all_show(points: &PointBits, cell: Cell, position: &Position) -> bool
+    ensures { IsTrue result ↔ AllShow points.now cell position.now }
 {
-    a && b && c
+    let end = position.size().points();
+    let mut next = 0;
+    while let Some(q) = points.first_from(next, end) {
+        if position.cell(q) != cell {
+            return false;
+        }
+        next = q + 1;
+    }
+    true
 }
 
-/// Whether the cell may be what was seen, where it was seen to be empty, to hold a black stone or a white one.
-fn is_admitted(cell: Cell, empty: bool, black: bool, white: bool) -> bool
-    ensures { result ≡ is_admitted cell empty black white }
+/// Whether at each marked point of the board the position's ban forbids the colour exactly where this ban does.
+fn ban_stays(
+    points: &PointBits,
+    ban: Option<(Point, Colour)>,
+    c: Colour,
+    position: &Position,
+) -> bool
+    ensures { IsTrue result ↔ BanStays points.now ban c position.now }
 {
-    match cell {
-        Cell::Empty => !black && !white,
-        Cell::Black => !empty && !white,
-        Cell::White => !empty && !black,
+    let end = position.size().points();
+    let mut next = 0;
+    while let Some(q) = points.first_from(next, end) {
+        if is_banned(ban, c, q) != position.bans(c, q) {
+            return false;
+        }
+        next = q + 1;
     }
+    true
 }

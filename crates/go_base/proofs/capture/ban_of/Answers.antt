@@ -5,7 +5,7 @@ use Rattle.go_rules.specs.declared.Colour.{Colour}
 use Rattle.go_rules.specs.Strings.{string_at, liberties}
 use Rattle.go_rules.specs.Position.{BoardState}
 use Rattle.go_rules.proofs.Bans.{ban_none, ban_some, ban_empty}
-use Rattle.go_base.proofs.Liberties.{len-liberty_points}
+use Rattle.go_base.proofs.BoundedSearches.{one_of_each}
 use Rattle.go_base.proofs.capture.ban_of.Given.{Over}
 use Rattle.go_base.proofs.capture.ban_of.Goals as goal
 use Rattle.go_base.proofs.capture.ban_of.Goals.{After-are_one}
@@ -22,19 +22,16 @@ returns-then-count-ne1-clause-over g c = λ pos a put taken.
 
 -- where one stone was taken, the test by the other counts is the test of the rules
 test_is : (g : Over) (c : After-are_one g) → c.count.result ≡ 1 → (pos : BoardState)
-    → g.V.View.agrees c.flood-own.new.board pos
+    → g.V.View.agrees c.search-own.new.board pos
     → c.are_one.result ≡ (eqb (set.len c.args.taken.now) 1
     && eqb (set.len (string_at (g.V.View.rows c.args.board.now) (g.V.View.cells c.args.board.now pos) c.args.p)) 1
     && eqb (liberties (g.V.View.rows c.args.board.now) (g.V.View.cells c.args.board.now pos) c.args.p) 1)
 test_is g c one pos a =
     let s = g.V.View.rows c.args.board.now in
     let after = g.V.View.cells c.args.board.now pos in
-    let stones = c.flood-own.ensures.stones pos a in
-    let free = c.flood-own.ensures.liberties pos a in
     c.are_one.ensures
-    ∙ ap (λ n. eqb n 1 && eqb c.count-3.result 1) (c.count-2.ensures.value ∙ ap set.len stones)
-    ∙ ap (λ n. eqb (set.len (string_at s after c.args.p)) 1 && eqb n 1)
-    (c.count-3.ensures.value ∙ ap set.len free ∙ len-liberty_points s after c.args.p)
+    ∙ one_of_each s after c.args.p c.count-2.result c.count-3.result c.search-own.result
+    (c.search-own.ensures.over pos a) c.count-2.ensures.value c.count-3.ensures.value
     ∙ sym (ap (λ b. b && eqb (set.len (string_at s after c.args.p)) 1 && eqb (liberties s after c.args.p) 1)
     (eq-eqb (set.len c.args.taken.now) 1 (sym c.count.ensures.value ∙ one)))
 

@@ -1,0 +1,98 @@
+-- The least point that words mark, by a note of the words in use.
+use Rattle.std.proofs.Common.{◌≡◌, ◌≢◌, ℕ, ◌+◌, ◌*◌, ◌/◌, ◌%◌, ◌<◌, ◌≤◌, true, false, eqb, List, get_or, refl, sym, ap, arith, inl, inr, ◌∙◌}
+use Rattle.std.proofs.Common.{bit_or, ◌^◌}
+use Rattle.std.proofs.lemmas.Bool.{cases_Bool, cases_eq, cases_lt, both_ways, eqb-true}
+use Rattle.std.proofs.lemmas.Nat.{div-mul-add, mod-mul-add}
+use Rattle.std.proofs.lemmas.Nat.Bits.{bit_at-zero, bit_at_set_same, bit_at_set_other}
+use Rattle.std.specs.Int.{bit_at, w16}
+use Rattle.go_rules.specs.Board.{largest_points}
+use Rattle.go_base.specs.Bits.{is_marked, IsNoteOf}
+
+-- words that mark no point are noted by no bit
+pub IsNoteOf-none : (words : List ℕ) → ((q : ℕ) → is_marked words q ≡ false) → IsNoteOf words 0
+IsNoteOf-none words none = record {
+  on_board = λ q h. absurd (both_ways (is_marked words q) (none q) h);
+  noted = λ q h. absurd (both_ways (is_marked words q) (none q) h);
+  only = λ i h. absurd (let zero : bit_at 0 i ≡ 0 = bit_at-zero i in omega (arith, zero, h));
+}
+
+-- the note with the bit of one more word
+abbrev pub with_word : ℕ → ℕ → ℕ
+with_word used i = bit_or used (1 * 2 ^ i % 65536)
+
+-- where one more point is marked, the bit of its word is noted
+pub IsNoteOf-add : (old new : List ℕ) (used p : ℕ) → IsNoteOf old used → p < largest_points → is_marked new p ≡ true
+    → ((q : ℕ) → q ≢ p → is_marked new q ≡ is_marked old q) → IsNoteOf new (with_word used (p / 64))
+IsNoteOf-add old new used p is on here elsewhere = record {
+  on_board = λ q h. elim (cases_eq q p) [
+    | inl e ↦ omega (arith, e, on)
+    | inr ne ↦ is.on_board q (sym (elsewhere q ne) ∙ h)
+  ];
+  noted = λ q h. elim (cases_eq (q / 64) (p / 64)) [
+    | inl e ↦ ap (bit_at (with_word used (p / 64))) e ∙ bit_at_set_same w16 used (p / 64) small
+    | inr ne ↦ bit_at_set_other w16 used (p / 64) small (q / 64) ne
+        ∙ is.noted q (sym (elsewhere q (λ e. ne (ap (λ n. n / 64) e))) ∙ h)
+  ];
+  only = λ i h. elim (cases_eq i (p / 64)) [
+    | inl e ↦ (p, sym e, here)
+    | inr ne ↦
+        let before = is.only i (sym (bit_at_set_other w16 used (p / 64) small i ne) ∙ h) in
+        let other = λ (e : before.0 ≡ p). ne (sym before.1 ∙ ap (λ n. n / 64) e) in
+        (before.0, before.1, elsewhere before.0 other ∙ before.2)
+  ];
+}
+  where
+    small : p / 64 < 16
+    small = omega (arith, on)
+
+module _ (words : List ℕ) (used first next : ℕ) (is : IsNoteOf words used)
+    (rest : (k : ℕ) → first % 64 ≤ k → k < 64 → bit_at (get_or words (first / 64) 0) k ≡ 0)
+    (unused : (k : ℕ) → first / 64 + 1 ≤ k → k < next → bit_at used k ≡ 0) where
+  -- no point is marked from the first on in its own word, nor in a word up to the next one in use
+  none_until : (r : ℕ) → first ≤ r → r / 64 < next → is_marked words r ≡ false
+  none_until r low under = elim (cases_Bool (is_marked words r)) [
+    | inl hit ↦ elim (cases_eq (r / 64) (first / 64)) [
+      | inl here ↦
+          let zero = rest (r % 64) (omega (arith, here, low)) (omega arith) in
+          let one : bit_at (get_or words (first / 64) 0) (r % 64) ≡ 1 =
+          ap (λ i. bit_at (get_or words i 0) (r % 64)) (sym here) ∙ eqb-true _ 1 hit in
+          absurd (omega (arith, zero, one))
+      | inr ne ↦
+          let zero = unused (r / 64) (omega (arith, ne, low)) under in
+          let one = is.noted r hit in
+          absurd (omega (arith, zero, one))
+    ]
+    | inr miss ↦ miss
+  ]
+
+  module _ (bit : ℕ) (noted : bit_at used next ≡ 1) (bound : bit ≤ 64) (beyond : first / 64 + 1 ≤ next)
+      (misses : (k : ℕ) → 0 ≤ k → k < bit → bit_at (get_or words next 0) k ≡ 0) where
+    -- a word in use has a bit
+    has_bit : bit < 64
+    has_bit = elim (cases_lt bit 64) [
+      | inl l ↦ l
+      | inr g ↦
+          let one = is.only next noted in
+          let zero = misses (one.0 % 64) (omega arith) (omega (arith, g)) in
+          let hit : bit_at (get_or words next 0) (one.0 % 64) ≡ 1 =
+          ap (λ i. bit_at (get_or words i 0) (one.0 % 64)) (sym one.1) ∙ eqb-true _ 1 one.2 in
+          absurd (omega (arith, zero, hit))
+    ]
+
+    -- the lowest bit of the next word in use is that of the first point that is marked
+    pub first_in_next : (bit < 64 → bit_at (get_or words next 0) bit ≡ 1)
+        → (first ≤ next * 64 + bit) × (next * 64 + bit < largest_points) × (is_marked words (next * 64 + bit) ≡ true)
+        × ((r : ℕ) → first ≤ r → r < next * 64 + bit → is_marked words r ≡ false)
+    first_in_next hit = (omega (arith, beyond), is.on_board _ marked, marked, before)
+      where
+        marked : is_marked words (next * 64 + bit) ≡ true
+        marked = rw (div-mul-add next 64 bit has_bit, mod-mul-add next 64 bit has_bit, hit has_bit) refl
+
+        before : (r : ℕ) → first ≤ r → r < next * 64 + bit → is_marked words r ≡ false
+        before r low under = elim (cases_lt (r / 64) next) [
+          | inl l ↦ none_until r low l
+          | inr g ↦
+              let same : r / 64 ≡ next = omega (arith, g, under, has_bit) in
+              ap (λ i. eqb (bit_at (get_or words i 0) (r % 64)) 1) same
+              ∙ ap (λ n. eqb n 1) (misses (r % 64) (omega arith) (omega (arith, same, under)))
+        ]
