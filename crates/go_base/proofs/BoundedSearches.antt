@@ -1,5 +1,5 @@
 -- What a search has found that stops where it sees more liberties than its bound.
-use Rattle.std.proofs.Common.{◌≡◌, ◌≢◌, ℕ, ◌+◌, ◌*◌, ◌<◌, ◌≤◌, ◌&&◌, Bool, true, false, eqb, ltb, leb, refl, List, [], length, get_or, sym, ap, subst, arith, inl, inr, ◌∙◌}
+use Rattle.std.proofs.Common.{◌≡◌, ◌≢◌, ℕ, ◌+◌, ◌*◌, ◌<◌, ◌≤◌, ◌&&◌, Bool, true, false, eqb, ltb, leb, refl, Some, List, [], length, get_or, sym, ap, subst, arith, inl, inr, ◌∙◌}
 use Rattle.std.proofs.lemmas.Bool.{cases_eq, cases_lt, ne_eqb, both_ways, and_parts, and_from, lt-ltb, ltb-true, leb-true, le-leb}
 use Rattle.std.specs.Ordering.{nat_cmp}
 use Rattle.std.specs.FinSet as sets
@@ -14,10 +14,12 @@ use Rattle.go_rules.proofs.Paths.{same_cell-true, is_liberty-from_fact}
 use Rattle.go_rules.proofs.Links.{path_same}
 use Rattle.go_rules.proofs.Tests.{same_tests, and-false}
 use Rattle.go_base.specs.Trails.{has_point, add_once}
-use Rattle.go_base.specs.Floods.{SpreadsOut, SpreadsUnder, Searches}
+use Rattle.go_base.specs.Sides.{neighbour_at}
+use Rattle.go_base.specs.Floods.{Visits, SpreadsOut, SpreadsUnder, Searches}
 use Rattle.go_base.specs.declared.flood.Found.{Found}
 use Rattle.go_base.proofs.Liberties.{len-liberty_points}
 use Rattle.go_base.proofs.FloodResults.{has_at, string_is, string_is_none, string_has, stone_from}
+use Rattle.go_base.proofs.FloodVisits.{SpreadsOut-none, SpreadsOut-skip, SpreadsOut-visit}
 use Rattle.go_base.proofs.FloodVisits.{FloodsOut, FloodsOut-start, FloodsOut-next, flood_liberties, flood_enemies, no_liberties, no_enemies, none_at}
 
 -- l is empty and next to a point that a path leads to from p
@@ -40,6 +42,45 @@ stops_where n end found count seen most b e f is fails few = elim (cases_lt n fo
   | inr g ↦ g
 ]
 
+module _ (s : ℕ) (cells : List Cell) (own : Cell) (q most : ℕ) where
+  -- no side was visited
+  pub SpreadsUnder-none : (old : List ℕ) (free foes : sets.FinSet nat_cmp)
+      → SpreadsUnder s cells own q 0 most old old free free foes foes
+  SpreadsUnder-none old free foes =
+      record { sides = 0; whole = λ few. refl; spreads = SpreadsOut-none s cells own q old free foes }
+
+  -- where no more liberties than most were seen, the first n sides were visited
+  sides_so_far : (n : ℕ) (old new : List ℕ) (free freed foes foed : sets.FinSet nat_cmp)
+      → SpreadsUnder s cells own q n most old new free freed foes foed → sets.len freed ≤ most
+      → SpreadsOut s cells own q n old new free freed foes foed
+  sides_so_far n old new free freed foes foed h few =
+      subst (λ k. SpreadsOut s cells own q k old new free freed foes foed) (h.whole few) h.spreads
+
+  -- the next side gave nothing
+  pub SpreadsUnder-skip : (n : ℕ) (old new : List ℕ) (free freed foes foed : sets.FinSet nat_cmp)
+      → SpreadsUnder s cells own q n most old new free freed foes foed → sets.len freed ≤ most
+      → ((r : ℕ) → neighbour_at s q n ≡ Some r → ⊥)
+      → SpreadsUnder s cells own q (n + 1) most old new free freed foes foed
+  SpreadsUnder-skip n old new free freed foes foed h few none = record {
+    sides = n + 1;
+    whole = λ still. refl;
+    spreads = SpreadsOut-skip s cells own q n old new free freed foes foed
+        (sides_so_far n old new free freed foes foed h few) none;
+  }
+
+  -- the next side gave a point, which was visited
+  pub SpreadsUnder-visit : (n r : ℕ) (old mid new : List ℕ) (free freed freed' foes foed foed' : sets.FinSet nat_cmp)
+      → SpreadsUnder s cells own q n most old mid free freed foes foed → sets.len freed ≤ most
+      → q < s * s → cell_at cells q ≡ own → neighbour_at s q n ≡ Some r
+      → Visits own (cell_at cells r) r mid new freed freed' foed foed'
+      → SpreadsUnder s cells own q (n + 1) most old new free freed' foes foed'
+  SpreadsUnder-visit n r old mid new free freed freed' foes foed foed' h few on like at v = record {
+    sides = n + 1;
+    whole = λ still. refl;
+    spreads = SpreadsOut-visit s cells own q n r old mid new free freed freed' foes foed foed'
+        (sides_so_far n old mid free freed foes foed h few) on like at v;
+  }
+
 -- the first n stones of the trail were visited, all whole where no more liberties than most were seen
 pub record FloodsUnder (s : ℕ) (cells : List Cell) (own : Cell) (p n most : ℕ) (trail : List ℕ)
     (free foes : sets.FinSet nat_cmp) : Type 0 where
@@ -59,7 +100,7 @@ FloodsUnder-start s cells own p most trail free foes t f e =
 pub FloodsUnder-next : (s : ℕ) (cells : List Cell) (own : Cell) (p n most : ℕ) (trail new : List ℕ)
     (free freed foes foed : sets.FinSet nat_cmp) → p < s * s
     → FloodsUnder s cells own p n most trail free foes → n < length trail → sets.len free ≤ most
-    → SpreadsUnder s cells own (get_or trail n 0) most trail new free freed foes foed
+    → SpreadsUnder s cells own (get_or trail n 0) 4 most trail new free freed foes foed
     → FloodsUnder s cells own p (n + 1) most new freed foed
 FloodsUnder-next s cells own p n most trail new free freed foes foed on h l few sp =
     let q = get_or trail n 0 in

@@ -48,11 +48,11 @@ pub record SpreadsOut (s : ℕ) (cells : List Cell) (own : Cell) (q n : ℕ) (ol
   pub liberties : Gathers s cells (λ cell. same_cell cell Empty) q n free freed
   pub enemies : Gathers s cells (is_enemy own) q n foes foed
 
--- a flood over stones like own went to sides of q, to all four unless it saw more liberties than most
-pub record SpreadsUnder (s : ℕ) (cells : List Cell) (own : Cell) (q most : ℕ) (old new : List ℕ)
+-- a flood over stones like own went to sides of q, to the first n of them unless it saw more liberties than most
+pub record SpreadsUnder (s : ℕ) (cells : List Cell) (own : Cell) (q n most : ℕ) (old new : List ℕ)
     (free freed foes foed : set.FinSet nat_cmp) : Type 0 where
   pub sides : ℕ
-  pub whole : set.len freed ≤ most → sides ≡ 4
+  pub whole : set.len freed ≤ most → sides ≡ n
   pub spreads : SpreadsOut s cells own q sides old new free freed foes foed
 
 -- the enemy stones next to the string of p

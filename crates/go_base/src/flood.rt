@@ -1,7 +1,8 @@
 //! Strings, their liberties and the enemy stones next to them, found by one search over a board whose cells are told
 //! one by one. A search may be given a bound on liberties, and stops where it sees more.
 
-ghost use Rattle.std.specs.Prelude.{◌≡◌, ◌≢◌, ◌⊎◌, ℕ, ◌*◌, ◌<◌, ◌≤◌, ◌&&◌, nat_lt, nat_le, IsTrue, true};
+ghost use Rattle.std.specs.Prelude.{◌≡◌, ◌≢◌, ◌⊎◌, ℕ, ◌+◌, ◌*◌, ◌<◌, ◌≤◌, ◌&&◌, nat_lt, nat_le, IsTrue, true, List};
+ghost use Rattle.std.specs.Ordering.{nat_cmp};
 ghost use Rattle.std.specs.FinSet as set;
 ghost use Rattle.go_rules.specs.declared.Cell.{Cell};
 ghost use Rattle.go_rules.specs.Board.{largest_points};
@@ -14,7 +15,7 @@ ghost use Rattle.go_base.specs.Views.{Looks, anywhere, around, alone};
 
 use crate::points::PointSet;
 use crate::sides::neighbour;
-use crate::size::{MAX_POINTS, Point};
+use crate::size::{MAX_POINTS, Point, Size};
 use crate::trail::Trail;
 use crate::view::View;
 use go_rules::Cell;
@@ -61,6 +62,43 @@ fn visit<V: View>(
     }
 }
 
+/// Visits the neighbour of q, a stone like `own`, on one side, where there is one and no more liberties than `most` were
+/// seen.
+#[inline(always)]
+fn visit_side<V: View>(
+    board: &mut V,
+    own: Cell,
+    q: Point,
+    size: Size,
+    side: u8,
+    most: u16,
+    trail: &mut Trail,
+    liberties: &mut PointSet,
+    enemies: &mut PointSet,
+)
+    requires on_board { q < V.rows board.old * V.rows board.old }
+    requires rows { size ≡ V.rows board.old }
+    requires side { side < 4 }
+    requires stone { own ≢ Cell.Empty }
+    ensures looks { Looks V.cells V.asks board.old board.new (around (V.rows board.old) q) }
+    ensures over { (pos : BoardState) → V.agrees board.new pos → cell_at (V.cells board.old pos) q ≡ own
+        → (old : List ℕ) → (free : set.FinSet nat_cmp) → (foes : set.FinSet nat_cmp)
+        → SpreadsUnder (V.rows board.old) (V.cells board.old pos) own q side most old trail.old free liberties.old
+        foes enemies.old
+        → SpreadsUnder (V.rows board.old) (V.cells board.old pos) own q (side + 1) most old trail.new free
+        liberties.new foes enemies.new }
+    ensures trail_on_board { AddsOnBoard (V.rows board.old) trail.old trail.new }
+    ensures enemies_on_board { (r : ℕ) → set.contains enemies.new r ≡ true
+        → (set.contains enemies.old r ≡ true) ⊎ (r < V.rows board.old * V.rows board.old) }
+{
+    if liberties.count() > most {
+        return;
+    }
+    if let Some(r) = neighbour(size, q, side) {
+        visit(board, own, r, trail, liberties, enemies);
+    }
+}
+
 /// Visits the neighbours of q, a stone like `own`, as long as there are no more liberties than `most`.
 #[inline(always)]
 fn spread<V: View>(
@@ -76,21 +114,17 @@ fn spread<V: View>(
     requires stone { own ≢ Cell.Empty }
     ensures looks { Looks V.cells V.asks board.old board.new (around (V.rows board.old) q) }
     ensures over { (pos : BoardState) → V.agrees board.new pos → cell_at (V.cells board.old pos) q ≡ own
-        → SpreadsUnder (V.rows board.old) (V.cells board.old pos) own q most trail.old trail.new liberties.old
+        → SpreadsUnder (V.rows board.old) (V.cells board.old pos) own q 4 most trail.old trail.new liberties.old
         liberties.new enemies.old enemies.new }
     ensures trail_on_board { AddsOnBoard (V.rows board.old) trail.old trail.new }
     ensures enemies_on_board { (r : ℕ) → set.contains enemies.new r ≡ true
         → (set.contains enemies.old r ≡ true) ⊎ (r < V.rows board.old * V.rows board.old) }
 {
     let size = board.size();
-    for side in 0..4 {
-        if liberties.count() > most {
-            return;
-        }
-        if let Some(r) = neighbour(size, q, side) {
-            visit(board, own, r, trail, liberties, enemies);
-        }
-    }
+    visit_side(board, own, q, size, 0, most, trail, liberties, enemies);
+    visit_side(board, own, q, size, 1, most, trail, liberties, enemies);
+    visit_side(board, own, q, size, 2, most, trail, liberties, enemies);
+    visit_side(board, own, q, size, 3, most, trail, liberties, enemies);
 }
 
 /// Whether a search goes on that visited this many of the stones that it found, and saw this many liberties.
