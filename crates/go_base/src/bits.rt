@@ -1,10 +1,10 @@
 //! A bit for each point of the largest board.
 
-ghost use Rattle.std.specs.Prelude.{◌≡◌, ◌≢◌, ℕ, ◌<◌, ◌≤◌, ◌||◌, IsTrue, false};
+ghost use Rattle.std.specs.Prelude.{◌≡◌, ◌≢◌, ℕ, ◌/◌, ◌<◌, ◌≤◌, ◌||◌, IsTrue, false};
 ghost use Rattle.std.specs.Prelude.{IfSome, IfNone, Some, None, nat_lt, if◌then◌else◌};
 ghost use Rattle.std.specs.Int.{bit_at};
 ghost use Rattle.go_rules.specs.Board.{largest_points};
-ghost use Rattle.go_base.specs.Bits.{is_marked, IsNoteOf};
+ghost use Rattle.go_base.specs.Bits.{set_words, is_marked, IsNoteOf};
 
 use crate::size::{MAX_POINTS, Point};
 use std::marker::Model;
@@ -54,6 +54,24 @@ impl PointBits {
         ensures elsewhere { (q : ℕ) → q ≢ p → is_marked self.new q ≡ is_marked self.old q }
     {
         self.words[p as usize / 64] |= 1 << (p % 64);
+    }
+
+    /// Clears the bit of p.
+    pub(crate) fn remove(&mut self, p: Point)
+        requires { p < largest_points }
+        ensures here { is_marked self.new p ≡ false }
+        ensures elsewhere { (q : ℕ) → q ≢ p → is_marked self.new q ≡ is_marked self.old q }
+    {
+        self.words[p as usize / 64] &= !(1 << (p % 64));
+    }
+
+    /// Whether a word has a bit.
+    pub(crate) fn has_word(&self, word: u16) -> bool
+        requires { word < set_words }
+        ensures some { IsTrue result → (q : ℕ) × (q / 64 ≡ word) × IsTrue (is_marked self.now q) }
+        ensures none { result ≡ false → (q : ℕ) → q / 64 ≡ word → is_marked self.now q ≡ false }
+    {
+        lowest_bit(self.words[word as usize], 0) < WORD_BITS
     }
 
     /// Sets each bit that the other has.

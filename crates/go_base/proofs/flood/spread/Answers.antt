@@ -1,3 +1,4 @@
+use Rattle.go_base.proofs.FloodResults.{Finds-more}
 use Rattle.go_base.proofs.BoundedSearches.{SpreadsUnder-none}
 use Rattle.go_base.proofs.flood.spread.Goals as goal
 
@@ -22,6 +23,20 @@ returns-clause-over g c = λ pos a like.
     let second = rw (rows1, same1) at (below.over pos a2) in
     let third = rw (rows2, rows1, same2, same1) at (left.over pos a3) in
     let fourth = rw (rows3, rows2, rows1, same3, same2, same1) at (right.over pos a) in
-    fourth like _ _ _ (third like _ _ _ (second like _ _ _ (above.over pos a1 like _ _ _
-    (SpreadsUnder-none s cells c.args.own c.args.q c.args.most c.args.trail.now c.args.liberties.now
-    c.args.enemies.now))))
+    fourth like _ (third like _ (second like _ (above.over pos a1 like _
+    (SpreadsUnder-none s cells c.args.own c.args.q c.args.most c.args.found.now))))
+
+-- what came at one side after another came
+pub returns-clause-finds : goal.returns-clause-finds
+returns-clause-finds g c =
+    let s = g.V.View.rows c.args.board.now in
+    let above = c.visit_side.ensures in
+    let below = c.visit_side-2.ensures in
+    let left = c.visit_side-3.ensures in
+    let right = c.visit_side-4.ensures in
+    let rows1 = g.met.V.View.asks_rows _ _ _ above.looks.asked in
+    let rows2 = g.met.V.View.asks_rows _ _ _ below.looks.asked in
+    let rows3 = g.met.V.View.asks_rows _ _ _ left.looks.asked in
+    Finds-more s _ _ _ _ _ _ above.finds
+    (Finds-more s _ _ _ _ _ _ (rw rows1 at below.finds)
+    (Finds-more s _ _ _ _ _ _ (rw (rows2, rows1) at left.finds) (rw (rows3, rows2, rows1) at right.finds)))
