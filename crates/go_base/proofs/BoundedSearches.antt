@@ -175,7 +175,8 @@ one_of_each s cells p stones free found h counted count = elim (cases_lt 1 free)
   | inl more ↦
       let over = h.more (omega (arith, count, more)) in
       let none : eqb free 1 ≡ false = ne_eqb free 1 (λ e. omega (arith, e, more)) in
-      let none_there : eqb (liberties s cells p) 1 ≡ false = ne_eqb (liberties s cells p) 1 (λ e. omega (arith, e, over)) in
+      let none_there : eqb (liberties s cells p) 1 ≡ false =
+      ne_eqb (liberties s cells p) 1 (λ e. omega (arith, e, over)) in
       ap (λ b. eqb stones 1 && b) none ∙ and-false _
       ∙ sym (ap (λ b. eqb (sets.len (string_at s cells p)) 1 && b) none_there ∙ and-false _)
   | inr few ↦

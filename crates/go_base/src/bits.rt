@@ -93,8 +93,8 @@ impl PointBits {
         first_marked(&self.words, first, end)
     }
 
-    /// The least point from `first` on whose bit is set, None exactly where there is none. Of the words, `used` notes those
-    /// that have a bit, and the others are passed over.
+    /// The least point from `first` on whose bit is set, None exactly where there is none. Of the words, `used` notes
+    /// those that have a bit, and the others are passed over.
     pub(crate) fn first_in_use(&self, used: u16, first: u16) -> Option<Point>
         requires { IsNoteOf self.now used }
         ensures some { IfSome result (λ q. (first ≤ q) × (q < largest_points) × IsTrue (is_marked self.now q)
@@ -105,8 +105,8 @@ impl PointBits {
     }
 }
 
-/// The least point from `first` on that the words mark, None exactly where there is none. It looks at the word of `first`,
-/// and then at the next one that `used` notes, which has a bit.
+/// The least point from `first` on that the words mark, None exactly where there is none. It looks at the word of
+/// `first`, and then at the next one that `used` notes, which has a bit.
 fn first_in_words(words: &[u64; WORDS], used: u16, first: u16) -> Option<Point>
     requires { IsNoteOf words.now used }
     ensures some { IfSome result (λ q. (first ≤ q) × (q < largest_points) × IsTrue (is_marked words.now q)

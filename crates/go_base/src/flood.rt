@@ -56,7 +56,8 @@ fn add_stone(r: Point, stones: &mut PointSet, waiting: &mut PointSet)
     }
 }
 
-/// Looks at r, a neighbour of a stone like `own`, and puts it where it belongs. A stone that is new waits to be visited.
+/// Looks at r, a neighbour of a stone like `own`, and puts it where it belongs. A stone that is new waits to be
+/// visited.
 #[inline(always)]
 fn visit<V: View>(board: &mut V, own: Cell, r: Point, found: &mut Found, waiting: &mut PointSet)
     requires on_board { r < V.rows board.old * V.rows board.old }
@@ -80,8 +81,8 @@ fn visit<V: View>(board: &mut V, own: Cell, r: Point, found: &mut Found, waiting
     }
 }
 
-/// Visits the neighbour of q, a stone like `own`, on one side, where there is one and no more liberties than `most` were
-/// seen.
+/// Visits the neighbour of q, a stone like `own`, on one side, where there is one and no more liberties than `most`
+/// were seen.
 #[inline(always)]
 fn visit_side<V: View>(
     board: &mut V,
@@ -155,8 +156,9 @@ fn next_stone(waiting: &mut PointSet, seen: u16, most: u16) -> Option<Point>
 }
 
 /// The string of p, its liberties and the enemy stones next to it, where it has at most `most` liberties; else some of
-/// each, with more liberties than `most`. It visits each stone once, and nothing but the stones and their neighbours, and
-/// stops as soon as it has seen more liberties than `most`. All three sets are empty where p is.
+/// each, with more liberties than `most`. It visits each stone once, the least that waits first, and nothing but the
+/// stones and their neighbours, and stops as soon as it has seen more liberties than `most`. All three sets are empty
+/// where p is.
 pub fn search<V: View>(board: &mut V, p: Point, most: u16) -> Found
     requires { p < V.rows board.old * V.rows board.old }
     ensures looks { Looks V.cells V.asks board.old board.new anywhere }
