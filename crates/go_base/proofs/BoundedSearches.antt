@@ -1,6 +1,6 @@
 -- What a search has found that stops where it sees more liberties than its bound.
-use Rattle.std.proofs.Common.{◌≡◌, ◌≢◌, ℕ, ◌+◌, ◌*◌, ◌<◌, ◌≤◌, ◌&&◌, Bool, true, false, eqb, ltb, leb, refl, List, [], length, get_or, sym, ap, subst, arith, inl, inr, ◌∙◌}
-use Rattle.std.proofs.lemmas.Bool.{cases_eq, cases_lt, ne_eqb, both_ways, and_parts, and_from, lt-ltb, ltb-true, leb-true, le-leb}
+use Rattle.std.proofs.Common.{◌≡◌, ◌≢◌, ℕ, ◌+◌, ◌*◌, ◌<◌, ◌≤◌, ◌&&◌, true, false, eqb, refl, Some, List, sym, ap, subst, arith, inl, inr, ◌∙◌}
+use Rattle.std.proofs.lemmas.Bool.{cases_eq, cases_lt, ne_eqb, and_parts, and_from, lt-ltb}
 use Rattle.std.specs.Ordering.{nat_cmp}
 use Rattle.std.specs.FinSet as sets
 use Rattle.go_rules.specs.declared.Cell.{Cell}
@@ -13,11 +13,12 @@ use Rattle.go_rules.proofs.Sets.{contains-set_below, same_nat_set, len-set_below
 use Rattle.go_rules.proofs.Paths.{same_cell-true, is_liberty-from_fact}
 use Rattle.go_rules.proofs.Links.{path_same}
 use Rattle.go_rules.proofs.Tests.{same_tests, and-false}
-use Rattle.go_base.specs.Trails.{has_point, add_once}
-use Rattle.go_base.specs.Floods.{SpreadsOut, SpreadsUnder, Searches}
+use Rattle.go_base.specs.Sides.{neighbour_at}
+use Rattle.go_base.specs.Floods.{Visits, SpreadsOut, SpreadsUnder, Searches}
 use Rattle.go_base.specs.declared.flood.Found.{Found}
 use Rattle.go_base.proofs.Liberties.{len-liberty_points}
-use Rattle.go_base.proofs.FloodResults.{has_at, string_is, string_is_none, string_has, stone_from}
+use Rattle.go_base.proofs.FloodResults.{Begins, Steps, string_is, string_is_none, string_has, stone_from}
+use Rattle.go_base.proofs.FloodVisits.{SpreadsOut-none, SpreadsOut-skip, SpreadsOut-visit}
 use Rattle.go_base.proofs.FloodVisits.{FloodsOut, FloodsOut-start, FloodsOut-next, flood_liberties, flood_enemies, no_liberties, no_enemies, none_at}
 
 -- l is empty and next to a point that a path leads to from p
@@ -25,56 +26,69 @@ abbrev pub IsSeen : ℕ → List Cell → ℕ → ℕ → Type 0
 IsSeen s cells p l =
     (l < s * s) × (cell_at cells l ≡ Empty) × (q : ℕ) × Path s cells p q × (are_neighbours s q l ≡ true)
 
--- where a search goes on, a stone is left to visit, and no more liberties than most were seen
-pub goes_on_where : (n end found count seen most : ℕ) (b : Bool) → end ≡ found → count ≡ seen
-    → b ≡ (ltb n end && leb count most) → b ≡ true → (n < found) × (seen ≤ most)
-goes_on_where n end found count seen most b e f is t =
-    let parts = and_parts (ltb n end) (leb count most) (sym is ∙ t) in
-    (omega (arith, ltb-true n end parts.0, e), omega (arith, leb-true count most parts.1, f))
+module _ (s : ℕ) (cells : List Cell) (own : Cell) (q most : ℕ) where
+  -- no side was visited
+  pub SpreadsUnder-none : (old : Found) → SpreadsUnder s cells own q 0 most old old
+  SpreadsUnder-none old = record { sides = 0; whole = λ few. refl; spreads = SpreadsOut-none s cells own q old }
 
--- where it stops though no more liberties than most were seen, no stone is left
-pub stops_where : (n end found count seen most : ℕ) (b : Bool) → end ≡ found → count ≡ seen
-    → b ≡ (ltb n end && leb count most) → b ≡ false → seen ≤ most → found ≤ n
-stops_where n end found count seen most b e f is fails few = elim (cases_lt n found) [
-  | inl l ↦ absurd (both_ways b fails (is ∙ and_from _ _ (lt-ltb n end (omega arith)) (le-leb count most (omega arith))))
-  | inr g ↦ g
-]
+  -- where no more liberties than most were seen, the first n sides were visited
+  sides_so_far : (n : ℕ) (old new : Found) → SpreadsUnder s cells own q n most old new → sets.len new.liberties ≤ most
+      → SpreadsOut s cells own q n old new
+  sides_so_far n old new h few = subst (λ k. SpreadsOut s cells own q k old new) (h.whole few) h.spreads
 
--- the first n stones of the trail were visited, all whole where no more liberties than most were seen
-pub record FloodsUnder (s : ℕ) (cells : List Cell) (own : Cell) (p n most : ℕ) (trail : List ℕ)
-    (free foes : sets.FinSet nat_cmp) : Type 0 where
-  pub part : (r : ℕ) → has_point trail r ≡ true → Path s cells p r
-  pub seen : (l : ℕ) → sets.contains free l ≡ true → IsSeen s cells p l
-  pub whole : sets.len free ≤ most → FloodsOut s cells own p n trail free foes
+  -- the next side gave nothing
+  pub SpreadsUnder-skip : (n : ℕ) (old new : Found) → SpreadsUnder s cells own q n most old new
+      → sets.len new.liberties ≤ most → ((r : ℕ) → neighbour_at s q n ≡ Some r → ⊥)
+      → SpreadsUnder s cells own q (n + 1) most old new
+  SpreadsUnder-skip n old new h few none = record {
+    sides = n + 1;
+    whole = λ still. refl;
+    spreads = SpreadsOut-skip s cells own q n old new (sides_so_far n old new h few) none;
+  }
+
+  -- the next side gave a point, which was visited
+  pub SpreadsUnder-visit : (n r : ℕ) (old mid new : Found) → SpreadsUnder s cells own q n most old mid
+      → sets.len mid.liberties ≤ most → q < s * s → neighbour_at s q n ≡ Some r
+      → Visits own (cell_at cells r) r mid new → SpreadsUnder s cells own q (n + 1) most old new
+  SpreadsUnder-visit n r old mid new h few on at v = record {
+    sides = n + 1;
+    whole = λ still. refl;
+    spreads = SpreadsOut-visit s cells own q n r old mid new (sides_so_far n old mid h few) on at v;
+  }
+
+-- the stones that do not wait were visited, all whole where no more liberties than most were seen
+pub record FloodsUnder (s : ℕ) (cells : List Cell) (own : Cell) (p most : ℕ) (found : Found)
+    (wait : sets.FinSet nat_cmp) : Type 0 where
+  pub part : (r : ℕ) → sets.contains found.stones r ≡ true → Path s cells p r
+  pub seen : (l : ℕ) → sets.contains found.liberties l ≡ true → IsSeen s cells p l
+  pub whole : sets.len found.liberties ≤ most → FloodsOut s cells own p found wait
 
 -- at first nothing but the point is known
-pub FloodsUnder-start : (s : ℕ) (cells : List Cell) (own : Cell) (p most : ℕ) (trail : List ℕ)
-    (free foes : sets.FinSet nat_cmp) → trail ≡ add_once [] p → free ≡ sets.empty → foes ≡ sets.empty
-    → FloodsUnder s cells own p 0 most trail free foes
-FloodsUnder-start s cells own p most trail free foes t f e =
-    let out = FloodsOut-start s cells own p trail free foes t f e in
-    record { part = out.stones.only; seen = λ l h. absurd (none_at free l f h); whole = λ few. out }
+pub FloodsUnder-start : (s : ℕ) (cells : List Cell) (own : Cell) (p most : ℕ) (found : Found)
+    (wait : sets.FinSet nat_cmp) → Begins p found.stones wait → found.liberties ≡ sets.empty
+    → found.enemies ≡ sets.empty → FloodsUnder s cells own p most found wait
+FloodsUnder-start s cells own p most found wait b f e =
+    let out = FloodsOut-start s cells own p found wait b f e in
+    record { part = out.stones.only; seen = λ l h. absurd (none_at found.liberties l f h); whole = λ few. out }
 
 -- one more stone was visited
-pub FloodsUnder-next : (s : ℕ) (cells : List Cell) (own : Cell) (p n most : ℕ) (trail new : List ℕ)
-    (free freed foes foed : sets.FinSet nat_cmp) → p < s * s
-    → FloodsUnder s cells own p n most trail free foes → n < length trail → sets.len free ≤ most
-    → SpreadsUnder s cells own (get_or trail n 0) most trail new free freed foes foed
-    → FloodsUnder s cells own p (n + 1) most new freed foed
-FloodsUnder-next s cells own p n most trail new free freed foes foed on h l few sp =
-    let q = get_or trail n 0 in
-    let path : Path s cells p q = h.part q (has_at trail n l) in
+pub FloodsUnder-next : (s : ℕ) (cells : List Cell) (own : Cell) (p q most : ℕ) (old new : Found)
+    (wait held waits : sets.FinSet nat_cmp) → p < s * s → FloodsUnder s cells own p most old wait
+    → Steps s q old.stones new.stones wait held waits → sets.len old.liberties ≤ most → cell_at cells q ≡ own
+    → SpreadsUnder s cells own q 4 most old new → FloodsUnder s cells own p most new waits
+FloodsUnder-next s cells own p q most old new wait held waits on h st few like sp =
+    let path : Path s cells p q = h.part q st.waited in
     record {
       part = λ r b. elim (sp.spreads.stones.only r b) [
-        | inl old ↦ h.part r old
-        | inr fresh ↦ step path fresh.0 fresh.1 (fresh.2 ∙ path_same s cells p path)
+        | inl before ↦ h.part r before
+        | inr fresh ↦ step path fresh.0 fresh.1 (same_cell-true _ _ fresh.2 ∙ sym like ∙ path_same s cells p path)
       ];
       seen = λ x b. elim (sp.spreads.liberties.only x b) [
-        | inl old ↦ h.seen x old
+        | inl before ↦ h.seen x before
         | inr fresh ↦ (fresh.0, same_cell-true _ _ fresh.2, q, path, fresh.1)
       ];
-      whole = λ still. FloodsOut-next s cells own p n trail new free freed foes foed on (h.whole few) l
-          (subst (λ k. SpreadsOut s cells own q k trail new free freed foes foed) (sp.whole still) sp.spreads);
+      whole = λ still. FloodsOut-next s cells own p q old new wait held waits on (h.whole few) st like
+          (subst (λ k. SpreadsOut s cells own q k old new) (sp.whole still) sp.spreads);
     }
 
 -- points that were seen lie on the board
@@ -103,30 +117,29 @@ seen_are_liberties s cells p free on stone seen =
     omega arith
 
 -- where no stone is left to visit, or more liberties than most were seen, the search has what it tells
-pub FloodsUnder-all : (s : ℕ) (cells : List Cell) (own : Cell) (p n most : ℕ) (trail : List ℕ) (found : Found)
-    → p < s * s → own ≡ cell_at cells p → own ≢ Empty
-    → FloodsUnder s cells own p n most trail found.liberties found.enemies
-    → (sets.len found.liberties ≤ most → length trail ≤ n)
-    → ((q : ℕ) → sets.contains found.stones q ≡ has_point trail q) → Searches s cells p most found
-FloodsUnder-all s cells own p n most trail found on like stone h done same =
+pub FloodsUnder-all : (s : ℕ) (cells : List Cell) (own : Cell) (p most : ℕ) (found : Found)
+    (wait : sets.FinSet nat_cmp) → p < s * s → own ≡ cell_at cells p → own ≢ Empty
+    → FloodsUnder s cells own p most found wait → (sets.len found.liberties ≤ most → wait ≡ sets.empty)
+    → Searches s cells p most found
+FloodsUnder-all s cells own p most found wait on like stone h done =
     let is = stone_from (cell_at cells p) (λ e. stone (like ∙ e)) in
     record {
-      stones = λ few. string_is s cells p n trail found.stones on is (h.whole few).stones (done few) same;
-      liberties = λ few. flood_liberties s cells own p n trail _ _ on like stone (h.whole few) (done few);
-      enemies = λ few. flood_enemies s cells own p n trail _ _ on like stone (h.whole few) (done few);
-      part = λ q b. string_has s cells p q on is (h.part q (sym (same q) ∙ b));
+      stones = λ few. string_is s cells p found.stones wait on is (h.whole few).stones (done few);
+      liberties = λ few. flood_liberties s cells own p found wait on like stone (h.whole few) (done few);
+      enemies = λ few. flood_enemies s cells own p found wait on like stone (h.whole few) (done few);
+      part = λ q b. string_has s cells p q on is (h.part q b);
       more = λ over. omega (arith, over, seen_are_liberties s cells p found.liberties on is h.seen);
     }
 
 -- of an empty point nothing is found
 pub Searches-none : (s : ℕ) (cells : List Cell) (p most : ℕ) (found : Found) → cell_at cells p ≡ Empty
-    → ((q : ℕ) → sets.contains found.stones q ≡ has_point [] q) → found.liberties ≡ sets.empty
-    → found.enemies ≡ sets.empty → Searches s cells p most found
+    → found.stones ≡ sets.empty → found.liberties ≡ sets.empty → found.enemies ≡ sets.empty
+    → Searches s cells p most found
 Searches-none s cells p most found e stones free foes = record {
   stones = λ few. string_is_none s cells p found.stones e stones;
   liberties = λ few. no_liberties s cells p found.liberties e free;
   enemies = λ few. no_enemies s cells p found.enemies e foes;
-  part = λ q b. absurd (both_ways false refl (sym (stones q) ∙ b));
+  part = λ q b. absurd (none_at found.stones q stones b);
   more = λ over. absurd (omega (arith, over, ap sets.len free ∙ sets.len-empty nat_cmp));
 }
 
@@ -162,7 +175,8 @@ one_of_each s cells p stones free found h counted count = elim (cases_lt 1 free)
   | inl more ↦
       let over = h.more (omega (arith, count, more)) in
       let none : eqb free 1 ≡ false = ne_eqb free 1 (λ e. omega (arith, e, more)) in
-      let none_there : eqb (liberties s cells p) 1 ≡ false = ne_eqb (liberties s cells p) 1 (λ e. omega (arith, e, over)) in
+      let none_there : eqb (liberties s cells p) 1 ≡ false =
+      ne_eqb (liberties s cells p) 1 (λ e. omega (arith, e, over)) in
       ap (λ b. eqb stones 1 && b) none ∙ and-false _
       ∙ sym (ap (λ b. eqb (sets.len (string_at s cells p)) 1 && b) none_there ∙ and-false _)
   | inr few ↦

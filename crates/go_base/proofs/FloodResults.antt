@@ -1,197 +1,235 @@
 -- A flood finds the string.
-use Rattle.std.proofs.Common.{◌≡◌, ℕ, zero, suc, ◌+◌, ◌*◌, ◌<◌, ◌≤◌, ◌&&◌, true, false, eqb, ltb, Some, List, [], ◌∷◌, ◌++◌, length, get_or, refl, sym, ap, subst, arith, inl, inr, ◌⊎◌, ◌∙◌, length-append}
-use Rattle.std.proofs.lemmas.Bool.{cases_Bool, cases_eq, cases_lt, eq-eqb, eqb-true, or_cases, or_left, or_right, both_ways, and_parts, and_from, lt-ltb}
+use Rattle.std.proofs.Common.{◌≡◌, ℕ, ◌+◌, ◌-◌, ◌*◌, ◌<◌, ◌≤◌, ◌&&◌, true, false, not, cond, eqb, ltb, Some, List, refl, sym, ap, subst, arith, inl, inr, ◌⊎◌, ◌∙◌}
+use Rattle.std.proofs.lemmas.Bool.{cases_Bool, cases_eq, eq-eqb, ne_eqb, eqb-true, or_cases, or_left, or_right, both_ways, and_parts, and_from, lt-ltb}
 use Rattle.std.specs.Ordering.{nat_cmp}
 use Rattle.std.specs.FinSet as sets
 use Rattle.go_rules.specs.declared.Cell.{Cell}
 use Rattle.go_rules.specs.declared.Cell.TheVariants.{Empty, Black, White}
 use Rattle.go_rules.specs.Board.{are_neighbours}
-use Rattle.go_rules.specs.Strings.{cell_at, is_stone, is_in_string, string_at, reached, Path, start, step}
-use Rattle.go_rules.proofs.Sets.{contains-set_below, same_nat_set}
-use Rattle.go_rules.proofs.Paths.{path_on_board, IsInString-from_test, is_is_in_string-from_fact}
+use Rattle.go_rules.specs.Below.{set_below}
+use Rattle.go_rules.specs.Strings.{cell_at, same_cell, is_stone, is_in_string, string_at, reached, Path, start, step}
+use Rattle.go_rules.proofs.Counts.{count_below_at_most}
+use Rattle.go_rules.proofs.Sets.{contains-set_below, contains-insert_nat, same_nat_set, len-set_below}
+use Rattle.go_rules.proofs.Paths.{path_on_board, same_cell-true, same_cell-from, IsInString-from_test, is_is_in_string-from_fact}
 use Rattle.go_rules.proofs.Tests.{same_tests, and-false}
-use Rattle.go_base.specs.Sides.{neighbour_at}
-use Rattle.go_base.specs.Trails.{has_point, add_once}
-use Rattle.go_base.specs.Floods.{Spreads, AddsOnBoard}
-use Rattle.go_base.specs.Views.{around}
-use Rattle.go_base.proofs.TrailOrder.{has_push}
-use Rattle.go_base.proofs.SidesOfPoints.{neighbour_at-all, neighbour_at-near}
 use Rattle.go_rules.proofs.Links.{path_same}
+use Rattle.go_base.specs.Sides.{neighbour_at}
+use Rattle.go_base.specs.Floods.{Finds, Gathers}
+use Rattle.go_base.specs.Views.{around}
+use Rattle.go_base.proofs.Marks.{insert-member, len-insert_new, len-remove_member, contains-remove_nat}
+use Rattle.go_base.proofs.SidesOfPoints.{neighbour_at-all, neighbour_at-near}
 
--- a point of a list is one of each longer list
-pub has_append : (xs ys : List ℕ) (r : ℕ) → has_point xs r ≡ true → has_point (xs ++ ys) r ≡ true
-has_append [] ys r h = absurd (both_ways false refl h)
-has_append (x ∷ xs) ys r h =
-    elim (or_cases (eqb x r) (has_point xs r) h) [
-      | inl here ↦ or_left (eqb x r) _ here
-      | inr there ↦ or_right (eqb x r) _ (has_append xs ys r there)
+-- points of the board are no more than it has
+pub len_on_board : (s : ℕ) (stones : sets.FinSet nat_cmp) → ((r : ℕ) → sets.contains stones r ≡ true → r < s * s)
+    → sets.len stones ≤ s * s
+len_on_board s stones on =
+    rw (ap sets.len (same_nat_set stones (set_below (s * s) (sets.contains stones)) (λ q. same_tests _ _
+    (λ b. and_from _ _ (lt-ltb q (s * s) (on q b)) b) (λ t. (and_parts _ _ t).1)
+    ∙ sym (contains-set_below (s * s) (sets.contains stones) q)))
+    ∙ len-set_below (s * s) (sets.contains stones)) (count_below_at_most (s * s) (sets.contains stones))
+
+-- no stone came
+pub Finds-none : (s : ℕ) (old wait : sets.FinSet nat_cmp) → Finds s old old wait wait
+Finds-none s old wait = record {
+  kept = λ r h. h;
+  on_board = λ r h. inl h;
+  still = λ r h. h;
+  fresh = λ r h. inl h;
+  among = λ r h. inl h;
+  count = (0, omega arith, omega arith);
+}
+
+-- stones came twice
+pub Finds-more : (s : ℕ) (old mid new wait held waits : sets.FinSet nat_cmp) → Finds s old mid wait held
+    → Finds s mid new held waits → Finds s old new wait waits
+Finds-more s old mid new wait held waits a b = record {
+  kept = λ r h. b.kept r (a.kept r h);
+  on_board = λ r h. elim (b.on_board r h) [ inl m ↦ a.on_board r m | inr on ↦ inr on ];
+  still = λ r h. b.still r (a.still r h);
+  fresh = λ r h. elim (b.fresh r h) [
+    | inl m ↦ elim (a.fresh r m) [ inl o ↦ inl o | inr w ↦ inr (b.still r w) ]
+    | inr w ↦ inr w
+  ];
+  among = λ r h. elim (b.among r h) [
+    | inl m ↦ elim (a.among r m) [ inl w ↦ inl w | inr n ↦ inr (b.kept r n) ]
+    | inr n ↦ inr n
+  ];
+  count = (a.count.0 + b.count.0, omega (arith, a.count, b.count), omega (arith, a.count, b.count));
+}
+
+-- a stone came, unless it was found before
+pub Finds-one : (s r : ℕ) (old new wait waits : sets.FinSet nat_cmp) → r < s * s
+    → ((q : ℕ) → sets.contains wait q ≡ true → sets.contains old q ≡ true) → new ≡ sets.insert old r
+    → waits ≡ cond (sets.contains old r) wait (sets.insert wait r) → Finds s old new wait waits
+Finds-one s r old new wait waits on within stones waiting = elim (cases_Bool (sets.contains old r)) [
+  | inl t ↦
+      let same : waits ≡ wait = rw t at waiting in
+      let again : new ≡ old = stones ∙ sym (insert-member old r t) in
+      subst (λ x. Finds s old x wait waits) (sym again)
+      (subst (λ x. Finds s old old wait x) (sym same) (Finds-none s old wait))
+  | inr f ↦
+      let came : waits ≡ sets.insert wait r = rw f at waiting in
+      let unseen : sets.contains wait r ≡ false = elim (cases_Bool (sets.contains wait r)) [
+        | inl w ↦ absurd (both_ways (sets.contains old r) f (within r w))
+        | inr n ↦ n
+      ] in
+      let has = λ (q : ℕ). ap (λ t. sets.contains t q) stones ∙ contains-insert_nat old r q in
+      let held = λ (q : ℕ). ap (λ t. sets.contains t q) came ∙ contains-insert_nat wait r q in
+      record {
+        kept = λ q h. has q ∙ or_right _ _ h;
+        on_board = λ q h. elim (or_cases _ _ (sym (has q) ∙ h)) [
+          | inl e ↦ inr (subst (λ x. x < s * s) (sym (eqb-true q r e)) on)
+          | inr before ↦ inl before
+        ];
+        still = λ q h. held q ∙ or_right _ _ h;
+        fresh = λ q h. elim (or_cases _ _ (sym (has q) ∙ h)) [
+          | inl e ↦ inr (held q ∙ or_left _ _ e)
+          | inr before ↦ inl before
+        ];
+        among = λ q h. elim (or_cases _ _ (sym (held q) ∙ h)) [
+          | inl e ↦ inr (has q ∙ or_left _ _ e)
+          | inr before ↦ inl before
+        ];
+        count = (1, ap sets.len stones ∙ len-insert_new old r f, ap sets.len came ∙ len-insert_new wait r unseen);
+      }
+]
+
+-- what waits was found, if what waited was
+pub Finds-within : (s : ℕ) (old new wait waits : sets.FinSet nat_cmp) → Finds s old new wait waits
+    → ((q : ℕ) → sets.contains wait q ≡ true → sets.contains old q ≡ true)
+    → (q : ℕ) → sets.contains waits q ≡ true → sets.contains new q ≡ true
+Finds-within s old new wait waits h within q w =
+    elim (h.among q w) [ inl before ↦ h.kept q (within q before) | inr n ↦ n ]
+
+-- the stones that do not wait have their neighbours among the stones
+pub record Flooded (s : ℕ) (cells : List Cell) (p : ℕ) (stones wait : sets.FinSet nat_cmp) : Type 0 where
+  pub begins : sets.contains stones p ≡ true
+  pub only : (r : ℕ) → sets.contains stones r ≡ true → Path s cells p r
+  pub closed : (q : ℕ) → sets.contains stones q ≡ true → sets.contains wait q ≡ false → (r : ℕ) → r < s * s
+      → are_neighbours s q r ≡ true → cell_at cells r ≡ cell_at cells q → sets.contains stones r ≡ true
+
+-- p alone was found, and waits
+pub record Begins (p : ℕ) (stones wait : sets.FinSet nat_cmp) : Type 0 where
+  pub stones_are : stones ≡ sets.insert sets.empty p
+  pub waiting_are : wait ≡ sets.insert sets.empty p
+
+-- the first stone is added to none, and waits
+pub Begins-first : (p : ℕ) (none stones wait waits : sets.FinSet nat_cmp) → none ≡ sets.empty → wait ≡ sets.empty
+    → stones ≡ sets.insert none p → waits ≡ cond (sets.contains none p) wait (sets.insert wait p)
+    → Begins p stones waits
+Begins-first p none stones wait waits e f is waiting = record {
+  stones_are = is ∙ ap (λ t. sets.insert t p) e;
+  waiting_are = waiting
+      ∙ ap (λ b. cond b wait (sets.insert wait p)) (ap (λ t. sets.contains t p) e ∙ sets.contains-empty nat_cmp p)
+      ∙ ap (λ t. sets.insert t p) f;
+}
+
+-- the first stone is the only one
+pub first_only : (p r : ℕ) (found : sets.FinSet nat_cmp) → found ≡ sets.insert sets.empty p
+    → sets.contains found r ≡ true → r ≡ p
+first_only p r found is h =
+    elim (or_cases (eqb r p) (sets.contains {R = nat_cmp} sets.empty r) (sym (contains-insert_nat sets.empty p r)
+    ∙ ap (λ t. sets.contains t r) (sym is) ∙ h)) [
+      | inl e ↦ eqb-true r p e
+      | inr none ↦ absurd (both_ways _ (sets.contains-empty nat_cmp r) none)
     ]
 
--- a point of a list stands at some place of it
-pub has_index : (xs : List ℕ) (r : ℕ) → has_point xs r ≡ true → (i : ℕ) × (i < length xs) × (get_or xs i 0 ≡ r)
-has_index [] r h = absurd (both_ways false refl h)
-has_index (x ∷ xs) r h = elim (or_cases _ _ h) [
-  | inl here ↦ (zero, omega arith, eqb-true x r here)
-  | inr there ↦ let found = has_index xs r there in (suc found.0, omega (arith, found.1), found.2)
-]
+-- the first stone is found
+pub first_found : (p : ℕ) (found : sets.FinSet nat_cmp) → found ≡ sets.insert sets.empty p
+    → sets.contains found p ≡ true
+first_found p found is =
+    ap (λ t. sets.contains t p) is ∙ contains-insert_nat sets.empty p p ∙ or_left _ _ (eq-eqb p p refl)
 
--- what stands at a place of a list is one of its points
-pub has_at : (xs : List ℕ) (i : ℕ) → i < length xs → has_point xs (get_or xs i 0) ≡ true
-has_at [] i h = absurd (omega arith)
-has_at (x ∷ xs) zero h = or_left _ _ (eq-eqb x x refl)
-has_at (x ∷ xs) (suc i) h = or_right _ _ (has_at xs i (omega arith))
+-- at first each stone waits
+pub none_visited : (p q : ℕ) (stones wait : sets.FinSet nat_cmp) → Begins p stones wait
+    → sets.contains stones q ≡ true → sets.contains wait q ≡ false → ⊥
+none_visited p q stones wait b h w =
+    both_ways (sets.contains wait q) w (ap (λ t. sets.contains t q) (b.waiting_are ∙ sym b.stones_are) ∙ h)
 
--- a longer list has at each place what the shorter one has
-pub at_append : (xs ys : List ℕ) (i : ℕ) → i < length xs → get_or (xs ++ ys) i 0 ≡ get_or xs i 0
-at_append [] ys i h = absurd (omega arith)
-at_append (x ∷ xs) ys zero h = refl
-at_append (x ∷ xs) ys (suc i) h = at_append xs ys i (omega arith)
-
--- a list with nothing behind it is the list
-append_nothing : (xs : List ℕ) → xs ≡ xs ++ []
-append_nothing [] = refl
-append_nothing (x ∷ xs) = ap (λ t. x ∷ t) (append_nothing xs)
-
--- what is put behind a longer list is put behind its end
-append_more : (xs ys : List ℕ) (p : ℕ) → (xs ++ ys) ++ p ∷ [] ≡ xs ++ (ys ++ p ∷ [])
-append_more [] ys p = refl
-append_more (x ∷ xs) ys p = ap (λ t. x ∷ t) (append_more xs ys p)
-
--- no side was visited
-pub Spreads-none : (s : ℕ) (cells : List Cell) (q : ℕ) (old : List ℕ) → Spreads s cells q 0 old old
-Spreads-none s cells q old =
-    record { kept = ([], append_nothing old); all = λ side l. absurd (omega arith); only = λ r h. inl h }
-
--- the next side gave nothing, or a point that holds something else
-pub Spreads-skip : (s : ℕ) (cells : List Cell) (q n : ℕ) (old new : List ℕ) → Spreads s cells q n old new
-    → ((r : ℕ) → neighbour_at s q n ≡ Some r → cell_at cells r ≡ cell_at cells q → ⊥)
-    → Spreads s cells q (n + 1) old new
-Spreads-skip s cells q n old new h none = record {
-  kept = h.kept;
-  all = λ side l r e same. elim (cases_eq side n) [
-    | inl f ↦ absurd (none r (ap (neighbour_at s q) (sym f) ∙ e) same)
-    | inr ne ↦ h.all side (omega arith) r e same
-  ];
-  only = h.only;
+-- at first the point alone is found
+pub Flooded-start : (s : ℕ) (cells : List Cell) (p : ℕ) (stones wait : sets.FinSet nat_cmp) → Begins p stones wait
+    → Flooded s cells p stones wait
+Flooded-start s cells p stones wait b = record {
+  begins = first_found p stones b.stones_are;
+  only = λ r h. subst (λ x. Path s cells p x) (sym (first_only p r stones b.stones_are h)) start;
+  closed = λ q h w. absurd (none_visited p q stones wait b h w);
 }
 
--- what came before is on the trail
-has_add_once : (xs : List ℕ) (p r : ℕ) → has_point xs r ≡ true → has_point (add_once xs p) r ≡ true
-has_add_once xs p r h = elim (cases_Bool (has_point xs p)) [
-  | inl t ↦ rw t h
-  | inr f ↦ rw f (has_append xs (p ∷ []) r h)
+-- q waits no longer, and its neighbours were visited: stones came, which wait
+pub record Steps (s q : ℕ) (old new wait held waits : sets.FinSet nat_cmp) : Type 0 where
+  pub waited : sets.contains old q ≡ true
+  pub taken : held ≡ sets.remove wait q
+  pub finds : Finds s old new held waits
+
+-- what still waits waited
+pub waited_before : (q r : ℕ) (wait held : sets.FinSet nat_cmp) → held ≡ sets.remove wait q
+    → sets.contains held r ≡ true → sets.contains wait r ≡ true
+waited_before q r wait held taken h =
+    (and_parts _ _ (sym (ap (λ t. sets.contains t r) taken ∙ contains-remove_nat wait q r) ∙ h)).1
+
+-- with each step fewer points are left to come or to be visited
+pub Steps-smaller : (s q most : ℕ) (old new wait held waits : sets.FinSet nat_cmp) → Steps s q old new wait held waits
+    → sets.contains wait q ≡ true → ((r : ℕ) → sets.contains new r ≡ true → r < s * s) → s * s ≤ most
+    → 2 * (most - sets.len new) + sets.len waits < 2 * (most - sets.len old) + sets.len wait
+Steps-smaller s q most old new wait held waits st member on few =
+    let fits = len_on_board s new on in
+    let one : sets.len wait ≡ sets.len held + 1 =
+    len-remove_member wait q member ∙ ap (λ t. sets.len t + 1) (sym st.taken) in
+    let came : sets.len new ≡ sets.len old + st.finds.count.0 = st.finds.count.1 in
+    let wait_now : sets.len waits ≡ sets.len held + st.finds.count.0 = st.finds.count.2 in
+    omega (arith, fits, one, came, wait_now)
+
+-- a stone that waits no longer is the one that was visited, or was found before and waited no longer then
+pub visited_before : (s q x : ℕ) (old new wait held waits : sets.FinSet nat_cmp) → Steps s q old new wait held waits
+    → sets.contains new x ≡ true → sets.contains waits x ≡ false
+    → (x ≡ q) ⊎ ((sets.contains old x ≡ true) × (sets.contains wait x ≡ false))
+visited_before s q x old new wait held waits h has gone = elim (cases_eq x q) [
+  | inl e ↦ inl e
+  | inr ne ↦ inr (
+    elim (h.finds.fresh x has) [
+      | inl before ↦ before
+      | inr w ↦ absurd (both_ways (sets.contains waits x) gone w)
+    ],
+    elim (cases_Bool (sets.contains wait x)) [
+      | inl w ↦
+          let other : (not (eqb x q) && sets.contains wait x) ≡ true = rw (ne_eqb x q ne) w in
+          let left : sets.contains held x ≡ true =
+          ap (λ t. sets.contains t x) h.taken ∙ contains-remove_nat wait q x ∙ other in
+          absurd (both_ways (sets.contains waits x) gone (h.finds.still x left))
+      | inr n ↦ n
+    ],
+  )
 ]
-
--- and so is what is added
-has_added : (xs : List ℕ) (p : ℕ) → has_point (add_once xs p) p ≡ true
-has_added xs p = elim (cases_Bool (has_point xs p)) [
-  | inl t ↦ rw t t
-  | inr f ↦ rw f (has_push xs p p ∙ or_left _ _ (eq-eqb p p refl))
-]
-
--- and nothing else
-pub add_once_only : (xs : List ℕ) (p r : ℕ) → has_point (add_once xs p) r ≡ true → (has_point xs r ≡ true) ⊎ (p ≡ r)
-add_once_only xs p r h = elim (cases_Bool (has_point xs p)) [
-  | inl t ↦ inl (rw t at h)
-  | inr f ↦ let g = rw f at h in
-      elim (or_cases _ _ (sym (has_push xs p r) ∙ g)) [ inl e ↦ inr (eqb-true p r e) | inr old ↦ inl old ]
-]
-
--- the trail only grows at its end
-add_once_kept : (xs : List ℕ) (p : ℕ) → (more : List ℕ) × (add_once xs p ≡ xs ++ more)
-add_once_kept xs p = elim (cases_Bool (has_point xs p)) [
-  | inl t ↦ ([], rw t (append_nothing xs))
-  | inr f ↦ (p ∷ [], rw f refl)
-]
-
--- three lists one behind another
-append_assoc' : (xs ys zs : List ℕ) → (xs ++ ys) ++ zs ≡ xs ++ (ys ++ zs)
-append_assoc' [] ys zs = refl
-append_assoc' (x ∷ xs) ys zs = ap (λ t. x ∷ t) (append_assoc' xs ys zs)
-
--- the next side gave a stone like the point, which came
-pub Spreads-add : (s : ℕ) (cells : List Cell) (q n r : ℕ) (old mid : List ℕ) → Spreads s cells q n old mid → q < s * s
-    → neighbour_at s q n ≡ Some r → cell_at cells r ≡ cell_at cells q → Spreads s cells q (n + 1) old (add_once mid r)
-Spreads-add s cells q n r old mid h on e same =
-    let more = add_once_kept mid r in
-    let near = neighbour_at-near s q n r on e in
-    record {
-      kept = (h.kept.0 ++ more.0, more.1 ∙ ap (λ t. t ++ more.0) h.kept.1 ∙ append_assoc' old h.kept.0 more.0);
-      all = λ side l r' e' same'. elim (cases_eq side n) [
-        | inl f ↦
-            let g : r ≡ r' = (let k : Some r ≡ Some r' = sym e ∙ ap (neighbour_at s q) (sym f) ∙ e' in cc) in
-            subst (λ x. has_point (add_once mid r) x ≡ true) g (has_added mid r)
-        | inr ne ↦ has_add_once mid r r' (h.all side (omega arith) r' e' same')
-      ];
-      only = λ r' h'. elim (add_once_only mid r r' h') [
-        | inl before ↦ h.only r' before
-        | inr g ↦ inr (subst (λ x. (x < s * s) × (are_neighbours s q x ≡ true)
-            × (cell_at cells x ≡ cell_at cells q)) g (near.0, near.1, same))
-      ];
-    }
-
--- the first n points of the trail have their neighbours on it
-pub record Flooded (s : ℕ) (cells : List Cell) (p n : ℕ) (trail : List ℕ) : Type 0 where
-  pub within : n ≤ length trail
-  pub begins : has_point trail p ≡ true
-  pub only : (r : ℕ) → has_point trail r ≡ true → Path s cells p r
-  pub closed : (i : ℕ) → i < n → (r : ℕ) → r < s * s → are_neighbours s (get_or trail i 0) r ≡ true
-      → cell_at cells r ≡ cell_at cells (get_or trail i 0) → has_point trail r ≡ true
-
--- at first the trail has the point alone
-pub Flooded-start : (s : ℕ) (cells : List Cell) (p : ℕ) → Flooded s cells p 0 (add_once [] p)
-Flooded-start s cells p = record {
-  within = omega arith;
-  begins = has_added [] p;
-  only = λ r h. elim (add_once_only [] p r h) [
-    | inl f ↦ absurd (both_ways false refl f)
-    | inr e ↦ subst (λ x. Path s cells p x) e start
-  ];
-  closed = λ i l. absurd (omega arith);
-}
 
 -- the neighbours of one more stone came
-pub Flooded-next : (s : ℕ) (cells : List Cell) (p n : ℕ) (trail new : List ℕ) → p < s * s → Flooded s cells p n trail
-    → n < length trail
-    → Spreads s cells (get_or trail n 0) 4 trail new → Flooded s cells p (n + 1) new
-Flooded-next s cells p n trail new on h l sp =
-    let q = get_or trail n 0 in
-    let path : Path s cells p q = h.only q (has_at trail n l) in
+pub Flooded-next : (s : ℕ) (cells : List Cell) (own : Cell) (p q : ℕ) (old new wait held waits : sets.FinSet nat_cmp)
+    → p < s * s → Flooded s cells p old wait → Steps s q old new wait held waits → cell_at cells q ≡ own
+    → Gathers s cells (λ cell. same_cell cell own) q 4 old new → Flooded s cells p new waits
+Flooded-next s cells own p q old new wait held waits on h st like sp =
+    let path : Path s cells p q = h.only q st.waited in
     let q_on : q < s * s = path_on_board s cells p on path in
-    let grown : length trail ≤ length new = rw sp.kept.1 (omega (arith, length-append trail sp.kept.0)) in
-    let at_is = λ (i : ℕ) (li : i < length trail).
-    ap (λ xs. get_or xs i 0) sp.kept.1 ∙ at_append trail sp.kept.0 i li in
-    let old_has = λ (r : ℕ) (b : has_point trail r ≡ true).
-    ap (λ xs. has_point xs r) sp.kept.1 ∙ has_append trail sp.kept.0 r b in
     record {
-      within = omega arith;
-      begins = old_has p h.begins;
+      begins = st.finds.kept p h.begins;
       only = λ r b. elim (sp.only r b) [
-        | inl old ↦ h.only r old
-        | inr fresh ↦ step path fresh.0 fresh.1 (fresh.2 ∙ path_same s cells p path)
+        | inl before ↦ h.only r before
+        | inr fresh ↦ step path fresh.0 fresh.1 (same_cell-true _ _ fresh.2 ∙ sym like ∙ path_same s cells p path)
       ];
-      closed = λ i li r r_on near same. elim (cases_lt i n) [
-        | inl below ↦
-            let e = at_is i (omega arith) in
-            old_has r (h.closed i below r r_on (rw e at near) (rw e at same))
-        | inr here ↦
-            let i_is : i ≡ n = omega arith in
-            let e = at_is n l in
-            let near' = rw (i_is, e) at near in
-            let same' = rw (i_is, e) at same in
-            let found = neighbour_at-all s q r q_on r_on near' in
-            sp.all found.0 found.1 r found.2 same'
+      closed = λ x has gone r r_on near same. elim (visited_before s q x old new wait held waits st has gone) [
+        | inl e ↦
+            let side = neighbour_at-all s q r q_on r_on (ap (λ y. are_neighbours s y r) (sym e) ∙ near) in
+            sp.all side.0 side.1 r side.2 (same_cell-from _ _ (same ∙ ap (cell_at cells) e ∙ like))
+        | inr before ↦ st.finds.kept r (h.closed x before.0 before.1 r r_on near same)
       ];
     }
 
--- what a whole trail has
-pub Flooded-all : (s : ℕ) (cells : List Cell) (p n : ℕ) (trail : List ℕ) → Flooded s cells p n trail → length trail ≤ n
-    → {q : ℕ} → Path s cells p q → has_point trail q ≡ true
-Flooded-all s cells p n trail h l start = h.begins
-Flooded-all s cells p n trail h l (step {q} {r} path on near same) =
-    let found = has_index trail q (Flooded-all s cells p n trail h l path) in
-    h.closed found.0 (omega (arith, found.1, l)) r on (rw found.2 near)
-    (rw found.2 (same ∙ sym (path_same s cells p path)))
+-- where no stone waits, each one that a path leads to was found
+pub Flooded-all : (s : ℕ) (cells : List Cell) (p : ℕ) (stones wait : sets.FinSet nat_cmp)
+    → Flooded s cells p stones wait → wait ≡ sets.empty → {q : ℕ} → Path s cells p q → sets.contains stones q ≡ true
+Flooded-all s cells p stones wait h none start = h.begins
+Flooded-all s cells p stones wait h none (step {q} {r} path on near same) =
+    h.closed q (Flooded-all s cells p stones wait h none path)
+    (ap (λ t. sets.contains t q) none ∙ sets.contains-empty nat_cmp q) r on near
+    (same ∙ sym (path_same s cells p path))
 
 -- a point that a path leads to is in the string
 pub string_has : (s : ℕ) (cells : List Cell) (r q : ℕ) → r < s * s → is_stone (cell_at cells r) ≡ true → Path s cells r q
@@ -202,26 +240,27 @@ string_has s cells r q on stone path =
     ∙ and_from _ _ (lt-ltb q (s * s) (path_on_board s cells r on path))
     (is_is_in_string-from_fact s cells r q on (record { stone = stone; path = path }))
 
--- where each stone of the trail was visited, the trail is the string
-pub string_is : (s : ℕ) (cells : List Cell) (p n : ℕ) (trail : List ℕ) (found : sets.FinSet nat_cmp) → p < s * s
-    → is_stone (cell_at cells p) ≡ true → Flooded s cells p n trail → length trail ≤ n
-    → ((q : ℕ) → sets.contains found q ≡ has_point trail q) → found ≡ string_at s cells p
+-- where no stone waits, the stones are the string
+pub string_is : (s : ℕ) (cells : List Cell) (p : ℕ) (stones wait : sets.FinSet nat_cmp) → p < s * s
+    → is_stone (cell_at cells p) ≡ true → Flooded s cells p stones wait → wait ≡ sets.empty
+    → stones ≡ string_at s cells p
 unfolding string_at
-string_is s cells p n trail found on stone h l same =
-    same_nat_set _ _ (λ q. same q ∙ same_tests _ _
+string_is s cells p stones wait on stone h none =
+    same_nat_set _ _ (λ q. same_tests _ _
     (λ b.
     let path = h.only q b in
     and_from _ _ (lt-ltb q (s * s) (path_on_board s cells p on path))
     (is_is_in_string-from_fact s cells p q on (record { stone = stone; path = path })))
-    (λ t. Flooded-all s cells p n trail h l (IsInString-from_test s cells p q (and_parts _ _ t).1).path)
+    (λ t. Flooded-all s cells p stones wait h none (IsInString-from_test s cells p q (and_parts _ _ t).1).path)
     ∙ sym (contains-set_below (s * s) (is_in_string s cells p) q))
 
 -- an empty point has no string
-pub string_is_none : (s : ℕ) (cells : List Cell) (p : ℕ) (found : sets.FinSet nat_cmp) → cell_at cells p ≡ Empty
-    → ((q : ℕ) → sets.contains found q ≡ has_point [] q) → found ≡ string_at s cells p
+pub string_is_none : (s : ℕ) (cells : List Cell) (p : ℕ) (stones : sets.FinSet nat_cmp) → cell_at cells p ≡ Empty
+    → stones ≡ sets.empty → stones ≡ string_at s cells p
 unfolding string_at is_in_string
-string_is_none s cells p found e same =
-    same_nat_set _ _ (λ q. same q ∙ sym (contains-set_below (s * s) (is_in_string s cells p) q
+string_is_none s cells p stones e none =
+    none ∙ same_nat_set _ _ (λ q. sets.contains-empty nat_cmp q
+    ∙ sym (contains-set_below (s * s) (is_in_string s cells p) q
     ∙ ap (λ k. ltb q (s * s) && (is_stone k && reached s cells p (s * s) q)) e ∙ and-false (ltb q (s * s))))
 
 -- what is not empty is a stone
@@ -239,12 +278,14 @@ at_side s p side q on e r h =
     and_from _ _ (lt-ltb r (s * s) (subst (λ x. x < s * s) (sym is_q) near.0))
     (or_right _ _ (ap (are_neighbours s p) is_q ∙ near.1))
 
--- each point of a trail that began on the board is on it
-pub on_board_more : (s : ℕ) (old new : List ℕ) → ((r : ℕ) → has_point old r ≡ true → r < s * s) → AddsOnBoard s old new
-    → (r : ℕ) → has_point new r ≡ true → r < s * s
-on_board_more s old new before more r h = elim (more r h) [ inl o ↦ before r o | inr on ↦ on ]
+-- stones that are all on the board are on it still
+pub on_board_more : (s : ℕ) (old new wait waits : sets.FinSet nat_cmp)
+    → ((r : ℕ) → sets.contains old r ≡ true → r < s * s) → Finds s old new wait waits
+    → (r : ℕ) → sets.contains new r ≡ true → r < s * s
+on_board_more s old new wait waits before more r h =
+    elim (more.on_board r h) [ inl o ↦ before r o | inr on ↦ on ]
 
--- a trail of one point of the board is on the board
-pub on_board_one : (s p : ℕ) → p < s * s → (r : ℕ) → has_point (add_once [] p) r ≡ true → r < s * s
-on_board_one s p on r h =
-    elim (add_once_only [] p r h) [ inl f ↦ absurd (both_ways false refl f) | inr e ↦ subst (λ x. x < s * s) e on ]
+-- the first stone is on the board
+pub on_board_one : (s p : ℕ) (stones : sets.FinSet nat_cmp) → p < s * s → stones ≡ sets.insert sets.empty p
+    → (r : ℕ) → sets.contains stones r ≡ true → r < s * s
+on_board_one s p stones on is r h = subst (λ x. x < s * s) (sym (first_only p r stones is h)) on

@@ -1,6 +1,6 @@
 -- What a flood gathers as it visits the neighbours of its stones.
-use Rattle.std.proofs.Common.{◌≡◌, ◌≢◌, ℕ, ◌+◌, ◌*◌, ◌<◌, ◌≤◌, ◌&&◌, Bool, true, false, cond, ltb, Some, List, [], ◌++◌, length, get_or, refl, sym, ap, subst, arith, inl, inr, ◌∙◌}
-use Rattle.std.proofs.lemmas.Bool.{cases_Bool, cases_eq, cases_lt, eq-eqb, eqb-true, or_cases, or_left, or_right, both_ways, and_parts, and_from, lt-ltb, ltb-true}
+use Rattle.std.proofs.Common.{◌≡◌, ◌≢◌, ℕ, ◌+◌, ◌*◌, ◌<◌, ◌&&◌, Bool, true, false, cond, ltb, Some, List, refl, sym, ap, subst, arith, inl, inr, ◌∙◌}
+use Rattle.std.proofs.lemmas.Bool.{cases_Bool, cases_eq, eq-eqb, eqb-true, or_cases, or_left, or_right, both_ways, and_parts, and_from, lt-ltb, ltb-true}
 use Rattle.std.specs.Ordering.{nat_cmp}
 use Rattle.std.specs.FinSet as sets
 use Rattle.go_rules.specs.declared.Cell.{Cell}
@@ -11,17 +11,16 @@ use Rattle.go_rules.specs.Strings.{cell_at, same_cell, is_stone, is_in_string, i
 use Rattle.go_rules.specs.Boundary.{is_enemy, is_beside_string}
 use Rattle.go_rules.proofs.Counts.{any_below_gives, any_below_from}
 use Rattle.go_rules.proofs.Sets.{contains-set_below, contains-insert_nat, same_nat_set}
-use Rattle.go_rules.proofs.Paths.{path_on_board, same_cell-true, same_cell-from, IsInString-from_test, is_is_in_string-from_fact}
-use Rattle.go_rules.proofs.Links.{path_same}
+use Rattle.go_rules.proofs.Paths.{path_on_board, IsInString-from_test, is_is_in_string-from_fact}
 use Rattle.go_rules.specs.Neighbourhood.{neighbourhood_of}
 use Rattle.go_rules.proofs.Tests.{same_tests, and-false}
 use Rattle.go_base.specs.Views.{alone}
 use Rattle.go_base.proofs.PointNeighbourhoods.{close_next, whole_string, alone_self}
 use Rattle.go_base.specs.Sides.{neighbour_at}
-use Rattle.go_base.specs.Trails.{add_once}
-use Rattle.go_base.specs.Floods.{Spreads, Gathers, Visits, SpreadsOut, enemy_points}
+use Rattle.go_base.specs.Floods.{Gathers, Visits, SpreadsOut, enemy_points}
+use Rattle.go_base.specs.declared.flood.Found.{Found}
 use Rattle.go_base.proofs.SidesOfPoints.{neighbour_at-all, neighbour_at-near}
-use Rattle.go_base.proofs.FloodResults.{Flooded, Flooded-start, Flooded-next, Flooded-all, Spreads-none, Spreads-skip, Spreads-add, has_at, has_index, at_append}
+use Rattle.go_base.proofs.FloodResults.{Flooded, Flooded-start, Flooded-next, Flooded-all, Begins, Steps, none_visited, visited_before}
 
 module _ (s : ℕ) (cells : List Cell) (test : Cell → Bool) (q : ℕ) where
   -- no side was visited
@@ -74,109 +73,92 @@ module _ (s : ℕ) (cells : List Cell) (test : Cell → Bool) (q : ℕ) where
 
 module _ (s : ℕ) (cells : List Cell) (own : Cell) (q : ℕ) where
   -- no side was visited
-  pub SpreadsOut-none : (old : List ℕ) (free foes : sets.FinSet nat_cmp)
-      → SpreadsOut s cells own q 0 old old free free foes foes
-  SpreadsOut-none old free foes =
+  pub SpreadsOut-none : (old : Found) → SpreadsOut s cells own q 0 old old
+  SpreadsOut-none old =
       record {
-        stones = Spreads-none s cells q old;
-        liberties = Gathers-none s cells _ q free;
-        enemies = Gathers-none s cells _ q foes;
+        stones = Gathers-none s cells _ q old.stones;
+        liberties = Gathers-none s cells _ q old.liberties;
+        enemies = Gathers-none s cells _ q old.enemies;
       }
 
   -- the next side gave nothing
-  pub SpreadsOut-skip : (n : ℕ) (old new : List ℕ) (free freed foes foed : sets.FinSet nat_cmp)
-      → SpreadsOut s cells own q n old new free freed foes foed
-      → ((r : ℕ) → neighbour_at s q n ≡ Some r → ⊥) → SpreadsOut s cells own q (n + 1) old new free freed foes foed
-  SpreadsOut-skip n old new free freed foes foed h none = record {
-    stones = Spreads-skip s cells q n old new h.stones (λ r e same. none r e);
-    liberties = Gathers-skip s cells _ q n free freed h.liberties (λ r e t. none r e);
-    enemies = Gathers-skip s cells _ q n foes foed h.enemies (λ r e t. none r e);
+  pub SpreadsOut-skip : (n : ℕ) (old new : Found) → SpreadsOut s cells own q n old new
+      → ((r : ℕ) → neighbour_at s q n ≡ Some r → ⊥) → SpreadsOut s cells own q (n + 1) old new
+  SpreadsOut-skip n old new h none = record {
+    stones = Gathers-skip s cells _ q n old.stones new.stones h.stones (λ r e t. none r e);
+    liberties = Gathers-skip s cells _ q n old.liberties new.liberties h.liberties (λ r e t. none r e);
+    enemies = Gathers-skip s cells _ q n old.enemies new.enemies h.enemies (λ r e t. none r e);
   }
 
   -- the next side gave a point, which was visited
-  pub SpreadsOut-visit : (n r : ℕ) (old mid new : List ℕ) (free freed freed' foes foed foed' : sets.FinSet nat_cmp)
-      → SpreadsOut s cells own q n old mid free freed foes foed
-      → q < s * s → cell_at cells q ≡ own → neighbour_at s q n ≡ Some r
-      → Visits own (cell_at cells r) r mid new freed freed' foed foed'
-      → SpreadsOut s cells own q (n + 1) old new free freed' foes foed'
-  SpreadsOut-visit n r old mid new free freed freed' foes foed foed' h on like e v = record {
-    stones = subst (Spreads s cells q (n + 1) old) (sym v.trail) (elim (cases_Bool (same_cell (cell_at cells r) own)) [
-      | inl t ↦ rw t (Spreads-add s cells q n r old mid h.stones on e (same_cell-true _ _ t ∙ sym like))
-      | inr f ↦ rw f (Spreads-skip s cells q n old mid h.stones (λ x e' same.
-          let it : r ≡ x = (let k : Some r ≡ Some x = sym e ∙ e' in cc) in
-          both_ways (same_cell (cell_at cells r) own) f (same_cell-from _ _ (ap (cell_at cells) it ∙ same ∙ like))))
-    ]);
-    liberties = Gathers-visit s cells _ q n r free freed freed' h.liberties on e v.liberties;
-    enemies = Gathers-visit s cells _ q n r foes foed foed' h.enemies on e v.enemies;
+  pub SpreadsOut-visit : (n r : ℕ) (old mid new : Found) → SpreadsOut s cells own q n old mid → q < s * s
+      → neighbour_at s q n ≡ Some r → Visits own (cell_at cells r) r mid new
+      → SpreadsOut s cells own q (n + 1) old new
+  SpreadsOut-visit n r old mid new h on e v = record {
+    stones = Gathers-visit s cells _ q n r old.stones mid.stones new.stones h.stones on e v.stones;
+    liberties = Gathers-visit s cells _ q n r old.liberties mid.liberties new.liberties h.liberties on e v.liberties;
+    enemies = Gathers-visit s cells _ q n r old.enemies mid.enemies new.enemies h.enemies on e v.enemies;
   }
 
--- the neighbours of the first n stones of the trail whose cell passes the test are there, and nothing else is
+-- the neighbours whose cell passes the test of the stones that do not wait are there, and nothing else is
 pub record Gathered (s : ℕ) (cells : List Cell) (test : Cell
-    → Bool) (n : ℕ) (trail : List ℕ) (found : sets.FinSet nat_cmp) : Type 0 where
-  pub all : (i : ℕ) → i < n → (l : ℕ) → l < s * s → are_neighbours s (get_or trail i 0) l ≡ true
-      → test (cell_at cells l) ≡ true → sets.contains found l ≡ true
+    → Bool) (stones wait found : sets.FinSet nat_cmp) : Type 0 where
+  pub all : (q : ℕ) → sets.contains stones q ≡ true → sets.contains wait q ≡ false → (l : ℕ) → l < s * s
+      → are_neighbours s q l ≡ true → test (cell_at cells l) ≡ true → sets.contains found l ≡ true
   pub only : (l : ℕ) → sets.contains found l ≡ true
-      → (i : ℕ) × (i < n) × (l < s * s) × (are_neighbours s (get_or trail i 0) l ≡ true)
+      → (q : ℕ) × (sets.contains stones q ≡ true) × (l < s * s) × (are_neighbours s q l ≡ true)
       × (test (cell_at cells l) ≡ true)
 
--- nothing was gathered from no stone
-Gathered-none : (s : ℕ) (cells : List Cell) (test : Cell → Bool) (trail : List ℕ) (found : sets.FinSet nat_cmp)
-    → found ≡ sets.empty → Gathered s cells test 0 trail found
-Gathered-none s cells test trail found e = record {
-  all = λ i l. absurd (omega arith);
+-- nothing was gathered while each stone waits
+Gathered-none : (s : ℕ) (cells : List Cell) (test : Cell
+    → Bool) (p : ℕ) (stones wait found : sets.FinSet nat_cmp) → Begins p stones wait → found ≡ sets.empty
+    → Gathered s cells test stones wait found
+Gathered-none s cells test p stones wait found b e = record {
+  all = λ q h w. absurd (none_visited p q stones wait b h w);
   only = λ l h. absurd (both_ways (sets.contains found l)
       (ap (λ t. sets.contains t l) e ∙ sets.contains-empty nat_cmp l) h);
 }
 
 -- what is beside one more stone was gathered
 Gathered-next : (s : ℕ) (cells : List Cell) (test : Cell
-    → Bool) (n : ℕ) (trail new more : List ℕ) (found next : sets.FinSet nat_cmp) → Gathered s cells test n trail found
-    → n < length trail
-    → new ≡ trail ++ more → get_or trail n 0 < s * s → Gathers s cells test (get_or trail n 0) 4 found next
-    → Gathered s cells test (n + 1) new next
-Gathered-next s cells test n trail new more found next h l is on g =
-    let at = λ (i : ℕ) (li : i < length trail). ap (λ xs. get_or xs i 0) is ∙ at_append trail more i li in
-    record {
-      all = λ i li x x_on near t. elim (cases_lt i n) [
-        | inl below ↦ g.kept x (h.all i below x x_on
-            (ap (λ y. are_neighbours s y x) (sym (at i (omega arith))) ∙ near) t)
-        | inr here ↦
-            let i_is : i ≡ n = omega arith in
-            let near' : are_neighbours s (get_or trail n 0) x ≡ true =
-            ap (λ y. are_neighbours s y x) (sym (at n l) ∙ ap (λ j. get_or new j 0) (sym i_is)) ∙ near in
-            let side = neighbour_at-all s (get_or trail n 0) x on x_on near' in
-            g.all side.0 side.1 x side.2 t
-      ];
-      only = λ x k. elim (g.only x k) [
-        | inl before ↦ let o = h.only x before in
-            (o.0, omega (arith, o.1), o.2, ap (λ y. are_neighbours s y x) (at o.0 (omega (arith, o.1))) ∙ o.3, o.4)
-        | inr fresh ↦ (n, omega arith, fresh.0, ap (λ y. are_neighbours s y x) (at n l) ∙ fresh.1, fresh.2)
-      ];
-    }
+    → Bool) (q : ℕ) (old new wait held waits found next : sets.FinSet nat_cmp) → Gathered s cells test old wait found
+    → q < s * s → Steps s q old new wait held waits → Gathers s cells test q 4 found next
+    → Gathered s cells test new waits next
+Gathered-next s cells test q old new wait held waits found next h on st g = record {
+  all = λ x has gone l l_on near t. elim (visited_before s q x old new wait held waits st has gone) [
+    | inl e ↦
+        let side = neighbour_at-all s q l on l_on (ap (λ y. are_neighbours s y l) (sym e) ∙ near) in
+        g.all side.0 side.1 l side.2 t
+    | inr before ↦ g.kept l (h.all x before.0 before.1 l l_on near t)
+  ];
+  only = λ l k. elim (g.only l k) [
+    | inl before ↦ let o = h.only l before in (o.0, st.finds.kept o.0 o.1, o.2, o.3, o.4)
+    | inr fresh ↦ (q, st.finds.kept q st.waited, fresh.0, fresh.1, fresh.2)
+  ];
+}
 
--- what a flood over the whole trail gathered
-Gathered-all : (s : ℕ) (cells : List Cell) (test : Cell → Bool) (p n : ℕ) (trail : List ℕ) (found : sets.FinSet nat_cmp)
-    → p < s * s → is_stone (cell_at cells p) ≡ true
-    → Flooded s cells p n trail → length trail ≤ n → Gathered s cells test n trail found
+-- what a flood has gathered where no stone waits
+Gathered-all : (s : ℕ) (cells : List Cell) (test : Cell
+    → Bool) (p : ℕ) (stones wait found : sets.FinSet nat_cmp) → p < s * s → is_stone (cell_at cells p) ≡ true
+    → Flooded s cells p stones wait → wait ≡ sets.empty → Gathered s cells test stones wait found
     → found ≡ set_below (s * s) (λ l. is_beside_string s cells p l && test (cell_at cells l))
 unfolding is_beside_string
-Gathered-all s cells test p n trail found on stone h l g =
+Gathered-all s cells test p stones wait found on stone h none g =
     same_nat_set _ _ (λ x. same_tests _ _
     (λ k.
     let o = g.only x k in
-    let path = h.only _ (has_at trail o.0 (omega (arith, o.1, h.within))) in
+    let path = h.only o.0 o.1 in
     and_from _ _ (lt-ltb x (s * s) o.2)
-    (and_from _ _ (any_below_from (s * s) _ (get_or trail o.0 0) (path_on_board s cells p on path)
+    (and_from _ _ (any_below_from (s * s) _ o.0 (path_on_board s cells p on path)
     (and_from _ _ (is_is_in_string-from_fact s cells p _ on (record { stone = stone; path = path })) o.3)) o.4))
     (λ k.
     let parts = and_parts _ _ k in
     let both = and_parts _ _ parts.1 in
     let it = any_below_gives (s * s) _ both.0 in
     let link = and_parts _ _ it.2 in
-    let i = has_index trail it.0 (Flooded-all s cells p n trail h l (IsInString-from_test s cells p it.0 link.0).path)
-    in
-    g.all i.0 (omega (arith, i.1, l)) x (ltb-true x (s * s) parts.0)
-    (ap (λ y. are_neighbours s y x) i.2 ∙ link.1) both.1)
+    let member = Flooded-all s cells p stones wait h none (IsInString-from_test s cells p it.0 link.0).path in
+    g.all it.0 member (ap (λ t. sets.contains t it.0) none ∙ sets.contains-empty nat_cmp it.0) x
+    (ltb-true x (s * s) parts.0) link.1 both.1)
     ∙ sym (contains-set_below (s * s) (λ y. is_beside_string s cells p y && test (cell_at cells y)) x))
 
 -- which of two tests comes first does not matter
@@ -198,47 +180,41 @@ liberties_beside s cells p =
     ∙ and_swapped (ltb x (s * s)) (is_beside_string s cells p x) (same_cell (cell_at cells x) Empty)
     ∙ sym (contains-set_below (s * s) (is_liberty s cells p) x))
 
--- what the first n stones of a flood's trail gave
-pub record FloodsOut (s : ℕ) (cells : List Cell) (own : Cell) (p n : ℕ) (trail : List ℕ)
-    (free foes : sets.FinSet nat_cmp) : Type 0 where
-  pub stones : Flooded s cells p n trail
-  pub liberties : Gathered s cells (λ cell. same_cell cell Empty) n trail free
-  pub enemies : Gathered s cells (is_enemy own) n trail foes
+-- what the stones gave that do not wait
+pub record FloodsOut (s : ℕ) (cells : List Cell) (own : Cell) (p : ℕ) (found : Found)
+    (wait : sets.FinSet nat_cmp) : Type 0 where
+  pub stones : Flooded s cells p found.stones wait
+  pub liberties : Gathered s cells (λ cell. same_cell cell Empty) found.stones wait found.liberties
+  pub enemies : Gathered s cells (is_enemy own) found.stones wait found.enemies
 
 -- at first nothing but the point is known
-pub FloodsOut-start : (s : ℕ) (cells : List Cell) (own : Cell) (p : ℕ) (trail : List ℕ)
-    (free foes : sets.FinSet nat_cmp) → trail ≡ add_once [] p → free ≡ sets.empty → foes ≡ sets.empty
-    → FloodsOut s cells own p 0 trail free foes
-FloodsOut-start s cells own p trail free foes t f e = record {
-  stones = subst (Flooded s cells p 0) (sym t) (Flooded-start s cells p);
-  liberties = Gathered-none s cells _ trail free f;
-  enemies = Gathered-none s cells _ trail foes e;
+pub FloodsOut-start : (s : ℕ) (cells : List Cell) (own : Cell) (p : ℕ) (found : Found) (wait : sets.FinSet nat_cmp)
+    → Begins p found.stones wait → found.liberties ≡ sets.empty → found.enemies ≡ sets.empty
+    → FloodsOut s cells own p found wait
+FloodsOut-start s cells own p found wait b f e = record {
+  stones = Flooded-start s cells p found.stones wait b;
+  liberties = Gathered-none s cells _ p found.stones wait found.liberties b f;
+  enemies = Gathered-none s cells _ p found.stones wait found.enemies b e;
 }
 
--- each point of the trail holds what the first does
-pub trail_like : (s : ℕ) (cells : List Cell) (p n : ℕ) (trail : List ℕ) → Flooded s cells p n trail → n < length trail
-    → cell_at cells (get_or trail n 0) ≡ cell_at cells p
-trail_like s cells p n trail h l = path_same s cells p (h.only (get_or trail n 0) (has_at trail n l))
-
 -- one more stone was visited
-pub FloodsOut-next : (s : ℕ) (cells : List Cell) (own : Cell) (p n : ℕ) (trail new : List ℕ)
-    (free freed foes foed : sets.FinSet nat_cmp) → p < s * s
-    → FloodsOut s cells own p n trail free foes → n < length trail
-    → SpreadsOut s cells own (get_or trail n 0) 4 trail new free freed foes foed
-    → FloodsOut s cells own p (n + 1) new freed foed
-FloodsOut-next s cells own p n trail new free freed foes foed on h l sp =
-    let q_on = path_on_board s cells p on (h.stones.only (get_or trail n 0) (has_at trail n l)) in
+pub FloodsOut-next : (s : ℕ) (cells : List Cell) (own : Cell) (p q : ℕ) (old new : Found)
+    (wait held waits : sets.FinSet nat_cmp) → p < s * s → FloodsOut s cells own p old wait
+    → Steps s q old.stones new.stones wait held waits → cell_at cells q ≡ own → SpreadsOut s cells own q 4 old new
+    → FloodsOut s cells own p new waits
+FloodsOut-next s cells own p q old new wait held waits on h st like sp =
+    let q_on = path_on_board s cells p on (h.stones.only q st.waited) in
     record {
-      stones = Flooded-next s cells p n trail new on h.stones l sp.stones;
-      liberties = Gathered-next s cells _ n trail new sp.stones.kept.0 free freed h.liberties l sp.stones.kept.1 q_on
-          sp.liberties;
-      enemies = Gathered-next s cells _ n trail new sp.stones.kept.0 foes foed h.enemies l sp.stones.kept.1 q_on
-          sp.enemies;
+      stones = Flooded-next s cells own p q old.stones new.stones wait held waits on h.stones st like sp.stones;
+      liberties = Gathered-next s cells _ q old.stones new.stones wait held waits old.liberties new.liberties
+          h.liberties q_on st sp.liberties;
+      enemies = Gathered-next s cells _ q old.stones new.stones wait held waits old.enemies new.enemies
+          h.enemies q_on st sp.enemies;
     }
 
-module _ (s : ℕ) (cells : List Cell) (own : Cell) (p n : ℕ) (trail : List ℕ) (free foes : sets.FinSet nat_cmp)
+module _ (s : ℕ) (cells : List Cell) (own : Cell) (p : ℕ) (found : Found) (wait : sets.FinSet nat_cmp)
     (on : p < s * s) (like : own ≡ cell_at cells p) (stone : own ≢ Empty)
-    (h : FloodsOut s cells own p n trail free foes) (l : length trail ≤ n) where
+    (h : FloodsOut s cells own p found wait) (none : wait ≡ sets.empty) where
   -- the point holds a stone
   pub stone_at : is_stone (cell_at cells p) ≡ true
   stone_at = by_cell (cell_at cells p) (λ e. stone (like ∙ e))
@@ -249,15 +225,15 @@ module _ (s : ℕ) (cells : List Cell) (own : Cell) (p n : ℕ) (trail : List �
       by_cell White not_empty = refl
 
   -- the empty points gathered are the liberties
-  pub flood_liberties : free ≡ liberty_points s cells p
-  flood_liberties = Gathered-all s cells _ p n trail free on stone_at h.stones l h.liberties
+  pub flood_liberties : found.liberties ≡ liberty_points s cells p
+  flood_liberties = Gathered-all s cells _ p found.stones wait found.liberties on stone_at h.stones none h.liberties
       ∙ liberties_beside s cells p
 
   -- the enemies gathered are those next to the string
-  pub flood_enemies : foes ≡ enemy_points s cells p
-  flood_enemies = subst (λ k. foes ≡ set_below (s * s)
+  pub flood_enemies : found.enemies ≡ enemy_points s cells p
+  flood_enemies = subst (λ k. found.enemies ≡ set_below (s * s)
       (λ q. is_beside_string s cells p q && is_enemy k (cell_at cells q))) like
-      (Gathered-all s cells (is_enemy own) p n trail foes on stone_at h.stones l h.enemies)
+      (Gathered-all s cells (is_enemy own) p found.stones wait found.enemies on stone_at h.stones none h.enemies)
 
 -- nothing is next to an empty point's string
 beside_empty : (s : ℕ) (cells : List Cell) (p q : ℕ) → cell_at cells p ≡ Empty → is_beside_string s cells p q ≡ false

@@ -3,7 +3,6 @@ pub mod JoinedMarks
 pub mod Lowest
 pub mod UsedWords
 pub mod SidesOfPoints
-pub mod TrailOrder
 pub mod FloodResults
 pub mod FloodVisits
 pub mod Liberties

@@ -1,15 +1,15 @@
 -- The bits of a set of points.
-use Rattle.std.proofs.Common.{◌≡◌, ◌≢◌, ℕ, zero, suc, ◌+◌, ◌*◌, ◌/◌, ◌%◌, ◌^◌, ◌<◌, ◌≤◌, ◌||◌, ◌&&◌, Bool, true, false, cond, eqb, ltb, List, length, get_or, bit_and, bit_or, refl, sym, ap, arith, inl, inr, ◌∙◌, get_or-set_same, get_or-set_other}
+use Rattle.std.proofs.Common.{◌≡◌, ◌≢◌, ℕ, zero, suc, ◌+◌, ◌*◌, ◌/◌, ◌%◌, ◌^◌, ◌<◌, ◌≤◌, ◌||◌, ◌&&◌, Bool, true, false, not, cond, eqb, ltb, List, length, get_or, bit_and, bit_or, refl, sym, ap, arith, inl, inr, ◌∙◌, get_or-set_same, get_or-set_other}
 use Rattle.std.proofs.Math.ListN.{set}
 use Rattle.std.specs.Prelude.{replicate}
 use Rattle.std.proofs.lemmas.Bool.{cases_eq, lt-ltb, le-ltb, eq-eqb, ne_eqb}
-use Rattle.std.proofs.lemmas.Nat.Bits.{bit_at-zero, bit_at_set_same, bit_at_set_other, shr_and_one}
-use Rattle.std.specs.Int.{bit_at, w64}
+use Rattle.std.proofs.lemmas.Nat.Bits.{bit_at-zero, bit_at_set_same, bit_at_set_other, bit_at_clear_same, bit_at_clear_other, shr_and_one}
+use Rattle.std.specs.Int.{bit_at, bit_not, w64}
 use Rattle.std.specs.Ordering.{nat_cmp}
 use Rattle.std.specs.Cmp.{nat_cmp_total}
 use Rattle.std.specs.FinSet as sets
 use Rattle.go_rules.specs.Board.{largest_points}
-use Rattle.go_rules.proofs.Sets.{contains-set_below, contains-insert_nat, same_nat_set, len-set_below}
+use Rattle.go_rules.proofs.Sets.{eq_by_nat_cmp, contains-set_below, contains-insert_nat, same_nat_set, len-set_below}
 use Rattle.go_rules.proofs.Counts.{count_below_at_most}
 use Rattle.go_rules.proofs.Tests.{and-false}
 use Rattle.go_base.specs.Bits.{set_words, is_marked, marked}
@@ -143,3 +143,67 @@ marked-both old more new both = same_nat_set _ _ (λ q.
 -- no number above the points of the largest board is in the set
 pub contains-above : (words : List ℕ) (q : ℕ) → largest_points ≤ q → sets.contains (marked words) q ≡ false
 contains-above words q h = contains-marked words q ∙ ap (λ b. b && is_marked words q) (le-ltb q largest_points h)
+
+-- with one bit less
+abbrev pub without_bit : List ℕ → ℕ → List ℕ
+without_bit words p =
+    set words (p / 64) (bit_and (get_or words (p / 64) 0) (bit_not w64 (1 * 2 ^ (p % 64) % 18446744073709551616)))
+
+-- with one bit less its point is not marked
+pub is_marked-without_bit_same : (words : List ℕ) (p : ℕ) → p / 64 < length words
+    → is_marked (without_bit words p) p ≡ false
+is_marked-without_bit_same words p h =
+    let r : p % 64 < 64 = omega arith in
+    ap (λ n. eqb (bit_at n (p % 64)) 1) (get_or-set_same words (p / 64) _ 0 h)
+    ∙ ap (λ n. eqb n 1) (bit_at_clear_same w64 (get_or words (p / 64) 0) (p % 64) r)
+
+-- and each other point is marked as before
+pub is_marked-without_bit_other : (words : List ℕ) (p q : ℕ) → p / 64 < length words → q ≢ p
+    → is_marked (without_bit words p) q ≡ is_marked words q
+is_marked-without_bit_other words p q h ne =
+    let r : p % 64 < 64 = omega arith in
+    let place : q % 64 < 64 = omega arith in
+    elim (cases_eq (q / 64) (p / 64)) [
+      | inl e ↦
+          let other : q % 64 ≢ p % 64 = λ f. ne (omega arith) in
+          rw e (ap (λ n. eqb (bit_at n (q % 64)) 1) (get_or-set_same words (p / 64) _ 0 h)
+          ∙ ap (λ n. eqb n 1) (bit_at_clear_other w64 (get_or words (p / 64) 0) (p % 64) r (q % 64) place other))
+      | inr f ↦ ap (λ n. eqb (bit_at n (q % 64)) 1) (get_or-set_other words (p / 64) (q / 64) _ 0 f)
+    ]
+
+-- a set with one member less
+pub contains-remove_nat : (s : sets.FinSet nat_cmp) (k q : ℕ)
+    → sets.contains (sets.remove s k) q ≡ (not (eqb q k) && sets.contains s q)
+contains-remove_nat s k q =
+    sets.contains-remove nat_cmp_total s k q ∙ ap (λ b. not b && sets.contains s q) (eq_by_nat_cmp q k)
+
+-- where one point is marked no more, the set has that member less
+pub marked-less : (old new : List ℕ) (p : ℕ) → is_marked new p ≡ false
+    → ((q : ℕ) → q ≢ p → is_marked new q ≡ is_marked old q) → marked new ≡ sets.remove (marked old) p
+marked-less old new p here elsewhere = same_nat_set _ _ (λ q.
+    contains-marked new q
+    ∙ elim (cases_eq q p) as (λ _. (ltb q largest_points && is_marked new q)
+    ≡ (not (eqb q p) && (ltb q largest_points && is_marked old q))) [
+      | inl e ↦ rw (e, eq-eqb p p refl, here) (and-false (ltb p largest_points))
+      | inr ne ↦ rw (ne_eqb q p ne, elsewhere q ne) refl
+    ]
+    ∙ sym (contains-remove_nat (marked old) p q ∙ ap (λ b. not (eqb q p) && b) (contains-marked old q)))
+
+-- and counts one less
+pub len-remove_member : (s : sets.FinSet nat_cmp) (p : ℕ) → sets.contains s p ≡ true
+    → sets.len s ≡ sets.len (sets.remove s p) + 1
+len-remove_member s p member =
+    ap sets.len (same_nat_set _ _ (λ q. sym (contains-insert_nat (sets.remove s p) p q
+    ∙ ap (λ b. eqb q p || b) (contains-remove_nat s p q) ∙ again q)))
+    ∙ len-insert_new (sets.remove s p) p (contains-remove_nat s p p
+    ∙ ap (λ b. not b && sets.contains s p) (eq-eqb p p refl))
+  where
+    again : (q : ℕ) → (eqb q p || (not (eqb q p) && sets.contains s q)) ≡ sets.contains s q
+    again q = elim (cases_eq q p) [
+      | inl e ↦ rw (e, eq-eqb p p refl) (sym member)
+      | inr ne ↦ rw (ne_eqb q p ne) refl
+    ]
+
+-- a set without a member is the empty one
+pub no_members : (s : sets.FinSet nat_cmp) → ((q : ℕ) → sets.contains s q ≡ false) → s ≡ sets.empty
+no_members s none = same_nat_set _ _ (λ q. none q ∙ sym (sets.contains-empty nat_cmp q))

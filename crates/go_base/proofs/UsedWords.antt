@@ -1,12 +1,21 @@
 -- The least point that words mark, by a note of the words in use.
 use Rattle.std.proofs.Common.{◌≡◌, ◌≢◌, ℕ, ◌+◌, ◌*◌, ◌/◌, ◌%◌, ◌<◌, ◌≤◌, true, false, eqb, List, get_or, refl, sym, ap, arith, inl, inr, ◌∙◌}
-use Rattle.std.proofs.Common.{bit_or, ◌^◌}
+use Rattle.std.proofs.Common.{bit_and, bit_or, ◌^◌}
 use Rattle.std.proofs.lemmas.Bool.{cases_Bool, cases_eq, cases_lt, both_ways, eqb-true}
 use Rattle.std.proofs.lemmas.Nat.{div-mul-add, mod-mul-add}
-use Rattle.std.proofs.lemmas.Nat.Bits.{bit_at-zero, bit_at_set_same, bit_at_set_other}
-use Rattle.std.specs.Int.{bit_at, w16}
+use Rattle.std.proofs.lemmas.Nat.Bits.{bit_at-zero, bit_at-lt, bit_at_and, bit_at_set_same, bit_at_set_other, bit_at_clear_same, bit_at_clear_other}
+use Rattle.std.specs.Int.{bit_at, bit_not, w16}
 use Rattle.go_rules.specs.Board.{largest_points}
 use Rattle.go_base.specs.Bits.{is_marked, IsNoteOf}
+
+-- a bit that is set in a word marks its point
+pub is_marked-at : (words : List ℕ) (word bit : ℕ) → bit < 64 → bit_at (get_or words word 0) bit ≡ 1
+    → is_marked words (word * 64 + bit) ≡ true
+is_marked-at words word bit small hit = rw (div-mul-add word 64 bit small, mod-mul-add word 64 bit small, hit) refl
+
+-- a point of another word is another point
+other_point : (q p i : ℕ) → q / 64 ≡ i → i ≢ p / 64 → q ≢ p
+other_point q p i word ne e = ne (sym word ∙ ap (λ n. n / 64) e)
 
 -- words that mark no point are noted by no bit
 pub IsNoteOf-none : (words : List ℕ) → ((q : ℕ) → is_marked words q ≡ false) → IsNoteOf words 0
@@ -37,13 +46,67 @@ IsNoteOf-add old new used p is on here elsewhere = record {
     | inl e ↦ (p, sym e, here)
     | inr ne ↦
         let before = is.only i (sym (bit_at_set_other w16 used (p / 64) small i ne) ∙ h) in
-        let other = λ (e : before.0 ≡ p). ne (sym before.1 ∙ ap (λ n. n / 64) e) in
-        (before.0, before.1, elsewhere before.0 other ∙ before.2)
+        (before.0, before.1, elsewhere before.0 (other_point before.0 p i before.1 ne) ∙ before.2)
   ];
 }
   where
     small : p / 64 < 16
     small = omega (arith, on)
+
+-- where one point less is marked and its word has another, the note stays as it is
+pub IsNoteOf-less : (old new : List ℕ) (used p : ℕ) → IsNoteOf old used → is_marked new p ≡ false
+    → ((q : ℕ) → q ≢ p → is_marked new q ≡ is_marked old q)
+    → (q : ℕ) × (q / 64 ≡ p / 64) × (is_marked new q ≡ true) → IsNoteOf new used
+IsNoteOf-less old new used p is here elsewhere left = record {
+  on_board = λ q h. is.on_board q (was q h);
+  noted = λ q h. is.noted q (was q h);
+  only = λ i h. elim (cases_eq i (p / 64)) [
+    | inl e ↦ (left.0, left.1 ∙ sym e, left.2)
+    | inr ne ↦
+        let before = is.only i h in
+        (before.0, before.1, elsewhere before.0 (other_point before.0 p i before.1 ne) ∙ before.2)
+  ];
+}
+  where
+    was : (q : ℕ) → is_marked new q ≡ true → is_marked old q ≡ true
+    was q h = elim (cases_eq q p) [
+      | inl e ↦ absurd (both_ways (is_marked new q) (ap (is_marked new) e ∙ here) h)
+      | inr ne ↦ sym (elsewhere q ne) ∙ h
+    ]
+
+-- the note without the bit of one word
+abbrev pub without_word : ℕ → ℕ → ℕ
+without_word used i = bit_and used (bit_not w16 (1 * 2 ^ i % 65536))
+
+-- where one point less is marked and its word has no other, the bit of its word goes
+pub IsNoteOf-last : (old new : List ℕ) (used p : ℕ) → IsNoteOf old used → p < largest_points → is_marked new p ≡ false
+    → ((q : ℕ) → q ≢ p → is_marked new q ≡ is_marked old q)
+    → ((q : ℕ) → q / 64 ≡ p / 64 → is_marked new q ≡ false) → IsNoteOf new (without_word used (p / 64))
+IsNoteOf-last old new used p is on here elsewhere none = record {
+  on_board = λ q h. is.on_board q (was q h);
+  noted = λ q h.
+      let below : q / 64 < 16 = omega (arith, is.on_board q (was q h)) in
+      let kept : bit_at (without_word used (p / 64)) (q / 64) ≡ bit_at used (q / 64) =
+      bit_at_clear_other w16 used (p / 64) small (q / 64) below (λ e. both_ways (is_marked new q) (none q e) h) in
+      kept ∙ is.noted q (was q h);
+  only = λ i h. elim (cases_eq i (p / 64)) [
+    | inl e ↦
+        let zero : bit_at (without_word used (p / 64)) i ≡ 0 =
+        ap (bit_at (without_word used (p / 64))) e ∙ bit_at_clear_same w16 used (p / 64) small in
+        absurd (omega (arith, zero, h))
+    | inr ne ↦
+        let least = bit_at_and used (bit_not w16 (1 * 2 ^ (p / 64) % 65536)) i in
+        let bit = bit_at-lt used i in
+        let before = is.only i (omega (arith, least, h, bit)) in
+        (before.0, before.1, elsewhere before.0 (other_point before.0 p i before.1 ne) ∙ before.2)
+  ];
+}
+  where
+    small : p / 64 < 16
+    small = omega (arith, on)
+
+    was : (q : ℕ) → is_marked new q ≡ true → is_marked old q ≡ true
+    was q h = sym (elsewhere q (λ e. both_ways (is_marked new q) (ap (is_marked new) e ∙ here) h)) ∙ h
 
 module _ (words : List ℕ) (used first next : ℕ) (is : IsNoteOf words used)
     (rest : (k : ℕ) → first % 64 ≤ k → k < 64 → bit_at (get_or words (first / 64) 0) k ≡ 0)
@@ -86,7 +149,7 @@ module _ (words : List ℕ) (used first next : ℕ) (is : IsNoteOf words used)
     first_in_next hit = (omega (arith, beyond), is.on_board _ marked, marked, before)
       where
         marked : is_marked words (next * 64 + bit) ≡ true
-        marked = rw (div-mul-add next 64 bit has_bit, mod-mul-add next 64 bit has_bit, hit has_bit) refl
+        marked = is_marked-at words next bit has_bit (hit has_bit)
 
         before : (r : ℕ) → first ≤ r → r < next * 64 + bit → is_marked words r ≡ false
         before r low under = elim (cases_lt (r / 64) next) [

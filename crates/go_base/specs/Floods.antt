@@ -1,5 +1,5 @@
 -- One step of a flood, what a whole flood finds, and what one finds that stops where it sees many liberties.
-use Rattle.std.specs.Prelude.{◌≡◌, ℕ, ◌*◌, ◌<◌, ◌≤◌, ◌⊎◌, ◌&&◌, Bool, true, List, ◌++◌, Some, if◌then◌else◌}
+use Rattle.std.specs.Prelude.{◌≡◌, ℕ, ◌+◌, ◌*◌, ◌<◌, ◌≤◌, ◌⊎◌, ◌&&◌, Bool, true, List, Some, if◌then◌else◌}
 use Rattle.std.specs.Ordering.{nat_cmp}
 use Rattle.std.specs.FinSet as set
 use Rattle.go_rules.specs.declared.Cell.{Cell}
@@ -9,16 +9,7 @@ use Rattle.go_rules.specs.Below.{set_below}
 use Rattle.go_rules.specs.Strings.{cell_at, same_cell, string_at, liberty_points, liberties as liberties_at}
 use Rattle.go_rules.specs.Boundary.{is_enemy, is_beside_string}
 use Rattle.go_base.specs.Sides.{neighbour_at}
-use Rattle.go_base.specs.Trails.{has_point, add_once}
 use Rattle.go_base.specs.declared.flood.Found.{Found}
-
--- of the first n sides of q, the neighbours that hold what q holds are there now, and nothing else came
-pub record Spreads (s : ℕ) (cells : List Cell) (q n : ℕ) (old new : List ℕ) : Type 0 where
-  pub kept : (more : List ℕ) × (new ≡ old ++ more)
-  pub all : (side : ℕ) → side < n → (r : ℕ) → neighbour_at s q side ≡ Some r → cell_at cells r ≡ cell_at cells q
-      → has_point new r ≡ true
-  pub only : (r : ℕ) → has_point new r ≡ true
-      → (has_point old r ≡ true) ⊎ ((r < s * s) × (are_neighbours s q r ≡ true) × (cell_at cells r ≡ cell_at cells q))
 
 -- of the first n sides of q, the neighbours whose cell passes the test are there now, and nothing else came
 pub record Gathers (s : ℕ) (cells : List Cell) (test : Cell
@@ -29,31 +20,33 @@ pub record Gathers (s : ℕ) (cells : List Cell) (test : Cell
   pub only : (r : ℕ) → set.contains new r ≡ true
       → (set.contains old r ≡ true) ⊎ ((r < s * s) × (are_neighbours s q r ≡ true) × (test (cell_at cells r) ≡ true))
 
--- what came is on the board
-abbrev pub AddsOnBoard : ℕ → List ℕ → List ℕ → Type 0
-AddsOnBoard s old new = (r : ℕ) → has_point new r ≡ true → (has_point old r ≡ true) ⊎ (r < s * s)
+-- stones came, each of which is on the board and waits now, and nothing else came or left
+pub record Finds (s : ℕ) (old new wait waits : set.FinSet nat_cmp) : Type 0 where
+  pub kept : (r : ℕ) → set.contains old r ≡ true → set.contains new r ≡ true
+  pub on_board : (r : ℕ) → set.contains new r ≡ true → (set.contains old r ≡ true) ⊎ (r < s * s)
+  pub still : (r : ℕ) → set.contains wait r ≡ true → set.contains waits r ≡ true
+  pub fresh : (r : ℕ) → set.contains new r ≡ true → (set.contains old r ≡ true) ⊎ (set.contains waits r ≡ true)
+  pub among : (r : ℕ) → set.contains waits r ≡ true → (set.contains wait r ≡ true) ⊎ (set.contains new r ≡ true)
+  pub count : (n : ℕ) × (set.len new ≡ set.len old + n) × (set.len waits ≡ set.len wait + n)
 
--- a flood over stones like own came to r, which holds this cell: an own stone goes on the trail, an empty point to the
+-- a flood over stones like own came to r, which holds this cell: an own stone goes to the stones, an empty point to the
 -- liberties, an enemy to the enemies
-pub record Visits (own cell : Cell) (r : ℕ) (old new : List ℕ)
-    (free freed foes foed : set.FinSet nat_cmp) : Type 0 where
-  pub trail : new ≡ (if same_cell cell own then add_once old r else old)
-  pub liberties : freed ≡ (if same_cell cell Empty then set.insert free r else free)
-  pub enemies : foed ≡ (if is_enemy own cell then set.insert foes r else foes)
+pub record Visits (own cell : Cell) (r : ℕ) (old new : Found) : Type 0 where
+  pub stones : new.stones ≡ (if same_cell cell own then set.insert old.stones r else old.stones)
+  pub liberties : new.liberties ≡ (if same_cell cell Empty then set.insert old.liberties r else old.liberties)
+  pub enemies : new.enemies ≡ (if is_enemy own cell then set.insert old.enemies r else old.enemies)
 
 -- a flood over stones like own went to the first n sides of q
-pub record SpreadsOut (s : ℕ) (cells : List Cell) (own : Cell) (q n : ℕ) (old new : List ℕ)
-    (free freed foes foed : set.FinSet nat_cmp) : Type 0 where
-  pub stones : Spreads s cells q n old new
-  pub liberties : Gathers s cells (λ cell. same_cell cell Empty) q n free freed
-  pub enemies : Gathers s cells (is_enemy own) q n foes foed
+pub record SpreadsOut (s : ℕ) (cells : List Cell) (own : Cell) (q n : ℕ) (old new : Found) : Type 0 where
+  pub stones : Gathers s cells (λ cell. same_cell cell own) q n old.stones new.stones
+  pub liberties : Gathers s cells (λ cell. same_cell cell Empty) q n old.liberties new.liberties
+  pub enemies : Gathers s cells (is_enemy own) q n old.enemies new.enemies
 
--- a flood over stones like own went to sides of q, to all four unless it saw more liberties than most
-pub record SpreadsUnder (s : ℕ) (cells : List Cell) (own : Cell) (q most : ℕ) (old new : List ℕ)
-    (free freed foes foed : set.FinSet nat_cmp) : Type 0 where
+-- a flood over stones like own went to sides of q, to the first n of them unless it saw more liberties than most
+pub record SpreadsUnder (s : ℕ) (cells : List Cell) (own : Cell) (q n most : ℕ) (old new : Found) : Type 0 where
   pub sides : ℕ
-  pub whole : set.len freed ≤ most → sides ≡ 4
-  pub spreads : SpreadsOut s cells own q sides old new free freed foes foed
+  pub whole : set.len new.liberties ≤ most → sides ≡ n
+  pub spreads : SpreadsOut s cells own q sides old new
 
 -- the enemy stones next to the string of p
 abbrev pub enemy_points : ℕ → List Cell → ℕ → set.FinSet nat_cmp

@@ -1,6 +1,5 @@
 pub mod Bits
 pub mod Sides
-pub mod Trails
 pub mod Floods
 pub mod WithoutLiberty
 pub mod Views

@@ -1,10 +1,10 @@
 //! A bit for each point of the largest board.
 
-ghost use Rattle.std.specs.Prelude.{◌≡◌, ◌≢◌, ℕ, ◌<◌, ◌≤◌, ◌||◌, IsTrue, false};
+ghost use Rattle.std.specs.Prelude.{◌≡◌, ◌≢◌, ℕ, ◌/◌, ◌<◌, ◌≤◌, ◌||◌, IsTrue, false};
 ghost use Rattle.std.specs.Prelude.{IfSome, IfNone, Some, None, nat_lt, if◌then◌else◌};
 ghost use Rattle.std.specs.Int.{bit_at};
 ghost use Rattle.go_rules.specs.Board.{largest_points};
-ghost use Rattle.go_base.specs.Bits.{is_marked, IsNoteOf};
+ghost use Rattle.go_base.specs.Bits.{set_words, is_marked, IsNoteOf};
 
 use crate::size::{MAX_POINTS, Point};
 use std::marker::Model;
@@ -56,6 +56,24 @@ impl PointBits {
         self.words[p as usize / 64] |= 1 << (p % 64);
     }
 
+    /// Clears the bit of p.
+    pub(crate) fn remove(&mut self, p: Point)
+        requires { p < largest_points }
+        ensures here { is_marked self.new p ≡ false }
+        ensures elsewhere { (q : ℕ) → q ≢ p → is_marked self.new q ≡ is_marked self.old q }
+    {
+        self.words[p as usize / 64] &= !(1 << (p % 64));
+    }
+
+    /// Whether a word has a bit.
+    pub(crate) fn has_word(&self, word: u16) -> bool
+        requires { word < set_words }
+        ensures some { IsTrue result → (q : ℕ) × (q / 64 ≡ word) × IsTrue (is_marked self.now q) }
+        ensures none { result ≡ false → (q : ℕ) → q / 64 ≡ word → is_marked self.now q ≡ false }
+    {
+        lowest_bit(self.words[word as usize], 0) < WORD_BITS
+    }
+
     /// Sets each bit that the other has.
     pub fn join(&mut self, other: &PointBits)
         ensures { (q : ℕ) → is_marked self.new q ≡ (is_marked self.old q || is_marked other.now q) }
@@ -75,8 +93,8 @@ impl PointBits {
         first_marked(&self.words, first, end)
     }
 
-    /// The least point from `first` on whose bit is set, None exactly where there is none. Of the words, `used` notes those
-    /// that have a bit, and the others are passed over.
+    /// The least point from `first` on whose bit is set, None exactly where there is none. Of the words, `used` notes
+    /// those that have a bit, and the others are passed over.
     pub(crate) fn first_in_use(&self, used: u16, first: u16) -> Option<Point>
         requires { IsNoteOf self.now used }
         ensures some { IfSome result (λ q. (first ≤ q) × (q < largest_points) × IsTrue (is_marked self.now q)
@@ -87,8 +105,8 @@ impl PointBits {
     }
 }
 
-/// The least point from `first` on that the words mark, None exactly where there is none. It looks at the word of `first`,
-/// and then at the next one that `used` notes, which has a bit.
+/// The least point from `first` on that the words mark, None exactly where there is none. It looks at the word of
+/// `first`, and then at the next one that `used` notes, which has a bit.
 fn first_in_words(words: &[u64; WORDS], used: u16, first: u16) -> Option<Point>
     requires { IsNoteOf words.now used }
     ensures some { IfSome result (λ q. (first ≤ q) × (q < largest_points) × IsTrue (is_marked words.now q)

@@ -1,21 +1,20 @@
 //! Strings, their liberties and the enemy stones next to them, found by one search over a board whose cells are told
 //! one by one. A search may be given a bound on liberties, and stops where it sees more.
 
-ghost use Rattle.std.specs.Prelude.{◌≡◌, ◌≢◌, ◌⊎◌, ℕ, ◌*◌, ◌<◌, ◌≤◌, ◌&&◌, nat_lt, nat_le, IsTrue, true};
+ghost use Rattle.std.specs.Prelude.{◌≡◌, ◌≢◌, ◌⊎◌, ℕ, ◌+◌, ◌*◌, ◌<◌, ◌≤◌, IsTrue, true, IfSome, IfNone, if◌then◌else◌};
 ghost use Rattle.std.specs.FinSet as set;
 ghost use Rattle.go_rules.specs.declared.Cell.{Cell};
 ghost use Rattle.go_rules.specs.Board.{largest_points};
 ghost use Rattle.go_rules.specs.Strings.{cell_at, string_at, liberty_points};
 ghost use Rattle.go_rules.specs.Neighbourhood.{neighbourhood_of};
 ghost use Rattle.go_rules.specs.Position.{BoardState};
-ghost use Rattle.go_base.specs.Trails.{has_point};
-ghost use Rattle.go_base.specs.Floods.{Visits, SpreadsUnder, AddsOnBoard, Searches, enemy_points};
+ghost use Rattle.go_base.specs.Floods.{Visits, SpreadsUnder, Finds, Searches, enemy_points};
+ghost use Rattle.go_base.specs.declared.flood.Found.{Found};
 ghost use Rattle.go_base.specs.Views.{Looks, anywhere, around, alone};
 
 use crate::points::PointSet;
 use crate::sides::neighbour;
-use crate::size::{MAX_POINTS, Point};
-use crate::trail::Trail;
+use crate::size::{MAX_POINTS, Point, Size};
 use crate::view::View;
 use go_rules::Cell;
 
@@ -30,34 +29,89 @@ pub struct Found {
     pub enemies: PointSet,
 }
 
-/// Looks at r, a neighbour of a stone like `own`, and puts it where it belongs.
+/// Nothing found yet.
 #[inline(always)]
-fn visit<V: View>(
-    board: &mut V,
-    own: Cell,
-    r: Point,
-    trail: &mut Trail,
-    liberties: &mut PointSet,
-    enemies: &mut PointSet,
-)
+fn nothing_found() -> Found
+    ensures stones { result.stones ≡ set.empty }
+    ensures liberties { result.liberties ≡ set.empty }
+    ensures enemies { result.enemies ≡ set.empty }
+{
+    Found {
+        stones: PointSet::new(),
+        liberties: PointSet::new(),
+        enemies: PointSet::new(),
+    }
+}
+
+/// Puts a stone at r among the stones, and lets it wait to be visited, unless it was found before.
+#[inline(always)]
+fn add_stone(r: Point, stones: &mut PointSet, waiting: &mut PointSet)
+    requires { r < largest_points }
+    ensures stones { stones.new ≡ set.insert stones.old r }
+    ensures waiting { waiting.new ≡ (if set.contains stones.old r then waiting.old else set.insert waiting.old r) }
+{
+    if !stones.has(r) {
+        stones.add(r);
+        waiting.add(r);
+    }
+}
+
+/// Looks at r, a neighbour of a stone like `own`, and puts it where it belongs. A stone that is new waits to be
+/// visited.
+#[inline(always)]
+fn visit<V: View>(board: &mut V, own: Cell, r: Point, found: &mut Found, waiting: &mut PointSet)
     requires on_board { r < V.rows board.old * V.rows board.old }
     requires small { r < largest_points }
     requires stone { own ≢ Cell.Empty }
+    requires waits { (q : ℕ) → set.contains waiting.old q ≡ true → set.contains found.old.stones q ≡ true }
     ensures looks { Looks V.cells V.asks board.old board.new (alone r) }
     ensures over { (pos : BoardState) → V.agrees board.new pos
-        → Visits own (cell_at (V.cells board.old pos) r) r trail.old trail.new liberties.old liberties.new enemies.old
-        enemies.new }
-    ensures trail_alone { (q : ℕ) → has_point trail.new q ≡ true → (has_point trail.old q ≡ true) ⊎ (r ≡ q) }
-    ensures enemies_alone { (q : ℕ) → set.contains enemies.new q ≡ true
-        → (set.contains enemies.old q ≡ true) ⊎ (q ≡ r) }
+        → Visits own (cell_at (V.cells board.old pos) r) r found.old found.new }
+    ensures finds { Finds (V.rows board.old) found.old.stones found.new.stones waiting.old waiting.new }
+    ensures enemies_alone { (q : ℕ) → set.contains found.new.enemies q ≡ true
+        → (set.contains found.old.enemies q ≡ true) ⊎ (q ≡ r) }
 {
     let cell = board.at(r);
     if cell == own {
-        trail.add(r);
+        add_stone(r, &mut found.stones, waiting);
     } else if cell == Cell::Empty {
-        liberties.add(r);
+        found.liberties.add(r);
     } else {
-        enemies.add(r);
+        found.enemies.add(r);
+    }
+}
+
+/// Visits the neighbour of q, a stone like `own`, on one side, where there is one and no more liberties than `most`
+/// were seen.
+#[inline(always)]
+fn visit_side<V: View>(
+    board: &mut V,
+    own: Cell,
+    q: Point,
+    size: Size,
+    side: u8,
+    most: u16,
+    found: &mut Found,
+    waiting: &mut PointSet,
+)
+    requires on_board { q < V.rows board.old * V.rows board.old }
+    requires rows { size ≡ V.rows board.old }
+    requires side { side < 4 }
+    requires stone { own ≢ Cell.Empty }
+    requires waits { (r : ℕ) → set.contains waiting.old r ≡ true → set.contains found.old.stones r ≡ true }
+    ensures looks { Looks V.cells V.asks board.old board.new (around (V.rows board.old) q) }
+    ensures over { (pos : BoardState) → V.agrees board.new pos → cell_at (V.cells board.old pos) q ≡ own → (old : Found)
+        → SpreadsUnder (V.rows board.old) (V.cells board.old pos) own q side most old found.old
+        → SpreadsUnder (V.rows board.old) (V.cells board.old pos) own q (side + 1) most old found.new }
+    ensures finds { Finds (V.rows board.old) found.old.stones found.new.stones waiting.old waiting.new }
+    ensures enemies_on_board { (r : ℕ) → set.contains found.new.enemies r ≡ true
+        → (set.contains found.old.enemies r ≡ true) ⊎ (r < V.rows board.old * V.rows board.old) }
+{
+    if found.liberties.count() > most {
+        return;
+    }
+    if let Some(r) = neighbour(size, q, side) {
+        visit(board, own, r, found, waiting);
     }
 }
 
@@ -68,41 +122,43 @@ fn spread<V: View>(
     own: Cell,
     q: Point,
     most: u16,
-    trail: &mut Trail,
-    liberties: &mut PointSet,
-    enemies: &mut PointSet,
+    found: &mut Found,
+    waiting: &mut PointSet,
 )
     requires on_board { q < V.rows board.old * V.rows board.old }
     requires stone { own ≢ Cell.Empty }
+    requires waits { (r : ℕ) → set.contains waiting.old r ≡ true → set.contains found.old.stones r ≡ true }
     ensures looks { Looks V.cells V.asks board.old board.new (around (V.rows board.old) q) }
     ensures over { (pos : BoardState) → V.agrees board.new pos → cell_at (V.cells board.old pos) q ≡ own
-        → SpreadsUnder (V.rows board.old) (V.cells board.old pos) own q most trail.old trail.new liberties.old
-        liberties.new enemies.old enemies.new }
-    ensures trail_on_board { AddsOnBoard (V.rows board.old) trail.old trail.new }
-    ensures enemies_on_board { (r : ℕ) → set.contains enemies.new r ≡ true
-        → (set.contains enemies.old r ≡ true) ⊎ (r < V.rows board.old * V.rows board.old) }
+        → SpreadsUnder (V.rows board.old) (V.cells board.old pos) own q 4 most found.old found.new }
+    ensures finds { Finds (V.rows board.old) found.old.stones found.new.stones waiting.old waiting.new }
+    ensures enemies_on_board { (r : ℕ) → set.contains found.new.enemies r ≡ true
+        → (set.contains found.old.enemies r ≡ true) ⊎ (r < V.rows board.old * V.rows board.old) }
 {
     let size = board.size();
-    for side in 0..4 {
-        if liberties.count() > most {
-            return;
-        }
-        if let Some(r) = neighbour(size, q, side) {
-            visit(board, own, r, trail, liberties, enemies);
-        }
-    }
+    visit_side(board, own, q, size, 0, most, found, waiting);
+    visit_side(board, own, q, size, 1, most, found, waiting);
+    visit_side(board, own, q, size, 2, most, found, waiting);
+    visit_side(board, own, q, size, 3, most, found, waiting);
 }
 
-/// Whether a search goes on that visited this many of the stones that it found, and saw this many liberties.
-fn goes_on(visited: usize, found: usize, seen: u16, most: u16) -> bool
-    ensures { result ≡ (nat_lt visited found && nat_le seen most) }
+/// The next stone to visit, which waits no longer; None where none waits, or more liberties than `most` were seen.
+#[inline(always)]
+fn next_stone(waiting: &mut PointSet, seen: u16, most: u16) -> Option<Point>
+    ensures some { IfSome result (λ q. (q < largest_points) × IsTrue (set.contains waiting.old q)
+        × (waiting.new ≡ set.remove waiting.old q) × (seen ≤ most)) }
+    ensures none { IfNone result (seen ≤ most → waiting.old ≡ set.empty) }
 {
-    visited < found && seen <= most
+    if seen > most {
+        return None;
+    }
+    waiting.take_first()
 }
 
 /// The string of p, its liberties and the enemy stones next to it, where it has at most `most` liberties; else some of
-/// each, with more liberties than `most`. It visits each stone once, and nothing but the stones and their neighbours, and
-/// stops as soon as it has seen more liberties than `most`. All three sets are empty where p is.
+/// each, with more liberties than `most`. It visits each stone once, the least that waits first, and nothing but the
+/// stones and their neighbours, and stops as soon as it has seen more liberties than `most`. All three sets are empty
+/// where p is.
 pub fn search<V: View>(board: &mut V, p: Point, most: u16) -> Found
     requires { p < V.rows board.old * V.rows board.old }
     ensures looks { Looks V.cells V.asks board.old board.new anywhere }
@@ -116,38 +172,18 @@ pub fn search<V: View>(board: &mut V, p: Point, most: u16) -> Found
     ensures near { (pos : BoardState) → V.agrees board.new pos
         → V.asks board.old board.new (neighbourhood_of (V.rows board.old) (V.cells board.old pos) (alone p)) }
 {
-    let mut trail = Trail::new();
-    let mut liberties = PointSet::new();
-    let mut enemies = PointSet::new();
+    let mut found = nothing_found();
+    let mut waiting = PointSet::new();
     let _ = board.size().points();
     let own = board.at(p);
     if own == Cell::Empty {
-        return Found {
-            stones: trail.into_set(),
-            liberties,
-            enemies,
-        };
+        return found;
     }
-    trail.add(p);
-    let mut next = 0;
-    while goes_on(next, trail.len(), liberties.count(), most) {
-        let q = trail.at(next);
-        spread(
-            board,
-            own,
-            q,
-            most,
-            &mut trail,
-            &mut liberties,
-            &mut enemies,
-        );
-        next += 1;
+    add_stone(p, &mut found.stones, &mut waiting);
+    while let Some(q) = next_stone(&mut waiting, found.liberties.count(), most) {
+        spread(board, own, q, most, &mut found, &mut waiting);
     }
-    Found {
-        stones: trail.into_set(),
-        liberties,
-        enemies,
-    }
+    found
 }
 
 /// The string of p, its liberties and the enemy stones next to it; all three sets are empty where p is.

@@ -20,7 +20,6 @@ pub mod position;
 pub mod sides;
 pub mod size;
 pub mod surroundings;
-mod trail;
 pub mod transform;
 pub mod view;
 mod without_liberty;

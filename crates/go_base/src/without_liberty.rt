@@ -46,6 +46,25 @@ fn has_empty_side<V: View>(board: &mut V, p: Point) -> bool
     false
 }
 
+/// The stones of the string of the stone at p, where a search of it sees no liberty; else None. It is a function of its
+/// own, so that no place is made for what a search finds where none is begun.
+fn searched_without_liberty<V: View>(board: &mut V, p: Point) -> Option<PointSet>
+    requires { p < V.rows board.old * V.rows board.old }
+    ensures looks { Looks V.cells V.asks board.old board.new anywhere }
+    ensures over { (pos : BoardState) → V.agrees board.new pos → IsTrue (is_stone (cell_at (V.cells board.old pos) p))
+        → result ≡ stones_without_liberty (V.rows board.old) (V.cells board.old pos) p }
+    ensures on_board { IfSome result (λ stones. (q : ℕ) → IsTrue (set.contains stones q)
+        → q < V.rows board.old * V.rows board.old) }
+    ensures near { (pos : BoardState) → V.agrees board.new pos
+        → V.asks board.old board.new (neighbourhood_of (V.rows board.old) (V.cells board.old pos) (alone p)) }
+{
+    let found = search(board, p, 0);
+    if found.liberties.count() != 0 {
+        return None;
+    }
+    Some(found.stones)
+}
+
 /// The stones of the string of the stone at p, where it has no liberty; else None. It looks at the stones and their
 /// neighbours, and no further once it has seen a liberty. It takes no memory.
 pub(crate) fn string_without_liberty<V: View>(board: &mut V, p: Point) -> Option<PointSet>
@@ -61,9 +80,5 @@ pub(crate) fn string_without_liberty<V: View>(board: &mut V, p: Point) -> Option
     if has_empty_side(board, p) {
         return None;
     }
-    let found = search(board, p, 0);
-    if found.liberties.count() != 0 {
-        return None;
-    }
-    Some(found.stones)
+    searched_without_liberty(board, p)
 }

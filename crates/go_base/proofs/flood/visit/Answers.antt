@@ -2,13 +2,21 @@ use Rattle.std.proofs.Common.{inl, inr, ap, sym, ◌∙◌}
 use Rattle.std.proofs.lemmas.Bool.{or_cases, eqb-true}
 use Rattle.std.specs.FinSet as set
 use Rattle.go_rules.proofs.Sets.{contains-insert_nat}
+use Rattle.go_base.proofs.FloodResults.{Finds-one}
 use Rattle.go_base.proofs.flood.visit.Goals as goal
+
+-- the visited point came, and waits
+pub returns-then-eq-clause-finds : goal.returns-then-eq-clause-finds
+returns-then-eq-clause-finds g c =
+    Finds-one (g.V.View.rows c.args.board.now) c.args.r c.args.found.now.stones c.add_stone.new.stones
+    c.args.waiting.now c.add_stone.new.waiting c.requires.on_board c.requires.waits c.add_stone.ensures.stones
+    c.add_stone.ensures.waiting
 
 -- only the visited point may have come
 pub returns-else-eq-2-clause-enemies_alone : goal.returns-else-eq-2-clause-enemies_alone
 returns-else-eq-2-clause-enemies_alone g c = λ q h.
     elim (or_cases _ _ (sym (ap (λ t. set.contains t q) c.add-else-eq-2.ensures
-    ∙ contains-insert_nat c.args.enemies.now c.args.r q) ∙ h)) [
+    ∙ contains-insert_nat c.args.found.now.enemies c.args.r q) ∙ h)) [
       | inl here ↦ inr (eqb-true q c.args.r here)
       | inr before ↦ inl before
     ]
