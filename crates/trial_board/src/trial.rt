@@ -270,12 +270,8 @@ impl<L: Look> Trial<L> {
     {
         match play_on(&mut self.board, c, p) {
             Ok(played) => {
-                let taken = note(
-                    &mut self.row,
-                    self.captured,
-                    &played.taken,
-                    &self.board.changed,
-                );
+                note(&mut self.row, self.captured, &played.taken);
+                let taken = played.taken.count();
                 self.kept[self.standing as usize] = Kept {
                     made: TrialMove::Play(TrialPlay {
                         colour: c,
