@@ -19,13 +19,13 @@ ghost use Rattle.trial_board.specs.Trials.{Trying, Stays, Moved, IsNoted, Put, m
 use crate::captured::{MAX_CAPTURED, note, nothing_captured};
 use crate::kept::{Kept, nothing_kept};
 use crate::moves::{MAX_TRIAL_MOVES, TrialMove, TrialPlay, Tried};
-use crate::overlay::{Change, Overlay};
+use crate::overlay::Overlay;
 use go_base::ban::is_banned;
 use go_base::boundary::boundary_of;
 use go_base::capture::play_on;
 use go_base::flood::liberties_of;
 use go_base::points::PointSet;
-use go_base::size::{MAX_POINTS, Point, Size};
+use go_base::size::{Point, Size};
 use go_base::surroundings::{Surroundings, surroundings_of};
 use go_base::view::View;
 use go_base::{Cell, Colour, Look};
@@ -35,7 +35,7 @@ use std::marker::Model;
 /// position, and asks it for a point only when a string or a play needs it. A move is kept by what it took, so that
 /// taking it back puts the captured stones again; everything is kept in place, in some 6 KB, and nothing takes memory.
 pub struct Trial<L: Look> {
-    /// The view, and what the standing moves changed over it.
+    /// The view, what it told so far, and what the standing moves put over it.
     board: Overlay<L>,
     /// The ban after the newest move; before the first move the view is asked.
     ban: Option<(Point, Colour)>,
@@ -60,14 +60,7 @@ impl<L: Look> Model for Trial<L> {
     ghost view = { λ t. record { look = t.board.look; moves = newest_first t.kept t.standing; count = t.trials } };
 
     ghost invariant = { λ t.
-        IsStanding (L.seen t.board.look) t.board.changed t.ban t.kept t.row t.captured t.standing };
-}
-
-/// No point is touched.
-fn no_changes() -> [Change; MAX_POINTS]
-    ensures { result ≡ replicate largest_points Change.Untouched }
-{
-    [Change::Untouched; MAX_POINTS]
+        IsStanding (L.seen t.board.look) t.board.known t.ban t.kept t.row t.captured t.standing };
 }
 
 /// Whether a play is refused that a ban forbids, or not.
@@ -83,10 +76,7 @@ impl<L: Look> Trial<L> {
         ensures { result ≡ record { look = look; moves = []; count = 0 } }
     {
         Trial {
-            board: Overlay {
-                look,
-                changed: no_changes(),
-            },
+            board: Overlay::new(look),
             ban: None,
             kept: nothing_kept(),
             standing: 0,
@@ -109,7 +99,7 @@ impl<L: Look> Trial<L> {
             captured: _,
             trials: _,
         } = self;
-        let Overlay { look, changed: _ } = board;
+        let Overlay { look, known: _ } = board;
         look
     }
 
