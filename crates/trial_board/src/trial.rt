@@ -206,12 +206,7 @@ impl<L: Look> Trial<L> {
         requires { length self.old.moves < most_moves }
         ensures { self.new ≡ record self.old { moves = TrialMove.Pass ∷ self.old.moves } }
     {
-        self.kept[self.standing as usize] = Kept {
-            made: TrialMove::Pass,
-            ban: self.ban,
-            first: self.captured,
-            taken: 0,
-        };
+        self.kept[self.standing as usize] = Kept::new(TrialMove::Pass, self.ban, self.captured, 0);
         self.standing += 1;
         self.ban = None;
     }
@@ -228,8 +223,8 @@ impl<L: Look> Trial<L> {
         self.standing -= 1;
         let last = self.kept[self.standing as usize];
         last.take_back(&self.row, &mut self.board);
-        self.captured = last.first;
-        self.ban = last.ban;
+        self.captured = last.first();
+        self.ban = last.ban();
         true
     }
 
@@ -262,16 +257,12 @@ impl<L: Look> Trial<L> {
             Ok(played) => {
                 note(&mut self.row, self.captured, &played.taken);
                 let taken = played.taken.count();
-                self.kept[self.standing as usize] = Kept {
-                    made: TrialMove::Play(TrialPlay {
-                        colour: c,
-                        at: p,
-                        dropped,
-                    }),
-                    ban: self.ban,
-                    first: self.captured,
-                    taken,
-                };
+                let made = TrialMove::Play(TrialPlay {
+                    colour: c,
+                    at: p,
+                    dropped,
+                });
+                self.kept[self.standing as usize] = Kept::new(made, self.ban, self.captured, taken);
                 self.standing += 1;
                 self.captured += taken;
                 self.ban = played.ban;
