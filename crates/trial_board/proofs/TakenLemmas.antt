@@ -64,7 +64,8 @@ empty_before s c p row first n now none l =
 
 -- A play of c at p took the cells of a board of s rows to those of the rules, and these stones.
 module _ (s : ℕ) (old now : List Cell) (c : Colour) (p : ℕ) (taken : sets.FinSet nat_cmp)
-    (rules : now ≡ cells_after s (set old p (stone_of c)) c) (told : taken ≡ taken_at s (set old p (stone_of c)) c) where
+    (rules : now ≡ cells_after s (set old p (stone_of c)) c)
+    (told : taken ≡ taken_at s (set old p (stone_of c)) c) where
   -- the board before the play, with the stone put
   abbrev put : List Cell
   put = set old p (stone_of c)

@@ -9,7 +9,8 @@ use Rattle.trial_board.specs.declared.kept.Mover.{Mover}
 use Rattle.trial_board.specs.declared.kept.Mover.TheVariants.{Nobody, Black as by_black, White as by_white}
 use Rattle.trial_board.specs.declared.kept.Mover.TheVariants.{BlackAgainstBan, WhiteAgainstBan}
 use Rattle.trial_board.specs.declared.kept.Banned.{Banned}
-use Rattle.trial_board.specs.declared.kept.Banned.TheVariants.{Nobody as no_one, Black as bans_black, White as bans_white}
+use Rattle.trial_board.specs.declared.kept.Banned.TheVariants.{Nobody as no_one}
+use Rattle.trial_board.specs.declared.kept.Banned.TheVariants.{Black as bans_black, White as bans_white}
 use Rattle.trial_board.specs.declared.kept.Kept.TheInside.{Inside}
 
 -- a move, the ban before it, where the points of the stones that it took begin in the row, and how many they are

@@ -1,8 +1,7 @@
 //! A position with trial moves that can be taken back.
 
-ghost use Rattle.std.specs.Prelude.{◌≡◌, ℕ, ◌+◌, ◌*◌, ◌-◌, ◌^◌, ◌<◌, ◌≤◌, min, Bool, IsTrue, true, false, not, ◌&&◌, [], ◌∷◌, length, replicate};
+ghost use Rattle.std.specs.Prelude.{◌≡◌, ℕ, ◌+◌, ◌*◌, ◌-◌, ◌^◌, ◌<◌, ◌≤◌, min, Bool, IsTrue, true, false, not, ◌&&◌, [], ◌∷◌, length};
 ghost use Rattle.std.specs.FinSet as set;
-ghost use Rattle.go_rules.specs.Board.{largest_points};
 ghost use Rattle.go_rules.specs.Strings.{cell_at, liberty_points};
 ghost use Rattle.go_rules.specs.Boundary.{boundary_points};
 ghost use Rattle.go_rules.specs.Neighbourhood.{neighbourhood_of};
@@ -33,7 +32,7 @@ use std::marker::Model;
 
 /// A position with trial moves that can be taken back, GNU Go's `trymove` and `popgo`. It holds its view of the
 /// position, and asks it for a point only when a string or a play needs it. A move is kept by what it took, so that
-/// taking it back puts the captured stones again; everything is kept in place, in some 6 KB, and nothing takes memory.
+/// taking it back puts the captured stones again; everything is kept in place, in some 5 KB, and nothing takes memory.
 pub struct Trial<L: Look> {
     /// The view, what it told so far, and what the standing moves put over it.
     board: Overlay<L>,
