@@ -1,21 +1,18 @@
 -- The row of captured stones: what a play writes there, and that there is room for it.
-use Rattle.std.proofs.Common.{ltb, ◌≡◌, ◌≢◌, ℕ, zero, suc, ◌+◌, ◌<◌, ◌≤◌, ◌&&◌, ◌||◌, Bool, IsTrue, true, false, cond}
+use Rattle.std.proofs.Common.{◌≡◌, ◌≢◌, ℕ, zero, suc, ◌+◌, ◌<◌, ◌≤◌, ◌&&◌, ◌||◌, Bool, IsTrue, true, false, cond}
 use Rattle.std.proofs.Common.{eqb}
-use Rattle.std.proofs.Common.{List, length, refl, sym, ap, subst, arith, inl, inr, ◌∙◌, get_or-set_same}
+use Rattle.std.proofs.Common.{List, length, refl, sym, ap, arith, inl, inr, ◌∙◌, get_or-set_same}
 use Rattle.std.proofs.Common.{get_or-set_other}
 use Rattle.std.specs.Prelude.{slice_index_or}
 use Rattle.std.proofs.Math.ListN.{set, length-set}
-use Rattle.std.proofs.lemmas.Bool.{cases_Bool, cases_eq, eq-eqb}
+use Rattle.std.proofs.lemmas.Bool.{cases_Bool, cases_eq, cases_lt, eq-eqb, lt-ltb, le-ltb}
 use Rattle.std.specs.Ordering.{nat_cmp}
 use Rattle.std.specs.FinSet as sets
-use Rattle.go_rules.specs.Board.{largest_points}
 use Rattle.go_rules.specs.Below.{count_below, set_below}
-use Rattle.go_rules.proofs.Counts.{count_below_mono, count_below_at_most}
+use Rattle.go_rules.proofs.Counts.{count_below_mono}
 use Rattle.go_rules.proofs.Sets.{same_nat_set, contains-set_below}
 use Rattle.go_rules.proofs.Sets.{contains-insert_nat, len-set_below, set_below-hit}
-use Rattle.trial_board.specs.declared.overlay.Change.{Change}
-use Rattle.trial_board.specs.declared.overlay.Change.TheVariants.{Untouched}
-use Rattle.trial_board.specs.Captured.{points_in, is_off, off_points, is_emptied, most_captured}
+use Rattle.trial_board.specs.Captured.{points_in}
 
 -- rows that are the same at some places have the same points there
 pub points_in-same : (a b : List ℕ) (first n : ℕ)
@@ -187,91 +184,56 @@ Noted-hit {test} {first} {old} {new} {count} {n} noted room hit = record {
   before = λ i l. get_or-set_other new (first + count) i n 0 (λ e. omega arith) ∙ noted.before i l;
 }
 
--- a point was come to, with none of the test before it, and was written where it passes
-pub Noted-next : {test : ℕ → Bool} {first : ℕ} {old row : List ℕ} {count n : ℕ} (q : ℕ) (hit : Bool) (new : List ℕ)
-    (one : ℕ) → Noted test first old row count n → n ≤ q
-    → ((k : ℕ) → n ≤ k → k < q → test k ≡ false) → test q ≡ hit → (hit ≡ true → first + count < length row)
-    → new ≡ cond hit (set row (first + count) q) row → one ≡ cond hit 1 0
-    → Noted test first old new (count + one) (q + 1)
-Noted-next {test} {first} {old} {row} {count} {n} q true new one noted l none is room new_is one_is =
-    subst (λ t. Noted test first old t (count + one) (q + 1)) (sym new_is)
-    (subst (λ k. Noted test first old (set row (first + count) q) (count + k) (q + 1)) (sym one_is)
-    (Noted-hit (Noted-jump q noted l none) (room refl) is))
-Noted-next {test} {first} {old} {row} {count} {n} q false new one noted l none is room new_is one_is =
-    let same : count + one ≡ count = omega (arith, one_is) in
-    subst (λ t. Noted test first old t (count + one) (q + 1)) (sym new_is)
-    (subst (λ k. Noted test first old row k (q + 1)) (sym same)
-    (Noted-jump (q + 1) noted (omega arith)
-    (λ k i j. elim (cases_eq k q) [ inl e ↦ ap test e ∙ is | inr ne ↦ none k i (omega arith) ])))
+-- a point of the test was come to, with none before it, and was written
+pub Noted-next : {test : ℕ → Bool} {first : ℕ} {old row : List ℕ} {count n : ℕ} (q : ℕ)
+    → Noted test first old row count n → n ≤ q → ((k : ℕ) → n ≤ k → k < q → test k ≡ false) → test q ≡ true
+    → first + count < length row → Noted test first old (set row (first + count) q) (count + 1) (q + 1)
+Noted-next q noted l none hit room = Noted-hit (Noted-jump q noted l none) room hit
 
--- there is a place for a point that passes, where there are places for all below m that do
-pub Noted-room : {test : ℕ → Bool} {first : ℕ} {old row : List ℕ} {count n : ℕ} (q m places : ℕ)
-    → Noted test first old row count n → n ≤ q
-    → ((k : ℕ) → n ≤ k → k < q → test k ≡ false) → test q ≡ true → q < m
-    → first + sets.len (set_below m test) ≤ places → first + count < places
-Noted-room {test = test} {n = n} q m places noted l none hit within room =
+-- a set whose members are below n is that of the numbers below n that are its members
+pub members_below : (points : sets.FinSet nat_cmp) (n : ℕ) → ((q : ℕ) → n ≤ q → sets.contains points q ≡ false)
+    → set_below n (sets.contains points) ≡ points
+members_below points n h = same_nat_set (set_below n (sets.contains points)) points (λ q.
+    contains-set_below n (sets.contains points) q ∙ elim (cases_lt q n) [
+      | inl l ↦ ap (λ b. b && sets.contains points q) (lt-ltb q n l)
+      | inr g ↦ ap (λ b. b && sets.contains points q) (le-ltb q n g) ∙ sym (h q g)
+    ])
+
+-- there is a place for the next member, where there are places for all, which are below m
+pub Noted-room : (points : sets.FinSet nat_cmp) {first : ℕ} {old row : List ℕ} {count n : ℕ} (q m places : ℕ)
+    → Noted (sets.contains points) first old row count n → n ≤ q
+    → ((k : ℕ) → n ≤ k → k < q → sets.contains points k ≡ false) → sets.contains points q ≡ true
+    → ((r : ℕ) → IsTrue (sets.contains points r) → r < m)
+    → first + sets.len points ≤ places → first + count < places
+Noted-room points {n = n} q m places noted l none hit small room =
+    let test = sets.contains points in
+    let all : sets.len points ≡ count_below m test =
+    ap sets.len (sym (members_below points m past)) ∙ len-set_below m test in
     omega (
       arith,
       noted.counted,
       count_below-rest n q test l none,
       count_below-hit q test hit,
-      count_below-less
-          (suc q) m test within,
-      len-set_below m test,
+      count_below-less (suc q) m test (small q hit),
+      all,
     )
-
--- no more were written than there are
-pub Noted-few : {test : ℕ → Bool} {first : ℕ} {old row : List ℕ} {count n : ℕ} (m : ℕ)
-    → Noted test first old row count n → n ≤ m → count ≤ sets.len (set_below m test)
-Noted-few {test = test} {n = n} m noted l = omega (
-  arith,
-  noted.counted,
-  count_below-less n m test l,
-  len-set_below m
-      test,
-)
-
--- a point that is none of the points is not taken off
-pub off-none : (points : sets.FinSet nat_cmp) (changed : List Change) (k : ℕ) → sets.contains points k ≡ false
-    → is_off points changed k ≡ false
-off-none points changed k none = ap (λ b. b && is_emptied (slice_index_or changed k Untouched)) none
-
--- one of the points is taken off where it was emptied
-pub off-is : (points : sets.FinSet nat_cmp) (changed : List Change) (q : ℕ) → sets.contains points q ≡ true
-    → is_off points changed q ≡ is_emptied (slice_index_or changed q Untouched)
-off-is points changed q is = ap (λ b. b && is_emptied (slice_index_or changed q Untouched)) is
-
--- there is a place for the next of the points that were emptied
-pub off-place : (points : sets.FinSet nat_cmp) (changed : List Change) {first : ℕ} {old row : List ℕ} {count n : ℕ}
-    (q : ℕ) → Noted (is_off points changed) first old row count n → n ≤ q
-    → ((k : ℕ) → n ≤ k → k < q → sets.contains points k ≡ false) → sets.contains points q ≡ true → q < largest_points
-    → first + sets.len (off_points points changed) ≤ most_captured → length old ≡ most_captured
-    → is_emptied (slice_index_or changed q Untouched) ≡ true → first + count < length row
-off-place points changed q noted l none is small room whole emptied =
-    let place = Noted-room q largest_points most_captured noted l (λ k i j. off-none points changed k (none k i j))
-    (off-is points changed q is ∙ emptied) small room in
-    omega (arith, place, noted.whole, whole)
-
--- of no points none were emptied
-pub off_empty : (points : sets.FinSet nat_cmp) (changed : List Change) → sets.len points ≡ 0
-    → sets.empty ≡ off_points points changed
-off_empty points changed none = same_nat_set sets.empty (off_points points changed) (λ q.
-    let not_in : sets.contains points q ≡ false =
-    ap (λ t. sets.contains t q) (sets.empty_of_len points none) ∙ sets.contains-empty nat_cmp q in
-    sets.contains-empty nat_cmp q
-    ∙ sym (contains-set_below largest_points (is_off points changed) q ∙ ap (λ b. ltb q largest_points && b)
-    (off-none points changed q not_in)
-    ∙ and_false (ltb q largest_points)))
   where
-    and_false : (b : Bool) → (b && false) ≡ false
-    and_false true = refl
-    and_false false = refl
+    past : (r : ℕ) → m ≤ r → sets.contains points r ≡ false
+    past r g = elim (cases_Bool (sets.contains points r)) [
+      | inl t ↦ absurd (let h = small r t in omega (arith, h, g))
+      | inr f ↦ f
+    ]
 
--- no more numbers pass than there are
-pub len_at_most : (n : ℕ) (test : ℕ → Bool) → sets.len (set_below n test) ≤ n
-len_at_most n test = omega (arith, len-set_below n test, count_below_at_most n test)
+-- where no member is left, as many were written as there are
+pub Noted-all : (points : sets.FinSet nat_cmp) {first : ℕ} {old row : List ℕ} {count n : ℕ}
+    → Noted (sets.contains points) first old row count n → ((k : ℕ) → n ≤ k → sets.contains points k ≡ false)
+    → points_in row first (sets.len points) ≡ points
+Noted-all points {first = first} {row = row} {n = n} noted none =
+    let whole = members_below points n none in
+    ap (points_in row first) (ap sets.len (sym whole) ∙ len-set_below n (sets.contains points) ∙ sym noted.counted)
+    ∙ noted.points ∙ whole
 
--- a test counts for one at most
-pub at_most_one : (b : Bool) → cond b 1 0 ≤ 1
-at_most_one true = omega arith
-at_most_one false = omega arith
+-- a row has the points of an empty set in no place
+pub points_in-none : (row : List ℕ) (first : ℕ) (points : sets.FinSet nat_cmp) → sets.len points ≡ 0
+    → points_in row first (sets.len points) ≡ points
+points_in-none row first points none = ap (points_in row first) none ∙ sym (sets.empty_of_len points none)

@@ -1,8 +1,7 @@
 //! A position with trial moves that can be taken back.
 
-ghost use Rattle.std.specs.Prelude.{◌≡◌, ℕ, ◌+◌, ◌*◌, ◌-◌, ◌^◌, ◌<◌, ◌≤◌, min, Bool, IsTrue, true, false, not, ◌&&◌, [], ◌∷◌, length, replicate};
+ghost use Rattle.std.specs.Prelude.{◌≡◌, ℕ, ◌+◌, ◌*◌, ◌-◌, ◌^◌, ◌<◌, ◌≤◌, min, Bool, IsTrue, true, false, not, ◌&&◌, [], ◌∷◌, length};
 ghost use Rattle.std.specs.FinSet as set;
-ghost use Rattle.go_rules.specs.Board.{largest_points};
 ghost use Rattle.go_rules.specs.Strings.{cell_at, liberty_points};
 ghost use Rattle.go_rules.specs.Boundary.{boundary_points};
 ghost use Rattle.go_rules.specs.Neighbourhood.{neighbourhood_of};
@@ -19,13 +18,13 @@ ghost use Rattle.trial_board.specs.Trials.{Trying, Stays, Moved, IsNoted, Put, m
 use crate::captured::{MAX_CAPTURED, note, nothing_captured};
 use crate::kept::{Kept, nothing_kept};
 use crate::moves::{MAX_TRIAL_MOVES, TrialMove, TrialPlay, Tried};
-use crate::overlay::{Change, Overlay};
+use crate::overlay::Overlay;
 use go_base::ban::is_banned;
 use go_base::boundary::boundary_of;
 use go_base::capture::play_on;
 use go_base::flood::liberties_of;
 use go_base::points::PointSet;
-use go_base::size::{MAX_POINTS, Point, Size};
+use go_base::size::{Point, Size};
 use go_base::surroundings::{Surroundings, surroundings_of};
 use go_base::view::View;
 use go_base::{Cell, Colour, Look};
@@ -33,9 +32,9 @@ use std::marker::Model;
 
 /// A position with trial moves that can be taken back, GNU Go's `trymove` and `popgo`. It holds its view of the
 /// position, and asks it for a point only when a string or a play needs it. A move is kept by what it took, so that
-/// taking it back puts the captured stones again; everything is kept in place, in some 6 KB, and nothing takes memory.
+/// taking it back puts the captured stones again; everything is kept in place, in some 5 KB, and nothing takes memory.
 pub struct Trial<L: Look> {
-    /// The view, and what the standing moves changed over it.
+    /// The view, what it told so far, and what the standing moves put over it.
     board: Overlay<L>,
     /// The ban after the newest move; before the first move the view is asked.
     ban: Option<(Point, Colour)>,
@@ -60,14 +59,7 @@ impl<L: Look> Model for Trial<L> {
     ghost view = { λ t. record { look = t.board.look; moves = newest_first t.kept t.standing; count = t.trials } };
 
     ghost invariant = { λ t.
-        IsStanding (L.seen t.board.look) t.board.changed t.ban t.kept t.row t.captured t.standing };
-}
-
-/// No point is touched.
-fn no_changes() -> [Change; MAX_POINTS]
-    ensures { result ≡ replicate largest_points Change.Untouched }
-{
-    [Change::Untouched; MAX_POINTS]
+        IsStanding (L.seen t.board.look) t.board.known t.ban t.kept t.row t.captured t.standing };
 }
 
 /// Whether a play is refused that a ban forbids, or not.
@@ -83,10 +75,7 @@ impl<L: Look> Trial<L> {
         ensures { result ≡ record { look = look; moves = []; count = 0 } }
     {
         Trial {
-            board: Overlay {
-                look,
-                changed: no_changes(),
-            },
+            board: Overlay::new(look),
             ban: None,
             kept: nothing_kept(),
             standing: 0,
@@ -109,7 +98,7 @@ impl<L: Look> Trial<L> {
             captured: _,
             trials: _,
         } = self;
-        let Overlay { look, changed: _ } = board;
+        let Overlay { look, known: _ } = board;
         look
     }
 
@@ -216,12 +205,7 @@ impl<L: Look> Trial<L> {
         requires { length self.old.moves < most_moves }
         ensures { self.new ≡ record self.old { moves = TrialMove.Pass ∷ self.old.moves } }
     {
-        self.kept[self.standing as usize] = Kept {
-            made: TrialMove::Pass,
-            ban: self.ban,
-            first: self.captured,
-            taken: 0,
-        };
+        self.kept[self.standing as usize] = Kept::new(TrialMove::Pass, self.ban, self.captured, 0);
         self.standing += 1;
         self.ban = None;
     }
@@ -238,8 +222,8 @@ impl<L: Look> Trial<L> {
         self.standing -= 1;
         let last = self.kept[self.standing as usize];
         last.take_back(&self.row, &mut self.board);
-        self.captured = last.first;
-        self.ban = last.ban;
+        self.captured = last.first();
+        self.ban = last.ban();
         true
     }
 
@@ -270,22 +254,14 @@ impl<L: Look> Trial<L> {
     {
         match play_on(&mut self.board, c, p) {
             Ok(played) => {
-                let taken = note(
-                    &mut self.row,
-                    self.captured,
-                    &played.taken,
-                    &self.board.changed,
-                );
-                self.kept[self.standing as usize] = Kept {
-                    made: TrialMove::Play(TrialPlay {
-                        colour: c,
-                        at: p,
-                        dropped,
-                    }),
-                    ban: self.ban,
-                    first: self.captured,
-                    taken,
-                };
+                note(&mut self.row, self.captured, &played.taken);
+                let taken = played.taken.count();
+                let made = TrialMove::Play(TrialPlay {
+                    colour: c,
+                    at: p,
+                    dropped,
+                });
+                self.kept[self.standing as usize] = Kept::new(made, self.ban, self.captured, taken);
                 self.standing += 1;
                 self.captured += taken;
                 self.ban = played.ban;
