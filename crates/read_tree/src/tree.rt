@@ -20,7 +20,7 @@ ghost use Rattle.read_tree.specs.Steps.{IsTaken, is_safe, tail_if, Makes, has_wa
 
 use crate::allowances::Allowances;
 use crate::apart::{all_but, apart_from, copy_of};
-use crate::order::{last_reply, next_to_try};
+use crate::order::{TryOrder, last_reply, next_to_try};
 use crate::turn::Turn;
 use go_base::points::PointSet;
 use go_base::{Cell, Colour, Look, Point};
@@ -330,10 +330,10 @@ fn some_of<L: Look>(
         → IsTrue (is_candidate (after pos board.old.moves) turn.target turn.wide p))
         → AddsNear (L.seen board.old.look) (L.seen board.new.look) (InActiveArea q root) }
 {
-    let first = *reply;
+    let mut order = TryOrder::beginning_with(*reply);
     let mut missing = asked;
     let mut tried = PointSet::new();
-    while let Some(p) = next_to_try(board, points, &tried, known, first) {
+    while let Some(p) = next_to_try(board, points, &tried, known, &mut order) {
         let good = succeeds(board, turn, p, plies, missing, known, reply);
         missing = missing.without(good);
         if !missing.has_some() {
