@@ -52,6 +52,13 @@ fn outlasts(attacker: bool, plies: u8, wide: u8, liberties: u16) -> bool
     }
 }
 
+/// Whether the target has too many liberties to be captured, with `plies` plies left; its liberties are handed in.
+pub fn has_too_many(turn: Turn, plies: u8, known: &PointSet) -> bool
+    ensures { result ≡ outlasts turn.attacker_to_play plies turn.wide (set.len known.now) }
+{
+    outlasts(turn.attacker_to_play, plies, turn.wide, known.count())
+}
+
 /// The cell of a stone of the colour.
 fn stone_of(colour: Colour) -> Cell
     ensures { result ≡ stone_of colour }
@@ -110,29 +117,13 @@ fn outlook_of<L: Look>(board: &mut Trial<L>, turn: Turn, plies: u8, known: &Poin
         → AddsIn (L.seen board.old.look) (L.seen board.new.look)
         (neighbourhood_of pos.size (after pos board.old.moves).cells (alone turn.target)) }
 {
-    if outlasts(turn.attacker_to_play, plies, turn.wide, known.count()) {
+    if has_too_many(turn, plies, known) {
         return Outlook::Safe;
     }
     if can_take(board, turn, known) {
         return Outlook::Taken;
     }
     Outlook::Open
-}
-
-/// Whether the target has too many liberties to be captured, with `plies` plies left.
-pub fn has_too_many<L: Look>(board: &mut Trial<L>, turn: Turn, plies: u8) -> bool
-    requires { turn.target < (L.shows board.old.look).size * (L.shows board.old.look).size }
-    ensures stays { Stays L.shows L.seen board.old board.new }
-    ensures count { board.new.count ≡ board.old.count }
-    ensures over { (pos : BoardState) → Agrees (L.seen board.new.look) pos
-        → result ≡ outlasts turn.attacker_to_play plies turn.wide
-        (liberties pos.size (after pos board.old.moves).cells turn.target) }
-    ensures near { (pos : BoardState) → Agrees (L.seen board.new.look) pos
-        → AddsIn (L.seen board.old.look) (L.seen board.new.look)
-        (neighbourhood_of pos.size (after pos board.old.moves).cells (alone turn.target)) }
-{
-    let liberties = board.liberties(turn.target).count();
-    outlasts(turn.attacker_to_play, plies, turn.wide, liberties)
 }
 
 /// What comes of a play at a node.
@@ -186,7 +177,6 @@ fn liberties_after<L: Look>(
     known: &PointSet,
 ) -> Option<PointSet>
     requires target { turn.target < (L.shows board.old.look).size * (L.shows board.old.look).size }
-    requires on_board { p < (L.shows board.old.look).size * (L.shows board.old.look).size }
     ensures stays { Stays L.shows L.seen board.old board.new }
     ensures over { (pos : BoardState) → Agrees (L.seen board.new.look) pos
         → IfSome result (IsCarried turn (after pos board.old.moves) p known.now) }
@@ -195,7 +185,6 @@ fn liberties_after<L: Look>(
     if !turn.attacker_to_play || board.cell(turn.target) != stone_of(turn.defender) {
         return None;
     }
-    let _ = board.size().points();
     Some(all_but(known, p))
 }
 
