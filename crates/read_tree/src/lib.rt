@@ -10,6 +10,7 @@
 
 pub mod allowances;
 mod apart;
+mod candidates;
 pub mod laws;
 mod order;
 pub mod reading;

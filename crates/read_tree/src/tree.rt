@@ -19,12 +19,12 @@ ghost use Rattle.read_rules.specs.GoodMoves.{good_move};
 ghost use Rattle.read_tree.specs.Steps.{IsTaken, is_safe, tail_if, Makes, has_way, AreNodesOf, TellsBy, is_off_liberties, IsCarried};
 
 use crate::allowances::Allowances;
-use crate::apart::{all_but, apart_from, copy_of};
+use crate::apart::{all_but, copy_of};
+use crate::candidates::{captures_of, others_of};
 use crate::order::{TryOrder, last_reply, next_to_try};
 use crate::turn::Turn;
 use go_base::points::PointSet;
 use go_base::{Cell, Colour, Look, Point};
-use read_moves::candidates;
 use trial_board::{Trial, Tried};
 
 /// How many liberties a target may have that is captured with so many wide plies left.
@@ -343,8 +343,8 @@ fn leaves_too_many(turn: Turn, plies: u8, liberties: u16) -> bool
 }
 
 /// Those of the asked under which a candidate off the liberties of the target gives the side to play its way, with
-/// `plies` plies left after it. The candidates are found only here, and not at all where such an attacker's play leaves
-/// too many liberties.
+/// `plies` plies left after it: none where such an attacker's play leaves too many liberties. The captures are found
+/// only here, and the wide candidates only where these leave something.
 #[cycle(read)]
 fn some_other<L: Look>(
     board: &mut Trial<L>,
@@ -371,9 +371,18 @@ fn some_other<L: Look>(
     if leaves_too_many(turn, plies, known.count()) {
         return Allowances::none();
     }
-    let candidates = candidates(board, turn.target, turn.wide);
-    let others = apart_from(&candidates, known);
-    some_of(board, turn, plies, asked, &others, known, reply)
+    let captures = captures_of(board, turn.target, known);
+    let good = some_of(board, turn, plies, asked, &captures, known, reply);
+    if turn.wide == 0 {
+        return good;
+    }
+    let missing = asked.without(good);
+    if !missing.has_some() {
+        return good;
+    }
+    let others = others_of(board, turn.target, known, &captures);
+    let rest = some_of(board, turn, plies, missing, &others, known, reply);
+    asked.without(missing.without(rest))
 }
 
 /// Those of the asked under which some candidate gives the side to play its way, with `plies` plies left after it. The
