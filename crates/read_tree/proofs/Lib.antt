@@ -6,3 +6,4 @@ pub mod TakeLemmas
 pub mod StageLemmas
 pub mod CarryLemmas
 pub mod OrderLemmas
+pub mod AtariLemmas

@@ -55,7 +55,7 @@ count_but_one (suc n) a b p h = elim (cases_eq n p) [
     step false false i j m h = omega arith
 
 -- liberties that stay but for one, and that all stay
-counts_but_one : (s : ℕ) (cells after : List Cell) (t p : ℕ) → t < s * s
+pub counts_but_one : (s : ℕ) (cells after : List Cell) (t p : ℕ) → t < s * s
     → ((l : ℕ) → IsLiberty s cells t l → l ≢ p → IsLiberty s after t l) → liberties s cells t ≤ liberties s after t + 1
 unfolding liberties
 counts_but_one s cells after t p on h =

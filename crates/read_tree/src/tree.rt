@@ -16,7 +16,7 @@ ghost use Rattle.read_tree.specs.Bound.{most_by_wide, outlasts};
 ghost use Rattle.read_rules.specs.GameTree.{is_captured, attacker_wins, succeeds, first_success, pass_saves};
 ghost use Rattle.read_tree.specs.Allowances.{Ko, under, next_turn, has_some, without, Tells};
 ghost use Rattle.read_rules.specs.GoodMoves.{good_move};
-ghost use Rattle.read_tree.specs.Steps.{IsTaken, is_safe, tail_if, Makes, has_way, AreNodesOf, TellsBy, is_off_liberties, IsCarried};
+ghost use Rattle.read_tree.specs.Steps.{IsTaken, IsInAtari, is_safe, tail_if, Makes, has_way, AreNodesOf, TellsBy, is_off_liberties, IsCarried};
 
 use crate::allowances::Allowances;
 use crate::apart::{all_but, copy_of};
@@ -26,6 +26,9 @@ use crate::turn::Turn;
 use go_base::points::PointSet;
 use go_base::{Cell, Colour, Look, Point};
 use trial_board::{Trial, Tried};
+
+/// How many liberties a string in atari has.
+const IN_ATARI: u16 = 1;
 
 /// How many liberties a target may have that is captured with so many wide plies left.
 fn most_by_wide(wide: u8) -> u16
@@ -89,6 +92,23 @@ fn can_take<L: Look>(board: &mut Trial<L>, turn: Turn, liberties: &PointSet) -> 
         Some(l) => liberties.first_from(l + 1).is_none() && !board.bans(turn.mover(), l),
         None => false,
     }
+}
+
+/// Whether it is the defender's turn, the target is his and in atari, and a ply is left after his move. Then the
+/// attacker takes it, unless the defender plays at its liberty or takes an enemy string next to it.
+fn is_in_atari<L: Look>(board: &mut Trial<L>, turn: Turn, plies: u8, known: &PointSet) -> bool
+    requires target { turn.target < (L.shows board.old.look).size * (L.shows board.old.look).size }
+    requires liberties { (pos : BoardState) → Agrees (L.seen board.old.look) pos
+        → known.now ≡ liberty_points pos.size (after pos board.old.moves).cells turn.target }
+    ensures stays { Stays L.shows L.seen board.old board.new }
+    ensures over { (pos : BoardState) → Agrees (L.seen board.new.look) pos → result ≡ true
+        → IsInAtari plies turn (after pos board.old.moves) }
+    ensures near { AddsIn (L.seen board.old.look) (L.seen board.new.look) (alone turn.target) }
+{
+    if turn.attacker_to_play || plies == 0 || known.count() != IN_ATARI {
+        return false;
+    }
+    board.cell(turn.target) == stone_of(turn.defender)
 }
 
 /// What is known of a node by the target's liberties alone.
@@ -344,7 +364,7 @@ fn leaves_too_many(turn: Turn, plies: u8, liberties: u16) -> bool
 
 /// Those of the asked under which a candidate off the liberties of the target gives the side to play its way, with
 /// `plies` plies left after it: none where such an attacker's play leaves too many liberties. The captures are found
-/// only here, and the wide candidates only where these leave something.
+/// only here, and the wide candidates only where these leave something; they do not save a target in atari.
 #[cycle(read)]
 fn some_other<L: Look>(
     board: &mut Trial<L>,
@@ -378,6 +398,9 @@ fn some_other<L: Look>(
     }
     let missing = asked.without(good);
     if !missing.has_some() {
+        return good;
+    }
+    if is_in_atari(board, turn, plies, known) {
         return good;
     }
     let others = others_of(board, turn.target, known, &captures);
@@ -418,7 +441,8 @@ fn some_success<L: Look>(
     asked.without(missing.without(rest))
 }
 
-/// Those of the asked under which the defender's pass saves the target, with `plies` plies left after it.
+/// Those of the asked under which the defender's pass saves the target, with `plies` plies left after it: none where it
+/// is in atari.
 #[cycle(read)]
 pub fn pass_saves<L: Look>(
     board: &mut Trial<L>,
@@ -442,6 +466,9 @@ pub fn pass_saves<L: Look>(
         → is_captured (after pos board.old.moves) turn.target ≡ false
         → AddsNear (L.seen board.old.look) (L.seen board.new.look) (InActiveArea q root) }
 {
+    if is_in_atari(board, turn, plies, known) {
+        return Allowances::none();
+    }
     board.pass();
     let good = has_way(board, turn, plies, asked, Some(copy_of(known)), reply);
     board.back();

@@ -22,10 +22,11 @@ use Rattle.read_rules.specs.GoodMoves.{good_move}
 use Rattle.read_tree.specs.Steps.{AreNodesOf, is_off_liberties}
 use Rattle.read_rules.specs.GameTree.{has_many_liberties, attacker_wins, child_of, succeeds, first_success}
 use Rattle.read_tree.proofs.AllowanceLemmas.{some_of, suits_child, suits_none, Tells-same, Tells-own, Tells-good, Tells-attackers, Tells-all, Tells-none, good_attacker, neither_nodes, pass_nodes, fewer_nodes, without_less, left_first, left_next}
-use Rattle.read_tree.proofs.StageLemmas.{by_done, by_over, by_none, by_same, by_enough, by_both, stage_done, stage_over, none_other, nothing_near, liberty_is_candidate, capture_is_candidate, capture_is_off, other_is_candidate, off_by_stages, off_by_captures, captures_near, its_liberty, its_count, known_inside}
+use Rattle.read_tree.proofs.StageLemmas.{by_done, by_over, by_none, by_same, by_more, by_enough, by_both, stage_done, stage_over, none_other, nothing_near, liberty_is_candidate, capture_is_candidate, capture_is_off, other_is_candidate, off_by_stages, off_by_captures, captures_near, its_liberty, its_count, known_inside}
 use Rattle.read_tree.proofs.OrderLemmas.{none_tried, newest_or_before, fewer_left, none_left, order_near}
 use Rattle.read_tree.proofs.LibertyLemmas.{bounded_at, undecided_at}
 use Rattle.read_moves.proofs.AfterPlays.{whole_after}
+use Rattle.read_tree.proofs.AtariLemmas.{pass_fails, atari_fails}
 use Rattle.read_tree.proofs.TakeLemmas.{take_wins}
 use Rattle.read_tree.proofs.CarryLemmas.{carries, made_free}
 use Rattle.read_rules.proofs.AreaLemmas.{AddsNear-in, AddsNear-trans, AddsNear-mono, area_target, area_once, area_candidates, area_play, pred_tree, undecided_defender, target_on}
@@ -207,24 +208,53 @@ succeeds-returns-in-Allowed-clause-near g t c = λ pos a q root tree und candida
       | inr i ↦ i
     ]))))
 
--- after the pass
-pub pass_saves-returns-clause-near : goal.pass_saves-returns-clause-near
-pass_saves-returns-clause-near g t c = λ pos a q root tree stands.
-    let a2 = rw c.back.ensures.moves at a in
-    let a0 = rw c.pass.ensures at (agrees_before c.has_way-good.ensures.stays.grows a2) in
+-- a target in atari is not saved by the pass
+pub pass_saves-returns-then-is_in_atari-clause-over : goal.pass_saves-returns-then-is_in_atari-clause-over
+pass_saves-returns-then-is_in_atari-clause-over g t c = λ pos a.
+    let here = after pos c.args.board.now.moves in
+    let turn = c.args.turn in
+    let a0 = agrees_before c.is_in_atari.ensures.stays.grows a in
+    let inside = target_on here.size pos.size turn.target (size-after pos c.args.board.now.moves)
+    (target_on pos.size (g.L.Look.shows c.args.board.now.look).size turn.target
+    (same_size (g.met.L.Look.sized c.args.board.now.look) a0) c.requires.target) in
+    rw c.none.ensures (Tells-none c.args.asked _
+    (pass_fails c.args.plies turn here inside (c.is_in_atari.ensures.over pos a c.if-is_in_atari.true)))
+
+-- the target's point lies in the active area
+pub pass_saves-returns-then-is_in_atari-clause-near : goal.pass_saves-returns-then-is_in_atari-clause-near
+pass_saves-returns-then-is_in_atari-clause-near g t c = λ pos a q root tree stands.
+    let a0 = agrees_before c.is_in_atari.ensures.stays.grows a in
     let here = after pos c.args.board.now.moves in
     let turn = c.args.turn in
     let one = some_of c.args.asked c.requires.some in
     let inside = target_on pos.size (g.L.Look.shows c.args.board.now.look).size turn.target
     (same_size (g.met.L.Look.sized c.args.board.now.look) a0) c.requires.target in
-    let passed = rw c.pass.ensures at (c.has_way-good.ensures.near pos a2 q root) in
-    rw c.back.ensures.moves (AddsNear-mono (λ p. (p ≡ turn.target)
+    AddsNear-in (InActiveArea q root) c.is_in_atari.ensures.near
+    (λ p h. area_target q root here (suc c.args.plies) (under turn one.0) (tree.each one.0 one.1) pos.size
+    (size-after pos c.args.board.now.moves) inside stands p (eqb-true p turn.target h))
+
+-- after the pass
+pub pass_saves-returns-clause-near : goal.pass_saves-returns-clause-near
+pass_saves-returns-clause-near g t c = λ pos a q root tree stands.
+    let a2 = rw c.back.ensures.moves at a in
+    let a1 = rw c.pass.ensures at (agrees_before c.has_way-good.ensures.stays.grows a2) in
+    let a0 = agrees_before c.is_in_atari.ensures.stays.grows a1 in
+    let here = after pos c.args.board.now.moves in
+    let turn = c.args.turn in
+    let one = some_of c.args.asked c.requires.some in
+    let inside = target_on pos.size (g.L.Look.shows c.args.board.now.look).size turn.target
+    (same_size (g.met.L.Look.sized c.args.board.now.look) a0) c.requires.target in
+    let passed = rw (c.pass.ensures, c.is_in_atari.ensures.stays.moves) at (c.has_way-good.ensures.near pos a2 q root) in
+    rw c.back.ensures.moves (AddsNear-trans (AddsNear-in (InActiveArea q root) c.is_in_atari.ensures.near
+    (λ p h. area_target q root here (suc c.args.plies) (under turn one.0) (tree.each one.0 one.1) pos.size
+    (size-after pos c.args.board.now.moves) inside stands p (eqb-true p turn.target h)))
+    (AddsNear-mono (λ p. (p ≡ turn.target)
     ⊎ InActiveArea q root p) (InActiveArea q root) (passed (pass_nodes tree stands c.requires.defender))
     (λ p h. elim h [
       | inl e ↦ area_target q root here (suc c.args.plies) (under turn one.0)
           (tree.each one.0 one.1) pos.size (size-after pos c.args.board.now.moves) inside stands p e
       | inr i ↦ i
-    ]))
+    ])))
 
 -- the points of the set are on the board
 pub some_of-next_to_try-requires : goal.some_of-next_to_try-requires
@@ -392,8 +422,10 @@ some_other-some_of-good-requires g t c κs within =
 -- what the captures are is still known once they were tried
 pub some_other-others_of-others-requires-clause-captures : goal.some_other-others_of-others-requires-clause-captures
 some_other-others_of-others-requires-clause-captures g t c = λ pos a p.
-    rw (c.some_of-good.ensures.stays.moves ∙ c.captures_of-captures.ensures.stays.moves)
-    (c.captures_of-captures.ensures.over pos (agrees_before c.some_of-good.ensures.stays.grows a) p)
+    rw (c.is_in_atari.ensures.stays.moves ∙ c.some_of-good.ensures.stays.moves
+    ∙ c.captures_of-captures.ensures.stays.moves)
+    (c.captures_of-captures.ensures.over pos (agrees_before c.some_of-good.ensures.stays.grows
+    (agrees_before c.is_in_atari.ensures.stays.grows a)) p)
 
 -- the other candidates are on the board
 pub some_other-some_of-rest-requires : goal.some_other-some_of-rest-requires
@@ -402,8 +434,10 @@ some_other-some_of-rest-requires g t c κs within =
     let here = after shown c.args.board.now.moves in
     let turn = c.args.turn in
     let others = c.others_of-others.ensures in
-    let same = others.stays.shown ∙ c.some_of-good.ensures.stays.shown ∙ c.captures_of-captures.ensures.stays.shown in
-    let before = c.some_of-good.ensures.stays.moves ∙ c.captures_of-captures.ensures.stays.moves in
+    let same = others.stays.shown ∙ c.is_in_atari.ensures.stays.shown ∙ c.some_of-good.ensures.stays.shown
+    ∙ c.captures_of-captures.ensures.stays.shown in
+    let before = c.is_in_atari.ensures.stays.moves ∙ c.some_of-good.ensures.stays.moves
+    ∙ c.captures_of-captures.ensures.stays.moves in
     let still : (p : ℕ) → p < shown.size * shown.size
     → p < (g.L.Look.shows c.others_of-others.new.board.look).size *
     (g.L.Look.shows c.others_of-others.new.board.look).size =
@@ -421,7 +455,8 @@ some_other-some_of-rest-requires g t c κs within =
     let liberties : (pos : BoardState) → Agrees (g.L.Look.seen c.others_of-others.new.board.look) pos
     → c.args.known.now ≡ liberty_points pos.size (after pos c.others_of-others.new.board.moves).cells turn.target =
     λ pos a. rw moves (c.requires.liberties pos (agrees_before c.captures_of-captures.ensures.stays.grows
-    (agrees_before c.some_of-good.ensures.stays.grows (agrees_before others.stays.grows a)))) in
+    (agrees_before c.some_of-good.ensures.stays.grows (agrees_before c.is_in_atari.ensures.stays.grows
+    (agrees_before others.stays.grows a))))) in
     search rules
 
 -- too many liberties would be left
@@ -465,15 +500,37 @@ some_other-returns-then-not-has_some-clause-over g t c = λ pos a.
     (λ q h. capture_is_off turn here q (sym (c.captures_of-captures.ensures.over pos a1 q) ∙ h))
     (sym (c.has_some.ensures ∙ ap has_some c.without-missing.ensures) ∙ c.if-not-has_some.true)
 
+-- a target in atari is saved by no others
+pub some_other-returns-then-is_in_atari-clause-over : goal.some_other-returns-then-is_in_atari-clause-over
+some_other-returns-then-is_in_atari-clause-over g t c = λ pos a.
+    let a2 = agrees_before c.is_in_atari.ensures.stays.grows a in
+    let a1 = agrees_before c.some_of-good.ensures.stays.grows a2 in
+    let a0 = agrees_before c.captures_of-captures.ensures.stays.grows a1 in
+    let here = after pos c.args.board.now.moves in
+    let turn = c.args.turn in
+    let inside = target_on here.size pos.size turn.target (size-after pos c.args.board.now.moves)
+    (target_on pos.size (g.L.Look.shows c.args.board.now.look).size turn.target
+    (same_size (g.met.L.Look.sized c.args.board.now.look) a0) c.requires.target) in
+    let atari = rw (c.some_of-good.ensures.stays.moves ∙ c.captures_of-captures.ensures.stays.moves) at
+    (c.is_in_atari.ensures.over pos a c.if-is_in_atari.true) in
+    let its = c.captures_of-captures.ensures.over pos a1 in
+    by_more c.args.plies turn here (set.contains c.captures_of-captures.result) (is_off_liberties turn here)
+    c.args.asked c.some_of-good.result
+    (rw c.captures_of-captures.ensures.stays.moves at (c.some_of-good.ensures.over pos a2))
+    (λ q h. capture_is_off turn here q (sym (its q) ∙ h))
+    (λ ko q off none. atari_fails c.args.plies turn here inside atari ko q off (sym (its q) ∙ none))
+
 -- what the captures left is asked of the others
 pub some_other-returns-clause-over : goal.some_other-returns-clause-over
 some_other-returns-clause-over g t c = λ pos a.
     let a3 = agrees_before c.some_of-rest.ensures.stays.grows a in
-    let a2 = agrees_before c.others_of-others.ensures.stays.grows a3 in
+    let a4 = agrees_before c.others_of-others.ensures.stays.grows a3 in
+    let a2 = agrees_before c.is_in_atari.ensures.stays.grows a4 in
     let a1 = agrees_before c.some_of-good.ensures.stays.grows a2 in
     let here = after pos c.args.board.now.moves in
     let turn = c.args.turn in
-    let before = c.some_of-good.ensures.stays.moves ∙ c.captures_of-captures.ensures.stays.moves in
+    let before = c.is_in_atari.ensures.stays.moves ∙ c.some_of-good.ensures.stays.moves
+    ∙ c.captures_of-captures.ensures.stays.moves in
     let moves = c.others_of-others.ensures.stays.moves ∙ before in
     rw (c.without-2.ensures, c.without.ensures, c.without-missing.ensures)
     (by_both c.args.plies turn here (set.contains c.captures_of-captures.result) (is_off_liberties turn here)
@@ -518,11 +575,10 @@ some_other-returns-then-not-has_some-clause-near g t c = λ pos a q root tree un
     ((rw c.captures_of-captures.ensures.stays.moves at (c.some_of-good.ensures.near pos a q root)) tree und
     (λ p h. capture_is_candidate turn here p (sym (c.captures_of-captures.ensures.over pos a1 p) ∙ h)))
 
--- and so do the looks for the others and at their plays
-pub some_other-returns-clause-near : goal.some_other-returns-clause-near
-some_other-returns-clause-near g t c = λ pos a q root tree und.
-    let a3 = agrees_before c.some_of-rest.ensures.stays.grows a in
-    let a2 = agrees_before c.others_of-others.ensures.stays.grows a3 in
+-- the target's point, by which an atari is told, lies there
+pub some_other-returns-then-is_in_atari-clause-near : goal.some_other-returns-then-is_in_atari-clause-near
+some_other-returns-then-is_in_atari-clause-near g t c = λ pos a q root tree und.
+    let a2 = agrees_before c.is_in_atari.ensures.stays.grows a in
     let a1 = agrees_before c.some_of-good.ensures.stays.grows a2 in
     let a0 = agrees_before c.captures_of-captures.ensures.stays.grows a1 in
     let here = after pos c.args.board.now.moves in
@@ -530,7 +586,30 @@ some_other-returns-clause-near g t c = λ pos a q root tree und.
     let one = some_of c.args.asked c.requires.some in
     let inside = target_on pos.size (g.L.Look.shows c.args.board.now.look).size turn.target
     (same_size (g.met.L.Look.sized c.args.board.now.look) a0) c.requires.target in
-    let before = c.some_of-good.ensures.stays.moves ∙ c.captures_of-captures.ensures.stays.moves in
+    AddsNear-trans (AddsNear-trans (AddsNear-in (InActiveArea q root) (c.captures_of-captures.ensures.near pos a1)
+    (captures_near q root here (suc c.args.plies) (under turn one.0) (tree.each one.0 one.1) pos.size
+    (size-after pos c.args.board.now.moves) inside (und one.0).stands))
+    ((rw c.captures_of-captures.ensures.stays.moves at (c.some_of-good.ensures.near pos a2 q root)) tree und
+    (λ p h. capture_is_candidate turn here p (sym (c.captures_of-captures.ensures.over pos a1 p) ∙ h))))
+    (AddsNear-in (InActiveArea q root) c.is_in_atari.ensures.near
+    (λ p h. area_target q root here (suc c.args.plies) (under turn one.0) (tree.each one.0 one.1) pos.size
+    (size-after pos c.args.board.now.moves) inside (und one.0).stands p (eqb-true p turn.target h)))
+
+-- and so do the looks for the others and at their plays
+pub some_other-returns-clause-near : goal.some_other-returns-clause-near
+some_other-returns-clause-near g t c = λ pos a q root tree und.
+    let a3 = agrees_before c.some_of-rest.ensures.stays.grows a in
+    let a4 = agrees_before c.others_of-others.ensures.stays.grows a3 in
+    let a2 = agrees_before c.is_in_atari.ensures.stays.grows a4 in
+    let a1 = agrees_before c.some_of-good.ensures.stays.grows a2 in
+    let a0 = agrees_before c.captures_of-captures.ensures.stays.grows a1 in
+    let here = after pos c.args.board.now.moves in
+    let turn = c.args.turn in
+    let one = some_of c.args.asked c.requires.some in
+    let inside = target_on pos.size (g.L.Look.shows c.args.board.now.look).size turn.target
+    (same_size (g.met.L.Look.sized c.args.board.now.look) a0) c.requires.target in
+    let before = c.is_in_atari.ensures.stays.moves ∙ c.some_of-good.ensures.stays.moves
+    ∙ c.captures_of-captures.ensures.stays.moves in
     let moves = c.others_of-others.ensures.stays.moves ∙ before in
     let less : (ko : Ko) → has c.without-missing.result ko ≡ true → has c.args.asked ko ≡ true =
     λ ko h. without_less c.args.asked c.some_of-good.result ko
@@ -540,12 +619,15 @@ some_other-returns-clause-near g t c = λ pos a q root tree und.
     (size-after pos c.args.board.now.moves) inside (und one.0).stands))
     ((rw c.captures_of-captures.ensures.stays.moves at (c.some_of-good.ensures.near pos a2 q root)) tree und
     (λ p h. capture_is_candidate turn here p (sym (c.captures_of-captures.ensures.over pos a1 p) ∙ h))))
+    (AddsNear-trans (AddsNear-in (InActiveArea q root) c.is_in_atari.ensures.near
+    (λ p h. area_target q root here (suc c.args.plies) (under turn one.0) (tree.each one.0 one.1) pos.size
+    (size-after pos c.args.board.now.moves) inside (und one.0).stands p (eqb-true p turn.target h)))
     (AddsNear-trans (AddsNear-in (InActiveArea q root) (rw before at (c.others_of-others.ensures.near pos a3))
     (area_candidates q root here (suc c.args.plies) (under turn one.0) (tree.each one.0 one.1) pos.size
     (size-after pos c.args.board.now.moves) inside (und one.0).stands))
     ((rw moves at (c.some_of-rest.ensures.near pos a q root)) (fewer_nodes c.without-missing.result tree less) und
     (λ p h. other_is_candidate turn here p (lt-ltb 0 turn.wide (omega (arith, c.if-turn-eq0.false)))
-    (sym (rw before at (c.others_of-others.ensures.over pos a3 p)) ∙ h))))
+    (sym (rw before at (c.others_of-others.ensures.over pos a3 p)) ∙ h)))))
 
 -- a liberty is on the board
 pub some_success-some_of-good-requires : goal.some_success-some_of-good-requires
