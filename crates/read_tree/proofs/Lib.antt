@@ -7,3 +7,4 @@ pub mod StageLemmas
 pub mod CarryLemmas
 pub mod OrderLemmas
 pub mod AtariLemmas
+pub mod EscapeLemmas

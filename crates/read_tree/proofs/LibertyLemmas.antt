@@ -157,8 +157,18 @@ more_outlasts n k l m h le = elim (outlasts_defender n k l h) [
     wider : (b : ℕ) → b < l → b < m
     wider b x = omega (arith, x, le)
 
+-- and at the attacker's turn too
+pub more_outlasts_attacker : (n k l m : ℕ) → outlasts true n k l ≡ true → l ≤ m → outlasts true n k m ≡ true
+more_outlasts_attacker n k l m h le = elim (outlasts_attacker n k l h) [
+  | inl x ↦ to_attacker n k m (inl (omega (arith, x, le)))
+  | inr x ↦ to_attacker n k m (inr (wider (most_by_wide k) x))
+]
+  where
+    wider : (b : ℕ) → b < l → b < m
+    wider b x = omega (arith, x, le)
+
 -- some liberties are there
-some_liberty : (attacker : Bool) (n k l : ℕ) → outlasts attacker n k l ≡ true → 0 < l
+pub some_liberty : (attacker : Bool) (n k l : ℕ) → outlasts attacker n k l ≡ true → 0 < l
 some_liberty true n k l h = elim (outlasts_attacker n k l h) [ inl x ↦ omega arith | inr x ↦ omega arith ]
 some_liberty false n k l h = elim (outlasts_defender n k l h) [ inl x ↦ omega arith | inr x ↦ omega arith ]
 

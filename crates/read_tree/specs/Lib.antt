@@ -1,5 +1,6 @@
 pub mod Allowances
 pub mod Bound
+pub mod Escapes
 pub mod Stages
 pub mod Steps
 pub use Rattle.read_rules.specs.GameTree

@@ -16,8 +16,9 @@ ghost use Rattle.read_rules.specs.GoodMoves.{IsOnBoard};
 ghost use Rattle.read_tree.specs.Steps.{first_turn, unread, better, IsBest, AreNodesOf};
 
 use crate::allowances::Allowances;
+use crate::bound::has_too_many;
 use crate::told::Told;
-use crate::tree::{has_too_many, pass_saves, succeeds};
+use crate::tree::{pass_saves, succeeds};
 use crate::turn::Turn;
 use go_base::points::PointSet;
 use go_base::{Cell, Colour, Look, Point};

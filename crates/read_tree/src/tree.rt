@@ -20,7 +20,9 @@ ghost use Rattle.read_tree.specs.Steps.{IsTaken, IsInAtari, is_safe, tail_if, Ma
 
 use crate::allowances::Allowances;
 use crate::apart::{all_but, copy_of};
+use crate::bound::{has_too_many, leaves_too_many};
 use crate::candidates::{captures_of, others_of};
+use crate::escape::escapes;
 use crate::order::{TryOrder, last_reply, next_to_try};
 use crate::turn::Turn;
 use go_base::points::PointSet;
@@ -30,40 +32,8 @@ use trial_board::{Trial, Tried};
 /// How many liberties a string in atari has.
 const IN_ATARI: u16 = 1;
 
-/// How many liberties a target may have that is captured with so many wide plies left.
-fn most_by_wide(wide: u8) -> u16
-    ensures { result ≡ most_by_wide wide }
-{
-    if wide == 0 {
-        2
-    } else if wide < 3 {
-        3
-    } else {
-        4
-    }
-}
-
-/// Whether so many liberties are too many for the plies and the wide plies that are left.
-#[tactic(auto, unfolding(crate::specs::Bound::outlasts))]
-fn outlasts(attacker: bool, plies: u8, wide: u8, liberties: u16) -> bool
-    ensures { result ≡ outlasts attacker plies wide liberties }
-{
-    if attacker {
-        liberties > (u16::from(plies) + 1) / 2 || liberties > most_by_wide(wide)
-    } else {
-        liberties > u16::from(plies) / 2 || liberties > most_by_wide(wide.saturating_sub(1))
-    }
-}
-
-/// Whether the target has too many liberties to be captured, with `plies` plies left; its liberties are handed in.
-pub fn has_too_many(turn: Turn, plies: u8, known: &PointSet) -> bool
-    ensures { result ≡ outlasts turn.attacker_to_play plies turn.wide (set.len known.now) }
-{
-    outlasts(turn.attacker_to_play, plies, turn.wide, known.count())
-}
-
 /// The cell of a stone of the colour.
-fn stone_of(colour: Colour) -> Cell
+pub fn stone_of(colour: Colour) -> Cell
     ensures { result ≡ stone_of colour }
 {
     match colour {
@@ -354,14 +324,6 @@ fn some_of<L: Look>(
     asked.without(missing)
 }
 
-/// Whether the attacker is to play, and a play that takes no liberty of the target leaves it too many, with `plies`
-/// plies left after it.
-fn leaves_too_many(turn: Turn, plies: u8, liberties: u16) -> bool
-    ensures { result ≡ (turn.attacker_to_play && outlasts false plies (turn.wide - 1) liberties) }
-{
-    turn.attacker_to_play && outlasts(false, plies, turn.wide.saturating_sub(1), liberties)
-}
-
 /// Those of the asked under which a candidate off the liberties of the target gives the side to play its way, with
 /// `plies` plies left after it: none where such an attacker's play leaves too many liberties. The captures are found
 /// only here, and the wide candidates only where these leave something; they do not save a target in atari.
@@ -501,6 +463,9 @@ fn has_good_move<L: Look>(
 {
     if turn.attacker_to_play {
         return some_success(board, turn, plies, asked, known, reply);
+    }
+    if escapes(board, turn, plies, known) {
+        return asked;
     }
     let lost = asked.without(pass_saves(board, turn, plies, asked, known, reply));
     if !lost.has_some() {

@@ -21,12 +21,13 @@ use Rattle.read_tree.specs.Allowances.{Ko, under, next_turn, own_ko, neither_may
 use Rattle.read_rules.specs.GoodMoves.{good_move}
 use Rattle.read_tree.specs.Steps.{AreNodesOf, is_off_liberties}
 use Rattle.read_rules.specs.GameTree.{has_many_liberties, attacker_wins, child_of, succeeds, first_success}
-use Rattle.read_tree.proofs.AllowanceLemmas.{some_of, suits_child, suits_none, Tells-same, Tells-own, Tells-good, Tells-attackers, Tells-all, Tells-none, good_attacker, neither_nodes, pass_nodes, fewer_nodes, without_less, left_first, left_next}
+use Rattle.read_tree.proofs.AllowanceLemmas.{some_of, success_some, good_by_success, suits_child, suits_none, Tells-same, Tells-own, Tells-good, Tells-attackers, Tells-all, Tells-none, good_attacker, neither_nodes, pass_nodes, fewer_nodes, without_less, left_first, left_next}
 use Rattle.read_tree.proofs.StageLemmas.{by_done, by_over, by_none, by_same, by_more, by_enough, by_both, stage_done, stage_over, none_other, nothing_near, liberty_is_candidate, capture_is_candidate, capture_is_off, other_is_candidate, off_by_stages, off_by_captures, captures_near, its_liberty, its_count, known_inside}
 use Rattle.read_tree.proofs.OrderLemmas.{none_tried, newest_or_before, fewer_left, none_left, order_near}
 use Rattle.read_tree.proofs.LibertyLemmas.{bounded_at, undecided_at}
 use Rattle.read_moves.proofs.AfterPlays.{whole_after}
 use Rattle.read_tree.proofs.AtariLemmas.{pass_fails, atari_fails}
+use Rattle.read_tree.proofs.EscapeLemmas.{escape_succeeds, escape_near}
 use Rattle.read_tree.proofs.TakeLemmas.{take_wins}
 use Rattle.read_tree.proofs.CarryLemmas.{carries, made_free}
 use Rattle.read_rules.proofs.AreaLemmas.{AddsNear-in, AddsNear-trans, AddsNear-mono, area_target, area_once, area_candidates, area_play, pred_tree, undecided_defender, target_on}
@@ -705,10 +706,58 @@ has_good_move-returns-then-turn-clause-over g t c = λ pos a und.
     (λ ko. good_attacker c.args.turn.attacker_to_play (has_many_liberties here c.args.turn.target c.args.turn.wide) _
     (first_success c.args.plies (under c.args.turn ko) here) c.if-turn.true ((und ko).few c.if-turn.true))
 
--- where the pass saves, the looks after it lie in the active area
+-- what is known is on the board
+pub has_good_move-escapes-requires-clause-inside : goal.has_good_move-escapes-requires-clause-inside
+has_good_move-escapes-requires-clause-inside g t c = λ p h.
+    let shown = g.L.Look.shows c.args.board.now.look in
+    known_inside shown.size (after shown c.args.board.now.moves).cells c.args.turn.target p c.args.known.now
+    (c.requires.liberties shown (g.met.L.Look.holds c.args.board.now.look)) h
+
+-- a defender who escapes has a good move
+pub has_good_move-returns-then-escapes-clause-over : goal.has_good_move-returns-then-escapes-clause-over
+has_good_move-returns-then-escapes-clause-over g t c = λ pos a und.
+    let here = after pos c.args.board.now.moves in
+    let turn = c.args.turn in
+    let size = size-after pos c.args.board.now.moves in
+    let a0 = agrees_before c.escapes.ensures.stays.grows a in
+    let inside = target_on here.size pos.size turn.target size
+    (target_on pos.size (g.L.Look.shows c.args.board.now.look).size turn.target
+    (same_size (g.met.L.Look.sized c.args.board.now.look) a0) c.requires.target) in
+    let its = its_liberty pos.size here turn.target c.args.known.now size (c.requires.liberties pos a0) in
+    let way = c.escapes.ensures.over pos a c.if-escapes.true in
+    Tells-all c.args.asked _ (λ ko. good_by_success c.args.plies turn here ko c.if-turn.false
+    (success_some c.args.plies (under turn ko) here way.l
+    (liberty_is_candidate here turn.target turn.wide way.l (sym (its way.l) ∙ way.there))
+    (escape_succeeds c.args.plies turn here c.args.known.now
+    (whole_after pos c.args.board.now.moves a.sound.cells) inside c.if-turn.false its way ko)))
+
+-- the looks for an escape lie in the active area
+pub has_good_move-returns-then-escapes-clause-near : goal.has_good_move-returns-then-escapes-clause-near
+has_good_move-returns-then-escapes-clause-near g t c = λ pos a q root tree und.
+    let a0 = agrees_before c.escapes.ensures.stays.grows a in
+    let here = after pos c.args.board.now.moves in
+    let turn = c.args.turn in
+    let one = some_of c.args.asked c.requires.some in
+    let inside = target_on pos.size (g.L.Look.shows c.args.board.now.look).size turn.target
+    (same_size (g.met.L.Look.sized c.args.board.now.look) a0) c.requires.target in
+    AddsNear-in (InActiveArea q root) (c.escapes.ensures.near pos a)
+    (escape_near q root here (suc c.args.plies) (under turn one.0) (tree.each one.0 one.1) pos.size
+    (size-after pos c.args.board.now.moves) inside (und one.0).stands c.args.known.now (c.requires.liberties pos a0))
+
+-- where the pass saves, the looks for an escape and after the pass lie in the active area
 pub has_good_move-returns-then-not-has_some-clause-near : goal.has_good_move-returns-then-not-has_some-clause-near
-has_good_move-returns-then-not-has_some-clause-near g t c =
-    λ pos a q root tree und. c.pass_saves.ensures.near pos a q root tree (und neither_may).stands
+has_good_move-returns-then-not-has_some-clause-near g t c = λ pos a q root tree und.
+    let a1 = agrees_before c.pass_saves.ensures.stays.grows a in
+    let a0 = agrees_before c.escapes.ensures.stays.grows a1 in
+    let here = after pos c.args.board.now.moves in
+    let turn = c.args.turn in
+    let one = some_of c.args.asked c.requires.some in
+    let inside = target_on pos.size (g.L.Look.shows c.args.board.now.look).size turn.target
+    (same_size (g.met.L.Look.sized c.args.board.now.look) a0) c.requires.target in
+    AddsNear-trans (AddsNear-in (InActiveArea q root) (c.escapes.ensures.near pos a1)
+    (escape_near q root here (suc c.args.plies) (under turn one.0) (tree.each one.0 one.1) pos.size
+    (size-after pos c.args.board.now.moves) inside (und one.0).stands c.args.known.now (c.requires.liberties pos a0)))
+    ((rw c.escapes.ensures.stays.moves at (c.pass_saves.ensures.near pos a q root)) tree (und neither_may).stands)
 
 -- the pass, and then the candidates under what it left
 pub has_good_move-returns-clause-over : goal.has_good_move-returns-clause-over
@@ -717,21 +766,35 @@ has_good_move-returns-clause-over g t c = λ pos a und.
     rw (c.without-2.ensures, c.without.ensures, c.without-lost.ensures)
     (Tells-good c.args.plies c.args.turn (after pos c.args.board.now.moves) c.args.asked c.pass_saves.result
     c.some_success-2.result c.if-turn.false
-    (c.pass_saves.ensures.over pos a1) (rw (
+    (rw c.escapes.ensures.stays.moves at (c.pass_saves.ensures.over pos a1)) (rw (
       c.pass_saves.ensures.stays.moves,
+      c.escapes.ensures.stays.moves,
       c.without-lost.ensures,
     ) at (c.some_success-2.ensures.over pos a)))
 
--- the looks after the pass and those of the defender's plays lie in the active area
+-- the looks for an escape, after the pass and those of the defender's plays lie in the active area
 pub has_good_move-returns-clause-near : goal.has_good_move-returns-clause-near
 has_good_move-returns-clause-near g t c = λ pos a q root tree und.
-    let a1 = agrees_before c.some_success-2.ensures.stays.grows a in
+    let a2 = agrees_before c.some_success-2.ensures.stays.grows a in
+    let a1 = agrees_before c.pass_saves.ensures.stays.grows a2 in
+    let a0 = agrees_before c.escapes.ensures.stays.grows a1 in
+    let here = after pos c.args.board.now.moves in
+    let turn = c.args.turn in
+    let one = some_of c.args.asked c.requires.some in
+    let inside = target_on pos.size (g.L.Look.shows c.args.board.now.look).size turn.target
+    (same_size (g.met.L.Look.sized c.args.board.now.look) a0) c.requires.target in
     let lost : (ko : Ko) → has c.without-lost.result ko ≡ true → has c.args.asked ko ≡ true =
     λ ko h. without_less c.args.asked c.pass_saves.result ko
     (sym (ap (λ s. has s ko) c.without-lost.ensures) ∙ h) in
     let stands = (und neither_may).stands in
-    AddsNear-trans (c.pass_saves.ensures.near pos a1 q root tree stands)
-    ((rw c.pass_saves.ensures.stays.moves at (c.some_success-2.ensures.near pos a q root))
+    AddsNear-trans (AddsNear-trans (AddsNear-in (InActiveArea q root) (c.escapes.ensures.near pos a1)
+    (escape_near q root here (suc c.args.plies) (under turn one.0) (tree.each one.0 one.1) pos.size
+    (size-after pos c.args.board.now.moves) inside (und one.0).stands c.args.known.now (c.requires.liberties pos a0)))
+    ((rw c.escapes.ensures.stays.moves at (c.pass_saves.ensures.near pos a2 q root)) tree stands))
+    ((rw (
+      c.pass_saves.ensures.stays.moves,
+      c.escapes.ensures.stays.moves,
+    ) at (c.some_success-2.ensures.near pos a q root))
     (fewer_nodes c.without-lost.result tree lost) (λ ko. undecided_defender stands c.if-turn.false))
 
 -- the target is captured
