@@ -1,19 +1,18 @@
 -- The defender's target has one liberty: a play of his elsewhere that takes no stone next to it leaves it that liberty,
 -- and the attacker takes it next. So does the pass.
-use Rattle.std.proofs.Common.{◌≡◌, ◌≢◌, ℕ, suc, ◌-◌, ◌*◌, ◌<◌, ◌≤◌, ◌&&◌, Bool, true, false, not, cond, eqb, List, Option, Some, None, Ok, refl, sym, ap, subst, ◌∙◌, arith, inl, inr, set}
+use Rattle.std.proofs.Common.{◌≡◌, ◌≢◌, ℕ, suc, ◌-◌, ◌*◌, ◌<◌, ◌≤◌, ◌&&◌, Bool, true, false, not, cond, List, Option, Some, None, Ok, refl, sym, ap, subst, ◌∙◌, arith, inl, inr, set}
 use Rattle.std.proofs.lemmas.Bool.{cases_Bool, cases_eq, and_from, and_parts, both_ways, eqb-true, eq-eqb}
 use Rattle.go_rules.specs.declared.Cell.{Cell}
 use Rattle.go_rules.specs.declared.Cell.TheVariants.{Empty}
 use Rattle.go_rules.specs.declared.Colour.{Colour}
 use Rattle.go_rules.specs.declared.Colour.TheVariants.{Black as black, White as white}
-use Rattle.go_rules.specs.Below.{count_below}
 use Rattle.go_rules.specs.Board.{are_neighbours}
 use Rattle.go_rules.specs.Boundary.{is_enemy, is_beside_string}
-use Rattle.go_rules.specs.Strings.{cell_at, is_stone, Path, start, step, IsInString, IsLiberty, is_liberty, liberties}
+use Rattle.go_rules.specs.Strings.{cell_at, is_stone, Path, start, step, IsInString, IsLiberty, is_liberty, liberties, liberty_points}
 use Rattle.go_rules.specs.Position.{BoardState, IsPosition, other, stone_of, is_banned}
 use Rattle.go_rules.specs.Play.{play_free, pass}
 use Rattle.go_rules.specs.Rules.{IsCaptured}
-use Rattle.go_rules.proofs.Counts.{any_below_from, count_below_mono, count_below_less, first_below_gives}
+use Rattle.go_rules.proofs.Counts.{any_below_from, count_below_mono, first_below_gives}
 use Rattle.go_rules.proofs.Links.{liberties_some}
 use Rattle.go_rules.proofs.Paths.{path_on_board, is_is_in_string-from_fact, IsLiberty-from_test, is_liberty-from_fact}
 use Rattle.go_rules.proofs.Plays.{at_put_other, at_after, own_not_taken, stone_is, taken_parts}
@@ -25,6 +24,9 @@ use Rattle.read_rules.specs.GameTree.{has_many_liberties, allowance_of, next_nod
 use Rattle.read_rules.specs.Rules.{HasManyLiberties}
 use Rattle.read_rules.proofs.RuleLemmas.{child_gives, many_gives}
 use Rattle.read_moves.proofs.AfterPlays.{put_liberty, after_liberty}
+use Rattle.read_moves.proofs.BackfillingLemmas.{one_member}
+use Rattle.go_base.proofs.LastLiberties.{contains-liberty_points}
+use Rattle.go_base.proofs.Liberties.{len-liberty_points}
 use Rattle.read_tree.specs.declared.turn.Turn.{Turn}
 use Rattle.read_tree.specs.Allowances.{Ko, under}
 use Rattle.read_tree.specs.Stages.{is_capture}
@@ -33,38 +35,7 @@ use Rattle.read_rules.specs.Candidates.{is_candidate}
 use Rattle.read_rules.proofs.CandidateLaws.{candidate_on}
 use Rattle.read_tree.proofs.AllowanceLemmas.{and_parts_not, and_false_right}
 use Rattle.read_tree.proofs.LibertyLemmas.{child_free, counts_but_one, play_size}
-use Rattle.read_tree.proofs.TakeLemmas.{turn_at, taking_wins}
-
--- no number below n fails to count
-some_counted : (n : ℕ) (test : ℕ → Bool) (k : ℕ) → k < n → test k ≡ true → 0 < count_below n test
-some_counted n test k on passes =
-    let more = count_below_less n (λ j. false) test (λ j below h. absurd (both_ways false refl h)) k on refl passes in
-    omega (arith, more)
-
--- where one number passes, two that pass are the same
-one_counted : (n : ℕ) (test : ℕ → Bool) → count_below n test ≡ 1 → (j k : ℕ) → j < n → k < n → test j ≡ true
-    → test k ≡ true → j ≡ k
-one_counted n test one j k j_on k_on j_passes k_passes = elim (cases_eq j k) [
-  | inl e ↦ e
-  | inr ne ↦
-      let rest = λ (x : ℕ). test x && not (eqb x j) in
-      let fewer = count_below_less n rest test (λ x below h. (and_parts (test x) (not (eqb x j)) h).0) j j_on
-      (ap (λ b. test j && not b) (eq-eqb j j refl) ∙ none_passes (test j)) j_passes in
-      let some = some_counted n rest k k_on (and_from _ _ k_passes (ap not (differs k j (λ e. ne (sym e))))) in
-      absurd (omega (arith, one, fewer, some))
-]
-  where
-    none_passes : (b : Bool) → (b && false) ≡ false
-    none_passes true = refl
-    none_passes false = refl
-
-    differs : (x y : ℕ) → (x ≡ y → ⊥) → eqb x y ≡ false
-    differs x y ne = elim (cases_Bool (eqb x y)) [ inl t ↦ absurd (ne (eqb-true x y t)) | inr f ↦ f ]
-
--- a stone is no empty point
-not_empty : (c : Colour) → stone_of c ≡ Empty → ⊥
-not_empty black e = cc
-not_empty white e = cc
+use Rattle.read_tree.proofs.TakeLemmas.{not_empty, turn_at, taking_wins}
 
 -- stones of the two colours are enemies
 are_enemies : (a b : Cell) (c : Colour) → a ≡ stone_of c → b ≡ stone_of (other c) → is_enemy a b ≡ true
@@ -220,9 +191,10 @@ few_liberties pos t k few = elim (cases_Bool (has_many_liberties pos t k)) [
 -- a string with one liberty has no other
 only_liberty : (s : ℕ) (cells : List Cell) (t : ℕ) → t < s * s → liberties s cells t ≡ 1
     → (l x : ℕ) → IsLiberty s cells t l → IsLiberty s cells t x → x ≡ l
-unfolding liberties
-only_liberty s cells t on one l x l_lib x_lib = one_counted (s * s) (is_liberty s cells t) one x l x_lib.on_board
-    l_lib.on_board (is_liberty-from_fact s cells t x on x_lib) (is_liberty-from_fact s cells t l on l_lib)
+only_liberty s cells t on one l x l_lib x_lib = one_member (liberty_points s cells t) l x
+    (len-liberty_points s cells t ∙ one)
+    (contains-liberty_points s cells t l ∙ is_liberty-from_fact s cells t l on l_lib)
+    (contains-liberty_points s cells t x ∙ is_liberty-from_fact s cells t x on x_lib)
 
 -- The defender is to play and his target is in atari, with plies left after his move, under an allowance.
 module _ (n : ℕ) (turn : Turn) (here : BoardState) (on : turn.target < here.size * here.size)

@@ -1,5 +1,5 @@
--- The defender's play at a liberty of the target keeps the other liberties, and gains the empty sides of its point; with
--- too many of them the target is saved.
+-- The defender's play at a liberty of the target keeps the other liberties, and gains the empty sides of its point;
+-- with too many of them the target is saved.
 use Rattle.std.proofs.Common.{◌≡◌, ◌≢◌, ℕ, ◌-◌, ◌*◌, ◌<◌, ◌≤◌, ◌⊎◌, ◌&&◌, ◌||◌, Bool, true, false, not, cond, List, length, refl, sym, ap, subst, ◌∙◌, arith, inl, inr, set}
 use Rattle.std.proofs.lemmas.Bool.{and_from, and_parts, or_cases, or_left, or_right, eqb-true, lt-ltb}
 use Rattle.std.specs.Ordering.{nat_cmp}
@@ -7,7 +7,6 @@ use Rattle.std.specs.FinSet as sets
 use Rattle.go_rules.specs.declared.Cell.{Cell}
 use Rattle.go_rules.specs.declared.Cell.TheVariants.{Empty}
 use Rattle.go_rules.specs.declared.Colour.{Colour}
-use Rattle.go_rules.specs.declared.Colour.TheVariants.{Black as black, White as white}
 use Rattle.go_rules.specs.Below.{count_below, set_below, any_below}
 use Rattle.go_rules.specs.Strings.{cell_at, is_stone, step, IsInString, IsLiberty, is_liberty, liberties, liberty_points}
 use Rattle.go_rules.specs.Position.{BoardState, other, stone_of}
@@ -36,7 +35,7 @@ use Rattle.read_tree.specs.Bound.{outlasts}
 use Rattle.read_tree.specs.Escapes.{Escapes}
 use Rattle.read_tree.proofs.LibertyLemmas.{bounded, some_liberty, more_outlasts_attacker}
 use Rattle.read_tree.proofs.OrderLemmas.{order_near}
-use Rattle.read_tree.proofs.TakeLemmas.{near_liberty}
+use Rattle.read_tree.proofs.TakeLemmas.{not_empty, near_liberty}
 
 -- points that all pass the test are no more than those that do
 few_members : (n : ℕ) (test : ℕ → Bool) (points : sets.FinSet nat_cmp)
@@ -50,11 +49,6 @@ few_members n test points each =
     let fewer : count_below n (sets.contains points) ≤ count_below n test =
     count_below_mono n (sets.contains points) test (λ x on h. (each x h).1) in
     subst (λ k. k ≤ count_below n test) (sym counted) fewer
-
--- a stone is no empty point
-not_empty : (c : Colour) → stone_of c ≡ Empty → ⊥
-not_empty black e = cc
-not_empty white e = cc
 
 -- c plays at l, a liberty of his string at t
 module _ (s : ℕ) (cells : List Cell) (c : Colour) (l t : ℕ) (whole : length cells ≡ s * s) (on : t < s * s)

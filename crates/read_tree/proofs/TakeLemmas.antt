@@ -32,7 +32,7 @@ use Rattle.read_rules.proofs.RuleLemmas.{attacker_from}
 use Rattle.read_rules.proofs.WinLemmas.{wins-captured}
 
 -- a stone is no empty point
-not_empty : (c : Colour) → stone_of c ≡ Empty → ⊥
+pub not_empty : (c : Colour) → stone_of c ≡ Empty → ⊥
 not_empty black e = cc
 not_empty white e = cc
 

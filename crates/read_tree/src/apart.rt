@@ -1,8 +1,7 @@
 //! Sets of points made from others: what one has and another has not, all but one point, a copy.
 
-ghost use Rattle.std.specs.Prelude.{◌≡◌, ◌<◌, ℕ, ◌==◌, ◌&&◌, not};
+ghost use Rattle.std.specs.Prelude.{◌≡◌, ℕ, ◌==◌, ◌&&◌, not};
 ghost use Rattle.std.specs.FinSet as set;
-ghost use Rattle.go_rules.specs.Board.{largest_points};
 
 use go_base::Point;
 use go_base::points::PointSet;

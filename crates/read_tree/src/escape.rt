@@ -5,7 +5,7 @@ ghost use Rattle.std.specs.FinSet as set;
 ghost use Rattle.go_rules.specs.Below.{any_below};
 ghost use Rattle.go_rules.specs.Board.{largest_points};
 ghost use Rattle.go_rules.specs.Position.{BoardState};
-ghost use Rattle.go_rules.specs.Strings.{cell_at, liberty_points};
+ghost use Rattle.go_rules.specs.Strings.{cell_at};
 ghost use Rattle.go_base.specs.Facts.{Agrees, AddsIn};
 ghost use Rattle.go_base.specs.Views.{alone, neighbours_of};
 ghost use Rattle.trial_board.specs.Trials.{Stays, after};
@@ -89,7 +89,8 @@ pub fn escapes<L: Look>(board: &mut Trial<L>, turn: Turn, plies: u8, known: &Poi
         → Escapes plies turn (after pos board.old.moves) known.now }
     ensures near { (pos : BoardState) → Agrees (L.seen board.new.look) pos
         → AddsIn (L.seen board.old.look) (L.seen board.new.look) (λ r. alone turn.target r
-        || any_below (pos.size * pos.size) (λ l. set.contains known.now l && (alone l r || neighbours_of pos.size l r))) }
+        || any_below (pos.size * pos.size)
+        (λ l. set.contains known.now l && (alone l r || neighbours_of pos.size l r))) }
 {
     if board.cell(turn.target) != stone_of(turn.defender) {
         return false;

@@ -12,7 +12,7 @@ ghost use Rattle.read_rules.specs.Candidates.{is_candidate};
 ghost use Rattle.trial_board.specs.Trials.{Stays, most_moves, after};
 ghost use Rattle.read_rules.specs.declared.question.ReadingQuestion.{ReadingQuestion};
 ghost use Rattle.read_rules.specs.ActiveArea.{IsUndecided, InActiveArea, AddsNear};
-ghost use Rattle.read_tree.specs.Bound.{most_by_wide, outlasts};
+ghost use Rattle.read_tree.specs.Bound.{outlasts};
 ghost use Rattle.read_rules.specs.GameTree.{is_captured, attacker_wins, succeeds, first_success, pass_saves};
 ghost use Rattle.read_tree.specs.Allowances.{Ko, under, next_turn, has_some, without, Tells};
 ghost use Rattle.read_rules.specs.GoodMoves.{good_move};

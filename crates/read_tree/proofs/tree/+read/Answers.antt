@@ -245,7 +245,8 @@ pass_saves-returns-clause-near g t c = λ pos a q root tree stands.
     let one = some_of c.args.asked c.requires.some in
     let inside = target_on pos.size (g.L.Look.shows c.args.board.now.look).size turn.target
     (same_size (g.met.L.Look.sized c.args.board.now.look) a0) c.requires.target in
-    let passed = rw (c.pass.ensures, c.is_in_atari.ensures.stays.moves) at (c.has_way-good.ensures.near pos a2 q root) in
+    let passed = rw (c.pass.ensures, c.is_in_atari.ensures.stays.moves) at
+    (c.has_way-good.ensures.near pos a2 q root) in
     rw c.back.ensures.moves (AddsNear-trans (AddsNear-in (InActiveArea q root) c.is_in_atari.ensures.near
     (λ p h. area_target q root here (suc c.args.plies) (under turn one.0) (tree.each one.0 one.1) pos.size
     (size-after pos c.args.board.now.moves) inside stands p (eqb-true p turn.target h)))
