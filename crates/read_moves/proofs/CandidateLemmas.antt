@@ -21,8 +21,10 @@ use Rattle.go_base.proofs.LastLiberties.{contains-liberty_points}
 use Rattle.go_base.proofs.Liberties.{len-liberty_points}
 use Rattle.trial_board.specs.Overlays.{neighbourhood_twice}
 use Rattle.read_rules.specs.Candidates.{attacker_of, is_empty_beside, leaves_only, is_backfilling, is_candidate, near_candidates}
+use Rattle.read_moves.specs.Stages.{is_wide_candidate}
 use Rattle.read_moves.specs.Steps.{is_left}
 use Rattle.read_moves.proofs.BesideLemmas.{same_tests}
+use Rattle.read_moves.proofs.StageLemmas.{candidate_stages}
 
 -- which empty points are beside points of a set depends on the set's members alone
 empty_beside_same : (s : ℕ) (cells : List Cell) (S T : ℕ → Bool) (q : ℕ) → ((l : ℕ) → S l ≡ T l)
@@ -65,64 +67,69 @@ left_is_backfilling here c target p libs el ec = same_tests _ _
     (and_from _ _ (has_liberty here.size here.cells target l.0 libs el ∙ both.0)
     (and_from _ _ parts.0 (ap (λ x. leaves_only l.0 p (play_free here x l.0)) ec ∙ both.1))))
 
+-- What was gathered for a target on the position here: its liberties.
+module _ (here : BoardState) (target p : ℕ) (libs : sets.FinSet nat_cmp)
+    (el : libs ≡ liberty_points here.size here.cells target) where
+  -- the empty neighbours of at most two liberties and what the attacker's plays leave, added to none, are the wide
+  -- candidates
+  pub wide_is : (old : sets.FinSet nat_cmp) (c : Colour) (x : Bool) → old ≡ sets.empty
+      → c ≡ attacker_of (cell_at here.cells target)
+      → x ≡ ((sets.contains old p
+      || (ltb (sets.len libs) 3 && is_empty_beside here.size here.cells (sets.contains libs) p))
+      || any_below (here.size * here.size) (λ l. sets.contains libs l && is_left here c l p))
+      → x ≡ is_wide_candidate here target p
+  unfolding is_wide_candidate
+  wide_is old c x none ec ex =
+      let beside = λ (S : ℕ → Bool). is_empty_beside here.size here.cells S p in
+      let left = any_below (here.size * here.size) (λ l. sets.contains libs l && is_left here c l p) in
+      ex ∙ ap (λ y. (y || (ltb (sets.len libs) 3 && beside (sets.contains libs))) || left)
+      (ap (λ t. sets.contains t p) none ∙ sets.contains-empty nat_cmp p)
+      ∙ ap (λ n. (ltb n 3 && beside (sets.contains libs)) || left) (how_many here.size here.cells target libs el)
+      ∙ ap (λ y. (ltb (liberties here.size here.cells target) 3 && y) || left)
+      (empty_beside_same here.size here.cells (sets.contains libs) (is_liberty here.size here.cells target) p
+      (λ q. has_liberty here.size here.cells target q libs el))
+      ∙ ap (λ y. (ltb (liberties here.size here.cells target) 3 && beside (is_liberty here.size here.cells target))
+      || y) (left_is_backfilling here c target p libs el ec)
+
 -- What was gathered for a target on the position here: its liberties, and the last liberties of the enemy strings next
 -- to it.
 module _ (here : BoardState) (target k p : ℕ) (libs last : sets.FinSet nat_cmp)
     (el : libs ≡ liberty_points here.size here.cells target)
     (et : sets.contains last p ≡ is_last_liberty_of_enemy here.size here.cells target p) where
+  -- with what is wide where a wide ply is left, these are the candidates
+  in_stages : (wide : Bool) → wide ≡ (ltb 0 k && is_wide_candidate here target p)
+      → ((sets.contains last p || sets.contains libs p) || wide) ≡ is_candidate here target k p
+  in_stages wide is =
+      ap (λ y. (y || sets.contains libs p) || wide) et
+      ∙ ap (λ y. (is_last_liberty_of_enemy here.size here.cells target p || y) || wide)
+      (has_liberty here.size here.cells target p libs el)
+      ∙ turned (is_last_liberty_of_enemy here.size here.cells target p) (is_liberty here.size here.cells target p) wide
+      ∙ ap (λ y. (is_liberty here.size here.cells target p
+      || is_last_liberty_of_enemy here.size here.cells target p) || y) is
+      ∙ sym (candidate_stages here target k p)
+    where
+      turned : (a b w : Bool) → ((a || b) || w) ≡ ((b || a) || w)
+      turned true true w = refl
+      turned true false w = refl
+      turned false true w = refl
+      turned false false w = refl
+
   -- where no wide ply is left these are the candidates
   pub candidate_plain : (x : Bool) → ltb 0 k ≡ false → x ≡ (sets.contains last p || sets.contains libs p)
       → x ≡ is_candidate here target k p
-  unfolding is_candidate
   candidate_plain x none ex =
-      ex ∙ ap (λ y. y || sets.contains libs p) et
-      ∙ ap (λ y. is_last_liberty_of_enemy here.size here.cells target p || y)
-      (has_liberty here.size here.cells target p libs el)
-      ∙ turned (is_last_liberty_of_enemy here.size here.cells target p)
-      (is_liberty here.size here.cells target p) _ _ _ _ none
+      ex ∙ or_false (sets.contains last p || sets.contains libs p)
+      ∙ in_stages false (sym (ap (λ b. b && is_wide_candidate here target p) none))
     where
-      turned : (t l w f e b : Bool) → w ≡ false → (t || l) ≡ (((l || ((w && f) && e)) || t) || (w && b))
-      turned t l true f e b h = absurd (let n = h in cc)
-      turned true true false f e b h = refl
-      turned true false false f e b h = refl
-      turned false true false f e b h = refl
-      turned false false false f e b h = refl
+      or_false : (a : Bool) → a ≡ (a || false)
+      or_false true = refl
+      or_false false = refl
 
-  -- where one is left, these with the empty neighbours of at most two liberties, and what the attacker's plays leave
-  pub candidate_wide : (x : Bool) (c : Colour) → ltb 0 k ≡ true → c ≡ attacker_of (cell_at here.cells target)
-      → x ≡ (((sets.contains last p || sets.contains libs p)
-      || (ltb (sets.len libs) 3 && is_empty_beside here.size here.cells (sets.contains libs) p))
-      || any_below (here.size * here.size) (λ l. sets.contains libs l && is_left here c l p))
-      → x ≡ is_candidate here target k p
-  unfolding is_candidate
-  candidate_wide x c some ec ex =
-      let l = is_liberty here.size here.cells target p in
-      let t = is_last_liberty_of_enemy here.size here.cells target p in
-      let few = ltb (liberties here.size here.cells target) 3 in
-      let side = is_empty_beside here.size here.cells (sets.contains libs) p in
-      let left = any_below (here.size * here.size) (λ l. sets.contains libs l && is_left here c l p) in
-      ex ∙ ap (λ y. ((y || sets.contains libs p) || (ltb (sets.len libs) 3 && side)) || left) et
-      ∙ ap (λ y. ((t || y) || (ltb (sets.len libs) 3 && side)) || left)
-      (has_liberty here.size here.cells target p libs el)
-      ∙ ap (λ n. ((t || l) || (ltb n 3 && side)) || left) (how_many here.size here.cells target libs el)
-      ∙ ap (λ y. ((t || l) || (few && y)) || left)
-      (empty_beside_same here.size here.cells (sets.contains libs) (is_liberty here.size here.cells target) p
-      (λ q. has_liberty here.size here.cells target q libs el))
-      ∙ ap (λ y. ((t || l) || (few && is_empty_beside here.size here.cells (is_liberty here.size here.cells target) p))
-      || y) (left_is_backfilling here c target p libs el ec)
-      ∙ turned t l _ few _ _ some
-    where
-      turned : (t l w f e b : Bool) → w ≡ true
-          → (((t || l) || (f && e)) || b) ≡ (((l || ((w && f) && e)) || t) || (w && b))
-      turned t l false f e b h = absurd (let n = h in cc)
-      turned true true true f e b h = refl
-      turned true false true true true b h = refl
-      turned true false true true false b h = refl
-      turned true false true false e b h = refl
-      turned false true true f e b h = refl
-      turned false false true true true b h = refl
-      turned false false true true false b h = refl
-      turned false false true false e b h = refl
+  -- where one is left, these with the wide candidates
+  pub candidate_wide : (x wide : Bool) → ltb 0 k ≡ true → wide ≡ is_wide_candidate here target p
+      → x ≡ ((sets.contains last p || sets.contains libs p) || wide) → x ≡ is_candidate here target k p
+  candidate_wide x wide some is ex =
+      ex ∙ in_stages wide (is ∙ sym (ap (λ b. b && is_wide_candidate here target p) some))
 
 -- Where the candidates of t are looked for.
 module _ (s : ℕ) (cells : List Cell) (t : ℕ) (on : t < s * s) where

@@ -5,10 +5,13 @@
 //! they were and takes no memory.
 #![tactic(auto)]
 
+pub mod laws;
 pub mod moves;
+pub mod stages;
 
-pub use moves::{candidates, empty_sides};
+pub use moves::empty_sides;
 pub use read_rules::Depths;
+pub use stages::{candidates, wide_candidates};
 
 #[cfg(test)]
 mod tests;

@@ -1,6 +1,7 @@
-//! The candidates of a target: the points that a reading tries.
+//! The points that a reading tries beside a target's liberties: their empty neighbours, and those that plays on them
+//! would leave.
 
-ghost use Rattle.std.specs.Prelude.{◌≡◌, ◌≢◌, ℕ, ◌*◌, ◌<◌, ◌≤◌, ◌&&◌, ◌||◌, Bool, true, IsTrue, IfSome, IfNone, nat_lt, length, if◌then◌else◌};
+ghost use Rattle.std.specs.Prelude.{◌≡◌, ◌≢◌, ℕ, ◌*◌, ◌<◌, ◌≤◌, ◌&&◌, ◌||◌, Bool, true, IsTrue, IfSome, IfNone, length, if◌then◌else◌};
 ghost use Rattle.std.specs.FinSet as set;
 ghost use Rattle.go_rules.specs.Below.{any_below, count_below};
 ghost use Rattle.go_rules.specs.Board.{largest_points};
@@ -12,13 +13,12 @@ ghost use Rattle.go_rules.specs.Play.{play_free};
 ghost use Rattle.go_rules.specs.Neighbourhood.{neighbourhood_of};
 ghost use Rattle.trial_board.specs.Overlays.{neighbourhood_twice};
 ghost use Rattle.trial_board.specs.Trials.{Stays, most_moves, after};
-ghost use Rattle.read_rules.specs.Candidates.{attacker_of, is_empty_beside, leaves_only, is_candidate, near_candidates};
+ghost use Rattle.read_rules.specs.Candidates.{is_empty_beside, leaves_only};
 ghost use Rattle.read_moves.specs.Steps.{is_at, is_only_member, is_left, Reaches, AddsString, AddsStrings, LivesWithout, IsQuiet};
 
 use go_base::points::PointSet;
 use go_base::sides::neighbour;
 use go_base::size::Point;
-use go_base::surroundings::Surroundings;
 use go_base::{Cell, Colour, Look};
 use trial_board::{Trial, Tried};
 
@@ -59,7 +59,7 @@ fn add_sides<L: Look>(board: &mut Trial<L>, l: Point, found: &mut PointSet)
 }
 
 /// Adds the empty points next to a point of the set.
-fn add_beside<L: Look>(board: &mut Trial<L>, points: &PointSet, found: &mut PointSet)
+pub(crate) fn add_beside<L: Look>(board: &mut Trial<L>, points: &PointSet, found: &mut PointSet)
     requires { (l : ℕ) → IsTrue (set.contains points.now l)
         → l < (L.shows board.old.look).size * (L.shows board.old.look).size }
     ensures stays { Stays L.shows L.seen board.old board.new }
@@ -75,34 +75,6 @@ fn add_beside<L: Look>(board: &mut Trial<L>, points: &PointSet, found: &mut Poin
     while let Some(l) = points.first_from(next) {
         add_sides(board, l, found);
         next = l + 1;
-    }
-}
-
-/// Adds the empty points next to a point of the set, where it has at most two.
-fn add_beside_few<L: Look>(board: &mut Trial<L>, points: &PointSet, found: &mut PointSet)
-    requires { (l : ℕ) → IsTrue (set.contains points.now l)
-        → l < (L.shows board.old.look).size * (L.shows board.old.look).size }
-    ensures stays { Stays L.shows L.seen board.old board.new }
-    ensures over { (pos : BoardState) → Agrees (L.seen board.new.look) pos → (p : ℕ)
-        → set.contains found.new p ≡ (set.contains found.old p
-        || (nat_lt (set.len points.now) 3 && is_empty_beside pos.size (after pos board.old.moves).cells
-        (set.contains points.now) p)) }
-    ensures near { (pos : BoardState) → Agrees (L.seen board.new.look) pos
-        → AddsIn (L.seen board.old.look) (L.seen board.new.look)
-        (λ r. any_below (pos.size * pos.size) (λ l. set.contains points.now l && neighbours_of pos.size l r)) }
-{
-    if points.count() < 3 {
-        add_beside(board, points, found);
-    }
-}
-
-/// The colour that attacks what stands there.
-fn attacker_of(cell: Cell) -> Colour
-    ensures { result ≡ attacker_of cell }
-{
-    match cell {
-        Cell::Black => Colour::White,
-        Cell::White | Cell::Empty => Colour::Black,
     }
 }
 
@@ -332,7 +304,7 @@ fn add_backfilling_at<L: Look>(board: &mut Trial<L>, c: Colour, l: Point, found:
 
 /// Adds the one liberty that a stone of this colour would have at a point of the set, where it is empty now, for each
 /// such point.
-fn add_backfilling<L: Look>(
+pub(crate) fn add_backfilling<L: Look>(
     board: &mut Trial<L>,
     c: Colour,
     points: &PointSet,
@@ -355,38 +327,4 @@ fn add_backfilling<L: Look>(
         add_backfilling_at(board, c, l, found);
         from = l + 1;
     }
-}
-
-/// The points that a reading tries for the string of the target, with `wide` wide plies left: its liberties, and the
-/// last liberty of each enemy string next to it; where a wide ply is left, also the empty neighbours of its liberties,
-/// if there are at most two of these, and the one liberty that a stone of the attacker on one of its liberties would
-/// have.
-///
-/// The trial moves stay as they were. For the last kind a play is tried only where it would take something, and counts
-/// among the trials. After GNU Go Manual, "Tactical reading"; the choice of these points is this project's
-/// own.
-pub fn candidates<L: Look>(board: &mut Trial<L>, target: Point, wide: u8) -> PointSet
-    requires room { length board.old.moves < most_moves }
-    requires on_board { target < (L.shows board.old.look).size * (L.shows board.old.look).size }
-    ensures stays { Stays L.shows L.seen board.old board.new }
-    ensures over { (pos : BoardState) → Agrees (L.seen board.new.look) pos → (p : ℕ)
-        → set.contains result p ≡ is_candidate (after pos board.old.moves) target wide p }
-    ensures answer { (p : ℕ) → set.contains result p
-        ≡ is_candidate (after (L.shows board.old.look) board.old.moves) target wide p }
-    ensures near { (pos : BoardState) → Agrees (L.seen board.new.look) pos
-        → AddsIn (L.seen board.old.look) (L.seen board.new.look)
-        (near_candidates pos.size (after pos board.old.moves).cells target) }
-{
-    let Surroundings {
-        liberties,
-        last_liberties,
-    } = board.surroundings(target);
-    let mut found = last_liberties;
-    found.join(&liberties);
-    if wide > 0 {
-        add_beside_few(board, &liberties, &mut found);
-        let attacker = attacker_of(board.cell(target));
-        add_backfilling(board, attacker, &liberties, &mut found);
-    }
-    found
 }

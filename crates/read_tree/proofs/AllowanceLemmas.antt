@@ -1,7 +1,7 @@
 -- Sets of ko allowances, and the node under each of them.
 use Rattle.std.proofs.Common.{◌≡◌, ◌≢◌, ℕ, suc, ◌-◌, ◌*◌, ◌⊎◌, Bool, true, false, not, ◌&&◌, ◌||◌, cond, Option, Some, None, is_some, refl, sym, ap, subst, ◌∙◌, arith, inl, inr}
 use mathlib.Core.Bool.{beq}
-use Rattle.std.proofs.lemmas.Bool.{cases_Bool, both_ways}
+use Rattle.std.proofs.lemmas.Bool.{cases_Bool, both_ways, or_right}
 use Rattle.go_rules.specs.declared.Colour.{Colour}
 use Rattle.go_rules.specs.Position.{BoardState}
 use Rattle.read_rules.specs.declared.node.Node.{Node}
@@ -248,6 +248,14 @@ good_by true many saved first e = cc
 good_by false many true first e = refl
 good_by false many false None e = refl
 good_by false many false (Some p) e = refl
+
+-- a candidate that saves the target is a good move of the defender
+pub good_by_success : (n : ℕ) (turn : Turn) (here : BoardState) (ko : Ko) → turn.attacker_to_play ≡ false
+    → is_some (first_success n (under turn ko) here) ≡ true → is_some (good_move n (under turn ko) here) ≡ true
+good_by_success n turn here ko defends some =
+    good_by turn.attacker_to_play (has_many_liberties here turn.target turn.wide) (pass_saves n (under turn ko) here)
+    (first_success n (under turn ko) here) defends
+    ∙ or_right (pass_saves n (under turn ko) here) _ some
 
 -- those that the pass saves, and of the rest those that a candidate saves
 pub Tells-good : (n : ℕ) (turn : Turn) (here : BoardState) (asked saved some : Allowances)

@@ -1,5 +1,5 @@
 -- The target's liberties after an attacker's play that does not take it: those before, but for the point of the play.
-use Rattle.std.proofs.Common.{◌≡◌, ◌≢◌, ℕ, ◌*◌, ◌<◌, ◌&&◌, ◌||◌, Bool, true, false, not, cond, eqb, List, length, Option, Some, None, IfSome, Ok, refl, sym, ap, subst, ◌∙◌, inl, inr, set}
+use Rattle.std.proofs.Common.{◌≡◌, ◌≢◌, ℕ, ◌*◌, ◌<◌, ◌&&◌, ◌||◌, true, not, cond, eqb, List, length, Option, Some, None, IfSome, Ok, refl, sym, ap, subst, ◌∙◌, inl, inr, set}
 use Rattle.std.proofs.lemmas.Bool.{cases_eq, eq-eqb, ne_eqb, and_parts, and_from, both_ways}
 use Rattle.std.specs.Ordering.{nat_cmp}
 use Rattle.std.specs.Cmp.{nat_cmp_total}
@@ -15,7 +15,7 @@ use Rattle.go_rules.specs.Play.{play_free, cells_after, is_taken}
 use Rattle.go_rules.proofs.Links.{path_same, path_keeps, path_back}
 use Rattle.go_rules.proofs.Paths.{path_on_board, IsLiberty-from_test, is_liberty-from_fact}
 use Rattle.go_rules.proofs.Plays.{at_put_same, at_put_other, at_after, own_not_taken, taken_whole, stone_is}
-use Rattle.go_rules.proofs.Sets.{same_nat_set, contains-insert_nat}
+use Rattle.go_rules.proofs.Sets.{same_nat_set}
 use Rattle.go_rules.proofs.Tests.{same_tests}
 use Rattle.go_rules.proofs.PlayLaws.{done_state, others_stay, taken_by_words}
 use Rattle.go_base.proofs.LastLiberties.{contains-liberty_points}
@@ -201,13 +201,3 @@ carries Agreed turn p known here new (Some next) h played = λ pos a.
 pub copied : (points none : sets.FinSet nat_cmp) → none ≡ sets.empty → sets.union none points ≡ points
 copied points none e = same_nat_set _ _ (λ q. sets.contains-union nat_cmp_total none points q
     ∙ ap (λ b. b || sets.contains points q) (ap (λ k. sets.contains k q) e ∙ sets.contains-empty nat_cmp q))
-
--- a set to which one point was added
-pub only_one : (none one : sets.FinSet nat_cmp) (p q : ℕ) → none ≡ sets.empty → one ≡ sets.insert none p
-    → sets.contains one q ≡ eqb q p
-only_one none one p q e is = ap (λ k. sets.contains k q) is ∙ contains-insert_nat none p q
-    ∙ ap (λ b. eqb q p || b) (ap (λ k. sets.contains k q) e ∙ sets.contains-empty nat_cmp q) ∙ or_none (eqb q p)
-  where
-    or_none : (b : Bool) → (b || false) ≡ b
-    or_none true = refl
-    or_none false = refl

@@ -6,3 +6,5 @@ pub mod TakeLemmas
 pub mod StageLemmas
 pub mod CarryLemmas
 pub mod OrderLemmas
+pub mod AtariLemmas
+pub mod EscapeLemmas

@@ -55,7 +55,7 @@ count_but_one (suc n) a b p h = elim (cases_eq n p) [
     step false false i j m h = omega arith
 
 -- liberties that stay but for one, and that all stay
-counts_but_one : (s : ℕ) (cells after : List Cell) (t p : ℕ) → t < s * s
+pub counts_but_one : (s : ℕ) (cells after : List Cell) (t p : ℕ) → t < s * s
     → ((l : ℕ) → IsLiberty s cells t l → l ≢ p → IsLiberty s after t l) → liberties s cells t ≤ liberties s after t + 1
 unfolding liberties
 counts_but_one s cells after t p on h =
@@ -157,8 +157,18 @@ more_outlasts n k l m h le = elim (outlasts_defender n k l h) [
     wider : (b : ℕ) → b < l → b < m
     wider b x = omega (arith, x, le)
 
+-- and at the attacker's turn too
+pub more_outlasts_attacker : (n k l m : ℕ) → outlasts true n k l ≡ true → l ≤ m → outlasts true n k m ≡ true
+more_outlasts_attacker n k l m h le = elim (outlasts_attacker n k l h) [
+  | inl x ↦ to_attacker n k m (inl (omega (arith, x, le)))
+  | inr x ↦ to_attacker n k m (inr (wider (most_by_wide k) x))
+]
+  where
+    wider : (b : ℕ) → b < l → b < m
+    wider b x = omega (arith, x, le)
+
 -- some liberties are there
-some_liberty : (attacker : Bool) (n k l : ℕ) → outlasts attacker n k l ≡ true → 0 < l
+pub some_liberty : (attacker : Bool) (n k l : ℕ) → outlasts attacker n k l ≡ true → 0 < l
 some_liberty true n k l h = elim (outlasts_attacker n k l h) [ inl x ↦ omega arith | inr x ↦ omega arith ]
 some_liberty false n k l h = elim (outlasts_defender n k l h) [ inl x ↦ omega arith | inr x ↦ omega arith ]
 

@@ -1,6 +1,6 @@
 -- The points of a set are tried one after another, each once.
-use Rattle.std.proofs.Common.{◌≡◌, ℕ, ◌+◌, ◌*◌, ◌<◌, ◌≤◌, ◌⊎◌, ◌↔◌, ◌&&◌, ◌||◌, Bool, true, false, not, eqb, refl, sym, ap, ◌∙◌, arith, inl, inr}
-use Rattle.std.proofs.lemmas.Bool.{cases_Bool, cases_eq, cases_lt, both_ways, or_cases, or_right, or_left, eqb-true, eq-eqb}
+use Rattle.std.proofs.Common.{◌≡◌, ℕ, ◌*◌, ◌<◌, ◌⊎◌, ◌&&◌, ◌||◌, Bool, true, false, not, eqb, refl, sym, ap, ◌∙◌, inl, inr}
+use Rattle.std.proofs.lemmas.Bool.{cases_Bool, both_ways, or_cases, or_right, or_left, eqb-true, eq-eqb}
 use Rattle.std.specs.Ordering.{nat_cmp}
 use Rattle.std.specs.FinSet as sets
 use Rattle.go_rules.specs.Below.{count_below, any_below}
@@ -47,23 +47,6 @@ fewer_left n old new p is inside yet =
           q) t)) h)
       | inr f ↦ ap not f
     ]
-
--- all points before the next one were tried, and this one too
-pub all_before : (points tried : ℕ → Bool) (next p : ℕ) → ((q : ℕ) → q < next → points q ≡ true → tried q ≡ true)
-    → ((q : ℕ) → next ≤ q → q < p → points q ≡ false) → tried p ≡ true → (q : ℕ) → q < p + 1 → points q ≡ true
-    → tried q ≡ true
-all_before points tried next p before between this q below has = elim (cases_lt q next) [
-  | inl early ↦ before q early has
-  | inr late ↦ elim (cases_eq q p) [
-    | inl e ↦ ap tried e ∙ this
-    | inr ne ↦ absurd (both_ways (points q) (between q late (omega (arith, below, ne))) has)
-  ]
-]
-
--- a point of rank above 0 was not tried
-pub yet_to_try : (rank : ℕ) (tried : Bool) → (rank ≡ 0 ↔ tried ≡ true) → 0 < rank → tried ≡ false
-yet_to_try rank true both above = let none = both.1 refl in absurd (omega (arith, none, above))
-yet_to_try rank false both above = refl
 
 -- the sides of a known point are sides of the known points
 pub sides_of_known : (s p : ℕ) (known : ℕ → Bool) (r : ℕ) → p < s * s → (known p && neighbours_of s p r) ≡ true

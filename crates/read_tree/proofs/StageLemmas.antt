@@ -1,6 +1,6 @@
 -- Stages of candidates: the liberties of the target, and then the others.
 use Rattle.std.proofs.Common.{◌≡◌, ℕ, ◌+◌, ◌-◌, ◌*◌, ◌<◌, ◌≤◌, Bool, true, false, not, ◌&&◌, ◌||◌, ltb, List, Option, Some, None, is_some, refl, sym, ap, subst, ◌∙◌, arith, inl, inr}
-use Rattle.std.proofs.lemmas.Bool.{cases_Bool, cases_eq, cases_lt, both_ways, and_parts, and_from, or_left, lt-ltb, le-ltb, eq-eqb, ne_eqb}
+use Rattle.std.proofs.lemmas.Bool.{cases_Bool, cases_eq, cases_lt, both_ways, and_parts, and_from, or_left, or_right, lt-ltb, le-ltb, eq-eqb, ne_eqb}
 use Rattle.go_rules.proofs.Sets.{contains-insert_nat}
 use Rattle.std.specs.Ordering.{nat_cmp}
 use Rattle.std.specs.FinSet as sets
@@ -12,9 +12,13 @@ use Rattle.go_base.proofs.Liberties.{len-liberty_points}
 use Rattle.go_rules.specs.Position.{BoardState}
 use Rattle.read_rules.specs.declared.node.Node.{Node}
 use Rattle.read_rules.specs.Candidates.{is_candidate}
-use Rattle.read_rules.specs.GameTree.{attacker_wins, child_of, mover_of, next_node, some_child, suits, succeeds, first_success}
+use Rattle.read_rules.specs.GameTree.{is_captured, attacker_wins, child_of, mover_of, next_node, some_child, suits, succeeds, first_success}
 use Rattle.go_base.specs.Facts.{Fact}
-use Rattle.read_rules.specs.ActiveArea.{AddsNear}
+use Rattle.read_rules.specs.declared.question.ReadingQuestion.{ReadingQuestion}
+use Rattle.read_rules.specs.ActiveArea.{AddsNear, IsNodeOf, InActiveArea}
+use Rattle.read_rules.proofs.AreaLemmas.{area_candidates}
+use Rattle.read_moves.proofs.CandidateLemmas.{near_twice}
+use Rattle.trial_board.specs.Overlays.{neighbourhood_twice}
 use Rattle.read_rules.proofs.CandidateLaws.{candidate_on}
 use Rattle.read_rules.proofs.RuleLemmas.{child_gives}
 use Rattle.read_rules.proofs.WinLemmas.{first_success-none}
@@ -22,6 +26,10 @@ use Rattle.read_tree.specs.declared.turn.Turn.{Turn}
 use Rattle.read_tree.specs.declared.allowances.Allowances.{Allowances}
 use Rattle.read_tree.specs.Allowances.{Ko, has, has_some, under, without, Tells}
 use Rattle.read_tree.specs.Bound.{outlasts}
+use Rattle.read_moves.specs.Stages.{is_wide_candidate}
+use Rattle.go_base.specs.Surroundings.{is_last_liberty_of_enemy}
+use Rattle.read_moves.proofs.StageLemmas.{candidate_stages}
+use Rattle.read_tree.specs.Stages.{is_capture, is_other}
 use Rattle.read_tree.specs.Steps.{IsLeft, TellsBy, is_off_liberties}
 use Rattle.read_tree.proofs.AllowanceLemmas.{none_of, has-without, success_some, and_parts_not, and_false_right, and_true, has_none}
 use Rattle.read_tree.proofs.LibertyLemmas.{bounded, child_free, play_size, play_takes_none, more_outlasts}
@@ -85,6 +93,81 @@ module _ (n : ℕ) (turn : Turn) (here : BoardState) (points : ℕ → Bool) whe
     given = λ ko h. let w = t.given ko h in (w.0, sym (same w.0) ∙ w.1, w.2);
     none = λ ko a f q. ap (λ b. b && succeeds n (under turn ko) here q) (sym (same q)) ∙ t.none ko a f q;
   }
+
+-- More points than those that were tried, at one turn.
+module _ (n : ℕ) (turn : Turn) (here : BoardState) (points more : ℕ → Bool) (asked found : Allowances)
+    (told : TellsBy n turn here points asked found) where
+  -- the further points fail
+  pub by_more : ((q : ℕ) → points q ≡ true → more q ≡ true)
+      → ((ko : Ko) (q : ℕ) → more q ≡ true → points q ≡ false → succeeds n (under turn ko) here q ≡ false)
+      → TellsBy n turn here more asked found
+  by_more among fails = record {
+    asked_for = told.asked_for;
+    given = λ ko h. let w = told.given ko h in (w.0, among w.0 w.1, w.2);
+    none = λ ko a f q. elim (cases_Bool (more q)) [
+      | inr off ↦ ap (λ b. b && succeeds n (under turn ko) here q) off
+      | inl on ↦ and_false_right (more q) _ (elim (cases_Bool (points q)) [
+        | inl t ↦ sym (ap (λ b. b && succeeds n (under turn ko) here q) t) ∙ told.none ko a f q
+        | inr t ↦ fails ko q on t
+      ])
+    ];
+  }
+
+  -- nothing is missing
+  pub by_enough : ((q : ℕ) → points q ≡ true → more q ≡ true) → has_some (without asked found) ≡ false
+      → TellsBy n turn here more asked found
+  by_enough among none = record {
+    asked_for = told.asked_for;
+    given = λ ko h. let w = told.given ko h in (w.0, among w.0 w.1, w.2);
+    none = λ ko a f q. absurd (missing (has asked ko) (has found ko) a f
+        (sym (has-without asked found ko) ∙ none_of (without asked found) ko none));
+  }
+    where
+      missing : (a f : Bool) → a ≡ true → f ≡ false → (a && not f) ≡ false → ⊥
+      missing true false ea ef h = cc
+      missing true true ea ef h = cc
+      missing false f ea ef h = cc
+
+  -- the rest was asked of others
+  pub by_both : (others : ℕ → Bool) (rest : Allowances) → ((q : ℕ) → more q ≡ (points q || others q))
+      → TellsBy n turn here others (without asked found) rest
+      → TellsBy n turn here more asked (without asked (without (without asked found) rest))
+  by_both others rest both second = record {
+    asked_for = λ ko h. (and_parts_not _ _ (sym (has-without asked _ ko) ∙ h)).0;
+    given = λ ko h. elim (cases_Bool (has found ko)) [
+      | inl t ↦ let w = told.given ko t in (w.0, both w.0 ∙ or_left _ _ w.1, w.2)
+      | inr f ↦
+          let w = second.given ko (from_rest (has asked ko) (has found ko) (has rest ko) f (sym (told_by ko) ∙ h)) in
+          (w.0, both w.0 ∙ or_right (points w.0) _ w.1, w.2)
+    ];
+    none = λ ko a f q.
+        let off = not_told (has asked ko) (has found ko) (has rest ko) a (sym (told_by ko) ∙ f) in
+        let missing = has-without asked found ko ∙ ap (λ g. has asked ko && not g) off.0 ∙ ap (λ b. b && true) a in
+        ap (λ b. b && succeeds n (under turn ko) here q) (both q)
+        ∙ neither (points q) (others q) _ (told.none ko a off.0 q) (second.none ko missing off.1 q);
+  }
+    where
+      told_by : (ko : Ko) → has (without asked (without (without asked found) rest)) ko
+          ≡ (has asked ko && not ((has asked ko && not (has found ko)) && not (has rest ko)))
+      told_by ko = has-without asked (without (without asked found) rest) ko
+          ∙ ap (λ x. has asked ko && not x) (has-without (without asked found) rest ko
+          ∙ ap (λ x. x && not (has rest ko)) (has-without asked found ko))
+
+      from_rest : (a g r : Bool) → g ≡ false → (a && not ((a && not g) && not r)) ≡ true → r ≡ true
+      from_rest true true r e h = cc
+      from_rest true false true e h = refl
+      from_rest true false false e h = cc
+      from_rest false g r e h = cc
+
+      not_told : (a g r : Bool) → a ≡ true → (a && not ((a && not g) && not r)) ≡ false → (g ≡ false) × (r ≡ false)
+      not_told true true r e h = cc
+      not_told true false true e h = cc
+      not_told true false false e h = (refl, refl)
+      not_told false g r e h = cc
+
+      neither : (p o s : Bool) → (p && s) ≡ false → (o && s) ≡ false → ((p || o) && s) ≡ false
+      neither true o s a b = a
+      neither false o s a b = b
 
 -- The liberties of the target were tried.
 module _ (n : ℕ) (turn : Turn) (here : BoardState) (asked good : Allowances)
@@ -222,13 +305,72 @@ known_inside s cells t p known is has =
     (IsLiberty-from_test s cells t p (sym (ap (λ k. sets.contains k p) is ∙ contains-liberty_points s cells t p)
     ∙ has)).on_board
 
--- what is apart from the known liberties is a candidate off the liberties
-pub off_is : (turn : Turn) (here : BoardState) (known : sets.FinSet nat_cmp) (x y : Bool) (q : ℕ)
-    → y ≡ is_candidate here turn.target turn.wide q
-    → sets.contains known q ≡ is_liberty here.size here.cells turn.target q → x ≡ (y && not (sets.contains known q))
-    → x ≡ is_off_liberties turn here q
-off_is turn here known x y q ey el ex =
-    ex ∙ ap (λ b. b && not (sets.contains known q)) ey ∙ ap (λ b. is_candidate here turn.target turn.wide q && not b) el
+-- The stages of the candidates off the liberties of the target.
+module _ (turn : Turn) (here : BoardState) (q : ℕ) where
+  -- a candidate is a liberty of the target, a last liberty of an enemy string, or one of the rest
+  stages : is_candidate here turn.target turn.wide q ≡ ((is_liberty here.size here.cells turn.target q
+      || is_last_liberty_of_enemy here.size here.cells turn.target q)
+      || (ltb 0 turn.wide && is_wide_candidate here turn.target q))
+  stages = candidate_stages here turn.target turn.wide q
+
+  -- a capture is a candidate
+  pub capture_is_candidate : is_capture here turn.target q ≡ true → is_candidate here turn.target turn.wide q ≡ true
+  capture_is_candidate h = stages ∙ or_left _ _ (or_right (is_liberty here.size here.cells turn.target q) _
+      (and_parts _ _ h).0)
+
+  -- off the liberties
+  pub capture_is_off : is_capture here turn.target q ≡ true → is_off_liberties turn here q ≡ true
+  capture_is_off h = and_from _ _ (capture_is_candidate h) (and_parts _ _ h).1
+
+  -- and so is another, where a wide ply is left
+  pub other_is_candidate : ltb 0 turn.wide ≡ true → is_other here turn.target q ≡ true
+      → is_candidate here turn.target turn.wide q ≡ true
+  other_is_candidate some h = stages ∙ or_right (is_liberty here.size here.cells turn.target q
+      || is_last_liberty_of_enemy here.size here.cells turn.target q) _
+      (and_from _ _ some (and_parts _ _ (and_parts _ _ h).0).0)
+
+  -- where a wide ply is left, the candidates off the liberties are the captures and the others
+  pub off_by_stages : ltb 0 turn.wide ≡ true
+      → is_off_liberties turn here q ≡ (is_capture here turn.target q || is_other here turn.target q)
+  off_by_stages some =
+      ap (λ b. b && not (is_liberty here.size here.cells turn.target q)) (stages
+      ∙ ap (λ b. (is_liberty here.size here.cells turn.target q
+      || is_last_liberty_of_enemy here.size here.cells turn.target q)
+      || (b && is_wide_candidate here turn.target q)) some)
+      ∙ split (is_liberty here.size here.cells turn.target q)
+      (is_last_liberty_of_enemy here.size here.cells turn.target q) (is_wide_candidate here turn.target q)
+    where
+      split : (l t w : Bool) → (((l || t) || w) && not l) ≡ ((t && not l) || ((w && not l) && not (t && not l)))
+      split true true true = refl
+      split true true false = refl
+      split true false true = refl
+      split true false false = refl
+      split false true w = refl
+      split false false true = refl
+      split false false false = refl
+
+  -- and where none is left, the captures alone
+  pub off_by_captures : ltb 0 turn.wide ≡ false → is_off_liberties turn here q ≡ is_capture here turn.target q
+  off_by_captures none =
+      ap (λ b. b && not (is_liberty here.size here.cells turn.target q)) (stages
+      ∙ ap (λ b. (is_liberty here.size here.cells turn.target q
+      || is_last_liberty_of_enemy here.size here.cells turn.target q)
+      || (b && is_wide_candidate here turn.target q)) none)
+      ∙ split (is_liberty here.size here.cells turn.target q)
+      (is_last_liberty_of_enemy here.size here.cells turn.target q)
+    where
+      split : (l t : Bool) → (((l || t) || false) && not l) ≡ (t && not l)
+      split true true = refl
+      split true false = refl
+      split false true = refl
+      split false false = refl
+
+-- where captures are looked for is in the active area of each question that has the node in its trees
+pub captures_near : (q : ReadingQuestion) (root here : BoardState) (n : ℕ) (node : Node) → IsNodeOf q root n node here
+    → (s : ℕ) → here.size ≡ s → node.target < s * s → is_captured here node.target ≡ false
+    → (r : ℕ) → neighbourhood_twice s here.cells node.target r ≡ true → InActiveArea q root r
+captures_near q root here n node tree s size on stands r h =
+    area_candidates q root here n node tree s size on stands r (near_twice s here.cells node.target on r h)
 
 -- A set of the numbers below a bound that pass a test, gathered one by one.
 abbrev pub PassedBelow : (ℕ → Bool) → ℕ → sets.FinSet nat_cmp → Type 0

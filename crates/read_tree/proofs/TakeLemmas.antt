@@ -22,6 +22,7 @@ use Rattle.go_rules.proofs.Results.{result_of, free_done, play_else}
 use Rattle.go_rules.proofs.PlayLaws.{taken_by_words}
 use Rattle.read_rules.specs.Candidates.{fills}
 use Rattle.read_rules.proofs.CandidateLaws.{candidate_from}
+use Rattle.read_rules.specs.declared.node.Node.{Node}
 use Rattle.read_tree.specs.declared.turn.Turn.{Turn}
 use Rattle.read_moves.proofs.AfterPlays.{IsWhole}
 use Rattle.read_rules.specs.GameTree.{has_many_liberties, attacker_wins, next_node, allowance_of}
@@ -31,7 +32,7 @@ use Rattle.read_rules.proofs.RuleLemmas.{attacker_from}
 use Rattle.read_rules.proofs.WinLemmas.{wins-captured}
 
 -- a stone is no empty point
-not_empty : (c : Colour) → stone_of c ≡ Empty → ⊥
+pub not_empty : (c : Colour) → stone_of c ≡ Empty → ⊥
 not_empty black e = cc
 not_empty white e = cc
 
@@ -113,40 +114,55 @@ pub other_twice : (c : Colour) → other (other c) ≡ c
 other_twice black = refl
 other_twice white = refl
 
--- with a ply left, an attacker who may play at the only liberty of the target captures it, under any allowance
-pub take_wins : (n : ℕ) (turn : Turn) (here : BoardState) → IsWhole here → turn.target < here.size * here.size
-    → has_many_liberties here turn.target turn.wide ≡ false → IsTaken turn here → (ko : Ko)
-    → attacker_wins (suc n) (under turn ko) here ≡ true
-take_wins n turn here whole on few t ko =
+-- the turn at a node
+abbrev pub turn_at : Node → Turn
+turn_at node = record {
+  target = node.target;
+  defender = node.defender;
+  attacker_to_play = node.attacker_to_play;
+  wide = node.wide;
+}
+
+-- with a ply left, an attacker who may play at the only liberty of the target captures it
+pub taking_wins : (n : ℕ) (node : Node) (here : BoardState) → IsWhole here → node.target < here.size * here.size
+    → has_many_liberties here node.target node.wide ≡ false → IsTaken (turn_at node) here
+    → attacker_wins (suc n) node here ≡ true
+taking_wins n node here whole on few t =
     let s = here.size in
-    let c = other turn.defender in
-    let enemy = t.enemy ∙ ap stone_of (sym (other_twice turn.defender)) in
-    let lib = IsLiberty-from_test s here.cells turn.target t.l t.liberty in
-    let only : (x : ℕ) → IsLiberty s here.cells turn.target x → x ≡ t.l =
-    λ x h. t.only x (is_liberty-from_fact s here.cells turn.target x on h) in
+    let c = other node.defender in
+    let enemy = t.enemy ∙ ap stone_of (sym (other_twice node.defender)) in
+    let lib = IsLiberty-from_test s here.cells node.target t.l t.liberty in
+    let only : (x : ℕ) → IsLiberty s here.cells node.target x → x ≡ t.l =
+    λ x h. t.only x (is_liberty-from_fact s here.cells node.target x on h) in
     let vacant = ap is_stone lib.is_empty in
-    let free = sym (free_done here c t.l vacant (stone_lives s here.cells c t.l turn.target whole on enemy lib only)) in
+    let free = sym (free_done here c t.l vacant (stone_lives s here.cells c t.l node.target whole on enemy lib only)) in
     let legal = sym (play_else here c t.l vacant t.free) ∙ free in
     let new = result_of here c t.l in
-    let gone = same_cell-from _ _ (target_gone s here.cells c t.l turn.target whole on enemy lib only) in
-    let stands = stands_by (cell_at here.cells turn.target) turn.defender t.enemy in
-    let mover = ap (λ b. cond b (other turn.defender) turn.defender) t.attacks in
-    sym (ap (λ m. attacker_wins m (under turn ko) here) (add-one n))
-    ∙ attacker_from n (under turn ko) here stands t.attacks (
+    let gone = same_cell-from _ _ (target_gone s here.cells c t.l node.target whole on enemy lib only) in
+    let stands = stands_by (cell_at here.cells node.target) node.defender t.enemy in
+    let mover = ap (λ b. cond b (other node.defender) node.defender) t.attacks in
+    sym (ap (λ m. attacker_wins m node here) (add-one n))
+    ∙ attacker_from n node here stands t.attacks (
       few,
       record {
         point = t.l;
-        next = next_node (under turn ko) (allowance_of (under turn ko));
+        next = next_node node (allowance_of node);
         new = new;
-        candidate = candidate_from here turn.target turn.wide t.l on (fills lib);
+        candidate = candidate_from here node.target node.wide t.l on (fills lib);
         child = inl (record { legal = ap (λ k. play here k t.l) mover ∙ legal; next_is = refl });
-        wins = wins-captured n (next_node (under turn ko) (allowance_of (under turn ko))) new gone;
+        wins = wins-captured n (next_node node (allowance_of node)) new gone;
       },
     )
   where
     stands_by : (cell : Cell) (d : Colour) → cell ≡ stone_of d → same_cell cell Empty ≡ false
     stands_by cell black e = ap (λ k. same_cell k Empty) e
     stands_by cell white e = ap (λ k. same_cell k Empty) e
+
+-- the same at a turn, under any allowance
+pub take_wins : (n : ℕ) (turn : Turn) (here : BoardState) → IsWhole here → turn.target < here.size * here.size
+    → has_many_liberties here turn.target turn.wide ≡ false → IsTaken turn here → (ko : Ko)
+    → attacker_wins (suc n) (under turn ko) here ≡ true
+take_wins n turn here whole on few t ko = taking_wins n (under turn ko) here whole on few t
 
 -- a set of liberties of the target, and the target, are near it
 pub near_liberty : (s : ℕ) (cells : List Cell) (t p : ℕ) (found : sets.FinSet nat_cmp) → t < s * s

@@ -1,6 +1,7 @@
 pub mod Allowances
 pub mod Bound
-pub mod Order
+pub mod Escapes
+pub mod Stages
 pub mod Steps
 pub use Rattle.read_rules.specs.GameTree
 pub use Rattle.read_rules.specs.Answer

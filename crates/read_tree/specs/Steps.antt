@@ -2,8 +2,8 @@
 use Rattle.std.specs.Prelude.{◌≡◌, ◌≢◌, ℕ, ◌<◌, ◌≤◌, ◌==◌, ◌&&◌, Bool, true, false, not, List, Some, None, if◌then◌else◌}
 use Rattle.std.specs.Ordering.{nat_cmp}
 use Rattle.std.specs.FinSet as set
-use Rattle.go_rules.specs.Strings.{cell_at, is_liberty}
-use Rattle.go_rules.specs.Position.{BoardState, other, stone_of, is_banned}
+use Rattle.go_rules.specs.Strings.{cell_at, is_liberty, liberties}
+use Rattle.go_rules.specs.Position.{BoardState, IsPosition, other, stone_of, is_banned}
 use Rattle.read_tree.specs.declared.tree.Outlook.{Outlook}
 use Rattle.read_tree.specs.declared.tree.Outlook.TheVariants.{Safe, Taken, Open}
 use Rattle.trial_board.specs.declared.moves.TrialMove.{TrialMove}
@@ -102,6 +102,14 @@ pub record IsTaken (turn : Turn) (here : BoardState) : Type 0 where
   pub liberty : is_liberty here.size here.cells turn.target l ≡ true
   pub only : (x : ℕ) → is_liberty here.size here.cells turn.target x ≡ true → x ≡ l
   pub free : is_banned here.ban (other turn.defender) l ≡ false
+
+-- the defender is to play, with n plies left after his move; the target is his, and has one liberty
+pub record IsInAtari (n : ℕ) (turn : Turn) (here : BoardState) : Type 0 where
+  pub defends : turn.attacker_to_play ≡ false
+  pub plies : n ≢ 0
+  pub own : cell_at here.cells turn.target ≡ stone_of turn.defender
+  pub one : liberties here.size here.cells turn.target ≡ 1
+  pub sound : IsPosition here
 
 -- found has those of the asked under which some point that passes the test gives the side to play its way: each is
 -- given by one, and under the others none does

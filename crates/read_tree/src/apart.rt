@@ -1,8 +1,7 @@
 //! Sets of points made from others: what one has and another has not, all but one point, a copy.
 
-ghost use Rattle.std.specs.Prelude.{◌≡◌, ◌<◌, ℕ, ◌==◌, ◌&&◌, not};
+ghost use Rattle.std.specs.Prelude.{◌≡◌, ℕ, ◌==◌, ◌&&◌, not};
 ghost use Rattle.std.specs.FinSet as set;
-ghost use Rattle.go_rules.specs.Board.{largest_points};
 
 use go_base::Point;
 use go_base::points::PointSet;
@@ -24,12 +23,17 @@ pub fn apart_from(points: &PointSet, others: &PointSet) -> PointSet
 
 /// The members but for p. It takes no memory.
 pub fn all_but(points: &PointSet, p: Point) -> PointSet
-    requires { p < largest_points }
     ensures { (q : ℕ) → set.contains result q ≡ (set.contains points.now q && not (q == p)) }
 {
-    let mut one = PointSet::new();
-    one.add(p);
-    apart_from(points, &one)
+    let mut rest = PointSet::new();
+    let mut next = 0;
+    while let Some(q) = points.first_from(next) {
+        if q != p {
+            rest.add(q);
+        }
+        next = q + 1;
+    }
+    rest
 }
 
 /// The same set. It takes no memory.

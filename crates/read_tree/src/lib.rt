@@ -10,6 +10,9 @@
 
 pub mod allowances;
 mod apart;
+mod bound;
+mod candidates;
+mod escape;
 pub mod laws;
 mod order;
 pub mod reading;

@@ -9,7 +9,6 @@ ghost use Rattle.go_rules.specs.Position.{BoardState};
 ghost use Rattle.go_base.specs.Facts.{Agrees, AddsIn};
 ghost use Rattle.go_base.specs.Views.{neighbours_of};
 ghost use Rattle.trial_board.specs.Trials.{Stays, after};
-ghost use Rattle.read_tree.specs.Order.{rank_of};
 
 use go_base::points::PointSet;
 use go_base::size::MAX_POINTS;
@@ -25,39 +24,116 @@ fn is_left(points: &PointSet, tried: &PointSet, p: Point) -> bool
     usize::from(p) < MAX_POINTS && points.has(p) && !tried.has(p)
 }
 
-/// The rank of a point that is no liberty of the target.
-const OTHER_RANK: u16 = 1;
+/// How many liberties are ordered: a node that is to be read has no more of them.
+const MOST_ORDERED: usize = 4;
 
-/// The rank of p: 0 where it was tried, and else, for a liberty of the target, 2 and its empty sides, and 1 for another
-/// point.
-fn rank<L: Look>(board: &mut Trial<L>, p: Point, tried: &PointSet, known: &PointSet) -> u16
-    requires on_board { p < (L.shows board.old.look).size * (L.shows board.old.look).size }
-    requires small { p < largest_points }
-    ensures stays { Stays L.shows L.seen board.old board.new }
-    ensures tried { (result ≡ 0) ↔ IsTrue (set.contains tried.now p) }
-    ensures over { (pos : BoardState) → Agrees (L.seen board.new.look) pos
-        → result ≡ rank_of pos.size (after pos board.old.moves).cells tried.now known.now p }
-    ensures near { (pos : BoardState) → Agrees (L.seen board.new.look) pos
-        → AddsIn (L.seen board.old.look) (L.seen board.new.look) (λ r. set.contains known.now p && neighbours_of
-        pos.size p r) }
-{
-    if tried.has(p) {
-        return 0;
-    }
-    if !known.has(p) {
-        return OTHER_RANK;
-    }
-    empty_sides(board, p) + 2
+/// A liberty in the order.
+#[derive(Clone, Copy, Debug, PartialEq, Eq)]
+struct Ordered {
+    /// The liberty.
+    point: Point,
+    /// One more than its empty sides; 0 where no liberty came.
+    rank: u16,
 }
 
-/// A point that was not tried, None where each was: the one that is handed in, or else the first that is no liberty of
-/// the target, or else the first of the greatest rank. The order inside the tree is free, so no clause speaks of it.
+/// The order in which the points of a node are tried. It is free inside the tree, so no clause speaks of it.
+#[derive(Clone, Copy, Debug, PartialEq, Eq)]
+pub struct TryOrder {
+    /// The point that is tried first, where it is one of the node's.
+    first: Point,
+    /// Whether the liberties were ordered: they are once a node, and only where the first point does not do.
+    is_found: bool,
+    /// The liberties with more empty sides first, the least first among equals.
+    liberties: [Ordered; MOST_ORDERED],
+}
+
+impl TryOrder {
+    /// The order that begins with this point, and whose liberties are still to be found.
+    pub fn beginning_with(first: Point) -> Self {
+        let nothing = Ordered { point: 0, rank: 0 };
+        TryOrder {
+            first,
+            is_found: false,
+            liberties: [nothing; MOST_ORDERED],
+        }
+    }
+
+    /// Puts a liberty after those of its rank and before those of lower rank; the last drops out where all places are
+    /// taken.
+    fn put(&mut self, point: Point, rank: u16) {
+        let mut moved = Ordered { point, rank };
+        for place in 0..MOST_ORDERED {
+            let here = self.liberties[place];
+            if here.rank < moved.rank {
+                self.liberties[place] = moved;
+                moved = here;
+            }
+        }
+    }
+
+    /// The first liberty in the order that is a point of the set and was not tried.
+    fn first_left(&self, points: &PointSet, tried: &PointSet) -> Option<Point>
+        ensures { IfSome result (λ p. (p < largest_points) × IsTrue (set.contains points.now p)
+            × (set.contains tried.now p ≡ false)) }
+    {
+        for place in 0..MOST_ORDERED {
+            let here = self.liberties[place];
+            if here.rank > 0 && is_left(points, tried, here.point) {
+                return Some(here.point);
+            }
+        }
+        None
+    }
+
+    /// Orders the known liberties of the target that are points of the set, by their empty sides. One alone needs no
+    /// order.
+    fn find<L: Look>(&mut self, board: &mut Trial<L>, points: &PointSet, known: &PointSet)
+        requires { (p : ℕ) → IsTrue (set.contains points.now p)
+            → p < (L.shows board.old.look).size * (L.shows board.old.look).size }
+        ensures stays { Stays L.shows L.seen board.old board.new }
+        ensures near { (pos : BoardState) → Agrees (L.seen board.new.look) pos → AddsIn (L.seen board.old.look)
+            (L.seen board.new.look)
+            (λ r. any_below (pos.size * pos.size) (λ l. set.contains known.now l && neighbours_of pos.size l r)) }
+    {
+        self.is_found = true;
+        if points.count() < 2 {
+            return;
+        }
+        let mut next = 0;
+        while let Some(p) = points.first_from(next) {
+            if known.has(p) {
+                let sides = empty_sides(board, p);
+                self.put(p, sides + 1);
+            }
+            next = p + 1;
+        }
+    }
+}
+
+/// The first point of the set that was not tried.
+fn first_left(points: &PointSet, tried: &PointSet) -> Option<Point>
+    ensures some { IfSome result (λ p. (p < largest_points) × IsTrue (set.contains points.now p)
+        × (set.contains tried.now p ≡ false)) }
+    ensures none { IfNone result ((p : ℕ) → IsTrue (set.contains points.now p) → IsTrue (set.contains tried.now p)) }
+{
+    let mut next = 0;
+    while let Some(p) = points.first_from(next) {
+        if !tried.has(p) {
+            return Some(p);
+        }
+        next = p + 1;
+    }
+    None
+}
+
+/// A point that was not tried, None where each was: the one that the order begins with, or else the first of its
+/// liberties, or else the first of the set.
 pub fn next_to_try<L: Look>(
     board: &mut Trial<L>,
     points: &PointSet,
     tried: &PointSet,
     known: &PointSet,
-    first: Point,
+    order: &mut TryOrder,
 ) -> Option<Point>
     requires { (p : ℕ) → IsTrue (set.contains points.now p)
         → p < (L.shows board.old.look).size * (L.shows board.old.look).size }
@@ -69,24 +145,16 @@ pub fn next_to_try<L: Look>(
         (L.seen board.new.look)
         (λ r. any_below (pos.size * pos.size) (λ l. set.contains known.now l && neighbours_of pos.size l r)) }
 {
-    if is_left(points, tried, first) {
-        return Some(first);
+    if is_left(points, tried, order.first) {
+        return Some(order.first);
     }
-    let mut best = 0;
-    let mut most = 0;
-    let mut next = 0;
-    while let Some(p) = points.first_from(next) {
-        let rank = rank(board, p, tried, known);
-        if rank == OTHER_RANK {
-            return Some(p);
-        }
-        if rank > most {
-            best = p;
-            most = rank;
-        }
-        next = p + 1;
+    if !order.is_found {
+        order.find(board, points, known);
     }
-    if most == 0 { None } else { Some(best) }
+    match order.first_left(points, tried) {
+        Some(p) => Some(p),
+        None => first_left(points, tried),
+    }
 }
 
 /// The attacker's play that had its way last: p, where he made it, and else the one before.

@@ -16,8 +16,9 @@ ghost use Rattle.read_rules.specs.GoodMoves.{IsOnBoard};
 ghost use Rattle.read_tree.specs.Steps.{first_turn, unread, better, IsBest, AreNodesOf};
 
 use crate::allowances::Allowances;
+use crate::bound::has_too_many;
 use crate::told::Told;
-use crate::tree::{has_too_many, pass_saves, succeeds};
+use crate::tree::{pass_saves, succeeds};
 use crate::turn::Turn;
 use go_base::points::PointSet;
 use go_base::{Cell, Colour, Look, Point};
@@ -145,10 +146,10 @@ fn read<L: Look>(board: &mut Trial<L>, question: &ReadingQuestion) -> Answer
     let turn = first_turn(question);
     let plies = question.plies - 1;
     let nothing = Answer { code: 0, at: None };
-    if has_too_many(board, turn, question.plies) {
+    let known = board.liberties(turn.target);
+    if has_too_many(turn, question.plies, &known) {
         return unread(turn.attacker_to_play);
     }
-    let known = board.liberties(turn.target);
     let mut reply = turn.target;
     if turn.attacker_to_play {
         return best_point(board, turn, plies, nothing, &known, &mut reply);

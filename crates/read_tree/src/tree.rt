@@ -12,48 +12,28 @@ ghost use Rattle.read_rules.specs.Candidates.{is_candidate};
 ghost use Rattle.trial_board.specs.Trials.{Stays, most_moves, after};
 ghost use Rattle.read_rules.specs.declared.question.ReadingQuestion.{ReadingQuestion};
 ghost use Rattle.read_rules.specs.ActiveArea.{IsUndecided, InActiveArea, AddsNear};
-ghost use Rattle.read_tree.specs.Bound.{most_by_wide, outlasts};
+ghost use Rattle.read_tree.specs.Bound.{outlasts};
 ghost use Rattle.read_rules.specs.GameTree.{is_captured, attacker_wins, succeeds, first_success, pass_saves};
 ghost use Rattle.read_tree.specs.Allowances.{Ko, under, next_turn, has_some, without, Tells};
 ghost use Rattle.read_rules.specs.GoodMoves.{good_move};
-ghost use Rattle.read_tree.specs.Steps.{IsTaken, is_safe, tail_if, Makes, has_way, AreNodesOf, TellsBy, is_off_liberties, IsCarried};
+ghost use Rattle.read_tree.specs.Steps.{IsTaken, IsInAtari, is_safe, tail_if, Makes, has_way, AreNodesOf, TellsBy, is_off_liberties, IsCarried};
 
 use crate::allowances::Allowances;
-use crate::apart::{all_but, apart_from, copy_of};
-use crate::order::{last_reply, next_to_try};
+use crate::apart::{all_but, copy_of};
+use crate::bound::{has_too_many, leaves_too_many};
+use crate::candidates::{captures_of, others_of};
+use crate::escape::escapes;
+use crate::order::{TryOrder, last_reply, next_to_try};
 use crate::turn::Turn;
 use go_base::points::PointSet;
 use go_base::{Cell, Colour, Look, Point};
-use read_moves::candidates;
 use trial_board::{Trial, Tried};
 
-/// How many liberties a target may have that is captured with so many wide plies left.
-fn most_by_wide(wide: u8) -> u16
-    ensures { result ≡ most_by_wide wide }
-{
-    if wide == 0 {
-        2
-    } else if wide < 3 {
-        3
-    } else {
-        4
-    }
-}
-
-/// Whether so many liberties are too many for the plies and the wide plies that are left.
-#[tactic(auto, unfolding(crate::specs::Bound::outlasts))]
-fn outlasts(attacker: bool, plies: u8, wide: u8, liberties: u16) -> bool
-    ensures { result ≡ outlasts attacker plies wide liberties }
-{
-    if attacker {
-        liberties > (u16::from(plies) + 1) / 2 || liberties > most_by_wide(wide)
-    } else {
-        liberties > u16::from(plies) / 2 || liberties > most_by_wide(wide.saturating_sub(1))
-    }
-}
+/// How many liberties a string in atari has.
+const IN_ATARI: u16 = 1;
 
 /// The cell of a stone of the colour.
-fn stone_of(colour: Colour) -> Cell
+pub fn stone_of(colour: Colour) -> Cell
     ensures { result ≡ stone_of colour }
 {
     match colour {
@@ -84,6 +64,23 @@ fn can_take<L: Look>(board: &mut Trial<L>, turn: Turn, liberties: &PointSet) -> 
     }
 }
 
+/// Whether it is the defender's turn, the target is his and in atari, and a ply is left after his move. Then the
+/// attacker takes it, unless the defender plays at its liberty or takes an enemy string next to it.
+fn is_in_atari<L: Look>(board: &mut Trial<L>, turn: Turn, plies: u8, known: &PointSet) -> bool
+    requires target { turn.target < (L.shows board.old.look).size * (L.shows board.old.look).size }
+    requires liberties { (pos : BoardState) → Agrees (L.seen board.old.look) pos
+        → known.now ≡ liberty_points pos.size (after pos board.old.moves).cells turn.target }
+    ensures stays { Stays L.shows L.seen board.old board.new }
+    ensures over { (pos : BoardState) → Agrees (L.seen board.new.look) pos → result ≡ true
+        → IsInAtari plies turn (after pos board.old.moves) }
+    ensures near { AddsIn (L.seen board.old.look) (L.seen board.new.look) (alone turn.target) }
+{
+    if turn.attacker_to_play || plies == 0 || known.count() != IN_ATARI {
+        return false;
+    }
+    board.cell(turn.target) == stone_of(turn.defender)
+}
+
 /// What is known of a node by the target's liberties alone.
 #[derive(Clone, Copy, Debug, PartialEq, Eq)]
 pub enum Outlook {
@@ -110,29 +107,13 @@ fn outlook_of<L: Look>(board: &mut Trial<L>, turn: Turn, plies: u8, known: &Poin
         → AddsIn (L.seen board.old.look) (L.seen board.new.look)
         (neighbourhood_of pos.size (after pos board.old.moves).cells (alone turn.target)) }
 {
-    if outlasts(turn.attacker_to_play, plies, turn.wide, known.count()) {
+    if has_too_many(turn, plies, known) {
         return Outlook::Safe;
     }
     if can_take(board, turn, known) {
         return Outlook::Taken;
     }
     Outlook::Open
-}
-
-/// Whether the target has too many liberties to be captured, with `plies` plies left.
-pub fn has_too_many<L: Look>(board: &mut Trial<L>, turn: Turn, plies: u8) -> bool
-    requires { turn.target < (L.shows board.old.look).size * (L.shows board.old.look).size }
-    ensures stays { Stays L.shows L.seen board.old board.new }
-    ensures count { board.new.count ≡ board.old.count }
-    ensures over { (pos : BoardState) → Agrees (L.seen board.new.look) pos
-        → result ≡ outlasts turn.attacker_to_play plies turn.wide
-        (liberties pos.size (after pos board.old.moves).cells turn.target) }
-    ensures near { (pos : BoardState) → Agrees (L.seen board.new.look) pos
-        → AddsIn (L.seen board.old.look) (L.seen board.new.look)
-        (neighbourhood_of pos.size (after pos board.old.moves).cells (alone turn.target)) }
-{
-    let liberties = board.liberties(turn.target).count();
-    outlasts(turn.attacker_to_play, plies, turn.wide, liberties)
 }
 
 /// What comes of a play at a node.
@@ -186,7 +167,6 @@ fn liberties_after<L: Look>(
     known: &PointSet,
 ) -> Option<PointSet>
     requires target { turn.target < (L.shows board.old.look).size * (L.shows board.old.look).size }
-    requires on_board { p < (L.shows board.old.look).size * (L.shows board.old.look).size }
     ensures stays { Stays L.shows L.seen board.old board.new }
     ensures over { (pos : BoardState) → Agrees (L.seen board.new.look) pos
         → IfSome result (IsCarried turn (after pos board.old.moves) p known.now) }
@@ -195,7 +175,6 @@ fn liberties_after<L: Look>(
     if !turn.attacker_to_play || board.cell(turn.target) != stone_of(turn.defender) {
         return None;
     }
-    let _ = board.size().points();
     Some(all_but(known, p))
 }
 
@@ -330,10 +309,10 @@ fn some_of<L: Look>(
         → IsTrue (is_candidate (after pos board.old.moves) turn.target turn.wide p))
         → AddsNear (L.seen board.old.look) (L.seen board.new.look) (InActiveArea q root) }
 {
-    let first = *reply;
+    let mut order = TryOrder::beginning_with(*reply);
     let mut missing = asked;
     let mut tried = PointSet::new();
-    while let Some(p) = next_to_try(board, points, &tried, known, first) {
+    while let Some(p) = next_to_try(board, points, &tried, known, &mut order) {
         let good = succeeds(board, turn, p, plies, missing, known, reply);
         missing = missing.without(good);
         if !missing.has_some() {
@@ -345,17 +324,9 @@ fn some_of<L: Look>(
     asked.without(missing)
 }
 
-/// Whether the attacker is to play, and a play that takes no liberty of the target leaves it too many, with `plies`
-/// plies left after it.
-fn leaves_too_many(turn: Turn, plies: u8, liberties: u16) -> bool
-    ensures { result ≡ (turn.attacker_to_play && outlasts false plies (turn.wide - 1) liberties) }
-{
-    turn.attacker_to_play && outlasts(false, plies, turn.wide.saturating_sub(1), liberties)
-}
-
 /// Those of the asked under which a candidate off the liberties of the target gives the side to play its way, with
-/// `plies` plies left after it. The candidates are found only here, and not at all where such an attacker's play leaves
-/// too many liberties.
+/// `plies` plies left after it: none where such an attacker's play leaves too many liberties. The captures are found
+/// only here, and the wide candidates only where these leave something; they do not save a target in atari.
 #[cycle(read)]
 fn some_other<L: Look>(
     board: &mut Trial<L>,
@@ -382,9 +353,21 @@ fn some_other<L: Look>(
     if leaves_too_many(turn, plies, known.count()) {
         return Allowances::none();
     }
-    let candidates = candidates(board, turn.target, turn.wide);
-    let others = apart_from(&candidates, known);
-    some_of(board, turn, plies, asked, &others, known, reply)
+    let captures = captures_of(board, turn.target, known);
+    let good = some_of(board, turn, plies, asked, &captures, known, reply);
+    if turn.wide == 0 {
+        return good;
+    }
+    let missing = asked.without(good);
+    if !missing.has_some() {
+        return good;
+    }
+    if is_in_atari(board, turn, plies, known) {
+        return good;
+    }
+    let others = others_of(board, turn.target, known, &captures);
+    let rest = some_of(board, turn, plies, missing, &others, known, reply);
+    asked.without(missing.without(rest))
 }
 
 /// Those of the asked under which some candidate gives the side to play its way, with `plies` plies left after it. The
@@ -420,7 +403,8 @@ fn some_success<L: Look>(
     asked.without(missing.without(rest))
 }
 
-/// Those of the asked under which the defender's pass saves the target, with `plies` plies left after it.
+/// Those of the asked under which the defender's pass saves the target, with `plies` plies left after it: none where it
+/// is in atari.
 #[cycle(read)]
 pub fn pass_saves<L: Look>(
     board: &mut Trial<L>,
@@ -444,6 +428,9 @@ pub fn pass_saves<L: Look>(
         → is_captured (after pos board.old.moves) turn.target ≡ false
         → AddsNear (L.seen board.old.look) (L.seen board.new.look) (InActiveArea q root) }
 {
+    if is_in_atari(board, turn, plies, known) {
+        return Allowances::none();
+    }
     board.pass();
     let good = has_way(board, turn, plies, asked, Some(copy_of(known)), reply);
     board.back();
@@ -476,6 +463,9 @@ fn has_good_move<L: Look>(
 {
     if turn.attacker_to_play {
         return some_success(board, turn, plies, asked, known, reply);
+    }
+    if escapes(board, turn, plies, known) {
+        return asked;
     }
     let lost = asked.without(pass_saves(board, turn, plies, asked, known, reply));
     if !lost.has_some() {

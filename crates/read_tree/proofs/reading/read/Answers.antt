@@ -1,7 +1,12 @@
 -- The best of all moves is the answer, and the reading stays in the area.
-use Rattle.std.proofs.Common.{subst, ◌≡◌, ◌≢◌, ◌∙◌, ◌-◌, ◌&&◌, suc, Bool, true, false, refl, ap, sym, arith}
+use Rattle.std.proofs.Common.{subst, ℕ, List, ◌≡◌, ◌≢◌, ◌∙◌, ◌-◌, ◌&&◌, suc, Bool, true, false, refl, ap, sym, arith}
 use Rattle.std.proofs.lemmas.Bool.{both_ways}
-use Rattle.go_rules.specs.Strings.{liberties}
+use Rattle.std.specs.FinSet as set
+use Rattle.std.specs.Ordering.{nat_cmp}
+use Rattle.go_rules.specs.declared.Cell.{Cell}
+use Rattle.go_rules.specs.Strings.{liberties, liberty_points}
+use Rattle.go_base.proofs.Liberties.{len-liberty_points}
+use Rattle.read_rules.specs.declared.question.ReadingQuestion.{ReadingQuestion}
 use Rattle.read_tree.specs.Bound.{outlasts}
 use Rattle.go_base.specs.Facts.{Agrees, agrees_before, same_size}
 use Rattle.go_base.specs.Views.{nowhere}
@@ -34,6 +39,16 @@ and_off_right false b e = refl
 turn_of : {turn first : Turn} {b : Bool} → turn ≡ first → turn.attacker_to_play ≡ b → first.attacker_to_play ≡ b
 turn_of e h = sym (ap (λ (t : Turn). t.attacker_to_play) e) ∙ h
 
+-- the liberties that were found are too many where the target's are
+many_at : (q : ReadingQuestion) (s : ℕ) (cells : List Cell) {turn : Turn} {known : set.FinSet nat_cmp} {many : Bool}
+    → turn ≡ first_turn q → many ≡ outlasts turn.attacker_to_play q.plies turn.wide (set.len known)
+    → known ≡ liberty_points s cells turn.target
+    → many ≡ outlasts (is_attack q.kind) q.plies q.wide (liberties s cells q.target)
+many_at q s cells {turn} first many is =
+    many ∙ ap (outlasts turn.attacker_to_play q.plies turn.wide)
+    (ap set.len is ∙ len-liberty_points s cells turn.target)
+    ∙ ap (λ (t : Turn). outlasts t.attacker_to_play q.plies t.wide (liberties s cells t.target)) first
+
 -- The looks at the target's liberties. The position shown is one that agrees.
 pub returns-then-has_too_many-clause-over : goal.returns-then-has_too_many-clause-over
 returns-then-has_too_many-clause-over g c = λ pos a about.
@@ -41,10 +56,11 @@ returns-then-has_too_many-clause-over g c = λ pos a about.
     let here = after pos c.args.board.now.moves in
     let some : q.plies ≢ 0 = omega (arith, c.requires.plies) in
     let size = size-after pos c.args.board.now.moves in
-    let a0 = agrees_before c.has_too_many.ensures.stays.grows a in
+    let a0 = agrees_before c.liberties-known.ensures.stays.grows a in
     let inside = target_on pos.size (g.L.Look.shows c.args.board.now.look).size q.target
     (same_size (g.met.L.Look.sized c.args.board.now.look) a0) c.requires.target in
-    let many = sym (rw c.first_turn-turn.ensures at (c.has_too_many.ensures.over pos a)) ∙ c.if-has_too_many.true in
+    let many = sym (many_at q pos.size here.cells c.first_turn-turn.ensures c.has_too_many.ensures
+    (c.liberties-known.ensures.over pos a)) ∙ c.if-has_too_many.true in
     c.unread.ensures ∙ ap (λ (t : Turn). unread t.attacker_to_play) c.first_turn-turn.ensures
     ∙ unread_answer q here some about (target_on here.size pos.size q.target size inside)
     (ap (λ s. outlasts (is_attack q.kind) q.plies q.wide (liberties s here.cells q.target)) size ∙ many)
@@ -55,10 +71,10 @@ returns-then-has_too_many-clause-near g c = λ pos a about.
     let q = c.args.question.now in
     let here = after pos c.args.board.now.moves in
     let some : q.plies ≢ 0 = omega (arith, c.requires.plies) in
-    let a0 = agrees_before c.has_too_many.ensures.stays.grows a in
+    let a0 = agrees_before c.liberties-known.ensures.stays.grows a in
     let inside = target_on pos.size (g.L.Look.shows c.args.board.now.look).size q.target
     (same_size (g.met.L.Look.sized c.args.board.now.look) a0) c.requires.target in
-    AddsNear-in (InActiveArea q here) (rw c.first_turn-turn.ensures at (c.has_too_many.ensures.near pos a))
+    AddsNear-in (InActiveArea q here) (rw c.first_turn-turn.ensures at (c.liberties-known.ensures.near pos a))
     (area_once q here here (suc (q.plies - 1)) (under (first_turn q) neither_may)
     ((first_nodes q here some).each neither_may (has_all neither_may)) pos.size
     (size-after pos c.args.board.now.moves) inside (about_stands q here about))
@@ -66,36 +82,36 @@ returns-then-has_too_many-clause-near g c = λ pos a about.
 -- with too many liberties no play is tried, and the looks lie near the target
 pub returns-then-has_too_many-clause-too_many : goal.returns-then-has_too_many-clause-too_many
 returns-then-has_too_many-clause-too_many g c = λ h.
-    let shown = subst (Agrees (g.L.Look.seen c.has_too_many.new.board.look)) c.has_too_many.ensures.stays.shown
-    (g.met.L.Look.holds c.has_too_many.new.board.look) in (
+    let shown = subst (Agrees (g.L.Look.seen c.liberties-known.new.self.look)) c.liberties-known.ensures.stays.shown
+    (g.met.L.Look.holds c.liberties-known.new.self.look) in (
       c.unread.ensures ∙ ap (λ (t : Turn). unread t.attacker_to_play) c.first_turn-turn.ensures,
-      c.has_too_many.ensures.count,
-      rw c.first_turn-turn.ensures at (c.has_too_many.ensures.near (g.L.Look.shows c.args.board.now.look) shown),
+      c.liberties-known.ensures.count,
+      rw c.first_turn-turn.ensures at (c.liberties-known.ensures.near (g.L.Look.shows c.args.board.now.look) shown),
     )
 
 -- the attacker's plays are tried only where the liberties are not too many
 pub returns-then-turn-clause-too_many : goal.returns-then-turn-clause-too_many
 returns-then-turn-clause-too_many g c = λ h.
-    let shown = subst (Agrees (g.L.Look.seen c.has_too_many.new.board.look)) c.has_too_many.ensures.stays.shown
-    (g.met.L.Look.holds c.has_too_many.new.board.look) in
-    absurd (both_ways _ (sym (rw c.first_turn-turn.ensures at
-    (c.has_too_many.ensures.over (g.L.Look.shows c.args.board.now.look) shown)) ∙ c.if-has_too_many.false) h)
+    let shown = subst (Agrees (g.L.Look.seen c.liberties-known.new.self.look)) c.liberties-known.ensures.stays.shown
+    (g.met.L.Look.holds c.liberties-known.new.self.look) in
+    absurd (both_ways _ (sym (many_at c.args.question.now _ _ c.first_turn-turn.ensures c.has_too_many.ensures
+    (c.liberties-known.ensures.over (g.L.Look.shows c.args.board.now.look) shown)) ∙ c.if-has_too_many.false) h)
 
 -- the pass is tried only where the liberties are not too many
 pub returns-then-best-eq3-clause-too_many : goal.returns-then-best-eq3-clause-too_many
 returns-then-best-eq3-clause-too_many g c = λ h.
-    let shown = subst (Agrees (g.L.Look.seen c.has_too_many.new.board.look)) c.has_too_many.ensures.stays.shown
-    (g.met.L.Look.holds c.has_too_many.new.board.look) in
-    absurd (both_ways _ (sym (rw c.first_turn-turn.ensures at
-    (c.has_too_many.ensures.over (g.L.Look.shows c.args.board.now.look) shown)) ∙ c.if-has_too_many.false) h)
+    let shown = subst (Agrees (g.L.Look.seen c.liberties-known.new.self.look)) c.liberties-known.ensures.stays.shown
+    (g.met.L.Look.holds c.liberties-known.new.self.look) in
+    absurd (both_ways _ (sym (many_at c.args.question.now _ _ c.first_turn-turn.ensures c.has_too_many.ensures
+    (c.liberties-known.ensures.over (g.L.Look.shows c.args.board.now.look) shown)) ∙ c.if-has_too_many.false) h)
 
 -- the defender's plays are tried only where the liberties are not too many
 pub returns-clause-too_many : goal.returns-clause-too_many
 returns-clause-too_many g c = λ h.
-    let shown = subst (Agrees (g.L.Look.seen c.has_too_many.new.board.look)) c.has_too_many.ensures.stays.shown
-    (g.met.L.Look.holds c.has_too_many.new.board.look) in
-    absurd (both_ways _ (sym (rw c.first_turn-turn.ensures at
-    (c.has_too_many.ensures.over (g.L.Look.shows c.args.board.now.look) shown)) ∙ c.if-has_too_many.false) h)
+    let shown = subst (Agrees (g.L.Look.seen c.liberties-known.new.self.look)) c.liberties-known.ensures.stays.shown
+    (g.met.L.Look.holds c.liberties-known.new.self.look) in
+    absurd (both_ways _ (sym (many_at c.args.question.now _ _ c.first_turn-turn.ensures c.has_too_many.ensures
+    (c.liberties-known.ensures.over (g.L.Look.shows c.args.board.now.look) shown)) ∙ c.if-has_too_many.false) h)
 
 -- the attacker's moves
 pub returns-then-turn-clause-over : goal.returns-then-turn-clause-over
@@ -103,8 +119,9 @@ returns-then-turn-clause-over g c = λ pos a about.
     let q = c.args.question.now in
     let here = after pos c.args.board.now.moves in
     let some : q.plies ≢ 0 = omega (arith, c.requires.plies) in
-    let a1 = agrees_before c.liberties-known.ensures.stays.grows (agrees_before c.best_point.ensures.stays.grows a) in
-    let few = sym (rw c.first_turn-turn.ensures at (c.has_too_many.ensures.over pos a1)) ∙ c.if-has_too_many.false in
+    let a1 = agrees_before c.best_point.ensures.stays.grows a in
+    let few = sym (many_at q pos.size here.cells c.first_turn-turn.ensures c.has_too_many.ensures
+    (c.liberties-known.ensures.over pos a1)) ∙ c.if-has_too_many.false in
     let attacks = turn_of c.first_turn-turn.ensures c.if-turn.true in
     let und = undecided_at q.plies (first_turn q) here pos.size (size-after pos c.args.board.now.moves)
     (about_stands q here about) few in
@@ -112,7 +129,6 @@ returns-then-turn-clause-over g c = λ pos a about.
     (and_off_right (is_attack q.kind) _ ((und neither_may).few attacks))
     ((rw (
       c.liberties-known.ensures.stays.moves,
-      c.has_too_many.ensures.stays.moves,
       c.first_turn-turn.ensures,
     ) at (c.best_point.ensures.over pos a))
     (best_nothing (q.plies - 1) (first_turn q) here attacks))
@@ -124,27 +140,19 @@ returns-then-turn-clause-near g c = λ pos a about.
     let here = after pos c.args.board.now.moves in
     let some : q.plies ≢ 0 = omega (arith, c.requires.plies) in
     let ak = agrees_before c.best_point.ensures.stays.grows a in
-    let a1 = agrees_before c.liberties-known.ensures.stays.grows ak in
-    let a0 = agrees_before c.has_too_many.ensures.stays.grows a1 in
-    let few = sym (rw c.first_turn-turn.ensures at (c.has_too_many.ensures.over pos a1)) ∙ c.if-has_too_many.false in
+    let a0 = agrees_before c.liberties-known.ensures.stays.grows ak in
+    let few = sym (many_at q pos.size here.cells c.first_turn-turn.ensures c.has_too_many.ensures
+    (c.liberties-known.ensures.over pos ak)) ∙ c.if-has_too_many.false in
     let inside = target_on pos.size (g.L.Look.shows c.args.board.now.look).size q.target
     (same_size (g.met.L.Look.sized c.args.board.now.look) a0) c.requires.target in
     AddsNear-trans
-    (AddsNear-trans (AddsNear-in (InActiveArea q here)
-    (rw c.first_turn-turn.ensures at (c.has_too_many.ensures.near pos a1))
+    (AddsNear-in (InActiveArea q here) (rw c.first_turn-turn.ensures at
+    (c.liberties-known.ensures.near pos ak))
     (area_once q here here (suc (q.plies - 1)) (under (first_turn q) neither_may)
     ((first_nodes q here some).each neither_may (has_all neither_may)) pos.size
     (size-after pos c.args.board.now.moves) inside (about_stands q here about)))
-    (AddsNear-in (InActiveArea q here) (rw (
-      c.has_too_many.ensures.stays.moves,
-      c.first_turn-turn.ensures,
-    ) at (c.liberties-known.ensures.near pos ak))
-    (area_once q here here (suc (q.plies - 1)) (under (first_turn q) neither_may)
-    ((first_nodes q here some).each neither_may (has_all neither_may)) pos.size
-    (size-after pos c.args.board.now.moves) inside (about_stands q here about))))
     ((rw (
       c.liberties-known.ensures.stays.moves,
-      c.has_too_many.ensures.stays.moves,
       c.first_turn-turn.ensures,
     ) at (c.best_point.ensures.near pos a q here)) (first_nodes q here some)
     (undecided_at q.plies (first_turn q) here pos.size (size-after pos c.args.board.now.moves)
@@ -158,7 +166,6 @@ returns-then-best-eq3-clause-over g c = λ pos a about.
     let some : q.plies ≢ 0 = omega (arith, c.requires.plies) in
     let saved = rw (
       c.liberties-known.ensures.stays.moves,
-      c.has_too_many.ensures.stays.moves,
       c.all.ensures,
       c.first_turn-turn.ensures,
     ) at (c.pass_saves-saved.ensures.over pos a) in
@@ -176,26 +183,17 @@ returns-then-best-eq3-clause-near g c = λ pos a about.
     let here = after pos c.args.board.now.moves in
     let some : q.plies ≢ 0 = omega (arith, c.requires.plies) in
     let ak = agrees_before c.pass_saves-saved.ensures.stays.grows a in
-    let a1 = agrees_before c.liberties-known.ensures.stays.grows ak in
-    let a0 = agrees_before c.has_too_many.ensures.stays.grows a1 in
+    let a0 = agrees_before c.liberties-known.ensures.stays.grows ak in
     let inside = target_on pos.size (g.L.Look.shows c.args.board.now.look).size q.target
     (same_size (g.met.L.Look.sized c.args.board.now.look) a0) c.requires.target in
     AddsNear-trans
-    (AddsNear-trans (AddsNear-in (InActiveArea q here)
-    (rw c.first_turn-turn.ensures at (c.has_too_many.ensures.near pos a1))
+    (AddsNear-in (InActiveArea q here) (rw c.first_turn-turn.ensures at
+    (c.liberties-known.ensures.near pos ak))
     (area_once q here here (suc (q.plies - 1)) (under (first_turn q) neither_may)
     ((first_nodes q here some).each neither_may (has_all neither_may)) pos.size
     (size-after pos c.args.board.now.moves) inside (about_stands q here about)))
-    (AddsNear-in (InActiveArea q here) (rw (
-      c.has_too_many.ensures.stays.moves,
-      c.first_turn-turn.ensures,
-    ) at (c.liberties-known.ensures.near pos ak))
-    (area_once q here here (suc (q.plies - 1)) (under (first_turn q) neither_may)
-    ((first_nodes q here some).each neither_may (has_all neither_may)) pos.size
-    (size-after pos c.args.board.now.moves) inside (about_stands q here about))))
     ((rw (
       c.liberties-known.ensures.stays.moves,
-      c.has_too_many.ensures.stays.moves,
       c.all.ensures,
       c.first_turn-turn.ensures,
     ) at (c.pass_saves-saved.ensures.near pos a q here)) (first_nodes q here some)
@@ -210,7 +208,6 @@ returns-clause-over g c = λ pos a about.
     let a1 = agrees_before c.best_point-2.ensures.stays.grows a in
     let saved = rw (
       c.liberties-known.ensures.stays.moves,
-      c.has_too_many.ensures.stays.moves,
       c.all.ensures,
       c.first_turn-turn.ensures,
     ) at (c.pass_saves-saved.ensures.over pos a1) in
@@ -219,7 +216,6 @@ returns-clause-over g c = λ pos a about.
     ((rw (
       c.pass_saves-saved.ensures.stays.moves,
       c.liberties-known.ensures.stays.moves,
-      c.has_too_many.ensures.stays.moves,
       c.first_turn-turn.ensures,
     ) at (c.best_point-2.ensures.over pos a))
     (rw (c.better-best.ensures.is, c.first_turn-turn.ensures)
@@ -233,27 +229,18 @@ returns-clause-near g c = λ pos a about.
     let some : q.plies ≢ 0 = omega (arith, c.requires.plies) in
     let a1 = agrees_before c.best_point-2.ensures.stays.grows a in
     let ak = agrees_before c.pass_saves-saved.ensures.stays.grows a1 in
-    let a2 = agrees_before c.liberties-known.ensures.stays.grows ak in
-    let a0 = agrees_before c.has_too_many.ensures.stays.grows a2 in
+    let a0 = agrees_before c.liberties-known.ensures.stays.grows ak in
     let stands = about_stands q here about in
     let inside = target_on pos.size (g.L.Look.shows c.args.board.now.look).size q.target
     (same_size (g.met.L.Look.sized c.args.board.now.look) a0) c.requires.target in
     AddsNear-trans (AddsNear-trans
-    (AddsNear-trans (AddsNear-in (InActiveArea q here)
-    (rw c.first_turn-turn.ensures at (c.has_too_many.ensures.near pos a2))
+    (AddsNear-in (InActiveArea q here) (rw c.first_turn-turn.ensures at
+    (c.liberties-known.ensures.near pos ak))
     (area_once q here here (suc (q.plies - 1)) (under (first_turn q) neither_may)
     ((first_nodes q here some).each neither_may (has_all neither_may)) pos.size
     (size-after pos c.args.board.now.moves) inside stands))
-    (AddsNear-in (InActiveArea q here) (rw (
-      c.has_too_many.ensures.stays.moves,
-      c.first_turn-turn.ensures,
-    ) at (c.liberties-known.ensures.near pos ak))
-    (area_once q here here (suc (q.plies - 1)) (under (first_turn q) neither_may)
-    ((first_nodes q here some).each neither_may (has_all neither_may)) pos.size
-    (size-after pos c.args.board.now.moves) inside stands)))
     ((rw (
       c.liberties-known.ensures.stays.moves,
-      c.has_too_many.ensures.stays.moves,
       c.all.ensures,
       c.first_turn-turn.ensures,
     ) at (c.pass_saves-saved.ensures.near pos a1 q here))
@@ -261,7 +248,6 @@ returns-clause-near g c = λ pos a about.
     ((rw (
       c.pass_saves-saved.ensures.stays.moves,
       c.liberties-known.ensures.stays.moves,
-      c.has_too_many.ensures.stays.moves,
       c.first_turn-turn.ensures,
     ) at (c.best_point-2.ensures.near pos a q here))
     (first_nodes q here some) (λ ko. undecided_defender stands (turn_of c.first_turn-turn.ensures c.if-turn.false)))

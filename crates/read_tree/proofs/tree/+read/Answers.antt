@@ -1,14 +1,15 @@
 -- The walk over the game tree answers what the tree says under each of the asked allowances, over every position that
 -- agrees with what was seen.
-use Rattle.std.proofs.Common.{arith, ◌≡◌, ◌⊎◌, ◌∙◌, ◌-◌, ◌*◌, ◌<◌, ℕ, suc, inl, inr, true, false, List, ap, sym, subst, refl, IfSome, is_some, rules}
+use Rattle.std.proofs.Common.{arith, ◌||◌, ◌≡◌, ◌⊎◌, ◌∙◌, ◌-◌, ◌*◌, ◌<◌, ℕ, suc, inl, inr, true, false, List, ap, sym, subst, refl, IfSome, is_some, rules}
 use Rattle.std.specs.FinSet as set
 use Rattle.go_base.specs.Facts.{agrees_before, Grows-refl, Grows-trans, same_size}
 use Rattle.go_rules.specs.declared.Cell.TheVariants.{Empty}
 use Rattle.go_rules.proofs.Cells.{eq_is_same_cell}
-use Rattle.std.proofs.lemmas.Bool.{eqb-true, and_parts}
+use Rattle.std.proofs.lemmas.Bool.{eqb-true, and_parts, lt-ltb, le-ltb}
 use Rattle.go_rules.specs.Strings.{is_liberty, liberty_points}
 use Rattle.go_base.specs.Facts.{Agrees}
 use Rattle.read_tree.specs.Bound.{outlasts}
+use Rattle.read_tree.specs.Stages.{is_other}
 use Rattle.go_rules.specs.Position.{BoardState}
 use Rattle.trial_board.specs.declared.moves.TrialMove.{TrialMove}
 use Rattle.trial_board.specs.Trials.{after}
@@ -20,11 +21,13 @@ use Rattle.read_tree.specs.Allowances.{Ko, under, next_turn, own_ko, neither_may
 use Rattle.read_rules.specs.GoodMoves.{good_move}
 use Rattle.read_tree.specs.Steps.{AreNodesOf, is_off_liberties}
 use Rattle.read_rules.specs.GameTree.{has_many_liberties, attacker_wins, child_of, succeeds, first_success}
-use Rattle.read_tree.proofs.AllowanceLemmas.{some_of, suits_child, suits_none, Tells-same, Tells-own, Tells-good, Tells-attackers, Tells-all, Tells-none, good_attacker, neither_nodes, pass_nodes, fewer_nodes, without_less, left_first, left_next}
-use Rattle.read_tree.proofs.StageLemmas.{by_done, by_over, by_none, by_same, stage_done, stage_over, none_other, nothing_near, liberty_is_candidate, its_liberty, its_count, known_inside, off_is}
+use Rattle.read_tree.proofs.AllowanceLemmas.{some_of, success_some, good_by_success, suits_child, suits_none, Tells-same, Tells-own, Tells-good, Tells-attackers, Tells-all, Tells-none, good_attacker, neither_nodes, pass_nodes, fewer_nodes, without_less, left_first, left_next}
+use Rattle.read_tree.proofs.StageLemmas.{by_done, by_over, by_none, by_same, by_more, by_enough, by_both, stage_done, stage_over, none_other, nothing_near, liberty_is_candidate, capture_is_candidate, capture_is_off, other_is_candidate, off_by_stages, off_by_captures, captures_near, its_liberty, its_count, known_inside}
 use Rattle.read_tree.proofs.OrderLemmas.{none_tried, newest_or_before, fewer_left, none_left, order_near}
 use Rattle.read_tree.proofs.LibertyLemmas.{bounded_at, undecided_at}
 use Rattle.read_moves.proofs.AfterPlays.{whole_after}
+use Rattle.read_tree.proofs.AtariLemmas.{pass_fails, atari_fails}
+use Rattle.read_tree.proofs.EscapeLemmas.{escape_succeeds, escape_near}
 use Rattle.read_tree.proofs.TakeLemmas.{take_wins}
 use Rattle.read_tree.proofs.CarryLemmas.{carries, made_free}
 use Rattle.read_rules.proofs.AreaLemmas.{AddsNear-in, AddsNear-trans, AddsNear-mono, area_target, area_once, area_candidates, area_play, pred_tree, undecided_defender, target_on}
@@ -206,24 +209,54 @@ succeeds-returns-in-Allowed-clause-near g t c = λ pos a q root tree und candida
       | inr i ↦ i
     ]))))
 
--- after the pass
-pub pass_saves-returns-clause-near : goal.pass_saves-returns-clause-near
-pass_saves-returns-clause-near g t c = λ pos a q root tree stands.
-    let a2 = rw c.back.ensures.moves at a in
-    let a0 = rw c.pass.ensures at (agrees_before c.has_way-good.ensures.stays.grows a2) in
+-- a target in atari is not saved by the pass
+pub pass_saves-returns-then-is_in_atari-clause-over : goal.pass_saves-returns-then-is_in_atari-clause-over
+pass_saves-returns-then-is_in_atari-clause-over g t c = λ pos a.
+    let here = after pos c.args.board.now.moves in
+    let turn = c.args.turn in
+    let a0 = agrees_before c.is_in_atari.ensures.stays.grows a in
+    let inside = target_on here.size pos.size turn.target (size-after pos c.args.board.now.moves)
+    (target_on pos.size (g.L.Look.shows c.args.board.now.look).size turn.target
+    (same_size (g.met.L.Look.sized c.args.board.now.look) a0) c.requires.target) in
+    rw c.none.ensures (Tells-none c.args.asked _
+    (pass_fails c.args.plies turn here inside (c.is_in_atari.ensures.over pos a c.if-is_in_atari.true)))
+
+-- the target's point lies in the active area
+pub pass_saves-returns-then-is_in_atari-clause-near : goal.pass_saves-returns-then-is_in_atari-clause-near
+pass_saves-returns-then-is_in_atari-clause-near g t c = λ pos a q root tree stands.
+    let a0 = agrees_before c.is_in_atari.ensures.stays.grows a in
     let here = after pos c.args.board.now.moves in
     let turn = c.args.turn in
     let one = some_of c.args.asked c.requires.some in
     let inside = target_on pos.size (g.L.Look.shows c.args.board.now.look).size turn.target
     (same_size (g.met.L.Look.sized c.args.board.now.look) a0) c.requires.target in
-    let passed = rw c.pass.ensures at (c.has_way-good.ensures.near pos a2 q root) in
-    rw c.back.ensures.moves (AddsNear-mono (λ p. (p ≡ turn.target)
+    AddsNear-in (InActiveArea q root) c.is_in_atari.ensures.near
+    (λ p h. area_target q root here (suc c.args.plies) (under turn one.0) (tree.each one.0 one.1) pos.size
+    (size-after pos c.args.board.now.moves) inside stands p (eqb-true p turn.target h))
+
+-- after the pass
+pub pass_saves-returns-clause-near : goal.pass_saves-returns-clause-near
+pass_saves-returns-clause-near g t c = λ pos a q root tree stands.
+    let a2 = rw c.back.ensures.moves at a in
+    let a1 = rw c.pass.ensures at (agrees_before c.has_way-good.ensures.stays.grows a2) in
+    let a0 = agrees_before c.is_in_atari.ensures.stays.grows a1 in
+    let here = after pos c.args.board.now.moves in
+    let turn = c.args.turn in
+    let one = some_of c.args.asked c.requires.some in
+    let inside = target_on pos.size (g.L.Look.shows c.args.board.now.look).size turn.target
+    (same_size (g.met.L.Look.sized c.args.board.now.look) a0) c.requires.target in
+    let passed = rw (c.pass.ensures, c.is_in_atari.ensures.stays.moves) at
+    (c.has_way-good.ensures.near pos a2 q root) in
+    rw c.back.ensures.moves (AddsNear-trans (AddsNear-in (InActiveArea q root) c.is_in_atari.ensures.near
+    (λ p h. area_target q root here (suc c.args.plies) (under turn one.0) (tree.each one.0 one.1) pos.size
+    (size-after pos c.args.board.now.moves) inside stands p (eqb-true p turn.target h)))
+    (AddsNear-mono (λ p. (p ≡ turn.target)
     ⊎ InActiveArea q root p) (InActiveArea q root) (passed (pass_nodes tree stands c.requires.defender))
     (λ p h. elim h [
       | inl e ↦ area_target q root here (suc c.args.plies) (under turn one.0)
           (tree.each one.0 one.1) pos.size (size-after pos c.args.board.now.moves) inside stands p e
       | inr i ↦ i
-    ]))
+    ])))
 
 -- the points of the set are on the board
 pub some_of-next_to_try-requires : goal.some_of-next_to_try-requires
@@ -372,18 +405,60 @@ candidate_inside : (shown : BoardState) (moves : List TrialMove) (target wide p 
 candidate_inside shown moves target wide p h =
     subst (λ n. p < n * n) (size-after shown moves) (candidate_on (after shown moves) target wide p h)
 
--- a candidate off the liberties is on the board
-pub some_other-some_of-requires : goal.some_other-some_of-requires
-some_other-some_of-requires g t c κs within =
+-- the captures are on the board
+pub some_other-some_of-good-requires : goal.some_other-some_of-good-requires
+some_other-some_of-good-requires g t c κs within =
     let shown = g.L.Look.shows c.args.board.now.look in
-    let inside : (p : ℕ) → set.contains c.apart_from-others.result p ≡ true → p < shown.size * shown.size =
-    λ p h. candidate_inside shown c.args.board.now.moves c.args.turn.target c.args.turn.wide p
-    (sym (c.candidates-candidates.ensures.answer p) ∙ (and_parts _ _ (sym (c.apart_from-others.ensures p) ∙ h)).0) in
-    let still : (p : ℕ) → set.contains c.apart_from-others.result p ≡ true
-    → p < (g.L.Look.shows c.candidates-candidates.new.board.look).size *
-    (g.L.Look.shows c.candidates-candidates.new.board.look).size =
-    λ p h. subst (λ (pos : BoardState). p < pos.size * pos.size) (sym c.candidates-candidates.ensures.stays.shown)
-    (inside p h) in
+    let stays = c.captures_of-captures.ensures.stays in
+    let inside : (p : ℕ) → set.contains c.captures_of-captures.result p ≡ true
+    → p < (g.L.Look.shows c.captures_of-captures.new.board.look).size *
+    (g.L.Look.shows c.captures_of-captures.new.board.look).size =
+    λ p h. subst (λ (pos : BoardState). p < pos.size * pos.size) (sym stays.shown)
+    (candidate_inside shown c.args.board.now.moves c.args.turn.target c.args.turn.wide p
+    (capture_is_candidate c.args.turn (after shown c.args.board.now.moves) p
+    (sym (c.captures_of-captures.ensures.over shown
+    (subst (Agrees (g.L.Look.seen c.captures_of-captures.new.board.look)) stays.shown
+    (g.met.L.Look.holds c.captures_of-captures.new.board.look)) p) ∙ h))) in
+    search rules
+
+-- what the captures are is still known once they were tried
+pub some_other-others_of-others-requires-clause-captures : goal.some_other-others_of-others-requires-clause-captures
+some_other-others_of-others-requires-clause-captures g t c = λ pos a p.
+    rw (c.is_in_atari.ensures.stays.moves ∙ c.some_of-good.ensures.stays.moves
+    ∙ c.captures_of-captures.ensures.stays.moves)
+    (c.captures_of-captures.ensures.over pos (agrees_before c.some_of-good.ensures.stays.grows
+    (agrees_before c.is_in_atari.ensures.stays.grows a)) p)
+
+-- the other candidates are on the board
+pub some_other-some_of-rest-requires : goal.some_other-some_of-rest-requires
+some_other-some_of-rest-requires g t c κs within =
+    let shown = g.L.Look.shows c.args.board.now.look in
+    let here = after shown c.args.board.now.moves in
+    let turn = c.args.turn in
+    let others = c.others_of-others.ensures in
+    let same = others.stays.shown ∙ c.is_in_atari.ensures.stays.shown ∙ c.some_of-good.ensures.stays.shown
+    ∙ c.captures_of-captures.ensures.stays.shown in
+    let before = c.is_in_atari.ensures.stays.moves ∙ c.some_of-good.ensures.stays.moves
+    ∙ c.captures_of-captures.ensures.stays.moves in
+    let still : (p : ℕ) → p < shown.size * shown.size
+    → p < (g.L.Look.shows c.others_of-others.new.board.look).size *
+    (g.L.Look.shows c.others_of-others.new.board.look).size =
+    λ p h. subst (λ (pos : BoardState). p < pos.size * pos.size) (sym same) h in
+    let agrees = subst (Agrees (g.L.Look.seen c.others_of-others.new.board.look)) same
+    (g.met.L.Look.holds c.others_of-others.new.board.look) in
+    let inside : (p : ℕ) → set.contains c.others_of-others.result p ≡ true
+    → p < (g.L.Look.shows c.others_of-others.new.board.look).size *
+    (g.L.Look.shows c.others_of-others.new.board.look).size =
+    λ p h. still p (candidate_inside shown c.args.board.now.moves turn.target turn.wide p
+    (other_is_candidate turn here p (lt-ltb 0 turn.wide (omega (arith, c.if-turn-eq0.false)))
+    (sym (rw before at (others.over shown agrees p)) ∙ h))) in
+    let target = still turn.target c.requires.target in
+    let moves = others.stays.moves ∙ before in
+    let liberties : (pos : BoardState) → Agrees (g.L.Look.seen c.others_of-others.new.board.look) pos
+    → c.args.known.now ≡ liberty_points pos.size (after pos c.others_of-others.new.board.moves).cells turn.target =
+    λ pos a. rw moves (c.requires.liberties pos (agrees_before c.captures_of-captures.ensures.stays.grows
+    (agrees_before c.some_of-good.ensures.stays.grows (agrees_before c.is_in_atari.ensures.stays.grows
+    (agrees_before others.stays.grows a))))) in
     search rules
 
 -- too many liberties would be left
@@ -403,36 +478,158 @@ some_other-returns-then-leaves_too_many-clause-over g t c = λ pos a.
     (none_other c.args.plies turn here inside both.0
     (ap (λ n. outlasts false c.args.plies (turn.wide - 1) n) (sym counted) ∙ both.1)))
 
--- each of the others was tried
-pub some_other-returns-clause-over : goal.some_other-returns-clause-over
-some_other-returns-clause-over g t c = λ pos a.
-    let a1 = agrees_before c.some_of.ensures.stays.grows a in
-    let a0 = agrees_before c.candidates-candidates.ensures.stays.grows a1 in
+-- no wide ply is left: the captures were all
+pub some_other-returns-then-turn-eq0-clause-over : goal.some_other-returns-then-turn-eq0-clause-over
+some_other-returns-then-turn-eq0-clause-over g t c = λ pos a.
+    let a1 = agrees_before c.some_of-good.ensures.stays.grows a in
     let here = after pos c.args.board.now.moves in
     let turn = c.args.turn in
-    let its = its_liberty pos.size here turn.target c.args.known.now (size-after pos c.args.board.now.moves)
-    (c.requires.liberties pos a0) in
-    by_same c.args.plies turn here (set.contains c.apart_from-others.result)
-    (is_off_liberties turn here) c.args.asked c.some_of.result
-    (λ q. off_is turn here c.args.known.now _ _ q (c.candidates-candidates.ensures.over pos a1 q) (its q)
-    (c.apart_from-others.ensures q))
-    (rw c.candidates-candidates.ensures.stays.moves at (c.some_of.ensures.over pos a))
+    by_same c.args.plies turn here (set.contains c.captures_of-captures.result) (is_off_liberties turn here)
+    c.args.asked c.some_of-good.result
+    (λ q. c.captures_of-captures.ensures.over pos a1 q
+    ∙ sym (off_by_captures turn here q (le-ltb 0 turn.wide (omega (arith, c.if-turn-eq0.true)))))
+    (rw c.captures_of-captures.ensures.stays.moves at (c.some_of-good.ensures.over pos a))
 
--- the candidates are looked for near the target
+-- the captures give all that was asked
+pub some_other-returns-then-not-has_some-clause-over : goal.some_other-returns-then-not-has_some-clause-over
+some_other-returns-then-not-has_some-clause-over g t c = λ pos a.
+    let a1 = agrees_before c.some_of-good.ensures.stays.grows a in
+    let here = after pos c.args.board.now.moves in
+    let turn = c.args.turn in
+    by_enough c.args.plies turn here (set.contains c.captures_of-captures.result) (is_off_liberties turn here)
+    c.args.asked c.some_of-good.result
+    (rw c.captures_of-captures.ensures.stays.moves at (c.some_of-good.ensures.over pos a))
+    (λ q h. capture_is_off turn here q (sym (c.captures_of-captures.ensures.over pos a1 q) ∙ h))
+    (sym (c.has_some.ensures ∙ ap has_some c.without-missing.ensures) ∙ c.if-not-has_some.true)
+
+-- a target in atari is saved by no others
+pub some_other-returns-then-is_in_atari-clause-over : goal.some_other-returns-then-is_in_atari-clause-over
+some_other-returns-then-is_in_atari-clause-over g t c = λ pos a.
+    let a2 = agrees_before c.is_in_atari.ensures.stays.grows a in
+    let a1 = agrees_before c.some_of-good.ensures.stays.grows a2 in
+    let a0 = agrees_before c.captures_of-captures.ensures.stays.grows a1 in
+    let here = after pos c.args.board.now.moves in
+    let turn = c.args.turn in
+    let inside = target_on here.size pos.size turn.target (size-after pos c.args.board.now.moves)
+    (target_on pos.size (g.L.Look.shows c.args.board.now.look).size turn.target
+    (same_size (g.met.L.Look.sized c.args.board.now.look) a0) c.requires.target) in
+    let atari = rw (c.some_of-good.ensures.stays.moves ∙ c.captures_of-captures.ensures.stays.moves) at
+    (c.is_in_atari.ensures.over pos a c.if-is_in_atari.true) in
+    let its = c.captures_of-captures.ensures.over pos a1 in
+    by_more c.args.plies turn here (set.contains c.captures_of-captures.result) (is_off_liberties turn here)
+    c.args.asked c.some_of-good.result
+    (rw c.captures_of-captures.ensures.stays.moves at (c.some_of-good.ensures.over pos a2))
+    (λ q h. capture_is_off turn here q (sym (its q) ∙ h))
+    (λ ko q off none. atari_fails c.args.plies turn here inside atari ko q off (sym (its q) ∙ none))
+
+-- what the captures left is asked of the others
+pub some_other-returns-clause-over : goal.some_other-returns-clause-over
+some_other-returns-clause-over g t c = λ pos a.
+    let a3 = agrees_before c.some_of-rest.ensures.stays.grows a in
+    let a4 = agrees_before c.others_of-others.ensures.stays.grows a3 in
+    let a2 = agrees_before c.is_in_atari.ensures.stays.grows a4 in
+    let a1 = agrees_before c.some_of-good.ensures.stays.grows a2 in
+    let here = after pos c.args.board.now.moves in
+    let turn = c.args.turn in
+    let before = c.is_in_atari.ensures.stays.moves ∙ c.some_of-good.ensures.stays.moves
+    ∙ c.captures_of-captures.ensures.stays.moves in
+    let moves = c.others_of-others.ensures.stays.moves ∙ before in
+    rw (c.without-2.ensures, c.without.ensures, c.without-missing.ensures)
+    (by_both c.args.plies turn here (set.contains c.captures_of-captures.result) (is_off_liberties turn here)
+    c.args.asked c.some_of-good.result
+    (rw c.captures_of-captures.ensures.stays.moves at (c.some_of-good.ensures.over pos a2))
+    (set.contains c.others_of-others.result) c.some_of-rest.result
+    (λ q. off_by_stages turn here q (lt-ltb 0 turn.wide (omega (arith, c.if-turn-eq0.false)))
+    ∙ ap (λ b. b || is_other here turn.target q) (sym (c.captures_of-captures.ensures.over pos a1 q))
+    ∙ ap (λ b. set.contains c.captures_of-captures.result q || b)
+    (sym (rw before at (c.others_of-others.ensures.over pos a3 q))))
+    (rw (moves, c.without-missing.ensures) at (c.some_of-rest.ensures.over pos a)))
+
+-- the looks for the captures and at their plays lie in the active area
+pub some_other-returns-then-turn-eq0-clause-near : goal.some_other-returns-then-turn-eq0-clause-near
+some_other-returns-then-turn-eq0-clause-near g t c = λ pos a q root tree und.
+    let a1 = agrees_before c.some_of-good.ensures.stays.grows a in
+    let a0 = agrees_before c.captures_of-captures.ensures.stays.grows a1 in
+    let here = after pos c.args.board.now.moves in
+    let turn = c.args.turn in
+    let one = some_of c.args.asked c.requires.some in
+    let inside = target_on pos.size (g.L.Look.shows c.args.board.now.look).size turn.target
+    (same_size (g.met.L.Look.sized c.args.board.now.look) a0) c.requires.target in
+    AddsNear-trans (AddsNear-in (InActiveArea q root) (c.captures_of-captures.ensures.near pos a1)
+    (captures_near q root here (suc c.args.plies) (under turn one.0) (tree.each one.0 one.1) pos.size
+    (size-after pos c.args.board.now.moves) inside (und one.0).stands))
+    ((rw c.captures_of-captures.ensures.stays.moves at (c.some_of-good.ensures.near pos a q root)) tree und
+    (λ p h. capture_is_candidate turn here p (sym (c.captures_of-captures.ensures.over pos a1 p) ∙ h)))
+
+-- where the captures do, too
+pub some_other-returns-then-not-has_some-clause-near : goal.some_other-returns-then-not-has_some-clause-near
+some_other-returns-then-not-has_some-clause-near g t c = λ pos a q root tree und.
+    let a1 = agrees_before c.some_of-good.ensures.stays.grows a in
+    let a0 = agrees_before c.captures_of-captures.ensures.stays.grows a1 in
+    let here = after pos c.args.board.now.moves in
+    let turn = c.args.turn in
+    let one = some_of c.args.asked c.requires.some in
+    let inside = target_on pos.size (g.L.Look.shows c.args.board.now.look).size turn.target
+    (same_size (g.met.L.Look.sized c.args.board.now.look) a0) c.requires.target in
+    AddsNear-trans (AddsNear-in (InActiveArea q root) (c.captures_of-captures.ensures.near pos a1)
+    (captures_near q root here (suc c.args.plies) (under turn one.0) (tree.each one.0 one.1) pos.size
+    (size-after pos c.args.board.now.moves) inside (und one.0).stands))
+    ((rw c.captures_of-captures.ensures.stays.moves at (c.some_of-good.ensures.near pos a q root)) tree und
+    (λ p h. capture_is_candidate turn here p (sym (c.captures_of-captures.ensures.over pos a1 p) ∙ h)))
+
+-- the target's point, by which an atari is told, lies there
+pub some_other-returns-then-is_in_atari-clause-near : goal.some_other-returns-then-is_in_atari-clause-near
+some_other-returns-then-is_in_atari-clause-near g t c = λ pos a q root tree und.
+    let a2 = agrees_before c.is_in_atari.ensures.stays.grows a in
+    let a1 = agrees_before c.some_of-good.ensures.stays.grows a2 in
+    let a0 = agrees_before c.captures_of-captures.ensures.stays.grows a1 in
+    let here = after pos c.args.board.now.moves in
+    let turn = c.args.turn in
+    let one = some_of c.args.asked c.requires.some in
+    let inside = target_on pos.size (g.L.Look.shows c.args.board.now.look).size turn.target
+    (same_size (g.met.L.Look.sized c.args.board.now.look) a0) c.requires.target in
+    AddsNear-trans (AddsNear-trans (AddsNear-in (InActiveArea q root) (c.captures_of-captures.ensures.near pos a1)
+    (captures_near q root here (suc c.args.plies) (under turn one.0) (tree.each one.0 one.1) pos.size
+    (size-after pos c.args.board.now.moves) inside (und one.0).stands))
+    ((rw c.captures_of-captures.ensures.stays.moves at (c.some_of-good.ensures.near pos a2 q root)) tree und
+    (λ p h. capture_is_candidate turn here p (sym (c.captures_of-captures.ensures.over pos a1 p) ∙ h))))
+    (AddsNear-in (InActiveArea q root) c.is_in_atari.ensures.near
+    (λ p h. area_target q root here (suc c.args.plies) (under turn one.0) (tree.each one.0 one.1) pos.size
+    (size-after pos c.args.board.now.moves) inside (und one.0).stands p (eqb-true p turn.target h)))
+
+-- and so do the looks for the others and at their plays
 pub some_other-returns-clause-near : goal.some_other-returns-clause-near
 some_other-returns-clause-near g t c = λ pos a q root tree und.
-    let a1 = agrees_before c.some_of.ensures.stays.grows a in
-    let a0 = agrees_before c.candidates-candidates.ensures.stays.grows a1 in
+    let a3 = agrees_before c.some_of-rest.ensures.stays.grows a in
+    let a4 = agrees_before c.others_of-others.ensures.stays.grows a3 in
+    let a2 = agrees_before c.is_in_atari.ensures.stays.grows a4 in
+    let a1 = agrees_before c.some_of-good.ensures.stays.grows a2 in
+    let a0 = agrees_before c.captures_of-captures.ensures.stays.grows a1 in
     let here = after pos c.args.board.now.moves in
+    let turn = c.args.turn in
     let one = some_of c.args.asked c.requires.some in
-    AddsNear-trans (AddsNear-in (InActiveArea q root) (c.candidates-candidates.ensures.near pos a1)
-    (area_candidates q root here (suc c.args.plies) (under c.args.turn one.0) (tree.each one.0 one.1) pos.size
-    (size-after pos c.args.board.now.moves)
-    (target_on pos.size (g.L.Look.shows c.args.board.now.look).size c.args.turn.target
-    (same_size (g.met.L.Look.sized c.args.board.now.look) a0) c.requires.target) (und one.0).stands))
-    ((rw c.candidates-candidates.ensures.stays.moves at (c.some_of.ensures.near pos a q root)) tree und
-    (λ p h. sym (c.candidates-candidates.ensures.over pos a1 p)
-    ∙ (and_parts _ _ (sym (c.apart_from-others.ensures p) ∙ h)).0))
+    let inside = target_on pos.size (g.L.Look.shows c.args.board.now.look).size turn.target
+    (same_size (g.met.L.Look.sized c.args.board.now.look) a0) c.requires.target in
+    let before = c.is_in_atari.ensures.stays.moves ∙ c.some_of-good.ensures.stays.moves
+    ∙ c.captures_of-captures.ensures.stays.moves in
+    let moves = c.others_of-others.ensures.stays.moves ∙ before in
+    let less : (ko : Ko) → has c.without-missing.result ko ≡ true → has c.args.asked ko ≡ true =
+    λ ko h. without_less c.args.asked c.some_of-good.result ko
+    (sym (ap (λ s. has s ko) c.without-missing.ensures) ∙ h) in
+    AddsNear-trans (AddsNear-trans (AddsNear-in (InActiveArea q root) (c.captures_of-captures.ensures.near pos a1)
+    (captures_near q root here (suc c.args.plies) (under turn one.0) (tree.each one.0 one.1) pos.size
+    (size-after pos c.args.board.now.moves) inside (und one.0).stands))
+    ((rw c.captures_of-captures.ensures.stays.moves at (c.some_of-good.ensures.near pos a2 q root)) tree und
+    (λ p h. capture_is_candidate turn here p (sym (c.captures_of-captures.ensures.over pos a1 p) ∙ h))))
+    (AddsNear-trans (AddsNear-in (InActiveArea q root) c.is_in_atari.ensures.near
+    (λ p h. area_target q root here (suc c.args.plies) (under turn one.0) (tree.each one.0 one.1) pos.size
+    (size-after pos c.args.board.now.moves) inside (und one.0).stands p (eqb-true p turn.target h)))
+    (AddsNear-trans (AddsNear-in (InActiveArea q root) (rw before at (c.others_of-others.ensures.near pos a3))
+    (area_candidates q root here (suc c.args.plies) (under turn one.0) (tree.each one.0 one.1) pos.size
+    (size-after pos c.args.board.now.moves) inside (und one.0).stands))
+    ((rw moves at (c.some_of-rest.ensures.near pos a q root)) (fewer_nodes c.without-missing.result tree less) und
+    (λ p h. other_is_candidate turn here p (lt-ltb 0 turn.wide (omega (arith, c.if-turn-eq0.false)))
+    (sym (rw before at (c.others_of-others.ensures.over pos a3 p)) ∙ h)))))
 
 -- a liberty is on the board
 pub some_success-some_of-good-requires : goal.some_success-some_of-good-requires
@@ -510,10 +707,58 @@ has_good_move-returns-then-turn-clause-over g t c = λ pos a und.
     (λ ko. good_attacker c.args.turn.attacker_to_play (has_many_liberties here c.args.turn.target c.args.turn.wide) _
     (first_success c.args.plies (under c.args.turn ko) here) c.if-turn.true ((und ko).few c.if-turn.true))
 
--- where the pass saves, the looks after it lie in the active area
+-- what is known is on the board
+pub has_good_move-escapes-requires-clause-inside : goal.has_good_move-escapes-requires-clause-inside
+has_good_move-escapes-requires-clause-inside g t c = λ p h.
+    let shown = g.L.Look.shows c.args.board.now.look in
+    known_inside shown.size (after shown c.args.board.now.moves).cells c.args.turn.target p c.args.known.now
+    (c.requires.liberties shown (g.met.L.Look.holds c.args.board.now.look)) h
+
+-- a defender who escapes has a good move
+pub has_good_move-returns-then-escapes-clause-over : goal.has_good_move-returns-then-escapes-clause-over
+has_good_move-returns-then-escapes-clause-over g t c = λ pos a und.
+    let here = after pos c.args.board.now.moves in
+    let turn = c.args.turn in
+    let size = size-after pos c.args.board.now.moves in
+    let a0 = agrees_before c.escapes.ensures.stays.grows a in
+    let inside = target_on here.size pos.size turn.target size
+    (target_on pos.size (g.L.Look.shows c.args.board.now.look).size turn.target
+    (same_size (g.met.L.Look.sized c.args.board.now.look) a0) c.requires.target) in
+    let its = its_liberty pos.size here turn.target c.args.known.now size (c.requires.liberties pos a0) in
+    let way = c.escapes.ensures.over pos a c.if-escapes.true in
+    Tells-all c.args.asked _ (λ ko. good_by_success c.args.plies turn here ko c.if-turn.false
+    (success_some c.args.plies (under turn ko) here way.l
+    (liberty_is_candidate here turn.target turn.wide way.l (sym (its way.l) ∙ way.there))
+    (escape_succeeds c.args.plies turn here c.args.known.now
+    (whole_after pos c.args.board.now.moves a.sound.cells) inside c.if-turn.false its way ko)))
+
+-- the looks for an escape lie in the active area
+pub has_good_move-returns-then-escapes-clause-near : goal.has_good_move-returns-then-escapes-clause-near
+has_good_move-returns-then-escapes-clause-near g t c = λ pos a q root tree und.
+    let a0 = agrees_before c.escapes.ensures.stays.grows a in
+    let here = after pos c.args.board.now.moves in
+    let turn = c.args.turn in
+    let one = some_of c.args.asked c.requires.some in
+    let inside = target_on pos.size (g.L.Look.shows c.args.board.now.look).size turn.target
+    (same_size (g.met.L.Look.sized c.args.board.now.look) a0) c.requires.target in
+    AddsNear-in (InActiveArea q root) (c.escapes.ensures.near pos a)
+    (escape_near q root here (suc c.args.plies) (under turn one.0) (tree.each one.0 one.1) pos.size
+    (size-after pos c.args.board.now.moves) inside (und one.0).stands c.args.known.now (c.requires.liberties pos a0))
+
+-- where the pass saves, the looks for an escape and after the pass lie in the active area
 pub has_good_move-returns-then-not-has_some-clause-near : goal.has_good_move-returns-then-not-has_some-clause-near
-has_good_move-returns-then-not-has_some-clause-near g t c =
-    λ pos a q root tree und. c.pass_saves.ensures.near pos a q root tree (und neither_may).stands
+has_good_move-returns-then-not-has_some-clause-near g t c = λ pos a q root tree und.
+    let a1 = agrees_before c.pass_saves.ensures.stays.grows a in
+    let a0 = agrees_before c.escapes.ensures.stays.grows a1 in
+    let here = after pos c.args.board.now.moves in
+    let turn = c.args.turn in
+    let one = some_of c.args.asked c.requires.some in
+    let inside = target_on pos.size (g.L.Look.shows c.args.board.now.look).size turn.target
+    (same_size (g.met.L.Look.sized c.args.board.now.look) a0) c.requires.target in
+    AddsNear-trans (AddsNear-in (InActiveArea q root) (c.escapes.ensures.near pos a1)
+    (escape_near q root here (suc c.args.plies) (under turn one.0) (tree.each one.0 one.1) pos.size
+    (size-after pos c.args.board.now.moves) inside (und one.0).stands c.args.known.now (c.requires.liberties pos a0)))
+    ((rw c.escapes.ensures.stays.moves at (c.pass_saves.ensures.near pos a q root)) tree (und neither_may).stands)
 
 -- the pass, and then the candidates under what it left
 pub has_good_move-returns-clause-over : goal.has_good_move-returns-clause-over
@@ -522,21 +767,35 @@ has_good_move-returns-clause-over g t c = λ pos a und.
     rw (c.without-2.ensures, c.without.ensures, c.without-lost.ensures)
     (Tells-good c.args.plies c.args.turn (after pos c.args.board.now.moves) c.args.asked c.pass_saves.result
     c.some_success-2.result c.if-turn.false
-    (c.pass_saves.ensures.over pos a1) (rw (
+    (rw c.escapes.ensures.stays.moves at (c.pass_saves.ensures.over pos a1)) (rw (
       c.pass_saves.ensures.stays.moves,
+      c.escapes.ensures.stays.moves,
       c.without-lost.ensures,
     ) at (c.some_success-2.ensures.over pos a)))
 
--- the looks after the pass and those of the defender's plays lie in the active area
+-- the looks for an escape, after the pass and those of the defender's plays lie in the active area
 pub has_good_move-returns-clause-near : goal.has_good_move-returns-clause-near
 has_good_move-returns-clause-near g t c = λ pos a q root tree und.
-    let a1 = agrees_before c.some_success-2.ensures.stays.grows a in
+    let a2 = agrees_before c.some_success-2.ensures.stays.grows a in
+    let a1 = agrees_before c.pass_saves.ensures.stays.grows a2 in
+    let a0 = agrees_before c.escapes.ensures.stays.grows a1 in
+    let here = after pos c.args.board.now.moves in
+    let turn = c.args.turn in
+    let one = some_of c.args.asked c.requires.some in
+    let inside = target_on pos.size (g.L.Look.shows c.args.board.now.look).size turn.target
+    (same_size (g.met.L.Look.sized c.args.board.now.look) a0) c.requires.target in
     let lost : (ko : Ko) → has c.without-lost.result ko ≡ true → has c.args.asked ko ≡ true =
     λ ko h. without_less c.args.asked c.pass_saves.result ko
     (sym (ap (λ s. has s ko) c.without-lost.ensures) ∙ h) in
     let stands = (und neither_may).stands in
-    AddsNear-trans (c.pass_saves.ensures.near pos a1 q root tree stands)
-    ((rw c.pass_saves.ensures.stays.moves at (c.some_success-2.ensures.near pos a q root))
+    AddsNear-trans (AddsNear-trans (AddsNear-in (InActiveArea q root) (c.escapes.ensures.near pos a1)
+    (escape_near q root here (suc c.args.plies) (under turn one.0) (tree.each one.0 one.1) pos.size
+    (size-after pos c.args.board.now.moves) inside (und one.0).stands c.args.known.now (c.requires.liberties pos a0)))
+    ((rw c.escapes.ensures.stays.moves at (c.pass_saves.ensures.near pos a2 q root)) tree stands))
+    ((rw (
+      c.pass_saves.ensures.stays.moves,
+      c.escapes.ensures.stays.moves,
+    ) at (c.some_success-2.ensures.near pos a q root))
     (fewer_nodes c.without-lost.result tree lost) (λ ko. undecided_defender stands c.if-turn.false))
 
 -- the target is captured

@@ -10,30 +10,30 @@ use Rattle.read_rules.proofs.AreaLemmas.{target_on}
 use Rattle.read_tree.proofs.tree.outlook_of.Goals as goal
 
 -- a target that is safe has too many liberties on each position that agrees
-pub returns-then-outlasts-clause-over : goal.returns-then-outlasts-clause-over
-returns-then-outlasts-clause-over g c = λ pos a.
+pub returns-then-has_too_many-clause-over : goal.returns-then-has_too_many-clause-over
+returns-then-has_too_many-clause-over g c = λ pos a.
     ap (λ (n : ℕ). outlasts c.args.turn.attacker_to_play c.args.plies c.args.turn.wide n)
-    (sym (c.count.ensures.value ∙ ap set.len (c.requires.liberties pos a)
+    (sym (ap set.len (c.requires.liberties pos a)
     ∙ len-liberty_points pos.size (after pos c.args.board.now.moves).cells c.args.turn.target))
-    ∙ sym c.outlasts.ensures ∙ c.if-outlasts.true
+    ∙ sym c.has_too_many.ensures ∙ c.if-has_too_many.true
 
 -- a target that is taken has not too many liberties
 pub returns-then-can_take-clause-over : goal.returns-then-can_take-clause-over
 returns-then-can_take-clause-over g c = λ pos a.
     let a0 = agrees_before c.can_take.ensures.stays.grows a in
     ap (λ (n : ℕ). outlasts c.args.turn.attacker_to_play c.args.plies c.args.turn.wide n)
-    (sym (c.count.ensures.value ∙ ap set.len (c.requires.liberties pos a0)
+    (sym (ap set.len (c.requires.liberties pos a0)
     ∙ len-liberty_points pos.size (after pos c.args.board.now.moves).cells c.args.turn.target))
-    ∙ sym c.outlasts.ensures ∙ c.if-outlasts.false
+    ∙ sym c.has_too_many.ensures ∙ c.if-has_too_many.false
 
 -- a target whose node is to be read has not too many liberties
 pub returns-clause-over : goal.returns-clause-over
 returns-clause-over g c = λ pos a.
     let a0 = agrees_before c.can_take.ensures.stays.grows a in
     ap (λ (n : ℕ). outlasts c.args.turn.attacker_to_play c.args.plies c.args.turn.wide n)
-    (sym (c.count.ensures.value ∙ ap set.len (c.requires.liberties pos a0)
+    (sym (ap set.len (c.requires.liberties pos a0)
     ∙ len-liberty_points pos.size (after pos c.args.board.now.moves).cells c.args.turn.target))
-    ∙ sym c.outlasts.ensures ∙ c.if-outlasts.false
+    ∙ sym c.has_too_many.ensures ∙ c.if-has_too_many.false
 
 -- the target and its liberties lie in its neighbourhood
 pub returns-then-can_take-clause-near : goal.returns-then-can_take-clause-near

@@ -1,4 +1,4 @@
-use Rattle.std.proofs.Common.{◌≡◌, ℕ, ◌-◌, ◌*◌, ◌<◌, ◌&&◌, true, false}
+use Rattle.std.proofs.Common.{◌-◌, ◌*◌, ◌&&◌}
 use Rattle.std.specs.FinSet as set
 use Rattle.go_rules.specs.Below.{any_below}
 use Rattle.go_rules.specs.Board.{largest_points}
@@ -6,15 +6,12 @@ use Rattle.go_rules.specs.Position.{BoardState}
 use Rattle.go_base.specs.Facts.{Agrees, AddsIn}
 use Rattle.go_base.specs.Views.{neighbours_of}
 use Rattle.trial_board.specs.Trials.{Stays}
-use Rattle.read_tree.proofs.order.next_to_try.Given as goal
+use Rattle.read_tree.proofs.order.TryOrder.find.Given as goal
 
--- the best of the points before the next one was not tried, and where there is none each of them was
+-- no more was looked at than the sides of known liberties
 abbrev pub invariant-loop-p : goal.invariant-loop-p
 invariant-loop-p g l = record {
   stays : Stays g.L.Look.shows g.L.Look.seen l.fn.board l.board;
-  chosen : 0 < l.most → (l.best < largest_points) × (set.contains l.points l.best ≡ true)
-      × (set.contains l.tried l.best ≡ false);
-  none : l.most ≡ 0 → (q : ℕ) → q < l.next → set.contains l.points q ≡ true → set.contains l.tried q ≡ true;
   near : (pos : BoardState) → Agrees (g.L.Look.seen l.board.look) pos → AddsIn (g.L.Look.seen l.fn.board.look)
       (g.L.Look.seen l.board.look)
       (λ r. any_below (pos.size * pos.size) (λ k. set.contains l.known k && neighbours_of pos.size k r));

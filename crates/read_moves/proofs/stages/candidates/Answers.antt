@@ -1,0 +1,94 @@
+-- What was gathered are the candidates, on every position that agrees with what was seen.
+use Rattle.std.proofs.Common.{◌≡◌, ◌<◌, ◌*◌, ◌||◌, ℕ, ap, sym, subst, ◌∙◌}
+use Rattle.std.proofs.lemmas.Bool.{lt-ltb, le-ltb}
+use Rattle.std.specs.Cmp.{nat_cmp_total}
+use Rattle.std.specs.Ordering.{nat_cmp}
+use Rattle.std.specs.FinSet as set
+use Rattle.go_rules.specs.Position.{BoardState}
+use Rattle.go_rules.specs.Strings.{liberty_points}
+use Rattle.go_base.specs.Facts.{Agrees, agrees_before, same_size, AddsIn-trans, AddsIn-mono}
+use Rattle.go_base.specs.Surroundings.{is_last_liberty_of_enemy}
+use Rattle.trial_board.specs.Trials.{after}
+use Rattle.trial_board.proofs.AfterLemmas.{size-after}
+use Rattle.read_moves.proofs.CandidateLemmas.{candidate_plain, candidate_wide, near_twice}
+use Rattle.read_moves.proofs.stages.candidates.Goals as goal
+
+-- the liberties of the target were found
+pub wide_candidates-requires-clause-liberties : goal.wide_candidates-requires-clause-liberties
+wide_candidates-requires-clause-liberties g c = λ pos a.
+    rw c.surroundings-liberties.ensures.stays.moves (c.surroundings-liberties.ensures.over pos a).0
+
+-- the liberties, on a position of the size of the trial position
+its_liberties : (here : BoardState) (s target : ℕ) (libs : set.FinSet nat_cmp) → here.size ≡ s
+    → libs ≡ liberty_points s here.cells target
+    → libs ≡ liberty_points here.size here.cells target
+its_liberties here s target libs size e = e ∙ ap (λ n. liberty_points n here.cells target) (sym size)
+
+-- a wide ply is left
+pub returns-then-wide-gt0-clause-over : goal.returns-then-wide-gt0-clause-over
+returns-then-wide-gt0-clause-over g c = λ pos a p.
+    let here = after pos c.args.board.now.moves in
+    let size = size-after pos c.args.board.now.moves in
+    let libs = c.surroundings-liberties.result.liberties in
+    let last = c.surroundings-liberties.result.last_liberties in
+    let wide = c.wide_candidates.result in
+    let it = c.surroundings-liberties.ensures.over pos (agrees_before c.wide_candidates.ensures.stays.grows a) in
+    let found = rw c.surroundings-liberties.ensures.stays.moves at (c.wide_candidates.ensures.over pos a p) in
+    let joined = ap (λ t. set.contains t p) c.join.ensures ∙ set.contains-union nat_cmp_total last libs p in
+    candidate_wide here c.args.target c.args.wide p libs last (its_liberties here pos.size c.args.target libs size it.0)
+    (it.1 p ∙ ap (λ n. is_last_liberty_of_enemy n here.cells c.args.target p) (sym size))
+    (set.contains c.join-then-wide-gt0.new.self p) (set.contains wide p)
+    (lt-ltb 0 c.args.wide c.if-wide-gt0.true) found
+    (ap (λ t. set.contains t p) c.join-then-wide-gt0.ensures
+    ∙ set.contains-union nat_cmp_total c.join.new.self wide p ∙ ap (λ y. y || set.contains wide p) joined)
+
+-- no wide ply is left
+pub returns-else-wide-gt0-clause-over : goal.returns-else-wide-gt0-clause-over
+returns-else-wide-gt0-clause-over g c = λ pos a p.
+    let here = after pos c.args.board.now.moves in
+    let size = size-after pos c.args.board.now.moves in
+    let libs = c.surroundings-liberties.result.liberties in
+    let last = c.surroundings-liberties.result.last_liberties in
+    let it = c.surroundings-liberties.ensures.over pos a in
+    candidate_plain here c.args.target c.args.wide p libs last
+    (its_liberties here pos.size c.args.target libs size it.0)
+    (it.1 p ∙ ap (λ n. is_last_liberty_of_enemy n here.cells c.args.target p) (sym size))
+    (set.contains c.join.new.self p)
+    (le-ltb 0 c.args.wide c.if-wide-gt0.false)
+    (ap (λ t. set.contains t p) c.join.ensures ∙ set.contains-union nat_cmp_total last libs p)
+
+-- each look is where candidates are looked for
+pub returns-then-wide-gt0-clause-near : goal.returns-then-wide-gt0-clause-near
+returns-then-wide-gt0-clause-near g c = λ pos a.
+    let here = after pos c.args.board.now.moves in
+    let a1 = agrees_before c.wide_candidates.ensures.stays.grows a in
+    let e = same_size (g.met.L.Look.sized c.surroundings-liberties.new.self.look) a1
+    ∙ ap (λ x. x.size) c.surroundings-liberties.ensures.stays.shown in
+    let on = subst (λ n. c.args.target < n * n) (sym e) c.requires.on_board in
+    AddsIn-trans (AddsIn-mono (c.surroundings-liberties.ensures.near pos a1)
+    (near_twice pos.size here.cells c.args.target on))
+    (rw c.surroundings-liberties.ensures.stays.moves at (c.wide_candidates.ensures.near pos a))
+
+-- where no wide ply is left, only the target's surroundings are looked at
+pub returns-else-wide-gt0-clause-near : goal.returns-else-wide-gt0-clause-near
+returns-else-wide-gt0-clause-near g c = λ pos a.
+    let here = after pos c.args.board.now.moves in
+    let e = same_size (g.met.L.Look.sized c.surroundings-liberties.new.self.look) a
+    ∙ ap (λ x. x.size) c.surroundings-liberties.ensures.stays.shown in
+    let on = subst (λ n. c.args.target < n * n) (sym e) c.requires.on_board in
+    AddsIn-mono (c.surroundings-liberties.ensures.near pos a) (near_twice pos.size here.cells c.args.target on)
+
+-- the position shown is one of those that agree
+pub returns-then-wide-gt0-clause-answer : goal.returns-then-wide-gt0-clause-answer
+returns-then-wide-gt0-clause-answer g c =
+    let shown = c.wide_candidates.ensures.stays.shown ∙ c.surroundings-liberties.ensures.stays.shown in
+    returns-then-wide-gt0-clause-over g c (g.L.Look.shows c.args.board.now.look)
+    (subst (λ (pos : BoardState). Agrees (g.L.Look.seen c.wide_candidates.new.board.look) pos) shown
+    (g.met.L.Look.holds c.wide_candidates.new.board.look))
+
+-- where no wide ply is left, what was gathered are the candidates on the position shown
+pub returns-else-wide-gt0-clause-answer : goal.returns-else-wide-gt0-clause-answer
+returns-else-wide-gt0-clause-answer g c =
+    returns-else-wide-gt0-clause-over g c (g.L.Look.shows c.args.board.now.look)
+    (subst (λ (pos : BoardState). Agrees (g.L.Look.seen c.surroundings-liberties.new.self.look) pos)
+    c.surroundings-liberties.ensures.stays.shown (g.met.L.Look.holds c.surroundings-liberties.new.self.look))

@@ -1,0 +1,12 @@
+-- The candidates by stages: those that are tried only where a wide ply is left stand for themselves.
+use Rattle.std.specs.Prelude.{ℕ, ◌&&◌, ◌||◌, Bool, nat_lt}
+use Rattle.go_rules.specs.Strings.{is_liberty, liberties}
+use Rattle.go_rules.specs.Position.{BoardState}
+use Rattle.read_rules.specs.Candidates.{is_empty_beside, is_backfilling}
+
+-- p is an empty neighbour of a liberty of the target, which has at most two, or a backfilling move
+unfoldable pub is_wide_candidate : BoardState → ℕ → ℕ → Bool
+is_wide_candidate pos target p =
+    (nat_lt (liberties pos.size pos.cells target) 3
+    && is_empty_beside pos.size pos.cells (is_liberty pos.size pos.cells target) p)
+    || is_backfilling pos target p

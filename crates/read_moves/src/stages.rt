@@ -1,0 +1,105 @@
+//! The candidates of a target by stages: those that every reading tries, and those of a wide ply.
+
+ghost use Rattle.std.specs.Prelude.{◌≡◌, ℕ, ◌*◌, ◌<◌, ◌&&◌, ◌||◌, IsTrue, nat_lt, length};
+ghost use Rattle.std.specs.FinSet as set;
+ghost use Rattle.go_rules.specs.Below.{any_below};
+ghost use Rattle.go_rules.specs.Strings.{liberty_points};
+ghost use Rattle.go_rules.specs.Position.{BoardState};
+ghost use Rattle.go_base.specs.Facts.{Agrees, AddsIn};
+ghost use Rattle.go_base.specs.Views.{neighbours_of};
+ghost use Rattle.trial_board.specs.Trials.{Stays, most_moves, after};
+ghost use Rattle.read_rules.specs.Candidates.{attacker_of, is_empty_beside, is_candidate, near_candidates};
+ghost use Rattle.read_moves.specs.Stages.{is_wide_candidate};
+
+use crate::moves::{add_backfilling, add_beside};
+use go_base::points::PointSet;
+use go_base::size::Point;
+use go_base::surroundings::Surroundings;
+use go_base::{Cell, Colour, Look};
+use trial_board::Trial;
+
+/// Adds the empty points next to a point of the set, where it has at most two.
+fn add_beside_few<L: Look>(board: &mut Trial<L>, points: &PointSet, found: &mut PointSet)
+    requires { (l : ℕ) → IsTrue (set.contains points.now l)
+        → l < (L.shows board.old.look).size * (L.shows board.old.look).size }
+    ensures stays { Stays L.shows L.seen board.old board.new }
+    ensures over { (pos : BoardState) → Agrees (L.seen board.new.look) pos → (p : ℕ)
+        → set.contains found.new p ≡ (set.contains found.old p
+        || (nat_lt (set.len points.now) 3 && is_empty_beside pos.size (after pos board.old.moves).cells
+        (set.contains points.now) p)) }
+    ensures near { (pos : BoardState) → Agrees (L.seen board.new.look) pos
+        → AddsIn (L.seen board.old.look) (L.seen board.new.look)
+        (λ r. any_below (pos.size * pos.size) (λ l. set.contains points.now l && neighbours_of pos.size l r)) }
+{
+    if points.count() < 3 {
+        add_beside(board, points, found);
+    }
+}
+
+/// The colour that attacks what stands there.
+fn attacker_of(cell: Cell) -> Colour
+    ensures { result ≡ attacker_of cell }
+{
+    match cell {
+        Cell::Black => Colour::White,
+        Cell::White | Cell::Empty => Colour::Black,
+    }
+}
+
+/// The candidates that are tried only where a wide ply is left: the empty neighbours of the target's liberties, if there
+/// are at most two of these, and the one liberty that a stone of the attacker on one of its liberties would have.
+///
+/// The caller gives the target's liberties. The trial moves stay as they were. For the last kind a play is tried only
+/// where it would take something, and counts among the trials. After GNU Go Manual, "Tactical reading"; the choice of
+/// these points is this project's own.
+pub fn wide_candidates<L: Look>(
+    board: &mut Trial<L>,
+    target: Point,
+    liberties: &PointSet,
+) -> PointSet
+    requires room { length board.old.moves < most_moves }
+    requires on_board { target < (L.shows board.old.look).size * (L.shows board.old.look).size }
+    requires liberties { (pos : BoardState) → Agrees (L.seen board.old.look) pos
+        → liberties.now ≡ liberty_points pos.size (after pos board.old.moves).cells target }
+    ensures stays { Stays L.shows L.seen board.old board.new }
+    ensures over { (pos : BoardState) → Agrees (L.seen board.new.look) pos → (p : ℕ)
+        → set.contains result p ≡ is_wide_candidate (after pos board.old.moves) target p }
+    ensures near { (pos : BoardState) → Agrees (L.seen board.new.look) pos
+        → AddsIn (L.seen board.old.look) (L.seen board.new.look)
+        (near_candidates pos.size (after pos board.old.moves).cells target) }
+{
+    let mut found = PointSet::new();
+    add_beside_few(board, liberties, &mut found);
+    let attacker = attacker_of(board.cell(target));
+    add_backfilling(board, attacker, liberties, &mut found);
+    found
+}
+
+/// The points that a reading tries for the string of the target, with `wide` wide plies left: its liberties, and the
+/// last liberty of each enemy string next to it; where a wide ply is left, also the `wide_candidates`.
+///
+/// The trial moves stay as they were. After GNU Go Manual, "Tactical reading"; the choice of these points is this
+/// project's own.
+pub fn candidates<L: Look>(board: &mut Trial<L>, target: Point, wide: u8) -> PointSet
+    requires room { length board.old.moves < most_moves }
+    requires on_board { target < (L.shows board.old.look).size * (L.shows board.old.look).size }
+    ensures stays { Stays L.shows L.seen board.old board.new }
+    ensures over { (pos : BoardState) → Agrees (L.seen board.new.look) pos → (p : ℕ)
+        → set.contains result p ≡ is_candidate (after pos board.old.moves) target wide p }
+    ensures answer { (p : ℕ) → set.contains result p
+        ≡ is_candidate (after (L.shows board.old.look) board.old.moves) target wide p }
+    ensures near { (pos : BoardState) → Agrees (L.seen board.new.look) pos
+        → AddsIn (L.seen board.old.look) (L.seen board.new.look)
+        (near_candidates pos.size (after pos board.old.moves).cells target) }
+{
+    let Surroundings {
+        liberties,
+        last_liberties,
+    } = board.surroundings(target);
+    let mut found = last_liberties;
+    found.join(&liberties);
+    if wide > 0 {
+        found.join(&wide_candidates(board, target, &liberties));
+    }
+    found
+}

@@ -1,0 +1,193 @@
+-- The defender's play at a liberty of the target keeps the other liberties, and gains the empty sides of its point;
+-- with too many of them the target is saved.
+use Rattle.std.proofs.Common.{◌≡◌, ◌≢◌, ℕ, ◌-◌, ◌*◌, ◌<◌, ◌≤◌, ◌⊎◌, ◌&&◌, ◌||◌, Bool, true, false, not, cond, List, length, refl, sym, ap, subst, ◌∙◌, arith, inl, inr, set}
+use Rattle.std.proofs.lemmas.Bool.{and_from, and_parts, or_cases, or_left, or_right, eqb-true, lt-ltb}
+use Rattle.std.specs.Ordering.{nat_cmp}
+use Rattle.std.specs.FinSet as sets
+use Rattle.go_rules.specs.declared.Cell.{Cell}
+use Rattle.go_rules.specs.declared.Cell.TheVariants.{Empty}
+use Rattle.go_rules.specs.declared.Colour.{Colour}
+use Rattle.go_rules.specs.Below.{count_below, set_below, any_below}
+use Rattle.go_rules.specs.Strings.{cell_at, is_stone, step, IsInString, IsLiberty, is_liberty, liberties, liberty_points}
+use Rattle.go_rules.specs.Position.{BoardState, other, stone_of}
+use Rattle.go_rules.specs.Play.{play, cells_after}
+use Rattle.go_rules.proofs.Counts.{count_below_mono, any_below_gives, any_below_from}
+use Rattle.go_rules.proofs.Links.{are_neighbours_comm, path_same, path_back, path_keeps, liberty_moves, liberties_some, liberties_from}
+use Rattle.go_rules.proofs.Paths.{path_on_board, IsLiberty-from_test, is_liberty-from_fact}
+use Rattle.go_rules.proofs.Plays.{at_put_same, at_put_other, at_after, own_not_taken, stone_is}
+use Rattle.go_rules.proofs.Results.{result_of, free_done, play_else}
+use Rattle.go_rules.proofs.Sets.{same_nat_set, contains-set_below, len-set_below}
+use Rattle.go_rules.proofs.Tests.{same_tests}
+use Rattle.read_moves.specs.Steps.{IsReached, by_side, by_string}
+use Rattle.read_moves.proofs.AfterPlays.{IsWhole}
+use Rattle.read_moves.proofs.ReachLemmas.{gained}
+use Rattle.read_rules.specs.Candidates.{IsEmptyNeighbour}
+use Rattle.go_base.specs.Views.{alone, neighbours_of}
+use Rattle.read_rules.specs.declared.node.Node.{Node}
+use Rattle.read_rules.specs.declared.question.ReadingQuestion.{ReadingQuestion}
+use Rattle.read_rules.specs.ActiveArea.{IsNodeOf, InActiveArea}
+use Rattle.read_rules.specs.GameTree.{is_captured, allowance_of, next_node, child_of, suits, succeeds}
+use Rattle.read_rules.proofs.AreaLemmas.{area_once}
+use Rattle.read_rules.proofs.RuleLemmas.{child_from}
+use Rattle.read_tree.specs.declared.turn.Turn.{Turn}
+use Rattle.read_tree.specs.Allowances.{Ko, under}
+use Rattle.read_tree.specs.Bound.{outlasts}
+use Rattle.read_tree.specs.Escapes.{Escapes}
+use Rattle.read_tree.proofs.LibertyLemmas.{bounded, some_liberty, more_outlasts_attacker}
+use Rattle.read_tree.proofs.OrderLemmas.{order_near}
+use Rattle.read_tree.proofs.TakeLemmas.{not_empty, near_liberty}
+
+-- points that all pass the test are no more than those that do
+few_members : (n : ℕ) (test : ℕ → Bool) (points : sets.FinSet nat_cmp)
+    → ((x : ℕ) → sets.contains points x ≡ true → (x < n) × (test x ≡ true)) → sets.len points ≤ count_below n test
+few_members n test points each =
+    let below : points ≡ set_below n (sets.contains points) =
+    same_nat_set _ _ (λ x. same_tests _ _ (λ h. and_from _ _ (lt-ltb x n (each x h).0) h)
+    (λ h. (and_parts _ _ h).1) ∙ sym (contains-set_below n (sets.contains points) x)) in
+    let counted : sets.len points ≡ count_below n (sets.contains points) =
+    ap sets.len below ∙ len-set_below n (sets.contains points) in
+    let fewer : count_below n (sets.contains points) ≤ count_below n test =
+    count_below_mono n (sets.contains points) test (λ x on h. (each x h).1) in
+    subst (λ k. k ≤ count_below n test) (sym counted) fewer
+
+-- c plays at l, a liberty of his string at t
+module _ (s : ℕ) (cells : List Cell) (c : Colour) (l t : ℕ) (whole : length cells ≡ s * s) (on : t < s * s)
+    (own : cell_at cells t ≡ stone_of c) (lib : IsLiberty s cells t l) where
+  -- the cells with the stone put
+  abbrev put : List Cell
+  put = set cells l (stone_of c)
+
+  -- the cells after what it takes was removed
+  abbrev gone : List Cell
+  gone = cells_after s put c
+
+  -- a stone of c stands
+  stands : (x : ℕ) → x < s * s → cell_at put x ≡ stone_of c → cell_at gone x ≡ stone_of c
+  stands x x_on there = at_after s put c x x_on
+      ∙ ap (λ b. cond b Empty (cell_at put x)) (own_not_taken s put c x there) ∙ there
+
+  -- the new one
+  new_stands : cell_at gone l ≡ stone_of c
+  new_stands = stands l lib.on_board (at_put_same cells l (stone_of c) (subst (λ n. l < n) (sym whole) lib.on_board))
+
+  -- and one that stood before
+  old_stands : (x : ℕ) → x < s * s → cell_at cells x ≡ stone_of c → cell_at gone x ≡ stone_of c
+  old_stands x x_on stone = stands x x_on (at_put_other cells l x (stone_of c)
+      (λ e. not_empty c (sym stone ∙ ap (cell_at cells) e ∙ lib.is_empty)) ∙ stone)
+
+  -- the new stone is of the string
+  joined : IsInString s gone t l
+  joined =
+      let y = lib.beside.0 in
+      let path = lib.beside.1.path in
+      let still = old_stands t on own in
+      record {
+        stone = ap is_stone still ∙ stone_is c;
+        path = step (path_keeps s cells gone t (λ x w.
+            let stone = path_same s cells t w ∙ own in
+            old_stands x (path_on_board s cells t on w) stone ∙ sym stone) path)
+            lib.on_board lib.beside.2 (new_stands ∙ sym still);
+      }
+
+  -- the other liberties, and the empty sides of l, are reached by the new stone
+  reached : (x : ℕ) → (IsLiberty s cells t x × (x ≢ l)) ⊎ IsEmptyNeighbour s cells l x → IsReached s cells c l x
+  reached x (inr side) = by_side side
+  reached x (inl other) =
+      let y = lib.beside.0 in
+      let path = lib.beside.1.path in
+      let y_on = path_on_board s cells t on path in
+      by_string (record {
+        q = y;
+        beside = are_neighbours_comm s l y ∙ lib.beside.2;
+        its = record {
+          on_board = y_on;
+          stone = path_same s cells t path ∙ own;
+          liberty = liberty_moves s cells y t x y_on (record {
+            stone = ap is_stone (path_same s cells t path ∙ own) ∙ stone_is c;
+            path = path_back s cells t on path;
+          }) other.0;
+        };
+      }) other.1
+
+  -- so they are liberties of the string after the play
+  pub kept_liberty : (x : ℕ) → (IsLiberty s cells t x × (x ≢ l)) ⊎ IsEmptyNeighbour s cells l x
+      → IsLiberty s gone t x
+  kept_liberty x w = liberty_moves s gone t l x on joined (gained s cells c l whole lib.on_board lib.is_empty x (reached
+      x w))
+
+  -- and there are no fewer
+  pub kept_count : (kept : sets.FinSet nat_cmp)
+      → ((x : ℕ) → sets.contains kept x ≡ true → (IsLiberty s cells t x × (x ≢ l)) ⊎ IsEmptyNeighbour s cells l x)
+      → sets.len kept ≤ liberties s gone t
+  unfolding liberties
+  kept_count kept each = few_members (s * s) (is_liberty s gone t) kept (λ x h.
+      let its = kept_liberty x (each x h) in
+      (its.on_board, is_liberty-from_fact s gone t x on its))
+
+  -- where the string has a liberty, so has the new stone
+  pub new_lives : 0 < liberties s gone t → liberties s gone l ≢ 0
+  new_lives some z =
+      let x = liberties_some s gone t some in
+      let back : IsInString s gone l t = record {
+        stone = ap is_stone new_stands ∙ stone_is c;
+        path = path_back s gone t on joined.path;
+      } in
+      let lives = liberties_from s gone l x.0 lib.on_board (liberty_moves s gone l t x.0 lib.on_board back x.1) in
+      omega (arith, lives, z)
+
+-- so a defender who runs free has his way there, under any allowance
+pub escape_succeeds : (n : ℕ) (turn : Turn) (here : BoardState) (known : sets.FinSet nat_cmp) → IsWhole here
+    → turn.target < here.size * here.size → turn.attacker_to_play ≡ false
+    → ((q : ℕ) → sets.contains known q ≡ is_liberty here.size here.cells turn.target q)
+    → (e : Escapes n turn here known) → (ko : Ko) → succeeds n (under turn ko) here e.l ≡ true
+escape_succeeds n turn here known whole on defends its e ko =
+    let s = here.size in
+    let c = turn.defender in
+    let t = turn.target in
+    let l = e.l in
+    let lib = IsLiberty-from_test s here.cells t l (sym (its l) ∙ e.there) in
+    let each : (x : ℕ) → sets.contains e.runs.kept x ≡ true
+    → (IsLiberty s here.cells t x × (x ≢ l)) ⊎ IsEmptyNeighbour s here.cells l x =
+    λ x h. elim (e.runs.each x h) [
+      | inl other ↦ inl (IsLiberty-from_test s here.cells t x (sym (its x) ∙ other.0), other.1)
+      | inr side ↦ inr side
+    ] in
+    let new = result_of here c l in
+    let many = more_outlasts_attacker n (turn.wide - 1) (sets.len e.runs.kept) (liberties s new.cells t) e.runs.many
+    (kept_count s here.cells c l t whole on e.own lib e.runs.kept each) in
+    let vacant = ap is_stone lib.is_empty in
+    let alive = new_lives s here.cells c l t whole on e.own lib
+    (some_liberty true n (turn.wide - 1) (liberties s new.cells t) many) in
+    let legal = sym (play_else here c l vacant e.runs.free) ∙ sym (free_done here c l vacant alive) in
+    let mover = ap (λ b. cond b (other c) c) defends in
+    let node = next_node (under turn ko) (allowance_of (under turn ko)) in
+    let child = child_from (under turn ko) here l node new (inl (record {
+      legal = ap (λ k. play here k l) mover ∙ legal;
+      next_is = refl;
+    })) in
+    let lost = bounded n node new on
+    (ap (λ b. outlasts (not b) n (turn.wide - 1) (liberties s new.cells t)) defends ∙ many) in
+    ap (λ b. suits n b (child_of (under turn ko) here l)) defends ∙ ap (suits n false) child ∙ ap not lost
+
+-- where an escape is looked for is in the active area of each question that has the node in its trees
+pub escape_near : (q : ReadingQuestion) (root here : BoardState) (n : ℕ) (node : Node) → IsNodeOf q root n node here
+    → (s : ℕ) → here.size ≡ s → node.target < s * s → is_captured here node.target ≡ false
+    → (known : sets.FinSet nat_cmp) → known ≡ liberty_points s here.cells node.target → (r : ℕ)
+    → (alone node.target r
+    || any_below (s * s) (λ l. sets.contains known l && (alone l r || neighbours_of s l r))) ≡ true
+    → InActiveArea q root r
+escape_near q root here n node tree s size on stands known is r h =
+    let t = node.target in
+    let once : (alone t r || sets.contains known r) ≡ true → InActiveArea q root r =
+    λ w. area_once q root here n node tree s size on stands r (near_liberty s here.cells t r known on is w) in
+    elim (or_cases (alone t r) _ h) [
+      | inl self ↦ once (or_left _ _ self)
+      | inr some ↦
+          let l = any_below_gives (s * s) _ some in
+          let both = and_parts (sets.contains known l.0) _ l.2 in
+          elim (or_cases (alone l.0 r) (neighbours_of s l.0 r) both.1) [
+            | inl at ↦ once (or_right (alone t r) _ (ap (sets.contains known) (eqb-true r l.0 at) ∙ both.0))
+            | inr side ↦ order_near q root here n node tree s size on stands known is r
+                (any_below_from (s * s) _ l.0 l.1 (and_from _ _ both.0 side))
+          ]
+    ]

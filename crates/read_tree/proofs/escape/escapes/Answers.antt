@@ -1,0 +1,60 @@
+-- The defender runs free at the liberty that was found.
+use Rattle.std.proofs.Common.{◌*◌, sym, ◌∙◌}
+use Rattle.std.proofs.lemmas.Bool.{and_from, or_right}
+use Rattle.go_base.specs.Facts.{agrees_before, Grows-trans, same_size, AddsIn-trans, AddsIn-mono}
+use Rattle.go_base.specs.Views.{alone}
+use Rattle.go_rules.proofs.Cells.{ne_false_same}
+use Rattle.go_rules.proofs.Counts.{any_below_from}
+use Rattle.go_rules.proofs.Paths.{same_cell-true}
+use Rattle.read_rules.proofs.AreaLemmas.{target_on}
+use Rattle.read_tree.proofs.escape.escapes.Goals as goal
+
+-- he escapes there, on each position that agrees
+pub returns-then-runs_free-clause-over : goal.returns-then-runs_free-clause-over
+returns-then-runs_free-clause-over g c = λ pos a yes.
+    let i = c.loop-l.invariant in
+    let a1 = agrees_before i.grows (agrees_before c.runs_free.ensures.stays.grows a) in
+    record {
+      own = sym (c.cell.ensures.over pos a1) ∙ same_cell-true _ _
+          (ne_false_same c.cell.result c.stone_of.result c.ne.result c.ne.ensures c.if-ne.false) ∙ c.stone_of.ensures;
+      l = c.in-Some.l;
+      there = c.in-Some.ensures.some.2;
+      runs = rw i.stays.moves at (c.runs_free.ensures.over pos a c.if-runs_free.true);
+    }
+
+-- the looks at that liberty are among those that are told
+pub returns-then-runs_free-clause-near : goal.returns-then-runs_free-clause-near
+returns-then-runs_free-clause-near g c = λ pos a.
+    let i = c.loop-l.invariant in
+    let l = c.in-Some.l in
+    let there = c.in-Some.ensures.some.2 in
+    let a0 = agrees_before c.runs_free.ensures.stays.grows a in
+    let size = same_size (g.met.L.Look.sized c.args.board.now.look) (agrees_before i.stays.grows a0) in
+    let inside = target_on pos.size (g.L.Look.shows c.args.board.now.look).size l size (c.requires.inside l there) in
+    AddsIn-trans (i.near pos a0) (AddsIn-mono (c.runs_free.ensures.near pos a)
+    (λ r h. or_right (alone c.args.turn.target r) _ (any_below_from (pos.size * pos.size) _ l inside
+    (and_from _ _ there h))))
+
+-- and so are those at each liberty before
+pub loop-l-preserved : goal.loop-l-preserved
+loop-l-preserved g c =
+    let i = c.loop-l.invariant in
+    let runs = c.runs_free.ensures in
+    record {
+      stays = record {
+        moves = runs.stays.moves ∙ i.stays.moves;
+        shown = runs.stays.shown ∙ i.stays.shown;
+        grows = Grows-trans i.stays.grows runs.stays.grows;
+      };
+      grows = Grows-trans i.grows runs.stays.grows;
+      near = λ pos a.
+          let l = c.in-Some.l in
+          let there = c.in-Some.ensures.some.2 in
+          let a0 = agrees_before runs.stays.grows a in
+          let size = same_size (g.met.L.Look.sized c.args.board.now.look) (agrees_before i.stays.grows a0) in
+          let inside = target_on pos.size (g.L.Look.shows c.args.board.now.look).size l size
+          (c.requires.inside l there) in
+          AddsIn-trans (i.near pos a0) (AddsIn-mono (runs.near pos a)
+          (λ r h. or_right (alone c.args.turn.target r) _ (any_below_from (pos.size * pos.size) _ l inside
+          (and_from _ _ there h))));
+    }

@@ -1,0 +1,16 @@
+-- The candidates off the liberties of the target, by stages.
+use Rattle.std.specs.Prelude.{ℕ, ◌&&◌, Bool, not}
+use Rattle.go_rules.specs.Strings.{is_liberty}
+use Rattle.go_rules.specs.Position.{BoardState}
+use Rattle.go_base.specs.Surroundings.{is_last_liberty_of_enemy}
+use Rattle.read_moves.specs.Stages.{is_wide_candidate}
+
+-- p is the last liberty of an enemy string next to the target, and no liberty of the target
+abbrev pub is_capture : BoardState → ℕ → ℕ → Bool
+is_capture here target p =
+    is_last_liberty_of_enemy here.size here.cells target p && not (is_liberty here.size here.cells target p)
+
+-- p is a wide candidate that is neither a liberty of the target nor a capture
+abbrev pub is_other : BoardState → ℕ → ℕ → Bool
+is_other here target p =
+    is_wide_candidate here target p && not (is_liberty here.size here.cells target p) && not (is_capture here target p)

@@ -1,0 +1,48 @@
+//! The bound on the target's liberties: with more, it is not captured.
+
+ghost use Rattle.std.specs.Prelude.{◌≡◌, ◌-◌, ◌&&◌, false};
+ghost use Rattle.std.specs.FinSet as set;
+ghost use Rattle.read_tree.specs.Bound.{most_by_wide, outlasts};
+
+use crate::turn::Turn;
+use go_base::points::PointSet;
+
+/// How many liberties a target may have that is captured with so many wide plies left.
+fn most_by_wide(wide: u8) -> u16
+    ensures { result ≡ most_by_wide wide }
+{
+    if wide == 0 {
+        2
+    } else if wide < 3 {
+        3
+    } else {
+        4
+    }
+}
+
+/// Whether so many liberties are too many for the plies and the wide plies that are left.
+#[tactic(auto, unfolding(crate::specs::Bound::outlasts))]
+pub fn outlasts(attacker: bool, plies: u8, wide: u8, liberties: u16) -> bool
+    ensures { result ≡ outlasts attacker plies wide liberties }
+{
+    if attacker {
+        liberties > (u16::from(plies) + 1) / 2 || liberties > most_by_wide(wide)
+    } else {
+        liberties > u16::from(plies) / 2 || liberties > most_by_wide(wide.saturating_sub(1))
+    }
+}
+
+/// Whether the target has too many liberties to be captured, with `plies` plies left; its liberties are handed in.
+pub fn has_too_many(turn: Turn, plies: u8, known: &PointSet) -> bool
+    ensures { result ≡ outlasts turn.attacker_to_play plies turn.wide (set.len known.now) }
+{
+    outlasts(turn.attacker_to_play, plies, turn.wide, known.count())
+}
+
+/// Whether the attacker is to play, and a play that takes no liberty of the target leaves it too many, with `plies`
+/// plies left after it.
+pub fn leaves_too_many(turn: Turn, plies: u8, liberties: u16) -> bool
+    ensures { result ≡ (turn.attacker_to_play && outlasts false plies (turn.wide - 1) liberties) }
+{
+    turn.attacker_to_play && outlasts(false, plies, turn.wide.saturating_sub(1), liberties)
+}

@@ -1,0 +1,57 @@
+//! The candidates off the liberties of the target, by stages: the captures of enemy strings next to it, and the others,
+//! which are candidates only where a wide ply is left.
+
+ghost use Rattle.std.specs.Prelude.{◌≡◌, ℕ, ◌*◌, ◌<◌, length};
+ghost use Rattle.std.specs.FinSet as set;
+ghost use Rattle.go_rules.specs.Position.{BoardState};
+ghost use Rattle.go_rules.specs.Strings.{liberty_points};
+ghost use Rattle.go_base.specs.Facts.{Agrees, AddsIn};
+ghost use Rattle.trial_board.specs.Overlays.{neighbourhood_twice};
+ghost use Rattle.trial_board.specs.Trials.{Stays, most_moves, after};
+ghost use Rattle.read_rules.specs.Candidates.{near_candidates};
+ghost use Rattle.read_tree.specs.Stages.{is_capture, is_other};
+
+use crate::apart::apart_from;
+use go_base::points::PointSet;
+use go_base::{Look, Point};
+use read_moves::wide_candidates;
+use trial_board::Trial;
+
+/// The last liberties of the enemy strings next to the target, but for its own liberties, which are known.
+pub fn captures_of<L: Look>(board: &mut Trial<L>, target: Point, known: &PointSet) -> PointSet
+    requires target { target < (L.shows board.old.look).size * (L.shows board.old.look).size }
+    requires liberties { (pos : BoardState) → Agrees (L.seen board.old.look) pos
+        → known.now ≡ liberty_points pos.size (after pos board.old.moves).cells target }
+    ensures stays { Stays L.shows L.seen board.old board.new }
+    ensures over { (pos : BoardState) → Agrees (L.seen board.new.look) pos → (p : ℕ)
+        → set.contains result p ≡ is_capture (after pos board.old.moves) target p }
+    ensures near { (pos : BoardState) → Agrees (L.seen board.new.look) pos
+        → AddsIn (L.seen board.old.look) (L.seen board.new.look)
+        (neighbourhood_twice pos.size (after pos board.old.moves).cells target) }
+{
+    apart_from(&board.surroundings(target).last_liberties, known)
+}
+
+/// The wide candidates of the target that are neither its liberties nor captures, which both are known.
+pub fn others_of<L: Look>(
+    board: &mut Trial<L>,
+    target: Point,
+    known: &PointSet,
+    captures: &PointSet,
+) -> PointSet
+    requires room { length board.old.moves < most_moves }
+    requires target { target < (L.shows board.old.look).size * (L.shows board.old.look).size }
+    requires liberties { (pos : BoardState) → Agrees (L.seen board.old.look) pos
+        → known.now ≡ liberty_points pos.size (after pos board.old.moves).cells target }
+    requires captures { (pos : BoardState) → Agrees (L.seen board.old.look) pos → (p : ℕ)
+        → set.contains captures.now p ≡ is_capture (after pos board.old.moves) target p }
+    ensures stays { Stays L.shows L.seen board.old board.new }
+    ensures over { (pos : BoardState) → Agrees (L.seen board.new.look) pos → (p : ℕ)
+        → set.contains result p ≡ is_other (after pos board.old.moves) target p }
+    ensures near { (pos : BoardState) → Agrees (L.seen board.new.look) pos
+        → AddsIn (L.seen board.old.look) (L.seen board.new.look)
+        (near_candidates pos.size (after pos board.old.moves).cells target) }
+{
+    let wide = wide_candidates(board, target, known);
+    apart_from(&apart_from(&wide, known), captures)
+}
