@@ -28,6 +28,7 @@ use Rattle.trial_board.specs.declared.moves.Tried.TheVariants.{Done, Occupied as
 use Rattle.trial_board.specs.declared.moves.TrialMove.{TrialMove}
 use Rattle.trial_board.specs.Trials.{tried, Moved}
 use Rattle.trial_board.specs.Overlays.{neighbourhood_twice}
+use Rattle.trial_board.specs.SomeLiberties.{FindsLiberties}
 use Rattle.trial_board.proofs.TriedLemmas.{tried-done, done-tried}
 use Rattle.read_rules.specs.Candidates.{leaves_only}
 use Rattle.read_rules.proofs.CandidateLaws.{only_gives, only_parts}
@@ -145,6 +146,31 @@ only_member_left new s l p libs size is =
     ∙ ap (λ n. eqb n 1 && sets.contains (liberty_points s new.cells l) p) (len-liberty_points s new.cells l)
     ∙ ap (λ b. eqb (liberties s new.cells l) 1 && b) (contains-liberty_points s new.cells l p)
     ∙ ap (λ n. eqb (liberties n new.cells l) 1 && is_liberty n new.cells l p) (sym size)
+
+-- and so it is of the liberties that a search found which stops at two
+pub only_found_left : (new : BoardState) (s l p : ℕ) (found : sets.FinSet nat_cmp) → new.size ≡ s
+    → FindsLiberties s new.cells l 1 found
+    → is_only_member found p ≡ is_only_liberty new.size new.cells l p
+unfolding is_only_liberty
+only_found_left new s l p found size h = elim (cases_lt 1 (sets.len found)) [
+  | inr few ↦ only_member_left new s l p found size (h.all few)
+  | inl more ↦
+      let two = h.more more in
+      ap (λ b. b && sets.contains found p) (ne_eqb (sets.len found) 1 (λ e. omega (arith, more, e)))
+      ∙ sym (ap (λ b. b && is_liberty new.size new.cells l p) (ne_eqb (liberties new.size new.cells l) 1
+      (λ e. let one : liberties s new.cells l ≡ 1 = ap (λ n. liberties n new.cells l) (sym size) ∙ e in
+      omega (arith, two, one))))
+]
+
+-- the point that is the only member is one of those that were found, and these are the liberties
+pub only_found : (s l most : ℕ) (cells : List Cell) (found : sets.FinSet nat_cmp) (o : Option ℕ)
+    → 0 < most → FindsLiberties s cells l most found → ((p : ℕ) → is_at o p ≡ is_only_member found p)
+    → IfSome o (λ p. (found ≡ liberty_points s cells l) × (sets.contains found p ≡ true))
+only_found s l most cells found None some h is = tt
+only_found s l most cells found (Some p) some h is =
+    let parts = and_parts _ _ (sym (is p) ∙ eq-eqb p p refl) in
+    let one = eqb-true (sets.len found) 1 parts.0 in
+    (h.all (omega (arith, one, some)), parts.1)
 
 -- what follows for the point that is there
 pub if_some : {P Q : ℕ → Type 0} (o : Option ℕ) → IfSome o P → ((p : ℕ) → P p → Q p) → IfSome o Q

@@ -26,7 +26,8 @@ use Rattle.go_base.proofs.Liberties.{len-liberty_points}
 use Rattle.read_rules.specs.Candidates.{leaves_only, IsEmptyNeighbour}
 use Rattle.read_rules.proofs.CandidateLaws.{size_played, only_parts}
 use Rattle.go_base.specs.Surroundings.{is_only_liberty}
-use Rattle.read_moves.specs.Steps.{is_left, IsLibertyBeside, IsReached, by_side, by_string, HasOtherReached, LivesWithout, IsQuiet}
+use Rattle.read_moves.specs.Reaches.{HasOther, IsLibertyBeside, IsReached, by_side, by_string}
+use Rattle.read_moves.specs.Steps.{is_left, LivesWithout, IsQuiet}
 use Rattle.read_moves.proofs.AfterPlays.{put_liberty, after_liberty}
 use Rattle.read_moves.proofs.BackfillingLemmas.{one_member}
 use Rattle.read_moves.proofs.BesideLemmas.{same_tests}
@@ -206,12 +207,12 @@ reached_then pos c l new x on whole legal reached =
 
 -- a stone that is played at l and reaches a point that is not p has not p as its one liberty
 none_by_reached : (pos : BoardState) (c : Colour) (l p : ℕ) → l < pos.size * pos.size
-    → length pos.cells ≡ pos.size * pos.size → HasOtherReached pos.size pos.cells c l p
+    → length pos.cells ≡ pos.size * pos.size → HasOther (IsReached pos.size pos.cells c l) p
     → (r : Result BoardState Illegal) → play_free pos c l ≡ r → leaves_only l p r ≡ true → ⊥
 none_by_reached pos c l p on whole other (Err why) is h = cc
 none_by_reached pos c l p on whole other (Ok new) is h =
     let size = size_played pos c l new is in
-    let lib = reached_then pos c l new other.point on whole is other.is_reached in
+    let lib = reached_then pos c l new other.point on whole is other.inside in
     let only = only_parts new.size new.cells l p h in
     other.other (same_liberty new.size new.cells l p other.point only.0 only.1
     (ap (λ n. is_liberty n new.cells l other.point) size
@@ -219,7 +220,7 @@ none_by_reached pos c l p on whole other (Ok new) is h =
 
 -- so it leaves nothing
 pub reached_leave_none : (pos : BoardState) (c : Colour) (l p : ℕ) → l < pos.size * pos.size
-    → length pos.cells ≡ pos.size * pos.size → HasOtherReached pos.size pos.cells c l p
+    → length pos.cells ≡ pos.size * pos.size → HasOther (IsReached pos.size pos.cells c l) p
     → leaves_only l p (play_free pos c l) ≡ false
 reached_leave_none pos c l p on whole other = elim (cases_Bool (leaves_only l p (play_free pos c l))) [
   | inl t ↦ absurd (none_by_reached pos c l p on whole other (play_free pos c l) refl t)

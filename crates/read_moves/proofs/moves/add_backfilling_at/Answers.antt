@@ -7,8 +7,8 @@ use Rattle.go_rules.proofs.Sets.{contains-insert_nat}
 use Rattle.go_base.specs.Facts.{agrees_before, AddsIn-trans, same_size}
 use Rattle.trial_board.specs.Trials.{after}
 use Rattle.trial_board.proofs.AfterLemmas.{size-after}
-use Rattle.read_moves.specs.declared.moves.Reach.{Reach}
-use Rattle.read_moves.specs.Steps.{Reaches}
+use Rattle.read_moves.specs.declared.reach.Reach.{Reach}
+use Rattle.read_moves.specs.Reaches.{Reaches}
 use Rattle.read_moves.proofs.AfterPlays.{whole_after}
 use Rattle.read_moves.proofs.SideLemmas.{none_added}
 use Rattle.read_moves.proofs.ReachLemmas.{reached_leave_none, quiet_none, quiet_one}

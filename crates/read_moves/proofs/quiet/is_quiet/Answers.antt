@@ -12,9 +12,9 @@ use Rattle.trial_board.specs.Trials.{after}
 use Rattle.trial_board.proofs.AfterLemmas.{size-after}
 use Rattle.read_moves.specs.Steps.{LivesWithout}
 use Rattle.read_moves.proofs.SideLemmas.{string_near}
-use Rattle.read_moves.proofs.JoinLemmas.{LiveAtSides-next, LiveAtSides-all}
-use Rattle.read_moves.proofs.moves.is_quiet.Goals as goal
-use Rattle.read_moves.proofs.moves.is_quiet.Goals.{in-Some+else-not-lives_without, in_default}
+use Rattle.read_moves.proofs.LiveLemmas.{LiveAtSides-next, LiveAtSides-all}
+use Rattle.read_moves.proofs.quiet.is_quiet.Goals as goal
+use Rattle.read_moves.proofs.quiet.is_quiet.Goals.{in-Some+else-not-lives_without, in_default}
 
 -- the point alone was looked at
 pub returns-then-ne-clause-near : goal.returns-then-ne-clause-near

@@ -2,8 +2,8 @@ use Rattle.go_rules.specs.Position.{BoardState}
 use Rattle.go_base.specs.Facts.{Agrees, AddsIn}
 use Rattle.trial_board.specs.Overlays.{neighbourhood_twice}
 use Rattle.trial_board.specs.Trials.{Stays, after}
-use Rattle.read_moves.proofs.JoinLemmas.{LiveAtSides}
-use Rattle.read_moves.proofs.moves.is_quiet.Given as goal
+use Rattle.read_moves.proofs.LiveLemmas.{LiveAtSides}
+use Rattle.read_moves.proofs.quiet.is_quiet.Given as goal
 
 -- the enemy strings at the sides so far live
 abbrev pub invariant-loop-side : goal.invariant-loop-side
