@@ -1,5 +1,5 @@
 -- The string has another liberty, where it is of the other colour.
-use Rattle.std.proofs.Common.{◌≡◌, ℕ, ◌*◌, ◌<◌, ◌≤◌, true, Option, Some, None, IfSome, is_some, ap, sym, subst, ◌∙◌}
+use Rattle.std.proofs.Common.{◌≡◌, ℕ, ◌*◌, ◌<◌, true, Option, Some, None, IfSome, is_some, ap, sym, subst, arith, ◌∙◌}
 use Rattle.std.specs.FinSet as set
 use Rattle.go_rules.specs.Position.{BoardState}
 use Rattle.go_rules.specs.Neighbourhood.{neighbourhood_of}
@@ -31,8 +31,8 @@ near g c pos a =
 pub returns-then-count-gt-IN_ATARI-clause-over : goal.returns-then-count-gt-IN_ATARI-clause-over
 returns-then-count-gt-IN_ATARI-clause-over g c = λ pos a e enemy.
     let found = rw c.cell.ensures.stays.moves at (c.some_liberties-found.ensures.over pos a) in
-    let x = other_of_two pos.size (after pos c.args.board.now.moves).cells c.args.q c.args.l
-    (found.more (subst (λ n. 1 < n) c.count.ensures.value c.if-count-gt-IN_ATARI.true)) in
+    let many = found.more (omega arith) in
+    let x = other_of_two pos.size (after pos c.args.board.now.moves).cells c.args.q c.args.l (omega (arith, many)) in
     record { point = x.0; liberty = x.1; other = x.2 }
 
 -- where there are two liberties, the stone and its string were looked at
@@ -52,7 +52,7 @@ returns-clause-over g c = λ pos a e enemy.
     let cells = (after pos c.args.board.now.moves).cells in
     let points = c.some_liberties-found.result in
     let some = rw c.cell.ensures.stays.moves at (c.some_liberties-found.ensures.over pos a) in
-    let its = some.all (subst (λ n. n ≤ 1) c.count.ensures.value c.if-count-gt-IN_ATARI.false) in
+    let its = some.all (omega arith) in
     let found = when_some c.first_other.result c.first_other.ensures.some (sym c.is_some.ensures ∙ e) in
     record {
       point = found.0;

@@ -1,5 +1,5 @@
 -- The string is told by its liberties, where it is of the colour.
-use Rattle.std.proofs.Common.{ℕ, ◌≡◌, ◌*◌, ◌<◌, ◌≤◌, true, not, List, ap, sym, subst, ◌∙◌}
+use Rattle.std.proofs.Common.{ℕ, ◌≡◌, ◌*◌, ◌<◌, true, not, List, ap, sym, subst, arith, ◌∙◌}
 use Rattle.std.proofs.lemmas.Bool.{both_ways}
 use Rattle.std.specs.FinSet as set
 use Rattle.std.specs.Ordering.{nat_cmp}
@@ -70,8 +70,8 @@ returns-then-count-gt-FEW_LIBERTIES-clause-over g c = λ pos a p.
     let d = (goal.at.returns-then-count-gt-FEW_LIBERTIES-clause-over g c).After-some_liberties-found in
     let found = rw c.cell.ensures.stays.moves at (c.some_liberties-found.ensures.over pos a) in
     let cells = (after pos c.args.board.now.moves).cells in
-    let x = other_of_three pos.size cells c.args.q c.args.l p
-    (found.more (subst (λ n. 2 < n) c.count.ensures.value c.if-count-gt-FEW_LIBERTIES.true)) in
+    let many = found.more (omega arith) in
+    let x = other_of_three pos.size cells c.args.q c.args.l p (omega (arith, many)) in
     record {
       point = x.0;
       inside = record {
@@ -116,7 +116,7 @@ returns-clause-over g c = λ pos a.
     let found = rw c.cell.ensures.stays.moves at (c.some_liberties-found.ensures.over pos a) in
     let cells = (after pos c.args.board.now.moves).cells in
     let points = c.some_liberties-found.result in
-    let all = found.all (subst (λ n. n ≤ 2) c.count.ensures.value c.if-count-gt-FEW_LIBERTIES.false) in
+    let all = found.all (omega arith) in
     let on = inside g d pos a in
     let its = stone g d pos a in
     Tells-same (IsOtherMember points c.args.l) (IsOtherLibertyOf pos.size cells c.args.c c.args.l c.args.q)
