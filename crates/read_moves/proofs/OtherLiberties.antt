@@ -1,11 +1,11 @@
 -- A string with enough liberties has one beside one given point, and beside two.
-use Rattle.std.proofs.Common.{◌≡◌, ◌≢◌, ℕ, zero, suc, ◌+◌, ◌*◌, ◌<◌, ◌≤◌, ◌&&◌, Bool, true, false, not, cond, eqb, List, refl, ap, arith, inl, inr}
+use Rattle.std.proofs.Common.{◌≡◌, ◌≢◌, ◌⊎◌, ℕ, zero, suc, ◌+◌, ◌*◌, ◌<◌, ◌≤◌, ◌&&◌, Bool, true, false, not, cond, eqb, List, refl, ap, arith, inl, inr}
 use Rattle.std.proofs.lemmas.Bool.{cases_Bool, cases_eq, eq-eqb, ne_eqb, and_parts, and_from, both_ways}
 use Rattle.go_rules.specs.declared.Cell.{Cell}
 use Rattle.go_rules.specs.Below.{any_below, count_below}
 use Rattle.go_rules.specs.Strings.{is_liberty, liberties, IsLiberty}
 use Rattle.go_rules.proofs.Counts.{any_below_gives, any_below_none, count_below_mono, count_below_none}
-use Rattle.go_rules.proofs.Paths.{IsLiberty-from_test}
+use Rattle.go_rules.proofs.Paths.{IsLiberty-from_test, is_liberty-from_fact}
 
 -- the numbers that pass and are not a
 but : (ℕ → Bool) → ℕ → ℕ → Bool
@@ -77,3 +77,19 @@ module _ (s : ℕ) (cells : List Cell) (q : ℕ) where
       let parts = but_parts (but (is_liberty s cells q) l) p x.0 x.2 in
       let its = but_parts (is_liberty s cells q) l x.0 parts.0 in
       (x.0, IsLiberty-from_test s cells q x.0 its.0, its.1, parts.1)
+
+  -- it has one that is not l, or l alone
+  pub other_or_only : q < s * s → (l : ℕ)
+      → ((x : ℕ) × IsLiberty s cells q x × (x ≢ l)) ⊎ ((x : ℕ) → IsLiberty s cells q x → x ≡ l)
+  other_or_only on l = elim (cases_Bool (any_below (s * s) (but (is_liberty s cells q) l))) [
+    | inl t ↦
+        let x = any_below_gives (s * s) (but (is_liberty s cells q) l) t in
+        let parts = but_parts (is_liberty s cells q) l x.0 x.2 in
+        inl (x.0, IsLiberty-from_test s cells q x.0 parts.0, parts.1)
+    | inr f ↦ inr (λ x lib. elim (cases_eq x l) [
+      | inl e ↦ e
+      | inr ne ↦ absurd (both_ways (but (is_liberty s cells q) l x)
+          (any_below_none (s * s) (but (is_liberty s cells q) l) x f lib.on_board)
+          (but_from (is_liberty s cells q) l x (is_liberty-from_fact s cells q x on lib) ne))
+    ])
+  ]

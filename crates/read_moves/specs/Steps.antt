@@ -1,7 +1,5 @@
 -- What the steps of the search for candidates answer.
-use Rattle.std.specs.Prelude.{◌≡◌, ◌≢◌, ℕ, ◌*◌, ◌<◌, ◌==◌, ◌&&◌, Bool, true, false, List, Option, Some, None}
-use Rattle.std.specs.Ordering.{nat_cmp}
-use Rattle.std.specs.FinSet as set
+use Rattle.std.specs.Prelude.{◌≡◌, ◌≢◌, ℕ, ◌*◌, ◌<◌, ◌&&◌, Bool, true, List}
 use Rattle.go_rules.specs.declared.Cell.{Cell}
 use Rattle.go_rules.specs.declared.Cell.TheVariants.{Empty}
 use Rattle.go_rules.specs.declared.Colour.{Colour}
@@ -10,15 +8,6 @@ use Rattle.go_rules.specs.Strings.{cell_at, same_cell, IsLiberty}
 use Rattle.go_rules.specs.Position.{BoardState, IsPosition, other, stone_of}
 use Rattle.go_rules.specs.Play.{play_free}
 use Rattle.read_rules.specs.Candidates.{leaves_only}
-
--- there is a point, and it is p
-abbrev pub is_at : Option ℕ → ℕ → Bool
-is_at None p = false
-is_at (Some q) p = p == q
-
--- p is the one member of the set
-abbrev pub is_only_member : set.FinSet nat_cmp → ℕ → Bool
-is_only_member points p = (set.len points == 1) && set.contains points p
 
 -- p is empty, and the play of c at l, with the ban dropped, is legal and leaves the string of its stone one liberty,
 -- which is p
@@ -35,10 +24,13 @@ pub record HasOtherLiberty (s : ℕ) (cells : List Cell) (q l : ℕ) : Type 0 wh
 abbrev pub LivesWithout : ℕ → List Cell → Colour → ℕ → ℕ → Type 0
 LivesWithout s cells c l q = cell_at cells q ≡ stone_of (other c) → HasOtherLiberty s cells q l
 
+-- the enemy strings of c next to l have other liberties
+abbrev pub AllLive : ℕ → List Cell → Colour → ℕ → Type 0
+AllLive s cells c l = (q : ℕ) → q < s * s → are_neighbours s l q ≡ true → LivesWithout s cells c l q
+
 -- l is an empty point of a position, and a stone of c there takes nothing: the enemy strings next to it have other
 -- liberties
 pub record IsQuiet (here : BoardState) (c : Colour) (l : ℕ) : Type 0 where
   pub sound : IsPosition here
   pub is_empty : cell_at here.cells l ≡ Empty
-  pub live : (q : ℕ) → q < here.size * here.size → are_neighbours here.size l q ≡ true
-      → LivesWithout here.size here.cells c l q
+  pub live : AllLive here.size here.cells c l

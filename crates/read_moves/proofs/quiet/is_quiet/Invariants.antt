@@ -8,10 +8,10 @@ use Rattle.read_moves.proofs.quiet.is_quiet.Given as goal
 -- the enemy strings at the sides so far live
 abbrev pub invariant-loop-side : goal.invariant-loop-side
 invariant-loop-side g l = record {
-  stays : Stays g.L.Look.shows g.L.Look.seen l.initial.board l.board;
+  stays : Stays g.L.Look.shows g.L.Look.seen l.fn.board l.board;
   near : (pos : BoardState) → Agrees (g.L.Look.seen l.board.look) pos
-      → AddsIn (g.L.Look.seen l.initial.board.look) (g.L.Look.seen l.board.look)
-      (neighbourhood_twice pos.size (after pos l.initial.board.moves).cells l.l);
+      → AddsIn (g.L.Look.seen l.fn.board.look) (g.L.Look.seen l.board.look)
+      (neighbourhood_twice pos.size (after pos l.fn.board.moves).cells l.l);
   live : (pos : BoardState) → Agrees (g.L.Look.seen l.board.look) pos
-      → LiveAtSides pos.size (after pos l.initial.board.moves).cells l.c l.l l.side;
+      → LiveAtSides pos.size (after pos l.fn.board.moves).cells l.c l.l l.side;
 }

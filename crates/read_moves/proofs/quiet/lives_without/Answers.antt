@@ -1,9 +1,10 @@
 -- The string has another liberty, where it is of the other colour.
-use Rattle.std.proofs.Common.{◌≡◌, ℕ, ◌*◌, ◌<◌, true, Option, Some, None, IfSome, is_some, ap, sym, subst, arith, ◌∙◌}
+use Rattle.std.proofs.Common.{◌≡◌, ℕ, ◌*◌, ◌<◌, true, Option, Some, None, IfSome, IfNone, is_some, false, ap, sym, subst, arith, ◌∙◌}
 use Rattle.std.specs.FinSet as set
-use Rattle.go_rules.specs.Position.{BoardState}
+use Rattle.go_rules.specs.Position.{BoardState, stone_of}
 use Rattle.go_rules.specs.Neighbourhood.{neighbourhood_of}
-use Rattle.go_rules.proofs.Paths.{IsLiberty-from_test}
+use Rattle.go_rules.proofs.Cells.{ne_false_same}
+use Rattle.go_rules.proofs.Paths.{same_cell-true, IsLiberty-from_test, is_liberty-from_fact}
 use Rattle.go_base.specs.Facts.{Agrees, AddsIn, agrees_before, AddsIn-trans, AddsIn-mono, same_size}
 use Rattle.go_base.specs.Views.{alone}
 use Rattle.go_base.proofs.PointNeighbourhoods.{close_alone}
@@ -60,6 +61,30 @@ returns-clause-over g c = λ pos a e enemy.
           (sym (ap (λ t. set.contains t found.0) its ∙ contains-liberty_points pos.size cells q found.0) ∙ found.1.2);
       other = found.1.3;
     }
+
+-- what is said where no point is there
+when_none : {P : Type 0} (o : Option ℕ) → IfNone o P → is_some o ≡ false → P
+when_none None h e = h
+when_none (Some p) h e = absurd (let w = e in cc)
+
+-- where no other liberty was found, the enemy's string has none
+pub returns-clause-dies : goal.returns-clause-dies
+returns-clause-dies g c = λ pos a e lives.
+    let q = c.args.q in
+    let a0 = agrees_before c.some_liberties-found.ensures.stays.grows a in
+    let cells = (after pos c.args.board.now.moves).cells in
+    let some = rw c.cell.ensures.stays.moves at (c.some_liberties-found.ensures.over pos a) in
+    let its = some.all (omega arith) in
+    let enemy = sym (c.cell.ensures.over pos a0)
+    ∙ same_cell-true _ _ (ne_false_same c.cell.result c.cell-2.result c.ne.result c.ne.ensures c.if-ne.false)
+    ∙ c.cell-2.ensures ∙ ap stone_of c.other.ensures in
+    let size = same_size (g.met.L.Look.sized c.cell.new.self.look) a0 ∙ ap (λ y. y.size) c.cell.ensures.stays.shown in
+    let on = subst (λ n. q < n * n) (sym size) c.requires.on_board in
+    let other = lives enemy in
+    let none = when_none c.first_other.result c.first_other.ensures.none (sym c.is_some.ensures ∙ e) in
+    other.other (none other.point (omega arith) (ap (λ t. set.contains t other.point) its
+    ∙ contains-liberty_points pos.size cells q other.point
+    ∙ is_liberty-from_fact pos.size cells q other.point on other.liberty))
 
 -- where it has one liberty at most, the stone and its string were looked at
 pub returns-clause-near : goal.returns-clause-near
