@@ -59,7 +59,8 @@ pub record IsLibertyBeside (s : ℕ) (cells : List Cell) (c : Colour) (l x : ℕ
   pub beside : are_neighbours s l q ≡ true
   pub its : IsLibertyOf s cells c q x
 
--- what a stone of c that is played at l reaches: an empty neighbour of l, or another liberty of a string of c next to it
+-- what a stone of c that is played at l reaches: an empty neighbour of l, or another liberty of a string of c next to
+-- it
 pub data IsReached (s : ℕ) (cells : List Cell) (c : Colour) (l x : ℕ) : Type 0 where
   by_side : IsEmptyNeighbour s cells l x → IsReached s cells c l x
   by_string : IsLibertyBeside s cells c l x → x ≢ l → IsReached s cells c l x

@@ -92,8 +92,8 @@ pub fn empty_sides<L: Look>(board: &mut Trial<L>, l: Point) -> u16
 }
 
 /// Adds the one liberty that a stone of this colour at l would have, where it is empty now. No play is tried: a stone
-/// that takes nothing has just what it reaches as liberties, and one that takes something has a liberty where that stood,
-/// which is not empty now.
+/// that takes nothing has just what it reaches as liberties, and one that takes something has a liberty where that
+/// stood, which is not empty now.
 fn add_backfilling_at<L: Look>(board: &mut Trial<L>, c: Colour, l: Point, found: &mut PointSet)
     requires { l < (L.shows board.old.look).size * (L.shows board.old.look).size }
     ensures stays { Stays L.shows L.seen board.old board.new }

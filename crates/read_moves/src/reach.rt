@@ -145,7 +145,8 @@ fn reach_of_string<L: Look>(board: &mut Trial<L>, c: Colour, l: Point, q: Point)
     reach_within(&found, l)
 }
 
-/// What a stone of the colour at l would reach. Strings are looked at only as long as fewer than two points are reached.
+/// What a stone of the colour at l would reach. Strings are looked at only as long as fewer than two points are
+/// reached.
 pub(crate) fn reach_of<L: Look>(board: &mut Trial<L>, c: Colour, l: Point) -> Reach
     requires { l < (L.shows board.old.look).size * (L.shows board.old.look).size }
     ensures stays { Stays L.shows L.seen board.old board.new }

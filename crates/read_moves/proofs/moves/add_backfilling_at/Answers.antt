@@ -66,7 +66,8 @@ module _ (g : Over) (c : After-reach_of g) (pos : BoardState)
   -- the point is on the board
   on_board : c.args.l < pos.size * pos.size
   on_board =
-      let e = same_size (g.met.L.Look.sized c.cell.new.self.look) before ∙ ap (λ y. y.size) c.cell.ensures.stays.shown in
+      let e = same_size (g.met.L.Look.sized c.cell.new.self.look) before
+      ∙ ap (λ y. y.size) c.cell.ensures.stays.shown in
       subst (λ n. c.args.l < n * n) (sym e) c.requires
 
   -- and on that of the position after the trial moves

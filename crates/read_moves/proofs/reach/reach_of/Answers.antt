@@ -76,8 +76,8 @@ loop-side-preserved g c =
             let a0 = rw w.board-is at a in
             let e = same_size (g.met.L.Look.sized c.loop-side.board.look) a0 ∙ ap (λ y. y.size) i.stays.shown in
             let cells = (after pos c.args.board.now.moves).cells in
-            rw w.reach-is (SoFar-skip (IsEmptyNeighbour pos.size cells l) (IsLibertyAtSide pos.size cells c.args.c l) side
-            c.loop-side.reach (i.over pos a0)
+            rw w.reach-is (SoFar-skip (IsEmptyNeighbour pos.size cells l)
+            (IsLibertyAtSide pos.size cells c.args.c l) side c.loop-side.reach (i.over pos a0)
             (λ x its. w.in_default.not-Some its.q (c.neighbour.ensures.value
             ∙ ap (λ n. neighbour_at n l side) (c.size-size.ensures ∙ sym e) ∙ its.at)));
       }

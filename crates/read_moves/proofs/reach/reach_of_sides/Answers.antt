@@ -74,5 +74,6 @@ pub returns-clause-over : goal.returns-clause-over
 returns-clause-over g c = λ pos a.
     let e = same_size (g.met.L.Look.sized c.loop-side.board.look) a
     ∙ ap (λ x. x.size) c.loop-side.invariant.stays.shown in
-    sides_told pos.size (after pos c.args.board.now.moves).cells c.args.l (subst (λ n. c.args.l < n * n) (sym e) c.requires)
+    sides_told pos.size (after pos c.args.board.now.moves).cells c.args.l
+    (subst (λ n. c.args.l < n * n) (sym e) c.requires)
     c.loop-side.side c.loop-side.reach (omega arith) (c.loop-side.invariant.over pos a)

@@ -61,7 +61,8 @@ returns-clause-over g c = λ pos a p.
     c.new-found.ensures (c.attacker_of-attacker.ensures ∙ ap attacker_of stone)
     (left
     ∙ ap (λ y. y || any_below (pos.size * pos.size)
-    (λ l. set.contains libs l && is_left here c.attacker_of-attacker.result l p)) (c.add_beside_few.ensures.over pos a1 p)
+    (λ l. set.contains libs l && is_left here c.attacker_of-attacker.result l p))
+    (c.add_beside_few.ensures.over pos a1 p)
     ∙ ap (λ n. (set.contains c.new-found.result p
     || (ltb (set.len libs) 3 && is_empty_beside n here.cells (set.contains libs) p))
     || any_below (n * n) (λ l. set.contains libs l && is_left here c.attacker_of-attacker.result l p)) (sym size))

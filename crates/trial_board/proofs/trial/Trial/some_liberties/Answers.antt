@@ -31,7 +31,8 @@ returns-clause-over g c = λ pos a.
     let a0 = agrees_before asked.0.grows a in
     rw (← c.self.view_is)
     (subst (λ t. FindsLiberties pos.size t c.args.p c.args.most found.liberties) (sym (i.now pos a0).cells)
-    (subst (λ n. FindsLiberties n (overlaid pos.size inside.board.changed pos.cells) c.args.p c.args.most found.liberties)
+    (subst (λ n. FindsLiberties n (overlaid pos.size inside.board.changed pos.cells) c.args.p c.args.most
+    found.liberties)
     (sym (same_size (g.met.L.Look.sized inside.board.look) a0))
     (its_liberties _ _ _ _ found (c.search-liberties.ensures.over pos (a, asked.1 ∙ i.whole)))))
 
