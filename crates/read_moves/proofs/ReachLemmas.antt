@@ -1,6 +1,6 @@
 -- What a stone that is played reaches: its empty sides, and the other liberties of the strings that it joins. These are
 -- liberties of it, and all of them where it takes nothing.
-use Rattle.std.proofs.Common.{◌≡◌, ◌≢◌, ◌⊎◌, ℕ, ◌+◌, ◌*◌, ◌<◌, ◌||◌, Bool, true, false, cond, eqb, List, length, Result, Ok, Err, refl, sym, ap, subst, arith, inl, inr, ◌∙◌, set}
+use Rattle.std.proofs.Common.{◌≡◌, ◌≢◌, ◌⊎◌, ℕ, ◌+◌, ◌*◌, ◌<◌, ◌&&◌, ◌||◌, Bool, true, false, cond, eqb, List, length, Result, Ok, Err, refl, sym, ap, subst, arith, inl, inr, ◌∙◌, set}
 use Rattle.std.proofs.lemmas.Bool.{cases_Bool, cases_eq, eq-eqb, eqb-true, both_ways, and_parts, and_from}
 use Rattle.std.specs.Ordering.{nat_cmp}
 use Rattle.std.specs.Cmp.{nat_cmp_total}
@@ -11,25 +11,29 @@ use Rattle.go_rules.specs.declared.Colour.{Colour}
 use Rattle.go_rules.specs.declared.Colour.TheVariants.{Black as black, White as white}
 use Rattle.go_rules.specs.declared.Illegal.{Illegal}
 use Rattle.go_rules.specs.Board.{are_neighbours}
-use Rattle.go_rules.specs.Strings.{cell_at, is_stone, Path, start, step, IsLiberty, is_liberty, liberties, liberty_points}
-use Rattle.go_rules.specs.Position.{BoardState, other, stone_of}
+use Rattle.go_rules.specs.Strings.{cell_at, is_stone, same_cell, Path, start, step, IsLiberty, is_liberty, liberties, liberty_points}
+use Rattle.go_rules.specs.Position.{BoardState, IsPosition, other, stone_of}
 use Rattle.go_rules.specs.Play.{play_free, cells_after, is_taken}
-use Rattle.go_rules.proofs.Links.{liberty_moves, liberties_from}
-use Rattle.go_rules.proofs.Paths.{same_cell-from, IsLiberty-from_test, is_liberty-from_fact}
-use Rattle.go_rules.proofs.Plays.{at_put_same, at_put_other, at_after, own_not_taken, stone_is, taken_parts, alive_not_taken, taken_beside}
-use Rattle.go_rules.proofs.PlayLaws.{done_state}
+use Rattle.go_rules.proofs.Links.{liberty_moves, liberties_from, path_same, path_keeps}
+use Rattle.go_rules.proofs.Paths.{same_cell-true, same_cell-from, IsLiberty-from_test, is_liberty-from_fact}
+use Rattle.go_rules.proofs.Plays.{at_put_same, at_put_other, at_after, enemy_differs, own_not_taken, stone_is, taken_parts, alive_not_taken, taken_beside}
+use Rattle.go_rules.proofs.PlayLaws.{done_state, taken_by_words}
 use Rattle.go_rules.proofs.Results.{after_on, free_done}
 use Rattle.go_rules.proofs.Sets.{same_nat_set, contains-insert_nat}
 use Rattle.go_base.specs.Takes.{TakenBeside}
 use Rattle.go_base.proofs.LastLiberties.{contains-liberty_points}
 use Rattle.go_base.proofs.Liberties.{len-liberty_points}
 use Rattle.read_rules.specs.Candidates.{leaves_only, IsEmptyNeighbour}
-use Rattle.read_rules.proofs.CandidateLaws.{size_played, only_parts}
+use Rattle.read_rules.proofs.CandidateLaws.{size_played, only_gives, only_parts}
 use Rattle.go_base.specs.Surroundings.{is_only_liberty}
-use Rattle.read_moves.specs.Steps.{is_left, IsLibertyBeside, IsReached, by_side, by_string, HasOtherReached, LivesWithout, IsQuiet}
+use Rattle.read_moves.specs.Reaches.{HasOther, Reaches, IsLibertyBeside, IsReached, by_side, by_string}
+use Rattle.read_moves.specs.declared.reach.Reach.{Reach}
+use Rattle.read_moves.specs.declared.reach.Reach.TheVariants.{Nothing, More}
+use Rattle.read_moves.specs.Steps.{is_left, LivesWithout, AllLive, IsQuiet}
 use Rattle.read_moves.proofs.AfterPlays.{put_liberty, after_liberty}
 use Rattle.read_moves.proofs.BackfillingLemmas.{one_member}
 use Rattle.read_moves.proofs.BesideLemmas.{same_tests}
+use Rattle.read_moves.proofs.OtherLiberties.{other_or_only}
 use Rattle.read_moves.proofs.SideLemmas.{not_its_own}
 
 -- a stone of one colour is no empty point
@@ -95,6 +99,43 @@ module _ (s : ℕ) (cells : List Cell) (c : Colour) (l : ℕ) (whole : length ce
   pub gained : (x : ℕ) → IsReached s cells c l x → IsLiberty s gone l x
   gained x (by_side side) = side_gained x side
   gained x (by_string b ne) = string_gained x b ne
+
+  -- Where the string of q, an enemy next to l, has no liberty but l.
+  module _ (q : ℕ) (q_on : q < s * s) (beside : are_neighbours s l q ≡ true)
+      (enemy : cell_at cells q ≡ stone_of (other c)) (only : (x : ℕ) → IsLiberty s cells q x → x ≡ l) where
+    -- q stands once the stone is put
+    put_enemy : cell_at put q ≡ stone_of (other c)
+    put_enemy = at_put_other cells l q (stone_of c) (off_point (other c) q enemy) ∙ enemy
+
+    -- its string has no liberty then
+    dead : (x : ℕ) → IsLiberty s put q x → ⊥
+    dead x h =
+        let back : (y : ℕ) → Path s put q y → y ≢ l =
+        λ y path e. enemy_differs c (sym put_enemy ∙ sym (path_same s put q path) ∙ ap (cell_at put) e ∙ put_here) in
+        let same : (y : ℕ) → Path s put q y → cell_at cells y ≡ cell_at put y =
+        λ y path. sym (at_put_other cells l y (stone_of c) (back y path)) in
+        let off : x ≢ l = λ e. stone_not_empty c (sym put_here ∙ ap (cell_at put) (sym e) ∙ h.is_empty) in
+        off (only x (record {
+          on_board = h.on_board;
+          is_empty = sym (at_put_other cells l x (stone_of c) off) ∙ h.is_empty;
+          beside = (
+            h.beside.0,
+            record {
+              stone = ap is_stone (same q start) ∙ h.beside.1.stone;
+              path = path_keeps s put cells q same h.beside.1.path;
+            },
+            h.beside.2,
+          );
+        }))
+
+    -- so it is taken, and the stone at l has a liberty where q stood
+    pub freed : IsLiberty s gone l q
+    freed = record {
+      on_board = q_on;
+      is_empty = at_after s put c q q_on ∙ ap (λ b. cond b Empty (cell_at put q))
+          (taken_by_words s put c q (record { enemy = put_enemy; dead = dead }));
+      beside = (l, record { stone = ap is_stone stone_here ∙ stone_is c; path = start }, beside);
+    }
 
   -- Where the enemy strings next to l have other liberties, and what is taken hangs on a neighbour of l.
   module _ (live : (q : ℕ) → q < s * s → are_neighbours s l q ≡ true → LivesWithout s cells c l q)
@@ -206,12 +247,12 @@ reached_then pos c l new x on whole legal reached =
 
 -- a stone that is played at l and reaches a point that is not p has not p as its one liberty
 none_by_reached : (pos : BoardState) (c : Colour) (l p : ℕ) → l < pos.size * pos.size
-    → length pos.cells ≡ pos.size * pos.size → HasOtherReached pos.size pos.cells c l p
+    → length pos.cells ≡ pos.size * pos.size → HasOther (IsReached pos.size pos.cells c l) p
     → (r : Result BoardState Illegal) → play_free pos c l ≡ r → leaves_only l p r ≡ true → ⊥
 none_by_reached pos c l p on whole other (Err why) is h = cc
 none_by_reached pos c l p on whole other (Ok new) is h =
     let size = size_played pos c l new is in
-    let lib = reached_then pos c l new other.point on whole is other.is_reached in
+    let lib = reached_then pos c l new other.point on whole is other.inside in
     let only = only_parts new.size new.cells l p h in
     other.other (same_liberty new.size new.cells l p other.point only.0 only.1
     (ap (λ n. is_liberty n new.cells l other.point) size
@@ -219,11 +260,35 @@ none_by_reached pos c l p on whole other (Ok new) is h =
 
 -- so it leaves nothing
 pub reached_leave_none : (pos : BoardState) (c : Colour) (l p : ℕ) → l < pos.size * pos.size
-    → length pos.cells ≡ pos.size * pos.size → HasOtherReached pos.size pos.cells c l p
+    → length pos.cells ≡ pos.size * pos.size → HasOther (IsReached pos.size pos.cells c l) p
     → leaves_only l p (play_free pos c l) ≡ false
 reached_leave_none pos c l p on whole other = elim (cases_Bool (leaves_only l p (play_free pos c l))) [
   | inl t ↦ absurd (none_by_reached pos c l p on whole other (play_free pos c l) refl t)
   | inr f ↦ f
+]
+
+-- the play that leaves a liberty is legal, and so its point is empty
+pub left_vacant : (here : BoardState) (c : Colour) (l p : ℕ) → is_left here c l p ≡ true → cell_at here.cells l ≡ Empty
+left_vacant here c l p left =
+    let made = only_gives l p (play_free here c l) (and_parts _ _ left).1 in
+    (done_state here c l made.0 made.1).0
+
+-- a play that leaves a liberty which was empty before takes nothing, since what it takes leaves it another one
+pub left_lives : (here : BoardState) (c : Colour) (l p : ℕ) → l < here.size * here.size
+    → length here.cells ≡ here.size * here.size → is_left here c l p ≡ true → AllLive here.size here.cells c l
+left_lives here c l p on whole left q q_on beside enemy = elim (other_or_only here.size here.cells q q_on l) [
+  | inl o ↦ record { point = o.0; liberty = o.1; other = o.2 }
+  | inr only ↦
+      let parts = and_parts _ _ left in
+      let made = only_gives l p (play_free here c l) parts.1 in
+      let state = done_state here c l made.0 made.1 in
+      let lib = subst (λ (y : BoardState). IsLiberty here.size y.cells l q) (sym state.1)
+      (freed here.size here.cells c l whole on state.0 q q_on beside enemy only) in
+      let its = only_parts made.0.size made.0.cells l p made.2 in
+      let same = same_liberty made.0.size made.0.cells l p q its.0 its.1
+      (ap (λ n. is_liberty n made.0.cells l q) (size_played here c l made.0 made.1)
+      ∙ is_liberty-from_fact here.size made.0.cells l q on lib) in
+      absurd (stone_not_empty (other c) (sym enemy ∙ ap (cell_at here.cells) same ∙ same_cell-true _ _ parts.0))
 ]
 
 -- no point is in the empty set
@@ -294,3 +359,22 @@ module _ (here : BoardState) (c : Colour) (l : ℕ) (on : l < here.size * here.s
   quiet_one p its only x = same_tests _ _
       (λ h. eq-eqb x p (only x (left_is_reached x (play_free here c l) refl (and_parts _ _ h).1)))
       (λ h. ap (is_left here c l) (eqb-true x p h) ∙ one_left p its only)
+
+-- where nothing is reached, or two points, no play at l leaves an empty point
+pub unless_one : (here : BoardState) (c : Colour) (l p : ℕ) (r : Reach) → l < here.size * here.size → IsPosition here
+    → cell_at here.cells l ≡ Empty → (r ≡ Nothing) ⊎ (r ≡ More) → Reaches here.size here.cells c l r
+    → is_left here c l p ≡ false
+unless_one here c l p r on sound vacant (inr two) reaches =
+    let other = subst (Reaches here.size here.cells c l) two reaches in
+    none_left (same_cell (cell_at here.cells p) Empty) _
+    (reached_leave_none here c l p on sound.cells (other p))
+  where
+    none_left : (a b : Bool) → b ≡ false → (a && b) ≡ false
+    none_left true b e = e
+    none_left false b e = refl
+unless_one here c l p r on sound vacant (inl none) reaches = elim (cases_Bool (is_left here c l p)) [
+  | inr f ↦ f
+  | inl t ↦ quiet_none here c l on
+      (record { sound = sound; is_empty = vacant; live = left_lives here c l p on sound.cells t })
+      (subst (Reaches here.size here.cells c l) none reaches) p
+]

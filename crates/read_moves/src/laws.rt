@@ -7,8 +7,8 @@ ghost use Rattle.go_base.specs.Surroundings.{is_last_liberty_of_enemy};
 ghost use Rattle.read_rules.specs.Candidates.{is_candidate};
 ghost use Rattle.read_moves.specs.Stages.{is_wide_candidate};
 
-/// A candidate is a liberty of the target, the last liberty of an enemy string next to it, or, where a wide ply is left,
-/// a wide candidate.
+/// A candidate is a liberty of the target, the last liberty of an enemy string next to it, or, where a wide ply is
+/// left, a wide candidate.
 pub fn candidates_come_in_stages()
     ensures { (pos : BoardState) (target k p : ℕ) → is_candidate pos target k p
         ≡ (is_liberty pos.size pos.cells target p || is_last_liberty_of_enemy pos.size pos.cells target p

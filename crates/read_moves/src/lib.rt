@@ -7,6 +7,8 @@
 
 pub mod laws;
 pub mod moves;
+mod quiet;
+pub mod reach;
 pub mod stages;
 
 pub use moves::empty_sides;

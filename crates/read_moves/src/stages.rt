@@ -46,12 +46,11 @@ fn attacker_of(cell: Cell) -> Colour
     }
 }
 
-/// The candidates that are tried only where a wide ply is left: the empty neighbours of the target's liberties, if there
-/// are at most two of these, and the one liberty that a stone of the attacker on one of its liberties would have.
+/// The candidates that are tried only where a wide ply is left: the empty neighbours of the target's liberties, if
+/// there are at most two of these, and the one liberty that a stone of the attacker on one of its liberties would have.
 ///
-/// The caller gives the target's liberties. The trial moves stay as they were. For the last kind a play is tried only
-/// where it would take something, and counts among the trials. After GNU Go Manual, "Tactical reading"; the choice of
-/// these points is this project's own.
+/// The caller gives the target's liberties. The trial moves stay as they were, and no play is tried. After GNU Go
+/// Manual, "Tactical reading"; the choice of these points is this project's own.
 pub fn wide_candidates<L: Look>(
     board: &mut Trial<L>,
     target: Point,

@@ -2,7 +2,7 @@
 
 ghost use Rattle.std.specs.Prelude.{◌*◌, ◌<◌, IfSome};
 
-use super::{candidates, empty_sides};
+use super::{candidates, empty_sides, wide_candidates};
 use go_base::size::MAX_POINTS;
 use go_base::{Colour, Point, PointSet, Position, Size, Watch};
 use std::test::Fail;
@@ -40,6 +40,16 @@ fn found(position: &Position, target: &str, wide: u8) -> Option<PointSet> {
     let target = vertex(position.size(), target)?;
     let mut board = Trial::new(Watch::new(position));
     let found = candidates(&mut board, target, wide);
+    let _look = board.finish();
+    Some(found)
+}
+
+/// The wide candidates of a target on the position.
+fn wide(position: &Position, target: &str) -> Option<PointSet> {
+    let target = vertex(position.size(), target)?;
+    let mut board = Trial::new(Watch::new(position));
+    let liberties = board.liberties(target);
+    let found = wide_candidates(&mut board, target, &liberties);
     let _look = board.finish();
     Some(found)
 }
@@ -134,6 +144,46 @@ fn liberties_their_neighbours_and_captures_are_tried(rt: HostRuntime) -> Result<
         let size = Size::new(rows).ok_or("the size is one of a board")?;
         let position = position(size, black, white).ok_or("the stones can be put")?;
         let found = found(&position, target, wide).ok_or("the target is on the board")?;
+        let wanted = wanted(size, names).ok_or("the vertices are on the board")?;
+        for p in 0..MAX_POINTS as u16 {
+            assert_eq!(rt; found.has(p), wanted.has(p), "{what}, at {p}");
+        }
+    }
+    Ok(())
+}
+
+#[test]
+fn wide_candidates_stand_for_themselves(rt: HostRuntime) -> Result<(), Fail> {
+    let rows = [
+        (
+            "the neighbours of a last liberty",
+            9,
+            "D4",
+            "C4 E4 D5",
+            "D4",
+            "C3 E3 D2",
+        ),
+        (
+            "no neighbours where there are four liberties",
+            9,
+            "D4",
+            "",
+            "D4",
+            "",
+        ),
+        (
+            "the one liberty that white at a liberty would have, beside three liberties",
+            5,
+            "A1 B1 C1 B2",
+            "D1",
+            "B1",
+            "A3",
+        ),
+    ];
+    for (what, rows, black, white, target, names) in rows {
+        let size = Size::new(rows).ok_or("the size is one of a board")?;
+        let position = position(size, black, white).ok_or("the stones can be put")?;
+        let found = wide(&position, target).ok_or("the target is on the board")?;
         let wanted = wanted(size, names).ok_or("the vertices are on the board")?;
         for p in 0..MAX_POINTS as u16 {
             assert_eq!(rt; found.has(p), wanted.has(p), "{what}, at {p}");

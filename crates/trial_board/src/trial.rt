@@ -13,6 +13,7 @@ ghost use Rattle.go_rules.specs.Play.{play_free};
 ghost use Rattle.go_base.specs.Facts.{Agrees, Grows, AddsIn};
 ghost use Rattle.trial_board.specs.declared.moves.TrialMove.{TrialMove};
 ghost use Rattle.trial_board.specs.declared.moves.TrialPlay.{TrialPlay};
+ghost use Rattle.trial_board.specs.SomeLiberties.{FindsLiberties};
 ghost use Rattle.trial_board.specs.Trials.{Trying, Stays, Moved, IsNoted, Put, most_moves, after, tried, tried_free, made_or_suicide, tail, is_some_move};
 
 use crate::captured::{MAX_CAPTURED, note, nothing_captured};
@@ -22,7 +23,7 @@ use crate::overlay::Overlay;
 use go_base::ban::is_banned;
 use go_base::boundary::boundary_of;
 use go_base::capture::play_on;
-use go_base::flood::liberties_of;
+use go_base::flood::{Found, liberties_of, search};
 use go_base::points::PointSet;
 use go_base::size::{Point, Size};
 use go_base::surroundings::{Surroundings, surroundings_of};
@@ -145,6 +146,28 @@ impl<L: Look> Trial<L> {
             (neighbourhood_of pos.size (after pos self.old.moves).cells (alone p)) }
     {
         liberties_of(&mut self.board, p)
+    }
+
+    /// The liberties of the string of p, none where p is empty, if they are at most `most`; else more points than `most`,
+    /// and the string has more liberties than `most` too. No more of it is searched once it has shown so many.
+    pub fn some_liberties(&mut self, p: Point, most: u16) -> PointSet
+        requires { p < (L.shows self.old.look).size * (L.shows self.old.look).size }
+        ensures stays { Stays L.shows L.seen self.old self.new }
+        ensures count { self.new.count ≡ self.old.count }
+        ensures over { (pos : BoardState) → Agrees (L.seen self.new.look) pos
+            → FindsLiberties pos.size (after pos self.old.moves).cells p most result }
+        ensures answer { FindsLiberties (L.shows self.old.look).size
+            (after (L.shows self.old.look) self.old.moves).cells p most result }
+        ensures near { (pos : BoardState) → Agrees (L.seen self.new.look) pos
+            → AddsIn (L.seen self.old.look) (L.seen self.new.look)
+            (neighbourhood_of pos.size (after pos self.old.moves).cells (alone p)) }
+    {
+        let Found {
+            stones: _,
+            liberties,
+            enemies: _,
+        } = search(&mut self.board, p, most);
+        liberties
     }
 
     /// The least point of each enemy string next to the string of p, none where p is empty.

@@ -23,7 +23,7 @@ loop-l-preserved g c =
       near = λ pos a.
           let a0 = agrees_before c.add_backfilling_at.ensures.stays.grows a in
           let e = same_size (g.met.L.Look.sized c.loop-l.board.look) a0 ∙ ap (λ x. x.size) i.stays.shown in
-          let on = subst (λ n. l < n * n) (sym e) (c.requires.on_board l first.2) in
+          let on = subst (λ n. l < n * n) (sym e) (c.requires l first.2) in
           let came = rw i.stays.moves at (c.add_backfilling_at.ensures.near pos a) in
           AddsIn-trans (i.near pos a0) (AddsIn-mono came
           (λ r h. any_below_from (pos.size * pos.size) _ l on (and_from _ _ first.2 h)));
@@ -42,4 +42,4 @@ returns-clause-over g c = λ pos a.
     LeftBelow-all (is_left (after pos c.args.board.now.moves) c.args.c) c.args.points.now c.args.found.now c.loop-l.from
     (pos.size * pos.size) c.loop-l.found
     (c.loop-l.invariant.over pos a) c.in_default.ensures.none
-    (λ k h. subst (λ n. k < n * n) (sym e) (c.requires.on_board k h))
+    (λ k h. subst (λ n. k < n * n) (sym e) (c.requires k h))

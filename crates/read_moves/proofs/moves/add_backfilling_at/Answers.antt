@@ -1,71 +1,130 @@
--- What is reached tells what a quiet play leaves.
-use Rattle.std.proofs.Common.{◌≡◌, ℕ, ◌*◌, ◌<◌, ◌||◌, Bool, true, false, eqb, ap, sym, subst, refl, ◌∙◌}
+-- What is reached tells what a quiet play leaves, and a play that takes something leaves nothing that was empty.
+use Rattle.std.proofs.Common.{◌≡◌, ℕ, ◌*◌, ◌<◌, ◌||◌, Bool, true, false, not, eqb, ap, sym, subst, refl, inl, inr, ◌∙◌}
+use Rattle.std.proofs.lemmas.Bool.{cases_Bool, both_ways}
 use Rattle.std.specs.FinSet as set
+use Rattle.go_rules.specs.declared.Cell.TheVariants.{Empty}
 use Rattle.go_rules.specs.declared.Colour.{Colour}
 use Rattle.go_rules.specs.Position.{BoardState}
+use Rattle.go_rules.specs.Strings.{cell_at}
+use Rattle.go_rules.proofs.Cells.{eq_is_same_cell, ne_false_same}
+use Rattle.go_rules.proofs.Paths.{same_cell-true, same_cell-from}
 use Rattle.go_rules.proofs.Sets.{contains-insert_nat}
-use Rattle.go_base.specs.Facts.{agrees_before, AddsIn-trans, same_size}
+use Rattle.go_base.specs.Facts.{Agrees, AddsIn, agrees_before, Grows-trans, AddsIn-trans, AddsIn-mono, same_size}
+use Rattle.go_base.proofs.PointNeighbourhoods.{close_again, close_alone}
+use Rattle.trial_board.specs.Overlays.{neighbourhood_twice}
 use Rattle.trial_board.specs.Trials.{after}
 use Rattle.trial_board.proofs.AfterLemmas.{size-after}
-use Rattle.read_moves.specs.declared.moves.Reach.{Reach}
-use Rattle.read_moves.specs.Steps.{Reaches}
-use Rattle.read_moves.proofs.AfterPlays.{whole_after}
-use Rattle.read_moves.proofs.SideLemmas.{none_added}
-use Rattle.read_moves.proofs.ReachLemmas.{reached_leave_none, quiet_none, quiet_one}
+use Rattle.read_moves.specs.Steps.{AllLive, is_left}
+use Rattle.read_moves.specs.Reaches.{Reaches}
+use Rattle.read_moves.specs.declared.reach.Reach.{Reach}
+use Rattle.read_moves.proofs.ReachLemmas.{left_vacant, left_lives, unless_one, quiet_one}
+use Rattle.read_moves.proofs.moves.add_backfilling_at.Given.{Over}
 use Rattle.read_moves.proofs.moves.add_backfilling_at.Goals as goal
+use Rattle.read_moves.proofs.moves.add_backfilling_at.Goals.{After-reach_of}
+
+-- where nothing is left nothing comes
+or_none : (b x : Bool) → x ≡ false → b ≡ (b || x)
+or_none true x e = refl
+or_none false x e = sym e
+
+-- what leads to nothing is not so
+refuted : (b : Bool) → (b ≡ true → ⊥) → b ≡ false
+refuted b h = elim (cases_Bool b) [ inl t ↦ absurd (h t) | inr f ↦ f ]
 
 -- what is reached, on the position's own size
 at_size : (here : BoardState) (s : ℕ) (c : Colour) (l : ℕ) (r : Reach) → here.size ≡ s → Reaches s here.cells c l r
     → Reaches here.size here.cells c l r
 at_size here s c l r e h = subst (λ n. Reaches n here.cells c l r) (sym e) h
 
--- with two points nothing comes
-pub returns-in-More-clause-over : goal.returns-in-More-clause-over
-returns-in-More-clause-over g c = λ pos a p.
-    let a0 = agrees_before c.reach_of.ensures.stays.grows a in
+-- no play is legal at a stone
+pub returns-then-ne-clause-over : goal.returns-then-ne-clause-over
+returns-then-ne-clause-over g c = λ pos a p.
     let here = after pos c.args.board.now.moves in
-    let size = size-after pos c.args.board.now.moves in
-    let on = subst (λ n. c.args.l < n * n) (sym (size ∙ same_size (g.met.L.Look.sized c.args.board.now.look) a0))
-    c.requires.on_board in
-    let two = rw c.in-More.is at
-    (at_size here pos.size c.args.c c.args.l c.reach_of.result size (c.reach_of.ensures.over pos a)) in
-    none_added (set.contains c.args.found.now p) _ _
-    (reached_leave_none here c.args.c c.args.l p on (whole_after pos c.args.board.now.moves a0.sound.cells) (two p))
+    or_none (set.contains c.args.found.now p) _ (refuted (is_left here c.args.c c.args.l p) (λ left.
+    both_ways c.ne.result (c.ne.ensures ∙ ap not (eq_is_same_cell c.cell.result Empty
+    ∙ same_cell-from _ _ (c.cell.ensures.over pos a ∙ left_vacant here c.args.c c.args.l p left))) c.if-ne.true))
 
--- a quiet play that reaches nothing leaves nothing
-pub returns-else-not-is_quiet-clause-over : goal.returns-else-not-is_quiet-clause-over
-returns-else-not-is_quiet-clause-over g c = λ pos a p.
-    let a1 = agrees_before c.is_quiet.ensures.stays.grows a in
-    let a0 = agrees_before c.reach_of.ensures.stays.grows a1 in
-    let here = after pos c.args.board.now.moves in
-    let size = size-after pos c.args.board.now.moves in
-    let on = subst (λ n. c.args.l < n * n) (sym (size ∙ same_size (g.met.L.Look.sized c.args.board.now.look) a0))
-    c.requires.on_board in
-    let none = rw c.in-Nothing.is at
-    (at_size here pos.size c.args.c c.args.l c.reach_of.result size (c.reach_of.ensures.over pos a1)) in
-    let quiet = rw c.reach_of.ensures.stays.moves at (c.is_quiet.ensures.over pos a c.if-not-is_quiet.false) in
-    or_none (set.contains c.args.found.now p) _ (quiet_none here c.args.c c.args.l on quiet none p)
-  where
-    or_none : (b x : Bool) → x ≡ false → b ≡ (b || x)
-    or_none true x e = refl
-    or_none false x e = sym e
+-- the point alone was looked at
+pub returns-then-ne-clause-near : goal.returns-then-ne-clause-near
+returns-then-ne-clause-near g c = λ pos a.
+    let cells = (after pos c.args.board.now.moves).cells in
+    let e = same_size (g.met.L.Look.sized c.cell.new.self.look) a ∙ ap (λ y. y.size) c.cell.ensures.stays.shown in
+    let on = subst (λ n. c.args.l < n * n) (sym e) c.requires in
+    AddsIn-mono c.cell.ensures.near (λ r h. close_again pos.size cells _ r (close_alone pos.size cells c.args.l r on h))
 
--- one that reaches one point leaves it
+-- What is reached at an empty point.
+module _ (g : Over) (c : After-reach_of g) (pos : BoardState)
+    (a : Agrees (g.L.Look.seen c.reach_of.new.board.look) pos) where
+  -- the position after the trial moves
+  abbrev here : BoardState
+  here = after pos c.args.board.now.moves
+
+  -- what was seen when the point was looked at agrees too
+  before : Agrees (g.L.Look.seen c.cell.new.self.look) pos
+  before = agrees_before c.reach_of.ensures.stays.grows a
+
+  -- the point is on the board
+  on_board : c.args.l < pos.size * pos.size
+  on_board =
+      let e = same_size (g.met.L.Look.sized c.cell.new.self.look) before
+      ∙ ap (λ y. y.size) c.cell.ensures.stays.shown in
+      subst (λ n. c.args.l < n * n) (sym e) c.requires
+
+  -- and on that of the position after the trial moves
+  inside : c.args.l < here.size * here.size
+  inside = subst (λ n. c.args.l < n * n) (sym (size-after pos c.args.board.now.moves)) on_board
+
+  -- the point is empty
+  vacant : cell_at here.cells c.args.l ≡ Empty
+  vacant = sym (c.cell.ensures.over pos before)
+      ∙ same_cell-true _ _ (ne_false_same c.cell.result Empty c.ne.result c.ne.ensures c.if-ne.false)
+
+  -- what is reached
+  reached : Reaches here.size here.cells c.args.c c.args.l c.reach_of.result
+  reached = at_size here pos.size c.args.c c.args.l c.reach_of.result (size-after pos c.args.board.now.moves)
+      (rw c.cell.ensures.stays.moves at (c.reach_of.ensures.over pos a))
+
+  -- each look is near the point
+  looked : AddsIn (g.L.Look.seen c.args.board.now.look) (g.L.Look.seen c.reach_of.new.board.look)
+      (neighbourhood_twice pos.size here.cells c.args.l)
+  looked = AddsIn-trans (AddsIn-mono c.cell.ensures.near
+      (λ r h. close_again pos.size here.cells _ r (close_alone pos.size here.cells c.args.l r on_board h)))
+      (rw c.cell.ensures.stays.moves at (c.reach_of.ensures.near pos a))
+
+-- with nothing, or with two points, nothing comes
+pub returns-in-Nothing : goal.returns-in-Nothing
+returns-in-Nothing g c =
+    let d = (goal.at.returns-in-Nothing g c).After-reach_of in
+    let first = c.cell.ensures.stays in
+    let last = c.reach_of.ensures.stays in
+    record {
+      stays = record {
+        moves = last.moves ∙ first.moves;
+        shown = last.shown ∙ first.shown;
+        grows = Grows-trans first.grows last.grows;
+      };
+      over = λ pos a p. or_none (set.contains c.args.found.now p) _
+          (unless_one (here g d pos a) c.args.c c.args.l p c.reach_of.result (inside g d pos a)
+          (c.cell.ensures.sound pos (before g d pos a)) (vacant g d pos a) c.in-Nothing.is (reached g d pos a));
+      near = λ pos a. looked g d pos a;
+    }
+
+-- a quiet play that reaches one point leaves it
 pub returns-then-is_quiet-clause-over : goal.returns-then-is_quiet-clause-over
 returns-then-is_quiet-clause-over g c = λ pos a p.
-    let a1 = agrees_before c.is_quiet-in-Only.ensures.stays.grows a in
-    let a0 = agrees_before c.reach_of.ensures.stays.grows a1 in
-    let here = after pos c.args.board.now.moves in
-    let size = size-after pos c.args.board.now.moves in
-    let on = subst (λ n. c.args.l < n * n) (sym (size ∙ same_size (g.met.L.Look.sized c.args.board.now.look) a0))
-    c.requires.on_board in
-    let one = rw c.in-Only.is at
-    (at_size here pos.size c.args.c c.args.l c.reach_of.result size (c.reach_of.ensures.over pos a1)) in
-    let quiet = rw c.reach_of.ensures.stays.moves at (c.is_quiet-in-Only.ensures.over pos a c.if-is_quiet.true) in
+    let d = (goal.at.returns-then-is_quiet-clause-over g c).After-reach_of in
+    let a1 = agrees_before c.is_quiet.ensures.stays.grows a in
+    let place = here g d pos a1 in
+    let one = rw c.in-Only.is at (reached g d pos a1) in
+    let moves = c.reach_of.ensures.stays.moves ∙ c.cell.ensures.stays.moves in
+    let live = subst (λ n. AllLive n place.cells c.args.c c.args.l) (sym (size-after pos c.args.board.now.moves))
+    (rw moves at (c.is_quiet.ensures.over pos a c.if-is_quiet.true)) in
     ap (λ t. set.contains t p) c.add.ensures ∙ contains-insert_nat c.args.found.now c.in-Only.p p
     ∙ turned (eqb p c.in-Only.p) (set.contains c.args.found.now p)
     ∙ ap (λ b. set.contains c.args.found.now p || b)
-    (sym (quiet_one here c.args.c c.args.l on quiet c.in-Only.p one.0 one.1 p))
+    (sym (quiet_one place c.args.c c.args.l (inside g d pos a1)
+    (record { sound = c.cell.ensures.sound pos (before g d pos a1); is_empty = vacant g d pos a1; live = live })
+    c.in-Only.p one.0 one.1 p))
   where
     turned : (a b : Bool) → (a || b) ≡ (b || a)
     turned true true = refl
@@ -73,32 +132,29 @@ returns-then-is_quiet-clause-over g c = λ pos a p.
     turned false true = refl
     turned false false = refl
 
--- each look is near the point
-pub returns-else-not-is_quiet-clause-near : goal.returns-else-not-is_quiet-clause-near
-returns-else-not-is_quiet-clause-near g c = λ pos a.
-    AddsIn-trans (c.reach_of.ensures.near pos (agrees_before c.is_quiet.ensures.stays.grows a))
-    (rw c.reach_of.ensures.stays.moves at (c.is_quiet.ensures.near pos a))
+-- a play that takes something leaves nothing that was empty
+pub returns-else-is_quiet-clause-over : goal.returns-else-is_quiet-clause-over
+returns-else-is_quiet-clause-over g c = λ pos a p.
+    let d = (goal.at.returns-else-is_quiet-clause-over g c).After-reach_of in
+    let a1 = agrees_before c.is_quiet.ensures.stays.grows a in
+    let place = here g d pos a1 in
+    let moves = c.reach_of.ensures.stays.moves ∙ c.cell.ensures.stays.moves in
+    let dies = rw moves at (c.is_quiet.ensures.dies pos a c.if-is_quiet.false) in
+    or_none (set.contains c.args.found.now p) _ (refuted (is_left place c.args.c c.args.l p) (λ left.
+    dies (subst (λ n. AllLive n place.cells c.args.c c.args.l) (size-after pos c.args.board.now.moves)
+    (left_lives place c.args.c c.args.l p (inside g d pos a1)
+    (c.cell.ensures.sound pos (before g d pos a1)).cells left))))
 
 -- where the one point that is reached came, each look is near the point
 pub returns-then-is_quiet-clause-near : goal.returns-then-is_quiet-clause-near
 returns-then-is_quiet-clause-near g c = λ pos a.
-    AddsIn-trans (c.reach_of.ensures.near pos (agrees_before c.is_quiet-in-Only.ensures.stays.grows a))
-    (rw c.reach_of.ensures.stays.moves at (c.is_quiet-in-Only.ensures.near pos a))
+    let d = (goal.at.returns-then-is_quiet-clause-near g c).After-reach_of in
+    AddsIn-trans (looked g d pos (agrees_before c.is_quiet.ensures.stays.grows a))
+    (rw (c.reach_of.ensures.stays.moves ∙ c.cell.ensures.stays.moves) at (c.is_quiet.ensures.near pos a))
 
--- where nothing is reached and a play is tried, each look is near the point
-pub returns-then-not-is_quiet-clause-near : goal.returns-then-not-is_quiet-clause-near
-returns-then-not-is_quiet-clause-near g c = λ pos a.
-    let a1 = agrees_before c.try_backfilling.ensures.stays.grows a in
-    let m1 = c.reach_of.ensures.stays.moves in
-    AddsIn-trans (c.reach_of.ensures.near pos (agrees_before c.is_quiet.ensures.stays.grows a1))
-    (AddsIn-trans (rw m1 at (c.is_quiet.ensures.near pos a1))
-    (rw (c.is_quiet.ensures.stays.moves ∙ m1) at (c.try_backfilling.ensures.near pos a)))
-
--- where one point is reached and a play is tried, each look is near the point
+-- and where the play takes something
 pub returns-else-is_quiet-clause-near : goal.returns-else-is_quiet-clause-near
 returns-else-is_quiet-clause-near g c = λ pos a.
-    let a1 = agrees_before c.try_backfilling-else-is_quiet.ensures.stays.grows a in
-    let m1 = c.reach_of.ensures.stays.moves in
-    AddsIn-trans (c.reach_of.ensures.near pos (agrees_before c.is_quiet-in-Only.ensures.stays.grows a1))
-    (AddsIn-trans (rw m1 at (c.is_quiet-in-Only.ensures.near pos a1))
-    (rw (c.is_quiet-in-Only.ensures.stays.moves ∙ m1) at (c.try_backfilling-else-is_quiet.ensures.near pos a)))
+    let d = (goal.at.returns-else-is_quiet-clause-near g c).After-reach_of in
+    AddsIn-trans (looked g d pos (agrees_before c.is_quiet.ensures.stays.grows a))
+    (rw (c.reach_of.ensures.stays.moves ∙ c.cell.ensures.stays.moves) at (c.is_quiet.ensures.near pos a))

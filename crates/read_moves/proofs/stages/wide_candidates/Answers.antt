@@ -30,11 +30,11 @@ pub add_beside_few-requires : goal.add_beside_few-requires
 add_beside_few-requires g c = inside g (goal.at.add_beside_few-requires g c).After-new-found
 
 -- the liberties are on the board, whose size the looks beside them and at the target keep
-pub add_backfilling-requires-clause-on_board : goal.add_backfilling-requires-clause-on_board
-add_backfilling-requires-clause-on_board g c = λ l h.
+pub add_backfilling-requires : goal.add_backfilling-requires
+add_backfilling-requires g c = λ l h.
     subst (λ (pos : BoardState). l < pos.size * pos.size)
     (sym (c.cell.ensures.stays.shown ∙ c.add_beside_few.ensures.stays.shown))
-    (inside g (goal.at.add_backfilling-requires-clause-on_board g c).After-new-found l h)
+    (inside g (goal.at.add_backfilling-requires g c).After-new-found l h)
 
 -- the liberties, on a position of the size of the trial position
 its_liberties : (here : BoardState) (s target : ℕ) (libs : set.FinSet nat_cmp) → here.size ≡ s
@@ -61,7 +61,8 @@ returns-clause-over g c = λ pos a p.
     c.new-found.ensures (c.attacker_of-attacker.ensures ∙ ap attacker_of stone)
     (left
     ∙ ap (λ y. y || any_below (pos.size * pos.size)
-    (λ l. set.contains libs l && is_left here c.attacker_of-attacker.result l p)) (c.add_beside_few.ensures.over pos a1 p)
+    (λ l. set.contains libs l && is_left here c.attacker_of-attacker.result l p))
+    (c.add_beside_few.ensures.over pos a1 p)
     ∙ ap (λ n. (set.contains c.new-found.result p
     || (ltb (set.len libs) 3 && is_empty_beside n here.cells (set.contains libs) p))
     || any_below (n * n) (λ l. set.contains libs l && is_left here c.attacker_of-attacker.result l p)) (sym size))
