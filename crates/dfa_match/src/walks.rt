@@ -1,5 +1,5 @@
 //! The walks of an automaton from all anchors at once, letter by letter.
-ghost use Rattle.std.specs.Prelude.{◌≡◌, true, false, ℕ, ◌+◌, ◌*◌, ◌/◌, ◌%◌, ◌<◌, ◌≤◌, ◌++◌, List, slice_index_or, length, map, filter, All, IfOk, OnOk};
+ghost use Rattle.std.specs.Prelude.{◌≡◌, true, false, ℕ, ◌+◌, ◌*◌, ◌/◌, ◌%◌, ◌<◌, ◌≤◌, ◌++◌, List, slice_index_or, length, map, take, filter, All, IfOk, OnOk};
 ghost use Rattle.std.specs.List.{range_with_len};
 ghost use Rattle.go_rules.specs.Board.{largest_size};
 ghost use Rattle.dfa_core.specs.Automata.{Row, row_at, step_at};
@@ -61,46 +61,6 @@ pub fn copied(alloc: Global, walks: &[Walk]) -> Result<Vec<Walk>, NoMemory>
     let mut copy = Vec::with_capacity(alloc, walks.len())?;
     copy.extend_from_slice(walks)?;
     Ok(copy)
-}
-
-/// The row where a walk stands after one letter more, which it reads at this step behind its corner.
-fn next_row(machine: &Automaton, sights: &Sights, step: u16, row: u32, corner: u16) -> u32
-    requires row { row < length machine.now }
-    requires corner { corner ≤ last_corner }
-    requires step { step ≤ last_step }
-    ensures value { result ≡ step_at machine.now row (slice_index_or sights.now.letters (corner + step) Seen.Off) }
-    ensures bound { result < length machine.now }
-{
-    machine.step(row, sights.letter(corner, step))
-}
-
-/// Whether a row accepts something or is dead.
-fn is_marked(machine: &Automaton, row: u32) -> bool
-    requires { row < length machine.now }
-    ensures { result ≡ false → kind_at machine.now row ≡ RowKind.Plain }
-{
-    match machine.kind(row) {
-        RowKind::Plain => false,
-        RowKind::Accepting => true,
-        RowKind::Dead => true,
-    }
-}
-
-/// Reads one letter more on each walk, and answers whether some walk then stands at a row that accepts
-/// something or is dead.
-fn read_on(machine: &Automaton, sights: &Sights, step: u16, walks: &mut [Walk]) -> bool
-    requires within { All (IsWithin (length machine.now)) walks.old }
-    requires step { step ≤ last_step }
-    ensures value { walks.new ≡ map (after_letter machine.now sights.now.letters step) walks.old }
-    ensures plain { result ≡ false → All (IsPlain machine.now) walks.new }
-{
-    let mut marked = false;
-    'walks: for walk in walks.iter_mut() {
-        let row = next_row(machine, sights, step, walk.row, walk.corner);
-        walk.row = row;
-        marked |= is_marked(machine, row);
-    }
-    marked
 }
 
 /// The walk after one letter more, which it reads at this step behind its corner.
@@ -226,47 +186,42 @@ pub fn second_walks(
     Ok(walks)
 }
 
-/// Drops the walks that are dead, and answers whether one of those that are left stands at a row that accepts
-/// something.
+/// The walks that are left behind a letter. They stand in front of the others.
+#[derive(Drop)]
+struct Left {
+    /// How many they are.
+    count: usize,
+    /// Whether one of them stands at a row that accepts something.
+    accepts: bool,
+}
+
+/// Reads one letter more on each walk, and puts those in front that are not dead then, in their order.
 ///
 /// A walk is written behind those that go on, whether it goes on or not; the next one is written over one that does
 /// not. So nothing is decided for a walk, and no choice can be foretold wrongly.
-fn drop_dead(machine: &Automaton, walks: &mut Vec<Walk>) -> bool
-    requires { All (IsWithin (length machine.now)) walks.old.items }
-    ensures alive { walks.new.items ≡ filter (goes_on machine.now) walks.old.items }
-    ensures plain { result ≡ false → All (IsPlain machine.now) walks.new.items }
+fn read_on(machine: &Automaton, sights: &Sights, step: u16, walks: &mut [Walk]) -> Left
+    requires within { All (IsWithin (length machine.now)) walks.old }
+    requires step { step ≤ last_step }
+    ensures same_length { length walks.new ≡ length walks.old }
+    ensures alive { take result.count walks.new ≡ filter (goes_on machine.now)
+        (map (after_letter machine.now sights.now.letters step) walks.old) }
+    ensures plain { result.accepts ≡ false → All (IsPlain machine.now) (take result.count walks.new) }
 {
+    let _ = machine.rows();
+    let targets = machine.targets();
     let kinds = machine.kinds();
+    let mut count = 0;
     let mut accepts = false;
-    let mut kept = 0;
     'walks: for index in 0..walks.len() {
-        let walk = walks[index];
+        let walk = moved_on(targets, sights, step, walks[index]);
         let kind = kind_in(kinds, walk.row);
-        walks[kept] = walk;
+        walks[count] = walk;
         accepts |= is_accepting(kind);
         if is_alive(kind) {
-            kept += 1;
+            count += 1;
         }
     }
-    walks.truncate(kept);
-    accepts
-}
-
-/// Adds the hits of the rows where the walks stand, and drops the walks that are dead.
-fn settle(
-    machine: &Automaton,
-    t: Transform,
-    walks: &mut Vec<Walk>,
-    out: &mut Vec<Hit>,
-) -> Result<(), NoMemory>
-    requires { All (IsWithin (length machine.now)) walks.old.items }
-    ensures hits { OnOk result (out.new.items ≡ out.old.items ++ hits_of machine.now t walks.old.items) }
-    ensures alive { OnOk result (walks.new.items ≡ filter (goes_on machine.now) walks.old.items) }
-{
-    if drop_dead(machine, walks) {
-        return give_all(machine, t, walks, out);
-    }
-    Ok(())
+    Left { count, accepts }
 }
 
 /// Reads one letter more on each walk, adds the hits of the rows to which it leads, and drops the walks that are dead.
@@ -288,8 +243,10 @@ pub fn read_letter(
         (map (after_letter machine.now sights.now.letters step) walks.old.items)) }
 {
     let _ = machine.rows();
-    if read_on(machine, sights, step, walks) {
-        return settle(machine, t, walks, out);
+    let left = read_on(machine, sights, step, walks);
+    walks.truncate(left.count);
+    if left.accepts {
+        return give_all(machine, t, walks, out);
     }
     Ok(())
 }
