@@ -1,5 +1,5 @@
 //! The walks of an automaton from all anchors at once, letter by letter.
-ghost use Rattle.std.specs.Prelude.{◌≡◌, true, false, ℕ, ◌+◌, ◌*◌, ◌/◌, ◌%◌, ◌<◌, ◌≤◌, ◌++◌, List, slice_index_or, length, map, take, filter, All, IfOk, OnOk};
+ghost use Rattle.std.specs.Prelude.{◌≡◌, ◌⊎◌, true, false, ℕ, ◌+◌, ◌*◌, ◌/◌, ◌%◌, ◌<◌, ◌≤◌, ◌++◌, List, slice_index_or, length, map, filter, All, IfOk, OnOk};
 ghost use Rattle.std.specs.List.{range_with_len};
 ghost use Rattle.go_rules.specs.Board.{largest_size};
 ghost use Rattle.dfa_core.specs.Automata.{Row, row_at, step_at};
@@ -7,11 +7,11 @@ ghost use Rattle.dfa_core.specs.Tables.{AreTargets};
 ghost use Rattle.dfa_core.specs.RowKinds.{kind_at};
 ghost use Rattle.dfa_match.specs.Hits.{hits_at};
 ghost use Rattle.dfa_match.specs.Steps.{last_corner, last_step, no_step};
-ghost use Rattle.dfa_match.specs.Walks.{walk_at, after_letter, IsWithin, is_alive as is_alive_at, goes_on, IsPlain, hits_of};
+ghost use Rattle.dfa_match.specs.Walks.{walk_at, after_letter, IsWithin, is_alive as is_alive_at, goes_on, hits_of};
 
 use crate::sights::{Sights, corner_of, step_of};
 use crate::{Hit, add};
-use dfa_core::{Automaton, RowKind, Seen, target_in};
+use dfa_core::{Automaton, RowKind, target_in};
 use go_base::{NoMemory, Point, Size, Transform};
 use std::alloc::Global;
 
@@ -87,7 +87,7 @@ fn kind_in(kinds: &[RowKind], row: u32) -> RowKind
 }
 
 /// Whether a walk goes on from a row with this kind.
-fn is_alive(kind: RowKind) -> bool
+pub fn is_alive(kind: RowKind) -> bool
     ensures { result ≡ is_alive_at kind }
 {
     match kind {
@@ -98,8 +98,8 @@ fn is_alive(kind: RowKind) -> bool
 }
 
 /// Whether a row with this kind accepts something.
-fn is_accepting(kind: RowKind) -> bool
-    ensures { result ≡ false → is_alive_at kind ≡ true → kind ≡ RowKind.Plain }
+pub fn is_accepting(kind: RowKind) -> bool
+    ensures { result ≡ false → (kind ≡ RowKind.Plain) ⊎ (kind ≡ RowKind.Dead) }
 {
     match kind {
         RowKind::Accepting => true,
@@ -186,67 +186,3 @@ pub fn second_walks(
     Ok(walks)
 }
 
-/// The walks that are left behind a letter. They stand in front of the others.
-#[derive(Drop)]
-struct Left {
-    /// How many they are.
-    count: usize,
-    /// Whether one of them stands at a row that accepts something.
-    accepts: bool,
-}
-
-/// Reads one letter more on each walk, and puts those in front that are not dead then, in their order.
-///
-/// A walk is written behind those that go on, whether it goes on or not; the next one is written over one that does
-/// not. So nothing is decided for a walk, and no choice can be foretold wrongly.
-fn read_on(machine: &Automaton, sights: &Sights, step: u16, walks: &mut [Walk]) -> Left
-    requires within { All (IsWithin (length machine.now)) walks.old }
-    requires step { step ≤ last_step }
-    ensures same_length { length walks.new ≡ length walks.old }
-    ensures alive { take result.count walks.new ≡ filter (goes_on machine.now)
-        (map (after_letter machine.now sights.now.letters step) walks.old) }
-    ensures plain { result.accepts ≡ false → All (IsPlain machine.now) (take result.count walks.new) }
-{
-    let _ = machine.rows();
-    let targets = machine.targets();
-    let kinds = machine.kinds();
-    let mut count = 0;
-    let mut accepts = false;
-    'walks: for index in 0..walks.len() {
-        let walk = moved_on(targets, sights, step, walks[index]);
-        let kind = kind_in(kinds, walk.row);
-        walks[count] = walk;
-        accepts |= is_accepting(kind);
-        if is_alive(kind) {
-            count += 1;
-        }
-    }
-    Left { count, accepts }
-}
-
-/// Reads one letter more on each walk, adds the hits of the rows to which it leads, and drops the walks that are dead.
-pub fn read_letter(
-    machine: &Automaton,
-    sights: &Sights,
-    step: u16,
-    t: Transform,
-    walks: &mut Vec<Walk>,
-    out: &mut Vec<Hit>,
-) -> Result<(), NoMemory>
-    requires within { All (IsWithin (length machine.now)) walks.old.items }
-    requires step { step ≤ last_step }
-    ensures hits { OnOk result
-        (out.new.items ≡ out.old.items ++ hits_of machine.now t
-        (map (after_letter machine.now sights.now.letters step) walks.old.items)) }
-    ensures alive { OnOk result
-        (walks.new.items ≡ filter (goes_on machine.now)
-        (map (after_letter machine.now sights.now.letters step) walks.old.items)) }
-{
-    let _ = machine.rows();
-    let left = read_on(machine, sights, step, walks);
-    walks.truncate(left.count);
-    if left.accepts {
-        return give_all(machine, t, walks, out);
-    }
-    Ok(())
-}

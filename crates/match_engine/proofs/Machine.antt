@@ -31,7 +31,8 @@ use Rattle.match_engine.specs.Found.{place_of_star, match_at, match_from}
 use Rattle.match_rules.proofs.Lists.{Contains-filter_map, Contains-filter_map_from}
 use Rattle.match_rules.proofs.Orders.{IsBy, by-has, by-from, by-in_order, same_matches}
 use Rattle.match_engine.proofs.Places.{sum_of, placed_on, place_at-sum, place_at-none}
-use Rattle.match_engine.proofs.SortedMatches.{match_cmp, sorted-in_order, AreDistinct-permutation, AreDistinct-filter_map}
+use Rattle.match_engine.proofs.SortedMatches.{match_cmp, sorted-in_order, AreDistinct-filter_map}
+use Rattle.dfa_match.proofs.DistinctOrders.{AreDistinct-permutation}
 
 -- one hit more, and the match that it is
 pub among_more : (f : Hit → Option Match) (hits : List Hit) (i : ℕ) (hit : Hit) (before after : List Match)
