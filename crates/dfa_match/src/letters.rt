@@ -73,7 +73,9 @@ fn read_steps(machine: &Automaton, sights: &Sights, steps: &[u16; LETTERS], walk
     Reading { row, accepts }
 }
 
-/// Adds the hits of the rows to which the letters at these steps lead a walk.
+/// Adds the hits of the rows to which the letters at these steps lead a walk. Few walks come here, so it stands apart.
+#[cold]
+#[inline(never)]
 fn give_along(
     machine: &Automaton,
     sights: &Sights,
@@ -121,7 +123,9 @@ fn give_met(
 /// front that are not dead then, in their order. Answers how many these are.
 ///
 /// A walk is written behind those that go on, whether it goes on or not; the next one is written over one that does
-/// not. So nothing is decided for a walk, and no choice can be foretold wrongly.
+/// not. So nothing is decided for a walk, and no choice can be foretold wrongly. Apart from its callers it has the
+/// registers for itself.
+#[inline(never)]
 fn read_on(
     machine: &Automaton,
     sights: &Sights,
