@@ -2,17 +2,18 @@
 //!
 //! A walk reads its letters before the next walk does: so its row is not written after each of them, and the loads of
 //! one walk do not wait for those of another. A walk that is dead reads on to the last of these letters, and stays dead.
-ghost use Rattle.std.specs.Prelude.{◌≡◌, false, ℕ, ◌+◌, ◌<◌, ◌≤◌, ◌++◌, [], length, map, take, filter, All, IfOk, OnOk};
+ghost use Rattle.std.specs.Prelude.{◌≡◌, ◌⊎◌, false, ℕ, ◌+◌, ◌%◌, ◌<◌, ◌≤◌, ◌++◌, [], length, map, take, filter, All, IfOk, OnOk};
 ghost use Rattle.std.specs.List.{flat_map};
 ghost use Rattle.go_rules.specs.Transform.{transformations};
 ghost use Rattle.spiral.specs.Spiral.{offset_count};
+ghost use Rattle.dfa_core.specs.RowKinds.{kind_at};
 ghost use Rattle.dfa_match.specs.Steps.{last_step, step_to, four_steps};
 ghost use Rattle.dfa_match.specs.Walks.{after_letters, hits_along, IsWithin, goes_on};
 
 use crate::sights::{Sights, step_of};
-use crate::walks::{Walk, is_accepting, is_alive};
+use crate::walks::{Walk, is_alive};
 use crate::{Hit, add};
-use dfa_core::Automaton;
+use dfa_core::{Automaton, RowKind};
 use go_base::{NoMemory, Transform};
 use spiral::TurnedSpiral;
 
@@ -20,6 +21,7 @@ use spiral::TurnedSpiral;
 pub const LETTERS: usize = 4;
 
 /// The step of the letter with an index, under the spiral's transformation.
+#[inline(always)]
 fn step_under(spiral: &mut TurnedSpiral, index: u16) -> u16
     requires transform { spiral.old < transformations }
     requires index { index < offset_count }
@@ -31,6 +33,7 @@ fn step_under(spiral: &mut TurnedSpiral, index: u16) -> u16
 }
 
 /// The steps of the letter with an index and of those behind it, under the spiral's transformation.
+#[inline(never)]
 pub fn next_steps(spiral: &mut TurnedSpiral, index: u16) -> [u16; LETTERS]
     requires transform { spiral.old < transformations }
     requires index { index + 3 < offset_count }
@@ -51,8 +54,17 @@ pub fn next_steps(spiral: &mut TurnedSpiral, index: u16) -> [u16; LETTERS]
 struct Reading {
     /// The row where it stands then.
     row: u32,
+    /// The kind of that row.
+    kind: RowKind,
     /// Whether one of the rows to which it came accepts something.
     accepts: bool,
+}
+
+/// The kind as a number whose lowest bit says whether the row accepts something. So a few rows are asked at once.
+fn mark_of(kind: RowKind) -> u8
+    ensures { result % 2 ≡ 0 → (kind ≡ RowKind.Plain) ⊎ (kind ≡ RowKind.Dead) }
+{
+    kind as u8
 }
 
 /// Reads the letters at these steps on a walk.
@@ -61,16 +73,23 @@ fn read_steps(machine: &Automaton, sights: &Sights, steps: &[u16; LETTERS], walk
     requires steps { All (λ step. step ≤ last_step) steps.now }
     ensures row { result.row ≡ (after_letters machine.now sights.now.letters steps.now walk).row }
     ensures bound { result.row < length machine.now }
+    ensures kind { result.kind ≡ kind_at machine.now result.row }
     ensures silent { result.accepts ≡ false → (t : ℕ)
         → hits_along machine.now sights.now.letters t steps.now walk ≡ [] }
 {
     let mut row = walk.row;
-    let mut accepts = false;
+    let mut kind = RowKind::Plain;
+    let mut marks = 0;
     'steps: for step in steps {
         row = machine.step(row, sights.letter(walk.corner, *step));
-        accepts |= is_accepting(machine.kind(row));
+        kind = machine.kind(row);
+        marks |= mark_of(kind);
     }
-    Reading { row, accepts }
+    Reading {
+        row,
+        kind,
+        accepts: marks % 2 != 0,
+    }
 }
 
 /// Adds the hits of the rows to which the letters at these steps lead a walk. Few walks come here, so it stands apart.
@@ -81,13 +100,13 @@ fn give_along(
     sights: &Sights,
     steps: &[u16; LETTERS],
     t: Transform,
-    walk: Walk,
+    walk: &Walk,
     out: &mut Vec<Hit>,
 ) -> Result<(), NoMemory>
-    requires within { IsWithin (length machine.now) walk }
+    requires within { IsWithin (length machine.now) walk.now }
     requires steps { All (λ step. step ≤ last_step) steps.now }
     ensures { OnOk result
-        (out.new.items ≡ out.old.items ++ hits_along machine.now sights.now.letters t steps.now walk) }
+        (out.new.items ≡ out.old.items ++ hits_along machine.now sights.now.letters t steps.now walk.now) }
 {
     let mut row = walk.row;
     'steps: for step in steps {
@@ -103,15 +122,15 @@ fn give_met(
     sights: &Sights,
     steps: &[u16; LETTERS],
     t: Transform,
-    walk: Walk,
+    walk: &Walk,
     accepts: bool,
     out: &mut Vec<Hit>,
 ) -> Result<(), NoMemory>
-    requires within { IsWithin (length machine.now) walk }
+    requires within { IsWithin (length machine.now) walk.now }
     requires steps { All (λ step. step ≤ last_step) steps.now }
-    requires silent { accepts ≡ false → hits_along machine.now sights.now.letters t steps.now walk ≡ [] }
+    requires silent { accepts ≡ false → hits_along machine.now sights.now.letters t steps.now walk.now ≡ [] }
     ensures { OnOk result
-        (out.new.items ≡ out.old.items ++ hits_along machine.now sights.now.letters t steps.now walk) }
+        (out.new.items ≡ out.old.items ++ hits_along machine.now sights.now.letters t steps.now walk.now) }
 {
     if accepts {
         return give_along(machine, sights, steps, t, walk, out);
@@ -147,13 +166,21 @@ fn read_on(
     'walks: for index in 0..walks.len() {
         let walk = walks[index];
         let reading = read_steps(machine, sights, steps, walk);
-        give_met(machine, sights, steps, t, walk, reading.accepts, out)?;
+        give_met(
+            machine,
+            sights,
+            steps,
+            t,
+            &walks[index],
+            reading.accepts,
+            out,
+        )?;
         walks[count] = Walk {
             row: reading.row,
             corner: walk.corner,
             anchor: walk.anchor,
         };
-        if is_alive(machine.kind(reading.row)) {
+        if is_alive(reading.kind) {
             count += 1;
         }
     }

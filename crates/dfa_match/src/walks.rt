@@ -1,5 +1,5 @@
 //! The walks of an automaton from all anchors at once, letter by letter.
-ghost use Rattle.std.specs.Prelude.{◌≡◌, ◌⊎◌, true, false, ℕ, ◌+◌, ◌*◌, ◌/◌, ◌%◌, ◌<◌, ◌≤◌, ◌++◌, List, slice_index_or, length, map, filter, All, IfOk, OnOk};
+ghost use Rattle.std.specs.Prelude.{◌≡◌, true, false, ℕ, ◌+◌, ◌*◌, ◌/◌, ◌%◌, ◌<◌, ◌≤◌, ◌++◌, List, slice_index_or, length, map, filter, All, IfOk, OnOk};
 ghost use Rattle.std.specs.List.{range_with_len};
 ghost use Rattle.go_rules.specs.Board.{largest_size};
 ghost use Rattle.dfa_core.specs.Automata.{Row, row_at, step_at};
@@ -97,16 +97,6 @@ pub fn is_alive(kind: RowKind) -> bool
     }
 }
 
-/// Whether a row with this kind accepts something.
-pub fn is_accepting(kind: RowKind) -> bool
-    ensures { result ≡ false → (kind ≡ RowKind.Plain) ⊎ (kind ≡ RowKind.Dead) }
-{
-    match kind {
-        RowKind::Accepting => true,
-        RowKind::Plain | RowKind::Dead => false,
-    }
-}
-
 /// Adds the hits of the row where a walk stands, which has this kind.
 fn give_out(
     machine: &Automaton,
@@ -185,4 +175,3 @@ pub fn second_walks(
     }
     Ok(walks)
 }
-

@@ -42,7 +42,8 @@ walks-preserved c =
     let is : walk ≡ read (get_or old c.walks.index none) =
     only_row machine c.args.sights.now.letters c.args.steps.now was c.read_steps-reading.result.row
     c.read_steps-reading.ensures.row ∙ ap read same in
-    let alive : goes_on machine walk ≡ c.is_alive.result = ap is_alive (sym c.kind.ensures) ∙ sym c.is_alive.ensures in
+    let alive : goes_on machine walk ≡ c.is_alive.result = ap is_alive (sym c.read_steps-reading.ensures.kind)
+    ∙ sym c.is_alive.ensures in
     let hits : c.give_met.new.out.items ≡ c.args.out.now.items ++ flat_map along (take (c.walks.index + 1) old) =
     c.in_ok-give_met.ensures ∙ ap (λ hs. hs ++ along was) c.walks.invariant.hits
     ∙ ap (λ w. (c.args.out.now.items ++ flat_map along (take c.walks.index old)) ++ along w) same

@@ -1,5 +1,6 @@
-use Rattle.std.proofs.Common.{◌≡◌, ◌⊎◌, inl, inr, ◌∙◌, ℕ, ◌+◌, ◌<◌, ◌++◌, List, [], length, take, arith, sym, ap}
-use Rattle.std.proofs.lemmas.Bool.{or_parts}
+use Rattle.std.proofs.Common.{◌≡◌, ◌⊎◌, inl, inr, ◌∙◌, ℕ, ◌+◌, ◌<◌, ◌++◌, ◌%◌, bit_or, max, List, [], length, take, arith, sym, ap}
+use Rattle.std.specs.Int.{bit_at}
+use Rattle.std.proofs.lemmas.Nat.Bits.{bit_at_or, bit_at_lowest}
 use Rattle.dfa_core.specs.Automata.{Row, row_at, step_at}
 use Rattle.dfa_core.specs.declared.kind.RowKind.{RowKind}
 use Rattle.dfa_core.specs.declared.kind.RowKind.TheVariants.{Plain, Dead}
@@ -17,6 +18,14 @@ silent_row : (machine : List Row) (r : ℕ) (kind : RowKind) → kind ≡ kind_a
 silent_row machine r kind is (inl plain) = kind-plain machine r (sym is ∙ plain)
 silent_row machine r kind is (inr dead) = (kind-dead machine r (sym is ∙ dead)).silent
 
+-- a number that is joined of two is even only where both are
+or_even : (a b : ℕ) → bit_or a b % 2 ≡ 0 → (a % 2 ≡ 0) × (b % 2 ≡ 0)
+or_even a b even =
+    let none : max (bit_at a 0) (bit_at b 0) ≡ 0 = sym (bit_at_or a b 0) ∙ bit_at_lowest (bit_or a b) ∙ even in (
+      omega (arith, none, bit_at_lowest a),
+      omega (arith, none, bit_at_lowest b),
+    )
+
 -- one letter more was read
 pub steps-preserved : goal.steps-preserved
 steps-preserved c =
@@ -33,13 +42,14 @@ steps-preserved c =
     record {
       row = row;
       bound = c.step-row.ensures.bound;
+      kind = λ some. c.kind-kind.ensures;
       silent = λ none t.
-          let parts = or_parts c.steps.accepts c.is_accepting-accepts.result none in
+          let parts = or_even c.steps.marks c.mark_of-marks.result none in
           along_more machine letters t steps k 0 walk low
           ∙ ap (λ hs. hs ++ hits_at t walk.anchor
           (row_at machine (after_letters machine letters (take (k + 1) steps) walk).row).numbers)
           (c.steps.invariant.silent parts.0 t)
           ∙ ap (λ r. hits_at t walk.anchor (row_at machine r).numbers) (sym row)
-          ∙ ap (hits_at t walk.anchor) (silent_row machine c.step-row.result c.kind.result c.kind.ensures
-          (c.is_accepting-accepts.ensures parts.1));
+          ∙ ap (hits_at t walk.anchor) (silent_row machine c.step-row.result c.kind-kind.result c.kind-kind.ensures
+          (c.mark_of-marks.ensures parts.1));
     }
