@@ -1,9 +1,9 @@
 //! The scan of a board: an automaton is run from each point under each transformation.
 //!
 //! A hit is a number that the automaton accepts at the end of a word, which is what is seen along the moved spiral from
-//! an anchor. `scan` gives exactly the hits, each once; it is given no diagrams. It reads letter by letter from all
-//! anchors at once: on a padded board each letter of a transformation is one step for all of them, and only where some
-//! row accepts something or is dead are the walks looked at. The anchor's own letter is read once for all
+//! an anchor. `scan` gives exactly the hits, each once; it is given no diagrams. On a padded board each letter of a
+//! transformation is one step for all anchors. The walks from all anchors stand in one list, and each reads four letters
+//! before the next one does; those that are dead then are dropped. The anchor's own letter is read once for all
 //! transformations. Two laws say that a word that is read from an anchor matches a pattern exactly where the pattern
 //! fits there.
 //!
@@ -36,7 +36,7 @@ use go_base::transform::TRANSFORMATIONS;
 use go_base::{Colour, Look, NoMemory, Point, Transform};
 use spiral::{OFFSETS, TurnedSpiral};
 
-/// How often a walk reads that many letters: as often as its letters behind the anchor's own ask for.
+/// In how many turns a walk reads all letters behind that of its anchor.
 const TURNS: u16 = (OFFSETS - 1) / LETTERS as u16;
 
 /// A pattern that an automaton accepts from an anchor under a transformation.

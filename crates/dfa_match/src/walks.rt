@@ -1,4 +1,4 @@
-//! The walks of an automaton from all anchors at once, letter by letter.
+//! The walks of an automaton from all anchors: how they begin, and what they give out.
 ghost use Rattle.std.specs.Prelude.{◌≡◌, true, false, ℕ, ◌+◌, ◌*◌, ◌/◌, ◌%◌, ◌<◌, ◌≤◌, ◌++◌, List, slice_index_or, length, map, filter, All, IfOk, OnOk};
 ghost use Rattle.std.specs.List.{range_with_len};
 ghost use Rattle.go_rules.specs.Board.{largest_size};
