@@ -15,13 +15,13 @@ use Rattle.dfa_core.specs.declared.kind.RowKind.{RowKind}
 use Rattle.dfa_core.specs.declared.kind.RowKind.TheVariants.{Plain, Accepting, Dead}
 use Rattle.dfa_core.specs.Automata.{Row, row_at, step_at, reach, IsAutomaton, IsDead}
 use Rattle.dfa_core.specs.RowKinds.{kind_at}
-use Rattle.dfa_core.proofs.RowKinds.{kind-dead, kind-plain}
+use Rattle.dfa_core.proofs.RowKinds.{kind-dead}
 use Rattle.dfa_core.proofs.Walks.{reach_from-push}
 use Rattle.dfa_match.specs.declared.walks.Walk.{Walk}
 use Rattle.dfa_match.specs.Sights.{seen_at, word_from, AreSights}
 use Rattle.dfa_match.specs.Hits.{hits_at}
 use Rattle.dfa_match.specs.Steps.{corner_at, no_step}
-use Rattle.dfa_match.specs.Walks.{walk_at, first_walks_of, second_walks_of, after_letter, IsWithin, is_alive, goes_on, IsPlain, hits_of, row_after, AreWalks}
+use Rattle.dfa_match.specs.Walks.{walk_at, first_walks_of, second_walks_of, after_letter, IsWithin, is_alive, goes_on, hits_of, row_after, AreWalks}
 use Rattle.dfa_match.proofs.PaddedBoard.{letter_seen}
 use Rattle.dfa_match.proofs.SeenWords.{word_split, word_from-zero, word_from-suc}
 
@@ -75,22 +75,6 @@ hits_of-silent machine t [] silent = refl
 hits_of-silent machine t (w ∷ walks) silent =
     ap (λ ns. hits_at t w.anchor ns ++ hits_of machine t walks) (silent 0 w (omega arith))
     ∙ hits_of-silent machine t walks (λ k d low. silent (suc k) d (omega arith))
-
--- so do walks at plain rows
-pub hits_of-plain : (machine : List Row) (t : ℕ) (walks : List Walk) → All (IsPlain machine) walks
-    → hits_of machine t walks ≡ []
-hits_of-plain machine t walks plain =
-    hits_of-silent machine t walks (λ k d low. kind-plain machine (get_or walks k d).row (plain k d low))
-
--- and all of them go on
-pub alive-plain : (machine : List Row) (walks : List Walk) → All (IsPlain machine) walks
-    → filter (goes_on machine) walks ≡ walks
-alive-plain machine [] plain = refl
-alive-plain machine (w ∷ walks) plain =
-    let on : goes_on machine w ≡ true = ap is_alive (plain 0 w (omega arith)) in
-    let rest : filter (goes_on machine) walks ≡ walks =
-    alive-plain machine walks (λ k d low. plain (suc k) d (omega arith)) in
-    rw on (ap (λ ws. w ∷ ws) rest)
 
 -- walks at the start give out nothing where it accepts nothing
 pub hits_of-start : (machine : List Row) (t : ℕ) (walks : List Walk) → All (λ w. w.row ≡ 0) walks

@@ -1,5 +1,5 @@
 -- Walks of an automaton from all anchors at once, letter by letter.
-use Rattle.std.specs.Prelude.{◌≡◌, ◌⊎◌, ℕ, ◌+◌, ◌*◌, ◌<◌, ◌≤◌, Bool, true, false, List, map, filter, slice_index_or, Contains, AllPairs}
+use Rattle.std.specs.Prelude.{◌≡◌, ◌⊎◌, ℕ, ◌+◌, ◌*◌, ◌<◌, ◌≤◌, Bool, true, false, List, [], ◌∷◌, ◌++◌, map, filter, slice_index_or, Contains, AllPairs}
 use Rattle.std.specs.List.{flat_map, range_with_len}
 use Rattle.go_rules.specs.declared.Colour.{Colour}
 use Rattle.go_rules.specs.Position.{BoardState}
@@ -48,10 +48,6 @@ is_alive Dead = false
 abbrev pub goes_on : List Row → Walk → Bool
 goes_on machine w = is_alive (kind_at machine w.row)
 
--- what is accepted at the row where the walk stands is nothing, and the walk goes on
-abbrev pub IsPlain : List Row → Walk → Type 0
-IsPlain machine w = kind_at machine w.row ≡ Plain
-
 -- the walks from all points of a board of size s behind the letters of the points, but for those at dead rows
 abbrev pub second_walks_of : List Row → List Seen → ℕ → List Walk
 second_walks_of machine letters s =
@@ -60,6 +56,19 @@ second_walks_of machine letters s =
 -- the hits of the rows where the walks stand
 abbrev pub hits_of : List Row → ℕ → List Walk → List Hit
 hits_of machine t walks = flat_map (λ w. hits_at t w.anchor (row_at machine w.row).numbers) walks
+
+-- the walk after the letters more that it reads at these steps
+abbrev pub after_letters : List Row → List Seen → List ℕ → Walk → Walk
+after_letters machine letters [] w = w
+after_letters machine letters (step ∷ steps) w =
+    after_letters machine letters steps (after_letter machine letters step w)
+
+-- the hits of the rows to which the letters at these steps lead the walk
+abbrev pub hits_along : List Row → List Seen → ℕ → List ℕ → Walk → List Hit
+hits_along machine letters t [] w = []
+hits_along machine letters t (step ∷ steps) w =
+    hits_at t w.anchor (row_at machine (after_letter machine letters step w).row).numbers
+    ++ hits_along machine letters t steps (after_letter machine letters step w)
 
 -- the row that the first i letters lead to from the anchor m
 abbrev pub row_after : List Row → BoardState → Colour → ℕ → ℕ → ℕ → ℕ

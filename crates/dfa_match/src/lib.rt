@@ -1,9 +1,9 @@
 //! The scan of a board: an automaton is run from each point under each transformation.
 //!
 //! A hit is a number that the automaton accepts at the end of a word, which is what is seen along the moved spiral from
-//! an anchor. `scan` gives exactly the hits, each once; it is given no diagrams. It reads letter by letter from all
-//! anchors at once: on a padded board each letter of a transformation is one step for all of them, and only where some
-//! row accepts something or is dead are the walks looked at. The anchor's own letter is read once for all
+//! an anchor. `scan` gives exactly the hits, each once; it is given no diagrams. On a padded board each letter of a
+//! transformation is one step for all anchors. The walks from all anchors stand in one list, and each reads four letters
+//! before the next one does; those that are dead then are dropped. The anchor's own letter is read once for all
 //! transformations. Two laws say that a word that is read from an anchor matches a pattern exactly where the pattern
 //! fits there.
 //!
@@ -24,15 +24,20 @@ ghost use Rattle.dfa_match.specs.declared.Hit.{Hit as HitSeen};
 ghost use Rattle.dfa_match.specs.Hits.{hits_at, IsHit, AreHits, AreHitsBefore};
 ghost use Rattle.dfa_match.specs.Walks.{IsWithin, first_walks_of, second_walks_of};
 
+mod letters;
 mod sights;
 mod walks;
 
-use crate::sights::{Sights, step_of};
-use crate::walks::{Walk, copied, first_walks, give_all, give_start, read_letter, second_walks};
+use crate::letters::{LETTERS, next_steps, read_letters};
+use crate::sights::Sights;
+use crate::walks::{Walk, copied, first_walks, give_all, give_start, second_walks};
 use dfa_core::Automaton;
 use go_base::transform::TRANSFORMATIONS;
 use go_base::{Colour, Look, NoMemory, Point, Transform};
 use spiral::{OFFSETS, TurnedSpiral};
+
+/// In how many turns a walk reads all letters behind that of its anchor.
+const TURNS: u16 = (OFFSETS - 1) / LETTERS as u16;
 
 /// A pattern that an automaton accepts from an anchor under a transformation.
 #[derive(Clone, Copy, Debug, PartialEq, Eq)]
@@ -82,12 +87,12 @@ fn sweep(
     give_all(machine, t, second, out)?;
     let mut walks = copied(*out.allocator(), second)?;
     let mut spiral = TurnedSpiral::new(t);
-    'letters: for index in 1..OFFSETS {
+    'letters: for turn in 0..TURNS {
         if walks.is_empty() {
             return Ok(());
         }
-        let step = step_of(spiral.moved(index));
-        read_letter(machine, sights, step, t, &mut walks, out)?;
+        let steps = next_steps(&mut spiral, LETTERS as u16 * turn + 1);
+        read_letters(machine, sights, &steps, t, &mut walks, out)?;
     }
     Ok(())
 }

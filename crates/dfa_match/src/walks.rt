@@ -1,4 +1,4 @@
-//! The walks of an automaton from all anchors at once, letter by letter.
+//! The walks of an automaton from all anchors: how they begin, and what they give out.
 ghost use Rattle.std.specs.Prelude.{◌≡◌, true, false, ℕ, ◌+◌, ◌*◌, ◌/◌, ◌%◌, ◌<◌, ◌≤◌, ◌++◌, List, slice_index_or, length, map, filter, All, IfOk, OnOk};
 ghost use Rattle.std.specs.List.{range_with_len};
 ghost use Rattle.go_rules.specs.Board.{largest_size};
@@ -7,11 +7,11 @@ ghost use Rattle.dfa_core.specs.Tables.{AreTargets};
 ghost use Rattle.dfa_core.specs.RowKinds.{kind_at};
 ghost use Rattle.dfa_match.specs.Hits.{hits_at};
 ghost use Rattle.dfa_match.specs.Steps.{last_corner, last_step, no_step};
-ghost use Rattle.dfa_match.specs.Walks.{walk_at, after_letter, IsWithin, is_alive as is_alive_at, goes_on, IsPlain, hits_of};
+ghost use Rattle.dfa_match.specs.Walks.{walk_at, after_letter, IsWithin, is_alive as is_alive_at, goes_on, hits_of};
 
 use crate::sights::{Sights, corner_of, step_of};
 use crate::{Hit, add};
-use dfa_core::{Automaton, RowKind, Seen, target_in};
+use dfa_core::{Automaton, RowKind, target_in};
 use go_base::{NoMemory, Point, Size, Transform};
 use std::alloc::Global;
 
@@ -63,46 +63,6 @@ pub fn copied(alloc: Global, walks: &[Walk]) -> Result<Vec<Walk>, NoMemory>
     Ok(copy)
 }
 
-/// The row where a walk stands after one letter more, which it reads at this step behind its corner.
-fn next_row(machine: &Automaton, sights: &Sights, step: u16, row: u32, corner: u16) -> u32
-    requires row { row < length machine.now }
-    requires corner { corner ≤ last_corner }
-    requires step { step ≤ last_step }
-    ensures value { result ≡ step_at machine.now row (slice_index_or sights.now.letters (corner + step) Seen.Off) }
-    ensures bound { result < length machine.now }
-{
-    machine.step(row, sights.letter(corner, step))
-}
-
-/// Whether a row accepts something or is dead.
-fn is_marked(machine: &Automaton, row: u32) -> bool
-    requires { row < length machine.now }
-    ensures { result ≡ false → kind_at machine.now row ≡ RowKind.Plain }
-{
-    match machine.kind(row) {
-        RowKind::Plain => false,
-        RowKind::Accepting => true,
-        RowKind::Dead => true,
-    }
-}
-
-/// Reads one letter more on each walk, and answers whether some walk then stands at a row that accepts
-/// something or is dead.
-fn read_on(machine: &Automaton, sights: &Sights, step: u16, walks: &mut [Walk]) -> bool
-    requires within { All (IsWithin (length machine.now)) walks.old }
-    requires step { step ≤ last_step }
-    ensures value { walks.new ≡ map (after_letter machine.now sights.now.letters step) walks.old }
-    ensures plain { result ≡ false → All (IsPlain machine.now) walks.new }
-{
-    let mut marked = false;
-    'walks: for walk in walks.iter_mut() {
-        let row = next_row(machine, sights, step, walk.row, walk.corner);
-        walk.row = row;
-        marked |= is_marked(machine, row);
-    }
-    marked
-}
-
 /// The walk after one letter more, which it reads at this step behind its corner.
 fn moved_on(targets: &[u32], sights: &Sights, step: u16, walk: Walk) -> Walk
     requires row { 4 * walk.row + 4 ≤ length targets.now }
@@ -127,23 +87,13 @@ fn kind_in(kinds: &[RowKind], row: u32) -> RowKind
 }
 
 /// Whether a walk goes on from a row with this kind.
-fn is_alive(kind: RowKind) -> bool
+pub fn is_alive(kind: RowKind) -> bool
     ensures { result ≡ is_alive_at kind }
 {
     match kind {
         RowKind::Plain => true,
         RowKind::Accepting => true,
         RowKind::Dead => false,
-    }
-}
-
-/// Whether a row with this kind accepts something.
-fn is_accepting(kind: RowKind) -> bool
-    ensures { result ≡ false → is_alive_at kind ≡ true → kind ≡ RowKind.Plain }
-{
-    match kind {
-        RowKind::Accepting => true,
-        RowKind::Plain | RowKind::Dead => false,
     }
 }
 
@@ -224,72 +174,4 @@ pub fn second_walks(
         }
     }
     Ok(walks)
-}
-
-/// Drops the walks that are dead, and answers whether one of those that are left stands at a row that accepts
-/// something.
-///
-/// A walk is written behind those that go on, whether it goes on or not; the next one is written over one that does
-/// not. So nothing is decided for a walk, and no choice can be foretold wrongly.
-fn drop_dead(machine: &Automaton, walks: &mut Vec<Walk>) -> bool
-    requires { All (IsWithin (length machine.now)) walks.old.items }
-    ensures alive { walks.new.items ≡ filter (goes_on machine.now) walks.old.items }
-    ensures plain { result ≡ false → All (IsPlain machine.now) walks.new.items }
-{
-    let kinds = machine.kinds();
-    let mut accepts = false;
-    let mut kept = 0;
-    'walks: for index in 0..walks.len() {
-        let walk = walks[index];
-        let kind = kind_in(kinds, walk.row);
-        walks[kept] = walk;
-        accepts |= is_accepting(kind);
-        if is_alive(kind) {
-            kept += 1;
-        }
-    }
-    walks.truncate(kept);
-    accepts
-}
-
-/// Adds the hits of the rows where the walks stand, and drops the walks that are dead.
-fn settle(
-    machine: &Automaton,
-    t: Transform,
-    walks: &mut Vec<Walk>,
-    out: &mut Vec<Hit>,
-) -> Result<(), NoMemory>
-    requires { All (IsWithin (length machine.now)) walks.old.items }
-    ensures hits { OnOk result (out.new.items ≡ out.old.items ++ hits_of machine.now t walks.old.items) }
-    ensures alive { OnOk result (walks.new.items ≡ filter (goes_on machine.now) walks.old.items) }
-{
-    if drop_dead(machine, walks) {
-        return give_all(machine, t, walks, out);
-    }
-    Ok(())
-}
-
-/// Reads one letter more on each walk, adds the hits of the rows to which it leads, and drops the walks that are dead.
-pub fn read_letter(
-    machine: &Automaton,
-    sights: &Sights,
-    step: u16,
-    t: Transform,
-    walks: &mut Vec<Walk>,
-    out: &mut Vec<Hit>,
-) -> Result<(), NoMemory>
-    requires within { All (IsWithin (length machine.now)) walks.old.items }
-    requires step { step ≤ last_step }
-    ensures hits { OnOk result
-        (out.new.items ≡ out.old.items ++ hits_of machine.now t
-        (map (after_letter machine.now sights.now.letters step) walks.old.items)) }
-    ensures alive { OnOk result
-        (walks.new.items ≡ filter (goes_on machine.now)
-        (map (after_letter machine.now sights.now.letters step) walks.old.items)) }
-{
-    let _ = machine.rows();
-    if read_on(machine, sights, step, walks) {
-        return settle(machine, t, walks, out);
-    }
-    Ok(())
 }

@@ -1,7 +1,7 @@
 -- The matches that the hits of a machine are, and the matches by the machine.
 use Rattle.std.proofs.Common.{◌≡◌, ℕ, ◌+◌, ◌*◌, ◌<◌, ◌≤◌, Bool, true, false, ◌&&◌, cond, ltb, eqb, List, [], ◌∷◌, ◌++◌, length, get_or, take, Contains, Option, Some, None, slice_get, refl, sym, ap, ◌∙◌, subst, arith, pos, ◌+ℤ◌, ◌-ℤ◌}
 use Rattle.std.specs.List.{filter_map, list_any}
-use Rattle.std.specs.List.Sorted.{IsPermutation, IsSorted}
+use Rattle.std.specs.List.Sorted.{IsPermutation}
 use Rattle.std.specs.Option.{option_to_list}
 use Rattle.std.proofs.lemmas.Bool.{and_parts, and_from, ltb-true, lt-ltb, eqb-true, eq-eqb, false≢true}
 use Rattle.std.proofs.lemmas.Int.{ints}
@@ -31,7 +31,11 @@ use Rattle.match_engine.specs.Found.{place_of_star, match_at, match_from}
 use Rattle.match_rules.proofs.Lists.{Contains-filter_map, Contains-filter_map_from}
 use Rattle.match_rules.proofs.Orders.{IsBy, by-has, by-from, by-in_order, same_matches}
 use Rattle.match_engine.proofs.Places.{sum_of, placed_on, place_at-sum, place_at-none}
-use Rattle.match_engine.proofs.SortedMatches.{match_cmp, sorted-in_order, AreDistinct-permutation, AreDistinct-filter_map}
+use Rattle.go_rules.specs.Board.{largest_points}
+use Rattle.match_engine.specs.Ranks.{rank_of}
+use Rattle.std.specs.List.Sorted.{IsNonDecreasingBy}
+use Rattle.match_engine.proofs.SortedMatches.{IsSmall, sorted-in_order, AreDistinct-filter_map}
+use Rattle.dfa_match.proofs.DistinctOrders.{AreDistinct-permutation}
 
 -- one hit more, and the match that it is
 pub among_more : (f : Hit → Option Match) (hits : List Hit) (i : ℕ) (hit : Hit) (before after : List Match)
@@ -282,23 +286,40 @@ module _ (machine : List Row) (board : BoardState) (friend : Colour) where
         (λ g h z in_g in_h e f. one_hit g h z (made-Some patterns board friend g z e)
         (made-Some patterns board friend h z f) (are.sound g in_g) (are.sound h in_h)) are.once
 
-    -- the matches of the hits, sorted, are what the machine finds
-    pub sorted_matches : (hits : List Hit) (found sorted : List Match) → AreHits machine board friend hits
-        → found ≡ filter_map (made patterns board friend) hits
-        → IsPermutation found sorted → IsSorted match_cmp sorted → sorted ≡ found_by machine patterns board friend
-    unfolding found_by
-    sorted_matches hits found sorted are from moved order =
-        same_matches sorted (found_by machine patterns board friend)
-        (sorted-in_order sorted order (AreDistinct-permutation found sorted moved
-        (subst AreDistinct (sym from) (made-distinct hits are))))
-        (by-in_order (is_found machine board friend) patterns board.size)
-        (λ z there.
+    -- each match of a hit is one by the machine
+    found-by : (hits : List Hit) (found sorted : List Match) → AreHits machine board friend hits
+        → found ≡ filter_map (made patterns board friend) hits → IsPermutation found sorted
+        → (z : Match) → Contains sorted z → IsBy (is_found machine board friend) patterns board.size z
+    found-by hits found sorted are from moved z there =
         let here : Contains (filter_map (made patterns board friend) hits) z =
         subst (λ zs. Contains zs z) from (Contains-permutation sorted found z
         (IsPermutation-sym found sorted moved) there) in
         let of = Contains-filter_map (made patterns board friend) hits z here in
-        by-from (is_found machine board friend) patterns board.size z
-        (by_of_hit of.0 z (are.sound of.0 of.1) (made-Some patterns board friend of.0 z of.2)))
+        by_of_hit of.0 z (are.sound of.0 of.1) (made-Some patterns board friend of.0 z of.2)
+
+    -- so it is small on a board that is
+    small-by : board.size * board.size ≤ largest_points → (z : Match)
+        → IsBy (is_found machine board friend) patterns board.size z → IsSmall z
+    small-by small z by = record {
+      transform = omega (arith, by.transform, count_within by.pattern.mark);
+      at = omega (arith, by.at, small);
+    }
+
+    -- the matches of the hits, sorted by rank, are what the machine finds
+    pub sorted_matches : (hits : List Hit) (found sorted : List Match) → board.size * board.size ≤ largest_points
+        → AreHits machine board friend hits → found ≡ filter_map (made patterns board friend) hits
+        → IsPermutation found sorted → IsNonDecreasingBy rank_of sorted
+        → sorted ≡ found_by machine patterns board friend
+    unfolding found_by
+    sorted_matches hits found sorted small are from moved order =
+        same_matches sorted (found_by machine patterns board friend)
+        (sorted-in_order sorted order
+        (λ z there. small-by small z (found-by hits found sorted are from moved z there))
+        (AreDistinct-permutation found sorted moved
+        (subst AreDistinct (sym from) (made-distinct hits are))))
+        (by-in_order (is_found machine board friend) patterns board.size)
+        (λ z there. by-from (is_found machine board friend) patterns board.size z
+        (found-by hits found sorted are from moved z there))
         (λ z there.
         let of = hit_of_by z (by-has (is_found machine board friend) patterns board.size z there) in
         Contains-permutation found sorted z moved

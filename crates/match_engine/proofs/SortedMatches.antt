@@ -1,52 +1,16 @@
--- Sorted lists of matches that differ are in order, and lists in another order have the same matches, which differ too.
-use Rattle.std.proofs.Common.{◌≡◌, ◌≢◌, ℕ, zero, suc, ◌<◌, ◌⊎◌, inl, inr, cond, eqb, List, [], ◌∷◌, length, get_or, Contains, Option, Some, None, Ordering, refl, sym, ap, ◌∙◌, subst, arith}
-use Rattle.std.specs.declared.cmp.Ordering.TheVariants.{Less, Equal, Greater}
-use Rattle.std.specs.Ordering.{nat_cmp, ordering_then, is_lt}
-use Rattle.std.specs.List.{swap, filter_map, cons_option, AllPairs}
-use Rattle.std.specs.List.Sorted.{IsPermutation, IsSorted}
-use Rattle.std.specs.Cmp.{IsTotalOrder}
-use Rattle.std.proofs.lemmas.Bool.{cases_eq, cases_order, lt-ltb, le-ltb, eq-eqb, false≢true}
-use Rattle.std.proofs.lemmas.Cmp.{then_total, on_total, nat_cmp_total}
-use Rattle.std.proofs.lemmas.List.Edits.{swapped_from_swap, length-swap}
+-- Lists of different matches that are sorted by rank are in order, and what differs gives matches that differ.
+use Rattle.std.proofs.Common.{◌≡◌, zero, suc, ◌<◌, ◌≤◌, ◌⊎◌, inl, inr, List, [], ◌∷◌, get_or, Contains, Option, Some, None, refl, sym, ap, subst, arith}
+use Rattle.std.specs.List.{filter_map, cons_option, AllPairs}
+use Rattle.std.specs.List.Sorted.{IsNonDecreasingBy}
+use Rattle.std.proofs.lemmas.Bool.{cases_order}
 use Rattle.std.proofs.lemmas.List.Elements.{Contains-get_or}
-use Rattle.std.proofs.lemmas.List.Sorted.{sorted_far, ranks_by, IsPermutation-keeps}
 use Rattle.dfa_core.specs.Automata.{AreDistinct}
 use Rattle.match_rules.specs.declared.found.Match.{Match}
 use Rattle.match_rules.specs.Match.{ComesBefore}
+use Rattle.match_engine.specs.Ranks.{rank_of}
+use Rattle.go_rules.specs.Board.{largest_points}
+use Rattle.go_rules.specs.Transform.{transformations}
 use Rattle.match_rules.proofs.Lists.{Contains-first, Contains-rest, Contains-filter_map}
-
--- the order of matches, as an answer of three comparisons
-abbrev pub match_cmp : Match → Match → Ordering
-match_cmp y z = ordering_then (nat_cmp y.pattern z.pattern)
-    (ordering_then (nat_cmp y.transform z.transform) (nat_cmp y.at z.at))
-
--- it is a total order
-match_cmp-total : IsTotalOrder match_cmp
-match_cmp-total = then_total (on_total (λ (z : Match). z.pattern) nat_cmp_total)
-    (then_total (on_total (λ (z : Match). z.transform) nat_cmp_total) (on_total (λ (z : Match). z.at) nat_cmp_total))
-
--- a lesser number compares as less
-cmp-less : (a b : ℕ) → a < b → nat_cmp a b ≡ Less
-cmp-less a b l = ap (λ t. cond t Less (cond (eqb a b) Equal Greater)) (lt-ltb a b l)
-
--- equal numbers compare as equal
-cmp-equal : (a b : ℕ) → a ≡ b → nat_cmp a b ≡ Equal
-cmp-equal a b e = ap (λ t. cond t Less (cond (eqb a b) Equal Greater)) (le-ltb a b (omega arith))
-    ∙ ap (λ t. cond t Equal Greater) (eq-eqb a b e)
-
--- what comes before another compares as less
-before-less : (y z : Match) → ComesBefore y z → match_cmp y z ≡ Less
-before-less y z (inl a) =
-    ap (λ o. ordering_then o (ordering_then (nat_cmp y.transform z.transform) (nat_cmp y.at z.at)))
-    (cmp-less y.pattern z.pattern a)
-before-less y z (inr (e, inl a)) =
-    ap (λ o. ordering_then o (ordering_then (nat_cmp y.transform z.transform) (nat_cmp y.at z.at)))
-    (cmp-equal y.pattern z.pattern e)
-    ∙ ap (λ o. ordering_then o (nat_cmp y.at z.at)) (cmp-less y.transform z.transform a)
-before-less y z (inr (e, inr (f, a))) =
-    ap (λ o. ordering_then o (ordering_then (nat_cmp y.transform z.transform) (nat_cmp y.at z.at)))
-    (cmp-equal y.pattern z.pattern e)
-    ∙ ap (λ o. ordering_then o (nat_cmp y.at z.at)) (cmp-equal y.transform z.transform f) ∙ cmp-less y.at z.at a
 
 -- of two matches one comes before the other, or they are the same
 which_first : (y z : Match) → ComesBefore y z ⊎ ((y ≡ z) ⊎ ComesBefore z y)
@@ -63,93 +27,30 @@ which_first y z = by (cases_order y.pattern z.pattern) (cases_order y.transform 
     by (inl e) (inl f) (inr (inr a)) = inr (inr (inr (sym e, inr (sym f, a))))
     by (inl e) (inl f) (inl g) = inr (inl (λ i. record { pattern = e i; transform = f i; at = g i }))
 
--- a sorted list of different matches is in order
-pub sorted-in_order : (xs : List Match) → IsSorted match_cmp xs → AreDistinct xs → AllPairs ComesBefore xs
-sorted-in_order xs sorted distinct i j d l k =
+-- the transformation and the point are small enough for the rank of the match to say them
+pub record IsSmall (z : Match) : Type 0 where
+  pub transform : z.transform < transformations
+  pub at : z.at ≤ largest_points
+
+-- what comes before another has a smaller rank
+before-rank : (y z : Match) → IsSmall y → ComesBefore y z → rank_of y < rank_of z
+before-rank y z small (inl a) = omega (arith, small.transform, small.at)
+before-rank y z small (inr (e, inl a)) = omega (arith, small.at)
+before-rank y z small (inr (e, inr (f, a))) = omega arith
+
+-- a list of different matches that is sorted by rank is in order
+pub sorted-in_order : (xs : List Match) → IsNonDecreasingBy rank_of xs → ((z : Match) → Contains xs z → IsSmall z)
+    → AreDistinct xs → AllPairs ComesBefore xs
+sorted-in_order xs sorted small distinct i j d l k =
     elim (which_first (get_or xs i d) (get_or xs j d)) [
       | inl before ↦ before
       | inr (inl same) ↦ absurd (let at = distinct i j d (omega arith) k same in omega (arith, at, l))
       | inr (inr after) ↦ absurd
-          (false≢true (sym (sorted_far (λ y z. is_lt (match_cmp y z))
-          (ranks_by match_cmp-total (λ (z : Match). z)) xs sorted i j d (omega arith) k)
-          ∙ ap is_lt (before-less (get_or xs j d) (get_or xs i d) after)))
+          (let less = before-rank (get_or xs j d) (get_or xs i d) (small (get_or xs j d) (Contains-get_or xs j d k))
+          after in omega (arith, less, sorted i j d (omega arith) k))
     ]
 
--- where an element of a list with two places swapped comes from
-record IsFrom {X : Type 0} (xs ys : List X) (a b m : ℕ) (d : X) : Type 0 where
-  pub place : ℕ
-  pub same : get_or ys m d ≡ get_or xs place d
-  pub which : ((m ≡ a) × (place ≡ b)) ⊎ (((m ≡ b) × (place ≡ a)) ⊎ ((m ≢ a) × (m ≢ b) × (place ≡ m)))
-
 module _ {X : Type 0} where
-  -- after two places are swapped, an element comes from the other of the two, or from where it stands
-  from_swap : (xs : List X) (a b m : ℕ) (d : X) → a < length xs → b < length xs → IsFrom xs (swap xs a b) a b m d
-  from_swap xs a b m d p q =
-      let swapped = swapped_from_swap xs (swap xs a b) a b d p q refl in
-      elim (cases_eq m a) [
-        | inl first ↦ record {
-          place = b;
-          same = ap (λ k. get_or (swap xs a b) k d) first ∙ swapped.0;
-          which = inl (first, refl);
-        }
-        | inr not_first ↦ elim (cases_eq m b) [
-          | inl second ↦ record {
-            place = a;
-            same = ap (λ k. get_or (swap xs a b) k d) second ∙ swapped.1;
-            which = inr (inl (second, refl));
-          }
-          | inr not_second ↦ record {
-            place = m;
-            same = swapped.2 m not_first not_second;
-            which = inr (inr (not_first, not_second, refl));
-          }
-        ]
-      ]
-
-  -- places that come from one place are one
-  from_one : (xs ys : List X) (a b m n : ℕ) (d : X) (f : IsFrom xs ys a b m d) (g : IsFrom xs ys a b n d)
-      → f.place ≡ g.place → m ≡ n
-  from_one xs ys a b m n d f g e = by f.which g.which
-    where
-      by : ((m ≡ a) × (f.place ≡ b)) ⊎ (((m ≡ b) × (f.place ≡ a)) ⊎ ((m ≢ a) × (m ≢ b) × (f.place ≡ m)))
-          → ((n ≡ a) × (g.place ≡ b)) ⊎ (((n ≡ b) × (g.place ≡ a)) ⊎ ((n ≢ a) × (n ≢ b) × (g.place ≡ n))) → m ≡ n
-      by (inl p) (inl q) = omega (arith, p.0, q.0)
-      by (inl p) (inr (inl q)) = omega (arith, p.0, p.1, q.0, q.1, e)
-      by (inl p) (inr (inr q)) = absurd (q.1 (omega (arith, p.1, q.2, e)))
-      by (inr (inl p)) (inl q) = omega (arith, p.0, p.1, q.0, q.1, e)
-      by (inr (inl p)) (inr (inl q)) = omega (arith, p.0, q.0)
-      by (inr (inl p)) (inr (inr q)) = absurd (q.0 (omega (arith, p.1, q.2, e)))
-      by (inr (inr p)) (inl q) = absurd (p.1 (omega (arith, p.2, q.1, e)))
-      by (inr (inr p)) (inr (inl q)) = absurd (p.0 (omega (arith, p.2, q.1, e)))
-      by (inr (inr p)) (inr (inr q)) = omega (arith, p.2, q.2, e)
-
-  -- a place of a list comes from a place of the list
-  from_within : (xs ys : List X) (a b m : ℕ) (d : X) (f : IsFrom xs ys a b m d) → a < length xs → b < length xs
-      → m < length xs → f.place < length xs
-  from_within xs ys a b m d f p q l = by f.which
-    where
-      by : ((m ≡ a) × (f.place ≡ b)) ⊎ (((m ≡ b) × (f.place ≡ a)) ⊎ ((m ≢ a) × (m ≢ b) × (f.place ≡ m)))
-          → f.place < length xs
-      by (inl e) = omega (arith, e.1, q)
-      by (inr (inl e)) = omega (arith, e.1, p)
-      by (inr (inr e)) = omega (arith, e.2, l)
-
-  -- a list whose elements differ has them differ after a swap
-  AreDistinct-swap : (xs : List X) (a b : ℕ) → a < length xs → b < length xs → AreDistinct xs
-      → AreDistinct (swap xs a b)
-  AreDistinct-swap xs a b p q distinct i j d l k e =
-      let same = length-swap xs a b in
-      let f = from_swap xs a b i d p q in
-      let g = from_swap xs a b j d p q in
-      from_one xs (swap xs a b) a b i j d f g
-      (distinct f.place g.place d (from_within xs (swap xs a b) a b i d f p q (omega (arith, same, l)))
-      (from_within xs (swap xs a b) a b j d g p q (omega (arith, same, k))) (sym f.same ∙ e ∙ g.same))
-
-  -- and in any other order
-  pub AreDistinct-permutation : (xs ys : List X) → IsPermutation xs ys → AreDistinct xs → AreDistinct ys
-  AreDistinct-permutation xs ys moved distinct =
-      IsPermutation-keeps xs AreDistinct distinct (λ l i j p q kept. AreDistinct-swap l i j p q kept) ys moved
-
   -- the empty list has no two elements
   AreDistinct-nil : AreDistinct {X = X} []
   AreDistinct-nil i j d l k e = absurd (omega arith)

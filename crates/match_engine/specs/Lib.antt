@@ -10,3 +10,4 @@ pub use Rattle.match_rules.specs.Fits
 pub use Rattle.match_rules.specs.Match
 pub mod Known
 pub mod Open
+pub mod Ranks

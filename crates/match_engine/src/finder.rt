@@ -16,6 +16,7 @@ ghost use Rattle.match_engine.specs.HelperCalls.{after_matches};
 ghost use Rattle.match_engine.specs.MachineMatches.{found_by as is_found_by, machine_matches, is_allowed_at, lies_on_board as does_lie_on_board, IsFoundThere};
 ghost use Rattle.match_engine.specs.Known.{Knows};
 ghost use Rattle.match_engine.specs.Readings.{Follows, codes_of};
+ghost use Rattle.match_engine.specs.Ranks.{rank_of as rank};
 ghost use Rattle.match_engine.specs.Found.{match_of as match_made, match_from};
 
 use crate::agreeing::keep_agreed;
@@ -106,6 +107,14 @@ fn matches_among(
     Ok(found)
 }
 
+/// The place of a match among all matches of patterns: by the pattern's place in the list, the transformation and the
+/// point. One number is compared faster than three.
+fn rank_of(z: &Match) -> u64
+    ensures { result ≡ rank z.now }
+{
+    (z.pattern as u64 * 8 + z.transform.get() as u64) * 1024 + z.at as u64
+}
+
 /// What an automaton finds on a position, with a legal move: sorted by the pattern's place in the list, the
 /// transformation and the point.
 fn found_by(
@@ -118,10 +127,11 @@ fn found_by(
     requires numbers { (w : Word) (n : ℕ) → Contains (accepted machine.now w) n → n < length patterns.now }
     ensures found { IfOk result (λ v. v.items ≡ is_found_by machine.now patterns.now position.now friend) }
 {
+    let _ = position.size().points();
     let mut watch = Watch::new(position);
     let hits = scan(machine, &mut watch, friend, Vec::new(alloc))?;
     let mut found = matches_among(alloc, patterns, position, friend, hits.as_slice())?;
-    found.sort_unstable();
+    found.sort_unstable_by_key(|z| rank_of(z));
     Ok(found)
 }
 

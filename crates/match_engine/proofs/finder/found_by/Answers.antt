@@ -1,4 +1,7 @@
-use Rattle.std.proofs.Common.{◌∙◌, ◌*◌, ◌<◌, ap, subst, Contains}
+use Rattle.std.proofs.Common.{◌∙◌, ◌*◌, ◌<◌, ◌≤◌, ap, subst, Contains, rules}
+use Rattle.std.proofs.lemmas.List.Sorted.{IsNonDecreasingBy-from_sort_by_key}
+use Rattle.go_rules.specs.Board.{largest_points}
+use Rattle.match_engine.specs.Ranks.{rank_of}
 use Rattle.std.specs.List.{filter_map}
 use Rattle.dfa_match.specs.Hits.{AreHits}
 use Rattle.match_engine.proofs.Machine.{made, sorted_matches}
@@ -21,10 +24,14 @@ pub returns : goal.returns
 returns c = record {
   found =
       sorted_matches c.args.machine.now c.args.position.now c.args.friend c.args.patterns.now c.in_ok-hits.hits.items
-      c.in_ok-found.found.items c.sort_unstable.new.self.items
+      c.in_ok-found.found.items c.sort_unstable_by_key.new.self.items
+      (subst (λ s. s * s ≤ largest_points) c.size.ensures.value
+      (subst (λ n. n ≤ largest_points) c.points.ensures.value c.points.ensures.bound))
       (subst (λ b. AreHits c.args.machine.now b c.args.friend c.in_ok-hits.hits.items) c.new-watch.ensures.shows
       c.in_ok-hits.ensures.hits)
       (c.in_ok-found.ensures ∙ ap (filter_map (made c.args.patterns.now c.args.position.now c.args.friend))
       c.as_slice.ensures.value)
-      c.sort_unstable.ensures.permutation c.sort_unstable.ensures.sorted;
+      c.sort_unstable_by_key.ensures.permutation
+      (IsNonDecreasingBy-from_sort_by_key rank_of _ c.sort_unstable_by_key.ensures.sorted
+      (λ a r q k. search rules));
 }
