@@ -18,7 +18,7 @@ use Rattle.go_rules.proofs.Plays.{at_put_same, at_put_other, at_after, own_not_t
 use Rattle.go_rules.proofs.Results.{result_of, free_done, play_else}
 use Rattle.go_rules.proofs.Sets.{same_nat_set, contains-set_below, len-set_below}
 use Rattle.go_rules.proofs.Tests.{same_tests}
-use Rattle.read_moves.specs.Steps.{IsReached, by_side, by_string}
+use Rattle.read_moves.specs.Reaches.{IsReached, by_side, by_string}
 use Rattle.read_moves.proofs.AfterPlays.{IsWhole}
 use Rattle.read_moves.proofs.ReachLemmas.{gained}
 use Rattle.read_rules.specs.Candidates.{IsEmptyNeighbour}
