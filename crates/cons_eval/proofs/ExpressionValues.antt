@@ -1,5 +1,6 @@
 -- The value of an expression by those of its parts, how large it is, and what it asks.
-use Rattle.std.proofs.Common.{◌≡◌, ℕ, ◌+◌, ◌*◌, Bool, true, false, not, ◌&&◌, ◌||◌, List, map, ℤ, pos, ◌-ℤ◌, neg_ℤ, Box, Global, w64, SFits, FitsSigned, to_z, of_z, refl, sym, ap, ◌∙◌, subst, arith}
+use Rattle.std.proofs.Common.{◌≡◌, ℕ, ◌+◌, ◌*◌, Bool, true, false, not, ◌&&◌, ◌||◌, List, map, ℤ, pos, ◌-ℤ◌, neg_ℤ, Box}
+use Rattle.std.proofs.Common.{Global, w64, SFits, FitsSigned, to_z, of_z, refl, sym, ap, ◌∙◌, subst, arith}
 use Rattle.std.proofs.lemmas.Int.{ints, to_z-of_z}
 use Rattle.std.proofs.lemmas.Bool.{ltb-true, or_parts}
 use Rattle.pat_types.specs.declared.expr.Op.{Op}

@@ -3,7 +3,11 @@ use Rattle.std.specs.Prelude.{Bool, true, false, ◌&&◌, ◌||◌, not}
 use Rattle.pat_types.specs.declared.expr.Op.{Op}
 use Rattle.pat_types.specs.declared.expr.Op.TheVariants.{Or, And, Eq, Ne, Lt, Le, Gt, Ge, Add, Sub}
 use Rattle.pat_types.specs.declared.expr.Function.{Function}
-use Rattle.pat_types.specs.declared.expr.Function.TheVariants.{Lib, Xlib, Olib, Attack, Defend, Ko, SafeXmove, SafeOmove, LegalXmove, LegalOmove, OSomewhere, XSomewhere, SameWorm, DoesAttack, DoesDefend, OdefendAgainst, XdefendAgainst, OplayAttack, OplayDefend, XplayAttack, XplayDefend}
+use Rattle.pat_types.specs.declared.expr.Function.TheVariants.{Lib, Xlib, Olib, Attack, Defend, Ko, SafeXmove}
+use Rattle.pat_types.specs.declared.expr.Function.TheVariants.{SafeOmove, LegalXmove, LegalOmove, OSomewhere}
+use Rattle.pat_types.specs.declared.expr.Function.TheVariants.{XSomewhere, SameWorm, DoesAttack, DoesDefend}
+use Rattle.pat_types.specs.declared.expr.Function.TheVariants.{OdefendAgainst, XdefendAgainst, OplayAttack, OplayDefend}
+use Rattle.pat_types.specs.declared.expr.Function.TheVariants.{XplayAttack, XplayDefend}
 use Rattle.pat_types.specs.declared.expr.Expr.{Expr, Num, Call, Not', Neg', Bin'}
 use Rattle.std.specs.Prelude.{ℤ}
 use Rattle.cons_eval.specs.Meanings.{Meanings}

@@ -1,7 +1,8 @@
 -- The functions of constraint expressions. Each looks at the position before the pattern's move, with its ban; a and
 -- b are points of the board. The friend is the colour that plays the pattern's move, the enemy is the other one. A
 -- test is worth 1 where it holds.
-use Rattle.std.specs.Prelude.{ℕ, ◌==◌, ◌&&◌, ◌||◌, nat_lt, Bool, true, false, List, [], ◌∷◌, Option, Some, None, is_some, Result, Ok, Err, ℤ, pos as whole, ◌-ℤ◌}
+use Rattle.std.specs.Prelude.{ℕ, ◌==◌, ◌&&◌, ◌||◌, nat_lt, Bool, true, false, List, [], ◌∷◌, Option, Some, None}
+use Rattle.std.specs.Prelude.{is_some, Result, Ok, Err, ℤ, pos as whole, ◌-ℤ◌}
 use Rattle.std.specs.List.{list_any}
 use Rattle.go_rules.specs.declared.Cell.{Cell}
 use Rattle.go_rules.specs.declared.Cell.TheVariants.{Empty, Black, White}

@@ -1,6 +1,7 @@
 -- The values of expressions: whole numbers. A comparison, `!`, `&&` and `||` are worth 1 or 0, and any value but 0
 -- counts as true.
-use Rattle.std.specs.Prelude.{ℕ, ◌==◌, Bool, true, false, ◌&&◌, ◌||◌, not, if◌then◌else◌, List, [], ◌∷◌, map, Option, Some, None, ℤ, pos, ◌+ℤ◌, ◌-ℤ◌, neg_ℤ, int_lt, int_le}
+use Rattle.std.specs.Prelude.{ℕ, ◌==◌, Bool, true, false, ◌&&◌, ◌||◌, not, if◌then◌else◌, List, [], ◌∷◌, map, Option}
+use Rattle.std.specs.Prelude.{Some, None, ℤ, pos, ◌+ℤ◌, ◌-ℤ◌, neg_ℤ, int_lt, int_le}
 use Rattle.std.specs.Option.{option_map}
 use Rattle.std.specs.Ordering.{int_eq}
 use Rattle.pat_types.specs.declared.expr.Op.{Op}
@@ -11,7 +12,10 @@ use Rattle.pat_types.specs.declared.expr.Expr.{Expr, Num, Call, Not', Neg', Bin'
 use Rattle.pat_types.specs.Kept.{arity_of, is_play}
 use Rattle.cons_eval.specs.declared.calls.Arguments.{Arguments}
 use Rattle.cons_eval.specs.declared.calls.Arguments.TheVariants.{Point, Pair, Points, Play}
-use Rattle.cons_eval.specs.Functions.{lib, xlib, olib, attack, defend, ko, safe_xmove, safe_omove, legal_xmove, legal_omove, o_somewhere, x_somewhere, same_worm, does_attack, does_defend, odefend_against, xdefend_against, oplay_attack, oplay_defend, xplay_attack, xplay_defend}
+use Rattle.cons_eval.specs.Functions.{lib, xlib, olib, attack, defend, ko, safe_xmove, safe_omove, legal_xmove}
+use Rattle.cons_eval.specs.Functions.{legal_omove, o_somewhere, x_somewhere, same_worm, does_attack, does_defend}
+use Rattle.cons_eval.specs.Functions.{odefend_against, xdefend_against, oplay_attack, oplay_defend, xplay_attack}
+use Rattle.cons_eval.specs.Functions.{xplay_defend}
 use Rattle.cons_eval.specs.Meanings.{Meanings}
 
 -- what a test is worth

@@ -1,14 +1,17 @@
 -- A step of the walk over tokens, and over the arguments of a call.
-use Rattle.std.proofs.Common.{◌≡◌, ℕ, zero, suc, ◌+◌, ◌<◌, ◌≤◌, true, false, List, [], ◌∷◌, ◌++◌, length, drop, get_or, Option, Some, None, refl, ap, sym, ◌∙◌, arith, append_assoc}
+use Rattle.std.proofs.Common.{◌≡◌, ℕ, zero, suc, ◌+◌, ◌<◌, ◌≤◌, true, false, List, [], ◌∷◌, ◌++◌, length, drop, get_or}
+use Rattle.std.proofs.Common.{Option, Some, None, refl, ap, sym, ◌∙◌, arith, append_assoc}
 use Rattle.std.specs.Option.{option_map}
 use Rattle.std.proofs.lemmas.List.{drop_more, drop-drop, drop_all, append-nil, length-drop}
 use Rattle.pat_types.specs.declared.expr.Arg.{Arg}
 use Rattle.cons_parse.specs.declared.error.ConsError.{ConsError}
-use Rattle.cons_parse.specs.declared.error.ConsError.TheVariants.{Syntax, TooDeep, UnknownFunction, Arity, UnknownLabel, NoMemory}
+use Rattle.cons_parse.specs.declared.error.ConsError.TheVariants.{Syntax, TooDeep, UnknownFunction, Arity, UnknownLabel}
+use Rattle.cons_parse.specs.declared.error.ConsError.TheVariants.{NoMemory}
 use Rattle.cons_parse.specs.declared.token.Token.{Token}
 use Rattle.cons_parse.specs.declared.calls.Item.{Item}
 use Rattle.cons_parse.specs.Answers.{Fails}
-use Rattle.cons_parse.specs.Calls.{items_after, item_at, and_more, arg_of, is_open, is_close, is_comma, listed_at, arguments_at, arg_before}
+use Rattle.cons_parse.specs.Calls.{items_after, item_at, and_more, arg_of, is_open, is_close, is_comma, listed_at}
+use Rattle.cons_parse.specs.Calls.{arguments_at, arg_before}
 use Rattle.cons_parse.proofs.Fronts.{with_front, with_args, front_more}
 
 -- an error that a part may answer is one that the whole may answer

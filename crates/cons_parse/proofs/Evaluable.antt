@@ -1,5 +1,6 @@
 -- An expression without faults can be evaluated.
-use Rattle.std.proofs.Common.{◌≡◌, ℕ, suc, ◌+◌, ◌-◌, ◌≤◌, Bool, true, false, ◌&&◌, ◌||◌, nat_le, nat_lt, cond, List, [], ◌∷◌, ◌++◌, length, refl, ap, sym, ◌∙◌, arith}
+use Rattle.std.proofs.Common.{◌≡◌, ℕ, suc, ◌+◌, ◌-◌, ◌≤◌, Bool, true, false, ◌&&◌, ◌||◌, nat_le, nat_lt, cond, List, []}
+use Rattle.std.proofs.Common.{◌∷◌, ◌++◌, length, refl, ap, sym, ◌∙◌, arith}
 use Rattle.std.specs.List.{list_any, list_all, slice_get}
 use Rattle.std.proofs.lemmas.Bool.{ltb-false, le-leb, and_parts, and_from, or_parts, not-false}
 use Rattle.std.proofs.lemmas.List.{length-append}
@@ -9,14 +10,16 @@ use Rattle.pat_types.specs.declared.expr.Arg.TheVariants.{Label, Star, Nowhere}
 use Rattle.pat_types.specs.declared.expr.Function.{Function}
 use Rattle.pat_types.specs.declared.expr.Function.TheVariants as function
 use Rattle.pat_types.specs.declared.expr.Expr.{Expr, Num, Call, Not', Neg', Bin'}
-use Rattle.pat_types.specs.Kept.{names, arity_of, is_play, is_point, is_move, end_in_point, may_call, can_evaluate, leaf_count}
+use Rattle.pat_types.specs.Kept.{names, arity_of, is_play, is_point, is_move, end_in_point, may_call, can_evaluate}
+use Rattle.pat_types.specs.Kept.{leaf_count}
 use Rattle.cons_parse.specs.declared.token.Name.{Name}
 use Rattle.cons_parse.specs.declared.token.Name.TheVariants.{Letter, Known, Unknown}
 use Rattle.cons_parse.specs.declared.calls.Item.{Item}
 use Rattle.cons_parse.specs.declared.calls.Item.TheVariants as item
 use Rattle.cons_parse.specs.Grammar as written
 use Rattle.cons_parse.specs.Grammar.{Written, spelling}
-use Rattle.cons_parse.specs.Faults.{is_nowhere, is_some_nowhere, ends_nowhere, has_stray_pass, is_miscalled, misses, is_unknown, is_unknown_call, is_unknown_label, is_unlabelled, some_call}
+use Rattle.cons_parse.specs.Faults.{is_nowhere, is_some_nowhere, ends_nowhere, has_stray_pass, is_miscalled, misses}
+use Rattle.cons_parse.specs.Faults.{is_unknown, is_unknown_call, is_unknown_label, is_unlabelled, some_call}
 use Rattle.cons_parse.specs.Trees.{Tree, NumTree, CallTree, NotTree, NegTree, BinTree, tree_of, meaning_of, call_tree}
 use Rattle.cons_parse.proofs.SmallNumbers.{is_small_item}
 

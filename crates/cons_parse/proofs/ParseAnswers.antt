@@ -1,5 +1,6 @@
 -- What the parts of parsing say together of a text.
-use Rattle.std.proofs.Common.{◌≡◌, ℕ, ◌≤◌, Bool, true, false, ◌||◌, cond, nat_lt, List, [], ◌∷◌, ◌++◌, length, Option, Some, None, refl, ap, sym, ◌∙◌}
+use Rattle.std.proofs.Common.{◌≡◌, ℕ, ◌≤◌, Bool, true, false, ◌||◌, cond, nat_lt, List, [], ◌∷◌, ◌++◌, length, Option}
+use Rattle.std.proofs.Common.{Some, None, refl, ap, sym, ◌∙◌}
 use Rattle.std.proofs.Math.Bool.{or-false, or_assoc}
 use Rattle.std.proofs.lemmas.Option.{same_Some}
 use Rattle.std.specs.List.{list_any}
@@ -8,14 +9,16 @@ use Rattle.pat_types.specs.declared.pattern.LabelAt.{LabelAt}
 use Rattle.pat_types.specs.declared.expr.Arg.{Arg}
 use Rattle.pat_types.specs.declared.expr.Expr.{Expr}
 use Rattle.cons_parse.specs.declared.error.ConsError.{ConsError}
-use Rattle.cons_parse.specs.declared.error.ConsError.TheVariants.{Syntax, TooDeep, UnknownFunction, Arity, UnknownLabel, NoMemory}
+use Rattle.cons_parse.specs.declared.error.ConsError.TheVariants.{Syntax, TooDeep, UnknownFunction, Arity, UnknownLabel}
+use Rattle.cons_parse.specs.declared.error.ConsError.TheVariants.{NoMemory}
 use Rattle.cons_parse.specs.declared.token.Name.{Name}
 use Rattle.cons_parse.specs.declared.calls.Item.{Item}
 use Rattle.cons_parse.specs.declared.calls.Item.TheVariants as item
 use Rattle.cons_parse.specs.Answers.{Fails}
 use Rattle.cons_parse.specs.Calls.{items_in}
 use Rattle.cons_parse.specs.Grammar.{Written, Num, Call, Parens, Not, Neg, Bin, spelling, Writes, most_bytes}
-use Rattle.cons_parse.specs.Faults.{is_too_deep, calls, some_call, first_of, fault_of, call_fault, is_unknown_call, misses, is_unlabelled}
+use Rattle.cons_parse.specs.Faults.{is_too_deep, calls, some_call, first_of, fault_of, call_fault, is_unknown_call}
+use Rattle.cons_parse.specs.Faults.{misses, is_unlabelled}
 use Rattle.cons_parse.specs.Scan.{scanned}
 use Rattle.cons_parse.specs.Trees.{tree_of}
 use Rattle.cons_parse.specs.Building.{trees, built}

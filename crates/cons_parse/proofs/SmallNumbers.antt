@@ -1,5 +1,6 @@
 -- The tokens and the items of a text are no more than its bytes, and their numbers have six digits at most.
-use Rattle.std.proofs.Common.{◌≡◌, ℕ, zero, suc, ◌+◌, ◌-◌, ◌*◌, ◌^◌, ◌<◌, ◌≤◌, Bool, true, false, ◌&&◌, ◌==◌, nat_le, nat_lt, cond, List, [], ◌∷◌, length, take, Option, Some, None, refl, arith}
+use Rattle.std.proofs.Common.{◌≡◌, ℕ, zero, suc, ◌+◌, ◌-◌, ◌*◌, ◌^◌, ◌<◌, ◌≤◌, Bool, true, false, ◌&&◌, ◌==◌, nat_le}
+use Rattle.std.proofs.Common.{nat_lt, cond, List, [], ◌∷◌, length, take, Option, Some, None, refl, arith}
 use Rattle.std.specs.List.{list_all, prefix_len}
 use Rattle.std.specs.Option.{option_map, option_and_then}
 use Rattle.std.proofs.lemmas.Bool.{ltb-false, leb-true, lt-ltb, and_parts, and_from}
@@ -11,7 +12,9 @@ use Rattle.cons_parse.specs.declared.token.Token.TheVariants as token
 use Rattle.cons_parse.specs.declared.token.Name.{Name}
 use Rattle.cons_parse.specs.declared.calls.Item.{Item}
 use Rattle.cons_parse.specs.declared.calls.Item.TheVariants as item
-use Rattle.cons_parse.specs.Tokens.{is_digit, is_letter, is_name_byte, name_of, value_after, value_of, two_at, one_at, with_more, or_shorter, sign_at, number_at, token_at, and_more as and_tokens, tokens_after, tokens_of}
+use Rattle.cons_parse.specs.Tokens.{is_digit, is_letter, is_name_byte, name_of, value_after, value_of, two_at, one_at}
+use Rattle.cons_parse.specs.Tokens.{with_more, or_shorter, sign_at, number_at, token_at, and_more as and_tokens}
+use Rattle.cons_parse.specs.Tokens.{tokens_after, tokens_of}
 use Rattle.cons_parse.specs.Calls.{item_at, arguments_at, and_more as and_items, items_after, items_of, items_in}
 
 -- digits

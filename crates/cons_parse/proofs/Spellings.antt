@@ -1,5 +1,6 @@
 -- The run over the items that spell an expression builds its form.
-use Rattle.std.proofs.Common.{◌≡◌, ℕ, ◌<◌, ◌≤◌, Bool, cond, List, [], ◌∷◌, ◌++◌, drop, Some, refl, ap, sym, ◌∙◌, arith, append_assoc}
+use Rattle.std.proofs.Common.{◌≡◌, ℕ, ◌<◌, ◌≤◌, Bool, cond, List, [], ◌∷◌, ◌++◌, drop, Some, refl, ap, sym, ◌∙◌, arith}
+use Rattle.std.proofs.Common.{append_assoc}
 use Rattle.std.proofs.lemmas.List.{append-nil}
 use Rattle.std.proofs.lemmas.Bool.{le-leb, lt-leb}
 use Rattle.pat_types.specs.declared.expr.Op.{Op}
@@ -7,7 +8,9 @@ use Rattle.cons_parse.specs.declared.calls.Item.{Item}
 use Rattle.cons_parse.specs.declared.calls.Item.TheVariants as item
 use Rattle.cons_parse.specs.Grammar.{Written, Num, Call, Parens, Not, Neg, Bin, level_of_op, level_of, IsWell, spelling}
 use Rattle.cons_parse.specs.Trees.{meaning_of, NotTree, NegTree}
-use Rattle.cons_parse.specs.Building.{Forms, Pending, OpenNot, OpenNeg, OpenParens, OpenLeft, Standing, State, settled_in, joined_in, standing, waiting, operated, closed_in, run, built, finished, valued, trees}
+use Rattle.cons_parse.specs.Building.{Forms, Pending, OpenNot, OpenNeg, OpenParens, OpenLeft, Standing, State}
+use Rattle.cons_parse.specs.Building.{settled_in, joined_in, standing, waiting, operated, closed_in, run, built}
+use Rattle.cons_parse.specs.Building.{finished, valued, trees}
 use Rattle.cons_parse.proofs.SpellingScans.{op_level}
 
 -- no sign is open at the top, and no operator as tight as this level

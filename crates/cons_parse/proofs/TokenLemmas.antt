@@ -1,12 +1,14 @@
 -- A step of the walk over the bytes of a text.
-use Rattle.std.proofs.Common.{◌≡◌, ℕ, zero, suc, ◌+◌, ◌<◌, ◌≤◌, Bool, true, false, cond, nat_lt, List, [], ◌∷◌, ◌++◌, length, take, drop, get_or, Option, Some, None, refl, ap, sym, ◌∙◌, arith}
+use Rattle.std.proofs.Common.{◌≡◌, ℕ, zero, suc, ◌+◌, ◌<◌, ◌≤◌, Bool, true, false, cond, nat_lt, List, [], ◌∷◌, ◌++◌}
+use Rattle.std.proofs.Common.{length, take, drop, get_or, Option, Some, None, refl, ap, sym, ◌∙◌, arith}
 use Rattle.std.specs.List.{prefix_len}
 use Rattle.std.proofs.lemmas.Bool.{ltb-true, ltb-false, lt-ltb, le-ltb}
 use Rattle.std.proofs.lemmas.List.{drop_more, drop-drop, drop_all, append-nil}
 use Rattle.db_lex.specs.Lines.{is_blank}
 use Rattle.cons_parse.specs.declared.token.Token.{Token}
 use Rattle.cons_parse.specs.declared.token.Token.TheVariants.{Number, Called}
-use Rattle.cons_parse.specs.Tokens.{tokens_after, first_token, token_at, first_sign, and_more, is_digit, is_letter, is_name_byte, value_of, name_of}
+use Rattle.cons_parse.specs.Tokens.{tokens_after, first_token, token_at, first_sign, and_more, is_digit, is_letter}
+use Rattle.cons_parse.specs.Tokens.{is_name_byte, value_of, name_of}
 use Rattle.cons_parse.proofs.Fronts.{with_front, front_more}
 
 -- the digits at the front, by the first byte

@@ -1,5 +1,6 @@
 -- The faults of an expression that is in the grammar.
-use Rattle.std.specs.Prelude.{ℕ, suc, ◌-◌, Bool, true, false, ◌||◌, not, nat_lt, List, [], ◌∷◌, length, Option, Some, None, if◌then◌else◌}
+use Rattle.std.specs.Prelude.{ℕ, suc, ◌-◌, Bool, true, false, ◌||◌, not, nat_lt, List, [], ◌∷◌, length, Option, Some}
+use Rattle.std.specs.Prelude.{None, if◌then◌else◌}
 use Rattle.std.specs.List.{list_any, slice_get}
 use Rattle.pat_types.specs.declared.expr.Arg.{Arg}
 use Rattle.pat_types.specs.declared.expr.Arg.TheVariants.{Label, Star, Nowhere}

@@ -3,7 +3,8 @@ use Rattle.std.specs.Prelude.{◌≡◌, ℕ, List, Option, Some, None}
 use Rattle.std.specs.Option.{option_map, option_and_then}
 use Rattle.pat_types.specs.declared.pattern.LabelAt.{LabelAt}
 use Rattle.cons_parse.specs.declared.error.ConsError.{ConsError}
-use Rattle.cons_parse.specs.declared.error.ConsError.TheVariants.{Syntax, TooDeep, UnknownFunction, Arity, UnknownLabel, NoMemory}
+use Rattle.cons_parse.specs.declared.error.ConsError.TheVariants.{Syntax, TooDeep, UnknownFunction, Arity, UnknownLabel}
+use Rattle.cons_parse.specs.declared.error.ConsError.TheVariants.{NoMemory}
 use Rattle.cons_parse.specs.declared.calls.Item.{Item}
 use Rattle.cons_parse.specs.Grammar.{Written, Num, Call, Parens, Not, Neg, Bin}
 use Rattle.cons_parse.specs.Faults.{fault_of}

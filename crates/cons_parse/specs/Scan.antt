@@ -1,5 +1,6 @@
 -- The walk over items: what is open at a place, and whether a leaf before it stands too deep.
-use Rattle.std.specs.Prelude.{◌≡◌, Bool, true, false, ◌||◌, nat_lt, List, [], ◌∷◌, length, reverse, Option, Some, None, if◌then◌else◌}
+use Rattle.std.specs.Prelude.{◌≡◌, Bool, true, false, ◌||◌, nat_lt, List, [], ◌∷◌, length, reverse, Option, Some, None}
+use Rattle.std.specs.Prelude.{if◌then◌else◌}
 use Rattle.std.specs.Option.{option_and_then}
 use Rattle.pat_types.specs.declared.expr.Op.{Op}
 use Rattle.pat_types.specs.declared.expr.Op.TheVariants.{Sub}

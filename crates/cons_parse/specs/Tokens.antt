@@ -1,5 +1,6 @@
 -- The tokens of an expression, each as long as possible, with blanks between them.
-use Rattle.std.specs.Prelude.{ℕ, zero, suc, ◌+◌, ◌-◌, ◌*◌, Bool, ◌&&◌, ◌||◌, ◌==◌, nat_le, nat_lt, List, [], ◌∷◌, take, Option, Some, None, if◌then◌else◌, codes}
+use Rattle.std.specs.Prelude.{ℕ, zero, suc, ◌+◌, ◌-◌, ◌*◌, Bool, ◌&&◌, ◌||◌, ◌==◌, nat_le, nat_lt, List, [], ◌∷◌, take}
+use Rattle.std.specs.Prelude.{Option, Some, None, if◌then◌else◌, codes}
 use Rattle.std.specs.List.{find, prefix_len}
 use Rattle.std.specs.Option.{option_map, option_and_then}
 use Rattle.std.specs.Str.{bytes_eq}
@@ -8,7 +9,8 @@ use Rattle.pat_types.specs.declared.expr.Op.TheVariants.{Or, And, Eq, Ne, Lt, Le
 use Rattle.pat_types.specs.declared.expr.Function.{Function}
 use Rattle.pat_types.specs.declared.expr.Function.TheVariants as function
 use Rattle.cons_parse.specs.declared.token.Token.{Token}
-use Rattle.cons_parse.specs.declared.token.Token.TheVariants.{Number, Called, Operator, Bang, Open, Close, Comma, Asterisk, Question}
+use Rattle.cons_parse.specs.declared.token.Token.TheVariants.{Number, Called, Operator, Bang, Open, Close, Comma}
+use Rattle.cons_parse.specs.declared.token.Token.TheVariants.{Asterisk, Question}
 use Rattle.cons_parse.specs.declared.token.Name.{Name}
 use Rattle.cons_parse.specs.declared.token.Name.TheVariants.{Letter, Known, Unknown}
 

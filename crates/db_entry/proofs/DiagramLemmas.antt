@@ -1,6 +1,7 @@
 -- What is kept of a main diagram decides what a further line does to it.
 use Rattle.go_rules.specs.Board.{largest_size}
-use Rattle.std.proofs.Common.{◌≡◌, ℕ, ◌+◌, Bool, true, false, not, cond, List, [], ◌∷◌, ◌++◌, length, Option, Some, None, refl, sym, ap, ◌∙◌, arith}
+use Rattle.std.proofs.Common.{◌≡◌, ℕ, ◌+◌, Bool, true, false, not, cond, List, [], ◌∷◌, ◌++◌, length, Option, Some}
+use Rattle.std.proofs.Common.{None, refl, sym, ap, ◌∙◌, arith}
 use Rattle.std.specs.Prelude.{◌&&◌, ◌||◌, nat_lt, nat_le}
 use Rattle.std.proofs.lemmas.List.{length-append}
 use Rattle.pat_types.specs.Diagrams.{drawn_line}
@@ -9,8 +10,10 @@ use Rattle.db_rules.specs.declared.shape.Shape.{Shape}
 use Rattle.db_rules.specs.declared.kind.FaultKind.{FaultKind}
 use Rattle.db_rules.specs.declared.kind.FaultKind.TheVariants.{BadLetter, EdgePlace, Ragged, TooLarge}
 use Rattle.db_rules.specs.Kinds.{first_of}
-use Rattle.db_rules.specs.Diagram.{is_edge_line, is_row, rows_of, has_top, has_bottom, wanted, line_shape, other_sides, other_width, is_misplaced, diagram_fault, letters_of_row}
-use Rattle.db_rules.proofs.OneMoreLine.{length-rows_of-push, has_top-push, ends_in_edge-push, wanted-push, letters_of-push, whole-push}
+use Rattle.db_rules.specs.Diagram.{is_edge_line, is_row, rows_of, has_top, has_bottom, wanted, line_shape, other_sides}
+use Rattle.db_rules.specs.Diagram.{other_width, is_misplaced, diagram_fault, letters_of_row}
+use Rattle.db_rules.proofs.OneMoreLine.{length-rows_of-push, has_top-push, ends_in_edge-push, wanted-push}
+use Rattle.db_rules.proofs.OneMoreLine.{letters_of-push, whole-push}
 use Rattle.db_entry.specs.declared.line.DiagramLine.{DiagramLine}
 use Rattle.db_entry.specs.DiagramLines.{is_edge, shape_on}
 use Rattle.db_entry.specs.Reads.{Draws, kept_fault}

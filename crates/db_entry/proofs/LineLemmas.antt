@@ -1,12 +1,14 @@
 -- The line that a word is, and what the words of the grammar say of it.
-use Rattle.std.proofs.Common.{◌≡◌, ℕ, Bool, true, false, not, cond, List, [], ◌∷◌, length, Some, None, refl, sym, ap, ◌∙◌}
+use Rattle.std.proofs.Common.{◌≡◌, ℕ, Bool, true, false, not, cond, List, [], ◌∷◌, length, Some, None, refl, sym, ap}
+use Rattle.std.proofs.Common.{◌∙◌}
 use Rattle.std.specs.Prelude.{◌||◌, nat_lt, nat_le, is_some}
 use Rattle.go_rules.specs.Board.{largest_size}
 use Rattle.db_rules.specs.declared.shape.Shape.{Shape}
 use Rattle.db_rules.specs.declared.kind.FaultKind.{FaultKind}
 use Rattle.db_rules.specs.declared.kind.FaultKind.TheVariants.{BadLetter, EdgePlace, Ragged, TooLarge}
 use Rattle.db_rules.specs.Kinds.{first_of}
-use Rattle.db_rules.specs.Diagram.{is_row as is_row_word, is_edge_line, shape_of, line_shape, bar, plus, other_width, wanted, is_misplaced, diagram_fault}
+use Rattle.db_rules.specs.Diagram.{is_row as is_row_word, is_edge_line, shape_of, line_shape, bar, plus, other_width}
+use Rattle.db_rules.specs.Diagram.{wanted, is_misplaced, diagram_fault}
 use Rattle.db_rules.proofs.MainDiagrams.{row_is_no_edge_line}
 use Rattle.db_entry.specs.declared.line.DiagramLine.{DiagramLine}
 use Rattle.db_entry.specs.declared.line.DiagramLine.TheVariants.{Edge, Row}

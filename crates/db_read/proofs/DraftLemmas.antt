@@ -1,6 +1,7 @@
 -- An entry with one line more.
 use Rattle.go_rules.specs.Board.{largest_size}
-use Rattle.std.proofs.Common.{◌≡◌, ℕ, zero, suc, ◌≤◌, Bool, true, false, cond, List, [], ◌∷◌, ◌++◌, length, get_or, map, sym, ap, subst, ◌∙◌, arith, Bor}
+use Rattle.std.proofs.Common.{◌≡◌, ℕ, zero, suc, ◌≤◌, Bool, true, false, cond, List, [], ◌∷◌, ◌++◌, length, get_or, map}
+use Rattle.std.proofs.Common.{sym, ap, subst, ◌∙◌, arith, Bor}
 use Rattle.std.proofs.lemmas.List.{map_push}
 use Rattle.db_entry.specs.declared.marks.Marks.{Marks}
 use Rattle.db_entry.specs.Reads.{IsMarked}

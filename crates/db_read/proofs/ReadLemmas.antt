@@ -1,5 +1,6 @@
 -- What is handed out for a line, and what is found there and at the end.
-use Rattle.std.proofs.Common.{◌≡◌, ℕ, ◌+◌, Bool, true, false, List, ◌∷◌, length, Some, None, Result, Ok, Err, refl, sym, ap, ◌∙◌}
+use Rattle.std.proofs.Common.{◌≡◌, ℕ, ◌+◌, Bool, true, false, List, ◌∷◌, length, Some, None, Result, Ok, Err, refl, sym}
+use Rattle.std.proofs.Common.{ap, ◌∙◌}
 use Rattle.std.specs.Prelude.{if◌then◌else◌}
 use Rattle.db_lex.specs.declared.line.BadByte.{BadByte}
 use Rattle.db_lex.specs.declared.line.Line.{Line}

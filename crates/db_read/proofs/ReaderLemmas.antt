@@ -1,5 +1,6 @@
 -- A reader with one line more.
-use Rattle.std.proofs.Common.{◌≡◌, ◌≢◌, ℕ, ◌+◌, ◌<◌, Bool, true, false, List, [], ◌∷◌, ◌++◌, length, map, Option, Some, None, refl, sym, ap, subst, ◌∙◌, arith}
+use Rattle.std.proofs.Common.{◌≡◌, ◌≢◌, ℕ, ◌+◌, ◌<◌, Bool, true, false, List, [], ◌∷◌, ◌++◌, length, map, Option, Some}
+use Rattle.std.proofs.Common.{None, refl, sym, ap, subst, ◌∙◌, arith}
 use Rattle.std.specs.Prelude.{◌==◌, ◌&&◌, nat_lt}
 use Rattle.std.specs.Option.{option_to_list}
 use Rattle.std.proofs.lemmas.Bool.{eqb-true, not-false}
@@ -13,14 +14,16 @@ use Rattle.db_rules.specs.declared.stage.Stage.{Stage}
 use Rattle.db_rules.specs.declared.stage.Stage.TheVariants.{Start, Diagram, Labels, Expression, Actions}
 use Rattle.db_rules.specs.declared.stage.TableCell.TheVariants.{Next}
 use Rattle.db_rules.specs.declared.kind.FaultKind.{FaultKind}
-use Rattle.db_rules.specs.declared.kind.FaultKind.TheVariants.{NoDiagram, MoveCount, BadMark, BadClass, BadItem, UnknownHelper, ConstraintShape}
+use Rattle.db_rules.specs.declared.kind.FaultKind.TheVariants.{NoDiagram, MoveCount, BadMark, BadClass, BadItem}
+use Rattle.db_rules.specs.declared.kind.FaultKind.TheVariants.{UnknownHelper, ConstraintShape}
 use Rattle.db_rules.specs.Kinds.{first_of}
 use Rattle.db_rules.specs.Diagram.{diagram_fault, letters_of, star_count}
 use Rattle.db_rules.specs.Colon.{colon_fault, fields_fault}
 use Rattle.db_rules.specs.Labels.{constraint_fault, labels_closing_fault}
 use Rattle.db_rules.specs.Blocks.{Block, SoFar, words_in, blocks_of, begun_with, placed, table}
 use Rattle.db_rules.specs.Entries.{entry_of, entry_of_block}
-use Rattle.db_rules.specs.Faults.{own_fault, at_line, first_number, expression_kind, expression_fault, closes, gathered_fault, closing_fault}
+use Rattle.db_rules.specs.Faults.{own_fault, at_line, first_number, expression_kind, expression_fault, closes}
+use Rattle.db_rules.specs.Faults.{gathered_fault, closing_fault}
 use Rattle.db_read.specs.declared.draft.Draft.{Draft}
 use Rattle.db_read.specs.declared.error.DbError.{DbError}
 use Rattle.db_read.specs.declared.reader.Reader.{Reader}

@@ -1,5 +1,6 @@
 -- The lines of a text without a fault are a front and then whole blocks, each line in its place.
-use Rattle.std.proofs.Common.{◌≡◌, ◌≢◌, ℕ, ◌<◌, ◌≤◌, Bool, true, false, cond, List, [], ◌∷◌, ◌++◌, length, Option, Some, None, refl, sym, ap, subst, ◌∙◌, append_assoc, arith}
+use Rattle.std.proofs.Common.{◌≡◌, ◌≢◌, ℕ, ◌<◌, ◌≤◌, Bool, true, false, cond, List, [], ◌∷◌, ◌++◌, length, Option, Some}
+use Rattle.std.proofs.Common.{None, refl, sym, ap, subst, ◌∙◌, append_assoc, arith}
 use Rattle.std.specs.Prelude.{fold, slice_index, nat_le}
 use Rattle.std.specs.List.{All, flat_map}
 use Rattle.std.specs.Option.{option_to_list}
@@ -24,8 +25,11 @@ use Rattle.db_rules.specs.Expressions.{kind_of_expression}
 use Rattle.db_rules.specs.Colon.{is_ascii_letter, colon_fault}
 use Rattle.db_rules.specs.Accepted.{IsDrawn, IsLabelled}
 use Rattle.db_rules.specs.Accepted as accepted
-use Rattle.db_rules.specs.Blocks.{Block, SoFar, blocks_of, lines_in, words_in, begun_with, placed, table, cell_for, with_cell, after_line, end_refused, at_start}
-use Rattle.db_rules.specs.Faults.{or_else, at_line, first_number, most_entries, is_unnamed, expression_kind, pattern_fault, own_fault, table_fault, gathered_fault, closing_fault, found, found_at_end, first_fault, end_number}
+use Rattle.db_rules.specs.Blocks.{Block, SoFar, blocks_of, lines_in, words_in, begun_with, placed, table, cell_for}
+use Rattle.db_rules.specs.Blocks.{with_cell, after_line, end_refused, at_start}
+use Rattle.db_rules.specs.Faults.{or_else, at_line, first_number, most_entries, is_unnamed, expression_kind}
+use Rattle.db_rules.specs.Faults.{pattern_fault, own_fault, table_fault, gathered_fault, closing_fault, found}
+use Rattle.db_rules.specs.Faults.{found_at_end, first_fault, end_number}
 use Rattle.db_rules.specs.Database.{IsLineOf, IsInFront, IsColonLine, IsBlock, IsDatabase}
 use Rattle.db_rules.proofs.Walk.{walk, first_fault-walk}
 

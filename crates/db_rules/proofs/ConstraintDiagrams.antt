@@ -1,5 +1,6 @@
 -- The labels of a constraint diagram without a fault lie in the diagram and have different letters.
-use Rattle.std.proofs.Common.{◌≡◌, ℕ, zero, suc, ◌+◌, ◌-◌, ◌<◌, ◌≤◌, ◌⊎◌, inl, inr, Bool, true, false, cond, List, [], ◌∷◌, ◌++◌, length, take, drop, get_or, None, refl, sym, ap, subst, ◌∙◌, arith}
+use Rattle.std.proofs.Common.{◌≡◌, ℕ, zero, suc, ◌+◌, ◌-◌, ◌<◌, ◌≤◌, ◌⊎◌, inl, inr, Bool, true, false, cond, List, []}
+use Rattle.std.proofs.Common.{◌∷◌, ◌++◌, length, take, drop, get_or, None, refl, sym, ap, subst, ◌∙◌, arith}
 use Rattle.std.specs.Prelude.{◌&&◌, ◌||◌, ◌==◌, nat_lt, slice_get, slice_index}
 use Rattle.std.specs.List.{list_all}
 use Rattle.std.proofs.Math.ListN.{get_or-append}
@@ -13,8 +14,10 @@ use Rattle.pat_types.specs.Kept.{is_in, are_apart, are_labels}
 use Rattle.db_rules.specs.declared.kind.FaultKind.{FaultKind}
 use Rattle.db_rules.specs.declared.kind.FaultKind.TheVariants.{ConstraintShape}
 use Rattle.db_rules.specs.Kinds.{first_of}
-use Rattle.db_rules.specs.Diagram.{is_letter, is_dash, plus, bar, ends, without_left, inner, is_edge_line, is_row, shape_of, rows_of, wanted, width_of}
-use Rattle.db_rules.specs.Labels.{is_label, repeats, labels_from, labels_of_line, labels_under, labels_of, repeats_main, constraint_fault}
+use Rattle.db_rules.specs.Diagram.{is_letter, is_dash, plus, bar, ends, without_left, inner, is_edge_line, is_row}
+use Rattle.db_rules.specs.Diagram.{shape_of, rows_of, wanted, width_of}
+use Rattle.db_rules.specs.Labels.{is_label, repeats, labels_from, labels_of_line, labels_under, labels_of, repeats_main}
+use Rattle.db_rules.specs.Labels.{constraint_fault}
 use Rattle.db_rules.specs.Accepted.{IsDrawn, IsLabelled, no_line, one_line_more}
 use Rattle.db_rules.proofs.OneMoreLine.{shape_of-width, row_letters}
 use Rattle.db_rules.proofs.MainDiagrams.{drawn_even, drawn_line_kinds}

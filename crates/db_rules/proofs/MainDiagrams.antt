@@ -1,8 +1,10 @@
 -- What is true of the main diagram of an entry without a fault.
-use Rattle.std.proofs.Common.{◌≡◌, ℕ, zero, suc, ◌+◌, ◌-◌, ◌*◌, ◌<◌, ◌≤◌, Bool, true, false, not, cond, List, [], ◌∷◌, ◌++◌, length, take, drop, get_or, Option, Some, None, refl, sym, ap, subst, ◌∙◌, arith}
+use Rattle.std.proofs.Common.{◌≡◌, ℕ, zero, suc, ◌+◌, ◌-◌, ◌*◌, ◌<◌, ◌≤◌, Bool, true, false, not, cond, List, [], ◌∷◌}
+use Rattle.std.proofs.Common.{◌++◌, length, take, drop, get_or, Option, Some, None, refl, sym, ap, subst, ◌∙◌, arith}
 use Rattle.std.specs.Prelude.{◌&&◌, ◌||◌, ◌==◌, nat_lt, nat_le, slice_index, is_some, IfSome}
 use Rattle.std.specs.List.{list_all}
-use Rattle.std.proofs.lemmas.Bool.{and_parts, or_parts, ltb-false, leb-false, ltb-true, eqb-true, cases_lt, not-false, false_from_ne_true}
+use Rattle.std.proofs.lemmas.Bool.{and_parts, or_parts, ltb-false, leb-false, ltb-true, eqb-true, cases_lt, not-false}
+use Rattle.std.proofs.lemmas.Bool.{false_from_ne_true}
 use Rattle.std.proofs.Common.{inl, inr}
 use Rattle.std.proofs.Math.ListN.{get_or-append}
 use Rattle.std.proofs.Math.Seq.{get_or-append_seam}
@@ -11,9 +13,13 @@ use Rattle.go_rules.specs.Board.{largest_size}
 use Rattle.pat_types.specs.Diagrams.{drawn_line}
 use Rattle.db_rules.specs.declared.shape.Shape.{Shape}
 use Rattle.db_rules.specs.declared.kind.FaultKind.TheVariants.{BadLetter, EdgePlace, Ragged, TooLarge}
-use Rattle.db_rules.specs.Diagram.{is_letter, is_dash, plus, bar, begins, without_left, ends, inner, is_edge_line, is_row, shape_of, rows_of, has_row, has_top, has_bottom, wanted, wanted_of, line_shape, other_sides, other_width, is_misplaced, diagram_fault, letters_of, width_of}
+use Rattle.db_rules.specs.Diagram.{is_letter, is_dash, plus, bar, begins, without_left, ends, inner, is_edge_line}
+use Rattle.db_rules.specs.Diagram.{is_row, shape_of, rows_of, has_row, has_top, has_bottom, wanted, wanted_of}
+use Rattle.db_rules.specs.Diagram.{line_shape, other_sides, other_width, is_misplaced, diagram_fault, letters_of}
+use Rattle.db_rules.specs.Diagram.{width_of}
 use Rattle.db_rules.specs.Accepted.{IsDrawn, no_line, one_line_more}
-use Rattle.db_rules.proofs.OneMoreLine.{none_of_four, length-rows_of-push, has_top-push, ends_in_edge-push, wanted-push, whole-push}
+use Rattle.db_rules.proofs.OneMoreLine.{none_of_four, length-rows_of-push, has_top-push, ends_in_edge-push, wanted-push}
+use Rattle.db_rules.proofs.OneMoreLine.{whole-push}
 
 -- the first byte of a front that has a byte, all of which pass, passes
 front_passes : (P : ℕ → Bool) (k b : ℕ) (bs : List ℕ) → nat_lt 0 (length (take k (b ∷ bs))) ≡ true

@@ -1,5 +1,6 @@
 -- A main diagram with one line more: its rows, its edges, its shape and its letters.
-use Rattle.std.proofs.Common.{◌≡◌, ℕ, suc, ◌+◌, ◌*◌, Bool, true, false, not, cond, List, [], ◌∷◌, ◌++◌, length, Option, Some, None, refl, sym, ap, ◌∙◌, arith}
+use Rattle.std.proofs.Common.{◌≡◌, ℕ, suc, ◌+◌, ◌*◌, Bool, true, false, not, cond, List, [], ◌∷◌, ◌++◌, length, Option}
+use Rattle.std.proofs.Common.{Some, None, refl, sym, ap, ◌∙◌, arith}
 use Rattle.std.specs.Prelude.{◌&&◌, ◌||◌, ◌==◌, nat_lt, is_some}
 use Rattle.std.specs.List.{list_all, flat_map, filter_map, cons_option}
 use Rattle.std.proofs.lemmas.Bool.{lt-ltb, and_parts, not-false, eqb-true}
@@ -11,7 +12,9 @@ use Rattle.pat_types.specs.Diagrams.{drawn_line}
 use Rattle.db_rules.specs.declared.shape.Shape.{Shape}
 use Rattle.db_rules.specs.declared.kind.FaultKind.{FaultKind}
 use Rattle.db_rules.specs.Kinds.{first_of}
-use Rattle.db_rules.specs.Diagram.{is_edge_line, is_row, rows_of, has_top, wanted, line_shape, other_width, letters_of, letters_of_row, letter_of, is_letter, ends_in_edge, wanted_of, shape_of, inner, bar, width_of}
+use Rattle.db_rules.specs.Diagram.{is_edge_line, is_row, rows_of, has_top, wanted, line_shape, other_width, letters_of}
+use Rattle.db_rules.specs.Diagram.{letters_of_row, letter_of, is_letter, ends_in_edge, wanted_of, shape_of, inner, bar}
+use Rattle.db_rules.specs.Diagram.{width_of}
 
 -- the tests of a list of four faults of which none fits
 pub record AreFalse (a b c d : Bool) : Type 0 where

@@ -1,11 +1,13 @@
 -- The first fault is met by going over the lines once, with what the lines before come to.
-use Rattle.std.proofs.Common.{◌≡◌, ℕ, zero, suc, List, [], ◌∷◌, length, take, Option, Some, None, refl, sym, ap, ◌∙◌, add-one}
+use Rattle.std.proofs.Common.{◌≡◌, ℕ, zero, suc, List, [], ◌∷◌, length, take, Option, Some, None, refl, sym, ap, ◌∙◌}
+use Rattle.std.proofs.Common.{add-one}
 use Rattle.std.specs.Prelude.{fold, slice_get, map}
 use Rattle.db_lex.specs.Lines.{KeptLine, kept_lines}
 use Rattle.db_rules.specs.declared.fault.Fault.{Fault}
 use Rattle.db_rules.specs.Blocks.{SoFar, after_line, at_start, so_far, blocks_of}
 use Rattle.db_rules.specs.Entries.{entry_of_block}
-use Rattle.db_rules.specs.Faults.{or_else, found, found_at_end, fault_at_place, least_fault, first_fault, end_number, entries}
+use Rattle.db_rules.specs.Faults.{or_else, found, found_at_end, fault_at_place, least_fault, first_fault, end_number}
+use Rattle.db_rules.specs.Faults.{entries}
 
 -- the first fault of these lines after what some lines come to
 unfoldable pub walk : List (List ℕ) → ℕ → SoFar → List KeptLine → Option Fault

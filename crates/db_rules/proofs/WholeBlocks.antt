@@ -1,5 +1,6 @@
 -- A front and whole blocks have no fault, and are read as what they are.
-use Rattle.std.proofs.Common.{◌≡◌, ℕ, ◌+◌, ◌<◌, ◌≤◌, Bool, true, false, cond, List, [], ◌∷◌, ◌++◌, length, map, Option, Some, None, refl, sym, ap, subst, ◌∙◌, append_assoc, arith}
+use Rattle.std.proofs.Common.{◌≡◌, ℕ, ◌+◌, ◌<◌, ◌≤◌, Bool, true, false, cond, List, [], ◌∷◌, ◌++◌, length, map, Option}
+use Rattle.std.proofs.Common.{Some, None, refl, sym, ap, subst, ◌∙◌, append_assoc, arith}
 use Rattle.std.specs.Prelude.{fold, slice_index}
 use Rattle.std.specs.List.{All, flat_map}
 use Rattle.std.proofs.lemmas.Bool.{lt-leb}
@@ -17,8 +18,11 @@ use Rattle.db_rules.specs.Diagram.{diagram_fault}
 use Rattle.db_rules.specs.Labels.{constraint_fault, labels_closing_fault}
 use Rattle.db_rules.specs.Accepted.{IsDrawn, IsLabelled}
 use Rattle.db_rules.specs.Accepted as accepted
-use Rattle.db_rules.specs.Blocks.{Block, SoFar, blocks_of, lines_in, words_in, begun_with, placed, table, cell_for, with_cell, after_line, end_refused, at_start, so_far}
-use Rattle.db_rules.specs.Faults.{or_else, at_line, first_number, most_entries, is_unnamed, expression_kind, pattern_fault, own_fault, table_fault, closes, closing_fault, found, found_at_end, first_fault, end_number, entries}
+use Rattle.db_rules.specs.Blocks.{Block, SoFar, blocks_of, lines_in, words_in, begun_with, placed, table, cell_for}
+use Rattle.db_rules.specs.Blocks.{with_cell, after_line, end_refused, at_start, so_far}
+use Rattle.db_rules.specs.Faults.{or_else, at_line, first_number, most_entries, is_unnamed, expression_kind}
+use Rattle.db_rules.specs.Faults.{pattern_fault, own_fault, table_fault, closes, closing_fault, found, found_at_end}
+use Rattle.db_rules.specs.Faults.{first_fault, end_number, entries}
 use Rattle.db_rules.specs.Database.{IsLineOf, IsInFront, IsColonLine, IsBlock, IsDatabase}
 use Rattle.db_rules.specs.Entries.{entry_of_block}
 use Rattle.db_rules.proofs.BlockTexts.{faultless_is_database}

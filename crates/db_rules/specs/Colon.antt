@@ -1,5 +1,7 @@
 -- The colon line: a mark, class letters, and further fields.
-use Rattle.std.specs.Prelude.{ℕ, ◌+◌, ◌-◌, Bool, false, ◌&&◌, ◌||◌, not, ◌==◌, nat_lt, nat_le, List, [], ◌∷◌, length, take, drop, map, filter, slice_index, slice_get, Option, Some, None, is_none, unwrap_or, if◌then◌else◌, codes}
+use Rattle.std.specs.Prelude.{ℕ, ◌+◌, ◌-◌, Bool, false, ◌&&◌, ◌||◌, not, ◌==◌, nat_lt, nat_le, List, [], ◌∷◌, length}
+use Rattle.std.specs.Prelude.{take, drop, map, filter, slice_index, slice_get, Option, Some, None, is_none, unwrap_or}
+use Rattle.std.specs.Prelude.{if◌then◌else◌, codes}
 use Rattle.std.specs.List.{list_any, list_all, position_or_len}
 use Rattle.std.specs.Str.{bytes_eq}
 use Rattle.pat_types.specs.declared.mark.Mark.{Mark}
@@ -8,7 +10,8 @@ use Rattle.pat_types.specs.declared.pattern.Item.{Item}
 use Rattle.db_rules.specs.Diagram.{star_count}
 use Rattle.db_lex.specs.Lines.{trimmed, with_front}
 use Rattle.db_rules.specs.declared.kind.FaultKind.{FaultKind}
-use Rattle.db_rules.specs.declared.kind.FaultKind.TheVariants.{NoDiagram, MoveCount, BadMark, BadClass, BadItem, UnknownHelper}
+use Rattle.db_rules.specs.declared.kind.FaultKind.TheVariants.{NoDiagram, MoveCount, BadMark, BadClass, BadItem}
+use Rattle.db_rules.specs.declared.kind.FaultKind.TheVariants.{UnknownHelper}
 use Rattle.db_rules.specs.Kinds.{first_of}
 use Rattle.db_rules.specs.Diagram.{has_row, letters_of}
 

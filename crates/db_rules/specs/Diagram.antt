@@ -1,9 +1,11 @@
 -- The main diagram: its lines are edge lines and rows. Here a diagram is the list of the words of its lines so far.
-use Rattle.std.specs.Prelude.{ℕ, ◌-◌, Bool, false, ◌&&◌, ◌||◌, not, ◌==◌, nat_lt, nat_le, List, [], ◌∷◌, count_by, length, take, drop, filter, slice_index, Option, Some, None, is_some, if◌then◌else◌}
+use Rattle.std.specs.Prelude.{ℕ, ◌-◌, Bool, false, ◌&&◌, ◌||◌, not, ◌==◌, nat_lt, nat_le, List, [], ◌∷◌, count_by}
+use Rattle.std.specs.Prelude.{length, take, drop, filter, slice_index, Option, Some, None, is_some, if◌then◌else◌}
 use Rattle.std.specs.List.{list_all, flat_map, filter_map}
 use Rattle.std.specs.Bool.{beq}
 use Rattle.pat_types.specs.declared.letter.Letter.{Letter}
-use Rattle.pat_types.specs.declared.letter.Letter.TheVariants.{Friend, Enemy, Empty, FriendOrEmpty, EnemyOrEmpty, Any, Star}
+use Rattle.pat_types.specs.declared.letter.Letter.TheVariants.{Friend, Enemy, Empty, FriendOrEmpty, EnemyOrEmpty, Any}
+use Rattle.pat_types.specs.declared.letter.Letter.TheVariants.{Star}
 use Rattle.go_rules.specs.Board.{largest_size}
 use Rattle.pat_types.specs.Diagrams.{drawn_line, is_star}
 use Rattle.db_rules.specs.declared.shape.Shape.{Shape}

@@ -3,7 +3,8 @@ use Rattle.std.specs.Prelude.{ℕ, List, [], ◌∷◌, ◌++◌, drop, Option, 
 use Rattle.std.specs.Option.{option_map}
 use Rattle.pat_types.specs.declared.pattern.LabelAt.{LabelAt}
 use Rattle.cons_parse.specs.declared.error.ConsError.{ConsError}
-use Rattle.cons_parse.specs.declared.error.ConsError.TheVariants.{Syntax, TooDeep, UnknownFunction, Arity, UnknownLabel, NoMemory}
+use Rattle.cons_parse.specs.declared.error.ConsError.TheVariants.{Syntax, TooDeep, UnknownFunction, Arity, UnknownLabel}
+use Rattle.cons_parse.specs.declared.error.ConsError.TheVariants.{NoMemory}
 use Rattle.cons_parse.specs.Trees.{Tree, meaning_of}
 use Rattle.cons_parse.specs.Reading.{expression_in, fault_in}
 use Rattle.db_lex.specs.Lines.{KeptLine}

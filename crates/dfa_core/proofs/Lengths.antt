@@ -1,5 +1,6 @@
 -- What a pattern draws along the spiral, and its length.
-use Rattle.std.proofs.Common.{◌≡◌, ℕ, zero, suc, ◌-◌, ◌<◌, ◌≤◌, inl, inr, true, false, cond, ℤ, pos, ◌+ℤ◌, refl, ap, ◌∙◌, sym, arith}
+use Rattle.std.proofs.Common.{◌≡◌, ℕ, zero, suc, ◌-◌, ◌<◌, ◌≤◌, inl, inr, true, false, cond, ℤ, pos, ◌+ℤ◌, refl, ap}
+use Rattle.std.proofs.Common.{◌∙◌, sym, arith}
 use Rattle.std.proofs.lemmas.Bool.{cases_Bool}
 use Rattle.go_rules.specs.Transform.{Offset}
 use Rattle.spiral.specs.Spiral.{offset_at, offset_count}

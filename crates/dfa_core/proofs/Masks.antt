@@ -1,8 +1,11 @@
 -- What the masks of a pattern say of its cells and of its length.
-use Rattle.std.proofs.Common.{◌≡◌, ℕ, ◌+◌, ◌-◌, ◌<◌, ◌≤◌, Bool, true, false, not, ◌&&◌, List, [], ◌∷◌, ◌++◌, length, get_or, refl, sym, ap, ◌∙◌, subst, arith, inl, inr}
+use Rattle.std.proofs.Common.{◌≡◌, ℕ, ◌+◌, ◌-◌, ◌<◌, ◌≤◌, Bool, true, false, not, ◌&&◌, List, [], ◌∷◌, ◌++◌, length}
+use Rattle.std.proofs.Common.{get_or, refl, sym, ap, ◌∙◌, subst, arith, inl, inr}
 use Rattle.std.proofs.lemmas.Bool.{cases_lt, not-true, not-false}
 use Rattle.std.proofs.lemmas.List.{length_push, get_or_push, get_or_append_left}
-use Rattle.pat_types.specs.declared.letter.Letter.TheVariants.{Friend as LetterFriend, Enemy as LetterEnemy, Empty as LetterEmpty, FriendOrEmpty, EnemyOrEmpty, Any, Star}
+use Rattle.pat_types.specs.declared.letter.Letter.TheVariants.{Friend as LetterFriend, Enemy as LetterEnemy}
+use Rattle.pat_types.specs.declared.letter.Letter.TheVariants.{Empty as LetterEmpty, FriendOrEmpty, EnemyOrEmpty, Any}
+use Rattle.pat_types.specs.declared.letter.Letter.TheVariants.{Star}
 use Rattle.pat_types.specs.declared.cell.Drawn.{Drawn}
 use Rattle.pat_types.specs.declared.cell.Drawn.TheVariants.{Nothing, OffBoard, Shows}
 use Rattle.pat_types.specs.declared.pattern.Pattern.{Pattern}

@@ -1,15 +1,16 @@
 -- How far from the anchor the cells of a pattern are drawn, and so how long it can be.
-use Rattle.std.proofs.Common.{◌≡◌, ℕ, zero, suc, ◌+◌, ◌*◌, ◌<◌, ◌≤◌, Bool, true, false, nat_lt, max, min, ℤ, pos, negsuc, ◌+ℤ◌, ◌≤ℤ◌, neg_ℤ, nat_abs, refl, sym, ap, ◌∙◌, arith, inl, inr}
+use Rattle.std.proofs.Common.{◌≡◌, ℕ, zero, suc, ◌+◌, ◌*◌, ◌<◌, ◌≤◌, Bool, true, false, nat_lt, max, min, ℤ, pos}
+use Rattle.std.proofs.Common.{negsuc, ◌+ℤ◌, ◌≤ℤ◌, neg_ℤ, nat_abs, refl, sym, ap, ◌∙◌, arith, inl, inr}
 use Rattle.std.proofs.lemmas.Bool.{cases_Bool, cases_lt, agree_below, agree_below_at, ltb-true}
 use Rattle.std.proofs.lemmas.Int.{ints}
 use Rattle.std.proofs.Math.Nat.{mul-le-mul_left, mul-le-mul_right}
 use Rattle.go_rules.specs.Transform.{Offset, largest_offset}
 use Rattle.spiral.specs.Spiral.{ring_start, offset_at, offset_count}
 use Rattle.pat_types.specs.declared.pattern.Pattern.{Pattern}
-use Rattle.pat_types.specs.Diagrams.{drawn_line}
-use Rattle.pat_types.specs.Cells.{line_at, drawn_at, anchor_of}
+use Rattle.pat_types.specs.Diagrams.{drawn_strip}
+use Rattle.pat_types.specs.Cells.{strip_at, drawn_at, anchor_of}
 use Rattle.dfa_core.specs.Fits.{drawn_along, is_drawn, length_below, pattern_length}
-use Rattle.dfa_core.proofs.Bounds.{IsAround, line_around, drawn_lines, anchor_within}
+use Rattle.dfa_core.proofs.Bounds.{IsAround, strip_around, drawn_strips, anchor_within}
 use Rattle.dfa_core.proofs.Lengths.{length_below-blank}
 
 -- the ring of an offset
@@ -39,16 +40,16 @@ index_inside i k low row column =
     omega (arith, here, mul-le-mul_left (2 * r + 1) inside, mul-le-mul_right (2 * k + 1) inside)
 
 -- an edge is one line
-line_most : (b : Bool) → drawn_line b ≤ 1
-line_most true = omega arith
-line_most false = omega arith
+strip_most : (b : Bool) → drawn_strip b ≤ 1
+strip_most true = omega arith
+strip_most false = omega arith
 
 -- a drawn line is no farther from a line of the letters than there are letters
-line_near : (n a k : ℕ) (before after : Bool) (z : ℤ) → IsAround n before after (pos a +ℤ z) → a < n → n ≤ k
+strip_near : (n a k : ℕ) (before after : Bool) (z : ℤ) → IsAround n before after (pos a +ℤ z) → a < n → n ≤ k
     → nat_abs z ≤ k
-line_near n a k before after z around on few =
-    nat_abs-most z k (omega (arith, ints, around.low, line_most before))
-    (omega (arith, ints, around.high, line_most after))
+strip_near n a k before after z around on few =
+    nat_abs-most z k (omega (arith, ints, around.low, strip_most before))
+    (omega (arith, ints, around.high, strip_most after))
 
 -- past the square of a pattern nothing is drawn
 blank_outside : (p : Pattern) (k i : ℕ) → p.rows ≤ k → p.cols ≤ k → (2 * k + 1) * (2 * k + 1) ≤ i → i < offset_count
@@ -58,13 +59,13 @@ blank_outside p k i rows columns past low =
     elim (cases_Bool (is_drawn (drawn_along p i))) [
       | inr blank ↦ blank
       | inl drawn ↦
-          let lines = drawn_lines p (line_at p.rows p.top p.bottom (pos (anchor_of p).0 +ℤ (offset_at i).0))
-          (line_at p.cols p.left p.right (pos (anchor_of p).1 +ℤ (offset_at i).1)) drawn in
+          let lines = drawn_strips p (strip_at p.rows p.top p.bottom (pos (anchor_of p).0 +ℤ (offset_at i).0))
+          (strip_at p.cols p.left p.right (pos (anchor_of p).1 +ℤ (offset_at i).1)) drawn in
           let anchor = anchor_within p in
-          let row = line_near p.rows (anchor_of p).0 k p.top p.bottom (offset_at i).0
-          (line_around p.rows p.top p.bottom (pos (anchor_of p).0 +ℤ (offset_at i).0) lines.0) anchor.0 rows in
-          let column = line_near p.cols (anchor_of p).1 k p.left p.right (offset_at i).1
-          (line_around p.cols p.left p.right (pos (anchor_of p).1 +ℤ (offset_at i).1) lines.1) anchor.1 columns in
+          let row = strip_near p.rows (anchor_of p).0 k p.top p.bottom (offset_at i).0
+          (strip_around p.rows p.top p.bottom (pos (anchor_of p).0 +ℤ (offset_at i).0) lines.0) anchor.0 rows in
+          let column = strip_near p.cols (anchor_of p).1 k p.left p.right (offset_at i).1
+          (strip_around p.cols p.left p.right (pos (anchor_of p).1 +ℤ (offset_at i).1) lines.1) anchor.1 columns in
           absurd (omega (arith, past, index_inside i k low row column))
     ]
 

@@ -1,6 +1,7 @@
 -- Every list of patterns has a number of states: the words that are longer than every pattern reach the sink, and the
 -- others are finitely many.
-use Rattle.std.proofs.Common.{◌≡◌, ℕ, zero, suc, ◌+◌, ◌<◌, ◌≤◌, ◌⊎◌, inl, inr, Bool, true, false, not, cond, eqb, List, [], ◌∷◌, length, map, drop, replicate, get_or, refl, sym, ap, ◌∙◌, arith}
+use Rattle.std.proofs.Common.{◌≡◌, ℕ, zero, suc, ◌+◌, ◌<◌, ◌≤◌, ◌⊎◌, inl, inr, Bool, true, false, not, cond, eqb, List}
+use Rattle.std.proofs.Common.{[], ◌∷◌, length, map, drop, replicate, get_or, refl, sym, ap, ◌∙◌, arith}
 use Rattle.std.proofs.lemmas.Bool.{cases_eq, cases_lt, eq-eqb, ne_eqb, and_left, lt-leb, true≢false, false≢true}
 use Rattle.std.proofs.lemmas.List.{length-replicate}
 use Rattle.spiral.specs.Spiral.{offset_count}

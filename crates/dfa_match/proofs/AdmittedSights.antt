@@ -7,7 +7,8 @@ use Rattle.go_rules.specs.declared.Colour.TheVariants.{Black as black, White as 
 use Rattle.go_rules.specs.Position.{BoardState, other, stone_of}
 use Rattle.go_rules.specs.Strings.{cell_at, same_cell}
 use Rattle.pat_types.specs.declared.letter.Letter.{Letter}
-use Rattle.pat_types.specs.declared.letter.Letter.TheVariants.{Friend, Enemy, Empty, FriendOrEmpty, EnemyOrEmpty, Any, Star}
+use Rattle.pat_types.specs.declared.letter.Letter.TheVariants.{Friend, Enemy, Empty, FriendOrEmpty, EnemyOrEmpty, Any}
+use Rattle.pat_types.specs.declared.letter.Letter.TheVariants.{Star}
 use Rattle.pat_types.specs.declared.cell.Drawn.{Drawn}
 use Rattle.pat_types.specs.declared.cell.Drawn.TheVariants.{Nothing, OffBoard, Shows}
 use Rattle.pat_types.specs.Letters.{admits}

@@ -1,5 +1,6 @@
 -- The hits of the automaton of a list of patterns.
-use Rattle.std.proofs.Common.{◌≡◌, ℕ, zero, suc, ◌+◌, ◌-◌, ◌≤◌, true, false, not, cond, eqb, List, [], ◌∷◌, length, Contains, Some, slice_get, sym, ap, ◌∙◌, subst, arith, ◌⊎◌, inl, inr}
+use Rattle.std.proofs.Common.{◌≡◌, ℕ, zero, suc, ◌+◌, ◌-◌, ◌≤◌, true, false, not, cond, eqb, List, [], ◌∷◌, length}
+use Rattle.std.proofs.Common.{Contains, Some, slice_get, sym, ap, ◌∙◌, subst, arith, ◌⊎◌, inl, inr}
 use Rattle.std.proofs.lemmas.Bool.{cases_Bool, and_parts, eqb-true}
 use Rattle.std.proofs.lemmas.List.Elements.{Contains-append_cases, Contains-append_left, Contains-append_right}
 use Rattle.go_rules.specs.declared.Colour.{Colour}
@@ -8,7 +9,7 @@ use Rattle.pat_types.specs.declared.pattern.Pattern.{Pattern}
 use Rattle.dfa_core.specs.Words.{Word}
 use Rattle.dfa_core.specs.Automata.{Row}
 use Rattle.dfa_core.specs.Fits.{pattern_length, is_refuted}
-use Rattle.dfa_core.specs.States.{is_matched, matched_from, IsMachineOf}
+use Rattle.dfa_core.specs.States.{is_matched, matched_from, IsAutomatonOf}
 use Rattle.dfa_core.proofs.Lengths.{pattern_length-most}
 use Rattle.dfa_match.specs.declared.Hit.{Hit}
 use Rattle.dfa_match.specs.Sights.{seen_at, word_at}
@@ -68,10 +69,10 @@ number_of k (q ∷ ps) w (suc i) p at matched =
     Contains-append_right (cond (is_matched w q) (k ∷ []) []) (matched_from (suc k) ps w) (k + suc i)
     (subst (Contains (matched_from (suc k) ps w)) sums (number_of (suc k) ps w i p at matched))
 
-module _ (patterns : List Pattern) (machine : List Row) (at : BoardState) (friend : Colour) (hit : Hit)
-    (accepts : IsMachineOf patterns machine) where
-  -- what the machine accepts is a pattern that fits
-  pub fit_from_hit : IsHit machine at friend hit → IsFit patterns at friend hit
+module _ (patterns : List Pattern) (automaton : List Row) (at : BoardState) (friend : Colour) (hit : Hit)
+    (accepts : IsAutomatonOf patterns automaton) where
+  -- what the automaton accepts is a pattern that fits
+  pub fit_from_hit : IsHit automaton at friend hit → IsFit patterns at friend hit
   fit_from_hit is =
       let w : Word = word_at at friend hit.transform hit.anchor is.letters in
       let found = numbered 0 patterns w hit.pattern (accepts.sound w hit.pattern is.accepts) in
@@ -91,7 +92,7 @@ module _ (patterns : List Pattern) (machine : List Row) (at : BoardState) (frien
       }
 
   -- and the other way round
-  pub hit_from_fit : IsFit patterns at friend hit → IsHit machine at friend hit
+  pub hit_from_fit : IsFit patterns at friend hit → IsHit automaton at friend hit
   hit_from_fit is =
       let w : Word = word_at at friend hit.transform hit.anchor (pattern_length is.pattern) in
       let none : 0 + hit.pattern ≡ hit.pattern = omega arith in

@@ -1,8 +1,10 @@
 -- Lists that are changed and filtered in place, where each element is written before it is known whether it stays.
-use Rattle.std.proofs.Common.{◌≡◌, ℕ, ◌+◌, ◌<◌, ◌≤◌, Bool, true, false, cond, List, [], ◌∷◌, ◌++◌, length, get_or, take, drop, map, filter, sym, ap, ◌∙◌, subst, arith, get_or-set_same}
+use Rattle.std.proofs.Common.{◌≡◌, ℕ, ◌+◌, ◌<◌, ◌≤◌, Bool, true, false, cond, List, [], ◌∷◌, ◌++◌, length, get_or, take}
+use Rattle.std.proofs.Common.{drop, map, filter, sym, ap, ◌∙◌, subst, arith, get_or-set_same}
 use Rattle.std.specs.List.{All}
 use Rattle.std.proofs.Math.ListN.{set}
-use Rattle.std.proofs.lemmas.List.{length-set, take-set-le, drop-set-lt, map_more, take_more, take_all, append-nil, get_or-drop}
+use Rattle.std.proofs.lemmas.List.{length-set, take-set-le, drop-set-lt, map_more, take_more, take_all, append-nil}
+use Rattle.std.proofs.lemmas.List.{get_or-drop}
 use Rattle.std.proofs.lemmas.List.Elements.{filter-append, All-push}
 use Rattle.std.proofs.lemmas.Grind.{drop_more_same}
 

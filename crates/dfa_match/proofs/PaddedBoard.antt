@@ -1,5 +1,7 @@
 -- The padded board, as it is filled and read.
-use Rattle.std.proofs.Common.{◌≡◌, ℕ, ◌+◌, ◌*◌, ◌/◌, ◌%◌, ◌<◌, ◌≤◌, zero, suc, cond, Option, Some, None, ℤ, pos, negsuc, ◌+ℤ◌, ◌-ℤ◌, ◌≤ℤ◌, neg_ℤ, List, length, replicate, get_or, refl, sym, ap, ◌∙◌, subst, arith, inl, inr, length-set, get_or-set_same, get_or-set_other}
+use Rattle.std.proofs.Common.{◌≡◌, ℕ, ◌+◌, ◌*◌, ◌/◌, ◌%◌, ◌<◌, ◌≤◌, zero, suc, cond, Option, Some, None, ℤ, pos, negsuc}
+use Rattle.std.proofs.Common.{◌+ℤ◌, ◌-ℤ◌, ◌≤ℤ◌, neg_ℤ, List, length, replicate, get_or, refl, sym, ap, ◌∙◌, subst}
+use Rattle.std.proofs.Common.{arith, inl, inr, length-set, get_or-set_same, get_or-set_other}
 use Rattle.std.proofs.Math.ListN.{set}
 use Rattle.std.proofs.lemmas.Int.{ints}
 use Rattle.std.proofs.lemmas.Bool.{cases_lt, cases_eq, lt-ltb, le-ltb}
@@ -10,15 +12,16 @@ use Rattle.go_rules.specs.Position.{BoardState}
 use Rattle.go_rules.specs.Strings.{cell_at}
 use Rattle.go_rules.specs.Board.{largest_size}
 use Rattle.go_rules.specs.Transform.{Offset, transformed, largest_offset, IsNear}
-use Rattle.spiral.specs.Spiral.{offset_at, place_at, line_of, point_of}
+use Rattle.spiral.specs.Spiral.{offset_at, place_at, strip_of, point_of}
 use Rattle.dfa_core.specs.declared.automaton.Seen.{Seen}
 use Rattle.dfa_core.specs.declared.automaton.Seen.TheVariants.{Off}
-use Rattle.dfa_match.specs.Steps.{corner_at, line_by, step_by, last_corner}
-use Rattle.dfa_match.specs.Sights.{seen_of, seen_at, seen_at_place, padded_side, padded_point, seen_below, AreSightsBelow, AreSights}
+use Rattle.dfa_match.specs.Steps.{corner_at, strip_by, step_by, last_corner}
+use Rattle.dfa_match.specs.Sights.{seen_of, seen_at, seen_at_place, padded_side, padded_point, seen_below}
+use Rattle.dfa_match.specs.Sights.{AreSightsBelow, AreSights}
 
--- a line of the board is its number
-line_from : (s : ℕ) (z : ℤ) (k : ℕ) → line_of s z ≡ Some k → (z ≡ pos k) × (k < s)
-line_from s (pos n) k e =
+-- a strip of the board is its number
+strip_from : (s : ℕ) (z : ℤ) (k : ℕ) → strip_of s z ≡ Some k → (z ≡ pos k) × (k < s)
+strip_from s (pos n) k e =
     elim (cases_lt n s) [
       | inl low ↦
           let here : Some n ≡ Some k = sym (ap (λ b. cond b (Some n) None) (lt-ltb n s low)) ∙ e in
@@ -27,11 +30,11 @@ line_from s (pos n) k e =
       | inr high ↦ let none : None ≡ Some k = sym (ap (λ b. cond b (Some n) None) (le-ltb n s high)) ∙ e in
           absurd (let h : ⊥ = cc in h)
     ]
-line_from s (negsuc n) k e = absurd (let h : ⊥ = cc in h)
+strip_from s (negsuc n) k e = absurd (let h : ⊥ = cc in h)
 
--- a number below the size is a line of the board
-line_there : (s k : ℕ) (z : ℤ) → z ≡ pos k → k < s → line_of s z ≡ Some k
-line_there s k z e low = ap (line_of s) e ∙ ap (λ b. cond b (Some k) None) (lt-ltb k s low)
+-- a number below the size is a strip of the board
+strip_there : (s k : ℕ) (z : ℤ) → z ≡ pos k → k < s → strip_of s z ≡ Some k
+strip_there s k z e low = ap (strip_of s) e ∙ ap (λ b. cond b (Some k) None) (lt-ltb k s low)
 
 -- a point has a row and a column
 record HasParts (s : ℕ) (a b : Option ℕ) (q : ℕ) : Type 0 where
@@ -57,9 +60,9 @@ record IsThere (s r c q : ℕ) : Type 0 where
 -- a place of the padded board that has a point stands in that point's row and column
 point_from : (s r c q : ℕ) → padded_point s r c ≡ Some q → IsThere s r c q
 point_from s r c q e =
-    let parts = point_parts s (line_of s (pos r -ℤ pos largest_offset)) (line_of s (pos c -ℤ pos largest_offset)) q e in
-    let row = line_from s (pos r -ℤ pos largest_offset) parts.row parts.in_row in
-    let column = line_from s (pos c -ℤ pos largest_offset) parts.column parts.in_column in
+    let parts = point_parts s (strip_of s (pos r -ℤ pos largest_offset)) (strip_of s (pos c -ℤ pos largest_offset)) q e in
+    let row = strip_from s (pos r -ℤ pos largest_offset) parts.row parts.in_row in
+    let column = strip_from s (pos c -ℤ pos largest_offset) parts.column parts.in_column in
     let at_row : parts.row ≡ q / s =
     sym (div-mul-add parts.row s parts.column column.1) ∙ ap (λ n. n / s) parts.number in
     let at_column : parts.column ≡ q % s =
@@ -73,11 +76,11 @@ point_from s r c q e =
 -- behind the margin each point of the board stands in its row and column
 point_there : (s q : ℕ) → 0 < s → q < s * s → padded_point s (q / s + largest_offset) (q % s + largest_offset) ≡ Some q
 point_there s q some low =
-    let row : line_of s (pos (q / s + largest_offset) -ℤ pos largest_offset) ≡ Some (q / s) =
-    line_there s (q / s) _ (omega (arith, ints)) (div_below q s s some low) in
-    let column : line_of s (pos (q % s + largest_offset) -ℤ pos largest_offset) ≡ Some (q % s) =
-    line_there s (q % s) _ (omega (arith, ints)) (mod_below q s some) in
-    ap (λ o. point_of s o (line_of s (pos (q % s + largest_offset) -ℤ pos largest_offset))) row
+    let row : strip_of s (pos (q / s + largest_offset) -ℤ pos largest_offset) ≡ Some (q / s) =
+    strip_there s (q / s) _ (omega (arith, ints)) (div_below q s s some low) in
+    let column : strip_of s (pos (q % s + largest_offset) -ℤ pos largest_offset) ≡ Some (q % s) =
+    strip_there s (q % s) _ (omega (arith, ints)) (mod_below q s some) in
+    ap (λ o. point_of s o (strip_of s (pos (q % s + largest_offset) -ℤ pos largest_offset))) row
     ∙ ap (point_of s (Some (q / s))) column ∙ ap (λ n. Some n) (div-add-mod' q s)
 
 -- the row and the column of a point lie on the padded board
@@ -93,14 +96,14 @@ some_size : (s m : ℕ) → m < s * s → 0 < s
 some_size zero m on = absurd (omega (arith, on))
 some_size (suc s) m on = omega arith
 
--- the line of the square of all offsets is that of the offset, behind the largest one
-pub line_by-is : (z : ℤ) → neg_ℤ (pos largest_offset) ≤ℤ z → pos (line_by z) ≡ z +ℤ pos largest_offset
-line_by-is (pos n) low = omega (arith, ints)
-line_by-is (negsuc n) low = omega (arith, ints, low)
+-- the strip of the square of all offsets is that of the offset, behind the largest one
+pub strip_by-is : (z : ℤ) → neg_ℤ (pos largest_offset) ≤ℤ z → pos (strip_by z) ≡ z +ℤ pos largest_offset
+strip_by-is (pos n) low = omega (arith, ints)
+strip_by-is (negsuc n) low = omega (arith, ints, low)
 
--- no line of that square is past the last
-pub line_by-most : (z : ℤ) → neg_ℤ (pos largest_offset) ≤ℤ z → z ≤ℤ pos largest_offset → line_by z ≤ 2 * largest_offset
-line_by-most z low high = omega (arith, ints, line_by-is z low)
+-- no strip of that square is past the last
+pub strip_by-most : (z : ℤ) → neg_ℤ (pos largest_offset) ≤ℤ z → z ≤ℤ pos largest_offset → strip_by z ≤ 2 * largest_offset
+strip_by-most z low high = omega (arith, ints, strip_by-is z low)
 
 -- the square around a point of a board begins no later than that around the last point of the largest board
 pub corner_at-most : (s m : ℕ) → 0 < s → s ≤ largest_size → m < s * s → corner_at s m ≤ last_corner
@@ -182,24 +185,24 @@ module _ (at : BoardState) (friend : Colour) where
   letter_seen size letters t m i step by sights on near moved is =
       let some : 0 < at.size = some_size at.size m on in
       let few : at.size ≤ largest_size = omega (arith, sights.same_size, sights.few) in
-      let in_row = line_by-is by.0 near.row_low in
-      let in_column = line_by-is by.1 near.column_low in
+      let in_row = strip_by-is by.0 near.row_low in
+      let in_column = strip_by-is by.1 near.column_low in
       let row : m / at.size < at.size = div_below m at.size at.size some on in
       let column : m % at.size < at.size = mod_below m at.size some in
-      let place : corner_at at.size m + step ≡ (m / at.size + line_by by.0) * padded_side +
-      (m % at.size + line_by by.1) = omega (arith, is) in
-      let row_is : pos (m / at.size + line_by by.0) -ℤ pos largest_offset ≡ pos (m / at.size) +ℤ
+      let place : corner_at at.size m + step ≡ (m / at.size + strip_by by.0) * padded_side +
+      (m % at.size + strip_by by.1) = omega (arith, is) in
+      let row_is : pos (m / at.size + strip_by by.0) -ℤ pos largest_offset ≡ pos (m / at.size) +ℤ
       (transformed t (offset_at i)).0 = omega (arith, ints, in_row, ap (λ (d : Offset). d.0) moved) in
-      let column_is : pos (m % at.size + line_by by.1) -ℤ pos largest_offset ≡ pos (m % at.size) +ℤ
+      let column_is : pos (m % at.size + strip_by by.1) -ℤ pos largest_offset ≡ pos (m % at.size) +ℤ
       (transformed t (offset_at i)).1 = omega (arith, ints, in_column, ap (λ (d : Offset). d.1) moved) in
       ap (λ k. get_or letters k Off) place
-      ∙ sights.all.each (m / at.size + line_by by.0) (m % at.size + line_by by.1)
+      ∙ sights.all.each (m / at.size + strip_by by.0) (m % at.size + strip_by by.1)
       (omega (arith, ints, in_row, near.row_high)) (omega (arith, ints, in_column, near.column_high))
-      ∙ below_all (at.size * at.size) (padded_point at.size (m / at.size + line_by by.0) (m % at.size + line_by by.1))
-      (λ q here. (point_from at.size (m / at.size + line_by by.0) (m % at.size + line_by by.1) q here).below)
+      ∙ below_all (at.size * at.size) (padded_point at.size (m / at.size + strip_by by.0) (m % at.size + strip_by by.1))
+      (λ q here. (point_from at.size (m / at.size + strip_by by.0) (m % at.size + strip_by by.1) q here).below)
       ∙ ap (λ z. seen_at_place at friend
-      (point_of at.size (line_of at.size z)
-      (line_of at.size (pos (m % at.size + line_by by.1) -ℤ pos largest_offset)))) row_is
+      (point_of at.size (strip_of at.size z)
+      (strip_of at.size (pos (m % at.size + strip_by by.1) -ℤ pos largest_offset)))) row_is
       ∙ ap (λ z. seen_at_place at friend
-      (point_of at.size (line_of at.size (pos (m / at.size) +ℤ (transformed t (offset_at i)).0))
-      (line_of at.size z))) column_is
+      (point_of at.size (strip_of at.size (pos (m / at.size) +ℤ (transformed t (offset_at i)).0))
+      (strip_of at.size z))) column_is

@@ -13,27 +13,27 @@ abbrev pub hits_at : ℕ → ℕ → List ℕ → List Hit
 hits_at t m numbers = map (λ n. record { pattern = n; transform = t; anchor = m }) numbers
 
 -- the automaton accepts the pattern at the end of a word that is read from the anchor under the transformation
-pub record IsHit (machine : List Row) (pos : BoardState) (friend : Colour) (hit : Hit) : Type 0 where
+pub record IsHit (automaton : List Row) (pos : BoardState) (friend : Colour) (hit : Hit) : Type 0 where
   pub transform : hit.transform < transformations
   pub anchor : hit.anchor < pos.size * pos.size
   pub letters : ℕ
   pub spiral : letters ≤ offset_count
-  pub accepts : Contains (accepted machine (word_at pos friend hit.transform hit.anchor letters)) hit.pattern
+  pub accepts : Contains (accepted automaton (word_at pos friend hit.transform hit.anchor letters)) hit.pattern
 
 -- the list has exactly the hits, each once
-pub record AreHits (machine : List Row) (pos : BoardState) (friend : Colour) (hits : List Hit) : Type 0 where
-  pub sound : (hit : Hit) → Contains hits hit → IsHit machine pos friend hit
-  pub complete : (hit : Hit) → IsHit machine pos friend hit → Contains hits hit
+pub record AreHits (automaton : List Row) (pos : BoardState) (friend : Colour) (hits : List Hit) : Type 0 where
+  pub sound : (hit : Hit) → Contains hits hit → IsHit automaton pos friend hit
+  pub complete : (hit : Hit) → IsHit automaton pos friend hit → Contains hits hit
   pub once : AreDistinct hits
 
 -- a hit under a transformation before t, or one under t whose word has fewer than i letters
-pub record IsHitBefore (machine : List Row) (pos : BoardState) (friend : Colour) (t i : ℕ) (hit : Hit) : Type 0 where
-  pub is : IsHit machine pos friend hit
+pub record IsHitBefore (automaton : List Row) (pos : BoardState) (friend : Colour) (t i : ℕ) (hit : Hit) : Type 0 where
+  pub is : IsHit automaton pos friend hit
   pub before : (hit.transform < t) ⊎ ((hit.transform ≡ t) × (is.letters < i))
 
 -- the list has exactly these hits, each once
-pub record AreHitsBefore (machine : List Row) (pos : BoardState) (friend : Colour) (t i : ℕ)
+pub record AreHitsBefore (automaton : List Row) (pos : BoardState) (friend : Colour) (t i : ℕ)
     (hits : List Hit) : Type 0 where
-  pub sound : (hit : Hit) → Contains hits hit → IsHitBefore machine pos friend t i hit
-  pub complete : (hit : Hit) → IsHitBefore machine pos friend t i hit → Contains hits hit
+  pub sound : (hit : Hit) → Contains hits hit → IsHitBefore automaton pos friend t i hit
+  pub complete : (hit : Hit) → IsHitBefore automaton pos friend t i hit → Contains hits hit
   pub once : AreDistinct hits

@@ -1,5 +1,6 @@
 -- What is seen along the spiral on a position.
-use Rattle.std.specs.Prelude.{◌≡◌, ℕ, zero, suc, ◌+◌, ◌*◌, ◌<◌, ◌≤◌, List, [], ◌∷◌, length, slice_index_or, pos as plus, ◌-ℤ◌, nat_lt, Option, Some, None, if◌then◌else◌}
+use Rattle.std.specs.Prelude.{◌≡◌, ℕ, zero, suc, ◌+◌, ◌*◌, ◌<◌, ◌≤◌, List, [], ◌∷◌, length, slice_index_or, pos as plus}
+use Rattle.std.specs.Prelude.{◌-ℤ◌, nat_lt, Option, Some, None, if◌then◌else◌}
 use Rattle.go_rules.specs.Board.{largest_size}
 use Rattle.go_rules.specs.Transform.{largest_offset}
 use Rattle.go_rules.specs.declared.Colour.{Colour}
@@ -8,7 +9,7 @@ use Rattle.go_rules.specs.declared.Cell.{Cell}
 use Rattle.go_rules.specs.declared.Cell.TheVariants.{Empty as empty_cell, Black as black_stone, White as white_stone}
 use Rattle.go_rules.specs.Strings.{cell_at}
 use Rattle.go_rules.specs.Position.{BoardState}
-use Rattle.spiral.specs.Spiral.{offset_at, place_at, line_of, point_of}
+use Rattle.spiral.specs.Spiral.{offset_at, place_at, strip_of, point_of}
 use Rattle.dfa_core.specs.declared.automaton.Seen.{Seen}
 use Rattle.dfa_core.specs.declared.automaton.Seen.TheVariants.{Friend, Enemy, Empty, Off}
 use Rattle.dfa_core.specs.Words.{Word}
@@ -47,7 +48,7 @@ padded_side = 73
 
 -- the point in a row and a column of the padded board of size s, whose board begins behind the largest offset
 abbrev pub padded_point : ℕ → ℕ → ℕ → Option ℕ
-padded_point s r c = point_of s (line_of s (plus r -ℤ plus largest_offset)) (line_of s (plus c -ℤ plus largest_offset))
+padded_point s r c = point_of s (strip_of s (plus r -ℤ plus largest_offset)) (strip_of s (plus c -ℤ plus largest_offset))
 
 -- what is seen at a point below n, or off the board
 abbrev pub seen_below : ℕ → BoardState → Colour → Option ℕ → Seen

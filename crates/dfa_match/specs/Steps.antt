@@ -10,13 +10,13 @@ abbrev pub corner_at : ℕ → ℕ → ℕ
 corner_at s m = m / s * padded_side + m % s
 
 -- the row or the column of that square that the part of an offset leads to
-abbrev pub line_by : ℤ → ℕ
-line_by (pos n) = largest_offset + n
-line_by (negsuc n) = largest_offset - suc n
+abbrev pub strip_by : ℤ → ℕ
+strip_by (pos n) = largest_offset + n
+strip_by (negsuc n) = largest_offset - suc n
 
 -- how far behind the beginning of the square the place of an offset lies
 abbrev pub step_by : Offset → ℕ
-step_by d = line_by d.0 * padded_side + line_by d.1
+step_by d = strip_by d.0 * padded_side + strip_by d.1
 
 -- where the square around the last point of the largest board begins
 abbrev pub last_corner : ℕ

@@ -1,5 +1,6 @@
 -- Walks of an automaton from all anchors at once, letter by letter.
-use Rattle.std.specs.Prelude.{◌≡◌, ◌⊎◌, ℕ, ◌+◌, ◌*◌, ◌<◌, ◌≤◌, Bool, true, false, List, [], ◌∷◌, ◌++◌, map, filter, slice_index_or, Contains, AllPairs}
+use Rattle.std.specs.Prelude.{◌≡◌, ◌⊎◌, ℕ, ◌+◌, ◌*◌, ◌<◌, ◌≤◌, Bool, true, false, List, [], ◌∷◌, ◌++◌, map, filter}
+use Rattle.std.specs.Prelude.{slice_index_or, Contains, AllPairs}
 use Rattle.std.specs.List.{flat_map, range_with_len}
 use Rattle.go_rules.specs.declared.Colour.{Colour}
 use Rattle.go_rules.specs.Position.{BoardState}
@@ -25,9 +26,9 @@ first_walks_of s = map (walk_at s 0) (range_with_len 0 (s * s))
 
 -- the walk after one letter more, which it reads at this step behind its corner
 abbrev pub after_letter : List Row → List Seen → ℕ → Walk → Walk
-after_letter machine letters step w =
+after_letter automaton letters step w =
     record {
-      row = step_at machine w.row (slice_index_or letters (w.corner + step) Off);
+      row = step_at automaton w.row (slice_index_or letters (w.corner + step) Off);
       corner = w.corner;
       anchor =
           w.anchor;
@@ -46,37 +47,37 @@ is_alive Dead = false
 
 -- whether the walk goes on from the row where it stands
 abbrev pub goes_on : List Row → Walk → Bool
-goes_on machine w = is_alive (kind_at machine w.row)
+goes_on automaton w = is_alive (kind_at automaton w.row)
 
 -- the walks from all points of a board of size s behind the letters of the points, but for those at dead rows
 abbrev pub second_walks_of : List Row → List Seen → ℕ → List Walk
-second_walks_of machine letters s =
-    filter (goes_on machine) (map (after_letter machine letters no_step) (first_walks_of s))
+second_walks_of automaton letters s =
+    filter (goes_on automaton) (map (after_letter automaton letters no_step) (first_walks_of s))
 
 -- the hits of the rows where the walks stand
 abbrev pub hits_of : List Row → ℕ → List Walk → List Hit
-hits_of machine t walks = flat_map (λ w. hits_at t w.anchor (row_at machine w.row).numbers) walks
+hits_of automaton t walks = flat_map (λ w. hits_at t w.anchor (row_at automaton w.row).numbers) walks
 
 -- the walk after the letters more that it reads at these steps
 abbrev pub after_letters : List Row → List Seen → List ℕ → Walk → Walk
-after_letters machine letters [] w = w
-after_letters machine letters (step ∷ steps) w =
-    after_letters machine letters steps (after_letter machine letters step w)
+after_letters automaton letters [] w = w
+after_letters automaton letters (step ∷ steps) w =
+    after_letters automaton letters steps (after_letter automaton letters step w)
 
 -- the hits of the rows to which the letters at these steps lead the walk
 abbrev pub hits_along : List Row → List Seen → ℕ → List ℕ → Walk → List Hit
-hits_along machine letters t [] w = []
-hits_along machine letters t (step ∷ steps) w =
-    hits_at t w.anchor (row_at machine (after_letter machine letters step w).row).numbers
-    ++ hits_along machine letters t steps (after_letter machine letters step w)
+hits_along automaton letters t [] w = []
+hits_along automaton letters t (step ∷ steps) w =
+    hits_at t w.anchor (row_at automaton (after_letter automaton letters step w).row).numbers
+    ++ hits_along automaton letters t steps (after_letter automaton letters step w)
 
 -- the row that the first i letters lead to from the anchor m
 abbrev pub row_after : List Row → BoardState → Colour → ℕ → ℕ → ℕ → ℕ
-row_after machine pos friend t i m = reach machine (word_at pos friend t m i)
+row_after automaton pos friend t i m = reach automaton (word_at pos friend t m i)
 
 -- the list has, by rising anchors, the walk of each point of a board of this size at the row of that point, but for
 -- points whose row is dead
-pub record AreWalks (machine : List Row) (size : ℕ) (row : ℕ → ℕ) (walks : List Walk) : Type 0 where
+pub record AreWalks (automaton : List Row) (size : ℕ) (row : ℕ → ℕ) (walks : List Walk) : Type 0 where
   pub each : (w : Walk) → Contains walks w → (w.anchor < size * size) × (w ≡ walk_at size (row w.anchor) w.anchor)
-  pub all : (m : ℕ) → m < size * size → IsDead machine (row m) ⊎ Contains walks (walk_at size (row m) m)
+  pub all : (m : ℕ) → m < size * size → IsDead automaton (row m) ⊎ Contains walks (walk_at size (row m) m)
   pub rising : AllPairs (λ v w. v.anchor < w.anchor) walks

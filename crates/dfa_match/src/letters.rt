@@ -2,7 +2,8 @@
 //!
 //! A walk reads its letters before the next walk does: so its row is not written after each of them, and the loads of
 //! one walk do not wait for those of another. A walk that is dead reads on to the last of these letters, and stays dead.
-ghost use Rattle.std.specs.Prelude.{◌≡◌, ◌⊎◌, false, ℕ, ◌+◌, ◌%◌, ◌<◌, ◌≤◌, ◌++◌, [], length, map, take, filter, All, IfOk, OnOk};
+ghost use Rattle.std.specs.Prelude.{◌≡◌, ◌⊎◌, false, ℕ, ◌+◌, ◌%◌, ◌<◌, ◌≤◌, ◌++◌, [], length, map, take, filter, All};
+ghost use Rattle.std.specs.Prelude.{IfOk, OnOk};
 ghost use Rattle.std.specs.List.{flat_map};
 ghost use Rattle.go_rules.specs.Transform.{transformations};
 ghost use Rattle.spiral.specs.Spiral.{offset_count};
@@ -68,21 +69,21 @@ fn mark_of(kind: RowKind) -> u8
 }
 
 /// Reads the letters at these steps on a walk.
-fn read_steps(machine: &Automaton, sights: &Sights, steps: &[u16; LETTERS], walk: Walk) -> Reading
-    requires within { IsWithin (length machine.now) walk }
+fn read_steps(automaton: &Automaton, sights: &Sights, steps: &[u16; LETTERS], walk: Walk) -> Reading
+    requires within { IsWithin (length automaton.now) walk }
     requires steps { All (λ step. step ≤ last_step) steps.now }
-    ensures row { result.row ≡ (after_letters machine.now sights.now.letters steps.now walk).row }
-    ensures bound { result.row < length machine.now }
-    ensures kind { result.kind ≡ kind_at machine.now result.row }
+    ensures row { result.row ≡ (after_letters automaton.now sights.now.letters steps.now walk).row }
+    ensures bound { result.row < length automaton.now }
+    ensures kind { result.kind ≡ kind_at automaton.now result.row }
     ensures silent { result.accepts ≡ false → (t : ℕ)
-        → hits_along machine.now sights.now.letters t steps.now walk ≡ [] }
+        → hits_along automaton.now sights.now.letters t steps.now walk ≡ [] }
 {
     let mut row = walk.row;
     let mut kind = RowKind::Plain;
     let mut marks = 0;
     'steps: for step in steps {
-        row = machine.step(row, sights.letter(walk.corner, *step));
-        kind = machine.kind(row);
+        row = automaton.step(row, sights.letter(walk.corner, *step));
+        kind = automaton.kind(row);
         marks |= mark_of(kind);
     }
     Reading {
@@ -96,29 +97,29 @@ fn read_steps(machine: &Automaton, sights: &Sights, steps: &[u16; LETTERS], walk
 #[cold]
 #[inline(never)]
 fn give_along(
-    machine: &Automaton,
+    automaton: &Automaton,
     sights: &Sights,
     steps: &[u16; LETTERS],
     t: Transform,
     walk: &Walk,
     out: &mut Vec<Hit>,
 ) -> Result<(), NoMemory>
-    requires within { IsWithin (length machine.now) walk.now }
+    requires within { IsWithin (length automaton.now) walk.now }
     requires steps { All (λ step. step ≤ last_step) steps.now }
     ensures { OnOk result
-        (out.new.items ≡ out.old.items ++ hits_along machine.now sights.now.letters t steps.now walk.now) }
+        (out.new.items ≡ out.old.items ++ hits_along automaton.now sights.now.letters t steps.now walk.now) }
 {
     let mut row = walk.row;
     'steps: for step in steps {
-        row = machine.step(row, sights.letter(walk.corner, *step));
-        add(out, machine.accepts(row), t, walk.anchor)?;
+        row = automaton.step(row, sights.letter(walk.corner, *step));
+        add(out, automaton.accepts(row), t, walk.anchor)?;
     }
     Ok(())
 }
 
 /// Adds the hits of the rows to which the letters at these steps lead a walk, where some row accepts something.
 fn give_met(
-    machine: &Automaton,
+    automaton: &Automaton,
     sights: &Sights,
     steps: &[u16; LETTERS],
     t: Transform,
@@ -126,14 +127,14 @@ fn give_met(
     accepts: bool,
     out: &mut Vec<Hit>,
 ) -> Result<(), NoMemory>
-    requires within { IsWithin (length machine.now) walk.now }
+    requires within { IsWithin (length automaton.now) walk.now }
     requires steps { All (λ step. step ≤ last_step) steps.now }
-    requires silent { accepts ≡ false → hits_along machine.now sights.now.letters t steps.now walk.now ≡ [] }
+    requires silent { accepts ≡ false → hits_along automaton.now sights.now.letters t steps.now walk.now ≡ [] }
     ensures { OnOk result
-        (out.new.items ≡ out.old.items ++ hits_along machine.now sights.now.letters t steps.now walk.now) }
+        (out.new.items ≡ out.old.items ++ hits_along automaton.now sights.now.letters t steps.now walk.now) }
 {
     if accepts {
-        return give_along(machine, sights, steps, t, walk, out);
+        return give_along(automaton, sights, steps, t, walk, out);
     }
     Ok(())
 }
@@ -146,28 +147,28 @@ fn give_met(
 /// registers for itself.
 #[inline(never)]
 fn read_on(
-    machine: &Automaton,
+    automaton: &Automaton,
     sights: &Sights,
     steps: &[u16; LETTERS],
     t: Transform,
     walks: &mut [Walk],
     out: &mut Vec<Hit>,
 ) -> Result<usize, NoMemory>
-    requires within { All (IsWithin (length machine.now)) walks.old }
+    requires within { All (IsWithin (length automaton.now)) walks.old }
     requires steps { All (λ step. step ≤ last_step) steps.now }
     ensures same_length { length walks.new ≡ length walks.old }
-    ensures alive { IfOk result (λ count. take count walks.new ≡ filter (goes_on machine.now)
-        (map (after_letters machine.now sights.now.letters steps.now) walks.old)) }
+    ensures alive { IfOk result (λ count. take count walks.new ≡ filter (goes_on automaton.now)
+        (map (after_letters automaton.now sights.now.letters steps.now) walks.old)) }
     ensures hits { OnOk result (out.new.items
-        ≡ out.old.items ++ flat_map (hits_along machine.now sights.now.letters t steps.now) walks.old) }
+        ≡ out.old.items ++ flat_map (hits_along automaton.now sights.now.letters t steps.now) walks.old) }
 {
-    let _ = machine.rows();
+    let _ = automaton.rows();
     let mut count = 0;
     'walks: for index in 0..walks.len() {
         let walk = walks[index];
-        let reading = read_steps(machine, sights, steps, walk);
+        let reading = read_steps(automaton, sights, steps, walk);
         give_met(
-            machine,
+            automaton,
             sights,
             steps,
             t,
@@ -190,21 +191,21 @@ fn read_on(
 /// Reads the letters at these steps on each walk, adds the hits of the rows to which they lead, and drops the walks that
 /// are dead.
 pub fn read_letters(
-    machine: &Automaton,
+    automaton: &Automaton,
     sights: &Sights,
     steps: &[u16; LETTERS],
     t: Transform,
     walks: &mut Vec<Walk>,
     out: &mut Vec<Hit>,
 ) -> Result<(), NoMemory>
-    requires within { All (IsWithin (length machine.now)) walks.old.items }
+    requires within { All (IsWithin (length automaton.now)) walks.old.items }
     requires steps { All (λ step. step ≤ last_step) steps.now }
     ensures hits { OnOk result (out.new.items
-        ≡ out.old.items ++ flat_map (hits_along machine.now sights.now.letters t steps.now) walks.old.items) }
-    ensures alive { OnOk result (walks.new.items ≡ filter (goes_on machine.now)
-        (map (after_letters machine.now sights.now.letters steps.now) walks.old.items)) }
+        ≡ out.old.items ++ flat_map (hits_along automaton.now sights.now.letters t steps.now) walks.old.items) }
+    ensures alive { OnOk result (walks.new.items ≡ filter (goes_on automaton.now)
+        (map (after_letters automaton.now sights.now.letters steps.now) walks.old.items)) }
 {
-    let count = read_on(machine, sights, steps, t, walks, out)?;
+    let count = read_on(automaton, sights, steps, t, walks, out)?;
     walks.truncate(count);
     Ok(())
 }

@@ -18,7 +18,7 @@ ghost use Rattle.dfa_match.specs.Sights.{word_at, AreSights};
 ghost use Rattle.go_rules.specs.declared.Colour.{Colour as ColourSeen};
 ghost use Rattle.pat_types.specs.declared.pattern.Pattern.{Pattern};
 ghost use Rattle.dfa_core.specs.Fits.{pattern_length};
-ghost use Rattle.dfa_core.specs.States.{is_matched, IsMachineOf};
+ghost use Rattle.dfa_core.specs.States.{is_matched, IsAutomatonOf};
 ghost use Rattle.dfa_match.specs.Fitting.{FitsAt, IsFit};
 ghost use Rattle.dfa_match.specs.declared.Hit.{Hit as HitSeen};
 ghost use Rattle.dfa_match.specs.Hits.{hits_at, IsHit, AreHits, AreHitsBefore};
@@ -67,7 +67,7 @@ fn add(out: &mut Vec<Hit>, numbers: &[u16], t: Transform, anchor: Point) -> Resu
 /// Runs the automaton from all anchors at once under one transformation, until no walk is left. `first` are the walks
 /// before the first letter and `second` those behind it; they are the same under each transformation.
 fn sweep(
-    machine: &Automaton,
+    automaton: &Automaton,
     sights: &Sights,
     first: &[Walk],
     second: &[Walk],
@@ -76,15 +76,15 @@ fn sweep(
 ) -> Result<(), NoMemory>
     requires transform { t < transformations }
     requires first { first.now ≡ first_walks_of sights.now.size }
-    requires second { second.now ≡ second_walks_of machine.now sights.now.letters sights.now.size }
-    requires within { All (IsWithin (length machine.now)) first.now }
+    requires second { second.now ≡ second_walks_of automaton.now sights.now.letters sights.now.size }
+    requires within { All (IsWithin (length automaton.now)) first.now }
     ensures ok { (at : BoardState) (friend : ColourSeen) → AreSights at friend sights.now.size sights.now.letters
-        → AreHitsBefore machine.now at friend t 0 out.old.items
-        → OnOk result (AreHitsBefore machine.now at friend (t + 1) 0 out.new.items) }
+        → AreHitsBefore automaton.now at friend t 0 out.old.items
+        → OnOk result (AreHitsBefore automaton.now at friend (t + 1) 0 out.new.items) }
 {
-    let _ = machine.rows();
-    give_start(machine, t, first, out)?;
-    give_all(machine, t, second, out)?;
+    let _ = automaton.rows();
+    give_start(automaton, t, first, out)?;
+    give_all(automaton, t, second, out)?;
     let mut walks = copied(*out.allocator(), second)?;
     let mut spiral = TurnedSpiral::new(t);
     'letters: for turn in 0..TURNS {
@@ -92,7 +92,7 @@ fn sweep(
             return Ok(());
         }
         let steps = next_steps(&mut spiral, LETTERS as u16 * turn + 1);
-        read_letters(machine, sights, &steps, t, &mut walks, out)?;
+        read_letters(automaton, sights, &steps, t, &mut walks, out)?;
     }
     Ok(())
 }
@@ -100,23 +100,23 @@ fn sweep(
 /// The hits of an automaton on the position of a look: each number that it accepts along the spiral from some anchor
 /// under some transformation, once. `out` must be empty, and gives the allocator. Takes memory.
 pub fn scan<L: Look>(
-    machine: &Automaton,
+    automaton: &Automaton,
     look: &mut L,
     friend: Colour,
     out: Vec<Hit>,
 ) -> Result<Vec<Hit>, NoMemory>
     requires { out.items ≡ [] }
-    ensures hits { IfOk result (λ hits. AreHits machine.now (L.shows look.old) friend hits.items) }
+    ensures hits { IfOk result (λ hits. AreHits automaton.now (L.shows look.old) friend hits.items) }
     ensures same { L.shows look.new ≡ L.shows look.old }
 {
-    let _ = machine.rows();
+    let _ = automaton.rows();
     let mut out = out;
     let sights = Sights::of(look, friend);
     let first = first_walks(*out.allocator(), sights.size)?;
-    let second = second_walks(*out.allocator(), machine, &sights, &first)?;
+    let second = second_walks(*out.allocator(), automaton, &sights, &first)?;
     'transforms: for n in 0..TRANSFORMATIONS {
         if let Some(t) = Transform::new(n) {
-            sweep(machine, &sights, &first, &second, t, &mut out)?;
+            sweep(automaton, &sights, &first, &second, t, &mut out)?;
         }
     }
     Ok(out)
@@ -130,6 +130,6 @@ pub fn matched_words_are_fits()
 
 /// The hits of the automaton of a list of patterns are where these patterns fit.
 pub fn hits_of_patterns_are_fits()
-    ensures { (patterns : List Pattern) (machine : List Row) (pos : BoardState) (friend : ColourSeen) (hit : HitSeen) →
-        IsMachineOf patterns machine → IsHit machine pos friend hit ↔ IsFit patterns pos friend hit }
+    ensures { (patterns : List Pattern) (automaton : List Row) (pos : BoardState) (friend : ColourSeen) (hit : HitSeen) →
+        IsAutomatonOf patterns automaton → IsHit automaton pos friend hit ↔ IsFit patterns pos friend hit }
 {}

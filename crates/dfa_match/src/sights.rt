@@ -1,12 +1,13 @@
 //! What a friend sees on a position, on a board that is padded so that no step from a point leaves it.
-ghost use Rattle.std.specs.Prelude.{◌≡◌, ℕ, ◌+◌, ◌*◌, ◌/◌, ◌%◌, ◌<◌, ◌≤◌, replicate, pos, neg_ℤ, ◌≤ℤ◌, slice_index_or, length};
+ghost use Rattle.std.specs.Prelude.{◌≡◌, ℕ, ◌+◌, ◌*◌, ◌/◌, ◌%◌, ◌<◌, ◌≤◌, replicate, pos, neg_ℤ, ◌≤ℤ◌, slice_index_or};
+ghost use Rattle.std.specs.Prelude.{length};
 ghost use Rattle.go_rules.specs.Board.{largest_size};
 ghost use Rattle.go_rules.specs.Position.{BoardState};
 ghost use Rattle.go_rules.specs.Transform.{largest_offset, IsNear};
 ghost use Rattle.go_rules.specs.declared.Colour.{Colour as ColourSeen};
 ghost use Rattle.go_rules.specs.Strings.{cell_at};
 ghost use Rattle.dfa_match.specs.Sights.{seen_of, padded_side, AreSights};
-ghost use Rattle.dfa_match.specs.Steps.{line_by, step_by, last_corner, last_step};
+ghost use Rattle.dfa_match.specs.Steps.{strip_by, step_by, last_corner, last_step};
 
 use dfa_core::Seen;
 use go_base::size::MAX_OFFSET;
@@ -81,10 +82,10 @@ pub fn corner_of(row: u8, column: u8) -> u16
 }
 
 /// The row or the column of the square of all offsets that the part of an offset leads to.
-fn line_in_square(by: i8) -> u16
+fn strip_in_square(by: i8) -> u16
     requires low { neg_ℤ (pos largest_offset) ≤ℤ by }
     requires high { by ≤ℤ pos largest_offset }
-    ensures value { result ≡ line_by by }
+    ensures value { result ≡ strip_by by }
     ensures bound { result ≤ 2 * largest_offset }
 {
     (MAX_OFFSET as i16 + by as i16) as u16
@@ -96,7 +97,7 @@ pub fn step_of(by: (i8, i8)) -> u16
     ensures value { result ≡ step_by by }
     ensures bound { result ≤ last_step }
 {
-    line_in_square(by.0) * SIDE as u16 + line_in_square(by.1)
+    strip_in_square(by.0) * SIDE as u16 + strip_in_square(by.1)
 }
 
 impl Sights {

@@ -1,5 +1,6 @@
 //! The walks of an automaton from all anchors: how they begin, and what they give out.
-ghost use Rattle.std.specs.Prelude.{◌≡◌, true, false, ℕ, ◌+◌, ◌*◌, ◌/◌, ◌%◌, ◌<◌, ◌≤◌, ◌++◌, List, slice_index_or, length, map, filter, All, IfOk, OnOk};
+ghost use Rattle.std.specs.Prelude.{◌≡◌, true, false, ℕ, ◌+◌, ◌*◌, ◌/◌, ◌%◌, ◌<◌, ◌≤◌, ◌++◌, List, slice_index_or};
+ghost use Rattle.std.specs.Prelude.{length, map, filter, All, IfOk, OnOk};
 ghost use Rattle.std.specs.List.{range_with_len};
 ghost use Rattle.go_rules.specs.Board.{largest_size};
 ghost use Rattle.dfa_core.specs.Automata.{Row, row_at, step_at};
@@ -68,8 +69,8 @@ fn moved_on(targets: &[u32], sights: &Sights, step: u16, walk: Walk) -> Walk
     requires row { 4 * walk.row + 4 ≤ length targets.now }
     requires corner { walk.corner ≤ last_corner }
     requires step { step ≤ last_step }
-    ensures { (machine : List Row) → AreTargets machine targets.now → walk.row < length machine
-        → result ≡ after_letter machine sights.now.letters step walk }
+    ensures { (automaton : List Row) → AreTargets automaton targets.now → walk.row < length automaton
+        → result ≡ after_letter automaton sights.now.letters step walk }
 {
     Walk {
         row: target_in(targets, walk.row, sights.letter(walk.corner, step)),
@@ -99,53 +100,53 @@ pub fn is_alive(kind: RowKind) -> bool
 
 /// Adds the hits of the row where a walk stands, which has this kind.
 fn give_out(
-    machine: &Automaton,
+    automaton: &Automaton,
     kind: RowKind,
     t: Transform,
     walk: Walk,
     out: &mut Vec<Hit>,
 ) -> Result<(), NoMemory>
-    requires row { walk.row < length machine.now }
-    requires kind { kind ≡ kind_at machine.now walk.row }
+    requires row { walk.row < length automaton.now }
+    requires kind { kind ≡ kind_at automaton.now walk.row }
     ensures { OnOk result
-        (out.new.items ≡ out.old.items ++ hits_at t walk.anchor (row_at machine.now walk.row).numbers) }
+        (out.new.items ≡ out.old.items ++ hits_at t walk.anchor (row_at automaton.now walk.row).numbers) }
 {
     match kind {
-        RowKind::Accepting => add(out, machine.accepts(walk.row), t, walk.anchor),
+        RowKind::Accepting => add(out, automaton.accepts(walk.row), t, walk.anchor),
         RowKind::Plain | RowKind::Dead => Ok(()),
     }
 }
 
 /// Adds the hits of the rows where the walks stand.
 pub fn give_all(
-    machine: &Automaton,
+    automaton: &Automaton,
     t: Transform,
     walks: &[Walk],
     out: &mut Vec<Hit>,
 ) -> Result<(), NoMemory>
-    requires { All (IsWithin (length machine.now)) walks.now }
-    ensures { OnOk result (out.new.items ≡ out.old.items ++ hits_of machine.now t walks.now) }
+    requires { All (IsWithin (length automaton.now)) walks.now }
+    ensures { OnOk result (out.new.items ≡ out.old.items ++ hits_of automaton.now t walks.now) }
 {
     'walks: for walk in walks {
-        give_out(machine, machine.kind(walk.row), t, *walk, out)?;
+        give_out(automaton, automaton.kind(walk.row), t, *walk, out)?;
     }
     Ok(())
 }
 
 /// Adds the hits of the start where the walks stand before their first letter. For most automata there are none.
 pub fn give_start(
-    machine: &Automaton,
+    automaton: &Automaton,
     t: Transform,
     walks: &[Walk],
     out: &mut Vec<Hit>,
 ) -> Result<(), NoMemory>
-    requires within { All (IsWithin (length machine.now)) walks.now }
+    requires within { All (IsWithin (length automaton.now)) walks.now }
     requires start { All (λ w. w.row ≡ 0) walks.now }
-    ensures { OnOk result (out.new.items ≡ out.old.items ++ hits_of machine.now t walks.now) }
+    ensures { OnOk result (out.new.items ≡ out.old.items ++ hits_of automaton.now t walks.now) }
 {
-    let _ = machine.rows();
-    match machine.kind(0) {
-        RowKind::Accepting => give_all(machine, t, walks, out),
+    let _ = automaton.rows();
+    match automaton.kind(0) {
+        RowKind::Accepting => give_all(automaton, t, walks, out),
         RowKind::Plain | RowKind::Dead => Ok(()),
     }
 }
@@ -154,17 +155,17 @@ pub fn give_start(
 /// letter. Takes memory.
 pub fn second_walks(
     alloc: Global,
-    machine: &Automaton,
+    automaton: &Automaton,
     sights: &Sights,
     first: &[Walk],
 ) -> Result<Vec<Walk>, NoMemory>
-    requires { All (IsWithin (length machine.now)) first.now }
-    ensures { IfOk result (λ walks. walks.items ≡ filter (goes_on machine.now)
-        (map (after_letter machine.now sights.now.letters no_step) first.now)) }
+    requires { All (IsWithin (length automaton.now)) first.now }
+    ensures { IfOk result (λ walks. walks.items ≡ filter (goes_on automaton.now)
+        (map (after_letter automaton.now sights.now.letters no_step) first.now)) }
 {
-    let _ = machine.rows();
-    let targets = machine.targets();
-    let kinds = machine.kinds();
+    let _ = automaton.rows();
+    let targets = automaton.targets();
+    let kinds = automaton.kinds();
     let step = step_of((0, 0));
     let mut walks = Vec::with_capacity(alloc, first.len())?;
     'walks: for walk in first {

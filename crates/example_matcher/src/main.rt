@@ -36,9 +36,9 @@ fn found(
     ensures { IfOk result (λ v. v.items ≡ matches_of (codes_of readings.old) (says_yes (states_of state helpers.old))
         patterns.now position.now friend) }
 {
-    let machine = compile(alloc, patterns, 100_000)?;
+    let automaton = compile(alloc, patterns, 100_000)?;
     Ok(matches(
-        alloc, patterns, &machine, position, friend, readings, helpers,
+        alloc, patterns, &automaton, position, friend, readings, helpers,
     )?)
 }
 

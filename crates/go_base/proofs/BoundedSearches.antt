@@ -1,5 +1,6 @@
 -- What a search has found that stops where it sees more liberties than its bound.
-use Rattle.std.proofs.Common.{◌≡◌, ◌≢◌, ℕ, ◌+◌, ◌*◌, ◌<◌, ◌≤◌, ◌&&◌, true, false, eqb, refl, Some, List, sym, ap, subst, arith, inl, inr, ◌∙◌}
+use Rattle.std.proofs.Common.{◌≡◌, ◌≢◌, ℕ, ◌+◌, ◌*◌, ◌<◌, ◌≤◌, ◌&&◌, true, false, eqb, refl, Some, List, sym, ap, subst}
+use Rattle.std.proofs.Common.{arith, inl, inr, ◌∙◌}
 use Rattle.std.proofs.lemmas.Bool.{cases_eq, cases_lt, ne_eqb, and_parts, and_from, lt-ltb}
 use Rattle.std.specs.Ordering.{nat_cmp}
 use Rattle.std.specs.FinSet as sets
@@ -19,7 +20,8 @@ use Rattle.go_base.specs.declared.flood.Found.{Found}
 use Rattle.go_base.proofs.Liberties.{len-liberty_points}
 use Rattle.go_base.proofs.FloodResults.{Begins, Steps, string_is, string_is_none, string_has, stone_from}
 use Rattle.go_base.proofs.FloodVisits.{SpreadsOut-none, SpreadsOut-skip, SpreadsOut-visit}
-use Rattle.go_base.proofs.FloodVisits.{FloodsOut, FloodsOut-start, FloodsOut-next, flood_liberties, flood_enemies, no_liberties, no_enemies, none_at}
+use Rattle.go_base.proofs.FloodVisits.{FloodsOut, FloodsOut-start, FloodsOut-next, flood_liberties, flood_enemies}
+use Rattle.go_base.proofs.FloodVisits.{no_liberties, no_enemies, none_at}
 
 -- l is empty and next to a point that a path leads to from p
 abbrev pub IsSeen : ℕ → List Cell → ℕ → ℕ → Type 0

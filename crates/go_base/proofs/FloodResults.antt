@@ -1,6 +1,8 @@
 -- A flood finds the string.
-use Rattle.std.proofs.Common.{◌≡◌, ℕ, ◌+◌, ◌-◌, ◌*◌, ◌<◌, ◌≤◌, ◌&&◌, true, false, not, cond, eqb, ltb, Some, List, refl, sym, ap, subst, arith, inl, inr, ◌⊎◌, ◌∙◌}
-use Rattle.std.proofs.lemmas.Bool.{cases_Bool, cases_eq, eq-eqb, ne_eqb, eqb-true, or_cases, or_left, or_right, both_ways, and_parts, and_from, lt-ltb}
+use Rattle.std.proofs.Common.{◌≡◌, ℕ, ◌+◌, ◌-◌, ◌*◌, ◌<◌, ◌≤◌, ◌&&◌, true, false, not, cond, eqb, ltb, Some, List, refl}
+use Rattle.std.proofs.Common.{sym, ap, subst, arith, inl, inr, ◌⊎◌, ◌∙◌}
+use Rattle.std.proofs.lemmas.Bool.{cases_Bool, cases_eq, eq-eqb, ne_eqb, eqb-true, or_cases, or_left, or_right}
+use Rattle.std.proofs.lemmas.Bool.{both_ways, and_parts, and_from, lt-ltb}
 use Rattle.std.specs.Ordering.{nat_cmp}
 use Rattle.std.specs.FinSet as sets
 use Rattle.go_rules.specs.declared.Cell.{Cell}
@@ -10,7 +12,8 @@ use Rattle.go_rules.specs.Below.{set_below}
 use Rattle.go_rules.specs.Strings.{cell_at, same_cell, is_stone, is_in_string, string_at, reached, Path, start, step}
 use Rattle.go_rules.proofs.Counts.{count_below_at_most}
 use Rattle.go_rules.proofs.Sets.{contains-set_below, contains-insert_nat, same_nat_set, len-set_below}
-use Rattle.go_rules.proofs.Paths.{path_on_board, same_cell-true, same_cell-from, IsInString-from_test, is_is_in_string-from_fact}
+use Rattle.go_rules.proofs.Paths.{path_on_board, same_cell-true, same_cell-from, IsInString-from_test}
+use Rattle.go_rules.proofs.Paths.{is_is_in_string-from_fact}
 use Rattle.go_rules.proofs.Tests.{same_tests, and-false}
 use Rattle.go_rules.proofs.Links.{path_same}
 use Rattle.go_base.specs.Sides.{neighbour_at}

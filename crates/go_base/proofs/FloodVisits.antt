@@ -1,6 +1,8 @@
 -- What a flood gathers as it visits the neighbours of its stones.
-use Rattle.std.proofs.Common.{◌≡◌, ◌≢◌, ℕ, ◌+◌, ◌*◌, ◌<◌, ◌&&◌, Bool, true, false, cond, ltb, Some, List, refl, sym, ap, subst, arith, inl, inr, ◌∙◌}
-use Rattle.std.proofs.lemmas.Bool.{cases_Bool, cases_eq, eq-eqb, eqb-true, or_cases, or_left, or_right, both_ways, and_parts, and_from, lt-ltb, ltb-true}
+use Rattle.std.proofs.Common.{◌≡◌, ◌≢◌, ℕ, ◌+◌, ◌*◌, ◌<◌, ◌&&◌, Bool, true, false, cond, ltb, Some, List, refl, sym, ap}
+use Rattle.std.proofs.Common.{subst, arith, inl, inr, ◌∙◌}
+use Rattle.std.proofs.lemmas.Bool.{cases_Bool, cases_eq, eq-eqb, eqb-true, or_cases, or_left, or_right, both_ways}
+use Rattle.std.proofs.lemmas.Bool.{and_parts, and_from, lt-ltb, ltb-true}
 use Rattle.std.specs.Ordering.{nat_cmp}
 use Rattle.std.specs.FinSet as sets
 use Rattle.go_rules.specs.declared.Cell.{Cell}
@@ -20,7 +22,8 @@ use Rattle.go_base.specs.Sides.{neighbour_at}
 use Rattle.go_base.specs.Floods.{Gathers, Visits, SpreadsOut, enemy_points}
 use Rattle.go_base.specs.declared.flood.Found.{Found}
 use Rattle.go_base.proofs.SidesOfPoints.{neighbour_at-all, neighbour_at-near}
-use Rattle.go_base.proofs.FloodResults.{Flooded, Flooded-start, Flooded-next, Flooded-all, Begins, Steps, none_visited, visited_before}
+use Rattle.go_base.proofs.FloodResults.{Flooded, Flooded-start, Flooded-next, Flooded-all, Begins, Steps, none_visited}
+use Rattle.go_base.proofs.FloodResults.{visited_before}
 
 module _ (s : ℕ) (cells : List Cell) (test : Cell → Bool) (q : ℕ) where
   -- no side was visited

@@ -1,5 +1,6 @@
 -- A board that holds a position, and what a play on it gives.
-use Rattle.std.proofs.Common.{◌≡◌, ℕ, ◌-◌, ◌*◌, arith, length-append, ◌≤◌, ◌<◌, Bool, not, Option, Result, Ok, take, drop, length, refl, sym, ap, subst, ◌∙◌, get_or-take}
+use Rattle.std.proofs.Common.{◌≡◌, ℕ, ◌-◌, ◌*◌, arith, length-append, ◌≤◌, ◌<◌, Bool, not, Option, Result, Ok, take}
+use Rattle.std.proofs.Common.{drop, length, refl, sym, ap, subst, ◌∙◌, get_or-take}
 use Rattle.std.proofs.lemmas.List.{take-append-drop, length-replicate}
 use Rattle.go_rules.specs.Board.{largest_size, largest_points}
 use Rattle.go_base.proofs.SidesOfPoints.{square_small}

@@ -1,5 +1,6 @@
 -- The least member of a set of points, by the words that keep it.
-use Rattle.std.proofs.Common.{◌≡◌, ℕ, ◌+◌, ◌-◌, ◌*◌, ◌/◌, ◌%◌, ◌^◌, ◌<◌, ◌≤◌, ◌&&◌, true, false, cond, eqb, ltb, List, Option, Some, None, IfSome, IfNone, get_or, refl, sym, ap, arith, inl, inr, ◌∙◌}
+use Rattle.std.proofs.Common.{◌≡◌, ℕ, ◌+◌, ◌-◌, ◌*◌, ◌/◌, ◌%◌, ◌^◌, ◌<◌, ◌≤◌, ◌&&◌, true, false, cond, eqb, ltb, List}
+use Rattle.std.proofs.Common.{Option, Some, None, IfSome, IfNone, get_or, refl, sym, ap, arith, inl, inr, ◌∙◌}
 use Rattle.std.proofs.Math.Nat.{div-div-eq-div-mul, div-le_self}
 use Rattle.std.proofs.lemmas.Nat.{pow-add, div-mul-add, mod-mul-add}
 use Rattle.std.proofs.lemmas.Nat.Bits.{bit_at-zero, bit_at_above, bit_at-trailing_zeros}

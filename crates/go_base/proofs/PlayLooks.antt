@@ -1,5 +1,6 @@
 -- A play looks at points that are close to what is close to its point.
-use Rattle.std.proofs.Common.{◌≡◌, ◌≢◌, ◌⊎◌, ℕ, ◌*◌, ◌<◌, ◌&&◌, ◌||◌, Bool, true, false, cond, List, length, map, refl, sym, ap, subst, arith, inl, inr, ◌∙◌}
+use Rattle.std.proofs.Common.{◌≡◌, ◌≢◌, ◌⊎◌, ℕ, ◌*◌, ◌<◌, ◌&&◌, ◌||◌, Bool, true, false, cond, List, length, map, refl}
+use Rattle.std.proofs.Common.{sym, ap, subst, arith, inl, inr, ◌∙◌}
 use Rattle.std.proofs.Math.ListN.{set}
 use Rattle.std.specs.List.{range_with_len}
 use Rattle.std.proofs.lemmas.List.FromFn.{get_or-map-range_with_len}
@@ -21,7 +22,9 @@ use Rattle.go_rules.proofs.Boundary.{string_self}
 use Rattle.go_base.specs.Views.{alone}
 use Rattle.go_base.specs.Takes.{near_taken}
 use Rattle.go_rules.proofs.InWords.{whole_strings_of-on_board}
-use Rattle.go_base.proofs.PointNeighbourhoods.{whole_self, whole_string, whole_cases, close_whole, close_next, close_again, close_alone, close_point, alone_self, within, beside, closeness}
+use Rattle.go_base.proofs.PointNeighbourhoods.{whole_self, whole_string, whole_cases, close_whole, close_next}
+use Rattle.go_base.proofs.PointNeighbourhoods.{close_again, close_alone, close_point, alone_self, within, beside}
+use Rattle.go_base.proofs.PointNeighbourhoods.{closeness}
 
 -- the neighbourhood of the neighbourhood of p
 abbrev twice : ℕ → List Cell → ℕ → ℕ → Bool

@@ -1,6 +1,8 @@
 -- The four sides of a point have its neighbours.
-use Rattle.std.proofs.Common.{◌≡◌, ℕ, zero, suc, ◌+◌, ◌-◌, ◌*◌, ◌/◌, ◌%◌, ◌<◌, ◌≤◌, true, eqb, ltb, Some, refl, sym, ap, arith, inl, inr, ◌⊎◌, ◌∙◌, lit<}
-use Rattle.std.proofs.lemmas.Bool.{cases_Bool, cases_eq, lt-ltb, le-ltb, eq-eqb, eqb-true, ne_eqb, and_parts, and_from, or_cases, or_left, or_right, ltb-true, ltb-false, eqb-false}
+use Rattle.std.proofs.Common.{◌≡◌, ℕ, zero, suc, ◌+◌, ◌-◌, ◌*◌, ◌/◌, ◌%◌, ◌<◌, ◌≤◌, true, eqb, ltb, Some, refl, sym, ap}
+use Rattle.std.proofs.Common.{arith, inl, inr, ◌⊎◌, ◌∙◌, lit<}
+use Rattle.std.proofs.lemmas.Bool.{cases_Bool, cases_eq, lt-ltb, le-ltb, eq-eqb, eqb-true, ne_eqb, and_parts, and_from}
+use Rattle.std.proofs.lemmas.Bool.{or_cases, or_left, or_right, ltb-true, ltb-false, eqb-false}
 use Rattle.std.proofs.lemmas.Nat.{div-mul-add, mod-mul-add, div_below, mod_below, div-add-mod', mul-add-lt, mul-le}
 use Rattle.go_rules.specs.Board.{largest_size, largest_points, are_neighbours, are_one_apart}
 use Rattle.go_base.specs.Sides.{neighbour_at}

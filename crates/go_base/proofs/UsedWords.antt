@@ -1,9 +1,11 @@
 -- The least point that words mark, by a note of the words in use.
-use Rattle.std.proofs.Common.{◌≡◌, ◌≢◌, ℕ, ◌+◌, ◌*◌, ◌/◌, ◌%◌, ◌<◌, ◌≤◌, true, false, eqb, List, get_or, refl, sym, ap, arith, inl, inr, ◌∙◌}
+use Rattle.std.proofs.Common.{◌≡◌, ◌≢◌, ℕ, ◌+◌, ◌*◌, ◌/◌, ◌%◌, ◌<◌, ◌≤◌, true, false, eqb, List, get_or, refl, sym, ap}
+use Rattle.std.proofs.Common.{arith, inl, inr, ◌∙◌}
 use Rattle.std.proofs.Common.{bit_and, bit_or, ◌^◌}
 use Rattle.std.proofs.lemmas.Bool.{cases_Bool, cases_eq, cases_lt, both_ways, eqb-true}
 use Rattle.std.proofs.lemmas.Nat.{div-mul-add, mod-mul-add}
-use Rattle.std.proofs.lemmas.Nat.Bits.{bit_at-zero, bit_at-lt, bit_at_and, bit_at_set_same, bit_at_set_other, bit_at_clear_same, bit_at_clear_other}
+use Rattle.std.proofs.lemmas.Nat.Bits.{bit_at-zero, bit_at-lt, bit_at_and, bit_at_set_same, bit_at_set_other}
+use Rattle.std.proofs.lemmas.Nat.Bits.{bit_at_clear_same, bit_at_clear_other}
 use Rattle.std.specs.Int.{bit_at, bit_not, w16}
 use Rattle.go_rules.specs.Board.{largest_points}
 use Rattle.go_base.specs.Bits.{is_marked, IsNoteOf}

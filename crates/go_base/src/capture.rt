@@ -1,6 +1,7 @@
 //! What a play takes and which ban it leaves, and how it is taken back, on a board whose cells are told one by one.
 
-ghost use Rattle.std.specs.Prelude.{◌≡◌, ◌≢◌, ◌⊎◌, ℕ, ◌*◌, ◌<◌, ◌==◌, ◌||◌, ◌&&◌, IsTrue, List, map, slice_set, IfOk, if◌then◌else◌};
+ghost use Rattle.std.specs.Prelude.{◌≡◌, ◌≢◌, ◌⊎◌, ℕ, ◌*◌, ◌<◌, ◌==◌, ◌||◌, ◌&&◌, IsTrue, List, map, slice_set, IfOk};
+ghost use Rattle.std.specs.Prelude.{if◌then◌else◌};
 ghost use Rattle.std.specs.List.{range_with_len};
 ghost use Rattle.std.specs.FinSet as set;
 ghost use Rattle.go_rules.specs.declared.Cell.{Cell};

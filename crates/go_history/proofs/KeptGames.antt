@@ -1,5 +1,6 @@
 -- What is kept stays a legal game with the board on which it was made.
-use Rattle.std.proofs.Common.{◌≡◌, ℕ, ◌+◌, ◌-◌, ◌*◌, ◌^◌, ◌<◌, ◌≤◌, true, false, cond, List, [], ◌∷◌, ◌++◌, length, take, IfSome, Result, Ok, Err, IsOk, refl, sym, ap, subst, arith, ◌∙◌, length-append}
+use Rattle.std.proofs.Common.{◌≡◌, ℕ, ◌+◌, ◌-◌, ◌*◌, ◌^◌, ◌<◌, ◌≤◌, true, false, cond, List, [], ◌∷◌, ◌++◌, length}
+use Rattle.std.proofs.Common.{take, IfSome, Result, Ok, Err, IsOk, refl, sym, ap, subst, arith, ◌∙◌, length-append}
 use Rattle.std.proofs.lemmas.Bool.{both_ways}
 use Rattle.std.proofs.lemmas.List.{take-append-le, take_all}
 use Rattle.go_rules.specs.declared.Colour.{Colour}
@@ -14,7 +15,8 @@ use Rattle.go_history.specs.Games.{Game, most_moves, position_of}
 use Rattle.go_history.specs.Taken.{taken_of}
 use Rattle.go_history.specs.Kept.{game_of, IsKept}
 use Rattle.go_history.specs.declared.history.History.TheInside.{Inside}
-use Rattle.go_history.proofs.GameLemmas.{IsLegalGame-take, captures_from-nil, captures_from-push, captures_from-bound, taken_by-bound}
+use Rattle.go_history.proofs.GameLemmas.{IsLegalGame-take, captures_from-nil, captures_from-push, captures_from-bound}
+use Rattle.go_history.proofs.GameLemmas.{taken_by-bound}
 use Rattle.go_strings.proofs.LeadingMoves.{IsLegalGame-push}
 use Rattle.go_rules.proofs.CaptureLaws.{replay_size}
 

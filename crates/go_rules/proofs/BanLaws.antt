@@ -1,5 +1,6 @@
 -- What the ban says in words: one stone was captured, by a stone that is alone and has one liberty.
-use Rattle.std.proofs.Common.{◌≡◌, ℕ, zero, suc, ◌+◌, ◌*◌, ◌<◌, ◌&&◌, Bool, true, false, cond, eqb, Option, Some, None, List, Ok, refl, sym, ap, arith, inl, inr, ◌∙◌}
+use Rattle.std.proofs.Common.{◌≡◌, ℕ, zero, suc, ◌+◌, ◌*◌, ◌<◌, ◌&&◌, Bool, true, false, cond, eqb, Option, Some, None}
+use Rattle.std.proofs.Common.{List, Ok, refl, sym, ap, arith, inl, inr, ◌∙◌}
 use Rattle.std.proofs.Math.ListN.{set}
 use Rattle.std.proofs.lemmas.Bool.{cases_Bool, cases_eq, eqb-true, both_ways, and_parts}
 use Rattle.std.specs.Option.{option_map}
@@ -11,7 +12,8 @@ use Rattle.go_rules.specs.Position.{BoardState, other, stone_of}
 use Rattle.go_rules.specs.Play.{is_taken, ban_after, play_free}
 use Rattle.go_rules.specs.Rules.{LeavesBan}
 use Rattle.go_rules.proofs.Counts.{first_below_is, first_below_gives}
-use Rattle.go_rules.proofs.Paths.{path_on_board, IsInString-from_test, is_is_in_string-from_fact, IsLiberty-from_test, is_liberty-from_fact}
+use Rattle.go_rules.proofs.Paths.{path_on_board, IsInString-from_test, is_is_in_string-from_fact, IsLiberty-from_test}
+use Rattle.go_rules.proofs.Paths.{is_liberty-from_fact}
 use Rattle.go_rules.proofs.InWords.{string_itself}
 use Rattle.go_rules.proofs.PlayLaws.{captured_from, taken_by_words, stone_after, done_is}
 

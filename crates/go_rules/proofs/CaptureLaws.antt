@@ -1,5 +1,6 @@
 -- What a colour took, by the stones that are gone after its moves.
-use Rattle.std.proofs.Common.{◌≡◌, ℕ, ◌+◌, ◌*◌, ◌<◌, ◌&&◌, Bool, true, false, not, cond, Option, Some, None, IfSome, List, [], ◌∷◌, ◌++◌, Ok, refl, sym, ap, arith, inl, inr, ◌∙◌}
+use Rattle.std.proofs.Common.{◌≡◌, ℕ, ◌+◌, ◌*◌, ◌<◌, ◌&&◌, Bool, true, false, not, cond, Option, Some, None, IfSome}
+use Rattle.std.proofs.Common.{List, [], ◌∷◌, ◌++◌, Ok, refl, sym, ap, arith, inl, inr, ◌∙◌}
 use Rattle.std.proofs.lemmas.Bool.{cases_Bool, cases_eq}
 use Rattle.go_rules.specs.declared.Cell.TheVariants.{Empty}
 use Rattle.go_rules.specs.declared.Colour.{Colour}
@@ -9,10 +10,12 @@ use Rattle.go_rules.specs.Board.{IsSize}
 use Rattle.go_rules.specs.Strings.{cell_at, is_stone}
 use Rattle.go_rules.specs.Position.{BoardState, IsPosition, other, stone_of, same_colour}
 use Rattle.go_rules.specs.Play.{is_taken, play_free}
-use Rattle.go_rules.specs.Replay.{empty_board, moved_to, moved, led_to, replay_from, replay, taken_by, captures_from, captures, stones_gone, IsLegalMove, IsLegalGame}
+use Rattle.go_rules.specs.Replay.{empty_board, moved_to, moved, led_to, replay_from, replay, taken_by, captures_from}
+use Rattle.go_rules.specs.Replay.{captures, stones_gone, IsLegalMove, IsLegalGame}
 use Rattle.go_rules.proofs.Counts.{count_below_same, count_below_none}
 use Rattle.go_rules.proofs.Plays.{at_after, at_put_same, at_put_other, own_not_taken, taken_parts, stone_is}
-use Rattle.go_rules.proofs.PlayLaws.{same_colour-itself, done_state, play_done, play_size, empty_is_position, game_keeps}
+use Rattle.go_rules.proofs.PlayLaws.{same_colour-itself, done_state, play_done, play_size, empty_is_position}
+use Rattle.go_rules.proofs.PlayLaws.{game_keeps}
 use Rattle.go_rules.proofs.Results.{put_on}
 
 -- a stone is not gone where it still stands

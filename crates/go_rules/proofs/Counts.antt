@@ -1,5 +1,6 @@
 -- Tests over the numbers below n.
-use Rattle.std.proofs.Common.{◌≡◌, ℕ, zero, suc, ◌<◌, ◌≤◌, Bool, true, false, Some, None, refl, sym, ap, arith, inl, inr, ◌∙◌}
+use Rattle.std.proofs.Common.{◌≡◌, ℕ, zero, suc, ◌<◌, ◌≤◌, Bool, true, false, Some, None, refl, sym, ap, arith, inl}
+use Rattle.std.proofs.Common.{inr, ◌∙◌}
 use Rattle.std.proofs.lemmas.Bool.{or_left, or_right, or_cases, or_parts, cases_Bool, cases_eq, both_ways}
 use Rattle.go_rules.specs.Below.{any_below, count_below, first_below}
 

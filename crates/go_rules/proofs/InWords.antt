@@ -1,10 +1,12 @@
 -- What the tests of strings, boundaries and neighbourhoods say in words.
 use Rattle.std.proofs.Common.{◌≡◌, ◌↔◌, ℕ, ◌*◌, ◌<◌, Bool, true, List, ap, inl, inr, ◌∙◌}
-use Rattle.std.proofs.lemmas.Bool.{cases_Bool, lt-ltb, ltb-true, or_cases, or_left, or_right, and_parts, and_from, both_ways, not-true, not_from_false}
+use Rattle.std.proofs.lemmas.Bool.{cases_Bool, lt-ltb, ltb-true, or_cases, or_left, or_right, and_parts, and_from}
+use Rattle.std.proofs.lemmas.Bool.{both_ways, not-true, not_from_false}
 use Rattle.go_rules.specs.declared.Cell.{Cell}
 use Rattle.go_rules.specs.Strings.{cell_at, is_stone, is_in_string, IsInString, start}
 use Rattle.go_rules.specs.Boundary.{is_beside_string, is_boundary, IsBoundary}
-use Rattle.go_rules.specs.Neighbourhood.{whole_strings_of, neighbourhood_of, InWholeStrings, member, of_string, InNeighbourhood, inside, next_to}
+use Rattle.go_rules.specs.Neighbourhood.{whole_strings_of, neighbourhood_of, InWholeStrings, member, of_string}
+use Rattle.go_rules.specs.Neighbourhood.{InNeighbourhood, inside, next_to}
 use Rattle.go_rules.proofs.Counts.{any_below_gives, any_below_from, any_below_none, any_below_false}
 use Rattle.go_rules.proofs.Paths.{path_on_board, IsInString-from_test, is_is_in_string-from_fact}
 use Rattle.go_rules.proofs.Links.{path_same, path_on, path_back}

@@ -1,12 +1,16 @@
 -- What is reached by at most s * s steps is what a path leads to.
-use Rattle.std.proofs.Common.{◌≡◌, ℕ, zero, suc, ◌*◌, ◌<◌, ◌≤◌, ◌||◌, ◌&&◌, Bool, true, false, not, eqb, ltb, List, refl, sym, subst, arith, inl, inr, ◌⊎◌, ◌∙◌}
-use Rattle.std.proofs.lemmas.Bool.{or_left, or_right, or_cases, and_parts, and_from, cases_Bool, cases_eq, both_ways, eqb-true, eq-eqb, ltb-true, lt-ltb, not-true, not_from_false}
+use Rattle.std.proofs.Common.{◌≡◌, ℕ, zero, suc, ◌*◌, ◌<◌, ◌≤◌, ◌||◌, ◌&&◌, Bool, true, false, not, eqb, ltb, List}
+use Rattle.std.proofs.Common.{refl, sym, subst, arith, inl, inr, ◌⊎◌, ◌∙◌}
+use Rattle.std.proofs.lemmas.Bool.{or_left, or_right, or_cases, and_parts, and_from, cases_Bool, cases_eq, both_ways}
+use Rattle.std.proofs.lemmas.Bool.{eqb-true, eq-eqb, ltb-true, lt-ltb, not-true, not_from_false}
 use Rattle.go_rules.specs.declared.Cell.{Cell}
 use Rattle.go_rules.specs.declared.Cell.TheVariants.{Empty, Black, White}
 use Rattle.go_rules.specs.Below.{any_below, count_below}
 use Rattle.go_rules.specs.Board.{are_neighbours}
-use Rattle.go_rules.specs.Strings.{same_cell, cell_at, Path, start, step, reached, is_in_string, IsInString, is_liberty, IsLiberty}
-use Rattle.go_rules.proofs.Counts.{any_below_gives, any_below_from, any_below_none, count_below_at_most, count_below_less}
+use Rattle.go_rules.specs.Strings.{same_cell, cell_at, Path, start, step, reached, is_in_string, IsInString, is_liberty}
+use Rattle.go_rules.specs.Strings.{IsLiberty}
+use Rattle.go_rules.proofs.Counts.{any_below_gives, any_below_from, any_below_none, count_below_at_most}
+use Rattle.go_rules.proofs.Counts.{count_below_less}
 
 -- cells that hold the same are equal
 pub same_cell-true : (a b : Cell) → same_cell a b ≡ true → a ≡ b

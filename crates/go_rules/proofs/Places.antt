@@ -2,7 +2,8 @@
 use Rattle.std.proofs.Common.{◌≡◌, ◌↔◌, ℕ, ◌+◌, ◌*◌, ◌%◌, ◌<◌, true, sym, ap, arith, inl, inr, ◌∙◌}
 use Rattle.std.proofs.lemmas.Bool.{cases_eq, or_cases, or_left, or_right, and_parts, and_from, eqb-true, eq-eqb}
 use Rattle.std.proofs.lemmas.Nat.{div-mul-add, mod-mul-add, div_below, mod_below, div-add-mod', mul-add-lt}
-use Rattle.go_rules.specs.Board.{Place, IsOnBoard, point_at, place_of, are_one_apart, are_neighbours, AreConsecutive, AreNeighbours}
+use Rattle.go_rules.specs.Board.{Place, IsOnBoard, point_at, place_of, are_one_apart, are_neighbours, AreConsecutive}
+use Rattle.go_rules.specs.Board.{AreNeighbours}
 
 -- a board with a point has a row
 some_row : (s p : ℕ) → p < s * s → 0 < s

@@ -1,7 +1,10 @@
 -- The computing definitions say what the rules say of paths.
-use Rattle.std.proofs.Common.{◌≡◌, ◌≢◌, ◌↔◌, ◌⊎◌, ℕ, zero, suc, ◌*◌, ◌<◌, true, false, cond, eqb, Option, Some, None, IfSome, List, [], ◌∷◌, replicate, Result, Ok, Err, refl, sym, ap, subst, arith, inl, inr, ◌∙◌}
+use Rattle.std.proofs.Common.{◌≡◌, ◌≢◌, ◌↔◌, ◌⊎◌, ℕ, zero, suc, ◌*◌, ◌<◌, true, false, cond, eqb, Option, Some, None}
+use Rattle.std.proofs.Common.{IfSome, List, [], ◌∷◌, replicate, Result, Ok, Err, refl, sym, ap, subst, arith, inl, inr}
+use Rattle.std.proofs.Common.{◌∙◌}
 use Rattle.std.proofs.lemmas.List.{length-replicate}
-use Rattle.std.proofs.lemmas.Bool.{cases_Bool, eqb-true, eqb-false, eq-eqb, both_ways, and_parts, and_from, true_from_ne_false}
+use Rattle.std.proofs.lemmas.Bool.{cases_Bool, eqb-true, eqb-false, eq-eqb, both_ways, and_parts, and_from}
+use Rattle.std.proofs.lemmas.Bool.{true_from_ne_false}
 use Rattle.go_rules.specs.declared.Cell.{Cell}
 use Rattle.go_rules.specs.declared.Cell.TheVariants.{Empty}
 use Rattle.go_rules.specs.declared.Colour.{Colour}
@@ -17,8 +20,10 @@ use Rattle.go_rules.specs.Play.{is_taken, cells_after, ban_after, play, play_fre
 use Rattle.go_rules.specs.Rules.{IsCaptured, Removes, Follows, IsSuicide, IsPositionInWords}
 use Rattle.go_rules.proofs.Links.{liberties_some, liberties_from, path_keeps}
 use Rattle.go_rules.proofs.Paths.{path_on_board}
-use Rattle.go_rules.proofs.Plays.{taken_parts, taken_from, at_after, empty_from, at_put_same, at_put_other, own_not_taken}
-use Rattle.go_rules.proofs.Results.{after_on, put_on, result_of, free_occupied, free_suicide, free_done, result_good, play_occupied, play_ko, play_else}
+use Rattle.go_rules.proofs.Plays.{taken_parts, taken_from, at_after, empty_from, at_put_same, at_put_other}
+use Rattle.go_rules.proofs.Plays.{own_not_taken}
+use Rattle.go_rules.proofs.Results.{after_on, put_on, result_of, free_occupied, free_suicide, free_done, result_good}
+use Rattle.go_rules.proofs.Results.{play_occupied, play_ko, play_else}
 
 -- where no liberty is counted there is none
 none_from_zero : (s : ℕ) (cells : List Cell) (p : ℕ) → p < s * s → liberties s cells p ≡ 0 → (l : ℕ)

@@ -1,5 +1,6 @@
 -- What a play leaves.
-use Rattle.std.proofs.Common.{◌≡◌, ◌≢◌, ℕ, ◌*◌, ◌<◌, ◌&&◌, true, false, cond, List, length, map, refl, sym, ap, subst, arith, inl, inr, ◌⊎◌, ◌∙◌, get_or-set_same, get_or-set_other}
+use Rattle.std.proofs.Common.{◌≡◌, ◌≢◌, ℕ, ◌*◌, ◌<◌, ◌&&◌, true, false, cond, List, length, map, refl, sym, ap, subst}
+use Rattle.std.proofs.Common.{arith, inl, inr, ◌⊎◌, ◌∙◌, get_or-set_same, get_or-set_other}
 use Rattle.std.proofs.Math.ListN.{set}
 use Rattle.std.specs.List.{range_with_len}
 use Rattle.std.proofs.lemmas.List.FromFn.{get_or-map-range_with_len, length-map-range_with_len, fill_by_all}
@@ -16,7 +17,8 @@ use Rattle.go_rules.specs.Strings.{cell_at, is_stone, same_cell, Path, step, IsI
 use Rattle.go_rules.specs.Position.{BoardState, IsPosition, other, stone_of}
 use Rattle.go_rules.specs.Play.{is_taken, taken_at, cells_after}
 use Rattle.go_rules.proofs.Paths.{path_on_board, same_cell-true, same_cell-from}
-use Rattle.go_rules.proofs.Links.{path_same, path_back, path_keeps, liberty_moves, liberties_some, liberties_from, are_neighbours_comm}
+use Rattle.go_rules.proofs.Links.{path_same, path_back, path_keeps, liberty_moves, liberties_some, liberties_from}
+use Rattle.go_rules.proofs.Links.{are_neighbours_comm}
 
 -- the cell of a colour holds a stone
 pub stone_is : (c : Colour) → is_stone (stone_of c) ≡ true

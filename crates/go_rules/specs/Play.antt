@@ -1,6 +1,7 @@
 -- Plays and passes as functions that compute: a stone is put, what it captures is taken, suicide is judged, a ban is
 -- left.
-use Rattle.std.specs.Prelude.{ℕ, ◌*◌, ◌==◌, ◌&&◌, Bool, List, map, slice_set, Option, None, Result, Ok, Err, is_ok, if◌then◌else◌, option_map}
+use Rattle.std.specs.Prelude.{ℕ, ◌*◌, ◌==◌, ◌&&◌, Bool, List, map, slice_set, Option, None, Result, Ok, Err, is_ok}
+use Rattle.std.specs.Prelude.{if◌then◌else◌, option_map}
 use Rattle.std.specs.List.{range_with_len}
 use Rattle.std.specs.Ordering.{nat_cmp}
 use Rattle.std.specs.FinSet as set

@@ -2,7 +2,8 @@
 //! and it does nothing. The definitions that compute (`play`, `is_in_string`, `liberties`) stand in the contracts of
 //! the crates above; the laws tie them to paths, places and the rules as a Go book has them.
 
-ghost use Rattle.std.specs.Prelude.{◌≡◌, ◌≢◌, ◌⊎◌, ℕ, Ok, Err, Some, None, ◌+◌, ◌*◌, ◌<◌, ◌↔◌, Bool, IsTrue, true, List, [], ◌∷◌, ◌++◌, slice_set};
+ghost use Rattle.std.specs.Prelude.{◌≡◌, ◌≢◌, ◌⊎◌, ℕ, Ok, Err, Some, None, ◌+◌, ◌*◌, ◌<◌, ◌↔◌, Bool, IsTrue, true};
+ghost use Rattle.std.specs.Prelude.{List, [], ◌∷◌, ◌++◌, slice_set};
 ghost use Rattle.go_rules.specs.declared.Cell.{Cell};
 ghost use Rattle.go_rules.specs.declared.Colour.{Colour};
 ghost use Rattle.go_rules.specs.declared.Illegal.{Illegal};
@@ -15,7 +16,8 @@ ghost use Rattle.go_rules.specs.Neighbourhood.{neighbourhood_of, InNeighbourhood
 ghost use Rattle.go_rules.specs.Position.{BoardState, IsPosition, other, stone_of};
 ghost use Rattle.go_rules.specs.Play.{play, play_free, pass};
 ghost use Rattle.go_rules.specs.Rules.{IsCaptured, Follows, IsSuicide, LeavesBan, IsPositionInWords};
-ghost use Rattle.go_rules.specs.Replay.{empty_board, moved, replay_from, replay, captures, stones_gone, IsLegalMove, IsLegalGame};
+ghost use Rattle.go_rules.specs.Replay.{empty_board, moved, replay_from, replay, captures, stones_gone, IsLegalMove};
+ghost use Rattle.go_rules.specs.Replay.{IsLegalGame};
 
 /// The points of a board are its places, numbered in reading order.
 pub fn points_are_places()

@@ -1,5 +1,6 @@
 -- One match more about which helpers are asked.
-use Rattle.std.proofs.Common.{◌≡◌, ℕ, ◌+◌, ◌<◌, Bool, List, [], ◌∷◌, ◌++◌, length, take, get_or, map, slice_get, Option, Some, sym, ap, ◌∙◌}
+use Rattle.std.proofs.Common.{◌≡◌, ℕ, ◌+◌, ◌<◌, Bool, List, [], ◌∷◌, ◌++◌, length, take, get_or, map, slice_get, Option}
+use Rattle.std.proofs.Common.{Some, sym, ap, ◌∙◌}
 use Rattle.std.proofs.lemmas.List.{take_more, map-append}
 use Rattle.go_rules.specs.declared.Colour.{Colour}
 use Rattle.go_rules.specs.Position.{BoardState}
@@ -10,7 +11,7 @@ use Rattle.helper_asking.specs.Rule.{raised, IsAskedFor}
 use Rattle.helper_totals.specs.Totals.{asks_over}
 use Rattle.helper_totals.proofs.CallTotals.{answer_over-more, asked_over-more}
 use Rattle.match_rules.specs.declared.found.Match.{Match}
-use Rattle.match_engine.specs.MachineMatches.{is_agreed_at}
+use Rattle.match_engine.specs.AutomatonMatches.{is_agreed_at}
 use Rattle.match_engine.specs.HelperCalls.{names_of, plays_of, after_matches}
 
 module _ (slots : List SlotState) (patterns : List Pattern) (board : BoardState) (friend : Colour) (old : List Match)

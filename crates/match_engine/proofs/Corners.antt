@@ -1,12 +1,13 @@
 -- A diagram lies on the board where two opposite corners do.
-use Rattle.std.proofs.Common.{◌≡◌, ℕ, ◌-◌, ◌<◌, Bool, true, false, Option, Some, None, is_some, refl, sym, ap, ◌∙◌, arith, pos, ◌-ℤ◌}
+use Rattle.std.proofs.Common.{◌≡◌, ℕ, ◌-◌, ◌<◌, Bool, true, false, Option, Some, None, is_some, refl, sym, ap, ◌∙◌}
+use Rattle.std.proofs.Common.{arith, pos, ◌-ℤ◌}
 use Rattle.std.specs.List.{list_all, range_with_len}
 use Rattle.std.proofs.lemmas.Bool.{false≢true}
 use Rattle.std.proofs.lemmas.Int.{ints}
 use Rattle.go_rules.specs.Transform.{transformations}
 use Rattle.pat_types.specs.declared.pattern.Pattern.{Pattern}
 use Rattle.match_rules.specs.Fits.{place_of_cell}
-use Rattle.match_engine.specs.MachineMatches.{lies_on_board}
+use Rattle.match_engine.specs.AutomatonMatches.{lies_on_board}
 use Rattle.match_rules.proofs.Lists.{passes_each, passes_all, Contains-below, Contains-below_from}
 use Rattle.match_engine.proofs.Places.{placed_between}
 

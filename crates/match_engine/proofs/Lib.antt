@@ -3,7 +3,7 @@ pub mod RepeatedQuestions
 pub mod Places
 pub mod Corners
 pub mod SortedMatches
-pub mod Machine
+pub mod ByAutomaton
 pub mod Patterns
 pub mod ReadingCounts
 pub mod AllowedMatches

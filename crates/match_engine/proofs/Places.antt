@@ -1,12 +1,13 @@
 -- Where offsets lead, one after another and between two others.
-use Rattle.std.proofs.Common.{◌≡◌, ℕ, zero, suc, ◌+◌, ◌*◌, ◌/◌, ◌%◌, ◌<◌, ◌⊎◌, inl, inr, Option, Some, None, cond, ltb, refl, sym, ap, ◌∙◌, subst, arith, ℤ, pos, negsuc, ◌+ℤ◌, ◌≤ℤ◌, neg_ℤ}
+use Rattle.std.proofs.Common.{◌≡◌, ℕ, zero, suc, ◌+◌, ◌*◌, ◌/◌, ◌%◌, ◌<◌, ◌⊎◌, inl, inr, Option, Some, None, cond, ltb}
+use Rattle.std.proofs.Common.{refl, sym, ap, ◌∙◌, subst, arith, ℤ, pos, negsuc, ◌+ℤ◌, ◌≤ℤ◌, neg_ℤ}
 use Rattle.std.proofs.lemmas.Bool.{cases_eq, ltb-true, lt-ltb}
 use Rattle.std.proofs.lemmas.Int.{ints}
 use Rattle.std.proofs.lemmas.Nat.{mul-add-lt, div-mul-add, mod-mul-add, div_below, mod_below, div-add-mod'}
 use Rattle.std.proofs.lemmas.Option.{none-some, same_Some, cond_some}
 use Rattle.go_rules.specs.Transform.{Offset, transformed, transformations}
 use Rattle.go_rules.proofs.Transforms.{each_of_eight}
-use Rattle.spiral.specs.Spiral.{line_of, point_of, place_at}
+use Rattle.spiral.specs.Spiral.{strip_of, point_of, place_at}
 
 -- one offset after another
 abbrev pub sum_of : Offset → Offset → Offset
@@ -86,15 +87,15 @@ pub record IsPlaced (s t m : ℕ) (d : Offset) (a : ℕ) : Type 0 where
   pub column_on : column < s
   pub point : row * s + column ≡ a
 
--- a line that is there is on the board
-line_of-Some : (s : ℕ) (z : ℤ) (n : ℕ) → line_of s z ≡ Some n → (z ≡ pos n) × (n < s)
-line_of-Some s (pos k) n e = let parts = cond_some (ltb k s) k n e in
+-- a strip that is there is on the board
+strip_of-Some : (s : ℕ) (z : ℤ) (n : ℕ) → strip_of s z ≡ Some n → (z ≡ pos n) × (n < s)
+strip_of-Some s (pos k) n e = let parts = cond_some (ltb k s) k n e in
     (ap pos parts.1, subst (λ j. j < s) parts.1 (ltb-true k s parts.0))
-line_of-Some s (negsuc k) n e = absurd (none-some n e)
+strip_of-Some s (negsuc k) n e = absurd (none-some n e)
 
--- a line on the board is there
-line_of-at : (s : ℕ) (z : ℤ) (n : ℕ) → z ≡ pos n → n < s → line_of s z ≡ Some n
-line_of-at s z n e l = ap (line_of s) e ∙ ap (λ b. cond b (Some n) None) (lt-ltb n s l)
+-- a strip on the board is there
+strip_of-at : (s : ℕ) (z : ℤ) (n : ℕ) → z ≡ pos n → n < s → strip_of s z ≡ Some n
+strip_of-at s z n e l = ap (strip_of s) e ∙ ap (λ b. cond b (Some n) None) (lt-ltb n s l)
 
 -- a point that is there stands in a row and a column
 point_of-Some : (s a : ℕ) (row column : Option ℕ) → point_of s row column ≡ Some a
@@ -108,10 +109,10 @@ module _ (s t m : ℕ) where
   pub placed-Some : (d : Offset) (a : ℕ) → place_at s t m d ≡ Some a → IsPlaced s t m d a
   unfolding place_at
   placed-Some d a e =
-      let p = point_of-Some s a (line_of s (pos (m / s) +ℤ (transformed t d).0))
-      (line_of s (pos (m % s) +ℤ (transformed t d).1)) e in
-      let row = line_of-Some s (pos (m / s) +ℤ (transformed t d).0) p.0 p.2 in
-      let column = line_of-Some s (pos (m % s) +ℤ (transformed t d).1) p.1 p.3 in
+      let p = point_of-Some s a (strip_of s (pos (m / s) +ℤ (transformed t d).0))
+      (strip_of s (pos (m % s) +ℤ (transformed t d).1)) e in
+      let row = strip_of-Some s (pos (m / s) +ℤ (transformed t d).0) p.0 p.2 in
+      let column = strip_of-Some s (pos (m % s) +ℤ (transformed t d).1) p.1 p.3 in
       record {
         row = p.0;
         column = p.1;
@@ -126,9 +127,9 @@ module _ (s t m : ℕ) where
   pub place_at-at : (d : Offset) (a : ℕ) → IsPlaced s t m d a → place_at s t m d ≡ Some a
   unfolding place_at
   place_at-at d a p =
-      ap (λ o. point_of s o (line_of s (pos (m % s) +ℤ (transformed t d).1)))
-      (line_of-at s (pos (m / s) +ℤ (transformed t d).0) p.row p.row_is p.row_on)
-      ∙ ap (point_of s (Some p.row)) (line_of-at s
+      ap (λ o. point_of s o (strip_of s (pos (m % s) +ℤ (transformed t d).1)))
+      (strip_of-at s (pos (m / s) +ℤ (transformed t d).0) p.row p.row_is p.row_on)
+      ∙ ap (point_of s (Some p.row)) (strip_of-at s
       (pos (m % s) +ℤ (transformed t d).1) p.column p.column_is p.column_on)
       ∙ ap Some p.point
 
@@ -137,9 +138,9 @@ module _ (s t m : ℕ) where
   placed_on d a e = let p = placed-Some d a e in
       subst (λ n. n < s * s) p.point (mul-add-lt p.row s p.column s p.row_on p.column_on)
 
--- from a line reached by one part, another part leads where the sum of both leads
-next_line : (h r : ℕ) (x y w : ℤ) → pos h +ℤ x ≡ pos r → w ≡ x +ℤ y → pos r +ℤ y ≡ pos h +ℤ w
-next_line h r x y w e f = omega (arith, ints, e, f)
+-- from a strip reached by one part, another part leads where the sum of both leads
+next_strip : (h r : ℕ) (x y w : ℤ) → pos h +ℤ x ≡ pos r → w ≡ x +ℤ y → pos r +ℤ y ≡ pos h +ℤ w
+next_strip h r x y w e f = omega (arith, ints, e, f)
 
 -- the offset e leads from the point that d leads to where both together lead
 pub place_at-sum : (s t m : ℕ) (d e : Offset) (a : ℕ) → t < transformations → place_at s t m d ≡ Some a
@@ -152,14 +153,14 @@ place_at-sum s t m d e a low there =
     let column : a % s ≡ p.column = ap (λ n. n % s) (sym p.point) ∙ mod-mul-add p.row s p.column p.column_on in
     let rows : pos (a / s) +ℤ (transformed t e).0 ≡ pos (m / s) +ℤ (transformed t (sum_of d e)).0 =
     ap (λ n. pos n +ℤ (transformed t e).0) row
-    ∙ next_line (m / s) p.row (transformed t d).0 (transformed t e).0
+    ∙ next_strip (m / s) p.row (transformed t d).0 (transformed t e).0
     (transformed t (sum_of d e)).0 p.row_is sums.0 in
     let columns : pos (a % s) +ℤ (transformed t e).1 ≡ pos (m % s) +ℤ (transformed t (sum_of d e)).1 =
     ap (λ n. pos n +ℤ (transformed t e).1) column
-    ∙ next_line (m % s) p.column (transformed t d).1 (transformed t e).1
+    ∙ next_strip (m % s) p.column (transformed t d).1 (transformed t e).1
     (transformed t (sum_of d e)).1 p.column_is sums.1 in
-    ap (λ z. point_of s (line_of s z) (line_of s (pos (a % s) +ℤ (transformed t e).1))) rows
-    ∙ ap (λ z. point_of s (line_of s (pos (m / s) +ℤ (transformed t (sum_of d e)).0)) (line_of s z)) columns
+    ap (λ z. point_of s (strip_of s z) (strip_of s (pos (a % s) +ℤ (transformed t e).1))) rows
+    ∙ ap (λ z. point_of s (strip_of s (pos (m / s) +ℤ (transformed t (sum_of d e)).0)) (strip_of s z)) columns
 
 -- a board with a point has a row
 some_row : (s p : ℕ) → p < s * s → 0 < s
@@ -189,10 +190,10 @@ place_at-none s t m low on =
     at_zero : (n : ℕ) → pos n +ℤ pos 0 ≡ pos n
     at_zero n = omega (arith, ints)
 
--- a line between two lines of the board is one
-line_between : (s h b c : ℕ) (x y z : ℤ) → pos h +ℤ x ≡ pos b → b < s → pos h +ℤ z ≡ pos c → c < s → IsBetween x y z
+-- a strip between two strips of the board is one
+strip_between : (s h b c : ℕ) (x y z : ℤ) → pos h +ℤ x ≡ pos b → b < s → pos h +ℤ z ≡ pos c → c < s → IsBetween x y z
     → (n : ℕ) × (pos h +ℤ y ≡ pos n) × (n < s)
-line_between s h b c x y z e k f l between =
+strip_between s h b c x y z e k f l between =
     let low : pos 0 ≤ℤ (pos h +ℤ y) =
     elim between [
       | inl up ↦ omega (arith, ints, e, f, up.0, up.1)
@@ -216,9 +217,9 @@ placed_between s t m a b d e f low first last within =
     let p = placed-Some s t m d a first in
     let q = placed-Some s t m f b last in
     let moved = keeps_within t low d e f within in
-    let row = line_between s (m / s) p.row q.row (transformed t d).0 (transformed t e).0
+    let row = strip_between s (m / s) p.row q.row (transformed t d).0 (transformed t e).0
     (transformed t f).0 p.row_is p.row_on q.row_is q.row_on moved.0 in
-    let column = line_between s (m % s) p.column q.column (transformed t d).1 (transformed t e).1
+    let column = strip_between s (m % s) p.column q.column (transformed t d).1 (transformed t e).1
     (transformed t f).1 p.column_is p.column_on q.column_is q.column_on moved.1 in (
       row.0 * s + column.0,
       place_at-at s t m e (row.0 * s + column.0) (record {

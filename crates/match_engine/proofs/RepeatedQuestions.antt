@@ -7,7 +7,8 @@ use Rattle.read_rules.specs.declared.question.Answer.{Answer}
 use Rattle.read_rules.specs.ActiveArea.{InActiveArea, AgreeOn, IsAboutOne}
 use Rattle.read_cache.specs.Variants.{Stands}
 use Rattle.read_cache.specs.declared.variants.Variant.{Variant}
-use Rattle.read_cache.proofs.LastingVariants.{IsAmongFirst, of_first, IsAmongFirst-stands, IsAmongFirst-kept, IsAmongFirst-found, IsAmongFirst-first, IsAmongFirst-again}
+use Rattle.read_cache.proofs.LastingVariants.{IsAmongFirst, of_first, IsAmongFirst-stands, IsAmongFirst-kept}
+use Rattle.read_cache.proofs.LastingVariants.{IsAmongFirst-found, IsAmongFirst-first, IsAmongFirst-again}
 use Rattle.match_engine.specs.declared.keys.Key.{Key}
 use Rattle.match_engine.specs.Keys.{same_key, same_key-is}
 use Rattle.match_engine.specs.Readings.{ReadingsView, KeptReadings, raised, Rests, AllRest, HasRead}

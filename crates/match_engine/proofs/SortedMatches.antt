@@ -1,5 +1,6 @@
 -- Lists of different matches that are sorted by rank are in order, and what differs gives matches that differ.
-use Rattle.std.proofs.Common.{◌≡◌, zero, suc, ◌<◌, ◌≤◌, ◌⊎◌, inl, inr, List, [], ◌∷◌, get_or, Contains, Option, Some, None, refl, sym, ap, subst, arith}
+use Rattle.std.proofs.Common.{◌≡◌, zero, suc, ◌<◌, ◌≤◌, ◌⊎◌, inl, inr, List, [], ◌∷◌, get_or, Contains, Option, Some}
+use Rattle.std.proofs.Common.{None, refl, sym, ap, subst, arith}
 use Rattle.std.specs.List.{filter_map, cons_option, AllPairs}
 use Rattle.std.specs.List.Sorted.{IsNonDecreasingBy}
 use Rattle.std.proofs.lemmas.Bool.{cases_order}

@@ -1,4 +1,4 @@
--- The match that a hit of a machine is.
+-- The match that a hit of an automaton is.
 use Rattle.std.specs.Prelude.{ℕ, ◌&&◌, pos, ◌-ℤ◌, Option, Some, None, nat_lt, if◌then◌else◌}
 use Rattle.go_rules.specs.declared.Colour.{Colour}
 use Rattle.go_rules.specs.Position.{BoardState}
@@ -9,7 +9,7 @@ use Rattle.pat_types.specs.Marks.{count_of}
 use Rattle.dfa_match.specs.declared.Hit.{Hit}
 use Rattle.match_rules.specs.declared.found.Match.{Match}
 use Rattle.go_rules.specs.Play.{is_legal}
-use Rattle.match_engine.specs.MachineMatches.{lies_on_board}
+use Rattle.match_engine.specs.AutomatonMatches.{lies_on_board}
 
 -- the star's point, with the anchor's cell at a under t
 abbrev pub place_of_star : Pattern → ℕ → ℕ → ℕ → Option ℕ

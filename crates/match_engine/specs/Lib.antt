@@ -1,6 +1,6 @@
 pub mod Caches
 pub mod Keys
-pub mod MachineMatches
+pub mod AutomatonMatches
 pub mod Found
 pub mod HelperCalls
 pub mod Readings

@@ -3,7 +3,7 @@ ghost use Rattle.std.specs.Prelude.{◌≡◌, filter, Contains, slice_get};
 ghost use Rattle.helpers.specs.Asking.{says_yes};
 ghost use Rattle.helpers.specs.Slots.{states_of};
 ghost use Rattle.match_rules.specs.declared.found.Match.{Match as MatchSeen};
-ghost use Rattle.match_engine.specs.MachineMatches.{is_agreed_at, IsFoundThere};
+ghost use Rattle.match_engine.specs.AutomatonMatches.{is_agreed_at, IsFoundThere};
 ghost use Rattle.match_engine.specs.HelperCalls.{after_matches};
 
 use crate::finder::{keep, pattern_with};

@@ -1,9 +1,10 @@
 //! The matches of patterns on a position, by an automaton.
-ghost use Rattle.std.specs.Prelude.{◌≡◌, ℕ, ◌+◌, ◌*◌, ◌<◌, ◌&&◌, filter, if◌then◌else◌, length, Some, Contains, IfOk, OnOk, OnErr, slice_get, slice_set as set};
+ghost use Rattle.std.specs.Prelude.{◌≡◌, ℕ, ◌+◌, ◌*◌, ◌<◌, ◌&&◌, filter, if◌then◌else◌, length, Some, Contains, IfOk};
+ghost use Rattle.std.specs.Prelude.{OnOk, OnErr, slice_get, slice_set as set};
 ghost use Rattle.std.specs.List.{filter_map};
 ghost use Rattle.go_rules.specs.Position.{BoardState};
 ghost use Rattle.dfa_core.specs.Automata.{accepted};
-ghost use Rattle.dfa_core.specs.States.{IsMachineOf};
+ghost use Rattle.dfa_core.specs.States.{IsAutomatonOf};
 ghost use Rattle.dfa_core.specs.Words.{Word};
 ghost use Rattle.dfa_match.specs.declared.Hit.{Hit as HitSeen};
 ghost use Rattle.go_rules.specs.Play.{is_legal as is_legal_on};
@@ -13,7 +14,8 @@ ghost use Rattle.match_rules.specs.Conditions.{all_yes};
 ghost use Rattle.helpers.specs.Asking.{says_yes};
 ghost use Rattle.helpers.specs.Slots.{states_of};
 ghost use Rattle.match_engine.specs.HelperCalls.{after_matches};
-ghost use Rattle.match_engine.specs.MachineMatches.{found_by as is_found_by, machine_matches, is_allowed_at, lies_on_board as does_lie_on_board, IsFoundThere};
+ghost use Rattle.match_engine.specs.AutomatonMatches.{found_by as is_found_by, automaton_matches, is_allowed_at};
+ghost use Rattle.match_engine.specs.AutomatonMatches.{lies_on_board as does_lie_on_board, IsFoundThere};
 ghost use Rattle.match_engine.specs.Known.{Knows};
 ghost use Rattle.match_engine.specs.Readings.{Follows, codes_of};
 ghost use Rattle.match_engine.specs.Ranks.{rank_of as rank};
@@ -120,16 +122,16 @@ fn rank_of(z: &Match) -> u64
 fn found_by(
     alloc: Global,
     patterns: &[Pattern],
-    machine: &Automaton,
+    automaton: &Automaton,
     position: &Position,
     friend: Colour,
 ) -> Result<Vec<Match>, NoMemory>
-    requires numbers { (w : Word) (n : ℕ) → Contains (accepted machine.now w) n → n < length patterns.now }
-    ensures found { IfOk result (λ v. v.items ≡ is_found_by machine.now patterns.now position.now friend) }
+    requires numbers { (w : Word) (n : ℕ) → Contains (accepted automaton.now w) n → n < length patterns.now }
+    ensures found { IfOk result (λ v. v.items ≡ is_found_by automaton.now patterns.now position.now friend) }
 {
     let _ = position.size().points();
     let mut watch = Watch::new(position);
-    let hits = scan(machine, &mut watch, friend, Vec::new(alloc))?;
+    let hits = scan(automaton, &mut watch, friend, Vec::new(alloc))?;
     let mut found = matches_among(alloc, patterns, position, friend, hits.as_slice())?;
     found.sort_unstable_by_key(|z| rank_of(z));
     Ok(found)
@@ -204,26 +206,26 @@ fn keep_allowed(
 pub fn matches(
     alloc: Global,
     patterns: &[Pattern],
-    machine: &Automaton,
+    automaton: &Automaton,
     position: &Position,
     friend: Colour,
     readings: &mut Readings,
     helpers: &mut Helpers,
 ) -> Result<Vec<Match>, NoMemory>
-    requires numbers { (w : Word) (n : ℕ) → Contains (accepted machine.now w) n → n < length patterns.now }
+    requires numbers { (w : Word) (n : ℕ) → Contains (accepted automaton.now w) n → n < length patterns.now }
     // For every automaton.
-    ensures machine { IfOk result (λ v. v.items
-        ≡ machine_matches (codes_of readings.old) (says_yes (states_of state helpers.old))
-        machine.now patterns.now position.now friend) }
+    ensures automaton { IfOk result (λ v. v.items
+        ≡ automaton_matches (codes_of readings.old) (says_yes (states_of state helpers.old))
+        automaton.now patterns.now position.now friend) }
     // For that of the patterns.
-    ensures patterns { IfOk result (λ v. IsMachineOf patterns.now machine.now → v.items
+    ensures patterns { IfOk result (λ v. IsAutomatonOf patterns.now automaton.now → v.items
         ≡ matches_of (codes_of readings.old) (says_yes (states_of state helpers.old)) patterns.now position.now
         friend) }
     // The helpers were asked about all that matches if they say yes, each as often as the rule of asking says.
     ensures calls { OnOk result (states_of state helpers.new ≡ after_matches (states_of state helpers.old) patterns.now
-        (machine_matches (codes_of readings.old) all_yes machine.now patterns.now position.now friend) position.now
+        (automaton_matches (codes_of readings.old) all_yes automaton.now patterns.now position.now friend) position.now
         friend) }
-    ensures calls_of_patterns { OnOk result (IsMachineOf patterns.now machine.now → states_of state helpers.new
+    ensures calls_of_patterns { OnOk result (IsAutomatonOf patterns.now automaton.now → states_of state helpers.new
         ≡ after_matches (states_of state helpers.old) patterns.now
         (matches_of (codes_of readings.old) all_yes patterns.now position.now friend) position.now friend) }
     // The depths of the readings are as before, and no count has fallen.
@@ -232,7 +234,7 @@ pub fn matches(
     ensures unread { OnErr result (readings.new ≡ readings.old) }
     ensures unasked { OnErr result (helpers.new ≡ helpers.old) }
 {
-    let mut found = found_by(alloc, patterns, machine, position, friend)?;
+    let mut found = found_by(alloc, patterns, automaton, position, friend)?;
     keep_allowed(patterns, position, friend, readings, &mut found);
     keep_agreed(patterns, position, friend, helpers, &mut found);
     Ok(found)

@@ -5,15 +5,15 @@ ghost use Rattle.go_rules.specs.declared.Colour.{Colour};
 ghost use Rattle.go_rules.specs.Position.{BoardState};
 ghost use Rattle.pat_types.specs.declared.pattern.Pattern.{Pattern};
 ghost use Rattle.dfa_core.specs.Automata.{Row};
-ghost use Rattle.dfa_core.specs.States.{IsMachineOf};
+ghost use Rattle.dfa_core.specs.States.{IsAutomatonOf};
 ghost use Rattle.cons_eval.specs.Readings.{Codes};
 ghost use Rattle.match_rules.specs.Conditions.{Advice};
 ghost use Rattle.match_rules.specs.Match.{matches_of};
-ghost use Rattle.match_engine.specs.MachineMatches.{machine_matches};
+ghost use Rattle.match_engine.specs.AutomatonMatches.{automaton_matches};
 
-/// The matches by the machine of the patterns are the matches.
-pub fn machine_of_the_patterns_finds_their_matches()
-    ensures { (code : Codes) (advice : Advice) (patterns : List Pattern) (machine : List Row) (board : BoardState)
-        (friend : Colour) → IsMachineOf patterns machine
-        → machine_matches code advice machine patterns board friend ≡ matches_of code advice patterns board friend }
+/// The matches by the automaton of the patterns are the matches.
+pub fn automaton_of_the_patterns_finds_their_matches()
+    ensures { (code : Codes) (advice : Advice) (patterns : List Pattern) (automaton : List Row) (board : BoardState)
+        (friend : Colour) → IsAutomatonOf patterns automaton
+        → automaton_matches code advice automaton patterns board friend ≡ matches_of code advice patterns board friend }
 {}

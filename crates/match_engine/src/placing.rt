@@ -1,7 +1,7 @@
 //! Where the cells of a diagram lie on a board.
 ghost use Rattle.std.specs.Prelude.{◌≡◌, ◌*◌, ◌<◌, pos, IfSome};
 ghost use Rattle.match_rules.specs.Fits.{place_of_cell};
-ghost use Rattle.match_engine.specs.MachineMatches.{lies_on_board as does_lie_on_board};
+ghost use Rattle.match_engine.specs.AutomatonMatches.{lies_on_board as does_lie_on_board};
 ghost use Rattle.match_engine.specs.Found.{place_of_star};
 
 use go_base::{Point, Size, Transform};

@@ -7,7 +7,8 @@ ghost use Rattle.read_rules.specs.Answer.{answer_of, asked_on};
 ghost use Rattle.read_rules.specs.GoodMoves.{IsOnBoard};
 ghost use Rattle.match_engine.specs.Keys.{same_key, meaning_of};
 ghost use Rattle.read_cache.specs.Kept.{IsFound, IsMissing};
-ghost use Rattle.match_engine.specs.Readings.{HasRead, WasFresh, WasKept, Follows, AllRest, Rests, Answers, first_readings, with_depths};
+ghost use Rattle.match_engine.specs.Readings.{HasRead, WasFresh, WasKept, Follows, AllRest, Rests, Answers};
+ghost use Rattle.match_engine.specs.Readings.{first_readings, with_depths};
 
 use crate::keeping::{find_in, keep_in};
 use crate::keys::{Key, key_of};

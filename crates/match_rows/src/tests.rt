@@ -58,7 +58,7 @@ fn rows_within(rt: &HostRuntime, text: &[u8], limit: u32) -> Result<Option<u32>,
         return Err("the list is short")?;
     }
     match compile(rt.alloc(), &patterns, limit) {
-        Ok(machine) => Ok(Some(machine.rows())),
+        Ok(automaton) => Ok(Some(automaton.rows())),
         Err(JoinError::TooManyStates { limit: _ }) => Ok(None),
         Err(JoinError::NoMemory) => Err("there is memory")?,
     }
@@ -94,14 +94,14 @@ fn matches_by(
     if others.len() > patterns.len() || others.len() > 4096 {
         return Err("the other list is no longer")?;
     }
-    let machine = compile(rt.alloc(), &others, 10_000)?;
+    let automaton = compile(rt.alloc(), &others, 10_000)?;
     let depths = Depths::new(3, 2).ok_or("the depths are in range")?;
     let mut readings = Readings::new(rt.alloc(), depths, 4096)?;
     let mut helpers = Helpers::new(rt.alloc(), Vec::new(rt.alloc()))?;
     Ok(matches(
         rt.alloc(),
         &patterns,
-        &machine,
+        &automaton,
         position,
         friend,
         &mut readings,
@@ -164,12 +164,12 @@ fn flat_tables_of_small_lists(rt: HostRuntime) -> Result<(), Fail> {
         if patterns.len() > 4096 {
             return Err("the list is short")?;
         }
-        let machine = compile(rt.alloc(), &patterns, 99)?;
-        assert_eq!(rt; machine.rows(), count, "{what}");
-        assert_eq!(rt; machine.numbers(), numbers, "{what}");
+        let automaton = compile(rt.alloc(), &patterns, 99)?;
+        assert_eq!(rt; automaton.rows(), count, "{what}");
+        assert_eq!(rt; automaton.numbers(), numbers, "{what}");
         let mut end = 0;
-        for row in 0..machine.rows() {
-            let (from, to) = machine.range(row);
+        for row in 0..automaton.rows() {
+            let (from, to) = automaton.range(row);
             assert_eq!(rt; from, end, "{what}: the ranges follow one another");
             end = to;
         }
@@ -515,13 +515,13 @@ fn matches_asking(
     if patterns.len() > 4096 {
         return Err("the list is no longer")?;
     }
-    let machine = compile(rt.alloc(), &patterns, 10_000)?;
+    let automaton = compile(rt.alloc(), &patterns, 10_000)?;
     let depths = Depths::new(3, 2).ok_or("the depths are in range")?;
     let mut readings = Readings::new(rt.alloc(), depths, 4096)?;
     let found = matches(
         rt.alloc(),
         &patterns,
-        &machine,
+        &automaton,
         position,
         Colour::Black,
         &mut readings,

@@ -1,8 +1,10 @@
 -- The test of classes and constraint is what their sentences say.
-use Rattle.std.proofs.Common.{◌≡◌, ◌≢◌, ℕ, ◌⊎◌, inl, inr, Bool, true, false, not, ◌&&◌, ◌||◌, eqb, List, Contains, Option, Some, None, Result, Ok, Err, ℤ, pos, refl, sym, ap, ◌∙◌, subst}
+use Rattle.std.proofs.Common.{◌≡◌, ◌≢◌, ℕ, ◌⊎◌, inl, inr, Bool, true, false, not, ◌&&◌, ◌||◌, eqb, List, Contains}
+use Rattle.std.proofs.Common.{Option, Some, None, Result, Ok, Err, ℤ, pos, refl, sym, ap, ◌∙◌, subst}
 use Rattle.std.specs.List.{list_any}
 use Rattle.std.specs.Ordering.{int_eq}
-use Rattle.std.proofs.lemmas.Bool.{and_parts, and_from, or_cases, or_left, or_right, cases_Bool, eqb-true, eq-eqb, not_from_false, true≢false, false≢true}
+use Rattle.std.proofs.lemmas.Bool.{and_parts, and_from, or_cases, or_left, or_right, cases_Bool, eqb-true, eq-eqb}
+use Rattle.std.proofs.lemmas.Bool.{not_from_false, true≢false, false≢true}
 use Rattle.std.proofs.lemmas.Bool.Decides.{Decides-int_eq, Decides-not}
 use Rattle.std.proofs.lemmas.List.Folds.{Any-from_list_any, list_any-from_Any}
 use Rattle.std.proofs.lemmas.Option.{none-some, same_Some}
@@ -17,7 +19,8 @@ use Rattle.cons_eval.specs.Readings.{Codes, code_at}
 use Rattle.cons_eval.specs.Functions.{after_play, is_safe_move}
 use Rattle.cons_eval.specs.Meanings.{Meanings}
 use Rattle.cons_eval.specs.Values.{is_so, value_of}
-use Rattle.match_rules.specs.Conditions.{unsafe_class, enemy_class, has_class, IsSafePlay, is_safe, is_enemy_safe, meanings_at, is_so_valued, is_constraint_true, is_allowed}
+use Rattle.match_rules.specs.Conditions.{unsafe_class, enemy_class, has_class, IsSafePlay, is_safe, is_enemy_safe}
+use Rattle.match_rules.specs.Conditions.{meanings_at, is_so_valued, is_constraint_true, is_allowed}
 
 -- a class letter that is found is one of the letters
 class_there : (p : Pattern) (letter : ℕ) → has_class p letter ≡ true → Contains p.classes letter

@@ -1,5 +1,6 @@
 -- The test of a fit is the fact.
-use Rattle.std.proofs.Common.{◌≡◌, ℕ, suc, ◌+◌, ◌<◌, inl, inr, Bool, true, false, ◌&&◌, cond, ltb, eqb, Option, Some, None, Contains, refl, sym, ap, ◌∙◌, subst, arith, ℤ, pos, negsuc, ◌-ℤ◌, map}
+use Rattle.std.proofs.Common.{◌≡◌, ℕ, suc, ◌+◌, ◌<◌, inl, inr, Bool, true, false, ◌&&◌, cond, ltb, eqb, Option, Some}
+use Rattle.std.proofs.Common.{None, Contains, refl, sym, ap, ◌∙◌, subst, arith, ℤ, pos, negsuc, ◌-ℤ◌, map}
 use Rattle.std.specs.List.{range_with_len}
 use Rattle.std.proofs.lemmas.Bool.{cases_Bool, ltb-true, lt-ltb, eqb-true, and_parts, false≢true}
 use Rattle.std.proofs.lemmas.Int.{ints}
@@ -9,13 +10,15 @@ use Rattle.go_rules.specs.Strings.{cell_at}
 use Rattle.pat_types.specs.declared.letter.Letter.{Letter}
 use Rattle.pat_types.specs.declared.cell.Drawn.{Drawn}
 use Rattle.pat_types.specs.declared.cell.Drawn.TheVariants.{Nothing, OffBoard, Shows}
-use Rattle.pat_types.specs.declared.cell.Line.{Line}
-use Rattle.pat_types.specs.declared.cell.Line.TheVariants.{Crosses, Edge, Beyond}
+use Rattle.pat_types.specs.declared.cell.Strip.{Strip}
+use Rattle.pat_types.specs.declared.cell.Strip.TheVariants.{Crosses, Edge, Beyond}
 use Rattle.pat_types.specs.declared.pattern.Pattern.{Pattern}
 use Rattle.pat_types.specs.Letters.{admits}
-use Rattle.pat_types.specs.Cells.{line_at, drawn_by, drawn_at}
-use Rattle.match_rules.specs.Fits.{place_of_cell, letter_at, LetterFits, Fits, line_cells, cells_of, drawn_fits, cell_fits, fits}
-use Rattle.match_rules.proofs.Lists.{passes_each, passes_all, Contains-map_from, Contains-flat_map_from, Contains-below_from}
+use Rattle.pat_types.specs.Cells.{strip_at, drawn_by, drawn_at}
+use Rattle.match_rules.specs.Fits.{place_of_cell, letter_at, LetterFits, Fits, strip_cells, cells_of, drawn_fits}
+use Rattle.match_rules.specs.Fits.{cell_fits, fits}
+use Rattle.match_rules.proofs.Lists.{passes_each, passes_all, Contains-map_from, Contains-flat_map_from}
+use Rattle.match_rules.proofs.Lists.{Contains-below_from}
 
 -- a letter fits only on the board, where it admits what stands there
 letter_on : (l : Letter) (board : BoardState) (friend : Colour) (o : Option ℕ)
@@ -29,37 +32,37 @@ edge_off : (board : BoardState) (friend : Colour) (o : Option ℕ) → drawn_fit
 edge_off board friend None e = refl
 edge_off board friend (Some q) e = absurd (false≢true e)
 
--- the line is drawn
-abbrev is_line : Line → Bool
-is_line (Crosses k) = true
-is_line Edge = true
-is_line Beyond = false
+-- the strip is drawn
+abbrev is_strip : Strip → Bool
+is_strip (Crosses k) = true
+is_strip Edge = true
+is_strip Beyond = false
 
--- a drawn line is one of the letters' lines or of those beside them
-line_within : (n : ℕ) (before after : Bool) (z : ℤ) → is_line (line_at n before after z) ≡ true
+-- a drawn strip is one of the letters' strips or of those beside them
+strip_within : (n : ℕ) (before after : Bool) (z : ℤ) → is_strip (strip_at n before after z) ≡ true
     → (k : ℕ) × (k < n + 2) × (pos k -ℤ pos 1 ≡ z)
-line_within n before after (pos j) e = elim (cases_Bool (ltb j n)) [
+strip_within n before after (pos j) e = elim (cases_Bool (ltb j n)) [
   | inl low ↦ (suc j, omega (arith, ltb-true j n low), omega (arith, ints))
   | inr high ↦ elim (cases_Bool (eqb j n && after)) [
     | inl edge ↦ (suc j, omega (arith, eqb-true j n (and_parts (eqb j n) after edge).0), omega (arith, ints))
     | inr none ↦ absurd (false≢true
-        (sym (ap (λ t. is_line (cond t (Crosses j) (cond (eqb j n && after) Edge Beyond))) high
-        ∙ ap (λ t. is_line (cond t Edge Beyond)) none) ∙ e))
+        (sym (ap (λ t. is_strip (cond t (Crosses j) (cond (eqb j n && after) Edge Beyond))) high
+        ∙ ap (λ t. is_strip (cond t Edge Beyond)) none) ∙ e))
   ]
 ]
-line_within n before after (negsuc j) e = elim (cases_Bool (eqb j 0 && before)) [
+strip_within n before after (negsuc j) e = elim (cases_Bool (eqb j 0 && before)) [
   | inl edge ↦ (
     0,
     omega arith,
     let same : j ≡ 0 = eqb-true j 0 (and_parts (eqb j 0) before edge).0 in
         omega (arith, ints, same),
   )
-  | inr none ↦ absurd (false≢true (sym (ap (λ t. is_line (cond t Edge Beyond)) none) ∙ e))
+  | inr none ↦ absurd (false≢true (sym (ap (λ t. is_strip (cond t Edge Beyond)) none) ∙ e))
 ]
 
--- a line of the letters has its number
-line_crosses : (n k : ℕ) (before after : Bool) (z : ℤ) → line_at n before after z ≡ Crosses k → (z ≡ pos k) × (k < n)
-line_crosses n k before after (pos j) e = elim (cases_Bool (ltb j n)) [
+-- a strip of the letters has its number
+strip_crosses : (n k : ℕ) (before after : Bool) (z : ℤ) → strip_at n before after z ≡ Crosses k → (z ≡ pos k) × (k < n)
+strip_crosses n k before after (pos j) e = elim (cases_Bool (ltb j n)) [
   | inl low ↦ let same : Crosses j ≡ Crosses k =
       sym (ap (λ t. cond t (Crosses j) (cond (eqb j n && after) Edge Beyond)) low) ∙ e in let number : j ≡ k = cc in
       (ap pos number, subst (λ i. i < n) number (ltb-true j n low))
@@ -70,29 +73,29 @@ line_crosses n k before after (pos j) e = elim (cases_Bool (ltb j n)) [
     never : (b : Bool) → cond b Edge Beyond ≡ Crosses k → ⊥
     never true h = cc
     never false h = cc
-line_crosses n k before after (negsuc j) e = absurd (never (eqb j 0 && before) e)
+strip_crosses n k before after (negsuc j) e = absurd (never (eqb j 0 && before) e)
   where
     never : (b : Bool) → cond b Edge Beyond ≡ Crosses k → ⊥
     never true h = cc
     never false h = cc
 
--- the row and the column of a cell are drawn lines
-record AreLines (row column : Line) : Type 0 where
-  pub row_drawn : is_line row ≡ true
-  pub column_drawn : is_line column ≡ true
+-- the row and the column of a cell are drawn strips
+record AreStrips (row column : Strip) : Type 0 where
+  pub row_drawn : is_strip row ≡ true
+  pub column_drawn : is_strip column ≡ true
 
--- something is drawn only where drawn lines meet
-lines_meet : (p : Pattern) (row column : Line) → (drawn_by p row column ≡ Nothing → ⊥) → AreLines row column
-lines_meet p Beyond column some = absurd (some refl)
-lines_meet p Edge Beyond some = absurd (some refl)
-lines_meet p Edge Edge some = record { row_drawn = refl; column_drawn = refl }
-lines_meet p Edge (Crosses c) some = record { row_drawn = refl; column_drawn = refl }
-lines_meet p (Crosses r) Beyond some = absurd (some refl)
-lines_meet p (Crosses r) Edge some = record { row_drawn = refl; column_drawn = refl }
-lines_meet p (Crosses r) (Crosses c) some = record { row_drawn = refl; column_drawn = refl }
+-- something is drawn only where drawn strips meet
+strips_meet : (p : Pattern) (row column : Strip) → (drawn_by p row column ≡ Nothing → ⊥) → AreStrips row column
+strips_meet p Beyond column some = absurd (some refl)
+strips_meet p Edge Beyond some = absurd (some refl)
+strips_meet p Edge Edge some = record { row_drawn = refl; column_drawn = refl }
+strips_meet p Edge (Crosses c) some = record { row_drawn = refl; column_drawn = refl }
+strips_meet p (Crosses r) Beyond some = absurd (some refl)
+strips_meet p (Crosses r) Edge some = record { row_drawn = refl; column_drawn = refl }
+strips_meet p (Crosses r) (Crosses c) some = record { row_drawn = refl; column_drawn = refl }
 
--- a letter is drawn only where two lines of letters meet
-letters_meet : (p : Pattern) (row column : Line) (l : Letter) → drawn_by p row column ≡ Shows l
+-- a letter is drawn only where two strips of letters meet
+letters_meet : (p : Pattern) (row column : Strip) (l : Letter) → drawn_by p row column ≡ Shows l
     → (r : ℕ) × (c : ℕ) × (row ≡ Crosses r) × (column ≡ Crosses c) × (letter_at p r c ≡ l)
 letters_meet p Beyond column l e = absurd (let h : ⊥ = cc in h)
 letters_meet p Edge Beyond l e = absurd (let h : ⊥ = cc in h)
@@ -108,9 +111,9 @@ module _ (p : Pattern) where
       → (i : ℕ) × (j : ℕ) × (r ≡ pos i) × (c ≡ pos j) × (i < p.rows) × (j < p.cols) × (letter_at p i j ≡ l)
   unfolding drawn_at
   shown r c l e =
-      let meet = letters_meet p (line_at p.rows p.top p.bottom r) (line_at p.cols p.left p.right c) l e in
-      let row = line_crosses p.rows meet.0 p.top p.bottom r meet.2 in
-      let column = line_crosses p.cols meet.1 p.left p.right c meet.3 in
+      let meet = letters_meet p (strip_at p.rows p.top p.bottom r) (strip_at p.cols p.left p.right c) l e in
+      let row = strip_crosses p.rows meet.0 p.top p.bottom r meet.2 in
+      let column = strip_crosses p.cols meet.1 p.left p.right c meet.3 in
       (meet.0, meet.1, row.0, column.0, row.1, column.1, meet.4)
 
   -- a letter's cell shows it
@@ -118,7 +121,7 @@ module _ (p : Pattern) where
   unfolding drawn_at
   shows i j low low' =
       ap (λ t. drawn_by p (cond t (Crosses i) (cond (eqb i p.rows && p.bottom) Edge Beyond))
-      (line_at p.cols p.left p.right (pos j))) (lt-ltb i p.rows low)
+      (strip_at p.cols p.left p.right (pos j))) (lt-ltb i p.rows low)
       ∙ ap (λ t. drawn_by p (Crosses i) (cond t (Crosses j) (cond (eqb j p.cols && p.right) Edge Beyond)))
       (lt-ltb j p.cols low')
 
@@ -126,16 +129,16 @@ module _ (p : Pattern) where
   drawn_within : (r c : ℤ) → (drawn_at p r c ≡ Nothing → ⊥) → Contains (cells_of p) (r, c)
   unfolding drawn_at
   drawn_within r c some =
-      let lines = lines_meet p (line_at p.rows p.top p.bottom r) (line_at p.cols p.left p.right c) some in
-      Contains-flat_map_from (λ k. map (λ j. (k, j)) (line_cells p.cols)) (line_cells p.rows) r (r, c)
-      (of_line p.rows r (line_within p.rows p.top p.bottom r lines.row_drawn))
-      (Contains-map_from (λ j. (r, j)) (line_cells p.cols) c
-      (of_line p.cols c (line_within p.cols p.left p.right c lines.column_drawn)))
+      let strips = strips_meet p (strip_at p.rows p.top p.bottom r) (strip_at p.cols p.left p.right c) some in
+      Contains-flat_map_from (λ k. map (λ j. (k, j)) (strip_cells p.cols)) (strip_cells p.rows) r (r, c)
+      (of_strip p.rows r (strip_within p.rows p.top p.bottom r strips.row_drawn))
+      (Contains-map_from (λ j. (r, j)) (strip_cells p.cols) c
+      (of_strip p.cols c (strip_within p.cols p.left p.right c strips.column_drawn)))
     where
-      of_line : (n : ℕ) (z : ℤ) → (k : ℕ) × (k < n + 2) × (pos k -ℤ pos 1 ≡ z) → Contains (line_cells n) z
-      of_line n z line =
-          subst (Contains (line_cells n)) line.2 (Contains-map_from (λ k. pos k -ℤ pos 1)
-          (range_with_len 0 (n + 2)) line.0 (Contains-below_from (n + 2) line.0 line.1))
+      of_strip : (n : ℕ) (z : ℤ) → (k : ℕ) × (k < n + 2) × (pos k -ℤ pos 1 ≡ z) → Contains (strip_cells n) z
+      of_strip n z strip =
+          subst (Contains (strip_cells n)) strip.2 (Contains-map_from (λ k. pos k -ℤ pos 1)
+          (range_with_len 0 (n + 2)) strip.0 (Contains-below_from (n + 2) strip.0 strip.1))
 
 module _ (p : Pattern) (board : BoardState) (friend : Colour) (t m : ℕ) where
   -- a pattern that fits has each of its cells fit

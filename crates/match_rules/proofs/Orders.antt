@@ -1,12 +1,16 @@
 -- What is in the lists of matches, and in what order.
-use Rattle.std.proofs.Common.{◌≡◌, ℕ, ◌+◌, ◌-◌, ◌*◌, ◌<◌, inl, inr, Bool, true, List, filter, Contains, Some, slice_get, refl, sym, ap, ◌∙◌, subst, arith}
+use Rattle.std.proofs.Common.{◌≡◌, ℕ, ◌+◌, ◌-◌, ◌*◌, ◌<◌, inl, inr, Bool, true, List, filter, Contains, Some, slice_get}
+use Rattle.std.proofs.Common.{refl, sym, ap, ◌∙◌, subst, arith}
 use Rattle.std.specs.List.{range_with_len, enumerate_from, AllPairs}
 use Rattle.std.proofs.lemmas.List.Kept.{AllPairs-filter}
 use Rattle.pat_types.specs.declared.pattern.Pattern.{Pattern}
 use Rattle.pat_types.specs.Marks.{count_of}
 use Rattle.match_rules.specs.declared.found.Match.{Match}
 use Rattle.match_rules.specs.Match.{matches_under, matches_of_one, matches_by, ComesBefore}
-use Rattle.match_rules.proofs.Lists.{same_in_order, Contains-map, Contains-map_from, Contains-flat_map, Contains-flat_map_from, Contains-filter, Contains-filter_from, Contains-below, Contains-below_from, range_rises, Contains-enumerate, Contains-enumerate_from, enumerate_rises, AllPairs-map, AllPairs-flat_map}
+use Rattle.match_rules.proofs.Lists.{same_in_order, Contains-map, Contains-map_from, Contains-flat_map}
+use Rattle.match_rules.proofs.Lists.{Contains-flat_map_from, Contains-filter, Contains-filter_from, Contains-below}
+use Rattle.match_rules.proofs.Lists.{Contains-below_from, range_rises, Contains-enumerate, Contains-enumerate_from}
+use Rattle.match_rules.proofs.Lists.{enumerate_rises, AllPairs-map, AllPairs-flat_map}
 
 -- nothing comes before what comes before it
 pub one_way : (y z : Match) → ComesBefore y z → ComesBefore z y → ⊥

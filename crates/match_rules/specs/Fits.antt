@@ -1,6 +1,7 @@
 -- Where a pattern fits on a position, after "The Pattern Code" of the GNU Go Manual: its diagram is moved by a
 -- transformation so that the star stands at a point, and every letter and every edge is compared with the board.
-use Rattle.std.specs.Prelude.{◌≡◌, ℕ, ◌+◌, ◌*◌, ◌<◌, Bool, true, false, ℤ, pos, ◌-ℤ◌, List, map, Option, Some, None, slice_index_or}
+use Rattle.std.specs.Prelude.{◌≡◌, ℕ, ◌+◌, ◌*◌, ◌<◌, Bool, true, false, ℤ, pos, ◌-ℤ◌, List, map, Option, Some, None}
+use Rattle.std.specs.Prelude.{slice_index_or}
 use Rattle.std.specs.List.{list_all, flat_map, range_with_len}
 use Rattle.go_rules.specs.declared.Colour.{Colour}
 use Rattle.go_rules.specs.Position.{BoardState}
@@ -38,13 +39,13 @@ pub record Fits (p : Pattern) (board : BoardState) (friend : Colour) (t m : ℕ)
   pub letters : (r c : ℕ) → r < p.rows → c < p.cols → LetterFits p board friend t m r c
   pub edges : (r c : ℤ) → IsEdgeCell p r c → place_of_cell p board.size t m r c ≡ None
 
--- the cells of one line of n letters, with the cell before them and the cell after them
-abbrev pub line_cells : ℕ → List ℤ
-line_cells n = map (λ k. pos k -ℤ pos 1) (range_with_len 0 (n + 2))
+-- the cells of one strip of n letters, with the cell before them and the cell after them
+abbrev pub strip_cells : ℕ → List ℤ
+strip_cells n = map (λ k. pos k -ℤ pos 1) (range_with_len 0 (n + 2))
 
--- the cells in which the diagram may draw something: its rows and columns, and the lines beside them
+-- the cells in which the diagram may draw something: its rows and columns, and the strips beside them
 abbrev pub cells_of : Pattern → List (ℤ × ℤ)
-cells_of p = flat_map (λ r. map (λ c. (r, c)) (line_cells p.cols)) (line_cells p.rows)
+cells_of p = flat_map (λ r. map (λ c. (r, c)) (strip_cells p.cols)) (strip_cells p.rows)
 
 -- whether what is drawn fits at a place: a letter on the board, where it admits what stands there, an edge cell off the
 -- board alone, and where nothing is drawn anything does

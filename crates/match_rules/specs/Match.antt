@@ -1,6 +1,7 @@
 -- The matches of patterns on a position, in order: by the pattern's number, the transformation, and the point of the
 -- move. A pattern asks for its diagram, for a legal move, and for what its classes, its constraint and its helpers say.
-use Rattle.std.specs.Prelude.{◌≡◌, ◌≢◌, pos, true, ℕ, ◌*◌, ◌<◌, ◌&&◌, ◌⊎◌, Bool, List, map, filter, Some, Ok, slice_get, Contains}
+use Rattle.std.specs.Prelude.{◌≡◌, ◌≢◌, pos, true, ℕ, ◌*◌, ◌<◌, ◌&&◌, ◌⊎◌, Bool, List, map, filter, Some, Ok, slice_get}
+use Rattle.std.specs.Prelude.{Contains}
 use Rattle.std.specs.List.{flat_map, enumerate_from, range_with_len, AllPairs}
 use Rattle.go_rules.specs.declared.Colour.{Colour}
 use Rattle.go_rules.specs.Position.{BoardState, other}

@@ -3,35 +3,36 @@ use Rattle.std.proofs.Common.{◌≡◌, ℕ, ◌<◌, Bool, true, false, cond, 
 use Rattle.std.specs.Prelude.{IsTrue, ℤ, pos, negsuc, nat_lt, ◌==◌, ◌&&◌}
 use Rattle.std.proofs.lemmas.Bool.{lt-ltb, le-ltb, ltb-true, eq-eqb, eqb-true}
 use Rattle.pat_types.specs.declared.letter.Letter.{Letter}
-use Rattle.pat_types.specs.declared.cell.Line.{Line}
-use Rattle.pat_types.specs.declared.cell.Line.TheVariants.{Crosses, Edge, Beyond}
+use Rattle.pat_types.specs.declared.cell.Strip.{Strip}
+use Rattle.pat_types.specs.declared.cell.Strip.TheVariants.{Crosses, Edge, Beyond}
 use Rattle.pat_types.specs.declared.cell.Drawn.TheVariants.{OffBoard, Shows}
 use Rattle.pat_types.specs.declared.pattern.Pattern.{Pattern}
-use Rattle.pat_types.specs.Cells.{line_at, drawn_by, drawn_at}
-use Rattle.pat_types.specs.Edges.{IsLineOf, IsBefore, IsBehind, IsLetterCell, IsEdgeCell, on_top, at_bottom, on_left, on_right, top_left, top_right, bottom_left, bottom_right, IsDrawnAsSeen}
+use Rattle.pat_types.specs.Cells.{strip_at, drawn_by, drawn_at}
+use Rattle.pat_types.specs.Edges.{IsStripOf, IsBefore, IsBehind, IsLetterCell, IsEdgeCell, on_top, at_bottom, on_left}
+use Rattle.pat_types.specs.Edges.{on_right, top_left, top_right, bottom_left, bottom_right, IsDrawnAsSeen}
 
--- the line before the first is an edge where one is drawn there
-before_is_edge : (n : ℕ) (before after : Bool) (z : ℤ) → IsTrue before → IsBefore z → line_at n before after z ≡ Edge
+-- the strip before the first is an edge where one is drawn there
+before_is_edge : (n : ℕ) (before after : Bool) (z : ℤ) → IsTrue before → IsBefore z → strip_at n before after z ≡ Edge
 before_is_edge n before after z drawn first = rw first (rw drawn refl)
 
--- the line behind the last is an edge where one is drawn there
-behind_is_edge : (n : ℕ) (before after : Bool) (z : ℤ) → IsTrue after → IsBehind n z → line_at n before after z ≡ Edge
+-- the strip behind the last is an edge where one is drawn there
+behind_is_edge : (n : ℕ) (before after : Bool) (z : ℤ) → IsTrue after → IsBehind n z → strip_at n before after z ≡ Edge
 behind_is_edge n before after z drawn last =
     rw last (rw (le-ltb n n (omega arith)) (rw (eq-eqb n n refl) (rw drawn refl)))
 
--- a line of letters crosses them
-letters_are_crossed : (n : ℕ) (before after : Bool) (z : ℤ) → (line : IsLineOf n z)
-    → line_at n before after z ≡ Crosses line.0
-letters_are_crossed n before after z line = rw line.2 (rw (lt-ltb line.0 n line.1) refl)
+-- a strip of letters crosses them
+letters_are_crossed : (n : ℕ) (before after : Bool) (z : ℤ) → (strip : IsStripOf n z)
+    → strip_at n before after z ≡ Crosses strip.0
+letters_are_crossed n before after z strip = rw strip.2 (rw (lt-ltb strip.0 n strip.1) refl)
 
--- what the line z is, by where it lies among n lines
-abbrev LiesAt : ℕ → Bool → Bool → ℤ → Line → Type 0
+-- what the strip z is, by where it lies among n strips
+abbrev LiesAt : ℕ → Bool → Bool → ℤ → Strip → Type 0
 LiesAt n before after z (Crosses k) = (k < n) × (z ≡ pos k)
 LiesAt n before after z Edge = (IsTrue before × IsBefore z) ⊎ (IsTrue after × IsBehind n z)
 LiesAt n before after z Beyond = Unit {0}
 
--- each line lies where its kind says
-lies_at : (n : ℕ) (before after : Bool) (z : ℤ) → LiesAt n before after z (line_at n before after z)
+-- each strip lies where its kind says
+lies_at : (n : ℕ) (before after : Bool) (z : ℤ) → LiesAt n before after z (strip_at n before after z)
 lies_at n before after (pos k) = by_less (nat_lt k n) refl
   where
     by_end : (last drawn : Bool) → (k == n) ≡ last → after ≡ drawn
@@ -53,8 +54,8 @@ lies_at n before after (negsuc k) = by_first (k == 0) before refl refl
     by_first false drawn e d = tt
 
 module _ (p : Pattern) (r c : ℤ) where
-  -- what two lines are decides what is drawn where they meet
-  drawn_from : (row column : Line) → line_at p.rows p.top p.bottom r ≡ row → line_at p.cols p.left p.right c ≡ column
+  -- what two strips are decides what is drawn where they meet
+  drawn_from : (row column : Strip) → strip_at p.rows p.top p.bottom r ≡ row → strip_at p.cols p.left p.right c ≡ column
       → drawn_at p r c ≡ drawn_by p row column
   unfolding drawn_at
   drawn_from row column row_is column_is = rw row_is (rw column_is refl)
@@ -87,7 +88,7 @@ module _ (p : Pattern) (r c : ℤ) where
   corner (inr row) (inr column) = bottom_right row.0 column.0 row.1 column.1
 
   -- a cell that is drawn off the board lies on an edge
-  off_is_edge_cell : (row column : Line) → LiesAt p.rows p.top p.bottom r row → LiesAt p.cols p.left p.right c column
+  off_is_edge_cell : (row column : Strip) → LiesAt p.rows p.top p.bottom r row → LiesAt p.cols p.left p.right c column
       → drawn_by p row column ≡ OffBoard → IsEdgeCell p r c
   off_is_edge_cell Beyond column row_at column_at off = absurd cc
   off_is_edge_cell Edge Beyond row_at column_at off = absurd cc
@@ -112,7 +113,7 @@ module _ (p : Pattern) (r c : ℤ) where
   shown_is a b e = cc
 
   -- a cell that shows a letter is one of that letter
-  shows_letter_cell : (l : Letter) (row column : Line) → LiesAt p.rows p.top p.bottom r row
+  shows_letter_cell : (l : Letter) (row column : Strip) → LiesAt p.rows p.top p.bottom r row
       → LiesAt p.cols p.left p.right c column → drawn_by p row column ≡ Shows l → IsLetterCell p l r c
   shows_letter_cell l Beyond column row_at column_at shows = absurd cc
   shows_letter_cell l Edge Beyond row_at column_at shows = absurd cc

@@ -1,5 +1,5 @@
 -- The cells of a diagram as its reader sees them: the letters, and the edges that are drawn around them.
--- Rows and columns are counted from the first letter, so the line before it is -1, and the line behind the last letter
+-- Rows and columns are counted from the first letter, so the strip before it is -1, and the strip behind the last letter
 -- is the number of rows or of columns.
 use Rattle.std.specs.Prelude.{◌≡◌, ◌↔◌, ℕ, ◌+◌, ◌*◌, ◌<◌, IsTrue, ℤ, pos, negsuc, slice_index_or}
 use Rattle.pat_types.specs.declared.letter.Letter.{Letter}
@@ -8,31 +8,31 @@ use Rattle.pat_types.specs.declared.cell.Drawn.TheVariants.{OffBoard, Shows}
 use Rattle.pat_types.specs.declared.pattern.Pattern.{Pattern}
 use Rattle.pat_types.specs.Cells.{drawn_at}
 
--- the line z is one of n lines of letters
-abbrev pub IsLineOf : ℕ → ℤ → Type 0
-IsLineOf n z = (k : ℕ) × (k < n) × (z ≡ pos k)
+-- the strip z is one of n strips of letters
+abbrev pub IsStripOf : ℕ → ℤ → Type 0
+IsStripOf n z = (k : ℕ) × (k < n) × (z ≡ pos k)
 
--- the line z is the one before the first
+-- the strip z is the one before the first
 abbrev pub IsBefore : ℤ → Type 0
 IsBefore z = z ≡ negsuc 0
 
--- the line z is the one behind the last of n
+-- the strip z is the one behind the last of n
 abbrev pub IsBehind : ℕ → ℤ → Type 0
 IsBehind n z = z ≡ pos n
 
 -- the letter l stands in row r and column c
 pub record IsLetterCell (p : Pattern) (l : Letter) (r c : ℤ) : Type 0 where
-  pub in_row : IsLineOf p.rows r
-  pub in_column : IsLineOf p.cols c
+  pub in_row : IsStripOf p.rows r
+  pub in_column : IsStripOf p.cols c
   pub there : l ≡ slice_index_or p.letters (in_row.0 * p.cols + in_column.0) Friend
 
 -- the cell in row r and column c lies on a drawn edge: over the columns or beside the rows of the diagram, or in the
 -- corner between two drawn edges
 pub data IsEdgeCell (p : Pattern) (r c : ℤ) : Type 0 where
-  on_top : IsTrue p.top → IsBefore r → IsLineOf p.cols c → IsEdgeCell p r c
-  at_bottom : IsTrue p.bottom → IsBehind p.rows r → IsLineOf p.cols c → IsEdgeCell p r c
-  on_left : IsTrue p.left → IsLineOf p.rows r → IsBefore c → IsEdgeCell p r c
-  on_right : IsTrue p.right → IsLineOf p.rows r → IsBehind p.cols c → IsEdgeCell p r c
+  on_top : IsTrue p.top → IsBefore r → IsStripOf p.cols c → IsEdgeCell p r c
+  at_bottom : IsTrue p.bottom → IsBehind p.rows r → IsStripOf p.cols c → IsEdgeCell p r c
+  on_left : IsTrue p.left → IsStripOf p.rows r → IsBefore c → IsEdgeCell p r c
+  on_right : IsTrue p.right → IsStripOf p.rows r → IsBehind p.cols c → IsEdgeCell p r c
   top_left : IsTrue p.top → IsTrue p.left → IsBefore r → IsBefore c → IsEdgeCell p r c
   top_right : IsTrue p.top → IsTrue p.right → IsBefore r → IsBehind p.cols c → IsEdgeCell p r c
   bottom_left : IsTrue p.bottom → IsTrue p.left → IsBehind p.rows r → IsBefore c → IsEdgeCell p r c

@@ -1,12 +1,17 @@
 -- What the type of a pattern keeps of its labels and of its constraint.
-use Rattle.std.specs.Prelude.{ℕ, ◌+◌, Bool, true, false, ◌&&◌, not, ◌==◌, nat_lt, nat_le, List, [], ◌∷◌, length, Option, Some, None, if◌then◌else◌}
+use Rattle.std.specs.Prelude.{ℕ, ◌+◌, Bool, true, false, ◌&&◌, not, ◌==◌, nat_lt, nat_le, List, [], ◌∷◌, length, Option}
+use Rattle.std.specs.Prelude.{Some, None, if◌then◌else◌}
 use Rattle.std.specs.List.{list_any, list_all}
 use Rattle.pat_types.specs.declared.pattern.LabelAt.{LabelAt}
 use Rattle.pat_types.specs.declared.expr.Expr.{Expr, Num, Call, Not', Neg', Bin'}
 use Rattle.pat_types.specs.declared.expr.Arg.{Arg}
 use Rattle.pat_types.specs.declared.expr.Arg.TheVariants.{Label, Star, Nowhere}
 use Rattle.pat_types.specs.declared.expr.Function.{Function}
-use Rattle.pat_types.specs.declared.expr.Function.TheVariants.{Lib, Xlib, Olib, Attack, Defend, Ko, SafeXmove, SafeOmove, LegalXmove, LegalOmove, OSomewhere, XSomewhere, SameWorm, DoesAttack, DoesDefend, OdefendAgainst, XdefendAgainst, OplayAttack, OplayDefend, XplayAttack, XplayDefend}
+use Rattle.pat_types.specs.declared.expr.Function.TheVariants.{Lib, Xlib, Olib, Attack, Defend, Ko, SafeXmove}
+use Rattle.pat_types.specs.declared.expr.Function.TheVariants.{SafeOmove, LegalXmove, LegalOmove, OSomewhere}
+use Rattle.pat_types.specs.declared.expr.Function.TheVariants.{XSomewhere, SameWorm, DoesAttack, DoesDefend}
+use Rattle.pat_types.specs.declared.expr.Function.TheVariants.{OdefendAgainst, XdefendAgainst, OplayAttack, OplayDefend}
+use Rattle.pat_types.specs.declared.expr.Function.TheVariants.{XplayAttack, XplayDefend}
 
 -- the label lies in a diagram of so many rows and columns
 abbrev pub is_in : ℕ → ℕ → LabelAt → Bool

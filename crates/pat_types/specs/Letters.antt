@@ -6,7 +6,8 @@ use Rattle.go_rules.specs.declared.Colour.{Colour}
 use Rattle.go_rules.specs.Strings.{same_cell}
 use Rattle.go_rules.specs.Position.{other, stone_of}
 use Rattle.pat_types.specs.declared.letter.Letter.{Letter}
-use Rattle.pat_types.specs.declared.letter.Letter.TheVariants.{Friend, Enemy, Empty, FriendOrEmpty, EnemyOrEmpty, Any, Star}
+use Rattle.pat_types.specs.declared.letter.Letter.TheVariants.{Friend, Enemy, Empty, FriendOrEmpty, EnemyOrEmpty, Any}
+use Rattle.pat_types.specs.declared.letter.Letter.TheVariants.{Star}
 
 -- the letter admits the cell, for this friend
 abbrev pub admits : Letter → Cell → Colour → Bool

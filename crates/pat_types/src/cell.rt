@@ -1,13 +1,13 @@
 //! The cells of a diagram.
 ghost use Rattle.std.specs.Prelude.{◌≡◌, ◌<◌, length, position, IfSome};
-ghost use Rattle.pat_types.specs.Cells.{line_at, IsWithin, drawn_by, drawn_at, is_stone, anchor_of};
+ghost use Rattle.pat_types.specs.Cells.{strip_at, IsWithin, drawn_by, drawn_at, is_stone, anchor_of};
 
 use crate::letter::Letter;
 use crate::pattern::Pattern;
 
 /// A row or a column: it crosses the letters, is an edge, or neither.
 #[derive(Clone, Copy, Debug, PartialEq, Eq)]
-pub enum Line {
+pub enum Strip {
     /// It crosses the letters, as this row or column of theirs.
     Crosses(u8),
     /// It is an edge that is drawn.
@@ -27,43 +27,43 @@ pub enum Drawn {
     Shows(Letter),
 }
 
-/// What a line is, where n lines cross the letters and an edge is drawn before them and after them.
-fn line_with(n: u8, before: bool, after: bool, z: i16) -> Line
-    ensures value { result ≡ line_at n before after z }
+/// What a strip is, where n strips cross the letters and an edge is drawn before them and after them.
+fn strip_with(n: u8, before: bool, after: bool, z: i16) -> Strip
+    ensures value { result ≡ strip_at n before after z }
     ensures within { IsWithin n result }
 {
     if z < 0 {
         if z == -1 && before {
-            Line::Edge
+            Strip::Edge
         } else {
-            Line::Beyond
+            Strip::Beyond
         }
     } else if z < n as i16 {
-        Line::Crosses(z as u8)
+        Strip::Crosses(z as u8)
     } else if z == n as i16 && after {
-        Line::Edge
+        Strip::Edge
     } else {
-        Line::Beyond
+        Strip::Beyond
     }
 }
 
-/// What is drawn where two lines meet.
-fn meet(p: &Pattern, row: Line, column: Line) -> Drawn
+/// What is drawn where two strips meet.
+fn meet(p: &Pattern, row: Strip, column: Strip) -> Drawn
     requires row { IsWithin p.now.rows row }
     requires column { IsWithin p.now.cols column }
     ensures { result ≡ drawn_by p.now row column }
 {
     match row {
-        Line::Beyond => Drawn::Nothing,
-        Line::Edge => match column {
-            Line::Beyond => Drawn::Nothing,
-            Line::Edge => Drawn::OffBoard,
-            Line::Crosses(_) => Drawn::OffBoard,
+        Strip::Beyond => Drawn::Nothing,
+        Strip::Edge => match column {
+            Strip::Beyond => Drawn::Nothing,
+            Strip::Edge => Drawn::OffBoard,
+            Strip::Crosses(_) => Drawn::OffBoard,
         },
-        Line::Crosses(r) => match column {
-            Line::Beyond => Drawn::Nothing,
-            Line::Edge => Drawn::OffBoard,
-            Line::Crosses(c) => {
+        Strip::Crosses(r) => match column {
+            Strip::Beyond => Drawn::Nothing,
+            Strip::Edge => Drawn::OffBoard,
+            Strip::Crosses(c) => {
                 Drawn::Shows(p.letters.as_slice()[r as usize * p.cols as usize + c as usize])
             }
         },
@@ -75,8 +75,8 @@ fn meet(p: &Pattern, row: Line, column: Line) -> Drawn
 pub fn drawn_in(p: &Pattern, r: i16, c: i16) -> Drawn
     ensures { result ≡ drawn_at p.now r c }
 {
-    let row = line_with(p.rows, p.top, p.bottom, r);
-    let column = line_with(p.cols, p.left, p.right, c);
+    let row = strip_with(p.rows, p.top, p.bottom, r);
+    let column = strip_with(p.cols, p.left, p.right, c);
     meet(p, row, column)
 }
 

@@ -15,7 +15,7 @@ mod lists;
 mod mark;
 mod pattern;
 
-pub use cell::{Drawn, Line, anchor, drawn_in};
+pub use cell::{Drawn, Strip, anchor, drawn_in};
 pub use expr::{Arg, Expr, Function, Op};
 pub use go_base::{Bytes, NoMemory};
 pub use laws::cells_are_drawn_as_seen;

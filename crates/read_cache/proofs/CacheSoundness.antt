@@ -1,5 +1,6 @@
 -- What is kept stays right.
-use Rattle.std.proofs.Common.{◌≡◌, ◌∙◌, ◌⊎◌, inl, inr, sym, ap, subst, Bool, true, Contains, List, [], ◌∷◌, ◌++◌, ℕ, suc, ◌+◌, length, take, drop, length-append, lit≤, arith, Some}
+use Rattle.std.proofs.Common.{◌≡◌, ◌∙◌, ◌⊎◌, inl, inr, sym, ap, subst, Bool, true, Contains, List, [], ◌∷◌, ◌++◌, ℕ}
+use Rattle.std.proofs.Common.{suc, ◌+◌, length, take, drop, length-append, lit≤, arith, Some}
 use Rattle.std.proofs.lemmas.List.{length-take}
 use Rattle.std.proofs.lemmas.List.Elements.{Contains-append_left, Contains-append_right, Contains-append_cases}
 use Rattle.std.specs.Map.{lookup}

@@ -1,6 +1,7 @@
 -- A question that was just used stays among the first that are kept, and the variant that was used among its first
 -- ones, while few others are used.
-use Rattle.std.proofs.Common.{◌≡◌, ◌∙◌, inl, inr, sym, ap, subst, refl, cond, Contains, List, [], ◌∷◌, ◌++◌, ℕ, zero, suc, ◌+◌, ◌-◌, ◌≤◌, take, drop, Bool, true, false, Option, Some, None}
+use Rattle.std.proofs.Common.{◌≡◌, ◌∙◌, inl, inr, sym, ap, subst, refl, cond, Contains, List, [], ◌∷◌, ◌++◌, ℕ, zero}
+use Rattle.std.proofs.Common.{suc, ◌+◌, ◌-◌, ◌≤◌, take, drop, Bool, true, false, Option, Some, None}
 use Rattle.std.proofs.lemmas.List.{take-take}
 use Rattle.std.specs.Option.{option_map_or}
 use Rattle.std.specs.Map.{lookup, lookup_entry, remove_entry}
@@ -8,7 +9,8 @@ use Rattle.lru.proofs.CallerLemmas.{Contains-take, Contains-lookup_entry}
 use Rattle.lru.proofs.Splits.{Contains-head, Contains-tail, Contains-cons, Contains-nil}
 use Rattle.go_rules.specs.Position.{BoardState}
 use Rattle.read_cache.proofs.Each.{of_question}
-use Rattle.read_cache.specs.Kept.{Kept, HoldsOfEach, IsFound, IsMissing, put_first, kept_first, variants_of, variants_with}
+use Rattle.read_cache.specs.Kept.{Kept, HoldsOfEach, IsFound, IsMissing, put_first, kept_first, variants_of}
+use Rattle.read_cache.specs.Kept.{variants_with}
 use Rattle.read_cache.specs.Variants.{Stands}
 use Rattle.read_cache.specs.declared.variants.Variant.{Variant}
 

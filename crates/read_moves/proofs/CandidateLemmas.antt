@@ -16,11 +16,13 @@ use Rattle.go_rules.proofs.Counts.{any_below_gives, any_below_from, any_below_sa
 use Rattle.go_rules.proofs.Paths.{IsLiberty-from_test, is_is_in_string-from_fact}
 use Rattle.go_base.specs.Surroundings.{is_last_liberty_of_enemy}
 use Rattle.go_base.specs.Views.{alone, neighbours_of}
-use Rattle.go_base.proofs.PointNeighbourhoods.{whole_self, whole_string, close_next, close_again, close_alone, close_mono, alone_self}
+use Rattle.go_base.proofs.PointNeighbourhoods.{whole_self, whole_string, close_next, close_again, close_alone}
+use Rattle.go_base.proofs.PointNeighbourhoods.{close_mono, alone_self}
 use Rattle.go_base.proofs.LastLiberties.{contains-liberty_points}
 use Rattle.go_base.proofs.Liberties.{len-liberty_points}
 use Rattle.trial_board.specs.Overlays.{neighbourhood_twice}
-use Rattle.read_rules.specs.Candidates.{attacker_of, is_empty_beside, leaves_only, is_backfilling, is_candidate, near_candidates}
+use Rattle.read_rules.specs.Candidates.{attacker_of, is_empty_beside, leaves_only, is_backfilling, is_candidate}
+use Rattle.read_rules.specs.Candidates.{near_candidates}
 use Rattle.read_moves.specs.Stages.{is_wide_candidate}
 use Rattle.read_moves.specs.Steps.{is_left}
 use Rattle.read_moves.proofs.BesideLemmas.{same_tests}

@@ -1,5 +1,6 @@
 -- A string with enough liberties has one beside one given point, and beside two.
-use Rattle.std.proofs.Common.{◌≡◌, ◌≢◌, ◌⊎◌, ℕ, zero, suc, ◌+◌, ◌*◌, ◌<◌, ◌≤◌, ◌&&◌, Bool, true, false, not, cond, eqb, List, refl, ap, arith, inl, inr}
+use Rattle.std.proofs.Common.{◌≡◌, ◌≢◌, ◌⊎◌, ℕ, zero, suc, ◌+◌, ◌*◌, ◌<◌, ◌≤◌, ◌&&◌, Bool, true, false, not, cond, eqb}
+use Rattle.std.proofs.Common.{List, refl, ap, arith, inl, inr}
 use Rattle.std.proofs.lemmas.Bool.{cases_Bool, cases_eq, eq-eqb, ne_eqb, and_parts, and_from, both_ways}
 use Rattle.go_rules.specs.declared.Cell.{Cell}
 use Rattle.go_rules.specs.Below.{any_below, count_below}

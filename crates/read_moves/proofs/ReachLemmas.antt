@@ -1,6 +1,7 @@
 -- What a stone that is played reaches: its empty sides, and the other liberties of the strings that it joins. These are
 -- liberties of it, and all of them where it takes nothing.
-use Rattle.std.proofs.Common.{◌≡◌, ◌≢◌, ◌⊎◌, ℕ, ◌+◌, ◌*◌, ◌<◌, ◌&&◌, ◌||◌, Bool, true, false, cond, eqb, List, length, Result, Ok, Err, refl, sym, ap, subst, arith, inl, inr, ◌∙◌, set}
+use Rattle.std.proofs.Common.{◌≡◌, ◌≢◌, ◌⊎◌, ℕ, ◌+◌, ◌*◌, ◌<◌, ◌&&◌, ◌||◌, Bool, true, false, cond, eqb, List, length}
+use Rattle.std.proofs.Common.{Result, Ok, Err, refl, sym, ap, subst, arith, inl, inr, ◌∙◌, set}
 use Rattle.std.proofs.lemmas.Bool.{cases_Bool, cases_eq, eq-eqb, eqb-true, both_ways, and_parts, and_from}
 use Rattle.std.specs.Ordering.{nat_cmp}
 use Rattle.std.specs.Cmp.{nat_cmp_total}
@@ -11,12 +12,14 @@ use Rattle.go_rules.specs.declared.Colour.{Colour}
 use Rattle.go_rules.specs.declared.Colour.TheVariants.{Black as black, White as white}
 use Rattle.go_rules.specs.declared.Illegal.{Illegal}
 use Rattle.go_rules.specs.Board.{are_neighbours}
-use Rattle.go_rules.specs.Strings.{cell_at, is_stone, same_cell, Path, start, step, IsLiberty, is_liberty, liberties, liberty_points}
+use Rattle.go_rules.specs.Strings.{cell_at, is_stone, same_cell, Path, start, step, IsLiberty, is_liberty, liberties}
+use Rattle.go_rules.specs.Strings.{liberty_points}
 use Rattle.go_rules.specs.Position.{BoardState, IsPosition, other, stone_of}
 use Rattle.go_rules.specs.Play.{play_free, cells_after, is_taken}
 use Rattle.go_rules.proofs.Links.{liberty_moves, liberties_from, path_same, path_keeps}
 use Rattle.go_rules.proofs.Paths.{same_cell-true, same_cell-from, IsLiberty-from_test, is_liberty-from_fact}
-use Rattle.go_rules.proofs.Plays.{at_put_same, at_put_other, at_after, enemy_differs, own_not_taken, stone_is, taken_parts, alive_not_taken, taken_beside}
+use Rattle.go_rules.proofs.Plays.{at_put_same, at_put_other, at_after, enemy_differs, own_not_taken, stone_is}
+use Rattle.go_rules.proofs.Plays.{taken_parts, alive_not_taken, taken_beside}
 use Rattle.go_rules.proofs.PlayLaws.{done_state, taken_by_words}
 use Rattle.go_rules.proofs.Results.{after_on, free_done}
 use Rattle.go_rules.proofs.Sets.{same_nat_set, contains-insert_nat}

@@ -1,5 +1,6 @@
 -- The empty sides of a point.
-use Rattle.std.proofs.Common.{◌≡◌, ℕ, ◌+◌, ◌*◌, ◌/◌, ◌%◌, ◌<◌, ◌||◌, ◌&&◌, Bool, true, false, eqb, ltb, List, refl, sym, ap, subst, arith, inl, inr, ◌∙◌}
+use Rattle.std.proofs.Common.{◌≡◌, ℕ, ◌+◌, ◌*◌, ◌/◌, ◌%◌, ◌<◌, ◌||◌, ◌&&◌, Bool, true, false, eqb, ltb, List, refl, sym}
+use Rattle.std.proofs.Common.{ap, subst, arith, inl, inr, ◌∙◌}
 use Rattle.std.proofs.lemmas.Bool.{or_cases, eqb-true, and_parts, and_from, eq-eqb, lt-ltb, ltb-true}
 use Rattle.std.specs.Ordering.{nat_cmp}
 use Rattle.std.specs.FinSet as sets

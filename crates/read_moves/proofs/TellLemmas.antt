@@ -1,5 +1,6 @@
 -- What is told of points, side by side.
-use Rattle.std.proofs.Common.{◌≡◌, ◌⊎◌, ℕ, ◌+◌, ◌*◌, ◌<◌, ◌≤◌, true, cond, Some, List, sym, ap, subst, arith, inl, inr, ◌∙◌}
+use Rattle.std.proofs.Common.{◌≡◌, ◌⊎◌, ℕ, ◌+◌, ◌*◌, ◌<◌, ◌≤◌, true, cond, Some, List, sym, ap, subst, arith, inl, inr}
+use Rattle.std.proofs.Common.{◌∙◌}
 use Rattle.std.proofs.lemmas.Bool.{cases_Bool, cases_eq, eq-eqb, ne_eqb, both_ways}
 use Rattle.go_rules.specs.declared.Cell.{Cell}
 use Rattle.go_rules.specs.declared.Cell.TheVariants.{Empty}
@@ -11,7 +12,8 @@ use Rattle.go_base.proofs.SidesOfPoints.{neighbour_at-all, neighbour_at-near}
 use Rattle.read_rules.specs.Candidates.{IsEmptyNeighbour}
 use Rattle.read_moves.specs.declared.reach.Reach.{Reach}
 use Rattle.read_moves.specs.declared.reach.Reach.TheVariants.{Nothing, Only, More}
-use Rattle.read_moves.specs.Reaches.{HasOther, Tells, together, is_more, IsOtherLibertyOf, IsReached, by_side, by_string}
+use Rattle.read_moves.specs.Reaches.{HasOther, Tells, together, is_more, IsOtherLibertyOf, IsReached, by_side}
+use Rattle.read_moves.specs.Reaches.{by_string}
 
 -- two of one point at least are two of a larger set
 other_within : (P Q : ℕ → Type 0) → ((x : ℕ) → P x → Q x) → (p : ℕ) → HasOther P p → HasOther Q p

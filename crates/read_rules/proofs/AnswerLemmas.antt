@@ -1,5 +1,6 @@
 -- What a reading under one code finds, and which answer the codes come to.
-use Rattle.std.proofs.Common.{◌≡◌, ◌≢◌, ◌∙◌, ℕ, ◌-◌, Bool, true, false, not, cond, Option, Some, None, is_some, ◌<◌, ◌≤◌, ap, sym, refl, arith, inl, inr, eq-eqb}
+use Rattle.std.proofs.Common.{◌≡◌, ◌≢◌, ◌∙◌, ℕ, ◌-◌, Bool, true, false, not, cond, Option, Some, None, is_some, ◌<◌}
+use Rattle.std.proofs.Common.{◌≤◌, ap, sym, refl, arith, inl, inr, eq-eqb}
 use Rattle.std.proofs.lemmas.Bool.{cases_Bool, cases_eq, ne_eqb, and_parts, and_from}
 use Rattle.go_rules.specs.declared.Cell.{Cell}
 use Rattle.go_rules.specs.declared.Cell.TheVariants.{Empty, Black, White}
@@ -12,7 +13,8 @@ use Rattle.read_rules.specs.declared.question.Kind.{Kind}
 use Rattle.read_rules.specs.declared.question.Spot.{Spot}
 use Rattle.read_rules.specs.declared.question.ReadingQuestion.{ReadingQuestion}
 use Rattle.read_rules.specs.GameTree.{is_captured, attacker_wins, first_move}
-use Rattle.read_rules.specs.Answer.{is_attack, first_node, attains_code, is_about, code_of, first_move_of, move_of, answer_of, colour_of, asked_on}
+use Rattle.read_rules.specs.Answer.{is_attack, first_node, attains_code, is_about, code_of, first_move_of, move_of}
+use Rattle.read_rules.specs.Answer.{answer_of, colour_of, asked_on}
 use Rattle.read_rules.specs.GoodMoves.{is_barred, good_move, Reads}
 use Rattle.read_rules.proofs.WinLemmas.{wins-attacker_move, wins-defender_move}
 

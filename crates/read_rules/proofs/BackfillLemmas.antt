@@ -13,7 +13,8 @@ use Rattle.go_rules.proofs.Links.{path_same}
 use Rattle.go_rules.proofs.Boundary.{string_self}
 use Rattle.go_rules.proofs.PlayLaws.{others_stay, stone_after}
 use Rattle.go_base.specs.Views.{alone}
-use Rattle.go_base.proofs.PointNeighbourhoods.{whole_self, whole_string, whole_cases, close_whole, close_next, close_again, close_alone, alone_self, within, beside, closeness}
+use Rattle.go_base.proofs.PointNeighbourhoods.{whole_self, whole_string, whole_cases, close_whole, close_next}
+use Rattle.go_base.proofs.PointNeighbourhoods.{close_again, close_alone, alone_self, within, beside, closeness}
 use Rattle.read_rules.proofs.CandidateLaws.{size_played}
 
 -- The colour c played at l with the ban dropped, which gave this position.

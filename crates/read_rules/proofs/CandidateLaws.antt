@@ -1,5 +1,6 @@
 -- The test for a candidate says what the rules say in terms of strings and liberties.
-use Rattle.std.proofs.Common.{◌≡◌, ◌∙◌, ℕ, ◌*◌, ◌<◌, ◌&&◌, ◌||◌, Bool, true, List, Result, Ok, Err, arith, ap, refl, subst, sym, inl, inr, ltb}
+use Rattle.std.proofs.Common.{◌≡◌, ◌∙◌, ℕ, ◌*◌, ◌<◌, ◌&&◌, ◌||◌, Bool, true, List, Result, Ok, Err, arith, ap, refl}
+use Rattle.std.proofs.Common.{subst, sym, inl, inr, ltb}
 use Rattle.std.proofs.lemmas.Bool.{and_parts, and_from, or_cases, or_left, or_right, lt-ltb, ltb-true, eqb-true, eq-eqb}
 use Rattle.go_rules.specs.declared.Cell.{Cell}
 use Rattle.go_rules.specs.declared.Colour.{Colour}
@@ -9,11 +10,14 @@ use Rattle.go_rules.specs.Boundary.{is_beside_string}
 use Rattle.go_rules.specs.Position.{BoardState}
 use Rattle.go_rules.specs.Play.{play_free}
 use Rattle.go_rules.proofs.Counts.{any_below_gives, any_below_from}
-use Rattle.go_rules.proofs.Paths.{same_cell-true, same_cell-from, IsInString-from_test, is_is_in_string-from_fact, IsLiberty-from_test, is_liberty-from_fact}
+use Rattle.go_rules.proofs.Paths.{same_cell-true, same_cell-from, IsInString-from_test, is_is_in_string-from_fact}
+use Rattle.go_rules.proofs.Paths.{IsLiberty-from_test, is_liberty-from_fact}
 use Rattle.go_rules.proofs.Boundary.{is_in_string_on}
 use Rattle.go_rules.proofs.PlayLaws.{done_state}
 use Rattle.go_base.specs.Surroundings.{is_only_liberty, is_last_liberty_of_enemy}
-use Rattle.read_rules.specs.Candidates.{attacker_of, is_empty_beside, leaves_only, is_backfilling, is_candidate, IsEmptyNeighbour, IsTakenAt, IsBackfilledAt, IsCandidate, fills, looks_wide, takes, backfills}
+use Rattle.read_rules.specs.Candidates.{attacker_of, is_empty_beside, leaves_only, is_backfilling, is_candidate}
+use Rattle.read_rules.specs.Candidates.{IsEmptyNeighbour, IsTakenAt, IsBackfilledAt, IsCandidate, fills, looks_wide}
+use Rattle.read_rules.specs.Candidates.{takes, backfills}
 
 -- an empty point beside a liberty is an empty neighbour of one, and the other way round
 wide_gives : (s : ℕ) (cells : List Cell) (target p : ℕ) → is_empty_beside s cells (is_liberty s cells target) p ≡ true

@@ -1,5 +1,7 @@
 -- Who wins at a node, by the first move that suits the side to play.
-use Rattle.std.proofs.Common.{◌≡◌, ◌≢◌, ℕ, zero, suc, ◌+◌, ◌-◌, ◌*◌, ◌<◌, ◌≤◌, Bool, true, false, not, ◌&&◌, ◌||◌, cond, List, [], ◌∷◌, Option, Some, None, refl, ap, sym, ◌∙◌, arith, is_some, is_none, eqb, inl, inr}
+use Rattle.std.proofs.Common.{◌≡◌, ◌≢◌, ℕ, zero, suc, ◌+◌, ◌-◌, ◌*◌, ◌<◌, ◌≤◌, Bool, true, false, not, ◌&&◌, ◌||◌, cond}
+use Rattle.std.proofs.Common.{List, [], ◌∷◌, Option, Some, None, refl, ap, sym, ◌∙◌, arith, is_some, is_none, eqb, inl}
+use Rattle.std.proofs.Common.{inr}
 use Rattle.std.specs.List.{range_with_len, filter, find, list_any, list_all}
 use mathlib.Core.Bool.{beq}
 use Rattle.std.proofs.lemmas.Bool.{eqb-true, eqb-false, cases_Bool, cases_lt}
@@ -10,7 +12,8 @@ use Rattle.read_rules.proofs.CandidateLaws.{candidate_on}
 use Rattle.read_rules.specs.declared.node.Node.{Node}
 use Rattle.read_rules.specs.declared.question.Spot.{Spot}
 use Rattle.read_rules.specs.declared.question.Spot.TheVariants.{Pass}
-use Rattle.read_rules.specs.GameTree.{attacker_wins, child_of, next_node, allowance_of, suits, succeeds, first_success, at_point, is_captured, has_many_liberties, some_child, each_child}
+use Rattle.read_rules.specs.GameTree.{attacker_wins, child_of, next_node, allowance_of, suits, succeeds, first_success}
+use Rattle.read_rules.specs.GameTree.{at_point, is_captured, has_many_liberties, some_child, each_child}
 use Rattle.read_rules.specs.GoodMoves.{good_move}
 
 -- the first that passes both tests, among the numbers from a on

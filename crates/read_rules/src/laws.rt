@@ -7,10 +7,12 @@ ghost use Rattle.read_rules.specs.Candidates.{is_candidate, IsCandidate};
 ghost use Rattle.read_rules.specs.declared.node.Node.{Node};
 ghost use Rattle.read_rules.specs.declared.question.ReadingQuestion.{ReadingQuestion};
 ghost use Rattle.read_rules.specs.declared.question.Spot.{Spot};
-ghost use Rattle.read_rules.specs.GameTree.{is_captured, has_many_liberties, child_of, can_play, attacker_wins, succeeds};
+ghost use Rattle.read_rules.specs.GameTree.{is_captured, has_many_liberties, child_of, can_play, attacker_wins};
+ghost use Rattle.read_rules.specs.GameTree.{succeeds};
 ghost use Rattle.read_rules.specs.BanFree.{with_allowances, IsBanFree};
 ghost use Rattle.read_rules.specs.Answer.{attains_code, is_about, code_of, first_node, answer_of};
-ghost use Rattle.read_rules.specs.Rules.{HasManyLiberties, IsChild, SomeChildWins, EachChildWins, Succeeds, IsFirstMove, node_under, IsGreatestCode};
+ghost use Rattle.read_rules.specs.Rules.{HasManyLiberties, IsChild, SomeChildWins, EachChildWins, Succeeds};
+ghost use Rattle.read_rules.specs.Rules.{IsFirstMove, node_under, IsGreatestCode};
 
 use crate::question::Kind;
 use go_base::Cell;

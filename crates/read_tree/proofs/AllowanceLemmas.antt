@@ -1,5 +1,6 @@
 -- Sets of ko allowances, and the node under each of them.
-use Rattle.std.proofs.Common.{◌≡◌, ◌≢◌, ℕ, suc, ◌-◌, ◌*◌, ◌⊎◌, Bool, true, false, not, ◌&&◌, ◌||◌, cond, Option, Some, None, is_some, refl, sym, ap, subst, ◌∙◌, arith, inl, inr}
+use Rattle.std.proofs.Common.{◌≡◌, ◌≢◌, ℕ, suc, ◌-◌, ◌*◌, ◌⊎◌, Bool, true, false, not, ◌&&◌, ◌||◌, cond, Option, Some}
+use Rattle.std.proofs.Common.{None, is_some, refl, sym, ap, subst, ◌∙◌, arith, inl, inr}
 use mathlib.Core.Bool.{beq}
 use Rattle.std.proofs.lemmas.Bool.{cases_Bool, both_ways, or_right}
 use Rattle.go_rules.specs.declared.Colour.{Colour}
@@ -11,8 +12,10 @@ use Rattle.go_rules.specs.Play.{pass}
 use Rattle.read_rules.specs.Candidates.{is_candidate, candidates_of}
 use Rattle.read_rules.proofs.CandidateLaws.{candidate_on}
 use Rattle.read_rules.specs.declared.question.Spot.TheVariants.{Pass}
-use Rattle.read_rules.specs.GameTree.{is_captured, has_many_liberties, allowance_of, next_node, attacker_wins, suits, succeeds, pass_saves, first_success, at_point}
-use Rattle.read_tree.specs.Allowances.{Ko, defender_may, neither_may, attacker_may, attacker_ko_of, defender_ko_of, has, has_some, own_ko, own_where, under, next_turn, without, Tells}
+use Rattle.read_rules.specs.GameTree.{is_captured, has_many_liberties, allowance_of, next_node, attacker_wins, suits}
+use Rattle.read_rules.specs.GameTree.{succeeds, pass_saves, first_success, at_point}
+use Rattle.read_tree.specs.Allowances.{Ko, defender_may, neither_may, attacker_may, attacker_ko_of, defender_ko_of, has}
+use Rattle.read_tree.specs.Allowances.{has_some, own_ko, own_where, under, next_turn, without, Tells}
 use Rattle.read_rules.specs.declared.question.ReadingQuestion.{ReadingQuestion}
 use Rattle.read_rules.specs.ActiveArea.{IsNodeOf, by_pass}
 use Rattle.read_rules.specs.GoodMoves.{good_move}

@@ -1,6 +1,7 @@
 -- The defender's target has one liberty: a play of his elsewhere that takes no stone next to it leaves it that liberty,
 -- and the attacker takes it next. So does the pass.
-use Rattle.std.proofs.Common.{◌≡◌, ◌≢◌, ℕ, suc, ◌-◌, ◌*◌, ◌<◌, ◌≤◌, ◌&&◌, Bool, true, false, not, cond, List, Option, Some, None, Ok, refl, sym, ap, subst, ◌∙◌, arith, inl, inr, set}
+use Rattle.std.proofs.Common.{◌≡◌, ◌≢◌, ℕ, suc, ◌-◌, ◌*◌, ◌<◌, ◌≤◌, ◌&&◌, Bool, true, false, not, cond, List, Option}
+use Rattle.std.proofs.Common.{Some, None, Ok, refl, sym, ap, subst, ◌∙◌, arith, inl, inr, set}
 use Rattle.std.proofs.lemmas.Bool.{cases_Bool, cases_eq, and_from, and_parts, both_ways, eqb-true, eq-eqb}
 use Rattle.go_rules.specs.declared.Cell.{Cell}
 use Rattle.go_rules.specs.declared.Cell.TheVariants.{Empty}
@@ -8,7 +9,8 @@ use Rattle.go_rules.specs.declared.Colour.{Colour}
 use Rattle.go_rules.specs.declared.Colour.TheVariants.{Black as black, White as white}
 use Rattle.go_rules.specs.Board.{are_neighbours}
 use Rattle.go_rules.specs.Boundary.{is_enemy, is_beside_string}
-use Rattle.go_rules.specs.Strings.{cell_at, is_stone, Path, start, step, IsInString, IsLiberty, is_liberty, liberties, liberty_points}
+use Rattle.go_rules.specs.Strings.{cell_at, is_stone, Path, start, step, IsInString, IsLiberty, is_liberty, liberties}
+use Rattle.go_rules.specs.Strings.{liberty_points}
 use Rattle.go_rules.specs.Position.{BoardState, IsPosition, other, stone_of, is_banned}
 use Rattle.go_rules.specs.Play.{play_free, pass}
 use Rattle.go_rules.specs.Rules.{IsCaptured}
@@ -20,7 +22,8 @@ use Rattle.go_rules.proofs.PlayLaws.{done_state, free_keeps, others_stay}
 use Rattle.go_rules.proofs.BanLaws.{ban_parts}
 use Rattle.go_base.specs.Surroundings.{is_only_liberty, is_last_liberty_of_enemy}
 use Rattle.read_rules.specs.declared.node.Node.{Node}
-use Rattle.read_rules.specs.GameTree.{has_many_liberties, allowance_of, next_node, child_of, suits, attacker_wins, succeeds, pass_saves}
+use Rattle.read_rules.specs.GameTree.{has_many_liberties, allowance_of, next_node, child_of, suits, attacker_wins}
+use Rattle.read_rules.specs.GameTree.{succeeds, pass_saves}
 use Rattle.read_rules.specs.Rules.{HasManyLiberties}
 use Rattle.read_rules.proofs.RuleLemmas.{child_gives, many_gives}
 use Rattle.read_moves.proofs.AfterPlays.{put_liberty, after_liberty}

@@ -1,5 +1,6 @@
 -- The best answer, found move by move: a greater code takes the place of a smaller one, and an equal code that of none.
-use Rattle.std.proofs.Common.{◌≡◌, ◌≢◌, ℕ, suc, ◌+◌, ◌-◌, ◌*◌, ◌<◌, ◌≤◌, Bool, true, false, not, ◌&&◌, ◌||◌, cond, Some, None, is_some, IfSome, refl, sym, ap, subst, ◌∙◌, arith, inl, inr, ltb}
+use Rattle.std.proofs.Common.{◌≡◌, ◌≢◌, ℕ, suc, ◌+◌, ◌-◌, ◌*◌, ◌<◌, ◌≤◌, Bool, true, false, not, ◌&&◌, ◌||◌, cond, Some}
+use Rattle.std.proofs.Common.{None, is_some, IfSome, refl, sym, ap, subst, ◌∙◌, arith, inl, inr, ltb}
 use Rattle.std.proofs.lemmas.Bool.{cases_Bool, cases_eq, cases_lt, lt-ltb, le-ltb, ltb-true, both_ways}
 use Rattle.go_rules.specs.Position.{BoardState}
 use Rattle.go_rules.specs.Strings.{liberties}
@@ -15,11 +16,13 @@ use Rattle.read_rules.specs.declared.question.Kind.{Kind}
 use Rattle.read_rules.specs.declared.question.Kind.TheVariants.{Attack, Defend}
 use Rattle.read_rules.specs.declared.question.Spot.TheVariants.{At, Pass}
 use Rattle.read_tree.specs.declared.allowances.Allowances.{Allowances}
-use Rattle.read_rules.specs.GameTree.{is_captured, has_many_liberties, next_node, allowance_of, attacker_wins, succeeds, pass_saves, first_success, first_move, at_point}
+use Rattle.read_rules.specs.GameTree.{is_captured, has_many_liberties, next_node, allowance_of, attacker_wins, succeeds}
+use Rattle.read_rules.specs.GameTree.{pass_saves, first_success, first_move, at_point}
 use Rattle.read_rules.specs.Answer.{is_attack, first_node, is_about, answer_of}
 use Rattle.read_rules.specs.ActiveArea.{IsNodeOf, first}
 use Rattle.read_tree.specs.Bound.{outlasts}
-use Rattle.read_tree.specs.Allowances.{Ko, defender_may, neither_may, attacker_may, has, has_some, own_ko, under, ko_of, codes_above, best_code, Tells}
+use Rattle.read_tree.specs.Allowances.{Ko, defender_may, neither_may, attacker_may, has, has_some, own_ko, under, ko_of}
+use Rattle.read_tree.specs.Allowances.{codes_above, best_code, Tells}
 use Rattle.read_rules.specs.GoodMoves.{IsOnBoard, good_move}
 use Rattle.read_tree.specs.Steps.{first_turn, unread, better, node_of, IsBest, AreNodesOf}
 use Rattle.read_tree.proofs.AllowanceLemmas.{none_of, has_all}

@@ -1,5 +1,6 @@
 -- The target's liberties after an attacker's play that does not take it: those before, but for the point of the play.
-use Rattle.std.proofs.Common.{◌≡◌, ◌≢◌, ℕ, ◌*◌, ◌<◌, ◌&&◌, ◌||◌, true, not, cond, eqb, List, length, Option, Some, None, IfSome, Ok, refl, sym, ap, subst, ◌∙◌, inl, inr, set}
+use Rattle.std.proofs.Common.{◌≡◌, ◌≢◌, ℕ, ◌*◌, ◌<◌, ◌&&◌, ◌||◌, true, not, cond, eqb, List, length, Option, Some, None}
+use Rattle.std.proofs.Common.{IfSome, Ok, refl, sym, ap, subst, ◌∙◌, inl, inr, set}
 use Rattle.std.proofs.lemmas.Bool.{cases_eq, eq-eqb, ne_eqb, and_parts, and_from, both_ways}
 use Rattle.std.specs.Ordering.{nat_cmp}
 use Rattle.std.specs.Cmp.{nat_cmp_total}

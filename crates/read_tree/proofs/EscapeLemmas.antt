@@ -1,6 +1,7 @@
 -- The defender's play at a liberty of the target keeps the other liberties, and gains the empty sides of its point;
 -- with too many of them the target is saved.
-use Rattle.std.proofs.Common.{◌≡◌, ◌≢◌, ℕ, ◌-◌, ◌*◌, ◌<◌, ◌≤◌, ◌⊎◌, ◌&&◌, ◌||◌, Bool, true, false, not, cond, List, length, refl, sym, ap, subst, ◌∙◌, arith, inl, inr, set}
+use Rattle.std.proofs.Common.{◌≡◌, ◌≢◌, ℕ, ◌-◌, ◌*◌, ◌<◌, ◌≤◌, ◌⊎◌, ◌&&◌, ◌||◌, Bool, true, false, not, cond, List}
+use Rattle.std.proofs.Common.{length, refl, sym, ap, subst, ◌∙◌, arith, inl, inr, set}
 use Rattle.std.proofs.lemmas.Bool.{and_from, and_parts, or_cases, or_left, or_right, eqb-true, lt-ltb}
 use Rattle.std.specs.Ordering.{nat_cmp}
 use Rattle.std.specs.FinSet as sets
@@ -8,11 +9,13 @@ use Rattle.go_rules.specs.declared.Cell.{Cell}
 use Rattle.go_rules.specs.declared.Cell.TheVariants.{Empty}
 use Rattle.go_rules.specs.declared.Colour.{Colour}
 use Rattle.go_rules.specs.Below.{count_below, set_below, any_below}
-use Rattle.go_rules.specs.Strings.{cell_at, is_stone, step, IsInString, IsLiberty, is_liberty, liberties, liberty_points}
+use Rattle.go_rules.specs.Strings.{cell_at, is_stone, step, IsInString, IsLiberty, is_liberty, liberties}
+use Rattle.go_rules.specs.Strings.{liberty_points}
 use Rattle.go_rules.specs.Position.{BoardState, other, stone_of}
 use Rattle.go_rules.specs.Play.{play, cells_after}
 use Rattle.go_rules.proofs.Counts.{count_below_mono, any_below_gives, any_below_from}
-use Rattle.go_rules.proofs.Links.{are_neighbours_comm, path_same, path_back, path_keeps, liberty_moves, liberties_some, liberties_from}
+use Rattle.go_rules.proofs.Links.{are_neighbours_comm, path_same, path_back, path_keeps, liberty_moves, liberties_some}
+use Rattle.go_rules.proofs.Links.{liberties_from}
 use Rattle.go_rules.proofs.Paths.{path_on_board, IsLiberty-from_test, is_liberty-from_fact}
 use Rattle.go_rules.proofs.Plays.{at_put_same, at_put_other, at_after, own_not_taken, stone_is}
 use Rattle.go_rules.proofs.Results.{result_of, free_done, play_else}

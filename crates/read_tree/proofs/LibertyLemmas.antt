@@ -1,7 +1,9 @@
 -- A play takes away one liberty of a string at most, and none where it is not on one; so a target with many liberties
 -- is not captured.
-use Rattle.std.proofs.Common.{◌≡◌, ◌≢◌, ℕ, zero, suc, ◌+◌, ◌-◌, ◌*◌, ◌/◌, ◌<◌, ◌≤◌, ◌⊎◌, Bool, true, false, not, ◌||◌, cond, List, Ok, refl, sym, ap, subst, ◌∙◌, arith, inl, inr, ltb, eqb, add-one}
-use Rattle.std.proofs.lemmas.Bool.{cases_Bool, cases_eq, or_cases, lt-ltb, ltb-true, both_ways, eq-eqb, eqb-true, or_left, or_right}
+use Rattle.std.proofs.Common.{◌≡◌, ◌≢◌, ℕ, zero, suc, ◌+◌, ◌-◌, ◌*◌, ◌/◌, ◌<◌, ◌≤◌, ◌⊎◌, Bool, true, false, not, ◌||◌}
+use Rattle.std.proofs.Common.{cond, List, Ok, refl, sym, ap, subst, ◌∙◌, arith, inl, inr, ltb, eqb, add-one}
+use Rattle.std.proofs.lemmas.Bool.{cases_Bool, cases_eq, or_cases, lt-ltb, ltb-true, both_ways, eq-eqb, eqb-true}
+use Rattle.std.proofs.lemmas.Bool.{or_left, or_right}
 use Rattle.go_rules.specs.declared.Cell.{Cell}
 use Rattle.go_rules.specs.declared.Cell.TheVariants.{Empty, Black, White}
 use Rattle.go_rules.specs.declared.Colour.{Colour}

@@ -1,6 +1,8 @@
 -- Stages of candidates: the liberties of the target, and then the others.
-use Rattle.std.proofs.Common.{◌≡◌, ℕ, ◌+◌, ◌-◌, ◌*◌, ◌<◌, ◌≤◌, Bool, true, false, not, ◌&&◌, ◌||◌, ltb, List, Option, Some, None, is_some, refl, sym, ap, subst, ◌∙◌, arith, inl, inr}
-use Rattle.std.proofs.lemmas.Bool.{cases_Bool, cases_eq, cases_lt, both_ways, and_parts, and_from, or_left, or_right, lt-ltb, le-ltb, eq-eqb, ne_eqb}
+use Rattle.std.proofs.Common.{◌≡◌, ℕ, ◌+◌, ◌-◌, ◌*◌, ◌<◌, ◌≤◌, Bool, true, false, not, ◌&&◌, ◌||◌, ltb, List, Option}
+use Rattle.std.proofs.Common.{Some, None, is_some, refl, sym, ap, subst, ◌∙◌, arith, inl, inr}
+use Rattle.std.proofs.lemmas.Bool.{cases_Bool, cases_eq, cases_lt, both_ways, and_parts, and_from, or_left, or_right}
+use Rattle.std.proofs.lemmas.Bool.{lt-ltb, le-ltb, eq-eqb, ne_eqb}
 use Rattle.go_rules.proofs.Sets.{contains-insert_nat}
 use Rattle.std.specs.Ordering.{nat_cmp}
 use Rattle.std.specs.FinSet as sets
@@ -12,7 +14,8 @@ use Rattle.go_base.proofs.Liberties.{len-liberty_points}
 use Rattle.go_rules.specs.Position.{BoardState}
 use Rattle.read_rules.specs.declared.node.Node.{Node}
 use Rattle.read_rules.specs.Candidates.{is_candidate}
-use Rattle.read_rules.specs.GameTree.{is_captured, attacker_wins, child_of, mover_of, next_node, some_child, suits, succeeds, first_success}
+use Rattle.read_rules.specs.GameTree.{is_captured, attacker_wins, child_of, mover_of, next_node, some_child, suits}
+use Rattle.read_rules.specs.GameTree.{succeeds, first_success}
 use Rattle.go_base.specs.Facts.{Fact}
 use Rattle.read_rules.specs.declared.question.ReadingQuestion.{ReadingQuestion}
 use Rattle.read_rules.specs.ActiveArea.{AddsNear, IsNodeOf, InActiveArea}
@@ -31,7 +34,8 @@ use Rattle.go_base.specs.Surroundings.{is_last_liberty_of_enemy}
 use Rattle.read_moves.proofs.StageLemmas.{candidate_stages}
 use Rattle.read_tree.specs.Stages.{is_capture, is_other}
 use Rattle.read_tree.specs.Steps.{IsLeft, TellsBy, is_off_liberties}
-use Rattle.read_tree.proofs.AllowanceLemmas.{none_of, has-without, success_some, and_parts_not, and_false_right, and_true, has_none}
+use Rattle.read_tree.proofs.AllowanceLemmas.{none_of, has-without, success_some, and_parts_not, and_false_right}
+use Rattle.read_tree.proofs.AllowanceLemmas.{and_true, has_none}
 use Rattle.read_tree.proofs.LibertyLemmas.{bounded, child_free, play_size, play_takes_none, more_outlasts}
 
 -- a liberty of the target is a candidate

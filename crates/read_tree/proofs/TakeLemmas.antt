@@ -1,5 +1,6 @@
 -- The attacker takes a target by its only liberty, where the ban lets him play there.
-use Rattle.std.proofs.Common.{◌≡◌, ◌≢◌, ℕ, suc, ◌*◌, ◌<◌, true, false, cond, List, length, refl, sym, ap, subst, ◌∙◌, arith, add-one, set, inl, inr, ◌||◌, eqb}
+use Rattle.std.proofs.Common.{◌≡◌, ◌≢◌, ℕ, suc, ◌*◌, ◌<◌, true, false, cond, List, length, refl, sym, ap, subst, ◌∙◌}
+use Rattle.std.proofs.Common.{arith, add-one, set, inl, inr, ◌||◌, eqb}
 use Rattle.std.proofs.lemmas.Bool.{or_cases, or_right, and_parts, and_from, lt-ltb}
 use Rattle.std.specs.FinSet as sets
 use Rattle.std.specs.Ordering.{nat_cmp}
@@ -12,12 +13,14 @@ use Rattle.go_rules.specs.declared.Cell.{Cell}
 use Rattle.go_rules.specs.declared.Cell.TheVariants.{Empty}
 use Rattle.go_rules.specs.declared.Colour.{Colour}
 use Rattle.go_rules.specs.declared.Colour.TheVariants.{Black as black, White as white}
-use Rattle.go_rules.specs.Strings.{cell_at, is_stone, same_cell, Path, start, IsLiberty, is_liberty, liberties, liberty_points}
+use Rattle.go_rules.specs.Strings.{cell_at, is_stone, same_cell, Path, start, IsLiberty, is_liberty, liberties}
+use Rattle.go_rules.specs.Strings.{liberty_points}
 use Rattle.go_rules.specs.Position.{BoardState, other, stone_of}
 use Rattle.go_rules.specs.Play.{play, cells_after, is_taken}
 use Rattle.go_rules.proofs.Links.{path_same, path_keeps, liberties_from, are_neighbours_comm}
 use Rattle.go_rules.proofs.Paths.{path_on_board, same_cell-from, IsLiberty-from_test, is_liberty-from_fact}
-use Rattle.go_rules.proofs.Plays.{at_put_same, at_put_other, at_after, enemy_differs, own_not_taken, taken_whole, stone_is}
+use Rattle.go_rules.proofs.Plays.{at_put_same, at_put_other, at_after, enemy_differs, own_not_taken, taken_whole}
+use Rattle.go_rules.proofs.Plays.{stone_is}
 use Rattle.go_rules.proofs.Results.{result_of, free_done, play_else}
 use Rattle.go_rules.proofs.PlayLaws.{taken_by_words}
 use Rattle.read_rules.specs.Candidates.{fills}

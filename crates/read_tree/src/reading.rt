@@ -1,6 +1,7 @@
 //! The two questions: attack and defend.
 
-ghost use Rattle.std.specs.Prelude.{◌≡◌, ◌≢◌, ◌+◌, ◌*◌, ◌<◌, ◌≤◌, ◌↔◌, ℕ, suc, Bool, true, false, length, IsNone, IfSome, IsTrue, None, Some};
+ghost use Rattle.std.specs.Prelude.{◌≡◌, ◌≢◌, ◌+◌, ◌*◌, ◌<◌, ◌≤◌, ◌↔◌, ℕ, suc, Bool, true, false, length, IsNone};
+ghost use Rattle.std.specs.Prelude.{IfSome, IsTrue, None, Some};
 ghost use Rattle.go_rules.specs.Position.{BoardState};
 ghost use Rattle.go_rules.specs.Strings.{cell_at, liberties, liberty_points};
 ghost use Rattle.go_rules.specs.Neighbourhood.{neighbourhood_of};

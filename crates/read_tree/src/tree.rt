@@ -1,6 +1,7 @@
 //! The walk over the game tree: the plays of a node one after another, each read to its end before the next.
 
-ghost use Rattle.std.specs.Prelude.{◌≡◌, ◌⊎◌, ◌+◌, ◌*◌, ◌<◌, ◌≤◌, ℕ, suc, ◌-◌, ◌==◌, ◌||◌, ◌&&◌, nat_lt, true, false, IsTrue, IfSome, length, is_some, if◌then◌else◌};
+ghost use Rattle.std.specs.Prelude.{◌≡◌, ◌⊎◌, ◌+◌, ◌*◌, ◌<◌, ◌≤◌, ℕ, suc, ◌-◌, ◌==◌, ◌||◌, ◌&&◌, nat_lt, true, false};
+ghost use Rattle.std.specs.Prelude.{IsTrue, IfSome, length, is_some, if◌then◌else◌};
 ghost use Rattle.go_rules.specs.Neighbourhood.{neighbourhood_of};
 ghost use Rattle.go_rules.specs.Strings.{liberties, liberty_points};
 ghost use Rattle.std.specs.FinSet as set;
@@ -16,7 +17,8 @@ ghost use Rattle.read_tree.specs.Bound.{outlasts};
 ghost use Rattle.read_rules.specs.GameTree.{is_captured, attacker_wins, succeeds, first_success, pass_saves};
 ghost use Rattle.read_tree.specs.Allowances.{Ko, under, next_turn, has_some, without, Tells};
 ghost use Rattle.read_rules.specs.GoodMoves.{good_move};
-ghost use Rattle.read_tree.specs.Steps.{IsTaken, IsInAtari, is_safe, tail_if, Makes, has_way, AreNodesOf, TellsBy, is_off_liberties, IsCarried};
+ghost use Rattle.read_tree.specs.Steps.{IsTaken, IsInAtari, is_safe, tail_if, Makes, has_way, AreNodesOf, TellsBy};
+ghost use Rattle.read_tree.specs.Steps.{is_off_liberties, IsCarried};
 
 use crate::allowances::Allowances;
 use crate::apart::{all_but, copy_of};

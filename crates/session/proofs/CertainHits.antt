@@ -1,5 +1,6 @@
 -- No certain hit is fresh: what was read at an earlier line is still kept, and its facts still hold.
-use Rattle.std.proofs.Common.{◌≡◌, ℕ, suc, ◌+◌, ◌^◌, ◌<◌, ◌≤◌, Bool, true, false, cond, List, [], ◌∷◌, ◌++◌, length, Option, refl, sym, ap, subst, ◌∙◌, arith, inl, inr}
+use Rattle.std.proofs.Common.{◌≡◌, ℕ, suc, ◌+◌, ◌^◌, ◌<◌, ◌≤◌, Bool, true, false, cond, List, [], ◌∷◌, ◌++◌, length}
+use Rattle.std.proofs.Common.{Option, refl, sym, ap, subst, ◌∙◌, arith, inl, inr}
 use Rattle.std.specs.Option.{is_some}
 use Rattle.std.proofs.lemmas.List.Sums.{sum_by-cons}
 use Rattle.go_rules.specs.Position.{BoardState}
@@ -8,13 +9,15 @@ use Rattle.gtp_cmd.specs.declared.commands.CommandName.{CommandName}
 use Rattle.run_notes.specs.declared.notes.Counts.{Counts}
 use Rattle.match_engine.specs.declared.keys.Key.{Key}
 use Rattle.match_engine.specs.Readings.{KeptReadings}
-use Rattle.match_engine.proofs.RepeatedQuestions.{IsAtHand, IsAtHand-first, IsAtHand-later, IsAtHand-kept, HasRead-capacity, HasRead-refused}
+use Rattle.match_engine.proofs.RepeatedQuestions.{IsAtHand, IsAtHand-first, IsAtHand-later, IsAtHand-kept}
+use Rattle.match_engine.proofs.RepeatedQuestions.{HasRead-capacity, HasRead-refused}
 use Rattle.session.specs.Machine.{Machine, position_of}
 use Rattle.session.specs.SessionState.{SessionState, machine_of}
 use Rattle.session.specs.Counting.{counted, is_read_line}
 use Rattle.session.specs.Asking.{Asks, Nothing, One, Many, ReadsAs, ReadsOnce, IsAfterLine, asks_of_line}
 use Rattle.session.specs.Turns.{Turn, IsAlong}
-use Rattle.session.specs.CertainHit.{IsCertainHit, HaveCertainHits, board_at, is_reading, is_matching, named_in, reading_lines, matching_lines}
+use Rattle.session.specs.CertainHit.{IsCertainHit, HaveCertainHits, board_at, is_reading, is_matching, named_in}
+use Rattle.session.specs.CertainHit.{reading_lines, matching_lines}
 use Rattle.session.proofs.CommandQuestions.{Fits, Fits-line, is_read_line-one}
 use Rattle.session.proofs.TallyLemmas.{IsAlong-append, IsAlong-split}
 

@@ -7,7 +7,8 @@ use Rattle.gtp_cmd.specs.Vertices.{vertex_of}
 use Rattle.gtp_cmd.specs.Colours.{colour_of}
 use Rattle.gtp_cmd.specs.Komi.{komi_of}
 use Rattle.gtp_cmd.specs.Words.{number_of}
-use Rattle.gtp_cmd.specs.Commands.{named, asked, called, said, said_with, parsed_words, parsed_of, command_of, first_argument, known_of, size_of, move_of, depths_of}
+use Rattle.gtp_cmd.specs.Commands.{named, asked, called, said, said_with, parsed_words, parsed_of, command_of}
+use Rattle.gtp_cmd.specs.Commands.{first_argument, known_of, size_of, move_of, depths_of}
 use Rattle.gtp_cmd.specs.declared.commands.CommandName.{CommandName}
 use Rattle.gtp_cmd.specs.declared.commands.CommandName.TheVariants as name
 use Rattle.gtp_cmd.specs.declared.commands.Command.{Command}

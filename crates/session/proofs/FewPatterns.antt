@@ -1,5 +1,7 @@
 -- A text without a fault has at most as many entries as a database may have.
-use Rattle.std.proofs.Common.{◌≡◌, ℕ, ◌+◌, ◌≤◌, ◌<◌, Bool, true, false, cond, leb, List, [], ◌∷◌, ◌++◌, length, map, Option, Some, None, Result, Ok, Err, IfOk, refl, sym, ap, subst, ◌∙◌, arith, length-append}
+use Rattle.std.proofs.Common.{◌≡◌, ℕ, ◌+◌, ◌≤◌, ◌<◌, Bool, true, false, cond, leb, List, [], ◌∷◌, ◌++◌, length, map}
+use Rattle.std.proofs.Common.{Option, Some, None, Result, Ok, Err, IfOk, refl, sym, ap, subst, ◌∙◌, arith}
+use Rattle.std.proofs.Common.{length-append}
 use Rattle.std.proofs.lemmas.Bool.Decides.{nat_tests}
 use Rattle.std.proofs.lemmas.List.{length-map}
 use Rattle.std.specs.Prelude.{fold}
@@ -13,10 +15,12 @@ use Rattle.db_rules.specs.declared.stage.TableCell.{TableCell}
 use Rattle.db_rules.specs.declared.stage.TableCell.TheVariants.{Next, Refused}
 use Rattle.db_rules.specs.declared.stage.Stage.{Stage}
 use Rattle.db_rules.specs.declared.stage.Stage.TheVariants.{Start, Diagram, Labels, Expression, Actions}
-use Rattle.db_rules.specs.Blocks.{Block, SoFar, blocks_of, begun_with, placed, cell_for, with_cell, after_line, at_start, so_far}
+use Rattle.db_rules.specs.Blocks.{Block, SoFar, blocks_of, begun_with, placed, cell_for, with_cell, after_line}
+use Rattle.db_rules.specs.Blocks.{at_start, so_far}
 use Rattle.db_rules.specs.Entries.{Entry, entry_of_block}
 use Rattle.db_rules.specs.Kinds.{first_of}
-use Rattle.db_rules.specs.Faults.{or_else, at_line, pattern_fault, own_fault, table_fault, closing_fault, found, first_fault, end_number, entries}
+use Rattle.db_rules.specs.Faults.{or_else, at_line, pattern_fault, own_fault, table_fault, closing_fault, found}
+use Rattle.db_rules.specs.Faults.{first_fault, end_number, entries}
 use Rattle.db_rules.proofs.Walk.{walk, first_fault-walk}
 use Rattle.session.specs.Opening.{most_patterns}
 

@@ -18,7 +18,8 @@ use Rattle.match_engine.specs.Readings.{ReadingsView, HasRead, AllRest}
 use Rattle.session.specs.Machine.{Machine, position_of}
 use Rattle.session.specs.SessionState.{SessionState, machine_of}
 use Rattle.session.specs.Counting.{counted, has_stone, is_read, is_parsed_read, is_read_line}
-use Rattle.session.specs.Asking.{Nothing, One, ReadsAs, ReadsNothing, KeepsCounts, CountsRefused, after_trials, key_at, asks_at, asks_of, asks_of_parsed, asks_of_line}
+use Rattle.session.specs.Asking.{Nothing, One, ReadsAs, ReadsNothing, KeepsCounts, CountsRefused, after_trials, key_at}
+use Rattle.session.specs.Asking.{asks_at, asks_of, asks_of_parsed, asks_of_line}
 use Rattle.session.specs.Serving.{HasFewFresh}
 
 module _ (old new : SessionState) where

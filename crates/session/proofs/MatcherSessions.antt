@@ -5,10 +5,10 @@ use Rattle.go_rules.specs.declared.Colour.{Colour}
 use Rattle.go_rules.specs.Position.{BoardState}
 use Rattle.pat_types.specs.declared.pattern.Pattern.{Pattern}
 use Rattle.dfa_core.specs.Automata.{Row}
-use Rattle.dfa_core.specs.States.{IsMachineOf}
-use Rattle.match_engine.specs.MachineMatches.{machine_matches, is_machine_match}
+use Rattle.dfa_core.specs.States.{IsAutomatonOf}
+use Rattle.match_engine.specs.AutomatonMatches.{automaton_matches, is_automaton_match}
 use Rattle.match_rules.proofs.Orders.{by-has}
-use Rattle.match_engine.proofs.Patterns.{same_by_machine}
+use Rattle.match_engine.proofs.Patterns.{same_by_automaton}
 use Rattle.session.specs.Machine.{Machine, first_machine, position_of}
 use Rattle.match_rules.specs.Conditions.{Advice}
 use Rattle.session.specs.Matcher.{Matcher, plain_matcher, codes_of}
@@ -25,15 +25,15 @@ use Rattle.session.specs.MatchTexts.{AreAmong}
 -- the matches by an automaton are among the patterns and on the board
 pub AreAmong-found : (code : Codes) (advice : Advice) (rows : List Row) (patterns : List Pattern) (board : BoardState)
     (friend : Colour)
-    → AreAmong patterns board.size (machine_matches code advice rows patterns board friend)
-unfolding machine_matches
+    → AreAmong patterns board.size (automaton_matches code advice rows patterns board friend)
+unfolding automaton_matches
 AreAmong-found code advice rows patterns board friend = λ z there.
-    let by = by-has (is_machine_match code advice rows board friend) patterns board.size z there in
+    let by = by-has (is_automaton_match code advice rows board friend) patterns board.size z there in
     (slice_get_within patterns z.pattern by.pattern by.number, by.at)
 
 -- with the automaton of its patterns a session is plain before its first line
 pub plain-first : (advice : Advice) (patterns : List Pattern) (rows : List Row) (plies wide capacity : ℕ)
-    → 8 ≤ capacity → IsMachineOf patterns rows
+    → 8 ≤ capacity → IsAutomatonOf patterns rows
     → IsPlainWith advice patterns plies wide (first_kept patterns rows plies wide capacity)
     (matcher_with advice (first_kept patterns rows plies wide capacity))
 plain-first advice patterns rows plies wide capacity room accepts = record {
@@ -42,7 +42,7 @@ plain-first advice patterns rows plies wide capacity room accepts = record {
   room = room;
   matches = λ i. record {
     patterns = patterns;
-    matches = λ machine friend. same_by_machine (codes_of machine) advice patterns rows (position_of machine) friend
+    matches = λ machine friend. same_by_automaton (codes_of machine) advice patterns rows (position_of machine) friend
         accepts i;
   };
 }

@@ -1,5 +1,6 @@
 -- A reply as it is put on the output.
-use Rattle.std.proofs.Common.{◌≡◌, ⊎_elim, ℕ, Bool, false, List, [], ◌∷◌, length, Option, refl, sym, ap, subst, ◌∙◌, inl, inr}
+use Rattle.std.proofs.Common.{◌≡◌, ⊎_elim, ℕ, Bool, false, List, [], ◌∷◌, length, Option, refl, sym, ap, subst, ◌∙◌}
+use Rattle.std.proofs.Common.{inl, inr}
 use Rattle.std.specs.Io.KnownBytes.{Appends}
 use Rattle.gtp_rules.specs.Lines.{RawLine}
 use Rattle.gtp_rules.specs.Steps.{Step}
@@ -16,7 +17,8 @@ use Rattle.session.specs.Tallies.{kept_sum, one_turn, reply_count}
 use Rattle.session.specs.Machine.{Machine}
 use Rattle.run_notes.specs.declared.notes.Counts.{Counts}
 use Rattle.session.specs.Serving.{PutsPart, PutsReply, Replies, RepliesPart, RunsTo, progress_of}
-use Rattle.session.specs.Waiting.{WaitingState, holds_with, sent_with, progress_with, Stop, IsStop, CutsReply, MayStop, MayCut, Sends}
+use Rattle.session.specs.Waiting.{WaitingState, holds_with, sent_with, progress_with, Stop, IsStop, CutsReply, MayStop}
+use Rattle.session.specs.Waiting.{MayCut, Sends}
 use Rattle.session.proofs.ServeLemmas.{RunsTo-one, RunsPart-one}
 use Rattle.session.specs.Replies.{IsReply, IsReplyTo, IsRefusal, IsSound, reply_bytes, reply_ends}
 use Rattle.session.specs.declared.reply.Reply.{Reply}

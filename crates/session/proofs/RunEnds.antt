@@ -1,5 +1,6 @@
 -- A run so far, and what it says by its outcome when it stops here.
-use Rattle.std.proofs.Common.{◌≡◌, ℕ, ◌+◌, ◌-◌, ◌<◌, ◌≤◌, Bool, true, false, List, [], ◌∷◌, ◌++◌, length, take, Option, None, refl, sym, ap, subst, ◌∙◌, append-nil, arith, inl, inr, length-append}
+use Rattle.std.proofs.Common.{◌≡◌, ℕ, ◌+◌, ◌-◌, ◌<◌, ◌≤◌, Bool, true, false, List, [], ◌∷◌, ◌++◌, length, take, Option}
+use Rattle.std.proofs.Common.{None, refl, sym, ap, subst, ◌∙◌, append-nil, arith, inl, inr, length-append}
 use Rattle.std.specs.Io.KnownBytes.{Appends, Consumes, IsAtEnd, Keeps}
 use Rattle.std.proofs.KnownBytes.{Consumes-nil, Consumes-trans, Consumes-kept}
 use Rattle.std.proofs.lemmas.List.{take_at, take_all, length-take-le}
@@ -8,14 +9,16 @@ use Rattle.gtp_rules.specs.Steps.{Step}
 use Rattle.gtp_rules.specs.Transcript.{GoesOn}
 use Rattle.gtp_rules.proofs.Runs.{Cut-front}
 use Rattle.gtp_lex.specs.Held.{lines_from, held_from, held_line}
-use Rattle.gtp_lex.proofs.HeldLemmas.{lines_from-append, held_from-append, lines_of-lines_from, lines_with_rest-lines_from}
+use Rattle.gtp_lex.proofs.HeldLemmas.{lines_from-append, held_from-append, lines_of-lines_from}
+use Rattle.gtp_lex.proofs.HeldLemmas.{lines_with_rest-lines_from}
 use Rattle.session.specs.SessionState.{SessionState}
 use Rattle.session.specs.Turns.{Turn}
 use Rattle.session.specs.Tallies.{Tally, Progress, Advances, IsTallied, no_tally, together}
 use Rattle.session.specs.Serving.{RunsTo, RunsPart}
 use Rattle.session.specs.Ends.{most_taken, Streams, earlier}
 use Rattle.session.specs.Opened.{ServesCounting}
-use Rattle.session.proofs.TallyLemmas.{Advances-none, Advances-trans, IsTallied-nil, IsTallied-append, IsTallied-run, BreaksOff-after, BreaksOff-more, BreaksOff-is, BreaksOff-cut}
+use Rattle.session.proofs.TallyLemmas.{Advances-none, Advances-trans, IsTallied-nil, IsTallied-append, IsTallied-run}
+use Rattle.session.proofs.TallyLemmas.{BreaksOff-after, BreaksOff-more, BreaksOff-is, BreaksOff-cut}
 use Rattle.session.specs.declared.outcome.End.TheVariants.{Done, InputFault, OutputFault, InputTooLong}
 
 -- some bytes were taken and some put, each line that ended was answered, the rest is held, and room bytes may still

@@ -1,5 +1,7 @@
 -- The steps of the loops of a run, over plain values.
-use Rattle.std.proofs.Common.{◌≡◌, ◌≢◌, ⊎_elim, inl, inr, ℕ, ◌-◌, Bool, true, false, List, [], ◌∷◌, ◌++◌, length, take, drop, Option, Some, None, Result, OnOk, IfErr, refl, sym, ap, subst, ◌∙◌, append_assoc, append-nil, take-append-drop, arith}
+use Rattle.std.proofs.Common.{◌≡◌, ◌≢◌, ⊎_elim, inl, inr, ℕ, ◌-◌, Bool, true, false, List, [], ◌∷◌, ◌++◌, length, take}
+use Rattle.std.proofs.Common.{drop, Option, Some, None, Result, OnOk, IfErr, refl, sym, ap, subst, ◌∙◌, append_assoc}
+use Rattle.std.proofs.Common.{append-nil, take-append-drop, arith}
 use Rattle.std.proofs.lemmas.List.{take_rest, take_all}
 use Rattle.gtp_rules.specs.Lines.{RawLine, Line, TooLong}
 use Rattle.gtp_rules.specs.Steps.{Step}
@@ -18,9 +20,11 @@ use Rattle.session.specs.SessionState.{SessionState}
 use Rattle.session.specs.Turns.{Turn}
 use Rattle.session.specs.Tallies.{Progress, IsTallied, tally_of, cut_tally, no_tally, together}
 use Rattle.session.specs.Serving.{Replies, RepliesPart, RunsTo, RunsPart, progress_of}
-use Rattle.session.specs.Waiting.{WaitingState, none_wait, holds_with, Stop, IsStop, MayCut, CutsShort, Stays, progress_with}
+use Rattle.session.specs.Waiting.{WaitingState, none_wait, holds_with, Stop, IsStop, MayCut, CutsShort, Stays}
+use Rattle.session.specs.Waiting.{progress_with}
 use Rattle.session.proofs.WaitingReplies.{kept-none, none-appends}
-use Rattle.session.proofs.TallyLemmas.{Advances-none, Advances-trans, IsTallied-nil, IsTallied-one, IsTallied-append, IsTallied-ended, BreaksOff-one, BreaksOff-after, BreaksOff-more, BreaksOff-is}
+use Rattle.session.proofs.TallyLemmas.{Advances-none, Advances-trans, IsTallied-nil, IsTallied-one, IsTallied-append}
+use Rattle.session.proofs.TallyLemmas.{IsTallied-ended, BreaksOff-one, BreaksOff-after, BreaksOff-more, BreaksOff-is}
 
 -- The line that `take` or `finish` gives.
 

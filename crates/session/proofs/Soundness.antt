@@ -1,6 +1,7 @@
 -- What every step keeps: a refused line keeps the machine, a growing reply is a success whose refusal stands beside
 -- it, and only a success ends the session.
-use Rattle.std.proofs.Common.{◌≡◌, ℕ, Bool, true, false, cond, List, [], ◌∷◌, Option, None, get_or, arith, refl, sym, ap, subst, ◌∙◌}
+use Rattle.std.proofs.Common.{◌≡◌, ℕ, Bool, true, false, cond, List, [], ◌∷◌, Option, None, get_or, arith, refl, sym}
+use Rattle.std.proofs.Common.{ap, subst, ◌∙◌}
 use Rattle.gtp_rules.specs.Lines.{RawLine, Line, TooLong}
 use Rattle.gtp_cmd.specs.Commands.{parsed_of}
 use Rattle.gtp_cmd.specs.Replies.{success_text}

@@ -3,13 +3,15 @@ use Rattle.std.specs.Prelude.{min}
 use Rattle.std.proofs.KnownBytes.{Appends-nil, Appends-trans}
 use Rattle.std.proofs.Math.Nat.{min-eq_left, min-eq_right}
 use Rattle.std.proofs.lemmas.Bool.{cases_lt}
-use Rattle.std.proofs.Common.{◌≡◌, ⊎_elim, ℕ, zero, suc, ◌+◌, ◌-◌, ◌^◌, ◌<◌, ◌≤◌, Bool, true, false, List, [], ◌∷◌, ◌++◌, length, refl, sym, ap, subst, ◌∙◌, append_assoc, append-nil, arith, length-append}
+use Rattle.std.proofs.Common.{◌≡◌, ⊎_elim, ℕ, zero, suc, ◌+◌, ◌-◌, ◌^◌, ◌<◌, ◌≤◌, Bool, true, false, List, [], ◌∷◌}
+use Rattle.std.proofs.Common.{◌++◌, length, refl, sym, ap, subst, ◌∙◌, append_assoc, append-nil, arith, length-append}
 use Rattle.gtp_rules.specs.Lines.{RawLine}
 use Rattle.gtp_rules.specs.Steps.{Step}
 use Rattle.gtp_rules.specs.Transcript.{Answers, IsRun, Cut}
 use Rattle.session.specs.SessionState.{SessionState}
 use Rattle.session.specs.Turns.{Turn, IsAlong}
-use Rattle.session.specs.Tallies.{Tally, no_tally, together, tally_of, cut_tally, kept_sum, Progress, Advances, IsTallied, BreaksOff}
+use Rattle.session.specs.Tallies.{Tally, no_tally, together, tally_of, cut_tally, kept_sum, Progress, Advances}
+use Rattle.session.specs.Tallies.{IsTallied, BreaksOff}
 
 -- three tallies, in either grouping
 pub together-assoc : {M : Type 0} (a b c : Tally M) → together (together a b) c ≡ together a (together b c)

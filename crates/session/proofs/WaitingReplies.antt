@@ -1,5 +1,8 @@
 -- Replies that wait: one more of them, and how they go out or break off.
-use Rattle.std.proofs.Common.{◌≡◌, ⊎_elim, inl, inr, ℕ, suc, ◌+◌, ◌-◌, ◌<◌, ◌≤◌, Bool, true, false, cond, nat_le, List, [], ◌∷◌, ◌++◌, length, take, drop, Option, Some, None, Result, Ok, Err, OnOk, IfErr, IsErrAnd, refl, sym, ap, subst, ◌∙◌, append_assoc, append-nil, take-append-drop, take-add, length-append, le-leb, set, arith}
+use Rattle.std.proofs.Common.{◌≡◌, ⊎_elim, inl, inr, ℕ, suc, ◌+◌, ◌-◌, ◌<◌, ◌≤◌, Bool, true, false, cond, nat_le, List}
+use Rattle.std.proofs.Common.{[], ◌∷◌, ◌++◌, length, take, drop, Option, Some, None, Result, Ok, Err, OnOk, IfErr}
+use Rattle.std.proofs.Common.{IsErrAnd, refl, sym, ap, subst, ◌∙◌, append_assoc, append-nil, take-append-drop, take-add}
+use Rattle.std.proofs.Common.{length-append, le-leb, set, arith}
 use Rattle.std.specs.Io.KnownBytes.{Appends, Keeps, append_known}
 use Rattle.std.proofs.KnownBytes.{Appends-trans, Appends-kept}
 use Rattle.std.proofs.lemmas.Bool.{cases_lt, lt-leb}
@@ -10,7 +13,8 @@ use Rattle.run_notes.specs.declared.notes.Sent.{Sent}
 use Rattle.session.specs.SessionState.{no_counts}
 use Rattle.session.specs.Tallies.{kept_sum}
 use Rattle.session.specs.Serving.{Puts, PutsFront, PutsPart, PutsReply}
-use Rattle.session.specs.Waiting.{WaitingState, none_wait, gone, counts_at, AreMarked, holds_with, sent_with, Stop, IsStop, CutsReply, Stays, Sends}
+use Rattle.session.specs.Waiting.{WaitingState, none_wait, gone, counts_at, AreMarked, holds_with, sent_with, Stop}
+use Rattle.session.specs.Waiting.{IsStop, CutsReply, Stays, Sends}
 use Rattle.session.specs.declared.outbox.ReplyMark.{ReplyMark}
 use Rattle.session.proofs.TallyLemmas.{kept_sum-twice}
 

@@ -13,7 +13,8 @@ use Rattle.read_rules.specs.declared.question.Kind.TheVariants.{Attack, Defend}
 use Rattle.session.specs.Machine.{Machine}
 use Rattle.session.specs.Matcher.{Matcher}
 use Rattle.session.specs.Effects.{Effect, Refused, Told, Grown, Ended, replied}
-use Rattle.session.specs.BoardCommands.{resized, cleared, komi_kept, played, taken_back, shown, allowed, all_allowed, liberties_counted, liberties_found, captures_counted}
+use Rattle.session.specs.BoardCommands.{resized, cleared, komi_kept, played, taken_back, shown, allowed, all_allowed}
+use Rattle.session.specs.BoardCommands.{liberties_counted, liberties_found, captures_counted}
 use Rattle.session.specs.ReadingCommands.{read, deepened}
 use Rattle.session.specs.MatchingCommands.{matches_listed, patterns_listed}
 

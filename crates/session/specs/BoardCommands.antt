@@ -1,11 +1,13 @@
 -- What the commands do that set up a board, play on it and tell of it.
-use Rattle.std.specs.Prelude.{ℕ, ◌-◌, ◌==◌, Bool, List, [], ◌∷◌, ◌++◌, length, take, Option, None, Some, is_ok, if◌then◌else◌, codes, decimal}
+use Rattle.std.specs.Prelude.{ℕ, ◌-◌, ◌==◌, Bool, List, [], ◌∷◌, ◌++◌, length, take, Option, None, Some, is_ok}
+use Rattle.std.specs.Prelude.{if◌then◌else◌, codes, decimal}
 use Rattle.go_rules.specs.declared.Colour.{Colour}
 use Rattle.go_rules.specs.declared.Move.{Move}
 use Rattle.go_rules.specs.Strings.{cell_at, is_stone, liberties}
 use Rattle.go_rules.specs.Replay.{moved, captures}
 use Rattle.go_history.specs.Games.{most_moves}
-use Rattle.gtp_cmd.specs.declared.refusals.RefuseText.TheVariants.{UnacceptableSize, IllegalMove, HistoryFull, CannotUndo, VertexEmpty}
+use Rattle.gtp_cmd.specs.declared.refusals.RefuseText.TheVariants.{UnacceptableSize, IllegalMove, HistoryFull}
+use Rattle.gtp_cmd.specs.declared.refusals.RefuseText.TheVariants.{CannotUndo, VertexEmpty}
 use Rattle.session.specs.Machine.{Machine, position_of}
 use Rattle.session.specs.Effects.{Effect, Refused, Told, Grown}
 use Rattle.session.specs.BoardText.{board_text}

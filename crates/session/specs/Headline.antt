@@ -1,5 +1,6 @@
 -- The claim of `run`: by its outcome, what its files are, what it took from its source, put on its output and noted.
-use Rattle.std.specs.Prelude.{◌≡◌, ◌≢◌, ◌⊎◌, ℕ, ◌+◌, ◌<◌, ◌≤◌, Bool, true, false, MatchBool, List, [], length, Option, Some, None, IsSomeAnd, MatchOption, Result, Ok, Err, codes}
+use Rattle.std.specs.Prelude.{◌≡◌, ◌≢◌, ◌⊎◌, ℕ, ◌+◌, ◌<◌, ◌≤◌, Bool, true, false, MatchBool, List, [], length, Option}
+use Rattle.std.specs.Prelude.{Some, None, IsSomeAnd, MatchOption, Result, Ok, Err, codes}
 use Rattle.gtp_io.specs.Outside.{Rose}
 use Rattle.gtp_rules.specs.Lines.{RawLine}
 use Rattle.gtp_rules.specs.Steps.{Step}

@@ -6,7 +6,7 @@ use Rattle.dfa_core.specs.Automata.{Row}
 use Rattle.match_rules.specs.declared.found.Match.{Match}
 use Rattle.match_rules.specs.Conditions.{Advice}
 use Rattle.match_rules.specs.Match.{matches_of}
-use Rattle.match_engine.specs.MachineMatches.{machine_matches}
+use Rattle.match_engine.specs.AutomatonMatches.{automaton_matches}
 use Rattle.cons_eval.specs.Readings.{Codes}
 use Rattle.match_engine.specs.Readings.{codes_at}
 use Rattle.session.specs.Machine.{Machine, position_of}
@@ -32,5 +32,5 @@ plain_matcher advice patterns = record {
 abbrev pub automaton_matcher : Advice → List Pattern → List Row → Matcher
 automaton_matcher advice patterns rows = record {
   patterns = patterns;
-  matches = λ machine friend. machine_matches (codes_of machine) advice rows patterns (position_of machine) friend;
+  matches = λ machine friend. automaton_matches (codes_of machine) advice rows patterns (position_of machine) friend;
 }

@@ -1,7 +1,8 @@
 -- What a run says on its notes of how it ended.
 use Rattle.std.specs.Prelude.{ℕ, List, [], ◌++◌, codes, decimal}
 use Rattle.session.specs.declared.outcome.Outcome.{Outcome}
-use Rattle.session.specs.declared.outcome.Outcome.TheVariants.{Done, BadDatabase, Usage, NoMemory, InputFault, OutputFault, FileFault, TooManyStates, InputTooLong}
+use Rattle.session.specs.declared.outcome.Outcome.TheVariants.{Done, BadDatabase, Usage, NoMemory, InputFault}
+use Rattle.session.specs.declared.outcome.Outcome.TheVariants.{OutputFault, FileFault, TooManyStates, InputTooLong}
 
 -- the note of an outcome, with its line feed
 abbrev pub note_of : Outcome → List ℕ

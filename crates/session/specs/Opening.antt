@@ -1,6 +1,7 @@
 -- How a run opens the pattern files, which its words name: it joins their contents in their order and reads the
 -- joined text.
-use Rattle.std.specs.Prelude.{◌≡◌, ◌≤◌, ℕ, ◌-◌, ◌==◌, ◌&&◌, not, Bool, List, [], ◌∷◌, ◌++◌, length, map, slice_index, Option, Some, None, Contains, if◌then◌else◌}
+use Rattle.std.specs.Prelude.{◌≡◌, ◌≤◌, ℕ, ◌-◌, ◌==◌, ◌&&◌, not, Bool, List, [], ◌∷◌, ◌++◌, length, map, slice_index}
+use Rattle.std.specs.Prelude.{Option, Some, None, Contains, if◌then◌else◌}
 use Rattle.std.specs.List.{flat_map}
 use Rattle.gtp_io.specs.declared.errors.LoadError.{LoadError}
 use Rattle.gtp_io.specs.declared.errors.LoadError.TheVariants as load

@@ -1,7 +1,8 @@
 -- How a run ends: how far it came, and the exit status of the program.
 use Rattle.std.specs.Prelude.{ℕ}
 use Rattle.session.specs.declared.outcome.Outcome.{Outcome}
-use Rattle.session.specs.declared.outcome.Outcome.TheVariants.{Done, BadDatabase, Usage, NoMemory, InputFault, OutputFault, FileFault, TooManyStates, InputTooLong}
+use Rattle.session.specs.declared.outcome.Outcome.TheVariants.{Done, BadDatabase, Usage, NoMemory, InputFault}
+use Rattle.session.specs.declared.outcome.Outcome.TheVariants.{OutputFault, FileFault, TooManyStates, InputTooLong}
 use Rattle.session.specs.declared.outcome.OpenError.{OpenError}
 use Rattle.session.specs.declared.outcome.OpenError.TheVariants as open_error
 use Rattle.session.specs.declared.outcome.End.{End}

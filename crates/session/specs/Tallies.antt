@@ -1,7 +1,8 @@
 -- What a run counts of the lines that it answers, by any machine M and any step: each line was answered, as in a
 -- transcript, and is tallied with its reply. A count in ℕ is exact; the program's counts stand still at the greatest
 -- value of a u64.
-use Rattle.std.specs.Prelude.{◌≡◌, ℕ, zero, suc, ◌+◌, ◌-◌, ◌^◌, ◌<◌, min, Bool, true, false, MatchBool, List, [], ◌∷◌, ◌++◌, length, Option}
+use Rattle.std.specs.Prelude.{◌≡◌, ℕ, zero, suc, ◌+◌, ◌-◌, ◌^◌, ◌<◌, min, Bool, true, false, MatchBool, List, [], ◌∷◌}
+use Rattle.std.specs.Prelude.{◌++◌, length, Option}
 use Rattle.std.specs.Io.KnownBytes.{Appends}
 use Rattle.gtp_rules.specs.Lines.{RawLine}
 use Rattle.gtp_rules.specs.Steps.{Step}

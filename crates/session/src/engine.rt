@@ -119,13 +119,13 @@ impl Engine {
     pub(crate) fn new(
         alloc: Global,
         patterns: Vec<Pattern>,
-        machine: Automaton,
+        automaton: Automaton,
         options: &Options,
     ) -> Result<Engine, NoMemory>
-        requires numbers { NumbersPatterns machine patterns.items }
+        requires numbers { NumbersPatterns automaton patterns.items }
         requires ranges { AreInRange options.now }
         ensures { IfOk result (λ engine. engine
-            ≡ first_kept patterns.items machine options.now.depth options.now.branch options.now.cache) }
+            ≡ first_kept patterns.items automaton options.now.depth options.now.branch options.now.cache) }
     {
         let size = Size::new(FIRST_SIZE).unwrap();
         Ok(Engine {
@@ -138,7 +138,7 @@ impl Engine {
                 options.cache,
             )?,
             patterns,
-            automaton: machine,
+            automaton,
             counts: NO_COUNTS,
             long: false,
         })

@@ -2,7 +2,7 @@
 ghost use Rattle.std.specs.Prelude.{◌≡◌, ◌*◌, ◌<◌, ◌≤◌, ◌++◌, length, slice_get, OnOk, IfOk};
 ghost use Rattle.helpers.specs.Asking.{says_yes};
 ghost use Rattle.helpers.specs.Slots.{states_of};
-ghost use Rattle.match_engine.specs.MachineMatches.{machine_matches};
+ghost use Rattle.match_engine.specs.AutomatonMatches.{automaton_matches};
 ghost use Rattle.match_engine.specs.Readings.{codes_of};
 ghost use Rattle.session.specs.Handed.{without_calls};
 ghost use Rattle.session.specs.SessionState.{NumbersPatterns};
@@ -74,15 +74,15 @@ fn list_text(
 pub(crate) fn matches_text(
     alloc: Global,
     patterns: &[Pattern],
-    machine: &Automaton,
+    automaton: &Automaton,
     position: &Position,
     friend: Colour,
     readings: &mut Readings,
     helpers: &mut Helpers,
 ) -> Result<Bytes, NoMemory>
-    requires { NumbersPatterns machine.now patterns.now }
+    requires { NumbersPatterns automaton.now patterns.now }
     ensures text { IfOk result (λ text. text ≡ matches_text patterns.now position.now.size
-        (machine_matches (codes_of readings.old) (says_yes (states_of state helpers.old)) machine.now patterns.now
+        (automaton_matches (codes_of readings.old) (says_yes (states_of state helpers.old)) automaton.now patterns.now
         position.now friend)) }
     ensures depths { SameDepths readings.old readings.new }
     ensures refused { readings.old.refused ≤ readings.new.refused }
@@ -90,7 +90,7 @@ pub(crate) fn matches_text(
     ensures helpers { without_calls (states_of state helpers.new) ≡ without_calls (states_of state helpers.old) }
 {
     let found = matches(
-        alloc, patterns, machine, position, friend, readings, helpers,
+        alloc, patterns, automaton, position, friend, readings, helpers,
     )?;
     list_text(alloc, patterns, position.size(), found.as_slice())
 }

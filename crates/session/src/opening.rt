@@ -5,7 +5,8 @@ ghost use Rattle.db_rules.specs.Entries.{entry_of};
 ghost use Rattle.db_rules.specs.Faults.{first_fault, entries};
 ghost use Rattle.db_read.specs.Reading.{BlamesAt};
 ghost use Rattle.go_options.specs.Found.{AreInRange};
-ghost use Rattle.session.specs.Opening.{most_patterns, needs_feed, added_feed, Adds, IsJoined, MissedBy, MissedIn, HasFewStates, RefusesStates, IsRefused};
+ghost use Rattle.session.specs.Opening.{most_patterns, needs_feed, added_feed, Adds, IsJoined, MissedBy, MissedIn};
+ghost use Rattle.session.specs.Opening.{HasFewStates, RefusesStates, IsRefused};
 ghost use Rattle.helpers.specs.Asking.{says_yes};
 ghost use Rattle.helpers.specs.Slots.{states_of};
 ghost use Rattle.session.specs.Handed.{helper_names};
@@ -99,8 +100,8 @@ fn session_with(
     ensures few { OnOk result (HasFewStates patterns.items options.now.states) }
     ensures err { IfErr result (RefusesStates patterns.items options.now.states) }
 {
-    let machine = compile(alloc, patterns.as_slice(), options.states)?;
-    Ok(Session::new(alloc, patterns, machine, helpers, options)?)
+    let automaton = compile(alloc, patterns.as_slice(), options.states)?;
+    Ok(Session::new(alloc, patterns, automaton, helpers, options)?)
 }
 
 /// Opens the files of the options: joins their contents, reads them as one database, in which the helpers may be named,

@@ -5,7 +5,8 @@ ghost use Rattle.gtp_io.specs.Outside.{IsCounted};
 ghost use Rattle.run_notes.specs.declared.notes.Sent.{Sent};
 ghost use Rattle.session.specs.Tallies.{kept_sum};
 ghost use Rattle.session.specs.Serving.{Puts, PutsFront, PutsReply};
-ghost use Rattle.session.specs.Waiting.{none_wait, outbox_room, most_marks, gone, counts_at, CutsReply, IsStop, MayStop, Sends, Stays};
+ghost use Rattle.session.specs.Waiting.{none_wait, outbox_room, most_marks, gone, counts_at, CutsReply, IsStop};
+ghost use Rattle.session.specs.Waiting.{MayStop, Sends, Stays};
 
 use gtp_io::Sink;
 use run_notes::{Counts, Sent};

@@ -1,6 +1,7 @@
 //! Patterns as a growing text, one a line.
 ghost use Rattle.std.specs.Prelude.{◌≡◌, ◌++◌, OnOk, IfOk};
-ghost use Rattle.session.specs.PatternTexts.{mark_text, classes_text, name_text, pattern_text, patterns_text, feed_after};
+ghost use Rattle.session.specs.PatternTexts.{mark_text, classes_text, name_text, pattern_text, patterns_text};
+ghost use Rattle.session.specs.PatternTexts.{feed_after};
 
 use crate::vertices::push_number;
 use go_base::{Bytes, NoMemory};

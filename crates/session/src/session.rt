@@ -40,17 +40,17 @@ impl Session {
     pub fn new(
         alloc: Global,
         patterns: Vec<Pattern>,
-        machine: Automaton,
+        automaton: Automaton,
         helpers: Helpers,
         options: &Options,
     ) -> Result<Session, NoMemory>
-        requires numbers { NumbersPatterns machine patterns.items }
+        requires numbers { NumbersPatterns automaton patterns.items }
         requires ranges { AreInRange options.now }
         ensures engine { IfOk result (λ session. session.engine
-            ≡ first_kept patterns.items machine options.now.depth options.now.branch options.now.cache) }
+            ≡ first_kept patterns.items automaton options.now.depth options.now.branch options.now.cache) }
         ensures helpers { IfOk result (λ session. session.helpers ≡ helpers) }
     {
-        let engine = Engine::new(alloc, patterns, machine, options)?;
+        let engine = Engine::new(alloc, patterns, automaton, options)?;
         Ok(Session { engine, helpers })
     }
 

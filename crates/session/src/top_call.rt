@@ -1,5 +1,6 @@
 //! The top call of the program.
-ghost use Rattle.std.specs.Prelude.{◌≡◌, ◌↔◌, MatchOption, Option, None, Some, ℕ, if◌then◌else◌, option_map, map, string_bytes};
+ghost use Rattle.std.specs.Prelude.{◌≡◌, ◌↔◌, MatchOption, Option, None, Some, ℕ, if◌then◌else◌, option_map, map};
+ghost use Rattle.std.specs.Prelude.{string_bytes};
 ghost use Rattle.session.specs.Headline.{Came, IsCauseOf, MissedAfter, Runs, RunsHad, files_in};
 ghost use Rattle.session.specs.Opened.{CameBy, EndsCounting};
 ghost use Rattle.session.specs.Serving.{progress_of};

@@ -1,5 +1,6 @@
 -- Which offset follows another, by tests that the checker computes over all offsets.
-use Rattle.std.proofs.Common.{◌≡◌, ℕ, suc, ◌+◌, ◌<◌, Bool, true, false, ◌&&◌, cond, ℤ, pos, ◌+ℤ◌, ◌-ℤ◌, ◌≤ℤ◌, ◌∙◌, ◌<ℤ◌, refl, ap, subst, arith, inl, inr, ◌-◌, T, ◌⊎◌}
+use Rattle.std.proofs.Common.{◌≡◌, ℕ, suc, ◌+◌, ◌<◌, Bool, true, false, ◌&&◌, cond, ℤ, pos, ◌+ℤ◌, ◌-ℤ◌, ◌≤ℤ◌, ◌∙◌, ◌<ℤ◌}
+use Rattle.std.proofs.Common.{refl, ap, subst, arith, inl, inr, ◌-◌, T, ◌⊎◌}
 use Rattle.std.proofs.Math.Bool.{and-false}
 use Rattle.std.proofs.lemmas.Bool.{agree_below, agree_below_at, and_parts, cases_Bool}
 use Rattle.std.specs.Int.Signed.{le_z, le_z_yes}

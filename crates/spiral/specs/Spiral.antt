@@ -1,5 +1,6 @@
 -- The spiral: rings of offsets around (0, 0), in the order in which a diagram and a board are read.
-use Rattle.std.specs.Prelude.{ℕ, zero, suc, ◌+◌, ◌-◌, ◌*◌, ◌/◌, ◌%◌, ◌==◌, ℤ, pos, negsuc, ◌+ℤ◌, ◌-ℤ◌, neg_ℤ, Option, Some, None, nat_lt, nat_le, if◌then◌else◌}
+use Rattle.std.specs.Prelude.{ℕ, zero, suc, ◌+◌, ◌-◌, ◌*◌, ◌/◌, ◌%◌, ◌==◌, ℤ, pos, negsuc, ◌+ℤ◌, ◌-ℤ◌, neg_ℤ, Option}
+use Rattle.std.specs.Prelude.{Some, None, nat_lt, nat_le, if◌then◌else◌}
 use Rattle.go_rules.specs.Transform.{Offset, transformed, largest_offset}
 
 -- how many rows and columns the square of all offsets has
@@ -34,9 +35,9 @@ unfoldable pub offset_at : ℕ → Offset
 offset_at i = ring_place (ring_up_to largest_offset i) (i - ring_start (ring_up_to largest_offset i))
 
 -- the row or column a of a board of size s, where it is one
-abbrev pub line_of : ℕ → ℤ → Option ℕ
-line_of s (pos n) = if nat_lt n s then Some n else None
-line_of s (negsuc n) = None
+abbrev pub strip_of : ℕ → ℤ → Option ℕ
+strip_of s (pos n) = if nat_lt n s then Some n else None
+strip_of s (negsuc n) = None
 
 -- the point in a row and a column of a board of size s
 abbrev pub point_of : ℕ → Option ℕ → Option ℕ → Option ℕ
@@ -46,8 +47,8 @@ point_of s (Some row) (Some column) = Some (row * s + column)
 
 -- the point of a board of size s that the offset d, moved by t, leads to from the point m
 unfoldable pub place_at : ℕ → ℕ → ℕ → Offset → Option ℕ
-place_at s t m d = point_of s (line_of s (pos (m / s) +ℤ (transformed t d).0))
-    (line_of s (pos (m % s) +ℤ (transformed t d).1))
+place_at s t m d = point_of s (strip_of s (pos (m / s) +ℤ (transformed t d).0))
+    (strip_of s (pos (m % s) +ℤ (transformed t d).1))
 
 -- the place in ring k of the offset a rows below and b columns right of the ring's first
 abbrev pub place_in : ℕ → ℕ → ℕ → ℕ

@@ -1,7 +1,7 @@
 //! Where offsets lead from a point of a board.
 ghost use Rattle.std.specs.Prelude.{◌≡◌, ◌*◌, ◌<◌, pos, ◌+ℤ◌, IfSome};
 ghost use Rattle.go_rules.specs.Transform.{Offset, IsNear};
-ghost use Rattle.spiral.specs.Spiral.{offset_count, offset_at, line_of, point_of, place_at};
+ghost use Rattle.spiral.specs.Spiral.{offset_count, offset_at, strip_of, point_of, place_at};
 
 use crate::numbering::offset;
 use go_base::{Point, Size, Transform};
@@ -9,7 +9,7 @@ use go_base::{Point, Size, Transform};
 /// Moves a row or a column, and answers it where it lies on the board.
 fn moved(from: u8, by: i8, size: Size) -> Option<u8>
     requires { from < size }
-    ensures value { result ≡ line_of size (pos from +ℤ by) }
+    ensures value { result ≡ strip_of size (pos from +ℤ by) }
     ensures within { IfSome result (λ n. n < size) }
 {
     let to = from as i16 + by as i16;
@@ -24,7 +24,7 @@ fn moved(from: u8, by: i8, size: Size) -> Option<u8>
 pub fn stepped(row: u8, column: u8, by: (i8, i8), size: Size) -> Option<Point>
     requires row { row < size }
     requires column { column < size }
-    ensures value { result ≡ point_of size (line_of size (pos row +ℤ by.0)) (line_of size (pos column +ℤ by.1)) }
+    ensures value { result ≡ point_of size (strip_of size (pos row +ℤ by.0)) (strip_of size (pos column +ℤ by.1)) }
     ensures on_board { IfSome result (λ p. p < size * size) }
 {
     let row = moved(row, by.0, size)?;

@@ -76,14 +76,14 @@ fn place_in_ring(k: u16, a: u16, b: u16) -> u16
 }
 
 /// How far a row or a column is from the middle one.
-fn from_middle(line: u16) -> u16
-    requires { line < square_side }
-    ensures { result ≡ (line - largest_offset) + (largest_offset - line) }
+fn from_middle(strip: u16) -> u16
+    requires { strip < square_side }
+    ensures { result ≡ (strip - largest_offset) + (largest_offset - strip) }
 {
-    if line < LAST_RING {
-        LAST_RING - line
+    if strip < LAST_RING {
+        LAST_RING - strip
     } else {
-        line - LAST_RING
+        strip - LAST_RING
     }
 }
 

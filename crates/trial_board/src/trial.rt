@@ -1,6 +1,7 @@
 //! A position with trial moves that can be taken back.
 
-ghost use Rattle.std.specs.Prelude.{◌≡◌, ℕ, ◌+◌, ◌*◌, ◌-◌, ◌^◌, ◌<◌, ◌≤◌, min, Bool, IsTrue, true, false, not, ◌&&◌, [], ◌∷◌, length};
+ghost use Rattle.std.specs.Prelude.{◌≡◌, ℕ, ◌+◌, ◌*◌, ◌-◌, ◌^◌, ◌<◌, ◌≤◌, min, Bool, IsTrue, true, false, not, ◌&&◌};
+ghost use Rattle.std.specs.Prelude.{[], ◌∷◌, length};
 ghost use Rattle.std.specs.FinSet as set;
 ghost use Rattle.go_rules.specs.Strings.{cell_at, liberty_points};
 ghost use Rattle.go_rules.specs.Boundary.{boundary_points};
@@ -14,7 +15,8 @@ ghost use Rattle.go_base.specs.Facts.{Agrees, Grows, AddsIn};
 ghost use Rattle.trial_board.specs.declared.moves.TrialMove.{TrialMove};
 ghost use Rattle.trial_board.specs.declared.moves.TrialPlay.{TrialPlay};
 ghost use Rattle.trial_board.specs.SomeLiberties.{FindsLiberties};
-ghost use Rattle.trial_board.specs.Trials.{Trying, Stays, Moved, IsNoted, Put, most_moves, after, tried, tried_free, made_or_suicide, tail, is_some_move};
+ghost use Rattle.trial_board.specs.Trials.{Trying, Stays, Moved, IsNoted, Put, most_moves, after, tried, tried_free};
+ghost use Rattle.trial_board.specs.Trials.{made_or_suicide, tail, is_some_move};
 
 use crate::captured::{MAX_CAPTURED, note, nothing_captured};
 use crate::kept::{Kept, nothing_kept};

@@ -25,14 +25,14 @@ fn session_by_another(alloc: Global) -> Result<Session, Fail> {
     if other_count != count || other_count > 4096 {
         return Err(Fail::from("each text has one pattern"));
     }
-    let Ok(machine) = compile(alloc, &others, 100) else {
+    let Ok(automaton) = compile(alloc, &others, 100) else {
         return Err(Fail::from("the pattern has few states"));
     };
     let Ok(options) = read_options(alloc, &[]) else {
         return Err(Fail::from("no words are options"));
     };
     let helpers = Helpers::new(alloc, Vec::new(alloc))?;
-    Ok(Session::new(alloc, patterns, machine, helpers, &options)?)
+    Ok(Session::new(alloc, patterns, automaton, helpers, &options)?)
 }
 
 // The automaton asks for an enemy's stone where the pattern has a friend's.

@@ -6,7 +6,9 @@ ghost use Rattle.go_rules.specs.Strings.{cell_at, is_stone};
 ghost use Rattle.go_strings.specs.Games.{reached};
 ghost use Rattle.session.specs.Machine.{position_of};
 ghost use Rattle.session.specs.SessionState.{machine_of};
-ghost use Rattle.session.specs.BoardCommands.{digit_of, resized, cleared, komi_kept, played, taken_back, shown, allowed, all_allowed, liberties_counted, liberties_found, captures_counted};
+ghost use Rattle.session.specs.BoardCommands.{digit_of, resized, cleared, komi_kept, played, taken_back, shown};
+ghost use Rattle.session.specs.BoardCommands.{allowed, all_allowed, liberties_counted, liberties_found};
+ghost use Rattle.session.specs.BoardCommands.{captures_counted};
 ghost use Rattle.session.specs.Answers.{IsAnswer};
 
 use crate::answer::{Answer, grown, told, told_number};

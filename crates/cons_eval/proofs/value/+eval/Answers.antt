@@ -1,5 +1,6 @@
 -- The value of an expression, from those of its parts.
-use Rattle.std.proofs.Common.{◌≡◌, ◌*◌, ◌∙◌, ap, sym, subst, Bool, false, true, not, ℤ, pos, ◌-ℤ◌, w64, of_z, to_z, arith}
+use Rattle.std.proofs.Common.{◌≡◌, ◌*◌, ◌∙◌, ap, sym, subst, Bool, false, true, not, ℤ, pos, ◌-ℤ◌, w64, of_z, to_z}
+use Rattle.std.proofs.Common.{arith}
 use Rattle.std.proofs.lemmas.Int.{to_z-of_z}
 use Rattle.pat_types.specs.Kept.{leaf_count}
 use Rattle.cons_eval.specs.Bounds.{IsConstraint, IsWithin, most, most_leaves}
@@ -8,7 +9,10 @@ use Rattle.cons_eval.specs.Values.{worth, is_so, joined_value, value_of}
 use Rattle.cons_eval.specs.Asking.{needs_right, asks}
 use Rattle.cons_eval.proofs.CallCounts.{stays_same, stays_on}
 use Rattle.cons_eval.proofs.Parts.{IsPartOf, part_of_not, part_of_neg, left_part, right_part}
-use Rattle.cons_eval.proofs.ExpressionValues.{bits_within, all_small, opposite_fits, placed_call, num_value, value_of_call, value_of_not, value_of_neg, value_of_sides, value_of_left, test_small, num_small, call_small, neg_small, sides_small, asks_call, asks_not, asks_neg, asks_left, asks_right}
+use Rattle.cons_eval.proofs.ExpressionValues.{bits_within, all_small, opposite_fits, placed_call, num_value}
+use Rattle.cons_eval.proofs.ExpressionValues.{value_of_call, value_of_not, value_of_neg, value_of_sides, value_of_left}
+use Rattle.cons_eval.proofs.ExpressionValues.{test_small, num_small, call_small, neg_small, sides_small, asks_call}
+use Rattle.cons_eval.proofs.ExpressionValues.{asks_not, asks_neg, asks_left, asks_right}
 use Rattle.cons_eval.proofs.value.+eval.Goals as goal
 
 -- the arguments are placed

@@ -4,7 +4,8 @@ use Rattle.pat_types.specs.declared.expr.Arg.{Arg}
 use Rattle.cons_parse.specs.Calls.{arguments_at, listed_at}
 use Rattle.cons_parse.proofs.Fronts.{with_args}
 use Rattle.cons_parse.specs.declared.token.Token.TheVariants as token
-use Rattle.cons_parse.proofs.CallLemmas.{too_short, not_opened, at_once_closed, first_args, no_arg, last_arg, next_arg, stray_token, no_end}
+use Rattle.cons_parse.proofs.CallLemmas.{too_short, not_opened, at_once_closed, first_args, no_arg, last_arg, next_arg}
+use Rattle.cons_parse.proofs.CallLemmas.{stray_token, no_end}
 use Rattle.cons_parse.proofs.calls.arguments.Goals as goal
 
 -- fewer than two tokens are no arguments

@@ -32,17 +32,17 @@ give_met-requires-clause-within c = here _ _ _ _ _ _ _ c.walks.invariant.left c.
 -- one walk more was looked at
 pub walks-preserved : goal.walks-preserved
 walks-preserved c =
-    let machine : List Row = c.args.machine.now in
-    let read : Walk → Walk = after_letters machine c.args.sights.now.letters c.args.steps.now in
-    let along : Walk → List Hit = hits_along machine c.args.sights.now.letters c.args.t c.args.steps.now in
+    let automaton : List Row = c.args.automaton.now in
+    let read : Walk → Walk = after_letters automaton c.args.sights.now.letters c.args.steps.now in
+    let along : Walk → List Hit = hits_along automaton c.args.sights.now.letters c.args.t c.args.steps.now in
     let old : List Walk = c.args.walks.now in
     let was : Walk = get_or c.walks.walks c.walks.index none in
     let walk : Walk = record { row = c.read_steps-reading.result.row; corner = was.corner; anchor = was.anchor } in
     let same : was ≡ get_or old c.walks.index none = ChangesInPlace-same c.walks.invariant.left none in
     let is : walk ≡ read (get_or old c.walks.index none) =
-    only_row machine c.args.sights.now.letters c.args.steps.now was c.read_steps-reading.result.row
+    only_row automaton c.args.sights.now.letters c.args.steps.now was c.read_steps-reading.result.row
     c.read_steps-reading.ensures.row ∙ ap read same in
-    let alive : goes_on machine walk ≡ c.is_alive.result = ap is_alive (sym c.read_steps-reading.ensures.kind)
+    let alive : goes_on automaton walk ≡ c.is_alive.result = ap is_alive (sym c.read_steps-reading.ensures.kind)
     ∙ sym c.is_alive.ensures in
     let hits : c.give_met.new.out.items ≡ c.args.out.now.items ++ flat_map along (take (c.walks.index + 1) old) =
     c.in_ok-give_met.ensures ∙ ap (λ hs. hs ++ along was) c.walks.invariant.hits
@@ -51,16 +51,16 @@ walks-preserved c =
     ∙ ap (λ ws. c.args.out.now.items ++ flat_map along ws) (sym (take_more old c.walks.index none c.walks-test.true)) in
     elim c.if-is_alive.branch [
       | then-is_alive w ↦ record {
-        left = subst (λ n. ChangesInPlace read (goes_on machine) old (set c.walks.walks c.walks.count walk) n
+        left = subst (λ n. ChangesInPlace read (goes_on automaton) old (set c.walks.walks c.walks.count walk) n
             (c.walks.index + 1)) (sym w.count-is)
-            (ChangesInPlace-on read (goes_on machine) old c.walks.walks c.walks.count c.walks.index none walk
+            (ChangesInPlace-on read (goes_on automaton) old c.walks.walks c.walks.count c.walks.index none walk
             c.walks.invariant.left c.walks-test.true is (alive ∙ w.if-is_alive.true));
         hits = hits;
       }
       | else-is_alive w ↦ record {
-        left = subst (λ n. ChangesInPlace read (goes_on machine) old (set c.walks.walks c.walks.count walk) n
+        left = subst (λ n. ChangesInPlace read (goes_on automaton) old (set c.walks.walks c.walks.count walk) n
             (c.walks.index + 1)) (sym w.count-is)
-            (ChangesInPlace-over read (goes_on machine) old c.walks.walks c.walks.count c.walks.index none walk
+            (ChangesInPlace-over read (goes_on automaton) old c.walks.walks c.walks.count c.walks.index none walk
             c.walks.invariant.left c.walks-test.true is (alive ∙ w.if-is_alive.false));
         hits = hits;
       }

@@ -12,30 +12,30 @@ use Rattle.dfa_match.proofs.walks.second_walks.Goals as goal
 -- one walk more has read its letter
 pub walks-preserved : goal.walks-preserved
 walks-preserved c =
-    let machine : List Row = c.args.machine.now in
-    let read : Walk → Walk = after_letter machine c.args.sights.now.letters no_step in
+    let automaton : List Row = c.args.automaton.now in
+    let read : Walk → Walk = after_letter automaton c.args.sights.now.letters no_step in
     let walk : Walk = get_or c.args.first.now c.walks.walk-index (record { row = 0; corner = 0; anchor = 0 }) in
     let on : c.walks.walk-index < length c.args.first.now = omega arith in
-    let low : walk.row < length machine = (c.requires c.walks.walk-index (record { row = 0; corner = 0; anchor = 0 })
+    let low : walk.row < length automaton = (c.requires c.walks.walk-index (record { row = 0; corner = 0; anchor = 0 })
     on).row in
-    let next : c.moved_on-next.result ≡ after_letter machine c.args.sights.now.letters no_step walk =
-    c.moved_on-next.ensures machine c.targets-targets.ensures low
-    ∙ ap (λ step. after_letter machine c.args.sights.now.letters step walk) c.step_of-step.ensures.value in
-    let inside : c.moved_on-next.result.row < length machine =
-    subst (λ (w : Walk). w.row < length machine) (sym next)
+    let next : c.moved_on-next.result ≡ after_letter automaton c.args.sights.now.letters no_step walk =
+    c.moved_on-next.ensures automaton c.targets-targets.ensures low
+    ∙ ap (λ step. after_letter automaton c.args.sights.now.letters step walk) c.step_of-step.ensures.value in
+    let inside : c.moved_on-next.result.row < length automaton =
+    subst (λ (w : Walk). w.row < length automaton) (sym next)
     (c.rows.ensures.automaton.targets walk.row _ low) in
-    let kind : c.kind_in.result ≡ kind_at machine c.moved_on-next.result.row =
+    let kind : c.kind_in.result ≡ kind_at automaton c.moved_on-next.result.row =
     c.kind_in.ensures ∙ c.kinds-kinds.ensures.each c.moved_on-next.result.row inside in
     record {
       gathered = elim c.if-is_alive.branch [
         | then-is_alive+in_ok-push w ↦
             ap (λ v. v.items) w.walks-is ∙ w.in_ok-push.ensures.items
             ∙ ap (λ ws. ws ++ c.moved_on-next.result ∷ []) c.walks.invariant.gathered
-            ∙ sym (filter-map_more read (goes_on machine) true c.args.first.now c.walks.walk-index _ c.moved_on-next.result on
+            ∙ sym (filter-map_more read (goes_on automaton) true c.args.first.now c.walks.walk-index _ c.moved_on-next.result on
             next (ap is_alive (sym kind) ∙ sym c.is_alive.ensures ∙ w.if-is_alive.true))
         | else-is_alive w ↦
             ap (λ v. v.items) w.walks-is ∙ c.walks.invariant.gathered
-            ∙ sym (filter-map_more read (goes_on machine) false c.args.first.now c.walks.walk-index _ c.moved_on-next.result
+            ∙ sym (filter-map_more read (goes_on automaton) false c.args.first.now c.walks.walk-index _ c.moved_on-next.result
             on next (ap is_alive (sym kind) ∙ sym c.is_alive.ensures ∙ w.if-is_alive.false)
             ∙ append-nil _)
       ];

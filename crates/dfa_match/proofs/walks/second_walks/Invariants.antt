@@ -6,6 +6,6 @@ use Rattle.dfa_match.proofs.walks.second_walks.Given as goal
 -- of the walks before those that go on were gathered
 abbrev pub invariant-walks : goal.invariant-walks
 invariant-walks l = record {
-  gathered : l.walks.items ≡ filter (goes_on l.machine)
-      (map (after_letter l.machine l.sights.letters no_step) (take l.walk-index l.first));
+  gathered : l.walks.items ≡ filter (goes_on l.automaton)
+      (map (after_letter l.automaton l.sights.letters no_step) (take l.walk-index l.first));
 }

@@ -4,7 +4,8 @@ use Rattle.std.specs.FinSet as set
 use Rattle.go_rules.specs.Board.{largest_points}
 use Rattle.go_rules.proofs.Links.{path_same}
 use Rattle.go_rules.proofs.Cells.{cells_same, cells_differ}
-use Rattle.go_base.proofs.FloodResults.{Begins, Begins-first, Steps, Steps-smaller, waited_before, Finds-within, stone_from, on_board_one, on_board_more}
+use Rattle.go_base.proofs.FloodResults.{Begins, Begins-first, Steps, Steps-smaller, waited_before, Finds-within}
+use Rattle.go_base.proofs.FloodResults.{stone_from, on_board_one, on_board_more}
 use Rattle.go_base.proofs.FloodVisits.{none_at}
 use Rattle.go_base.proofs.BoundedSearches.{FloodsUnder-start, FloodsUnder-next, FloodsUnder-all, Searches-none}
 use Rattle.go_base.proofs.PointNeighbourhoods.{close_alone, close_around}

@@ -1,4 +1,5 @@
-use Rattle.go_rules.proofs.PlayLaws.{free_follows, answered, follows_same, free_occupied_exactly, free_suicide_exactly, free_never_ko}
+use Rattle.go_rules.proofs.PlayLaws.{free_follows, answered, follows_same, free_occupied_exactly, free_suicide_exactly}
+use Rattle.go_rules.proofs.PlayLaws.{free_never_ko}
 use Rattle.go_rules.proofs.laws.plays_are_by_rules.Goals as goal
 
 -- what is answered follows

@@ -1,4 +1,5 @@
-use Rattle.go_rules.proofs.Paths.{IsInString-from_test, is_is_in_string-from_fact, IsLiberty-from_test, is_liberty-from_fact}
+use Rattle.go_rules.proofs.Paths.{IsInString-from_test, is_is_in_string-from_fact, IsLiberty-from_test}
+use Rattle.go_rules.proofs.Paths.{is_liberty-from_fact}
 use Rattle.go_rules.proofs.laws.strings_are_by_paths.Goals as goal
 
 -- the test of a string is the path

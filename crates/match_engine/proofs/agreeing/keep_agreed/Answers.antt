@@ -3,7 +3,7 @@ use Rattle.std.proofs.lemmas.Option.{slice_get_within}
 use Rattle.helpers.specs.Slots.{states_of}
 use Rattle.helper_asking.specs.Fields.{helper_names}
 use Rattle.helper_asking.specs.Rule.{IsAskedFor}
-use Rattle.match_engine.specs.MachineMatches.{IsFoundThere}
+use Rattle.match_engine.specs.AutomatonMatches.{IsFoundThere}
 use Rattle.helper_totals.proofs.CallTotals.{asked_over-none}
 use Rattle.match_engine.proofs.AllowedMatches.{KeepsFirst-none, kept_next, kept_there, read_old}
 use Rattle.match_engine.proofs.AgreedMatches.{answer_is, calls_are}

@@ -1,7 +1,7 @@
 use Rattle.std.proofs.Common.{◌≡◌, slice_get, take}
 use Rattle.helpers.specs.Asking.{says_yes}
 use Rattle.helpers.specs.Slots.{states_of}
-use Rattle.match_engine.specs.MachineMatches.{is_agreed_at}
+use Rattle.match_engine.specs.AutomatonMatches.{is_agreed_at}
 use Rattle.match_engine.specs.HelperCalls.{after_matches}
 use Rattle.match_engine.proofs.AllowedMatches.{KeepsFirst}
 use Rattle.match_engine.proofs.agreeing.keep_agreed.Given as goal

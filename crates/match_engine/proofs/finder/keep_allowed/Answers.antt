@@ -3,7 +3,7 @@ use Rattle.std.proofs.lemmas.Option.{slice_get_within}
 use Rattle.go_rules.specs.Position.{other}
 use Rattle.cons_eval.specs.Readings.{Codes}
 use Rattle.match_rules.specs.Conditions.{is_allowed}
-use Rattle.match_engine.specs.MachineMatches.{is_allowed_at, IsFoundThere}
+use Rattle.match_engine.specs.AutomatonMatches.{is_allowed_at, IsFoundThere}
 use Rattle.match_engine.specs.Readings.{codes_of}
 use Rattle.match_engine.specs.Remembered.{Remembers}
 use Rattle.match_engine.proofs.ReadingCounts.{Follows-trans, codes_stay}

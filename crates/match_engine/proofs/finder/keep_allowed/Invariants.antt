@@ -1,6 +1,6 @@
 use Rattle.std.proofs.Common.{slice_get}
 use Rattle.go_rules.specs.Position.{other}
-use Rattle.match_engine.specs.MachineMatches.{is_allowed_at}
+use Rattle.match_engine.specs.AutomatonMatches.{is_allowed_at}
 use Rattle.match_engine.specs.Readings.{Follows, codes_of}
 use Rattle.match_engine.specs.Remembered.{Remembers}
 use Rattle.match_engine.proofs.AllowedMatches.{KeepsFirst}

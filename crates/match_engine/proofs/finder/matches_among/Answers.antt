@@ -3,7 +3,7 @@ use Rattle.std.specs.Option.{option_to_list}
 use Rattle.std.proofs.lemmas.List.{append-nil}
 use Rattle.std.proofs.lemmas.Option.{slice_get_read}
 use Rattle.match_engine.specs.Found.{match_from}
-use Rattle.match_engine.proofs.Machine.{among_more, made}
+use Rattle.match_engine.proofs.ByAutomaton.{among_more, made}
 use Rattle.match_engine.proofs.finder.matches_among.Goals as goal
 use Rattle.match_engine.proofs.finder.matches_among.Goals.{in-Some+in_ok-push, in_default}
 

@@ -4,5 +4,5 @@ use Rattle.match_rows.proofs.tests.matches_by.Goals as goal
 -- the other list is no longer, and its automaton accepts numbers of it alone
 pub matches-requires : goal.matches-requires
 matches-requires c = record {
-  numbers = λ w n here. let low = c.in_ok-machine.ensures.numbers w n here in omega (arith, low);
+  numbers = λ w n here. let low = c.in_ok-automaton.ensures.numbers w n here in omega (arith, low);
 }

@@ -1,5 +1,6 @@
 -- The string has another liberty, where it is of the other colour.
-use Rattle.std.proofs.Common.{◌≡◌, ℕ, ◌*◌, ◌<◌, true, Option, Some, None, IfSome, IfNone, is_some, false, ap, sym, subst, arith, ◌∙◌}
+use Rattle.std.proofs.Common.{◌≡◌, ℕ, ◌*◌, ◌<◌, true, Option, Some, None, IfSome, IfNone, is_some, false, ap, sym}
+use Rattle.std.proofs.Common.{subst, arith, ◌∙◌}
 use Rattle.std.specs.FinSet as set
 use Rattle.go_rules.specs.Position.{BoardState, stone_of}
 use Rattle.go_rules.specs.Neighbourhood.{neighbourhood_of}

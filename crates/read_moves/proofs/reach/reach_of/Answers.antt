@@ -7,7 +7,8 @@ use Rattle.trial_board.specs.Trials.{after}
 use Rattle.read_rules.specs.Candidates.{IsEmptyNeighbour}
 use Rattle.read_moves.specs.Reaches.{IsReached}
 use Rattle.read_moves.proofs.SideLemmas.{sides_near, string_near}
-use Rattle.read_moves.proofs.TellLemmas.{IsSoFar, IsLibertyAtSide, SoFar-none, SoFar-skip, SoFar-next, Tells-more, string_told, so_far_reached, strings_told}
+use Rattle.read_moves.proofs.TellLemmas.{IsSoFar, IsLibertyAtSide, SoFar-none, SoFar-skip, SoFar-next, Tells-more}
+use Rattle.read_moves.proofs.TellLemmas.{string_told, so_far_reached, strings_told}
 use Rattle.read_moves.proofs.reach.reach_of.Goals as goal
 use Rattle.read_moves.proofs.reach.reach_of.Goals.{in-Some, in_default}
 

@@ -1,11 +1,13 @@
 -- The sides of l, one after another.
 use Rattle.std.proofs.Common.{◌≡◌, ◌*◌, ◌<◌, refl, ap, sym, subst, ◌∙◌, arith, Some}
-use Rattle.go_base.specs.Facts.{agrees_before, Grows-refl, Grows-trans, AddsIn-refl, AddsIn-trans, AddsIn-mono, same_size}
+use Rattle.go_base.specs.Facts.{agrees_before, Grows-refl, Grows-trans, AddsIn-refl, AddsIn-trans, AddsIn-mono}
+use Rattle.go_base.specs.Facts.{same_size}
 use Rattle.go_base.specs.Sides.{neighbour_at}
 use Rattle.trial_board.specs.Trials.{after}
 use Rattle.read_moves.specs.declared.reach.Reach.TheVariants.{Nothing}
 use Rattle.read_moves.proofs.BesideLemmas.{neighbours_of-side}
-use Rattle.read_moves.proofs.TellLemmas.{IsEmptySide, Nowhere, SoFar-none, SoFar-skip, SoFar-next, side_told, sides_told}
+use Rattle.read_moves.proofs.TellLemmas.{IsEmptySide, Nowhere, SoFar-none, SoFar-skip, SoFar-next, side_told}
+use Rattle.read_moves.proofs.TellLemmas.{sides_told}
 use Rattle.read_moves.proofs.reach.reach_of_sides.Goals as goal
 use Rattle.read_moves.proofs.reach.reach_of_sides.Goals.{in-Some, in_default}
 

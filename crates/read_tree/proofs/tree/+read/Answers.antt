@@ -1,6 +1,7 @@
 -- The walk over the game tree answers what the tree says under each of the asked allowances, over every position that
 -- agrees with what was seen.
-use Rattle.std.proofs.Common.{arith, ◌||◌, ◌≡◌, ◌⊎◌, ◌∙◌, ◌-◌, ◌*◌, ◌<◌, ℕ, suc, inl, inr, true, false, List, ap, sym, subst, refl, IfSome, is_some, rules}
+use Rattle.std.proofs.Common.{arith, ◌||◌, ◌≡◌, ◌⊎◌, ◌∙◌, ◌-◌, ◌*◌, ◌<◌, ℕ, suc, inl, inr, true, false, List, ap, sym}
+use Rattle.std.proofs.Common.{subst, refl, IfSome, is_some, rules}
 use Rattle.std.specs.FinSet as set
 use Rattle.go_base.specs.Facts.{agrees_before, Grows-refl, Grows-trans, same_size}
 use Rattle.go_rules.specs.declared.Cell.TheVariants.{Empty}
@@ -21,8 +22,14 @@ use Rattle.read_tree.specs.Allowances.{Ko, under, next_turn, own_ko, neither_may
 use Rattle.read_rules.specs.GoodMoves.{good_move}
 use Rattle.read_tree.specs.Steps.{AreNodesOf, is_off_liberties}
 use Rattle.read_rules.specs.GameTree.{has_many_liberties, attacker_wins, child_of, succeeds, first_success}
-use Rattle.read_tree.proofs.AllowanceLemmas.{some_of, success_some, good_by_success, suits_child, suits_none, Tells-same, Tells-own, Tells-good, Tells-attackers, Tells-all, Tells-none, good_attacker, neither_nodes, pass_nodes, fewer_nodes, without_less, left_first, left_next}
-use Rattle.read_tree.proofs.StageLemmas.{by_done, by_over, by_none, by_same, by_more, by_enough, by_both, stage_done, stage_over, none_other, nothing_near, liberty_is_candidate, capture_is_candidate, capture_is_off, other_is_candidate, off_by_stages, off_by_captures, captures_near, its_liberty, its_count, known_inside}
+use Rattle.read_tree.proofs.AllowanceLemmas.{some_of, success_some, good_by_success, suits_child, suits_none}
+use Rattle.read_tree.proofs.AllowanceLemmas.{Tells-same, Tells-own, Tells-good, Tells-attackers, Tells-all, Tells-none}
+use Rattle.read_tree.proofs.AllowanceLemmas.{good_attacker, neither_nodes, pass_nodes, fewer_nodes, without_less}
+use Rattle.read_tree.proofs.AllowanceLemmas.{left_first, left_next}
+use Rattle.read_tree.proofs.StageLemmas.{by_done, by_over, by_none, by_same, by_more, by_enough, by_both, stage_done}
+use Rattle.read_tree.proofs.StageLemmas.{stage_over, none_other, nothing_near, liberty_is_candidate}
+use Rattle.read_tree.proofs.StageLemmas.{capture_is_candidate, capture_is_off, other_is_candidate, off_by_stages}
+use Rattle.read_tree.proofs.StageLemmas.{off_by_captures, captures_near, its_liberty, its_count, known_inside}
 use Rattle.read_tree.proofs.OrderLemmas.{none_tried, newest_or_before, fewer_left, none_left, order_near}
 use Rattle.read_tree.proofs.LibertyLemmas.{bounded_at, undecided_at}
 use Rattle.read_moves.proofs.AfterPlays.{whole_after}
@@ -30,7 +37,8 @@ use Rattle.read_tree.proofs.AtariLemmas.{pass_fails, atari_fails}
 use Rattle.read_tree.proofs.EscapeLemmas.{escape_succeeds, escape_near}
 use Rattle.read_tree.proofs.TakeLemmas.{take_wins}
 use Rattle.read_tree.proofs.CarryLemmas.{carries, made_free}
-use Rattle.read_rules.proofs.AreaLemmas.{AddsNear-in, AddsNear-trans, AddsNear-mono, area_target, area_once, area_candidates, area_play, pred_tree, undecided_defender, target_on}
+use Rattle.read_rules.proofs.AreaLemmas.{AddsNear-in, AddsNear-trans, AddsNear-mono, area_target, area_once}
+use Rattle.read_rules.proofs.AreaLemmas.{area_candidates, area_play, pred_tree, undecided_defender, target_on}
 use Rattle.read_rules.proofs.WinLemmas.{wins-captured, wins-no_plies, wins-by_move}
 use Rattle.read_tree.proofs.tree.+read.Goals as goal
 

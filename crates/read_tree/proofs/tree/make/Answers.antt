@@ -6,7 +6,8 @@ use Rattle.trial_board.specs.Trials.{after}
 use Rattle.trial_board.specs.declared.moves.Tried.TheVariants.{Banned}
 use Rattle.read_rules.specs.declared.node.Node.{Node}
 use Rattle.read_tree.specs.Allowances.{under, own_ko}
-use Rattle.read_tree.proofs.ChildLemmas.{child_of-done, child_of-dropped, child_of-suicide, child_of-refused, moves-refused, moves-banned, at_most_one_more}
+use Rattle.read_tree.proofs.ChildLemmas.{child_of-done, child_of-dropped, child_of-suicide, child_of-refused}
+use Rattle.read_tree.proofs.ChildLemmas.{moves-refused, moves-banned, at_most_one_more}
 use Rattle.read_tree.proofs.AllowanceLemmas.{next_keeps, next_spends, nothing_left, one_left}
 use Rattle.read_tree.proofs.tree.make.Goals as goal
 

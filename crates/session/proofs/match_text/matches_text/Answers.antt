@@ -4,7 +4,7 @@ use Rattle.helpers.specs.Asking.{says_yes}
 use Rattle.helpers.specs.Slots.{states_of}
 use Rattle.session.specs.Handed.{without_calls}
 use Rattle.session.proofs.HelperMeanings.{raised-quiet}
-use Rattle.match_engine.specs.MachineMatches.{machine_matches}
+use Rattle.match_engine.specs.AutomatonMatches.{automaton_matches}
 use Rattle.match_engine.specs.Readings.{codes_of}
 use Rattle.session.specs.MatchTexts.{AreAmong}
 use Rattle.session.proofs.MatcherSessions.{AreAmong-found}
@@ -16,7 +16,7 @@ list_text-requires g c =
     let patterns = c.args.patterns.now in
     let code = codes_of c.args.readings.now in
     let advice = says_yes (states_of (λ z. (goal.Helper-dyn g z).state z.1) c.args.helpers.now) in
-    let found = machine_matches code advice c.args.machine.now patterns c.args.position.now c.args.friend in
+    let found = automaton_matches code advice c.args.machine.now patterns c.args.position.now c.args.friend in
     subst (λ zs. AreAmong patterns c.size.result zs) (sym (c.as_slice.ensures.value ∙ c.in_ok-found.ensures.machine))
     (subst (λ s. AreAmong patterns s found) (sym c.size.ensures.value)
     (AreAmong-found code advice c.args.machine.now patterns c.args.position.now c.args.friend))

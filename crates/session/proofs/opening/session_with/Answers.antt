@@ -1,6 +1,6 @@
 -- The automaton accepts the patterns' numbers alone, and by it and the helpers the session is plain.
 use Rattle.std.proofs.Common.{sym, subst}
-use Rattle.dfa_core.specs.States.{IsMachineOf}
+use Rattle.dfa_core.specs.States.{IsAutomatonOf}
 use Rattle.helpers.specs.Asking.{says_yes}
 use Rattle.helpers.specs.Slots.{states_of}
 use Rattle.session.specs.SessionState.{NumbersPatterns, matcher_with}
@@ -19,7 +19,7 @@ pub returns-clause-ok : goal.returns-clause-ok
 returns-clause-ok g c =
     let patterns = c.args.patterns.items in
     let rows = c.in_ok-machine.machine in
-    let accepts = subst (λ ps. IsMachineOf ps rows) c.as_slice.ensures.value c.in_ok-machine.ensures.accepts in
+    let accepts = subst (λ ps. IsAutomatonOf ps rows) c.as_slice.ensures.value c.in_ok-machine.ensures.accepts in
     let plies = c.args.options.now.depth in
     let wide = c.args.options.now.branch in
     let advice = says_yes (states_of (λ z. (goal.Helper-dyn g z).state z.1) c.args.helpers) in

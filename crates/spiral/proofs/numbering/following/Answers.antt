@@ -2,7 +2,8 @@ use Rattle.std.proofs.Common.{◌≡◌, false, arith, inl, inr}
 use Rattle.std.proofs.lemmas.Int.{ints}
 use Rattle.spiral.proofs.NextOffsets.{is_top, fails-top, next-top, next-right, next-bottom, next-left, next-ring}
 use Rattle.spiral.proofs.Places.{offset_by_parts}
-use Rattle.spiral.proofs.numbering.following.Goals.{Joined-else-dr-dc-lt0, else-dr-dc-lt0-via-then-dr-dc-lt0+else-dr-dc, else-dr-dc-lt0-via-else-dr-dc-lt0}
+use Rattle.spiral.proofs.numbering.following.Goals.{Joined-else-dr-dc-lt0, else-dr-dc-lt0-via-then-dr-dc-lt0+else-dr-dc}
+use Rattle.spiral.proofs.numbering.following.Goals.{else-dr-dc-lt0-via-else-dr-dc-lt0}
 use Rattle.spiral.proofs.numbering.following.Goals as goal
 
 -- the offset does not lie on the top

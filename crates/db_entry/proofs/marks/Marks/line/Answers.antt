@@ -1,5 +1,6 @@
 use Rattle.go_rules.specs.Board.{largest_size}
-use Rattle.std.proofs.Common.{◌≡◌, ◌<◌, ◌≤◌, ◌∙◌, ◌+◌, ◌++◌, true, false, List, length, map, subst, sym, ap, refl, arith}
+use Rattle.std.proofs.Common.{◌≡◌, ◌<◌, ◌≤◌, ◌∙◌, ◌+◌, ◌++◌, true, false, List, length, map, subst, sym, ap, refl}
+use Rattle.std.proofs.Common.{arith}
 use Rattle.std.proofs.lemmas.List.{length-map}
 use Rattle.std.specs.Prelude.{ℕ, is_some}
 use Rattle.db_rules.specs.Diagram.{is_row, shape_of, bar}

@@ -1,5 +1,6 @@
 -- The matches that an automaton says, whichever it is.
-use Rattle.std.specs.Prelude.{◌≡◌, ◌<◌, ◌*◌, slice_get, ℕ, ◌+◌, ◌&&◌, ◌==◌, Bool, false, pos, List, Option, Some, None, is_some}
+use Rattle.std.specs.Prelude.{◌≡◌, ◌<◌, ◌*◌, slice_get, ℕ, ◌+◌, ◌&&◌, ◌==◌, Bool, false, pos, List, Option, Some, None}
+use Rattle.std.specs.Prelude.{is_some}
 use Rattle.std.specs.List.{list_all, list_any, range_with_len}
 use Rattle.go_rules.specs.declared.Colour.{Colour}
 use Rattle.go_rules.specs.Below.{any_below}
@@ -16,15 +17,15 @@ use Rattle.cons_eval.specs.Readings.{Codes}
 use Rattle.match_rules.specs.Conditions.{Advice, is_allowed, do_helpers_agree, is_agreed}
 use Rattle.match_rules.specs.Match.{matches_by}
 
--- the machine accepts the number at the end of some front of the word that is read from the anchor a under t
+-- the automaton accepts the number at the end of some front of the word that is read from the anchor a under t
 unfoldable pub accepts_from : List Row → BoardState → Colour → ℕ → ℕ → ℕ → Bool
-accepts_from machine board friend number t a =
-    any_below (offset_count + 1) (λ n. list_any (λ k. k == number) (accepted machine (word_at board friend t a n)))
+accepts_from automaton board friend number t a =
+    any_below (offset_count + 1) (λ n. list_any (λ k. k == number) (accepted automaton (word_at board friend t a n)))
 
--- the machine has a hit of the number under t at this anchor, if there is one
+-- the automaton has a hit of the number under t at this anchor, if there is one
 abbrev pub has_hit : List Row → BoardState → Colour → ℕ → ℕ → Option ℕ → Bool
-has_hit machine board friend number t None = false
-has_hit machine board friend number t (Some a) = accepts_from machine board friend number t a
+has_hit automaton board friend number t None = false
+has_hit automaton board friend number t (Some a) = accepts_from automaton board friend number t a
 
 -- the anchor's point, with the star at m under t
 abbrev pub place_of_anchor : Pattern → ℕ → ℕ → ℕ → Option ℕ
@@ -35,27 +36,27 @@ abbrev pub lies_on_board : Pattern → ℕ → ℕ → ℕ → Bool
 lies_on_board p s t m = list_all (λ r. list_all (λ c. is_some (place_of_cell p s t m (pos r) (pos c)))
     (range_with_len 0 p.cols)) (range_with_len 0 p.rows)
 
--- whether the machine finds the pattern with this number at m under t, and the friend's play there is legal
+-- whether the automaton finds the pattern with this number at m under t, and the friend's play there is legal
 abbrev pub is_found : List Row → BoardState → Colour → ℕ → Pattern → ℕ → ℕ → Bool
-is_found machine board friend number p t m =
-    has_hit machine board friend number t (place_of_anchor p board.size t m)
+is_found automaton board friend number p t m =
+    has_hit automaton board friend number t (place_of_anchor p board.size t m)
     && (lies_on_board p board.size t m && is_legal board friend m)
 
--- what the machine finds, sorted, before classes and constraints are looked at
+-- what the automaton finds, sorted, before classes and constraints are looked at
 unfoldable pub found_by : List Row → List Pattern → BoardState → Colour → List Match
-found_by machine patterns board friend = matches_by (is_found machine board friend) patterns board.size
+found_by automaton patterns board friend = matches_by (is_found automaton board friend) patterns board.size
 
--- whether the machine says that the pattern with this number matches at m under t: it has a hit whose star stands at m,
+-- whether the automaton says that the pattern with this number matches at m under t: it has a hit whose star stands at m,
 -- the whole diagram lies on the board, the friend's play at m is legal, and its classes, its constraint and its helpers
 -- allow it
-abbrev pub is_machine_match : Codes → Advice → List Row → BoardState → Colour → ℕ → Pattern → ℕ → ℕ → Bool
-is_machine_match code advice machine board friend number p t m =
-    is_found machine board friend number p t m && is_agreed code advice p board friend t m
+abbrev pub is_automaton_match : Codes → Advice → List Row → BoardState → Colour → ℕ → Pattern → ℕ → ℕ → Bool
+is_automaton_match code advice automaton board friend number p t m =
+    is_found automaton board friend number p t m && is_agreed code advice p board friend t m
 
--- the matches of the patterns by a machine, which need not be theirs
-unfoldable pub machine_matches : Codes → Advice → List Row → List Pattern → BoardState → Colour → List Match
-machine_matches code advice machine patterns board friend =
-    matches_by (is_machine_match code advice machine board friend) patterns board.size
+-- the matches of the patterns by an automaton, which need not be theirs
+unfoldable pub automaton_matches : Codes → Advice → List Row → List Pattern → BoardState → Colour → List Match
+automaton_matches code advice automaton patterns board friend =
+    matches_by (is_automaton_match code advice automaton board friend) patterns board.size
 
 -- whether the classes and the constraint of the match's pattern allow it
 abbrev pub is_allowed_at : Codes → BoardState → Colour → Option Pattern → Match → Bool

@@ -1,5 +1,7 @@
--- The matches that the hits of a machine are, and the matches by the machine.
-use Rattle.std.proofs.Common.{◌≡◌, ℕ, ◌+◌, ◌*◌, ◌<◌, ◌≤◌, Bool, true, false, ◌&&◌, cond, ltb, eqb, List, [], ◌∷◌, ◌++◌, length, get_or, take, Contains, Option, Some, None, slice_get, refl, sym, ap, ◌∙◌, subst, arith, pos, ◌+ℤ◌, ◌-ℤ◌}
+-- The matches that the hits of an automaton are, and the matches by the automaton.
+use Rattle.std.proofs.Common.{◌≡◌, ℕ, ◌+◌, ◌*◌, ◌<◌, ◌≤◌, Bool, true, false, ◌&&◌, cond, ltb, eqb, List, [], ◌∷◌, ◌++◌}
+use Rattle.std.proofs.Common.{length, get_or, take, Contains, Option, Some, None, slice_get, refl, sym, ap, ◌∙◌, subst}
+use Rattle.std.proofs.Common.{arith, pos, ◌+ℤ◌, ◌-ℤ◌}
 use Rattle.std.specs.List.{filter_map, list_any}
 use Rattle.std.specs.List.Sorted.{IsPermutation}
 use Rattle.std.specs.Option.{option_to_list}
@@ -26,7 +28,8 @@ use Rattle.dfa_match.specs.Sights.{word_at}
 use Rattle.dfa_match.specs.Hits.{IsHit, AreHits}
 use Rattle.match_rules.specs.declared.found.Match.{Match}
 use Rattle.go_rules.specs.Play.{is_legal}
-use Rattle.match_engine.specs.MachineMatches.{lies_on_board, accepts_from, has_hit, place_of_anchor, is_found, found_by}
+use Rattle.match_engine.specs.AutomatonMatches.{lies_on_board, accepts_from, has_hit, place_of_anchor, is_found}
+use Rattle.match_engine.specs.AutomatonMatches.{found_by}
 use Rattle.match_engine.specs.Found.{place_of_star, match_at, match_from}
 use Rattle.match_rules.proofs.Lists.{Contains-filter_map, Contains-filter_map_from}
 use Rattle.match_rules.proofs.Orders.{IsBy, by-has, by-from, by-in_order, same_matches}
@@ -164,34 +167,34 @@ module _ (p : Pattern) (s t : ℕ) where
       ) m low at
       ∙ ap (place_at s t a) (there_and_back p.star (anchor_of p)) ∙ place_at-none s t a low on
 
-module _ (machine : List Row) (board : BoardState) (friend : Colour) where
-  -- what the machine accepts from an anchor is a hit
+module _ (automaton : List Row) (board : BoardState) (friend : Colour) where
+  -- what the automaton accepts from an anchor is a hit
   pub hit_of_accept : (number t a : ℕ) → t < transformations → a < board.size * board.size
-      → accepts_from machine board friend number t a ≡ true
-      → IsHit machine board friend (record { pattern = number; transform = t; anchor = a })
+      → accepts_from automaton board friend number t a ≡ true
+      → IsHit automaton board friend (record { pattern = number; transform = t; anchor = a })
   unfolding accepts_from
   hit_of_accept number t a low on accepts =
       let front = any_below_gives (offset_count + 1)
-      (λ n. list_any (λ k. eqb k number) (accepted machine (word_at board friend t a n))) accepts in
-      let found = Any-from_list_any (λ k. eqb k number) (accepted machine (word_at board friend t a front.0)) front.2 in
+      (λ n. list_any (λ k. eqb k number) (accepted automaton (word_at board friend t a n))) accepts in
+      let found = Any-from_list_any (λ k. eqb k number) (accepted automaton (word_at board friend t a front.0)) front.2 in
       record {
         transform = low;
         anchor = on;
         letters = front.0;
         spiral = omega (arith, front.1);
-        accepts = subst (Contains (accepted machine (word_at board friend t a front.0)))
+        accepts = subst (Contains (accepted automaton (word_at board friend t a front.0)))
             (eqb-true found.1 number found.4) (found.0, found.2, found.3);
       }
 
   -- and the other way round
-  pub accept_of_hit : (hit : Hit) → IsHit machine board friend hit
-      → accepts_from machine board friend hit.pattern hit.transform hit.anchor ≡ true
+  pub accept_of_hit : (hit : Hit) → IsHit automaton board friend hit
+      → accepts_from automaton board friend hit.pattern hit.transform hit.anchor ≡ true
   unfolding accepts_from
   accept_of_hit hit is =
       any_below_from (offset_count + 1) (λ n. list_any (λ k. eqb k hit.pattern)
-      (accepted machine (word_at board friend hit.transform hit.anchor n))) is.letters (omega (arith, is.spiral))
+      (accepted automaton (word_at board friend hit.transform hit.anchor n))) is.letters (omega (arith, is.spiral))
       (list_any-from_Any (λ k. eqb k hit.pattern)
-      (accepted machine (word_at board friend hit.transform hit.anchor is.letters)) (
+      (accepted automaton (word_at board friend hit.transform hit.anchor is.letters)) (
         is.accepts.0,
         hit.pattern,
         is.accepts.1,
@@ -200,23 +203,23 @@ module _ (machine : List Row) (board : BoardState) (friend : Colour) where
       ))
 
   -- a hit at an anchor that is there
-  pub has_hit-true : (number t : ℕ) (anchor : Option ℕ) → has_hit machine board friend number t anchor ≡ true
-      → (a : ℕ) × (anchor ≡ Some a) × (accepts_from machine board friend number t a ≡ true)
+  pub has_hit-true : (number t : ℕ) (anchor : Option ℕ) → has_hit automaton board friend number t anchor ≡ true
+      → (a : ℕ) × (anchor ≡ Some a) × (accepts_from automaton board friend number t a ≡ true)
   has_hit-true number t None e = absurd (false≢true e)
   has_hit-true number t (Some a) e = (a, refl, e)
 
   module _ (patterns : List Pattern) where
-    -- the match of a hit is one by the machine
-    by_of_hit : (hit : Hit) (z : Match) → IsHit machine board friend hit → IsMade patterns board friend hit z
-        → IsBy (is_found machine board friend) patterns board.size z
+    -- the match of a hit is one by the automaton
+    by_of_hit : (hit : Hit) (z : Match) → IsHit automaton board friend hit → IsMade patterns board friend hit z
+        → IsBy (is_found automaton board friend) patterns board.size z
     by_of_hit hit z is made =
         let low : hit.transform < transformations = is.transform in
         let anchor = anchor_of_star made.pattern board.size hit.transform hit.anchor z.at low is.anchor made.star in
-        let test : is_found machine board friend hit.pattern made.pattern hit.transform z.at ≡ true =
-        and_from (has_hit machine board friend hit.pattern hit.transform
+        let test : is_found automaton board friend hit.pattern made.pattern hit.transform z.at ≡ true =
+        and_from (has_hit automaton board friend hit.pattern hit.transform
         (place_of_anchor made.pattern board.size hit.transform z.at))
         (lies_on_board made.pattern board.size hit.transform z.at && is_legal board friend z.at)
-        (ap (has_hit machine board friend hit.pattern hit.transform) anchor ∙ accept_of_hit hit is)
+        (ap (has_hit automaton board friend hit.pattern hit.transform) anchor ∙ accept_of_hit hit is)
         (and_from (lies_on_board made.pattern board.size hit.transform z.at)
         (is_legal board friend z.at) made.whole made.legal) in
         record {
@@ -227,17 +230,17 @@ module _ (machine : List Row) (board : BoardState) (friend : Colour) where
             pos made.pattern.star.0 -ℤ pos (anchor_of made.pattern).0,
             pos made.pattern.star.1 -ℤ pos (anchor_of made.pattern).1,
           ) z.at made.star;
-          passes = subst (λ t. is_found machine board friend z.pattern made.pattern t z.at ≡ true) made.same_transform
-              (subst (λ n. is_found machine board friend n made.pattern hit.transform z.at ≡ true) made.same_pattern
+          passes = subst (λ t. is_found automaton board friend z.pattern made.pattern t z.at ≡ true) made.same_transform
+              (subst (λ n. is_found automaton board friend n made.pattern hit.transform z.at ≡ true) made.same_pattern
               test);
         }
 
-    -- a match by the machine is that of a hit
-    hit_of_by : (z : Match) → IsBy (is_found machine board friend) patterns board.size z
-        → (hit : Hit) × IsHit machine board friend hit × IsMade patterns board friend hit z
+    -- a match by the automaton is that of a hit
+    hit_of_by : (z : Match) → IsBy (is_found automaton board friend) patterns board.size z
+        → (hit : Hit) × IsHit automaton board friend hit × IsMade patterns board friend hit z
     hit_of_by z by =
         let p : Pattern = by.pattern in
-        let parts = and_parts (has_hit machine board friend z.pattern z.transform
+        let parts = and_parts (has_hit automaton board friend z.pattern z.transform
         (place_of_anchor p board.size z.transform z.at))
         (lies_on_board p board.size z.transform z.at && is_legal board friend z.at) by.passes in
         let both = and_parts (lies_on_board p board.size z.transform z.at) (is_legal board friend z.at) parts.1 in
@@ -263,7 +266,7 @@ module _ (machine : List Row) (board : BoardState) (friend : Colour) where
 
     -- two hits that are one match are one hit
     one_hit : (g h : Hit) (z : Match) → IsMade patterns board friend g z → IsMade patterns board friend h z
-        → IsHit machine board friend g → IsHit machine board friend h → g ≡ h
+        → IsHit automaton board friend g → IsHit automaton board friend h → g ≡ h
     one_hit g h z made other is_g is_h =
         let patterns_same : g.pattern ≡ h.pattern = made.same_pattern ∙ sym other.same_pattern in
         let transforms_same : g.transform ≡ h.transform = made.same_transform ∙ sym other.same_transform in
@@ -279,17 +282,17 @@ module _ (machine : List Row) (board : BoardState) (friend : Colour) where
         λ i. record { pattern = patterns_same i; transform = transforms_same i; anchor = anchor i }
 
     -- the matches that the hits are differ
-    made-distinct : (hits : List Hit) → AreHits machine board friend hits
+    made-distinct : (hits : List Hit) → AreHits automaton board friend hits
         → AreDistinct (filter_map (made patterns board friend) hits)
     made-distinct hits are =
         AreDistinct-filter_map (made patterns board friend) hits
         (λ g h z in_g in_h e f. one_hit g h z (made-Some patterns board friend g z e)
         (made-Some patterns board friend h z f) (are.sound g in_g) (are.sound h in_h)) are.once
 
-    -- each match of a hit is one by the machine
-    found-by : (hits : List Hit) (found sorted : List Match) → AreHits machine board friend hits
+    -- each match of a hit is one by the automaton
+    found-by : (hits : List Hit) (found sorted : List Match) → AreHits automaton board friend hits
         → found ≡ filter_map (made patterns board friend) hits → IsPermutation found sorted
-        → (z : Match) → Contains sorted z → IsBy (is_found machine board friend) patterns board.size z
+        → (z : Match) → Contains sorted z → IsBy (is_found automaton board friend) patterns board.size z
     found-by hits found sorted are from moved z there =
         let here : Contains (filter_map (made patterns board friend) hits) z =
         subst (λ zs. Contains zs z) from (Contains-permutation sorted found z
@@ -299,29 +302,29 @@ module _ (machine : List Row) (board : BoardState) (friend : Colour) where
 
     -- so it is small on a board that is
     small-by : board.size * board.size ≤ largest_points → (z : Match)
-        → IsBy (is_found machine board friend) patterns board.size z → IsSmall z
+        → IsBy (is_found automaton board friend) patterns board.size z → IsSmall z
     small-by small z by = record {
       transform = omega (arith, by.transform, count_within by.pattern.mark);
       at = omega (arith, by.at, small);
     }
 
-    -- the matches of the hits, sorted by rank, are what the machine finds
+    -- the matches of the hits, sorted by rank, are what the automaton finds
     pub sorted_matches : (hits : List Hit) (found sorted : List Match) → board.size * board.size ≤ largest_points
-        → AreHits machine board friend hits → found ≡ filter_map (made patterns board friend) hits
+        → AreHits automaton board friend hits → found ≡ filter_map (made patterns board friend) hits
         → IsPermutation found sorted → IsNonDecreasingBy rank_of sorted
-        → sorted ≡ found_by machine patterns board friend
+        → sorted ≡ found_by automaton patterns board friend
     unfolding found_by
     sorted_matches hits found sorted small are from moved order =
-        same_matches sorted (found_by machine patterns board friend)
+        same_matches sorted (found_by automaton patterns board friend)
         (sorted-in_order sorted order
         (λ z there. small-by small z (found-by hits found sorted are from moved z there))
         (AreDistinct-permutation found sorted moved
         (subst AreDistinct (sym from) (made-distinct hits are))))
-        (by-in_order (is_found machine board friend) patterns board.size)
-        (λ z there. by-from (is_found machine board friend) patterns board.size z
+        (by-in_order (is_found automaton board friend) patterns board.size)
+        (λ z there. by-from (is_found automaton board friend) patterns board.size z
         (found-by hits found sorted are from moved z there))
         (λ z there.
-        let of = hit_of_by z (by-has (is_found machine board friend) patterns board.size z there) in
+        let of = hit_of_by z (by-has (is_found automaton board friend) patterns board.size z there) in
         Contains-permutation found sorted z moved
         (subst (λ zs. Contains zs z) (sym from) (Contains-filter_map_from (made patterns board friend) hits of.0 z
         (are.complete of.0 of.1) (made-from patterns board friend of.0 z of.2))))

@@ -1,32 +1,32 @@
 use Rattle.std.proofs.Common.{◌++◌, max, ◌∙◌, ap, sym, subst, length}
 use Rattle.std.proofs.lemmas.List.{length_push}
-use Rattle.dfa_join.specs.Pairs.{IsReached, AreLines, IsLine}
-use Rattle.dfa_join.proofs.Products.{AreLines-push}
-use Rattle.dfa_join.proofs.product.with_line.Goals as goal
+use Rattle.dfa_join.specs.Pairs.{IsReached, AreRowsOf, IsRowOf}
+use Rattle.dfa_join.proofs.Products.{AreRowsOf-push}
+use Rattle.dfa_join.proofs.product.with_row_of.Goals as goal
 
 -- some word reaches the pair
 pub expand-requires-clause-reached : goal.expand-requires-clause-reached
 expand-requires-clause-reached c =
     subst (IsReached c.args.a.now c.args.b.now) c.requires.pair
-    (c.requires.lines.work.reached (length c.args.rows) c.requires.next)
+    (c.requires.made.work.reached (length c.args.rows) c.requires.next)
 
 -- the pairs so far are different and reached
 pub expand-requires-clause-work : goal.expand-requires-clause-work
-expand-requires-clause-work c = c.requires.lines.work
+expand-requires-clause-work c = c.requires.made.work
 
 -- the row is that of the pair
-pub returns-in-Ok-clause-lines : goal.returns-in-Ok-clause-lines
-returns-in-Ok-clause-lines c =
-    subst (AreLines c.args.a.now c.args.b.now c.args.limit c.expand.new.pairs.keys) (sym c.in-Ok.ensures)
-    (AreLines-push c.args.a.now c.args.b.now c.args.limit c.args.pairs.now.keys c.expand.new.pairs.keys c.args.rows
+pub returns-in-Ok-clause-made : goal.returns-in-Ok-clause-made
+returns-in-Ok-clause-made c =
+    subst (AreRowsOf c.args.a.now c.args.b.now c.args.limit c.expand.new.pairs.keys) (sym c.in-Ok.ensures)
+    (AreRowsOf-push c.args.a.now c.args.b.now c.args.limit c.args.pairs.now.keys c.expand.new.pairs.keys c.args.rows
     (record {
       targets = c.in_ok-targets.targets;
       numbers = c.accepts.result.now ++ c.accepts-2.result.now;
       depth = c.max-depth.result;
     })
-    c.requires.lines c.requires.next
+    c.requires.made c.requires.next
     c.in_ok-targets.ensures.keeps c.in_ok-targets.ensures.work
-    (subst (λ q. IsLine c.args.a.now c.args.b.now c.expand.new.pairs.keys q
+    (subst (λ q. IsRowOf c.args.a.now c.args.b.now c.expand.new.pairs.keys q
     (record {
       targets = c.in_ok-targets.targets;
       numbers = c.accepts.result.now ++ c.accepts-2.result.now;

@@ -1,7 +1,0 @@
-use Rattle.match_engine.proofs.Patterns.{same_by_machine}
-use Rattle.match_engine.proofs.laws.machine_of_the_patterns_finds_their_matches.Goals as goal
-
--- its hits are where the patterns fit
-pub returns : goal.returns
-returns c = λ code advice patterns machine board friend accepts.
-    same_by_machine code advice patterns machine board friend accepts
