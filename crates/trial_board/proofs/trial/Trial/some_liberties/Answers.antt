@@ -13,8 +13,8 @@ use Rattle.trial_board.proofs.trial.Trial.some_liberties.Goals as goal
 
 -- looks keep the trial moves
 pub invariant_of-self : goal.invariant_of-self
-invariant_of-self g c = IsStanding-looks c.self.invariant c.search-liberties.ensures.looks.asked.0.grows
-    c.search-liberties.ensures.looks.asked.1 c.search-liberties.ensures.looks.same
+invariant_of-self g c = IsStanding-looks c.self.invariant c.search-liberties.ensures.looks.asked.grows
+    c.search-liberties.ensures.looks.same
 
 -- the liberties among what a search found
 its_liberties : (s : ℕ) (cells : List Cell) (p most : ℕ) (found : Found) → Searches s cells p most found
@@ -28,13 +28,13 @@ returns-clause-over g c = λ pos a.
     let inside = c.self.inside in
     let found = c.search-liberties.result in
     let asked = c.search-liberties.ensures.looks.asked in
-    let a0 = agrees_before asked.0.grows a in
+    let a0 = agrees_before asked.grows a in
     rw (← c.self.view_is)
     (subst (λ t. FindsLiberties pos.size t c.args.p c.args.most found.liberties) (sym (i.now pos a0).cells)
-    (subst (λ n. FindsLiberties n (overlaid pos.size inside.board.changed pos.cells) c.args.p c.args.most
+    (subst (λ n. FindsLiberties n (overlaid pos.size inside.board.known pos.cells) c.args.p c.args.most
     found.liberties)
     (sym (same_size (g.met.L.Look.sized inside.board.look) a0))
-    (its_liberties _ _ _ _ found (c.search-liberties.ensures.over pos (a, asked.1 ∙ i.whole)))))
+    (its_liberties _ _ _ _ found (c.search-liberties.ensures.over pos a))))
 
 -- and it looked near p
 pub returns-clause-near : goal.returns-clause-near
@@ -42,11 +42,11 @@ returns-clause-near g c = λ pos a.
     let i = c.self.invariant in
     let inside = c.self.inside in
     let asked = c.search-liberties.ensures.looks.asked in
-    let a0 = agrees_before asked.0.grows a in
+    let a0 = agrees_before asked.grows a in
     let seen = g.L.Look.seen inside.board.look in
     let more = g.L.Look.seen c.search-liberties.new.board.look in
     rw (← c.self.view_is)
     (subst (λ t. AddsIn seen more (neighbourhood_of pos.size t (alone c.args.p))) (sym (i.now pos a0).cells)
-    (subst (λ n. AddsIn seen more (neighbourhood_of n (overlaid pos.size inside.board.changed pos.cells)
+    (subst (λ n. AddsIn seen more (neighbourhood_of n (overlaid pos.size inside.board.known pos.cells)
     (alone c.args.p))) (sym (same_size (g.met.L.Look.sized inside.board.look) a0))
-    (c.search-liberties.ensures.near pos (a, asked.1 ∙ i.whole)).0.adds))
+    (c.search-liberties.ensures.near pos a).adds))
