@@ -71,15 +71,17 @@ module _ (automaton : List Row) (letters : List Seen) where
   pub within_letters : IsAutomaton automaton → (steps : List ℕ) (w : Walk) → IsWithin (length automaton) w
       → IsWithin (length automaton) (after_letters automaton letters steps w)
   within_letters good [] w within = within
-  within_letters good (step ∷ steps) w within = within_letters good steps (after_letter automaton letters step w) (record {
-    row = good.targets w.row (get_or letters (w.corner + step) Off) within.row;
-    corner = within.corner;
-  })
+  within_letters good (step ∷ steps) w within = within_letters good steps (after_letter automaton letters step w)
+      (record {
+        row = good.targets w.row (get_or letters (w.corner + step) Off) within.row;
+        corner = within.corner;
+      })
 
   module _ (t : ℕ) where
     -- what is given out along the letters is what is given out along the first ones, and then along the others
     hits_along-append : (xs ys : List ℕ) (w : Walk) → hits_along automaton letters t (xs ++ ys) w
-        ≡ hits_along automaton letters t xs w ++ hits_along automaton letters t ys (after_letters automaton letters xs w)
+        ≡ hits_along automaton letters t xs w ++ hits_along automaton letters t ys
+        (after_letters automaton letters xs w)
     hits_along-append [] ys w = refl
     hits_along-append (x ∷ xs) ys w =
         let next : Walk = after_letter automaton letters x w in
@@ -235,7 +237,8 @@ module _ (automaton : List Row) (pos : BoardState) (friend : Colour) (size : ℕ
   -- at the step to an offset each walk reads what is seen there
   one_read : (i m : ℕ) → i < offset_count → m < pos.size * pos.size
       → get_or letters (corner_at pos.size m + step_to t i) Off ≡ seen_at pos friend t m i
-  one_read i m inside on = letter_seen pos friend size letters t m i (step_to t i) (transformed t (offset_at i)) sights on
+  one_read i m inside on = letter_seen pos friend size letters t m i (step_to t i)
+      (transformed t (offset_at i)) sights on
       (keeps_near t low (offset_at i) (offsets_near i inside)) refl refl
 
   -- so the next four letters are read

@@ -34,7 +34,8 @@ not_alive Plain e = absurd (let h : ⊥ = cc in h)
 not_alive Accepting e = absurd (let h : ⊥ = cc in h)
 not_alive Dead e = refl
 
-module _ (automaton : List Row) (size : ℕ) (row : ℕ → ℕ) (walks : List Walk) (are : AreWalks automaton size row walks) where
+module _ (automaton : List Row) (size : ℕ) (row : ℕ → ℕ) (walks : List Walk)
+    (are : AreWalks automaton size row walks) where
   -- the walks that are alive are still all but those whose row is dead
   pub walks_alive : AreWalks automaton size row (filter (goes_on automaton) walks)
   walks_alive = record {
@@ -91,7 +92,8 @@ alive_one : (automaton : List Row) (t : ℕ) (w : Walk) (walks : List Walk) (b :
     → hits_of automaton t (filter (goes_on automaton) (w ∷ walks)) ≡ hits_of automaton t (w ∷ walks)
 alive_one automaton t w walks true on rest =
     rw on (ap (λ hs. hits_at t w.anchor (row_at automaton w.row).numbers ++ hs) rest)
-alive_one automaton t w walks false off rest = rw off (rest ∙ ap (λ ns. hits_at t w.anchor ns ++ hits_of automaton t walks)
+alive_one automaton t w walks false off rest = rw off
+    (rest ∙ ap (λ ns. hits_at t w.anchor ns ++ hits_of automaton t walks)
     (sym (kind-dead automaton w.row (not_alive (kind_at automaton w.row) off)).silent))
 
 -- the walks that go on give out what all of them would
@@ -156,7 +158,8 @@ module _ (automaton : List Row) (pos : BoardState) (friend : Colour) (t : ℕ) w
       → after_letter automaton letters step
       (walk_at pos.size (row_after automaton pos friend t i m) m) ≡ walk_at pos.size
       (row_after automaton pos friend t (i + 1) m) m =
-      λ m low. ap (λ r. walk_at pos.size r m) (ap (step_at automaton (row_after automaton pos friend t i m)) (read m low)
+      λ m low. ap (λ r. walk_at pos.size r m)
+      (ap (step_at automaton (row_after automaton pos friend t i m)) (read m low)
       ∙ row_next i m) in
       record {
         each = λ w there.

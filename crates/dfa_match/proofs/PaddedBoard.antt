@@ -60,7 +60,8 @@ record IsThere (s r c q : ℕ) : Type 0 where
 -- a place of the padded board that has a point stands in that point's row and column
 point_from : (s r c q : ℕ) → padded_point s r c ≡ Some q → IsThere s r c q
 point_from s r c q e =
-    let parts = point_parts s (strip_of s (pos r -ℤ pos largest_offset)) (strip_of s (pos c -ℤ pos largest_offset)) q e in
+    let parts = point_parts s (strip_of s (pos r -ℤ pos largest_offset))
+    (strip_of s (pos c -ℤ pos largest_offset)) q e in
     let row = strip_from s (pos r -ℤ pos largest_offset) parts.row parts.in_row in
     let column = strip_from s (pos c -ℤ pos largest_offset) parts.column parts.in_column in
     let at_row : parts.row ≡ q / s =
@@ -102,7 +103,8 @@ strip_by-is (pos n) low = omega (arith, ints)
 strip_by-is (negsuc n) low = omega (arith, ints, low)
 
 -- no strip of that square is past the last
-pub strip_by-most : (z : ℤ) → neg_ℤ (pos largest_offset) ≤ℤ z → z ≤ℤ pos largest_offset → strip_by z ≤ 2 * largest_offset
+pub strip_by-most : (z : ℤ) → neg_ℤ (pos largest_offset) ≤ℤ z → z ≤ℤ pos largest_offset
+    → strip_by z ≤ 2 * largest_offset
 strip_by-most z low high = omega (arith, ints, strip_by-is z low)
 
 -- the square around a point of a board begins no later than that around the last point of the largest board

@@ -48,7 +48,8 @@ padded_side = 73
 
 -- the point in a row and a column of the padded board of size s, whose board begins behind the largest offset
 abbrev pub padded_point : ℕ → ℕ → ℕ → Option ℕ
-padded_point s r c = point_of s (strip_of s (plus r -ℤ plus largest_offset)) (strip_of s (plus c -ℤ plus largest_offset))
+padded_point s r c = point_of s (strip_of s (plus r -ℤ plus largest_offset))
+    (strip_of s (plus c -ℤ plus largest_offset))
 
 -- what is seen at a point below n, or off the board
 abbrev pub seen_below : ℕ → BoardState → Colour → Option ℕ → Seen

@@ -1,7 +1,8 @@
 //! Walks that read a few letters each, one walk after the other.
 //!
 //! A walk reads its letters before the next walk does: so its row is not written after each of them, and the loads of
-//! one walk do not wait for those of another. A walk that is dead reads on to the last of these letters, and stays dead.
+//! one walk do not wait for those of another. A walk that is dead reads on to the last of these letters, and stays
+//! dead.
 ghost use Rattle.std.specs.Prelude.{◌≡◌, ◌⊎◌, false, ℕ, ◌+◌, ◌%◌, ◌<◌, ◌≤◌, ◌++◌, [], length, map, take, filter, All};
 ghost use Rattle.std.specs.Prelude.{IfOk, OnOk};
 ghost use Rattle.std.specs.List.{flat_map};
@@ -188,8 +189,8 @@ fn read_on(
     Ok(count)
 }
 
-/// Reads the letters at these steps on each walk, adds the hits of the rows to which they lead, and drops the walks that
-/// are dead.
+/// Reads the letters at these steps on each walk, adds the hits of the rows to which they lead, and drops the walks
+/// that are dead.
 pub fn read_letters(
     automaton: &Automaton,
     sights: &Sights,

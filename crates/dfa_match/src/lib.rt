@@ -2,10 +2,10 @@
 //!
 //! A hit is a number that the automaton accepts at the end of a word, which is what is seen along the moved spiral from
 //! an anchor. `scan` gives exactly the hits, each once; it is given no diagrams. On a padded board each letter of a
-//! transformation is one step for all anchors. The walks from all anchors stand in one list, and each reads four letters
-//! before the next one does; those that are dead then are dropped. The anchor's own letter is read once for all
-//! transformations. Two laws say that a word that is read from an anchor matches a pattern exactly where the pattern
-//! fits there.
+//! transformation is one step for all anchors. The walks from all anchors stand in one list, and each reads four
+//! letters before the next one does; those that are dead then are dropped. The anchor's own letter is read once for
+//! all transformations. Two laws say that a word that is read from an anchor matches a pattern exactly where the
+//! pattern fits there.
 //!
 //! After GNU Go Manual, "The DFA pattern matcher".
 #![tactic(auto)]
@@ -130,6 +130,7 @@ pub fn matched_words_are_fits()
 
 /// The hits of the automaton of a list of patterns are where these patterns fit.
 pub fn hits_of_patterns_are_fits()
-    ensures { (patterns : List Pattern) (automaton : List Row) (pos : BoardState) (friend : ColourSeen) (hit : HitSeen) →
+    ensures { (patterns : List Pattern) (automaton : List Row) (pos : BoardState) (friend : ColourSeen)
+        (hit : HitSeen) →
         IsAutomatonOf patterns automaton → IsHit automaton pos friend hit ↔ IsFit patterns pos friend hit }
 {}

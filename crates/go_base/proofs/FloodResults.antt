@@ -235,7 +235,8 @@ Flooded-all s cells p stones wait h none (step {q} {r} path on near same) =
     (same ∙ sym (path_same s cells p path))
 
 -- a point that a path leads to is in the string
-pub string_has : (s : ℕ) (cells : List Cell) (r q : ℕ) → r < s * s → is_stone (cell_at cells r) ≡ true → Path s cells r q
+pub string_has : (s : ℕ) (cells : List Cell) (r q : ℕ) → r < s * s → is_stone (cell_at cells r) ≡ true
+    → Path s cells r q
     → sets.contains (string_at s cells r) q ≡ true
 unfolding string_at
 string_has s cells r q on stone path =

@@ -34,10 +34,12 @@ on_board : (f : Facts) (pos : BoardState) → Agrees (told f) pos → (q : ℕ) 
 on_board f pos a q on = lt-ltb q (f.size * f.size) (subst (λ n. q < n * n) (sym (size_stands f pos a)) on)
 
 -- and each cell is as it was seen
-pub cells_stand : (f : Facts) (pos : BoardState) → Agrees (told f) pos → (cell : Cell) → AllShow (seen_as f cell) cell pos
+pub cells_stand : (f : Facts) (pos : BoardState) → Agrees (told f) pos → (cell : Cell)
+    → AllShow (seen_as f cell) cell pos
 cells_stand f pos a cell q on seen = a.each (CellIs q cell) (and_from _ _ (on_board f pos a q on) seen)
 
 -- and the ban is as it was where it was asked for
-pub ban_stands : (f : Facts) (pos : BoardState) → Agrees (told f) pos → (c : Colour) → BanStays (asked_of f c) f.ban c pos
+pub ban_stands : (f : Facts) (pos : BoardState) → Agrees (told f) pos → (c : Colour)
+    → BanStays (asked_of f c) f.ban c pos
 ban_stands f pos a c q on asked = a.each (BanIs q c (is_banned f.ban c q))
     (and_from _ _ (on_board f pos a q on) (and_from _ _ asked (same_bool-refl (is_banned f.ban c q))))

@@ -67,7 +67,8 @@ liberty_beside s cells p on stone t z =
 pub liberty_there : (s : ℕ) (cells : List Cell) (p : ℕ) → p < s * s → is_stone (cell_at cells p) ≡ true
     → has_empty_neighbour s cells p ≡ true → None ≡ stones_without_liberty s cells p
 unfolding stones_without_liberty
-liberty_there s cells p on stone t = rw (stone, ne_eqb (liberties s cells p) 0 (liberty_beside s cells p on stone t)) refl
+liberty_there s cells p on stone t = rw
+    (stone, ne_eqb (liberties s cells p) 0 (liberty_beside s cells p on stone t)) refl
 
 -- nor where the search saw a liberty
 pub liberty_seen : (s : ℕ) (cells : List Cell) (p n : ℕ) (found : Found) → is_stone (cell_at cells p) ≡ true

@@ -128,7 +128,8 @@ fn first_in_words(words: &[u64; WORDS], used: u16, first: u16) -> Option<Point>
     Some(next * WORD_BITS + lowest_bit(words[next as usize], 0))
 }
 
-/// The least point from `first` on that the words mark, None exactly where there is none below `end`. It takes no memory.
+/// The least point from `first` on that the words mark, None exactly where there is none below `end`. It takes no
+/// memory.
 pub fn first_marked(words: &[u64; WORDS], first: u16, end: u16) -> Option<Point>
     requires { end ≤ largest_points }
     ensures some { IfSome result (λ q. (first ≤ q) × (q < end) × IsTrue (is_marked words.now q)

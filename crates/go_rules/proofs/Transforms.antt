@@ -5,7 +5,8 @@ use Rattle.std.proofs.lemmas.Int.{ints}
 use Rattle.go_rules.specs.Transform.{Offset, IsNear, transformed, transformations, AreNextTo, AreOneStepApart}
 
 -- what holds of each of the eight holds of every transformation
-pub each_of_eight : (P : ℕ → Type 0) → P 0 → P 1 → P 2 → P 3 → P 4 → P 5 → P 6 → P 7 → (t : ℕ) → t < transformations → P t
+pub each_of_eight : (P : ℕ → Type 0) → P 0 → P 1 → P 2 → P 3 → P 4 → P 5 → P 6 → P 7 → (t : ℕ) → t < transformations
+    → P t
 each_of_eight P a b c d e f g h zero l = a
 each_of_eight P a b c d e f g h (suc zero) l = b
 each_of_eight P a b c d e f g h (suc (suc zero)) l = c

@@ -176,7 +176,8 @@ module _ (automaton : List Row) (board : BoardState) (friend : Colour) where
   hit_of_accept number t a low on accepts =
       let front = any_below_gives (offset_count + 1)
       (λ n. list_any (λ k. eqb k number) (accepted automaton (word_at board friend t a n))) accepts in
-      let found = Any-from_list_any (λ k. eqb k number) (accepted automaton (word_at board friend t a front.0)) front.2 in
+      let found = Any-from_list_any (λ k. eqb k number)
+      (accepted automaton (word_at board friend t a front.0)) front.2 in
       record {
         transform = low;
         anchor = on;

@@ -38,7 +38,8 @@ pub open_is_legal : (pos : BoardState) (c : Colour) (p q : ℕ) → IsPosition p
     → is_stone (cell_at pos.cells p) ≡ false → is_banned pos.ban c p ≡ false → IsEmptyBeside pos p q
     → true ≡ is_legal pos c p
 open_is_legal pos c p q good on none free beside =
-    let apart : q ≢ p = λ same. not_beside pos.size p (subst (λ k. are_neighbours pos.size p k ≡ true) same beside.near) in
+    let apart : q ≢ p = λ same. not_beside pos.size p
+    (subst (λ k. are_neighbours pos.size p k ≡ true) same beside.near) in
     let p_put : cell_at (put_on pos c p) p ≡ stone_of c =
     at_put_same pos.cells p (stone_of c) (omega (arith, on, good.cells)) in
     let q_put : cell_at (put_on pos c p) q ≡ Empty = at_put_other pos.cells p q (stone_of c) apart ∙ beside.is_empty in

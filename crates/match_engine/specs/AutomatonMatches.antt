@@ -46,9 +46,9 @@ is_found automaton board friend number p t m =
 unfoldable pub found_by : List Row → List Pattern → BoardState → Colour → List Match
 found_by automaton patterns board friend = matches_by (is_found automaton board friend) patterns board.size
 
--- whether the automaton says that the pattern with this number matches at m under t: it has a hit whose star stands at m,
--- the whole diagram lies on the board, the friend's play at m is legal, and its classes, its constraint and its helpers
--- allow it
+-- whether the automaton says that the pattern with this number matches at m under t: it has a hit whose star stands
+-- at m, the whole diagram lies on the board, the friend's play at m is legal, and its classes, its constraint and its
+-- helpers allow it
 abbrev pub is_automaton_match : Codes → Advice → List Row → BoardState → Colour → ℕ → Pattern → ℕ → ℕ → Bool
 is_automaton_match code advice automaton board friend number p t m =
     is_found automaton board friend number p t m && is_agreed code advice p board friend t m

@@ -1,6 +1,6 @@
 -- The cells of a diagram as its reader sees them: the letters, and the edges that are drawn around them.
--- Rows and columns are counted from the first letter, so the strip before it is -1, and the strip behind the last letter
--- is the number of rows or of columns.
+-- Rows and columns are counted from the first letter, so the strip before it is -1, and the strip behind the last
+-- letter is the number of rows or of columns.
 use Rattle.std.specs.Prelude.{◌≡◌, ◌↔◌, ℕ, ◌+◌, ◌*◌, ◌<◌, IsTrue, ℤ, pos, negsuc, slice_index_or}
 use Rattle.pat_types.specs.declared.letter.Letter.{Letter}
 use Rattle.pat_types.specs.declared.letter.Letter.TheVariants.{Friend}

@@ -150,8 +150,8 @@ impl<L: Look> Trial<L> {
         liberties_of(&mut self.board, p)
     }
 
-    /// The liberties of the string of p, none where p is empty, if they are at most `most`; else more points than `most`,
-    /// and the string has more liberties than `most` too. No more of it is searched once it has shown so many.
+    /// The liberties of the string of p, none where p is empty, if they are at most `most`; else more points than
+    /// `most`, and the string has more liberties than `most` too. No more of it is searched once it has shown so many.
     pub fn some_liberties(&mut self, p: Point, most: u16) -> PointSet
         requires { p < (L.shows self.old.look).size * (L.shows self.old.look).size }
         ensures stays { Stays L.shows L.seen self.old self.new }

@@ -18,7 +18,8 @@ none = record { row = 0; corner = 0; anchor = 0 }
 -- the walk that is looked at is as it was, and stands at a row
 here : (rows : ℕ) (f : Walk → Walk) (p : Walk → Bool) (old now : List Walk) (k i : ℕ) → ChangesInPlace f p old now k i
     → i < length old → All (IsWithin rows) old → IsWithin rows (get_or now i none)
-here rows f p old now k i left low within = subst (IsWithin rows) (sym (ChangesInPlace-same left none)) (within i none low)
+here rows f p old now k i left low within = subst (IsWithin rows) (sym (ChangesInPlace-same left none))
+    (within i none low)
 
 -- so it can be read
 pub read_steps-reading-requires-clause-within : goal.read_steps-reading-requires-clause-within

@@ -31,11 +31,13 @@ walks-preserved c =
         | then-is_alive+in_ok-push w ↦
             ap (λ v. v.items) w.walks-is ∙ w.in_ok-push.ensures.items
             ∙ ap (λ ws. ws ++ c.moved_on-next.result ∷ []) c.walks.invariant.gathered
-            ∙ sym (filter-map_more read (goes_on automaton) true c.args.first.now c.walks.walk-index _ c.moved_on-next.result on
+            ∙ sym (filter-map_more read
+            (goes_on automaton) true c.args.first.now c.walks.walk-index _ c.moved_on-next.result on
             next (ap is_alive (sym kind) ∙ sym c.is_alive.ensures ∙ w.if-is_alive.true))
         | else-is_alive w ↦
             ap (λ v. v.items) w.walks-is ∙ c.walks.invariant.gathered
-            ∙ sym (filter-map_more read (goes_on automaton) false c.args.first.now c.walks.walk-index _ c.moved_on-next.result
+            ∙ sym (filter-map_more read
+            (goes_on automaton) false c.args.first.now c.walks.walk-index _ c.moved_on-next.result
             on next (ap is_alive (sym kind) ∙ sym c.is_alive.ensures ∙ w.if-is_alive.false)
             ∙ append-nil _)
       ];

@@ -79,7 +79,8 @@ returns-in-Some-clause-over g c = λ pos a whole.
     ) at (c.string_without_liberty.ensures.over pos a) in
     let enemy = enemy_is g (goal.at.returns-in-Some-clause-over g c).After-string_without_liberty c.if-ne.false pos a in
     let taken = is_taken_from (g.V.View.rows c.args.board.now)
-    (g.V.View.cells c.args.board.now pos) c.args.c c.args.q c.in-Some.stones enemy (sym c.in-Some.is ∙ told (ap is_stone enemy ∙ stone_is (other c.args.c))) in
+    (g.V.View.cells c.args.board.now pos) c.args.c c.args.q c.in-Some.stones enemy
+    (sym c.in-Some.is ∙ told (ap is_stone enemy ∙ stone_is (other c.args.c))) in
     rw taken.0 (c.join.ensures ∙ ap (set.union c.args.taken.now) taken.1)
 
 -- they lie on the board
@@ -112,7 +113,8 @@ returns-in_default-clause-over g c = λ pos a whole.
     let enemy = enemy_is g (goal.at.returns-in_default-clause-over g c).After-string_without_liberty c.if-ne.false pos a
     in
     let kept = not_taken_from (g.V.View.rows c.args.board.now)
-    (g.V.View.cells c.args.board.now pos) c.args.c c.args.q enemy (sym c.in_default.is ∙ told (ap is_stone enemy ∙ stone_is (other c.args.c))) in
+    (g.V.View.cells c.args.board.now pos) c.args.c c.args.q enemy
+    (sym c.in_default.is ∙ told (ap is_stone enemy ∙ stone_is (other c.args.c))) in
     rw kept refl
 
 -- only an enemy's string and its neighbours were looked at

@@ -32,7 +32,8 @@ pub returns-then-count-eq-IN_ATARI-clause-knows : goal.returns-then-count-eq-IN_
 returns-then-count-eq-IN_ATARI-clause-knows g c = λ pos a knows.
     let s = g.V.View.rows c.args.board.now in
     let cells = g.V.View.cells c.args.board.now pos in
-    KnowsLast-join s cells c.args.q (marked c.args.seen.now) (marked c.mark_in.new.bits) c.search-found.result.stones c.args.last.now
+    KnowsLast-join s cells c.args.q (marked c.args.seen.now)
+    (marked c.mark_in.new.bits) c.search-found.result.stones c.args.last.now
     c.join.new.self c.requires.on_board
     (c.search-found.ensures.over pos a).part c.mark_in.ensures knows
     (AddsLast-one s cells c.args.q c.count.result c.search-found.result c.args.last.now
@@ -51,7 +52,8 @@ pub returns-else-count-eq-IN_ATARI-clause-knows : goal.returns-else-count-eq-IN_
 returns-else-count-eq-IN_ATARI-clause-knows g c = λ pos a knows.
     let s = g.V.View.rows c.args.board.now in
     let cells = g.V.View.cells c.args.board.now pos in
-    KnowsLast-join s cells c.args.q (marked c.args.seen.now) (marked c.mark_in.new.bits) c.search-found.result.stones c.args.last.now
+    KnowsLast-join s cells c.args.q (marked c.args.seen.now)
+    (marked c.mark_in.new.bits) c.search-found.result.stones c.args.last.now
     c.args.last.now c.requires.on_board (c.search-found.ensures.over pos a).part c.mark_in.ensures knows
     (AddsLast-none s cells c.args.q c.count.result c.search-found.result c.args.last.now
     (c.search-found.ensures.over pos a) c.count.ensures.value c.if-count-eq-IN_ATARI.false)

@@ -27,14 +27,15 @@ keep_agreed-requires g c = record {
       c.args.friend z (subst (λ zs. Contains zs z) c.in_ok-found.ensures.found found.0);
 }
 
--- those that are allowed are what the automaton says if every helper says yes, and those that are agreed are the matches
--- by the automaton
+-- those that are allowed are what the automaton says if every helper says yes, and those that are agreed are the
+-- matches by the automaton
 pub returns-clause-automaton : goal.returns-clause-automaton
 returns-clause-automaton g c =
     if_agreed (codes_of c.args.readings.now) c.args.patterns.now c.args.automaton.now c.args.position.now c.args.friend
     (says_yes (states_of (λ z. (goal.Helper-dyn g z).state z.1) c.args.helpers.now)) c.keep_allowed.new.found.items
     _
-    (if_yes (codes_of c.args.readings.now) c.args.patterns.now c.args.automaton.now c.args.position.now c.args.friend _ _
+    (if_yes (codes_of c.args.readings.now) c.args.patterns.now c.args.automaton.now c.args.position.now c.args.friend
+    _ _
     c.in_ok-found.ensures.found c.keep_allowed.ensures.kept) c.keep_agreed.ensures.kept
 
 -- and those of the patterns, where the automaton is theirs
@@ -43,7 +44,8 @@ returns-clause-patterns g c = λ theirs.
     if_agreed (codes_of c.args.readings.now) c.args.patterns.now c.args.automaton.now c.args.position.now c.args.friend
     (says_yes (states_of (λ z. (goal.Helper-dyn g z).state z.1) c.args.helpers.now)) c.keep_allowed.new.found.items
     _
-    (if_yes (codes_of c.args.readings.now) c.args.patterns.now c.args.automaton.now c.args.position.now c.args.friend _ _
+    (if_yes (codes_of c.args.readings.now) c.args.patterns.now c.args.automaton.now c.args.position.now c.args.friend
+    _ _
     c.in_ok-found.ensures.found c.keep_allowed.ensures.kept) c.keep_agreed.ensures.kept
     ∙ same_by_automaton (codes_of c.args.readings.now)
     (says_yes (states_of (λ z. (goal.Helper-dyn g z).state z.1) c.args.helpers.now)) c.args.patterns.now
@@ -55,7 +57,8 @@ returns-clause-calls g c =
     c.keep_agreed.ensures.calls
     ∙ ap (λ zs. after_matches (states_of (λ z. (goal.Helper-dyn g z).state z.1) c.args.helpers.now) c.args.patterns.now
     zs c.args.position.now c.args.friend)
-    (if_yes (codes_of c.args.readings.now) c.args.patterns.now c.args.automaton.now c.args.position.now c.args.friend _ _
+    (if_yes (codes_of c.args.readings.now) c.args.patterns.now c.args.automaton.now c.args.position.now c.args.friend
+    _ _
     c.in_ok-found.ensures.found c.keep_allowed.ensures.kept)
 
 -- by the automaton of the patterns the helpers are asked about the matches of the patterns
@@ -64,7 +67,9 @@ returns-clause-calls_of_patterns g c = λ theirs.
     c.keep_agreed.ensures.calls
     ∙ ap (λ zs. after_matches (states_of (λ z. (goal.Helper-dyn g z).state z.1) c.args.helpers.now) c.args.patterns.now
     zs c.args.position.now c.args.friend)
-    (if_yes (codes_of c.args.readings.now) c.args.patterns.now c.args.automaton.now c.args.position.now c.args.friend _ _
+    (if_yes (codes_of c.args.readings.now) c.args.patterns.now c.args.automaton.now c.args.position.now c.args.friend
+    _ _
     c.in_ok-found.ensures.found c.keep_allowed.ensures.kept
-    ∙ same_by_automaton (codes_of c.args.readings.now) all_yes c.args.patterns.now c.args.automaton.now c.args.position.now
+    ∙ same_by_automaton (codes_of c.args.readings.now) all_yes c.args.patterns.now c.args.automaton.now
+    c.args.position.now
     c.args.friend theirs)
