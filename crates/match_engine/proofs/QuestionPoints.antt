@@ -4,8 +4,8 @@ use Rattle.std.specs.Ordering.{nat_cmp}
 use Rattle.std.specs.FinSet as set
 use Rattle.std.proofs.lemmas.Bool.{cases_eq, eq-eqb, ne_eqb, true≢false, false≢true}
 use Rattle.go_rules.proofs.Sets.{contains-insert_nat}
-use Rattle.match_engine.specs.declared.legality.Known.{Known}
-use Rattle.match_engine.specs.Known.{Knows}
+use Rattle.match_engine.specs.declared.legality.PointAnswers.{PointAnswers}
+use Rattle.match_engine.specs.PointAnswers.{Knows}
 
 module _ (test : ℕ → Bool) where
   -- nothing is known at first
@@ -18,7 +18,7 @@ module _ (test : ℕ → Bool) where
   }
 
   -- one answer more is known
-  pub Knows-more : (old new : Known) (m : ℕ) (holds : Bool) → Knows test old → set.contains old.asked m ≡ false
+  pub Knows-more : (old new : PointAnswers) (m : ℕ) (holds : Bool) → Knows test old → set.contains old.asked m ≡ false
       → holds ≡ test m
       → new.asked ≡ set.insert old.asked m → new.holds ≡ cond holds (set.insert old.holds m) old.holds → Knows test new
   Knows-more old new m holds before new_here is asked kept = record {

@@ -8,6 +8,6 @@ pub mod Remembered
 pub mod Asked
 pub use Rattle.match_rules.specs.Fits
 pub use Rattle.match_rules.specs.Match
-pub mod Known
+pub mod PointAnswers
 pub mod Open
 pub mod Ranks

@@ -16,14 +16,14 @@ ghost use Rattle.helpers.specs.Slots.{states_of};
 ghost use Rattle.match_engine.specs.HelperCalls.{after_matches};
 ghost use Rattle.match_engine.specs.AutomatonMatches.{found_by as is_found_by, automaton_matches, is_allowed_at};
 ghost use Rattle.match_engine.specs.AutomatonMatches.{lies_on_board as does_lie_on_board, IsFoundThere};
-ghost use Rattle.match_engine.specs.Known.{Knows};
+ghost use Rattle.match_engine.specs.PointAnswers.{Knows};
 ghost use Rattle.match_engine.specs.Readings.{Follows, codes_of};
 ghost use Rattle.match_engine.specs.Ranks.{rank_of as rank};
 ghost use Rattle.match_engine.specs.Found.{match_of as match_made, match_from};
 
 use crate::agreeing::keep_agreed;
 use crate::allowing::is_allowed;
-use crate::legality::Known;
+use crate::legality::PointAnswers;
 use crate::placing::{lies_on_board, star_place};
 use crate::plays::Plays;
 use crate::readings::Readings;
@@ -41,7 +41,7 @@ fn is_possible(
     p: &Pattern,
     position: &Position,
     friend: Colour,
-    legal: &mut Known,
+    legal: &mut PointAnswers,
     t: Transform,
     at: Point,
 ) -> bool
@@ -62,7 +62,7 @@ fn match_of(
     p: &Pattern,
     position: &Position,
     friend: Colour,
-    legal: &mut Known,
+    legal: &mut PointAnswers,
     hit: Hit,
 ) -> Option<Match>
     requires anchor { hit.anchor < position.now.size * position.now.size }
@@ -99,7 +99,7 @@ fn matches_among(
         (λ hit. match_from (slice_get patterns.now hit.pattern) position.now friend hit) hits.now) }
 {
     let mut found = Vec::new(alloc);
-    let mut legal = Known::new();
+    let mut legal = PointAnswers::new();
     for hit in hits {
         let p = &patterns[hit.pattern as usize];
         if let Some(m) = match_of(p, position, friend, &mut legal, *hit) {

@@ -3,7 +3,7 @@ ghost use Rattle.std.specs.Prelude.{◌≡◌, ℕ, Bool, true, ◌*◌, ◌<◌
 ghost use Rattle.std.specs.FinSet as set;
 ghost use Rattle.go_rules.specs.Board.{largest_points};
 ghost use Rattle.go_rules.specs.Play.{is_legal as is_legal_on};
-ghost use Rattle.match_engine.specs.Known.{Knows};
+ghost use Rattle.match_engine.specs.PointAnswers.{Knows};
 ghost use Rattle.match_engine.specs.Open.{IsEmptyBeside};
 
 use go_base::sides::neighbour;
@@ -11,19 +11,19 @@ use go_base::{Cell, Colour, Point, PointSet, Position};
 
 /// The points that a question was asked about, and those of them where the answer is yes.
 #[derive(Drop)]
-pub struct Known {
+pub struct PointAnswers {
     /// Where it was asked.
     pub asked: PointSet,
     /// Where the answer is yes.
     pub holds: PointSet,
 }
 
-impl Known {
+impl PointAnswers {
     /// Nothing was asked.
-    pub fn new() -> Known
+    pub fn new() -> PointAnswers
         ensures { (test : ℕ → Bool) → Knows test result }
     {
-        Known {
+        PointAnswers {
             asked: PointSet::new(),
             holds: PointSet::new(),
         }

@@ -1,5 +1,5 @@
 -- What holds of each kept variant goes on to hold, where equal questions are one.
-use Rattle.std.proofs.Common.{◌≡◌, ◌∙◌, ◌⊎◌, inl, inr, sym, subst, Bool, true, Contains, List, [], ◌∷◌, ◌++◌, ◌+◌, take}
+use Rattle.std.proofs.Common.{◌≡◌, ◌⊎◌, inl, inr, sym, subst, Bool, true, Contains, List, [], ◌∷◌, ◌++◌, ◌+◌, take}
 use Rattle.std.proofs.Common.{drop, Option, Some, None, refl}
 use Rattle.std.specs.Option.{option_map_or}
 use Rattle.std.proofs.lemmas.List.Elements.{Contains-append_left, Contains-append_right, Contains-append_cases}

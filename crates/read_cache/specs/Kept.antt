@@ -1,12 +1,10 @@
 -- What a cache keeps: questions, the last used first, each with its variants, the last kept or found first.
 use Rattle.std.specs.Prelude.{◌≡◌, ℕ, ◌-◌, ◌+◌, ◌≤◌, Bool, List, [], ◌∷◌, ◌++◌, length, map, take, drop, Contains}
-use Rattle.std.specs.Prelude.{Option, Some, None}
+use Rattle.std.specs.Prelude.{Option, Some}
 use Rattle.std.specs.Option.{option_map_or}
 use Rattle.std.specs.Map.{lookup, lookup_entry, remove_entry}
 use Rattle.smallvec.specs.SmallVec.{SmallVec}
 use Rattle.go_rules.specs.Position.{BoardState}
-use Rattle.go_base.specs.Facts.{Agrees}
-use Rattle.go_base.specs.Told.{told}
 use Rattle.read_cache.specs.Variants.{NoneStands, IsFirstStanding, Stands, most_variants}
 use Rattle.read_cache.specs.declared.variants.Variant.{Variant}
 

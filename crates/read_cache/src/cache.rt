@@ -90,6 +90,17 @@ impl<Q: Question> Cache<Q> {
             self.kept.promote(q);
             return;
         }
+        self.bring_from_behind(q, place);
+    }
+
+    /// The same where the variant is not the first. It stands apart, so that what is found first does not pay for its
+    /// locals.
+    #[inline(never)]
+    fn bring_from_behind(&mut self, q: &Q, place: usize)
+        requires { HasAt Q.eq q.now self.old place }
+        ensures { (at : HasAt Q.eq q.now self.old place)
+            → self.new ≡ put_first Q.eq q.now (front_of Q.eq q.now self.old place at) self.old }
+    {
         let front = self.brought_to_front(q, place);
         match self.put(*q, front) {
             Ok(()) => {}

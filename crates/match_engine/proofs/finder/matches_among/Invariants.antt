@@ -2,7 +2,7 @@ use Rattle.std.proofs.Common.{◌≡◌, take, slice_get}
 use Rattle.std.specs.List.{filter_map}
 use Rattle.go_rules.specs.Play.{is_legal}
 use Rattle.match_engine.specs.Found.{match_from}
-use Rattle.match_engine.specs.Known.{Knows}
+use Rattle.match_engine.specs.PointAnswers.{Knows}
 use Rattle.match_engine.proofs.finder.matches_among.Given as goal
 
 -- the matches that the hits so far are, and where the friend may play

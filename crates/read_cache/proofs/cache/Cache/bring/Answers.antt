@@ -1,7 +1,6 @@
 use Rattle.std.proofs.Common.{sym, ap, subst, ◌∙◌}
 use Rattle.read_cache.specs.Kept.{IsSound, seen_entries, put_first}
 use Rattle.read_cache.proofs.Places.{front_first, seen-promoted_first, IsSound-promoted}
-use Rattle.read_cache.proofs.Sizes.{variants_fit}
 use Rattle.read_cache.proofs.cache.Cache.bring.Goals as goal
 
 -- what is promoted was right
@@ -20,11 +19,3 @@ returns-then-place-eq0 g c = λ at.
     ap (λ after. (seen_entries after.entries, after.cap)) c.promote.ensures.entries
     ∙ seen-promoted_first eq c.args.q.now map.entries map.cap c.args.self.now c.self.view_is at.variants at.is_kept
     ∙ ap (λ vs. put_first eq c.args.q.now vs c.args.self.now) (sym same)
-
--- the variants are small
-pub brought_to_front-front-requires : goal.brought_to_front-front-requires
-brought_to_front-front-requires g c = (variants_fit g.row.Q-Answer g.met.Q.Question.small, c.requires)
-
--- and right
-pub put-requires : goal.put-requires
-put-requires g c = (variants_fit g.row.Q-Answer g.met.Q.Question.small, c.brought_to_front-front.ensures.are)

@@ -1,7 +1,7 @@
 use Rattle.std.proofs.Common.{◌∙◌, sym}
 use Rattle.go_rules.specs.Play.{is_legal}
 use Rattle.match_engine.proofs.QuestionPoints.{Knows-more}
-use Rattle.match_engine.proofs.legality.Known.is_legal.Goals as goal
+use Rattle.match_engine.proofs.legality.PointAnswers.is_legal.Goals as goal
 
 -- one answer more
 pub returns-clause-knows : goal.returns-clause-knows

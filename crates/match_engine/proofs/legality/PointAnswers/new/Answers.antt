@@ -1,5 +1,5 @@
 use Rattle.match_engine.proofs.QuestionPoints.{Knows-nothing}
-use Rattle.match_engine.proofs.legality.Known.new.Goals as goal
+use Rattle.match_engine.proofs.legality.PointAnswers.new.Goals as goal
 
 -- both sets are empty
 pub returns : goal.returns
