@@ -4,7 +4,7 @@ use Rattle.std.proofs.Common.{◌≡◌, ℕ, ◌+◌, Bool, true, false, not, c
 use Rattle.std.proofs.Common.{None, refl, sym, ap, ◌∙◌, arith}
 use Rattle.std.specs.Prelude.{◌&&◌, ◌||◌, nat_lt, nat_le}
 use Rattle.std.proofs.lemmas.List.{length-append}
-use Rattle.pat_types.specs.Diagrams.{drawn_line}
+use Rattle.pat_types.specs.Diagrams.{drawn_strip}
 use Rattle.db_entry.specs.declared.diagram.Diagram.{Diagram}
 use Rattle.db_rules.specs.declared.shape.Shape.{Shape}
 use Rattle.db_rules.specs.declared.kind.FaultKind.{FaultKind}
@@ -81,7 +81,7 @@ none_of_three false false false k l m e = record { first = refl; second = refl; 
 pub Draws-push : (d n : Diagram) (words : List (List ℕ)) (word : List ℕ) → Draws d words
     → other_width (line_shape word) d.shape ≡ false
     → n.lines ≡ d.lines + 1
-    → n.rows ≡ d.rows + drawn_line (is_row word)
+    → n.rows ≡ d.rows + drawn_strip (is_row word)
     → n.top ≡ cond (nat_lt 0 d.lines) d.top (is_edge_line word)
     → n.bottom ≡ (nat_lt 0 n.rows && is_edge_line word)
     → n.shape ≡ cond (nat_lt 0 d.rows || not (is_row word) && nat_lt 0 d.lines) d.shape (Some (line_shape word))
@@ -89,7 +89,7 @@ pub Draws-push : (d n : Diagram) (words : List (List ℕ)) (word : List ℕ) →
     → Draws n (words ++ word ∷ [])
 Draws-push d n words word s even lines rows top bottom shape letters =
     let now_rows : n.rows ≡ length (rows_of (words ++ word ∷ [])) =
-    rows ∙ ap (λ m. m + drawn_line (is_row word)) s.rows ∙ sym (length-rows_of-push words word) in
+    rows ∙ ap (λ m. m + drawn_strip (is_row word)) s.rows ∙ sym (length-rows_of-push words word) in
     record {
       lines = omega (arith, s.lines, length-append words (word ∷ []));
       rows = now_rows;

@@ -7,7 +7,7 @@ use Rattle.std.proofs.lemmas.Bool.{and_right}
 use Rattle.std.proofs.lemmas.List.{length-append, take_more, append-nil}
 use Rattle.std.proofs.lemmas.Option.{slice_get-get_or, slice_get_past}
 use Rattle.pat_types.specs.Kept.{are_apart}
-use Rattle.pat_types.specs.Diagrams.{drawn_line}
+use Rattle.pat_types.specs.Diagrams.{drawn_strip}
 use Rattle.db_entry.specs.declared.marks.Marks.{Marks}
 use Rattle.db_rules.specs.declared.kind.FaultKind.TheVariants.{ConstraintShape}
 use Rattle.db_rules.specs.Kinds.{first_of}
@@ -46,7 +46,7 @@ under-nil row (main ∷ mains) = refl
 -- the labels of the first line stand before those of the lines below it
 under-cons : (row : ℕ) (main : List ℕ) (mains : List (List ℕ)) (word : List ℕ) (words : List (List ℕ))
     → labels_under row (main ∷ mains) (word ∷ words) ≡ labels_of_line row main word ++ labels_under
-    (row + drawn_line (is_row main)) mains words
+    (row + drawn_strip (is_row main)) mains words
 unfolding labels_under
 under-cons row main mains word words = refl
 
@@ -57,12 +57,12 @@ labels_under-push : (row : ℕ) (mains words : List (List ℕ)) (word : List ℕ
 labels_under-push row [] words word lt = absurd (omega arith)
 labels_under-push row (main ∷ mains) [] word lt =
     under-cons row main mains word []
-    ∙ ap (λ l. labels_of_line row main word ++ l) (under-nil (row + drawn_line (is_row main)) mains)
+    ∙ ap (λ l. labels_of_line row main word ++ l) (under-nil (row + drawn_strip (is_row main)) mains)
     ∙ append-nil (labels_of_line row main word)
     ∙ ap (λ n. labels_of_line n main word) (sym (add-zero row))
     ∙ ap (λ l. l ++ labels_of_line (row + 0) main word) (sym (under-nil row (main ∷ mains)))
 labels_under-push row (main ∷ mains) (w ∷ words) word lt =
-    let one = drawn_line (is_row main) in
+    let one = drawn_strip (is_row main) in
     let step = labels_under-push (row + one) mains words word (omega arith) in
     let rows : row + one + length (rows_of (take (length words) mains)) ≡ row + length
     (rows_of (main ∷ take (length words) mains)) =
@@ -105,18 +105,18 @@ constraint_fault-at mains words word lt = rw (slice_get-get_or mains (length wor
 -- what is kept after a further line
 pub IsMarked-push : (m n : Marks) (mains words : List (List ℕ)) (word : List ℕ) → IsMarked m mains words
     → length words < length mains
-    → n.lines ≡ m.lines + 1 → n.rows ≡ m.rows + drawn_line (is_row (get_or mains (length words) []))
+    → n.lines ≡ m.lines + 1 → n.rows ≡ m.rows + drawn_strip (is_row (get_or mains (length words) []))
     → n.labels ≡ labels_of mains (words ++ word ∷ []) → IsMarked n mains (words ++ word ∷ [])
 IsMarked-push m n mains words word s lt lines rows labels =
     let more : length (words ++ word ∷ []) ≡ length words + 1 = omega (arith, length-append words (word ∷ [])) in
     let above : length (rows_of (take (length words + 1) mains)) ≡ length
-    (rows_of (take (length words) mains)) + drawn_line (is_row (get_or mains (length words) [])) =
+    (rows_of (take (length words) mains)) + drawn_strip (is_row (get_or mains (length words) [])) =
     ap (λ l. length (rows_of l)) (take_more mains (length words) [] lt)
     ∙ length-rows_of-push (take (length words) mains) (get_or mains (length words) []) in
     record {
       lines = omega (arith, s.lines);
       within = omega arith;
-      rows = rows ∙ ap (λ r. r + drawn_line (is_row (get_or mains (length words) []))) s.rows ∙ sym above
+      rows = rows ∙ ap (λ r. r + drawn_strip (is_row (get_or mains (length words) []))) s.rows ∙ sym above
           ∙ ap (λ k. length (rows_of (take k mains))) (sym more);
       labels = labels;
     }
@@ -157,9 +157,9 @@ kept_fault_at m mains words word main s lt main_is =
 -- what is kept after a further line
 pub kept_push : (m n : Marks) (mains words : List (List ℕ)) (word main : List ℕ) → IsMarked m mains words
     → m.lines < length mains → main ≡ get_or mains m.lines []
-    → n.lines ≡ m.lines + 1 → n.rows ≡ m.rows + drawn_line (is_row main)
+    → n.lines ≡ m.lines + 1 → n.rows ≡ m.rows + drawn_strip (is_row main)
     → n.labels ≡ m.labels ++ labels_of_line m.rows main word → IsMarked n mains (words ++ word ∷ [])
 kept_push m n mains words word main s lt main_is lines rows labels =
     let there : main ≡ get_or mains (length words) [] = main_is ∙ ap (λ k. get_or mains k []) s.lines in
     IsMarked-push m n mains words word s (omega (arith, s.lines)) lines (rows
-    ∙ ap (λ w. m.rows + drawn_line (is_row w)) there) (labels ∙ kept_labels m mains words word main s lt main_is)
+    ∙ ap (λ w. m.rows + drawn_strip (is_row w)) there) (labels ∙ kept_labels m mains words word main s lt main_is)

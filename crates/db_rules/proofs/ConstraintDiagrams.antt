@@ -9,7 +9,7 @@ use Rattle.std.proofs.lemmas.Bool.{and_parts, lt-ltb, eqb-true, cases_lt, not-fa
 use Rattle.std.proofs.lemmas.List.{length-append, length-take, get_or-take}
 use Rattle.std.proofs.lemmas.List.Folds.{list_all-append}
 use Rattle.std.proofs.lemmas.Option.{slice_get-get_or, slice_get_past}
-use Rattle.pat_types.specs.Diagrams.{drawn_line}
+use Rattle.pat_types.specs.Diagrams.{drawn_strip}
 use Rattle.pat_types.specs.Kept.{is_in, are_apart, are_labels}
 use Rattle.db_rules.specs.declared.kind.FaultKind.{FaultKind}
 use Rattle.db_rules.specs.declared.kind.FaultKind.TheVariants.{ConstraintShape}
@@ -32,8 +32,8 @@ each_passes P (b ∷ bytes) (suc k) lt all =
 
 -- a byte of a rest is one of its inner part, or it is the edge's byte at the end
 byte_of_rest : (P : ℕ → Bool) (m : ℕ) (rest : List ℕ) (e : Bool) (k : ℕ) → (slice_index rest (length rest - 1) == m) ≡ e
-    → list_all P (take (length rest - drawn_line e) rest) ≡ true → k < length rest
-    → ((k < length (take (length rest - drawn_line e) rest)) × (P (get_or rest k 0) ≡ true)) ⊎ (get_or rest k 0 ≡ m)
+    → list_all P (take (length rest - drawn_strip e) rest) ≡ true → k < length rest
+    → ((k < length (take (length rest - drawn_strip e) rest)) × (P (get_or rest k 0) ≡ true)) ⊎ (get_or rest k 0 ≡ m)
 byte_of_rest P m rest false k end all lt =
     let within : k < length (take (length rest - 0) rest) =
     rw (length-take (length rest - 0) rest) (omega (arith, lt)) in
@@ -115,9 +115,10 @@ edge_has_no_letter (b ∷ bs) edge k lt letter = by_begin (b == plus) refl (dash
     by_begin true is dashes zero lt letter = no_letter b (inr (eqb-true b plus is)) letter
     by_begin true is dashes (suc k) lt letter =
         no_letter (get_or bs k 0)
-        (subst AreDashes (ap (λ x. drop (drawn_line x) (b ∷ bs)) is) dashes k (omega (arith, lt))) letter
+        (subst AreDashes (ap (λ x. drop (drawn_strip x) (b ∷ bs)) is) dashes k (omega (arith, lt))) letter
     by_begin false is dashes k lt letter =
-        no_letter (get_or (b ∷ bs) k 0) (subst AreDashes (ap (λ x. drop (drawn_line x) (b ∷ bs)) is) dashes k lt) letter
+        no_letter (get_or (b ∷ bs) k 0)
+        (subst AreDashes (ap (λ x. drop (drawn_strip x) (b ∷ bs)) is) dashes k lt) letter
 
 -- an edge line is a main line of any number of columns
 main_edge : (main : List ℕ) (cols : ℕ) → is_edge_line main ≡ true → IsMainLine cols main
@@ -137,12 +138,12 @@ main_edge (b ∷ bs) cols edge =
     none : (c : Bool) → (b == bar) ≡ c → (k : ℕ) → k < length (without_left bar (b ∷ bs))
         → is_letter (get_or (without_left bar (b ∷ bs)) k 0) ≡ true → ⊥
     none true is k lt letter =
-        let rest : without_left bar (b ∷ bs) ≡ bs = ap (λ x. drop (drawn_line x) (b ∷ bs)) is in
+        let rest : without_left bar (b ∷ bs) ≡ bs = ap (λ x. drop (drawn_strip x) (b ∷ bs)) is in
         edge_has_no_letter (b ∷ bs) edge (suc k) (let within : k < length bs =
         subst (λ (r : List ℕ). k < length r) rest lt in
         omega (arith, within)) (subst (λ (r : List ℕ). is_letter (get_or r k 0) ≡ true) rest letter)
     none false is k lt letter =
-        let rest : without_left bar (b ∷ bs) ≡ b ∷ bs = ap (λ x. drop (drawn_line x) (b ∷ bs)) is in
+        let rest : without_left bar (b ∷ bs) ≡ b ∷ bs = ap (λ x. drop (drawn_strip x) (b ∷ bs)) is in
         edge_has_no_letter (b ∷ bs) edge k (subst (λ (r : List ℕ). k < length r) rest lt)
         (subst (λ (r : List ℕ). is_letter (get_or r k 0) ≡ true) rest letter)
 
@@ -214,17 +215,18 @@ labels_of_line_in row total cols (m ∷ ms) (w ∷ ws) same fine above = by_edge
         → list_all (is_in total cols) (cond c (labels_from row 0 ms ws) (labels_from row 0 (m ∷ ms) (w ∷ ws))) ≡ true
     by_edge true is =
         labels_from_in row 0 total cols ms ws (and_parts (w == m || is_label w
-        && is_letter m) (repeats ms ws) same).1 (within ms (ap (λ x. drop (drawn_line x) (m ∷ ms)) is))
+        && is_letter m) (repeats ms ws) same).1 (within ms (ap (λ x. drop (drawn_strip x) (m ∷ ms)) is))
     by_edge false is =
         labels_from_in row 0 total cols (m ∷ ms) (w ∷ ws) same
-        (within (m ∷ ms) (ap (λ x. drop (drawn_line x) (m ∷ ms)) is))
+        (within (m ∷ ms) (ap (λ x. drop (drawn_strip x) (m ∷ ms)) is))
 
 -- the rows of a diagram with one line in front
 pub length-rows_of-cons : (main : List ℕ) (mains : List (List ℕ))
-    → length (rows_of (main ∷ mains)) ≡ drawn_line (is_row main) + length (rows_of mains)
+    → length (rows_of (main ∷ mains)) ≡ drawn_strip (is_row main) + length (rows_of mains)
 length-rows_of-cons main mains = by_row (is_row main)
   where
-    by_row : (b : Bool) → length (cond b (main ∷ rows_of mains) (rows_of mains)) ≡ drawn_line b + length (rows_of mains)
+    by_row : (b : Bool) → length (cond b (main ∷ rows_of mains) (rows_of mains))
+        ≡ drawn_strip b + length (rows_of mains)
     by_row true = omega arith
     by_row false = omega arith
 
@@ -243,14 +245,14 @@ labels_under_in row total cols (main ∷ mains) [] same fine few = refl
 labels_under_in row total cols (main ∷ mains) (word ∷ words) same fine few =
     let first =
     labels_of_line_in row total cols main word (same 0 (omega arith)).1 (fine 0 (omega arith))
-    (λ is. let one : drawn_line (is_row main) ≡ 1 = ap drawn_line is in
+    (λ is. let one : drawn_strip (is_row main) ≡ 1 = ap drawn_strip is in
     omega (arith, one, few, length-rows_of-cons main mains)) in
-    let rest = labels_under_in (row + drawn_line (is_row main)) total cols mains words
+    let rest = labels_under_in (row + drawn_strip (is_row main)) total cols mains words
     (λ k lt. let there = same (suc k) (omega (arith, lt)) in (omega (arith, there.0), there.1))
     (λ k lt. fine (suc k) (omega (arith, lt)))
     (omega (arith, few, length-rows_of-cons main mains)) in
     list_all-append (is_in total cols) (labels_of_line row main word)
-    (labels_under (row + drawn_line (is_row main)) mains words) ∙ rw (first, rest) refl
+    (labels_under (row + drawn_strip (is_row main)) mains words) ∙ rw (first, rest) refl
 
 -- the only fault of a list does not fit
 none_of_one : (b : Bool) (k : FaultKind) → first_of ((b, k) ∷ []) ≡ None → b ≡ false

@@ -10,7 +10,7 @@ use Rattle.std.proofs.Math.ListN.{get_or-append}
 use Rattle.std.proofs.Math.Seq.{get_or-append_seam}
 use Rattle.std.proofs.lemmas.List.{length-append, length-take}
 use Rattle.go_rules.specs.Board.{largest_size}
-use Rattle.pat_types.specs.Diagrams.{drawn_line}
+use Rattle.pat_types.specs.Diagrams.{drawn_strip}
 use Rattle.db_rules.specs.declared.shape.Shape.{Shape}
 use Rattle.db_rules.specs.declared.kind.FaultKind.TheVariants.{BadLetter, EdgePlace, Ragged, TooLarge}
 use Rattle.db_rules.specs.Diagram.{is_letter, is_dash, plus, bar, begins, without_left, ends, inner, is_edge_line}
@@ -33,11 +33,11 @@ first_passes : (P : ℕ → Bool) (m b : ℕ) (bs : List ℕ)
 first_passes P m b bs both apart =
     let parts = and_parts (nat_lt 0 (length (inner m (b ∷ bs)))) (list_all P (inner m (b ∷ bs))) both in
     let left : without_left m (b ∷ bs) ≡ b ∷ bs = rw apart refl in
-    front_passes P (length (without_left m (b ∷ bs)) - drawn_line (ends m (b ∷ bs))) b bs
+    front_passes P (length (without_left m (b ∷ bs)) - drawn_strip (ends m (b ∷ bs))) b bs
     (subst (λ w. nat_lt 0
-    (length (take (length (without_left m (b ∷ bs)) - drawn_line (ends m (b ∷ bs))) w)) ≡ true) left parts.0)
+    (length (take (length (without_left m (b ∷ bs)) - drawn_strip (ends m (b ∷ bs))) w)) ≡ true) left parts.0)
     (subst (λ w. list_all P
-    (take (length (without_left m (b ∷ bs)) - drawn_line (ends m (b ∷ bs))) w) ≡ true) left parts.1)
+    (take (length (without_left m (b ∷ bs)) - drawn_strip (ends m (b ∷ bs))) w) ≡ true) left parts.1)
 
 -- a byte that a row may begin with is none that an edge line may begin with
 begins_one : (b : ℕ) (barred crossed : Bool) → (b == bar) ≡ barred → (b == plus) ≡ crossed
@@ -66,35 +66,35 @@ row_is_no_edge_line (b ∷ bs) row =
 
 -- the inner part of a rest and the byte behind it are within the rest, where the byte is not 0
 pub inner_within : (m : ℕ) (rest : List ℕ) → (0 == m) ≡ false
-    → length (take (length rest - drawn_line (slice_index rest (length rest - 1) == m)) rest) + drawn_line
+    → length (take (length rest - drawn_strip (slice_index rest (length rest - 1) == m)) rest) + drawn_strip
     (slice_index rest (length rest - 1) == m) ≤ length rest
 inner_within m [] apart = rw apart (omega arith)
 inner_within m (x ∷ xs) apart = by_end (slice_index (x ∷ xs) (length (x ∷ xs) - 1) == m)
   where
-    by_end : (b : Bool) → length (take (length (x ∷ xs) - drawn_line b) (x ∷ xs)) + drawn_line b ≤ length (x ∷ xs)
+    by_end : (b : Bool) → length (take (length (x ∷ xs) - drawn_strip b) (x ∷ xs)) + drawn_strip b ≤ length (x ∷ xs)
     by_end true = rw (length-take (length (x ∷ xs) - 1) (x ∷ xs)) (omega arith)
     by_end false = rw (length-take (length (x ∷ xs) - 0) (x ∷ xs)) (omega arith)
 
 -- a word without its left edge, and that edge, are the word
 pub left_within : (m : ℕ) (word : List ℕ) → (0 == m) ≡ false
-    → drawn_line (begins m word) + length (without_left m word) ≤ length word
+    → drawn_strip (begins m word) + length (without_left m word) ≤ length word
 left_within m [] apart = rw apart (omega arith)
 left_within m (b ∷ bs) apart = by_begin (b == m)
   where
-    by_begin : (c : Bool) → drawn_line c + length (drop (drawn_line c) (b ∷ bs)) ≤ length (b ∷ bs)
+    by_begin : (c : Bool) → drawn_strip c + length (drop (drawn_strip c) (b ∷ bs)) ≤ length (b ∷ bs)
     by_begin true = omega arith
     by_begin false = omega arith
 
 -- a shape and its edges lie within the word that has it
 pub shape_within : (m : ℕ) (word : List ℕ) → (0 == m) ≡ false
-    → drawn_line (shape_of m word).left + (shape_of m word).width + drawn_line (shape_of m word).right ≤ length word
+    → drawn_strip (shape_of m word).left + (shape_of m word).width + drawn_strip (shape_of m word).right ≤ length word
 unfolding shape_of
 shape_within m word apart = omega (arith, left_within m word apart, inner_within m (without_left m word) apart)
 
 -- the shape has a letter, and lies with its edges within the largest board
 pub record IsFit (s : Shape) : Type 0 where
   pub some : 0 < s.width
-  pub within : drawn_line s.left + s.width + drawn_line s.right ≤ largest_size
+  pub within : drawn_strip s.left + s.width + drawn_strip s.right ≤ largest_size
 
 -- a row has a letter
 wide_row : (word : List ℕ) → is_row word ≡ true → 0 < (shape_of bar word).width
@@ -154,9 +154,9 @@ drawn_few _ (one_line_more words word drawn none) =
 
 -- one line more is one row or one edge more, where the bottom edge is not drawn yet
 one_more : (rows lines : ℕ) (row edge top begun rowed : Bool) → (edge || row) ≡ true → (row ≡ true → edge ≡ false)
-    → (begun ≡ false → lines ≡ 0) → (rowed ≡ true → 0 < rows + drawn_line row)
-    → rows + drawn_line top ≤ lines
-    → rows + drawn_line row + drawn_line (cond begun top edge) + drawn_line (rowed && edge) ≤ lines + 1
+    → (begun ≡ false → lines ≡ 0) → (rowed ≡ true → 0 < rows + drawn_strip row)
+    → rows + drawn_strip top ≤ lines
+    → rows + drawn_strip row + drawn_strip (cond begun top edge) + drawn_strip (rowed && edge) ≤ lines + 1
 one_more rows lines true true top begun rowed line apart first some counted = absurd (cc (apart refl))
 one_more rows lines true false top true true line apart first some counted = omega (arith, counted)
 one_more rows lines true false top true false line apart first some counted = omega (arith, counted)
@@ -171,16 +171,16 @@ one_more rows lines false false top begun rowed line apart first some counted = 
 
 -- its rows and its edges at the top and the bottom are lines of it
 pub drawn_lines : (words : List (List ℕ)) → IsDrawn words
-    → length (rows_of words) + drawn_line (has_top words) + drawn_line (has_bottom words) ≤ length words
+    → length (rows_of words) + drawn_strip (has_top words) + drawn_strip (has_bottom words) ≤ length words
 drawn_lines _ no_line = omega arith
 drawn_lines _ (one_line_more words word drawn none) =
     let fine = fine_line words word none in
-    let before : length (rows_of words) + drawn_line (has_top words) ≤ length words =
+    let before : length (rows_of words) + drawn_strip (has_top words) ≤ length words =
     omega (arith, drawn_lines words drawn) in
     let rows = length-rows_of-push words word in
     let all =
     one_more (length (rows_of words)) (length words) (is_row word) (is_edge_line word) (has_top words)
-    (nat_lt 0 (length words)) (nat_lt 0 (length (rows_of words) + drawn_line (is_row word)))
+    (nat_lt 0 (length words)) (nat_lt 0 (length (rows_of words) + drawn_strip (is_row word)))
     fine.line (row_is_no_edge_line word) (λ e. omega (arith, ltb-false _ _ e)) (ltb-true 0 _) before in
     rw (rows, has_top-push words word, ends_in_edge-push words word, length-append words (word ∷ [])) all
 

@@ -8,7 +8,7 @@ use Rattle.std.proofs.lemmas.List.{length-append, append-nil}
 use Rattle.std.proofs.lemmas.List.Elements.{filter-append}
 use Rattle.std.proofs.lemmas.List.Concat.{flat_map-append}
 use Rattle.pat_types.specs.declared.letter.Letter.{Letter}
-use Rattle.pat_types.specs.Diagrams.{drawn_line}
+use Rattle.pat_types.specs.Diagrams.{drawn_strip}
 use Rattle.db_rules.specs.declared.shape.Shape.{Shape}
 use Rattle.db_rules.specs.declared.kind.FaultKind.{FaultKind}
 use Rattle.db_rules.specs.Kinds.{first_of}
@@ -42,12 +42,12 @@ rows_of-push words word = filter-append is_row words (word ∷ []) ∙ ap (λ r.
 
 -- a further line is counted as a row where it is one
 pub length-rows_of-push : (words : List (List ℕ)) (word : List ℕ)
-    → length (rows_of (words ++ word ∷ [])) ≡ length (rows_of words) + drawn_line (is_row word)
+    → length (rows_of (words ++ word ∷ [])) ≡ length (rows_of words) + drawn_strip (is_row word)
 length-rows_of-push words word =
     ap length (rows_of-push words word) ∙ length-append (rows_of words) (cond (is_row word) (word ∷ []) [])
     ∙ one (is_row word)
   where
-    one : (b : Bool) → length (rows_of words) + length (cond b (word ∷ []) []) ≡ length (rows_of words) + drawn_line b
+    one : (b : Bool) → length (rows_of words) + length (cond b (word ∷ []) []) ≡ length (rows_of words) + drawn_strip b
     one true = refl
     one false = refl
 
@@ -127,7 +127,7 @@ length-letters_of_row word e =
 -- with one line more there are still as many letters as the rows and the width of a row come to
 count_letters : (rows words : List (List ℕ)) (letters : ℕ) (s : Shape) (row : Bool)
     → letters ≡ length rows * width_of (wanted_of rows words) → other_width s (wanted_of rows words) ≡ false
-    → letters + cond row s.width 0 ≡ (length rows + drawn_line row) * width_of (cond (nat_lt 0 (length rows) || not row
+    → letters + cond row s.width 0 ≡ (length rows + drawn_strip row) * width_of (cond (nat_lt 0 (length rows) || not row
     && nat_lt 0 (length words)) (wanted_of rows words) (Some s))
 count_letters [] words letters s true whole even = omega arith
 count_letters [] words letters s false whole even = omega arith
@@ -137,7 +137,7 @@ count_letters (r ∷ rows) words letters s row whole even =
     rw (lt-ltb 0 n (omega arith)) (by_row row same)
   where
     by_row : (row : Bool) → s.width ≡ (shape_of bar r).width
-        → letters + cond row s.width 0 ≡ (length (r ∷ rows) + drawn_line row) * (shape_of bar r).width
+        → letters + cond row s.width 0 ≡ (length (r ∷ rows) + drawn_strip row) * (shape_of bar r).width
     by_row true e = omega arith
     by_row false e = omega arith
 

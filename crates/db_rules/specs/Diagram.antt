@@ -7,7 +7,7 @@ use Rattle.pat_types.specs.declared.letter.Letter.{Letter}
 use Rattle.pat_types.specs.declared.letter.Letter.TheVariants.{Friend, Enemy, Empty, FriendOrEmpty, EnemyOrEmpty, Any}
 use Rattle.pat_types.specs.declared.letter.Letter.TheVariants.{Star}
 use Rattle.go_rules.specs.Board.{largest_size}
-use Rattle.pat_types.specs.Diagrams.{drawn_line, is_star}
+use Rattle.pat_types.specs.Diagrams.{drawn_strip, is_star}
 use Rattle.db_rules.specs.declared.shape.Shape.{Shape}
 use Rattle.db_rules.specs.declared.kind.FaultKind.{FaultKind}
 use Rattle.db_rules.specs.declared.kind.FaultKind.TheVariants.{BadLetter, EdgePlace, Ragged, TooLarge}
@@ -42,7 +42,7 @@ begins b word = slice_index word 0 == b
 
 -- the word without this byte at its front
 abbrev pub without_left : ℕ → List ℕ → List ℕ
-without_left b word = drop (drawn_line (begins b word)) word
+without_left b word = drop (drawn_strip (begins b word)) word
 
 -- what is left of the word ends with this byte
 abbrev pub ends : ℕ → List ℕ → Bool
@@ -50,7 +50,7 @@ ends b word = slice_index (without_left b word) (length (without_left b word) - 
 
 -- the word without this byte at either end
 abbrev pub inner : ℕ → List ℕ → List ℕ
-inner b word = take (length (without_left b word) - drawn_line (ends b word)) (without_left b word)
+inner b word = take (length (without_left b word) - drawn_strip (ends b word)) (without_left b word)
 
 -- an optional `+`, one or more `-`, an optional `+`
 unfoldable pub is_edge_line : List ℕ → Bool

@@ -3,7 +3,7 @@ use Rattle.std.specs.Prelude.{ℕ, ◌+◌, Bool, true, false, ◌&&◌, ◌||�
 use Rattle.std.specs.Prelude.{slice_get, Option, Some, None, if◌then◌else◌}
 use Rattle.pat_types.specs.declared.pattern.LabelAt.{LabelAt}
 use Rattle.pat_types.specs.Kept.{are_apart}
-use Rattle.pat_types.specs.Diagrams.{drawn_line}
+use Rattle.pat_types.specs.Diagrams.{drawn_strip}
 use Rattle.db_rules.specs.declared.kind.FaultKind.{FaultKind}
 use Rattle.db_rules.specs.declared.kind.FaultKind.TheVariants.{ConstraintShape}
 use Rattle.db_rules.specs.Kinds.{first_of}
@@ -45,7 +45,7 @@ unfoldable pub labels_under : ℕ → List (List ℕ) → List (List ℕ) → Li
 labels_under row [] words = []
 labels_under row (main ∷ mains) [] = []
 labels_under row (main ∷ mains) (word ∷ words) =
-    labels_of_line row main word ++ labels_under (row + drawn_line (is_row main)) mains words
+    labels_of_line row main word ++ labels_under (row + drawn_strip (is_row main)) mains words
 
 -- the labels of a constraint diagram
 abbrev pub labels_of : List (List ℕ) → List (List ℕ) → List LabelAt

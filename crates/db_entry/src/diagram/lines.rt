@@ -4,7 +4,7 @@ ghost use Rattle.go_rules.specs.Board.{largest_size};
 ghost use Rattle.std.specs.Prelude.{◌≡◌, ◌∷◌, [], ◌++◌, ◌&&◌, ◌||◌, not, nat_lt, nat_le, ℕ, List, OnOk, OnErr, IfErr};
 ghost use Rattle.std.specs.Prelude.{length, Some, None, ◌+◌, ◌<◌, ◌≤◌, ◌^◌, if◌then◌else◌};
 ghost use Rattle.std.specs.List.{filter_map};
-ghost use Rattle.pat_types.specs.Diagrams.{drawn_line};
+ghost use Rattle.pat_types.specs.Diagrams.{drawn_strip};
 ghost use Rattle.db_rules.specs.declared.kind.FaultKind.{FaultKind};
 ghost use Rattle.db_rules.specs.Kinds.{first_of};
 ghost use Rattle.db_rules.specs.Diagram.{diagram_fault, letter_of, letters_of_row, other_sides, other_width};
@@ -83,7 +83,7 @@ fn bottom_after(rows: usize, edge: bool) -> bool
 
 fn rows_after(rows: usize, row: bool) -> usize
     requires { rows < 2 ^ 63 }
-    ensures { result ≡ rows + drawn_line row }
+    ensures { result ≡ rows + drawn_strip row }
 {
     if row { rows + 1 } else { rows }
 }

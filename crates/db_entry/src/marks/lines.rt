@@ -5,7 +5,7 @@ ghost use Rattle.std.specs.Prelude.{◌≡◌, ◌≤◌, ◌<◌, get_or, ◌==
 ghost use Rattle.std.specs.Prelude.{map, drop, OnOk, IfErr, None};
 ghost use Rattle.std.specs.List.{list_any};
 ghost use Rattle.pat_types.specs.Kept.{names as some_has, are_apart as apart};
-ghost use Rattle.pat_types.specs.Diagrams.{drawn_line};
+ghost use Rattle.pat_types.specs.Diagrams.{drawn_strip};
 ghost use Rattle.db_rules.specs.Diagram.{is_letter};
 ghost use Rattle.db_rules.specs.Labels.{is_label as label, repeats as word_repeats, labels_from, labels_of_line};
 ghost use Rattle.db_rules.specs.Labels.{constraint_fault};
@@ -102,7 +102,7 @@ fn word_at<'a>(words: &[&'a [u8]], i: usize) -> &'a [u8]
 
 fn rows_after(rows: u8, row: bool) -> u8
     requires { rows < 255 }
-    ensures { result ≡ rows + drawn_line row }
+    ensures { result ≡ rows + drawn_strip row }
 {
     if row { rows + 1 } else { rows }
 }

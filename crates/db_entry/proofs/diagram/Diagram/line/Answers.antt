@@ -1,6 +1,6 @@
 use Rattle.go_rules.specs.Board.{largest_size}
 use Rattle.std.proofs.Common.{◌≡◌, ◌+◌, length, arith, sym, ap, refl, ◌∙◌, None, false, cond, [], ◌++◌}
-use Rattle.pat_types.specs.Diagrams.{drawn_line}
+use Rattle.pat_types.specs.Diagrams.{drawn_strip}
 use Rattle.db_rules.specs.Diagram.{letters_of_row, other_width, line_shape}
 use Rattle.std.specs.Prelude.{nat_lt, nat_le}
 use Rattle.std.proofs.lemmas.Bool.{or_parts, ltb-false, leb-false}
@@ -34,7 +34,7 @@ returns-clause-ok c = λ words s.
     let shape = c.shape.ensures ∙ is.shape in (
       sym (fault_is d words c.args.word.now line s is) ∙ none,
       Draws-push d _ words c.args.word.now s even refl
-          (c.rows_after-self.ensures ∙ ap (λ b. d.rows + drawn_line b) row)
+          (c.rows_after-self.ensures ∙ ap (λ b. d.rows + drawn_strip b) row)
           (rw (c.top_after-self.ensures, edge) refl)
           (rw (c.bottom_after-self.ensures, edge) refl)
           (rw (c.shape_after-self.ensures, row) (rw shape refl))

@@ -6,7 +6,7 @@ use Rattle.std.specs.Prelude.{ℕ, is_some}
 use Rattle.db_rules.specs.Diagram.{is_row, shape_of, bar}
 use Rattle.db_rules.specs.Labels.{repeats, labels_of_line}
 use Rattle.pat_types.specs.Kept.{are_apart}
-use Rattle.pat_types.specs.Diagrams.{drawn_line}
+use Rattle.pat_types.specs.Diagrams.{drawn_strip}
 use Rattle.db_entry.proofs.LineLemmas.{is_some-where}
 use Rattle.db_entry.proofs.LabelLemmas.{constraint_fault-past, kept_fault_at, kept_push, repeats-same}
 use Rattle.db_entry.proofs.marks.Marks.line.Goals as goal
@@ -72,5 +72,5 @@ returns-clause-ok c = λ words s.
       kept_push m _
           (map (λ f. f.now) c.args.mains.now) words c.args.word.now c.word_at-main.result.now s lt
           c.word_at-main.ensures refl
-          (c.rows_after-self.ensures ∙ ap (λ b. m.rows + drawn_line b) row) c.in-Ok.ensures,
+          (c.rows_after-self.ensures ∙ ap (λ b. m.rows + drawn_strip b) row) c.in-Ok.ensures,
     )
