@@ -11,15 +11,15 @@ use Rattle.session.proofs.opening.session_with.Goals as goal
 -- each number that the patterns' automaton accepts is that of one of them
 pub new-requires-clause-numbers : goal.new-requires-clause-numbers
 new-requires-clause-numbers g c =
-    subst (λ patterns. NumbersPatterns c.in_ok-machine.machine patterns) c.as_slice.ensures.value
-    c.in_ok-machine.ensures.numbers
+    subst (λ patterns. NumbersPatterns c.in_ok-automaton.automaton patterns) c.as_slice.ensures.value
+    c.in_ok-automaton.ensures.numbers
 
 -- a session made with patterns starts as the plain machine with them, at the depths of the options
 pub returns-clause-ok : goal.returns-clause-ok
 returns-clause-ok g c =
     let patterns = c.args.patterns.items in
-    let rows = c.in_ok-machine.machine in
-    let accepts = subst (λ ps. IsAutomatonOf ps rows) c.as_slice.ensures.value c.in_ok-machine.ensures.accepts in
+    let rows = c.in_ok-automaton.automaton in
+    let accepts = subst (λ ps. IsAutomatonOf ps rows) c.as_slice.ensures.value c.in_ok-automaton.ensures.accepts in
     let plies = c.args.options.now.depth in
     let wide = c.args.options.now.branch in
     let advice = says_yes (states_of (λ z. (goal.Helper-dyn g z).state z.1) c.args.helpers) in
