@@ -1,12 +1,13 @@
 """Times questions that gopat and GNU Go answer from what they have kept, and measures the largest cache full of real readings.
 
-usage: python3 tools/time_kept.py GOPAT GNUGO REGRESSION [QUESTIONS [REPEATS]]
+usage: python3 tools/time_kept.py GOPAT GNUGO REGRESSION [QUESTIONS [REPEATS [ROUNDS]]]
 
 REGRESSION is the folder with *.tst in GNU Go's source: its attack and defend questions are asked in the positions of its game
 records, as tools/compare_readings.py finds them, QUESTIONS of them (60). Each is asked for the first time; REPEATS times again
-(5000); and after each of a row of moves that are far from its string, as many as find room there. The time of a session that
-makes the same moves and does not ask is taken off; all times are the processor's, and the shortest of three counts. Then
-questions about every stone of random boards, at several depths, fill a cache of 65,536 questions.
+(5000); and after each of a row of moves that are far from its string, as many as find room there. The row is played in ROUNDS
+orders (50), each by chance, and taken back behind each, so that neither program meets a whole position again. The time of a
+session that makes the same moves and does not ask is taken off; all times are the processor's, and the shortest of three
+counts. Then questions about every stone of random boards, at several depths, fill a cache of 65,536 questions.
 """
 
 import pathlib
@@ -30,17 +31,27 @@ class Timed(NamedTuple):
     questions: int
 
 
-def far_moves(asked: compare_readings.Asked) -> list[str]:
-    """Plays by both colours in turn at empty points that are far from the target, the farthest first, none beside another."""
+def far_points(asked: compare_readings.Asked) -> list[str]:
+    """Empty points that are far from the target, none beside another."""
     taken = set(asked.black) | set(asked.white)
     target = asked.question.split()[1]
     column, row = sgf.COLUMNS.index(target[0]), int(target[1:])
     places = [(x, y) for x in range(asked.size) for y in range(1, asked.size + 1) if (x + y) % 2]
     far = [at for at in places if abs(at[0] - column) + abs(at[1] - row) > asked.size]
-    far.sort(key=lambda at: -abs(at[0] - column) - abs(at[1] - row))
     vertices = [f"{sgf.COLUMNS[x]}{y}" for x, y in far]
-    free = [vertex for vertex in vertices if vertex not in taken]
-    return [f"play {'bw'[number % 2]} {vertex}" for number, vertex in enumerate(free)]
+    return [vertex for vertex in vertices if vertex not in taken]
+
+
+def rounds_of_moves(luck: random.Random, asked: compare_readings.Asked, rounds: int) -> list[list[str]]:
+    """Plays by both colours in turn at all far points, in so many orders."""
+    points = far_points(asked)
+    orders = [luck.sample(points, len(points)) for _ in range(rounds)]
+    return [[f"play {'bw'[number % 2]} {vertex}" for number, vertex in enumerate(order)] for order in orders]
+
+
+def after_each(orders: list[list[str]], text: list[str]) -> list[str]:
+    """The moves of each order, with these lines behind each move, and the order taken back."""
+    return joined(joined([move] + text for move in moves) + ["undo"] * len(moves) for moves in orders)
 
 
 def joined(rows: Iterator[list[str]]) -> list[str]:
@@ -48,17 +59,18 @@ def joined(rows: Iterator[list[str]]) -> list[str]:
     return [line for row in rows for line in row]
 
 
-def kinds_of_asking(questions: list[compare_readings.Asked], repeats: int) -> list[Timed]:
+def kinds_of_asking(questions: list[compare_readings.Asked], repeats: int, rounds: int) -> list[Timed]:
     """Each kind over all questions, in one session each."""
-    rows = [(compare_readings.set_up(asked), asked.question, far_moves(asked)) for asked in questions]
+    luck = random.Random(1)
+    rows = [(compare_readings.set_up(asked), asked.question, rounds_of_moves(luck, asked, rounds)) for asked in questions]
     first = joined(there + [text] for there, text, _ in rows)
     again = joined(there + [text] * (1 + repeats) for there, text, _ in rows)
-    silent = joined(there + [text] + moves for there, text, moves in rows)
-    distant = joined(there + [text] + joined([move, text] for move in moves) for there, text, moves in rows)
+    silent = joined(there + [text] + after_each(orders, []) for there, text, orders in rows)
+    distant = joined(there + [text] + after_each(orders, [text]) for there, text, orders in rows)
     return [
         Timed("the first time", first, joined(there for there, _, _ in rows), len(rows)),
         Timed("the same again", again, first, len(rows) * repeats),
-        Timed("after a distant move", distant, silent, sum(len(moves) for _, _, moves in rows)),
+        Timed("after a distant move", distant, silent, sum(len(moves) for _, _, orders in rows for moves in orders)),
     ]
 
 
@@ -89,12 +101,12 @@ def filling(luck: random.Random) -> Iterator[str]:
                 asked += 2 * len(stones)
 
 
-def main(gopat: str, gnugo: str, regression: str, wanted: str = "60", repeats: str = "5000"):
+def main(gopat: str, gnugo: str, regression: str, wanted: str = "60", repeats: str = "5000", rounds: str = "50"):
     questions = [asked for asked in compare_readings.asked_of_gnugo(gnugo, pathlib.Path(regression)) if asked.theirs.ok]
     random.Random(1).shuffle(questions)
     questions = questions[: int(wanted)]
     print(f"{len(questions)} questions, at the depths of the options")
-    for kind in kinds_of_asking(questions, int(repeats)):
+    for kind in kinds_of_asking(questions, int(repeats), int(rounds)):
         ours = microseconds([gopat], kind)
         theirs = microseconds([gnugo, "--mode", "gtp", "--quiet"], kind)
         print(f"{kind.name:22} {ours:9.2f} us by gopat, {theirs:9.2f} us by GNU Go: {ours / theirs:.2f} of its time")
@@ -104,6 +116,6 @@ def main(gopat: str, gnugo: str, regression: str, wanted: str = "60", repeats: s
 
 
 if __name__ == "__main__":
-    if not 4 <= len(sys.argv) <= 6:
+    if not 4 <= len(sys.argv) <= 7:
         sys.exit(__doc__)
     main(*sys.argv[1:])
