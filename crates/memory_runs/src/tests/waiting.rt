@@ -151,11 +151,11 @@ fn as_many_replies_wait_as_there_is_room_for(rt: HostRuntime) -> Result<(), Fail
     Ok(())
 }
 
-/// The last of many lines whose replies come together, how many bytes all replies are, and how many go out in the first
-/// call: as many bytes as may wait, and where one more comes, all but the last reply.
+/// The last two of many lines whose replies come together, how many bytes all replies are, and how many go out in the
+/// first call: as many bytes as may wait, and where one more comes, all but the last reply.
 const MANY_BYTES: [(&[u8], usize, usize); 2] = [
-    (b"11111111111 name\n", 4096, 4096),
-    (b"111111111111 name\n", 4097, 4076),
+    (b"12 name\n1111111111 name\n", 4096, 4096),
+    (b"123 name\n1111111111 name\n", 4097, 4078),
 ];
 
 // Replies of just as many bytes as may wait go out in one call; where the last one is longer by a byte, it goes out by
@@ -167,7 +167,7 @@ fn as_many_bytes_wait_as_there_is_room_for(rt: HostRuntime) -> Result<(), Fail> 
         for _ in 0..18 {
             input.extend_from_slice(b"list_commands\n")?;
         }
-        for _ in 0..17 {
+        for _ in 0..16 {
             input.extend_from_slice(b"1 name\n")?;
         }
         input.extend_from_slice(last)?;
