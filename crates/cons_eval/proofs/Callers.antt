@@ -5,7 +5,7 @@ use Rattle.std.proofs.lemmas.Bool.{leb-true, and_from}
 use Rattle.pat_types.specs.declared.pattern.LabelAt.{LabelAt}
 use Rattle.pat_types.specs.declared.expr.Arg.{Arg}
 use Rattle.pat_types.specs.declared.expr.Expr.{Expr, Num, Call, Not', Neg', Bin'}
-use Rattle.pat_types.specs.Kept.{can_evaluate, leaf_count, is_constraint}
+use Rattle.pat_types.specs.Labels.{can_evaluate, leaf_count, is_constraint}
 use Rattle.cons_eval.specs.Bounds.{IsConstraint}
 use Rattle.cons_eval.proofs.Parts.{first_of, second_of}
 use Rattle.cons_eval.specs.Meanings.{Meanings, is_on_board, are_on_board, are_placed}

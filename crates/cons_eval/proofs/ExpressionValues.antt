@@ -8,7 +8,7 @@ use Rattle.pat_types.specs.declared.expr.Op.TheVariants.{Or, And, Eq, Ne, Lt, Le
 use Rattle.pat_types.specs.declared.expr.Arg.{Arg}
 use Rattle.pat_types.specs.declared.expr.Function.{Function}
 use Rattle.pat_types.specs.declared.expr.Expr.{Expr, Num, Call, Not, Neg, Bin}
-use Rattle.pat_types.specs.Kept.{can_evaluate, leaf_count}
+use Rattle.pat_types.specs.Labels.{can_evaluate, leaf_count}
 use Rattle.cons_eval.specs.Bounds.{IsConstraint, IsWithin, most, most_leaves}
 use Rattle.cons_eval.specs.Meanings.{Meanings, are_on_board, are_placed}
 use Rattle.cons_eval.specs.Values.{worth, is_so, joined_value, call_value, value_of}

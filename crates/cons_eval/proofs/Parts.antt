@@ -2,7 +2,7 @@
 use Rattle.std.proofs.Common.{◌≡◌, ℕ, ◌+◌, ◌<◌, ◌≤◌, Bool, true, false, ◌&&◌, Box, Global, refl, sym, subst, arith}
 use Rattle.pat_types.specs.declared.expr.Op.{Op}
 use Rattle.pat_types.specs.declared.expr.Expr.{Expr, Num, Call, Not', Neg', Bin', Not, Neg, Bin}
-use Rattle.pat_types.specs.Kept.{can_evaluate, leaf_count}
+use Rattle.pat_types.specs.Labels.{can_evaluate, leaf_count}
 use Rattle.cons_eval.specs.Bounds.{IsConstraint}
 use Rattle.cons_eval.specs.Meanings.{Meanings, are_placed}
 

@@ -3,7 +3,7 @@
 use Rattle.std.specs.Prelude.{ℕ, ◌≤◌, List, IsTrue, ℤ, pos, neg_ℤ, ◌≤ℤ◌}
 use Rattle.pat_types.specs.declared.pattern.LabelAt.{LabelAt}
 use Rattle.pat_types.specs.declared.expr.Expr.{Expr}
-use Rattle.pat_types.specs.Kept.{can_evaluate, leaf_count}
+use Rattle.pat_types.specs.Labels.{can_evaluate, leaf_count}
 
 -- the greatest number that an expression may have
 abbrev pub most : ℕ

@@ -9,7 +9,7 @@ use Rattle.pat_types.specs.declared.expr.Op.TheVariants.{Or, And, Eq, Ne, Lt, Le
 use Rattle.pat_types.specs.declared.expr.Function.{Function}
 use Rattle.pat_types.specs.declared.expr.Function.TheVariants as function
 use Rattle.pat_types.specs.declared.expr.Expr.{Expr, Num, Call, Not', Neg', Bin'}
-use Rattle.pat_types.specs.Kept.{arity_of, is_play}
+use Rattle.pat_types.specs.Labels.{arity_of, is_play}
 use Rattle.cons_eval.specs.declared.calls.Arguments.{Arguments}
 use Rattle.cons_eval.specs.declared.calls.Arguments.TheVariants.{Point, Pair, Points, Play}
 use Rattle.cons_eval.specs.Functions.{lib, xlib, olib, attack, defend, ko, safe_xmove, safe_omove, legal_xmove}

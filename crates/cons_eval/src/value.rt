@@ -1,7 +1,7 @@
 //! The value of an expression.
 
 ghost use Rattle.std.specs.Prelude.{◌≡◌, ◌*◌, false, true};
-ghost use Rattle.pat_types.specs.Kept.{leaf_count};
+ghost use Rattle.pat_types.specs.Labels.{leaf_count};
 ghost use Rattle.cons_eval.specs.Asking.{asks, needs_right as right_is_needed};
 ghost use Rattle.cons_eval.specs.Bounds.{IsConstraint, IsWithin, most, most_leaves};
 ghost use Rattle.cons_eval.specs.Meanings.{Stays, are_placed};

@@ -49,7 +49,7 @@ some_call_spelled test (Bin op a b) =
     ∙ ap (λ (t : Bool). some_call test a || t) (some_call_spelled test b))
 
 -- a text whose items are scanned to their end
-pub record Told (text : List ℕ) (items : List Item) (deep : Bool) : Type 0 where
+pub record IsScanned (text : List ℕ) (items : List Item) (deep : Bool) : Type 0 where
   pub w : Written
   pub writes : Writes text w
   pub spells : spelling w ≡ items
@@ -68,7 +68,7 @@ written_within text w h =
 
 -- items that are scanned to their end are spelled by an expression
 pub told : (text : List ℕ) (items : List Item) (deep : Bool) → items_within text ≡ Some items
-    → scanned items ≡ Some deep → Told text items deep
+    → scanned items ≡ Some deep → IsScanned text items deep
 told text items deep h s =
     let p = within_if (nat_lt most_bytes (length text)) text items refl h in
     let q = scanned_is_spelled items deep s in
@@ -80,7 +80,7 @@ told text items deep h s =
     }
 
 -- where a leaf stands too deep, TooDeep is the first fault
-pub too_deep : (labels : List LabelAt) (text : List ℕ) (items : List Item) → Told text items true
+pub too_deep : (labels : List LabelAt) (text : List ℕ) (items : List Item) → IsScanned text items true
     → Tells labels text (Some TooDeep)
 unfolding fault_of
 too_deep labels text items t = record { written = t.w; writes = t.writes; first = rw t.depth refl }
@@ -100,7 +100,7 @@ shallow labels w h =
 
 -- where none stands too deep, the first fault of the calls is the first fault
 pub call_told : (labels : List LabelAt) (text : List ℕ) (items : List Item) (fault : Option ConsError)
-    → Told text items false → call_fault labels items ≡ fault → Tells labels text fault
+    → IsScanned text items false → call_fault labels items ≡ fault → Tells labels text fault
 call_told labels text items fault t h =
     record {
       written = t.w;
@@ -117,7 +117,7 @@ no_syntax false false true h = cc
 no_syntax false false false h = cc
 
 -- a fault of the calls is refused rightly
-pub call_refused : (labels : List LabelAt) (text : List ℕ) (items : List Item) (e : ConsError) → Told text items false
+pub call_refused : (labels : List LabelAt) (text : List ℕ) (items : List Item) (e : ConsError) → IsScanned text items false
     → call_fault labels items ≡ Some e → Refuses labels text e
 call_refused labels text items Syntax t h =
     absurd (no_syntax (list_any (calls is_unknown_call) items) (list_any (calls misses) items)
@@ -151,7 +151,7 @@ scan_refused labels text items UnknownLabel i h = absurd h
 scan_refused labels text items NoMemory i h = tt
 
 -- what is built of items without faults is what the text spells
-pub spelled : (labels : List LabelAt) (text : List ℕ) (items : List Item) (e : Expr) → Told text items false
+pub spelled : (labels : List LabelAt) (text : List ℕ) (items : List Item) (e : Expr) → IsScanned text items false
     → call_fault labels items ≡ None → tree_of e ≡ built trees items → Spells labels text e
 spelled labels text items e t h b =
     record {

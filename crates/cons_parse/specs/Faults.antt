@@ -6,7 +6,7 @@ use Rattle.pat_types.specs.declared.expr.Arg.{Arg}
 use Rattle.pat_types.specs.declared.expr.Arg.TheVariants.{Label, Star, Nowhere}
 use Rattle.pat_types.specs.declared.expr.Function.{Function}
 use Rattle.pat_types.specs.declared.pattern.LabelAt.{LabelAt}
-use Rattle.pat_types.specs.Kept.{names, arity_of, is_play}
+use Rattle.pat_types.specs.Labels.{names, arity_of, is_play}
 use Rattle.cons_parse.specs.declared.error.ConsError.{ConsError}
 use Rattle.cons_parse.specs.declared.error.ConsError.TheVariants.{TooDeep, UnknownFunction, Arity, UnknownLabel}
 use Rattle.cons_parse.specs.declared.token.Name.{Name}

@@ -2,7 +2,7 @@
 
 ghost use Rattle.std.specs.Prelude.{◌≡◌};
 ghost use Rattle.std.specs.List.{list_any};
-ghost use Rattle.pat_types.specs.Kept.{names, arity_of, is_play as plays};
+ghost use Rattle.pat_types.specs.Labels.{names, arity_of, is_play as plays};
 ghost use Rattle.cons_parse.specs.Faults.{is_nowhere as nowhere, ends_nowhere as last_is_nowhere};
 ghost use Rattle.cons_parse.specs.Faults.{has_stray_pass as stray_pass, is_miscalled as miscalled};
 ghost use Rattle.cons_parse.specs.Faults.{is_unknown_label as unknown_label, calls, is_unknown_call, misses};

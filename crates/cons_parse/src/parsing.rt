@@ -1,7 +1,7 @@
 //! The expression that a text spells, or its first fault.
 
 ghost use Rattle.std.specs.Prelude.{◌≡◌, IfOk, IfErr, IsTrue, Some, None};
-ghost use Rattle.pat_types.specs.Kept.{is_constraint};
+ghost use Rattle.pat_types.specs.Labels.{is_constraint};
 ghost use Rattle.std.specs.Option.{option_map};
 ghost use Rattle.cons_parse.specs.Trees.{tree_of, meaning_of};
 ghost use Rattle.cons_parse.specs.Reading.{expression_in, fault_in, Blames};

@@ -6,7 +6,7 @@ use Rattle.std.specs.Prelude.{◌==◌, ◌&&◌, ◌||◌}
 use Rattle.std.proofs.lemmas.Bool.{and_right}
 use Rattle.std.proofs.lemmas.List.{length-append, take_more, append-nil}
 use Rattle.std.proofs.lemmas.Option.{slice_get-get_or, slice_get_past}
-use Rattle.pat_types.specs.Kept.{are_apart}
+use Rattle.pat_types.specs.Labels.{are_apart}
 use Rattle.pat_types.specs.Diagrams.{drawn_strip}
 use Rattle.db_entry.specs.declared.marks.Marks.{Marks}
 use Rattle.db_rules.specs.declared.kind.FaultKind.TheVariants.{ConstraintShape}

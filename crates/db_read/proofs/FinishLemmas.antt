@@ -3,7 +3,7 @@ use Rattle.std.proofs.Common.{◌≡◌, ℕ, ◌/◌, ◌%◌, List, Option, So
 use Rattle.std.specs.Prelude.{unwrap_or, true}
 use Rattle.std.specs.List.{position_or_len}
 use Rattle.pat_types.specs.Diagrams.{IsDiagram, is_star}
-use Rattle.pat_types.specs.Kept.{are_labels}
+use Rattle.pat_types.specs.Labels.{are_labels}
 use Rattle.db_rules.specs.declared.shape.Shape.{Shape}
 use Rattle.db_rules.specs.Diagram.{wanted}
 use Rattle.db_rules.specs.Entries.{shape_in}

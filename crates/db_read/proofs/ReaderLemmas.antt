@@ -6,7 +6,7 @@ use Rattle.std.specs.Option.{option_to_list}
 use Rattle.std.proofs.lemmas.Bool.{eqb-true, not-false}
 use Rattle.std.proofs.lemmas.List.{length-append, map_push, map-append}
 use Rattle.pat_types.specs.declared.pattern.Pattern.{Pattern as PatternRead}
-use Rattle.pat_types.specs.Kept.{is_constraint}
+use Rattle.pat_types.specs.Labels.{is_constraint}
 use Rattle.db_lex.specs.declared.line.LineKind.{LineKind}
 use Rattle.db_lex.specs.declared.line.LineKind.TheVariants.{Pattern, Colon, Semicolon, Action, Other}
 use Rattle.db_lex.specs.Lines.{KeptLine, word_of}

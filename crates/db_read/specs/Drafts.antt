@@ -1,7 +1,7 @@
 -- What a draft has read of a block, and when it is complete.
 use Rattle.std.specs.Prelude.{◌≡◌, ◌<◌, IsTrue, List, [], length, map, Option, Some, None}
 use Rattle.std.specs.Option.{option_map}
-use Rattle.pat_types.specs.Kept.{is_constraint}
+use Rattle.pat_types.specs.Labels.{is_constraint}
 use Rattle.cons_parse.specs.Trees.{Tree, tree_of, meaning_of}
 use Rattle.cons_parse.specs.Reading.{expression_in}
 use Rattle.db_lex.specs.Lines.{KeptLine}

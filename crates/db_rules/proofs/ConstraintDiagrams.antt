@@ -10,7 +10,7 @@ use Rattle.std.proofs.lemmas.List.{length-append, length-take, get_or-take}
 use Rattle.std.proofs.lemmas.List.Folds.{list_all-append}
 use Rattle.std.proofs.lemmas.Option.{slice_get-get_or, slice_get_past}
 use Rattle.pat_types.specs.Diagrams.{drawn_strip}
-use Rattle.pat_types.specs.Kept.{is_in, are_apart, are_labels}
+use Rattle.pat_types.specs.Labels.{is_in, are_apart, are_labels}
 use Rattle.db_rules.specs.declared.kind.FaultKind.{FaultKind}
 use Rattle.db_rules.specs.declared.kind.FaultKind.TheVariants.{ConstraintShape}
 use Rattle.db_rules.specs.Kinds.{first_of}

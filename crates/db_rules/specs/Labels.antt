@@ -2,7 +2,7 @@
 use Rattle.std.specs.Prelude.{ℕ, ◌+◌, Bool, true, false, ◌&&◌, ◌||◌, not, ◌==◌, nat_lt, List, [], ◌∷◌, ◌++◌, length}
 use Rattle.std.specs.Prelude.{slice_get, Option, Some, None, if◌then◌else◌}
 use Rattle.pat_types.specs.declared.pattern.LabelAt.{LabelAt}
-use Rattle.pat_types.specs.Kept.{are_apart}
+use Rattle.pat_types.specs.Labels.{are_apart}
 use Rattle.pat_types.specs.Diagrams.{drawn_strip}
 use Rattle.db_rules.specs.declared.kind.FaultKind.{FaultKind}
 use Rattle.db_rules.specs.declared.kind.FaultKind.TheVariants.{ConstraintShape}

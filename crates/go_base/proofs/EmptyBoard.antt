@@ -7,7 +7,7 @@ use Rattle.go_rules.specs.declared.Cell.{Cell}
 use Rattle.go_rules.specs.declared.Cell.TheVariants.{Empty}
 use Rattle.go_rules.specs.Strings.{cell_at, is_stone}
 use Rattle.go_rules.specs.Position.{IsPosition}
-use Rattle.go_base.specs.Positions.{IsKept}
+use Rattle.go_base.specs.Positions.{HoldsPosition}
 use Rattle.go_base.proofs.SidesOfPoints.{square_small}
 
 -- a board of empty points is empty at each point
@@ -34,9 +34,9 @@ pub view_empty : (s : ℕ) (cells : List Cell) → s ≤ largest_size → cells 
 view_empty s cells high e = ap (take (s * s)) e ∙ take-replicate (s * s) largest_points Empty (square_small s high)
 
 -- and so is the rest of its array
-pub IsKept-empty : (s : ℕ) (cells : List Cell) → smallest_size ≤ s → s ≤ largest_size
-    → cells ≡ replicate largest_points Empty → IsKept (record { size = s; ban = None; cells = cells })
-IsKept-empty s cells low high e = record {
+pub HoldsPosition-empty : (s : ℕ) (cells : List Cell) → smallest_size ≤ s → s ≤ largest_size
+    → cells ≡ replicate largest_points Empty → HoldsPosition (record { size = s; ban = None; cells = cells })
+HoldsPosition-empty s cells low high e = record {
   position = subst (λ t. IsPosition (record { size = s; cells = t; ban = None })) (sym (view_empty s cells high e))
       (empty_position s low high);
   padded = ap (drop (s * s)) e ∙ drop-replicate (s * s) largest_points Empty;

@@ -17,10 +17,10 @@ use Rattle.go_rules.proofs.PlayLaws.{free_keeps}
 use Rattle.go_base.specs.declared.view.Flat.{Flat}
 use Rattle.go_base.specs.declared.position.Position.TheInside.{Inside}
 use Rattle.go_base.specs.Flats.{KeepsRest}
-use Rattle.go_base.specs.Positions.{position_of, padding, IsKept, Holds}
+use Rattle.go_base.specs.Positions.{position_of, padding, HoldsPosition, Holds}
 
 -- the cells fill their array
-kept_length : (a : Inside) → IsKept a → a.size ≤ largest_size → length a.cells ≡ largest_points
+kept_length : (a : Inside) → HoldsPosition a → a.size ≤ largest_size → length a.cells ≡ largest_points
 kept_length a k small =
     let few = square_small a.size small in
     let front = k.position.cells in
@@ -30,7 +30,7 @@ kept_length a k small =
     ∙ omega (arith, few, front, back)
 
 -- the board that a position is kept as holds the position
-pub holds_of : (a : Inside) (pos : BoardState) → position_of a ≡ pos → IsKept a → a.size ≤ largest_size
+pub holds_of : (a : Inside) (pos : BoardState) → position_of a ≡ pos → HoldsPosition a → a.size ≤ largest_size
     → Holds pos (record { size = a.size; cells = a.cells })
 holds_of a pos e k small = record {
   position = subst IsPosition e k.position;
@@ -90,7 +90,7 @@ module _ {pos : BoardState} {old new : Flat} (c : Colour) (p : ℕ) (ban : Optio
       ∙ is
 
   -- and what is kept of it is the position and the empty rest
-  pub held_kept : p < pos.size * pos.size → IsKept (record { size = new.size; ban = ban; cells = new.cells })
+  pub held_kept : p < pos.size * pos.size → HoldsPosition (record { size = new.size; ban = ban; cells = new.cells })
   held_kept on = record {
     position = free_keeps pos c p (position_of (record { size = new.size; ban = ban; cells = new.cells })) h.position on
         (sym held_done);

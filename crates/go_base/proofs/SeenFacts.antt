@@ -10,7 +10,7 @@ use Rattle.go_base.specs.Views.{alone}
 use Rattle.go_base.specs.Bits.{is_marked}
 use Rattle.go_base.specs.declared.facts.Facts.{Facts}
 use Rattle.go_base.specs.Facts.{Fact, SizeIs, CellIs, BanIs, IsFactOf, Agrees, Grows, AddsIn, IsAbout}
-use Rattle.go_base.specs.Told.{told, seen_as, asked_of, same_bool, SeesCell, AsksBan}
+use Rattle.go_base.specs.AmongFacts.{told, seen_as, asked_of, same_bool, SeesCell, AsksBan}
 
 -- two truths that are told to be the same are equal
 pub same_bool-true : (a b : Bool) → same_bool a b ≡ true → a ≡ b

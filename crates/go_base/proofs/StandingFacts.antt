@@ -6,7 +6,7 @@ use Rattle.go_rules.specs.declared.Colour.{Colour}
 use Rattle.go_rules.specs.Position.{BoardState, IsPosition, is_banned}
 use Rattle.go_base.specs.declared.facts.Facts.{Facts}
 use Rattle.go_base.specs.Facts.{Fact, SizeIs, CellIs, BanIs, IsFactOf, Agrees}
-use Rattle.go_base.specs.Told.{told, seen_as, asked_of, AllShow, BanStays}
+use Rattle.go_base.specs.AmongFacts.{told, seen_as, asked_of, AllShow, BanStays}
 use Rattle.go_base.proofs.SeenFacts.{same_bool-true, same_bool-refl}
 
 -- where the cells and the bans are as they were seen, the position agrees

@@ -8,7 +8,7 @@ pub mod TakenBack
 pub mod Flats
 pub mod Positions
 pub mod Facts
-pub mod Told
+pub mod AmongFacts
 pub mod Sizes
 pub mod Watches
 pub mod Surroundings

@@ -19,7 +19,7 @@ abbrev pub position_of : Inside → BoardState
 position_of a = record { size = a.size; cells = take (a.size * a.size) a.cells; ban = a.ban }
 
 -- the fields keep a position, and the cells past the board are empty
-pub record IsKept (a : Inside) : Type 0 where
+pub record HoldsPosition (a : Inside) : Type 0 where
   pub position : IsPosition (position_of a)
   pub padded : drop (a.size * a.size) a.cells ≡ padding a.size
 
@@ -28,7 +28,7 @@ abbrev pub kept_of : BoardState → Inside
 kept_of pos = record { size = pos.size; cells = pos.cells ++ padding pos.size; ban = pos.ban }
 
 -- the fields come back from the position
-pub kept_of-position_of : (a : Inside) → IsKept a → kept_of (position_of a) ≡ a
+pub kept_of-position_of : (a : Inside) → HoldsPosition a → kept_of (position_of a) ≡ a
 kept_of-position_of a h =
     ap (λ (cells : List Cell). record { size = a.size; ban = a.ban; cells = cells })
     (ap (λ t. take (a.size * a.size) a.cells ++ t) (sym h.padded) ∙ take-append-drop (a.size * a.size) a.cells)

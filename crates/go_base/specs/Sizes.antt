@@ -4,7 +4,7 @@ use Rattle.std.proofs.Common.{sym, eq-eqb}
 use Rattle.go_rules.specs.Position.{BoardState}
 use Rattle.go_base.specs.declared.facts.Facts.{Facts}
 use Rattle.go_base.specs.Facts.{SizeIs, Agrees}
-use Rattle.go_base.specs.Told.{told}
+use Rattle.go_base.specs.AmongFacts.{told}
 
 -- the size of a position that agrees is among the facts
 pub sized_of : (facts : Facts) (pos : BoardState) → Agrees (told facts) pos → IsTrue (told facts (SizeIs pos.size))

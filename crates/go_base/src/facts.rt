@@ -10,7 +10,7 @@ ghost use Rattle.go_rules.specs.declared.Colour.{Colour};
 ghost use Rattle.go_rules.specs.Position.{BoardState, is_banned};
 ghost use Rattle.go_base.specs.Bits.{is_marked};
 ghost use Rattle.go_base.specs.Facts.{Agrees};
-ghost use Rattle.go_base.specs.Told.{told, seen_as, asked_of, SeesCell, AsksBan, AllShow, BanStays, is_fact_at};
+ghost use Rattle.go_base.specs.AmongFacts.{told, seen_as, asked_of, SeesCell, AsksBan, AllShow, BanStays, is_fact_at};
 
 use crate::ban::is_banned;
 use crate::bits::PointBits;

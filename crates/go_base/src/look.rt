@@ -5,7 +5,7 @@ ghost use Rattle.go_rules.specs.Strings.{cell_at};
 ghost use Rattle.go_rules.specs.Position.{BoardState, is_banned};
 ghost use Rattle.go_base.specs.Views.{alone};
 ghost use Rattle.go_base.specs.Facts.{Agrees, Grows, AddsIn, Agrees-prop, ban_set};
-ghost use Rattle.go_base.specs.Told.{told};
+ghost use Rattle.go_base.specs.AmongFacts.{told};
 
 use crate::facts::Facts;
 use crate::position::Position;
@@ -85,7 +85,7 @@ impl<'a> Watch<'a> {
 }
 
 impl<'a> Look for Watch<'a> {
-    ghost use Rattle.go_base.specs.Told.{told};
+    ghost use Rattle.go_base.specs.AmongFacts.{told};
     ghost use Rattle.go_base.specs.Sizes.{sized_of};
 
     ghost shows = { λ w. w.position.now };

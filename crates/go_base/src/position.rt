@@ -30,11 +30,11 @@ impl Model for Position {
 
     ghost Value = { BoardState };
 
-    ghost use Rattle.go_base.specs.Positions.{position_of, IsKept, kept_of, kept_of-position_of};
+    ghost use Rattle.go_base.specs.Positions.{position_of, HoldsPosition, kept_of, kept_of-position_of};
 
     ghost view = { position_of };
 
-    ghost invariant = { IsKept };
+    ghost invariant = { HoldsPosition };
 
     ghost inverse = { kept_of };
 

@@ -1,4 +1,4 @@
 pub mod GameLemmas
-pub mod KeptGames
+pub mod HeldGames
 pub mod RefusedMoves
 pub mod Stones

@@ -8,36 +8,36 @@ use Rattle.go_history.specs.declared.history.HistoryError.{HistoryError}
 use Rattle.go_history.specs.declared.history.HistoryError.TheVariants.{Illegal as illegal, NoMemory as no_memory}
 
 -- the outcome of a move
-abbrev pub Told : Type 0
-Told = Result (Unit {0}) HistoryError
+abbrev pub MoveOutcome : Type 0
+MoveOutcome = Result (Unit {0}) HistoryError
 
 -- a refusal is told exactly where the move is refused for it
 pub illegal_is : (r : Result BoardState Illegal) (x : Illegal) → r ≡ Err x → (e : Illegal)
-    → (◌≡◌ {A = Told} (Err (illegal x)) (Err (illegal e))) ↔ (r ≡ Err e)
+    → (◌≡◌ {A = MoveOutcome} (Err (illegal x)) (Err (illegal e))) ↔ (r ≡ Err e)
 illegal_is r x is e = (λ same. is ∙ ap Err (inside x e same), λ other. same_error x e (sym is ∙ other))
   where
-    inside : (x e : Illegal) → ◌≡◌ {A = Told} (Err (illegal x)) (Err (illegal e)) → x ≡ e
+    inside : (x e : Illegal) → ◌≡◌ {A = MoveOutcome} (Err (illegal x)) (Err (illegal e)) → x ≡ e
     inside x e same = cc
 
     same_error : (x e : Illegal) → ◌≡◌ {A = Result BoardState Illegal} (Err x) (Err e)
-        → ◌≡◌ {A = Told} (Err (illegal x)) (Err (illegal e))
+        → ◌≡◌ {A = MoveOutcome} (Err (illegal x)) (Err (illegal e))
     same_error x e same = cc
 
 -- a move whose failure tells the refusal has an outcome that tells it
 pub told_is : (r : Result BoardState Illegal) (t : HistoryError) (e : Illegal) → ((t ≡ illegal e) ↔ (r ≡ Err e))
-    → (◌≡◌ {A = Told} (Err t) (Err (illegal e))) ↔ (r ≡ Err e)
+    → (◌≡◌ {A = MoveOutcome} (Err t) (Err (illegal e))) ↔ (r ≡ Err e)
 told_is r t e both = (λ same. both.0 (inside t (illegal e) same), λ other. ap Err (both.1 other))
   where
-    inside : (t u : HistoryError) → ◌≡◌ {A = Told} (Err t) (Err u) → t ≡ u
+    inside : (t u : HistoryError) → ◌≡◌ {A = MoveOutcome} (Err t) (Err u) → t ≡ u
     inside t u same = cc
 
 -- where a board has no memory for a move, the move is legal
 pub no_memory_is : (r : Result BoardState Illegal) (e : Illegal) (t : PlayError) → t ≡ play_no_memory
     → ((◌≡◌ {A = Result ℕ PlayError} (Err t) (Err (play_illegal e))) ↔ (r ≡ Err e))
-    → (◌≡◌ {A = Told} (Err no_memory) (Err (illegal e))) ↔ (r ≡ Err e)
+    → (◌≡◌ {A = MoveOutcome} (Err no_memory) (Err (illegal e))) ↔ (r ≡ Err e)
 no_memory_is r e t is both = (λ bad. absurd (first e bad), λ other. absurd (second t e is (both.1 other)))
   where
-    first : (e : Illegal) → ◌≡◌ {A = Told} (Err no_memory) (Err (illegal e)) → ⊥
+    first : (e : Illegal) → ◌≡◌ {A = MoveOutcome} (Err no_memory) (Err (illegal e)) → ⊥
     first e bad = cc
 
     second : (t : PlayError) (e : Illegal) → t ≡ play_no_memory

@@ -1,3 +1,3 @@
 pub mod Games
-pub mod Kept
+pub mod Histories
 pub mod Taken

@@ -57,11 +57,11 @@ impl Model for History {
 
     ghost Value = { Game };
 
-    ghost use Rattle.go_history.specs.Kept.{game_of, IsKept};
+    ghost use Rattle.go_history.specs.Histories.{game_of, IsHistory};
 
     ghost view = { game_of };
 
-    ghost invariant = { IsKept };
+    ghost invariant = { IsHistory };
 }
 
 impl History {

@@ -5,12 +5,12 @@ use Rattle.go_rules.specs.declared.Move.{Move}
 use Rattle.go_rules.specs.Replay.{taken_by, replay_from}
 use Rattle.go_strings.specs.declared.board.StringBoard.TheInside.{Inside}
 use Rattle.go_strings.specs.declared.standing.Past.{Past}
-use Rattle.go_strings.specs.Games.{BoardGame, game_of, moves_of, moment_of, IsKept}
+use Rattle.go_strings.specs.Games.{BoardGame, game_of, moves_of, moment_of, IsStringBoard}
 use Rattle.go_strings.proofs.NoteTrails.{last_split}
 use Rattle.go_strings.proofs.LeadingMoves.{trail_taken, moves_push}
 
 -- the last move of the trail is the last of the game, and took as many stones as it says
-pub last_taken_is : (a : Inside) (game : BoardGame) (n : ℕ) (v : Past) (moves : List Move) (m : Move) → IsKept a
+pub last_taken_is : (a : Inside) (game : BoardGame) (n : ℕ) (v : Past) (moves : List Move) (m : Move) → IsStringBoard a
     → game_of a ≡ game → n ≡ length a.past.items → (n ≡ 0 → ⊥) → v ≡ get_or a.past.items (n - 1) v
     → game.moves ≡ moves ++ m ∷ [] → v.taken ≡ taken_by (replay_from game.base moves) m.colour m.at
 last_taken_is a game n v moves m kept view long some read is =

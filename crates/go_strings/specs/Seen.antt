@@ -4,7 +4,7 @@ use Rattle.std.proofs.Common.{eq-eqb}
 use Rattle.go_rules.specs.Strings.{cell_at, same_cell}
 use Rattle.go_rules.specs.Position.{BoardState, is_banned}
 use Rattle.go_base.specs.Facts.{Fact, SizeIs, CellIs, BanIs}
-use Rattle.go_base.specs.Told.{same_bool}
+use Rattle.go_base.specs.AmongFacts.{same_bool}
 
 -- the fact is so on the position
 abbrev pub is_so : BoardState → Fact → Bool

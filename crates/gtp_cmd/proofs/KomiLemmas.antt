@@ -5,14 +5,14 @@ use Rattle.std.proofs.Math.ListN.{set, replicate}
 use Rattle.std.proofs.lemmas.List.{drop_more, drop-set-lt, drop-replicate}
 use Rattle.gtp_cmd.specs.Words.{is_kept, kept}
 use Rattle.gtp_cmd.specs.Komi.{komi_room}
-use Rattle.gtp_cmd.specs.KomiKept.{IsKept}
+use Rattle.gtp_cmd.specs.KomiTexts.{IsKomiText}
 use Rattle.gtp_cmd.specs.declared.komi.KomiText.TheInside.{Inside}
 use Rattle.gtp_cmd.proofs.NumberLemmas.{kept-cut}
 
 -- one zero behind the text gives way to its next byte
-pub IsKept-push : (a : Inside) (b : ℕ) → IsKept a → a.len < komi_room
-    → IsKept (record { bytes = set a.bytes a.len b; len = a.len + 1 })
-IsKept-push a b kept_so room =
+pub IsKomiText-push : (a : Inside) (b : ℕ) → IsKomiText a → a.len < komi_room
+    → IsKomiText (record { bytes = set a.bytes a.len b; len = a.len + 1 })
+IsKomiText-push a b kept_so room =
     let within = kept_so.whole in
     let inside : a.len < length a.bytes = omega arith in
     let next : drop (a.len + 1) a.bytes ≡ drop 1 (drop a.len a.bytes) =

@@ -3,7 +3,7 @@ pub mod RawWords
 pub mod Vertices
 pub mod Colours
 pub mod Komi
-pub mod KomiKept
+pub mod KomiTexts
 pub mod Replies
 pub mod Rooms
 pub mod Commands

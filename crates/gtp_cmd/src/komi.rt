@@ -26,11 +26,11 @@ impl Model for KomiText {
 
     ghost Value = { List ℕ };
 
-    ghost use Rattle.gtp_cmd.specs.KomiKept.{text_kept, IsKept, kept_of, kept_of-text_kept};
+    ghost use Rattle.gtp_cmd.specs.KomiTexts.{text_kept, IsKomiText, kept_of, kept_of-text_kept};
 
     ghost view = { text_kept };
 
-    ghost invariant = { IsKept };
+    ghost invariant = { IsKomiText };
 
     ghost inverse = { kept_of };
 

@@ -2,7 +2,7 @@
 use Rattle.std.proofs.Common.{◌≡◌, ◌≤◌, ◌∙◌, sym, subst, IfSome}
 use Rattle.go_rules.specs.Position.{BoardState}
 use Rattle.go_base.specs.Facts.{Agrees}
-use Rattle.go_base.specs.Told.{told}
+use Rattle.go_base.specs.AmongFacts.{told}
 use Rattle.go_base.specs.declared.facts.Facts.{Facts}
 use Rattle.read_rules.specs.declared.question.Answer.{Answer}
 use Rattle.read_rules.specs.declared.question.ReadingQuestion.{ReadingQuestion}

@@ -5,7 +5,7 @@ use Rattle.std.specs.List.{list_all}
 use Rattle.std.proofs.lemmas.Bool.{cases_Bool, and_parts, ltb-true}
 use Rattle.std.proofs.lemmas.Option.{none-some, same_Some}
 use Rattle.pat_types.specs.declared.pattern.LabelAt.{LabelAt}
-use Rattle.pat_types.specs.Kept.{is_in, are_apart, are_labels}
+use Rattle.pat_types.specs.Labels.{is_in, are_apart, are_labels}
 use Rattle.match_rules.specs.Conditions.{label_with}
 
 -- a label that is found passes what each label passes

@@ -2,7 +2,7 @@
 use Rattle.std.specs.Prelude.{◌≡◌, ℕ, ◌+◌, ◌-◌, ◌^◌, ◌≤◌, ◌⊎◌, IsTrue, Bool, List, [], Option, Some, None, IfSome, min}
 use Rattle.go_rules.specs.Position.{BoardState}
 use Rattle.go_base.specs.Facts.{Fact, Agrees}
-use Rattle.go_base.specs.Told.{told}
+use Rattle.go_base.specs.AmongFacts.{told}
 use Rattle.go_base.specs.declared.facts.Facts.{Facts}
 use Rattle.read_rules.specs.declared.question.Answer.{Answer}
 use Rattle.read_rules.specs.Answer.{code_of, asked_on, answer_of}

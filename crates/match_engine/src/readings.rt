@@ -2,7 +2,7 @@
 ghost use Rattle.std.specs.Prelude.{◌≡◌, ◌≢◌, ◌*◌, ◌<◌, ◌≤◌, Some, None, IfOk, IfSome, IfNone, OnSome};
 ghost use Rattle.go_rules.specs.Strings.{cell_at};
 ghost use Rattle.go_base.specs.Facts.{Agrees};
-ghost use Rattle.go_base.specs.Told.{told};
+ghost use Rattle.go_base.specs.AmongFacts.{told};
 ghost use Rattle.read_rules.specs.Answer.{answer_of, asked_on};
 ghost use Rattle.read_rules.specs.GoodMoves.{IsOnBoard};
 ghost use Rattle.match_engine.specs.Keys.{same_key, meaning_of};

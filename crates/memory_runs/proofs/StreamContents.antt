@@ -10,7 +10,7 @@ use Rattle.session.specs.Ends.{Streams}
 use Rattle.session.specs.Headline.{ServesLines, Came}
 use Rattle.session.specs.Outcomes.{Phase, NotTaken, NotOpened, Served}
 use Rattle.session.specs.declared.outcome.End.{End}
-use Rattle.memory_runs.specs.Told.{ServesEither, Told}
+use Rattle.memory_runs.specs.MemoryRuns.{ServesEither, ComesTo}
 
 -- streams that tell their bytes
 abbrev pub telling : List ℕ → ℕ → ℕ → List ℕ → ℕ → Streams
@@ -68,7 +68,7 @@ module _ (input : List ℕ) (last hurt : ℕ) (old : List ℕ) (torn : ℕ) (res
       (sent : Option Sent) (phase : Phase)
       → Came helpers words contents (telling input last hurt old torn)
       (telling rest piece fault new cut) counts sent phase
-      → Told helpers words contents input rest old new piece phase
+      → ComesTo helpers words contents input rest old new piece phase
   told helpers words contents counts sent NotTaken came = let same = as_before came.1.streams in
       (came.0, same.0, same.1)
   told helpers words contents counts sent (NotOpened error) came = let same = as_before came.1.streams in

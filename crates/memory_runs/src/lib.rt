@@ -8,7 +8,7 @@ ghost use Rattle.std.specs.Prelude.{◌≢◌, map, string_bytes};
 ghost use Rattle.gtp_io.specs.Loading.{named};
 ghost use Rattle.session.specs.Handed.{handed};
 ghost use Rattle.session.specs.Outcomes.{phase_of};
-ghost use Rattle.memory_runs.specs.Told.{Told};
+ghost use Rattle.memory_runs.specs.MemoryRuns.{ComesTo};
 
 use gtp_io::{Feed, Page, Shelf, SureFeed, SurePage, SureShelf};
 use helpers::Helper;
@@ -24,7 +24,7 @@ pub fn run_in_memory(
     page: &mut Page,
     helpers: Vec<Box<dyn Helper>>,
 ) -> Outcome
-    ensures { Told (handed state helpers.items) (map string_bytes words.now)
+    ensures { ComesTo (handed state helpers.items) (map string_bytes words.now)
         (named shelf.old.names shelf.old.contents) feed.old.left feed.new.left
         page.old.written page.new.written feed.new.piece (phase_of result) }
 {

@@ -1,6 +1,6 @@
 pub mod Letters
 pub mod Marks
 pub mod Diagrams
-pub mod Kept
+pub mod Labels
 pub mod Cells
 pub mod Edges

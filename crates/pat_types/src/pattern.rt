@@ -2,7 +2,7 @@
 
 ghost use Rattle.std.specs.Prelude.{IsTrue};
 ghost use Rattle.pat_types.specs.Diagrams.{IsDiagram};
-ghost use Rattle.pat_types.specs.Kept.{are_labels, is_constraint};
+ghost use Rattle.pat_types.specs.Labels.{are_labels, is_constraint};
 
 use crate::expr::Expr;
 use crate::lists::{Items, Labels, Letters};

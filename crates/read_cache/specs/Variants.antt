@@ -2,7 +2,7 @@
 use Rattle.std.specs.Prelude.{◌≡◌, ℕ, ◌+◌, ◌<◌, List, ◌∷◌, ◌++◌, length, take, drop, Contains}
 use Rattle.go_rules.specs.Position.{BoardState}
 use Rattle.go_base.specs.Facts.{Agrees}
-use Rattle.go_base.specs.Told.{told}
+use Rattle.go_base.specs.AmongFacts.{told}
 use Rattle.read_cache.specs.declared.variants.Variant.{Variant}
 
 -- how many variants of one question are kept

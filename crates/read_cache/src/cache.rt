@@ -3,7 +3,7 @@
 ghost use Rattle.std.specs.Prelude.{◌≡◌, ◌≤◌, ◌∷◌, Some, None, IfOk, OnOk, OnErr, IfSome, IfNone};
 ghost use Rattle.go_rules.specs.Position.{BoardState};
 ghost use Rattle.go_base.specs.Facts.{Agrees};
-ghost use Rattle.go_base.specs.Told.{told};
+ghost use Rattle.go_base.specs.AmongFacts.{told};
 ghost use Rattle.read_cache.specs.Kept.{no_questions, variants_of, put_first, kept_first, variants_with};
 ghost use Rattle.read_cache.specs.Kept.{IsRight, AreVariants, IsFound, IsMissing};
 ghost use Rattle.read_cache.specs.Places.{HasAt, StandsAt, front_of};

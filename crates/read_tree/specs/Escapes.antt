@@ -10,14 +10,14 @@ use Rattle.read_tree.specs.declared.turn.Turn.{Turn}
 use Rattle.read_tree.specs.Bound.{outlasts}
 
 -- x is known and not l, or an empty neighbour of l
-abbrev pub IsKept : ℕ → List Cell → set.FinSet nat_cmp → ℕ → ℕ → Type 0
-IsKept s cells known l x = ((set.contains known x ≡ true) × (x ≢ l)) ⊎ IsEmptyNeighbour s cells l x
+abbrev pub IsLibertyAfter : ℕ → List Cell → set.FinSet nat_cmp → ℕ → ℕ → Type 0
+IsLibertyAfter s cells known l x = ((set.contains known x ≡ true) × (x ≢ l)) ⊎ IsEmptyNeighbour s cells l x
 
 -- the defender may play at l, and keeps there too many of these liberties, with n plies left after it
 pub record RunsFree (n : ℕ) (turn : Turn) (here : BoardState) (known : set.FinSet nat_cmp) (l : ℕ) : Type 0 where
   pub free : is_banned here.ban turn.defender l ≡ false
   pub kept : set.FinSet nat_cmp
-  pub each : (x : ℕ) → set.contains kept x ≡ true → IsKept here.size here.cells known l x
+  pub each : (x : ℕ) → set.contains kept x ≡ true → IsLibertyAfter here.size here.cells known l x
   pub many : outlasts true n (turn.wide - 1) (set.len kept) ≡ true
 
 -- the target is the defender's, and he runs free at one of the known points

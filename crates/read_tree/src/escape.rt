@@ -9,7 +9,7 @@ ghost use Rattle.go_rules.specs.Strings.{cell_at};
 ghost use Rattle.go_base.specs.Facts.{Agrees, AddsIn};
 ghost use Rattle.go_base.specs.Views.{alone, neighbours_of};
 ghost use Rattle.trial_board.specs.Trials.{Stays, after};
-ghost use Rattle.read_tree.specs.Escapes.{IsKept, RunsFree, Escapes};
+ghost use Rattle.read_tree.specs.Escapes.{IsLibertyAfter, RunsFree, Escapes};
 
 use crate::apart::all_but;
 use crate::bound::outlasts;
@@ -41,7 +41,7 @@ fn kept_at<L: Look>(board: &mut Trial<L>, l: Point, known: &PointSet) -> PointSe
     requires { l < (L.shows board.old.look).size * (L.shows board.old.look).size }
     ensures stays { Stays L.shows L.seen board.old board.new }
     ensures over { (pos : BoardState) → Agrees (L.seen board.new.look) pos → (x : ℕ)
-        → IsTrue (set.contains result x) → IsKept pos.size (after pos board.old.moves).cells known.now l x }
+        → IsTrue (set.contains result x) → IsLibertyAfter pos.size (after pos board.old.moves).cells known.now l x }
     ensures near { (pos : BoardState) → Agrees (L.seen board.new.look) pos
         → AddsIn (L.seen board.old.look) (L.seen board.new.look) (neighbours_of pos.size l) }
 {

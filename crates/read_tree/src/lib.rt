@@ -16,14 +16,14 @@ mod escape;
 pub mod laws;
 mod order;
 pub mod reading;
-pub mod told;
+pub mod report;
 mod tree;
 pub mod turn;
 
 pub use allowances::Allowances;
 pub use read_rules::{Answer, Depths, Kind, Node, ReadingQuestion, Spot};
 pub use reading::{attack, defend};
-pub use told::Told;
+pub use report::Report;
 pub use turn::Turn;
 
 #[cfg(test)]

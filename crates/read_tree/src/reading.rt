@@ -18,7 +18,7 @@ ghost use Rattle.read_tree.specs.Steps.{first_turn, unread, better, IsBest, AreN
 
 use crate::allowances::Allowances;
 use crate::bound::has_too_many;
-use crate::told::Told;
+use crate::report::Report;
 use crate::tree::{pass_saves, succeeds};
 use crate::turn::Turn;
 use go_base::points::PointSet;
@@ -176,7 +176,7 @@ fn colour_of(cell: Cell) -> Colour
 }
 
 /// Reads a question of this kind.
-fn answered<L: Look>(look: L, kind: Kind, target: Point, depths: Depths) -> Told<L>
+fn answered<L: Look>(look: L, kind: Kind, target: Point, depths: Depths) -> Report<L>
     requires on_board { target < (L.shows look).size * (L.shows look).size }
     requires stone { cell_at (L.shows look).cells target ≢ Cell.Empty }
     ensures shown { L.shows result.look ≡ L.shows look }
@@ -209,7 +209,7 @@ fn answered<L: Look>(look: L, kind: Kind, target: Point, depths: Depths) -> Told
     let mut board = Trial::new(view);
     let answer = read(&mut board, &question);
     let trials = board.trials();
-    Told {
+    Report {
         answer,
         trials,
         look: board.finish(),
@@ -223,7 +223,7 @@ fn answered<L: Look>(look: L, kind: Kind, target: Point, depths: Depths) -> Told
 /// memory.
 ///
 /// After GNU Go Manual, "Tactical reading", on return codes; the tree itself is this project's own.
-pub fn attack<L: Look>(look: L, target: Point, depths: Depths) -> Told<L>
+pub fn attack<L: Look>(look: L, target: Point, depths: Depths) -> Report<L>
     requires on_board { target < (L.shows look).size * (L.shows look).size }
     requires stone { cell_at (L.shows look).cells target ≢ Cell.Empty }
     ensures shown { L.shows result.look ≡ L.shows look }
@@ -263,7 +263,7 @@ pub fn attack<L: Look>(look: L, target: Point, depths: Depths) -> Told<L>
 /// order that attains the code. Takes no memory.
 ///
 /// After GNU Go Manual, "Tactical reading", on return codes; the tree itself is this project's own.
-pub fn defend<L: Look>(look: L, target: Point, depths: Depths) -> Told<L>
+pub fn defend<L: Look>(look: L, target: Point, depths: Depths) -> Report<L>
     requires on_board { target < (L.shows look).size * (L.shows look).size }
     requires stone { cell_at (L.shows look).cells target ≢ Cell.Empty }
     ensures shown { L.shows result.look ≡ L.shows look }

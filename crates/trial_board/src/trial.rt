@@ -19,9 +19,9 @@ ghost use Rattle.trial_board.specs.Trials.{Trying, Stays, Moved, IsNoted, Put, m
 ghost use Rattle.trial_board.specs.Trials.{made_or_suicide, tail, is_some_move};
 
 use crate::captured::{MAX_CAPTURED, note, nothing_captured};
-use crate::kept::{Kept, nothing_kept};
 use crate::moves::{MAX_TRIAL_MOVES, TrialMove, TrialPlay, Tried};
 use crate::overlay::Overlay;
+use crate::undo::{Undo, nothing_kept};
 use go_base::ban::is_banned;
 use go_base::boundary::boundary_of;
 use go_base::capture::play_on;
@@ -43,7 +43,7 @@ pub struct Trial<L: Look> {
     ban: Option<(Point, Colour)>,
     /// The first `standing` of these are the moves that stand, the oldest first, each with what it took and the ban
     /// before it.
-    kept: [Kept; MAX_TRIAL_MOVES],
+    kept: [Undo; MAX_TRIAL_MOVES],
     standing: u8,
     /// The first `captured` of these are the points of the stones that the standing moves took, move by move.
     row: [Point; MAX_CAPTURED],
@@ -230,7 +230,7 @@ impl<L: Look> Trial<L> {
         requires { length self.old.moves < most_moves }
         ensures { self.new ≡ record self.old { moves = TrialMove.Pass ∷ self.old.moves } }
     {
-        self.kept[self.standing as usize] = Kept::new(TrialMove::Pass, self.ban, self.captured, 0);
+        self.kept[self.standing as usize] = Undo::new(TrialMove::Pass, self.ban, self.captured, 0);
         self.standing += 1;
         self.ban = None;
     }
@@ -286,7 +286,7 @@ impl<L: Look> Trial<L> {
                     at: p,
                     dropped,
                 });
-                self.kept[self.standing as usize] = Kept::new(made, self.ban, self.captured, taken);
+                self.kept[self.standing as usize] = Undo::new(made, self.ban, self.captured, taken);
                 self.standing += 1;
                 self.captured += taken;
                 self.ban = played.ban;

@@ -4,7 +4,7 @@ ghost use Rattle.go_rules.specs.Board.{largest_size};
 ghost use Rattle.std.specs.Prelude.{◌≡◌, ◌≤◌, ◌<◌, get_or, ◌==◌, ◌&&◌, ◌||◌, ◌+◌, not, ℕ, List, [], ◌∷◌, ◌++◌, length};
 ghost use Rattle.std.specs.Prelude.{map, drop, OnOk, IfErr, None};
 ghost use Rattle.std.specs.List.{list_any};
-ghost use Rattle.pat_types.specs.Kept.{names as some_has, are_apart as apart};
+ghost use Rattle.pat_types.specs.Labels.{names as some_has, are_apart as apart};
 ghost use Rattle.pat_types.specs.Diagrams.{drawn_strip};
 ghost use Rattle.db_rules.specs.Diagram.{is_letter};
 ghost use Rattle.db_rules.specs.Labels.{is_label as label, repeats as word_repeats, labels_from, labels_of_line};

@@ -2,7 +2,7 @@
 use Rattle.std.proofs.Common.{◌≡◌, ◌*◌, ◌∙◌, ap, sym, subst, Bool, false, true, not, ℤ, pos, ◌-ℤ◌, w64, of_z, to_z}
 use Rattle.std.proofs.Common.{arith}
 use Rattle.std.proofs.lemmas.Int.{to_z-of_z}
-use Rattle.pat_types.specs.Kept.{leaf_count}
+use Rattle.pat_types.specs.Labels.{leaf_count}
 use Rattle.cons_eval.specs.Bounds.{IsConstraint, IsWithin, most, most_leaves}
 use Rattle.cons_eval.specs.Meanings.{Meanings, are_placed}
 use Rattle.cons_eval.specs.Values.{worth, is_so, joined_value, value_of}

@@ -1,7 +1,7 @@
 -- The same answer, by the functions that compute the expression and the fault.
 use Rattle.std.proofs.lemmas.Result.{IfOk-weaker, IfErr-weaker}
 use Rattle.cons_parse.proofs.ReadingLemmas.{spells_tree, spells_fault, refuses_fault}
-use Rattle.cons_parse.proofs.KeptLemmas.{kept}
+use Rattle.cons_parse.proofs.EvaluableConstraints.{kept}
 use Rattle.cons_parse.proofs.parsing.parse.Goals as goal
 
 -- the expression is the computed one

@@ -5,7 +5,7 @@ use Rattle.std.proofs.lemmas.List.{length-map}
 use Rattle.std.specs.Prelude.{ℕ, is_some}
 use Rattle.db_rules.specs.Diagram.{is_row, shape_of, bar}
 use Rattle.db_rules.specs.Labels.{repeats, labels_of_line}
-use Rattle.pat_types.specs.Kept.{are_apart}
+use Rattle.pat_types.specs.Labels.{are_apart}
 use Rattle.pat_types.specs.Diagrams.{drawn_strip}
 use Rattle.db_entry.proofs.LineLemmas.{is_some-where}
 use Rattle.db_entry.proofs.LabelLemmas.{constraint_fault-past, kept_fault_at, kept_push, repeats-same}

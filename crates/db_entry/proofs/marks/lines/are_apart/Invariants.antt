@@ -1,5 +1,5 @@
 use Rattle.std.proofs.Common.{◌≡◌, drop}
-use Rattle.pat_types.specs.Kept.{are_apart as apart}
+use Rattle.pat_types.specs.Labels.{are_apart as apart}
 use Rattle.db_entry.proofs.marks.lines.are_apart.Given as goal
 
 -- no label so far has the letter of one behind it: the rest decides

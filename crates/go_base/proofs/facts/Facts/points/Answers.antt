@@ -2,7 +2,7 @@ use Rattle.std.proofs.Common.{ℕ, ◌≡◌, ◌<◌, ◌≤◌, false, ap, sym
 use Rattle.std.specs.FinSet as set
 use Rattle.go_rules.specs.Below.{set_below}
 use Rattle.go_rules.proofs.Sets.{set_below-none}
-use Rattle.go_base.specs.Told.{is_fact_at}
+use Rattle.go_base.specs.AmongFacts.{is_fact_at}
 use Rattle.go_base.proofs.About.{set_below-skip, set_below-next}
 use Rattle.go_base.proofs.facts.Facts.points.Goals as goal
 

@@ -1,6 +1,6 @@
 use Rattle.std.proofs.Common.{◌≡◌, ◌-◌, ◌≤◌}
 use Rattle.go_rules.specs.Below.{set_below}
-use Rattle.go_base.specs.Told.{is_fact_at}
+use Rattle.go_base.specs.AmongFacts.{is_fact_at}
 use Rattle.go_base.proofs.facts.Facts.points.Given as goal
 
 -- the points below the next one have come

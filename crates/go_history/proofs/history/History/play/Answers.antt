@@ -3,8 +3,8 @@ use Rattle.go_rules.specs.Replay.{moved}
 use Rattle.go_strings.specs.Games.{reached}
 use Rattle.go_history.specs.declared.history.HistoryError.TheVariants.{Illegal as illegal, NoMemory as no_memory}
 use Rattle.go_history.specs.Games.{most_moves, position_of}
-use Rattle.go_history.proofs.KeptGames.{shown_of, point_shown, room_to_count, IsKept-push}
-use Rattle.go_history.proofs.RefusedMoves.{Told, illegal_is, told_is, no_memory_is}
+use Rattle.go_history.proofs.HeldGames.{shown_of, point_shown, room_to_count, IsHistory-push}
+use Rattle.go_history.proofs.RefusedMoves.{MoveOutcome, illegal_is, told_is, no_memory_is}
 use Rattle.go_history.proofs.history.History.play.Goals as goal
 use Rattle.go_history.proofs.history.History.play.Goals.{After-self}
 
@@ -34,7 +34,7 @@ returns-in-Err-Illegal-clause-illegal c =
 pub returns-in-Err-NoMemory-clause-illegal : goal.returns-in-Err-NoMemory-clause-illegal
 returns-in-Err-NoMemory-clause-illegal c =
     let at = goal.at.returns-in-Err-NoMemory-clause-illegal c in λ e.
-    subst (λ pos. (◌≡◌ {A = Told} (Err no_memory) (Err (illegal e)))
+    subst (λ pos. (◌≡◌ {A = MoveOutcome} (Err no_memory) (Err (illegal e)))
     ↔ (moved pos c.args.m ≡ Err e)) (here at.After-self)
     (no_memory_is (moved (reached c.self.inside.board) c.args.m) e c.in-Err-NoMemory.field-0
     c.in-Err-NoMemory.field-0-is (c.in-Err-NoMemory.ensures.illegal e))
@@ -48,7 +48,7 @@ add-requires c = room_to_count c.self.inside c.args.m c.from.result c.args.m.col
 pub invariant_of-self-in-Ok-push : goal.invariant_of-self-in-Ok-push
 invariant_of-self-in-Ok-push c =
     let room : length c.self.inside.moves.items < most_moves = omega arith in
-    IsKept-push c.self.inside (record { board = c.make.new.self; moves = c.push.new.self; taken = c.add.new.self })
+    IsHistory-push c.self.inside (record { board = c.make.new.self; moves = c.push.new.self; taken = c.add.new.self })
     c.args.m c.from.result c.self.invariant (record {
       board = c.in-Ok.ensures.ok;
       allowed = c.in-Ok.ensures.allowed;

@@ -1,6 +1,6 @@
 use Rattle.std.proofs.Common.{IfSome, ◌*◌, ◌<◌, subst}
 use Rattle.go_strings.specs.Games.{reached}
-use Rattle.go_history.proofs.KeptGames.{point_shown}
+use Rattle.go_history.proofs.HeldGames.{point_shown}
 use Rattle.go_history.proofs.history.History.refused_when_full.Goals as goal
 
 -- the point is on the board

@@ -1,6 +1,6 @@
 use Rattle.std.proofs.Common.{ap, ◌∙◌}
 use Rattle.go_history.specs.Games.{Game}
-use Rattle.go_history.proofs.KeptGames.{size_shown}
+use Rattle.go_history.proofs.HeldGames.{size_shown}
 use Rattle.go_history.proofs.history.History.size.Goals as goal
 
 -- the board has the size of the game

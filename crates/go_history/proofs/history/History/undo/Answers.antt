@@ -1,5 +1,5 @@
 use Rattle.std.proofs.Common.{◌∙◌}
-use Rattle.go_history.proofs.KeptGames.{counted, IsKept-pop}
+use Rattle.go_history.proofs.HeldGames.{counted, IsHistory-pop}
 use Rattle.go_history.proofs.history.History.undo.Goals as goal
 
 -- the stones of the last move were counted
@@ -12,7 +12,7 @@ remove-requires c =
 -- the moves that are left are kept
 pub invariant_of-self-2 : goal.invariant_of-self-2
 invariant_of-self-2 c =
-    IsKept-pop c.self.inside (record { board = c.back.new.self; moves = c.pop.new.self; taken = c.remove.new.self })
+    IsHistory-pop c.self.inside (record { board = c.back.new.self; moves = c.pop.new.self; taken = c.remove.new.self })
     c.in-Some.m c.from.result c.self.invariant (record {
       moves = c.in-Some.ensures.items;
       board = c.back.ensures.back;

@@ -4,7 +4,7 @@ use Rattle.std.proofs.Common.{refl, ap, ◌∙◌, subst, arith, IsTrue}
 use Rattle.std.proofs.lemmas.Bool.{le-leb}
 use Rattle.pat_types.specs.declared.pattern.LabelAt.{LabelAt}
 use Rattle.pat_types.specs.declared.expr.Expr.{Expr}
-use Rattle.pat_types.specs.Kept.{can_evaluate, leaf_count, is_constraint}
+use Rattle.pat_types.specs.Labels.{can_evaluate, leaf_count, is_constraint}
 use Rattle.cons_parse.specs.declared.error.ConsError.TheVariants.{TooDeep, UnknownFunction, Arity, UnknownLabel}
 use Rattle.cons_parse.specs.declared.calls.Item.{Item}
 use Rattle.cons_parse.specs.Grammar.{Written}

@@ -5,16 +5,16 @@ use Rattle.go_rules.specs.declared.Colour.{Colour}
 use Rattle.go_rules.specs.declared.Colour.TheVariants.{Black, White}
 use Rattle.trial_board.specs.declared.moves.TrialMove.{TrialMove}
 use Rattle.trial_board.specs.declared.moves.TrialMove.TheVariants.{Pass, Play}
-use Rattle.trial_board.specs.declared.kept.Mover.{Mover}
-use Rattle.trial_board.specs.declared.kept.Mover.TheVariants.{Nobody, Black as by_black, White as by_white}
-use Rattle.trial_board.specs.declared.kept.Mover.TheVariants.{BlackAgainstBan, WhiteAgainstBan}
-use Rattle.trial_board.specs.declared.kept.Banned.{Banned}
-use Rattle.trial_board.specs.declared.kept.Banned.TheVariants.{Nobody as no_one}
-use Rattle.trial_board.specs.declared.kept.Banned.TheVariants.{Black as bans_black, White as bans_white}
-use Rattle.trial_board.specs.declared.kept.Kept.TheInside.{Inside}
+use Rattle.trial_board.specs.declared.undo.Mover.{Mover}
+use Rattle.trial_board.specs.declared.undo.Mover.TheVariants.{Nobody, Black as by_black, White as by_white}
+use Rattle.trial_board.specs.declared.undo.Mover.TheVariants.{BlackAgainstBan, WhiteAgainstBan}
+use Rattle.trial_board.specs.declared.undo.Banned.{Banned}
+use Rattle.trial_board.specs.declared.undo.Banned.TheVariants.{Nobody as no_one}
+use Rattle.trial_board.specs.declared.undo.Banned.TheVariants.{Black as bans_black, White as bans_white}
+use Rattle.trial_board.specs.declared.undo.Undo.TheInside.{Inside}
 
 -- a move, the ban before it, where the points of the stones that it took begin in the row, and how many they are
-pub record KeptMove : Type 0 where
+pub record UndoableMove : Type 0 where
   pub made : TrialMove
   pub ban : Option (ℕ × Colour)
   pub first : ℕ
@@ -67,7 +67,7 @@ ban_place_of None = 0
 ban_place_of (Some b) = b.0
 
 -- what the fields keep
-abbrev pub kept_move : Inside → KeptMove
+abbrev pub kept_move : Inside → UndoableMove
 kept_move a = record { made = made_of a.by a.at; ban = ban_of a.banned a.ban_at; first = a.first; taken = a.taken }
 
 -- a point that says nothing is the first
@@ -76,7 +76,7 @@ pub record IsPlain (a : Inside) : Type 0 where
   pub ban_at : ban_place_of (ban_of a.banned a.ban_at) ≡ a.ban_at
 
 -- the fields that keep a move
-abbrev pub fields_of : KeptMove → Inside
+abbrev pub fields_of : UndoableMove → Inside
 fields_of k = record {
   at = place_of k.made;
   ban_at = ban_place_of k.ban;

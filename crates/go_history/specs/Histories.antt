@@ -13,7 +13,7 @@ game_of a = record { size = a.board.base.size; moves = a.moves.items }
 
 -- the moves are a legal game of not too many moves from the empty board, the board has made them, and their captures
 -- are counted
-pub record IsKept (a : Inside) : Type 0 where
+pub record IsHistory (a : Inside) : Type 0 where
   pub small : a.board.base.size ≤ largest_size
   pub base : a.board.base ≡ empty_board a.board.base.size
   pub moves : a.board.moves ≡ a.moves.items

@@ -4,7 +4,7 @@ use read_rules::Answer;
 
 /// What a reading found, how many plays it tried, and its view of the position, handed back as it is then.
 #[derive(Drop)]
-pub struct Told<L> {
+pub struct Report<L> {
     /// The code and the first move that attains it.
     pub answer: Answer,
     /// How many trial plays were made.

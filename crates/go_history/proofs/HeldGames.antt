@@ -13,7 +13,7 @@ use Rattle.go_rules.specs.Replay.{empty_board, moved, replay, replay_from, captu
 use Rattle.go_strings.specs.Games.{BoardGame, reached, after}
 use Rattle.go_history.specs.Games.{Game, most_moves, position_of}
 use Rattle.go_history.specs.Taken.{taken_of}
-use Rattle.go_history.specs.Kept.{game_of, IsKept}
+use Rattle.go_history.specs.Histories.{game_of, IsHistory}
 use Rattle.go_history.specs.declared.history.History.TheInside.{Inside}
 use Rattle.go_history.proofs.GameLemmas.{IsLegalGame-take, captures_from-nil, captures_from-push, captures_from-bound}
 use Rattle.go_history.proofs.GameLemmas.{taken_by-bound}
@@ -21,31 +21,31 @@ use Rattle.go_strings.proofs.LeadingMoves.{IsLegalGame-push}
 use Rattle.go_rules.proofs.CaptureLaws.{replay_size}
 
 -- what the board shows is the replay of the moves
-pub shown : (a : Inside) → IsKept a → reached a.board ≡ replay a.board.base.size a.moves.items
+pub shown : (a : Inside) → IsHistory a → reached a.board ≡ replay a.board.base.size a.moves.items
 shown a kept = ap (λ b. replay_from b a.board.moves) kept.base ∙ ap (replay a.board.base.size) kept.moves
 
 -- what the board shows is the position of the game that is seen
-pub shown_of : (a : Inside) (game : Game) → IsKept a → game_of a ≡ game → reached a.board ≡ position_of game
+pub shown_of : (a : Inside) (game : Game) → IsHistory a → game_of a ≡ game → reached a.board ≡ position_of game
 shown_of a game kept view = shown a kept ∙ ap position_of view
 
 -- the board has the size of the game
-pub size_shown : (a : Inside) → IsKept a → (reached a.board).size ≡ a.board.base.size
+pub size_shown : (a : Inside) → IsHistory a → (reached a.board).size ≡ a.board.base.size
 size_shown a kept = ap (λ (pos : BoardState). pos.size) (shown a kept)
     ∙ replay_size (empty_board a.board.base.size) a.moves.items
 
 -- a move's point on the board of the game is on the board that is shown
-pub point_shown : (a : Inside) (game : Game) (m : Move) → IsKept a → game_of a ≡ game
+pub point_shown : (a : Inside) (game : Game) (m : Move) → IsHistory a → game_of a ≡ game
     → IfSome m.at (λ p. p < game.size * game.size)
     → IfSome m.at (λ p. p < (reached a.board).size * (reached a.board).size)
 point_shown a game m kept view on =
     subst (λ s. IfSome m.at (λ p. p < s * s)) (sym (size_shown a kept ∙ ap (λ (g : Game). g.size) view)) on
 
 -- moves of a legal game on a board of size s, with their captures counted, are kept
-pub IsKept-from : (s : ℕ) (ms : List Move) (a : Inside) → a.board.base ≡ empty_board s → a.board.moves ≡ ms
+pub IsHistory-from : (s : ℕ) (ms : List Move) (a : Inside) → a.board.base ≡ empty_board s → a.board.moves ≡ ms
     → a.moves.items ≡ ms
     → s ≤ largest_size → IsLegalGame (empty_board s) ms → length ms ≤ most_moves
-    → ((c : Colour) → taken_of a.taken c ≡ captures s c ms) → IsKept a
-IsKept-from s ms a base moves items small legal few taken =
+    → ((c : Colour) → taken_of a.taken c ≡ captures s c ms) → IsHistory a
+IsHistory-from s ms a base moves items small legal few taken =
     let size : s ≡ a.board.base.size = sym (ap (λ (pos : BoardState). pos.size) base) in
     record {
       small = subst (λ n. n ≤ largest_size) size small;
@@ -58,11 +58,11 @@ IsKept-from s ms a base moves items small legal few taken =
     }
 
 -- no moves are kept
-pub IsKept-none : (s : ℕ) (base : BoardState) (a : Inside) → a.board ≡ record { base = base; moves = [] }
+pub IsHistory-none : (s : ℕ) (base : BoardState) (a : Inside) → a.board ≡ record { base = base; moves = [] }
     → base ≡ empty_board s
-    → a.moves.items ≡ [] → s ≤ largest_size → ((c : Colour) → taken_of a.taken c ≡ 0) → IsKept a
-IsKept-none s base a board is items small taken =
-    IsKept-from s [] a (ap (λ (g : BoardGame). g.base) board
+    → a.moves.items ≡ [] → s ≤ largest_size → ((c : Colour) → taken_of a.taken c ≡ 0) → IsHistory a
+IsHistory-none s base a board is items small taken =
+    IsHistory-from s [] a (ap (λ (g : BoardGame). g.base) board
     ∙ is) (ap (λ (g : BoardGame). g.moves) board) items small tt
     (omega arith) (λ c. taken c ∙ sym (captures_from-nil (empty_board s) c))
 
@@ -82,13 +82,13 @@ pub record Makes (old new : Inside) (m : Move) (n : ℕ) : Type 0 where
   pub taken : (c : Colour) → taken_of new.taken c ≡ taken_of old.taken c + cond (same_colour m.colour c) n 0
 
 -- the longer list is kept
-pub IsKept-push : (old new : Inside) (m : Move) (n : ℕ) → IsKept old → Makes old new m n → IsKept new
-IsKept-push old new m n kept made =
+pub IsHistory-push : (old new : Inside) (m : Move) (n : ℕ) → IsHistory old → Makes old new m n → IsHistory new
+IsHistory-push old new m n kept made =
     let s = old.board.base.size in
     let ms = old.moves.items in
     let legal : IsLegalMove (replay s ms) m = subst (λ pos. IsLegalMove pos m) (shown old kept)
     (record { on_board = made.on_board; allowed = ok_next (moved (reached old.board) m) made.allowed }) in
-    IsKept-from s (ms ++ m ∷ []) new (ap (λ (g : BoardGame). g.base) made.board ∙ kept.base)
+    IsHistory-from s (ms ++ m ∷ []) new (ap (λ (g : BoardGame). g.base) made.board ∙ kept.base)
     (ap (λ (g : BoardGame). g.moves) made.board ∙ ap (λ l. l ++ m ∷ []) kept.moves) made.moves kept.small
     (IsLegalGame-push (empty_board s) ms m kept.legal legal) (longer ms m made.room)
     (λ c. made.taken c ∙ ap (λ k. k + cond (same_colour m.colour c) n 0) (kept.taken c)
@@ -100,7 +100,7 @@ IsKept-push old new m n kept made =
     longer ms m room = omega (arith, length-append ms (m ∷ []))
 
 -- the counts have room for the stones of one more move
-pub room_to_count : (a : Inside) (m : Move) (n : ℕ) (c : Colour) → IsKept a
+pub room_to_count : (a : Inside) (m : Move) (n : ℕ) (c : Colour) → IsHistory a
     → n ≡ taken_by (reached a.board) m.colour m.at
     → taken_of a.taken c + n < 2 ^ 32
 room_to_count a m n c kept is =
@@ -121,7 +121,7 @@ pub record TakesBack (old new : Inside) (m : Move) (n : ℕ) : Type 0 where
   pub taken : (c : Colour) → taken_of new.taken c ≡ taken_of old.taken c - cond (same_colour m.colour c) n 0
 
 -- what the moves but the last took, and what the last took
-captures_split : (old : Inside) (ms : List Move) (m : Move) (n : ℕ) (c : Colour) → IsKept old
+captures_split : (old : Inside) (ms : List Move) (m : Move) (n : ℕ) (c : Colour) → IsHistory old
     → old.moves.items ≡ ms ++ m ∷ []
     → n ≡ taken_by (replay_from old.board.base ms) m.colour m.at
     → taken_of old.taken c ≡ captures old.board.base.size c ms + cond (same_colour m.colour c) n 0
@@ -132,7 +132,7 @@ captures_split old ms m n c kept moves stones =
     (sym (stones ∙ ap (λ b. taken_by (replay_from b ms) m.colour m.at) kept.base))
 
 -- the last move's stones were counted
-pub counted : (old : Inside) (ms : List Move) (m : Move) (n : ℕ) → IsKept old → old.moves.items ≡ ms ++ m ∷ []
+pub counted : (old : Inside) (ms : List Move) (m : Move) (n : ℕ) → IsHistory old → old.moves.items ≡ ms ++ m ∷ []
     → n ≡ taken_by (replay_from old.board.base ms) m.colour m.at → n ≤ taken_of old.taken m.colour
 counted old ms m n kept moves stones =
     let split = captures_split old ms m n m.colour kept moves stones in
@@ -144,11 +144,11 @@ counted old ms m n kept moves stones =
     same_as_itself White = refl
 
 -- the moves that are left are kept
-pub IsKept-pop : (old new : Inside) (m : Move) (n : ℕ) → IsKept old → TakesBack old new m n → IsKept new
-IsKept-pop old new m n kept back =
+pub IsHistory-pop : (old new : Inside) (m : Move) (n : ℕ) → IsHistory old → TakesBack old new m n → IsHistory new
+IsHistory-pop old new m n kept back =
     let s = old.board.base.size in
     let ms = new.moves.items in
-    IsKept-from s ms new (ap (λ (g : BoardGame). g.base) back.board ∙ kept.base)
+    IsHistory-from s ms new (ap (λ (g : BoardGame). g.base) back.board ∙ kept.base)
     (ap (λ (g : BoardGame). g.moves) back.board ∙ front_of old.board.moves ms m (kept.moves
     ∙ back.moves)) refl kept.small
     (subst (IsLegalGame (empty_board s)) (take_front ms m)

@@ -10,7 +10,7 @@ abbrev pub text_kept : Inside → List ℕ
 text_kept a = take a.len a.bytes
 
 -- the text lies within its room, and zeros stand behind it
-pub record IsKept (a : Inside) : Type 0 where
+pub record IsKomiText (a : Inside) : Type 0 where
   pub within : a.len ≤ komi_room
   pub whole : length a.bytes ≡ komi_room
   pub padded : drop a.len a.bytes ≡ replicate (komi_room - a.len) 0
@@ -20,11 +20,11 @@ abbrev pub kept_of : List ℕ → Inside
 kept_of text = record { bytes = text ++ replicate (komi_room - length text) 0; len = length text }
 
 -- the length of the text is the length that is kept
-pub length-text_kept : (a : Inside) → IsKept a → length (text_kept a) ≡ a.len
+pub length-text_kept : (a : Inside) → IsKomiText a → length (text_kept a) ≡ a.len
 length-text_kept a h = simp length-take (omega (arith, h.within, h.whole))
 
 -- the fields come back from the text
-pub kept_of-text_kept : (a : Inside) → IsKept a → kept_of (text_kept a) ≡ a
+pub kept_of-text_kept : (a : Inside) → IsKomiText a → kept_of (text_kept a) ≡ a
 kept_of-text_kept a h =
     ap (λ (n : ℕ). record { bytes = text_kept a ++ replicate (komi_room - n) 0; len = n }) (length-text_kept a h)
     ∙ ap (λ (bytes : List ℕ). record { bytes = bytes; len = a.len })
