@@ -117,8 +117,8 @@ no_syntax false false true h = cc
 no_syntax false false false h = cc
 
 -- a fault of the calls is refused rightly
-pub call_refused : (labels : List LabelAt) (text : List ℕ) (items : List Item) (e : ConsError) → IsScanned text items false
-    → call_fault labels items ≡ Some e → Refuses labels text e
+pub call_refused : (labels : List LabelAt) (text : List ℕ) (items : List Item) (e : ConsError)
+    → IsScanned text items false → call_fault labels items ≡ Some e → Refuses labels text e
 call_refused labels text items Syntax t h =
     absurd (no_syntax (list_any (calls is_unknown_call) items) (list_any (calls misses) items)
     (list_any (calls (is_unlabelled labels)) items) h)

@@ -141,8 +141,8 @@ impl Readings {
         Some(answer)
     }
 
-    /// Reads afresh, counts the reading and keeps it, or counts that there was no memory for it. It stands apart from its
-    /// caller, so that a kept reading does not pay for its locals.
+    /// Reads afresh, counts the reading and keeps it, or counts that there was no memory for it. It stands apart from
+    /// its caller, so that a kept reading does not pay for its locals.
     #[inline(never)]
     fn read_and_keep(&mut self, key: Key, kind: Kind, position: &Position, target: Point) -> Answer
         requires on_board { target < position.now.size * position.now.size }

@@ -52,7 +52,8 @@ pub record ServesInMemory (helpers : List SlotState) (words : List (List ℕ)) (
 -- by how far a run came: before the lines nothing was taken and nothing put
 abbrev pub ComesTo : List SlotState → List (List ℕ) → (List ℕ → Option (List ℕ)) → List ℕ → List ℕ → List ℕ → List ℕ → ℕ
     → Phase → Type 0
-ComesTo helpers words contents input rest old new piece NotTaken = (is_taken words ≡ false) × (rest ≡ input) × (new ≡ old)
+ComesTo helpers words contents input rest old new piece NotTaken =
+    (is_taken words ≡ false) × (rest ≡ input) × (new ≡ old)
 ComesTo helpers words contents input rest old new piece (NotOpened error) =
     IsUnopened helpers words contents error × (rest ≡ input)
     × (new ≡ old)
