@@ -56,7 +56,6 @@ pub fn wide_candidates<L: Look>(
     target: Point,
     liberties: &PointSet,
 ) -> PointSet
-    requires room { length board.old.moves < most_moves }
     requires on_board { target < (L.shows board.old.look).size * (L.shows board.old.look).size }
     requires liberties { (pos : BoardState) → Agrees (L.seen board.old.look) pos
         → liberties.now ≡ liberty_points pos.size (after pos board.old.moves).cells target }

@@ -1,13 +1,13 @@
 //! The candidates off the liberties of the target, by stages: the captures of enemy strings next to it, and the others,
 //! which are candidates only where a wide ply is left.
 
-ghost use Rattle.std.specs.Prelude.{◌≡◌, ℕ, ◌*◌, ◌<◌, length};
+ghost use Rattle.std.specs.Prelude.{◌≡◌, ℕ, ◌*◌, ◌<◌};
 ghost use Rattle.std.specs.FinSet as set;
 ghost use Rattle.go_rules.specs.Position.{BoardState};
 ghost use Rattle.go_rules.specs.Strings.{liberty_points};
 ghost use Rattle.go_base.specs.Facts.{Agrees, AddsIn};
 ghost use Rattle.trial_board.specs.Overlays.{neighbourhood_twice};
-ghost use Rattle.trial_board.specs.Trials.{Stays, most_moves, after};
+ghost use Rattle.trial_board.specs.Trials.{Stays, after};
 ghost use Rattle.read_rules.specs.Candidates.{near_candidates};
 ghost use Rattle.read_tree.specs.Stages.{is_capture, is_other};
 
@@ -39,7 +39,6 @@ pub fn others_of<L: Look>(
     known: &PointSet,
     captures: &PointSet,
 ) -> PointSet
-    requires room { length board.old.moves < most_moves }
     requires target { target < (L.shows board.old.look).size * (L.shows board.old.look).size }
     requires liberties { (pos : BoardState) → Agrees (L.seen board.old.look) pos
         → known.now ≡ liberty_points pos.size (after pos board.old.moves).cells target }
