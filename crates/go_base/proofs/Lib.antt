@@ -1,6 +1,7 @@
 pub mod Marks
 pub mod JoinedMarks
 pub mod Lowest
+pub mod WordBits
 pub mod UsedWords
 pub mod SidesOfPoints
 pub mod FloodResults

@@ -1,6 +1,6 @@
 //! A bit for each point of the largest board.
 
-ghost use Rattle.std.specs.Prelude.{◌≡◌, ◌≢◌, ℕ, ◌/◌, ◌<◌, ◌≤◌, ◌||◌, IsTrue, false};
+ghost use Rattle.std.specs.Prelude.{◌≡◌, ◌≢◌, ℕ, ◌/◌, ◌<◌, ◌≤◌, ◌||◌, ◌+◌, IsTrue, true, false};
 ghost use Rattle.std.specs.Prelude.{IfSome, IfNone, Some, None, nat_lt, if◌then◌else◌};
 ghost use Rattle.std.specs.Int.{bit_at};
 ghost use Rattle.go_rules.specs.Board.{largest_points};
@@ -93,6 +93,24 @@ impl PointBits {
         first_marked(&self.words, first, end)
     }
 
+    /// Whether the test says yes of each point below `end` whose bit is set. A point without a bit is not asked for, nor
+    /// is any after the first where the test says no.
+    pub fn all_below<F: Fn(Point) -> bool>(&self, end: u16, test: F) -> bool
+        requires bound { end ≤ largest_points }
+        requires asked { (q : ℕ) → q < end → F.pre test q }
+        ensures yes { IsTrue result → (q : ℕ) → q < end → IsTrue (is_marked self.now q) → F.post test q true }
+        ensures no { result ≡ false → (q : ℕ) × (q < end) × IsTrue (is_marked self.now q) × F.post test q false }
+    {
+        let mut base = 0;
+        while base < end {
+            if !all_of_word(self.words[base as usize / 64], base, end, &test) {
+                return false;
+            }
+            base += WORD_BITS;
+        }
+        true
+    }
+
     /// The least point from `first` on whose bit is set, None exactly where there is none. Of the words, `used` notes
     /// those that have a bit, and the others are passed over.
     pub(crate) fn first_in_use(&self, used: u16, first: u16) -> Option<Point>
@@ -154,6 +172,30 @@ fn point_below(q: u16, end: u16) -> Option<Point>
     ensures { result ≡ (if nat_lt q end then Some q else None) }
 {
     if q < end { Some(q) } else { None }
+}
+
+// Whether the test says yes of each point below `end` that the word marks, whose bits are those of the points from
+// `base` on.
+fn all_of_word<F: Fn(Point) -> bool>(word: u64, base: Point, end: u16, test: &F) -> bool
+    requires bound { end ≤ largest_points }
+    requires below { base < end }
+    requires asked { (q : ℕ) → q < end → F.pre test.now q }
+    ensures yes { IsTrue result → (k : ℕ) → base + k < end → bit_at word k ≡ 1 → F.post test.now (base + k) true }
+    ensures no { result ≡ false
+        → (k : ℕ) × (k < 64) × (base + k < end) × (bit_at word k ≡ 1) × F.post test.now (base + k) false }
+{
+    let mut rest = word;
+    while rest != 0 {
+        let bit = rest.trailing_zeros() as u16;
+        if base + bit >= end {
+            return true;
+        }
+        if !test(base + bit) {
+            return false;
+        }
+        rest &= !(1 << bit);
+    }
+    true
 }
 
 // The place of the lowest set bit that is not below `from`, and 64 where there is none.

@@ -157,15 +157,7 @@ impl Facts {
 fn all_show(points: &PointBits, cell: Cell, position: &Position) -> bool
     ensures { IsTrue result ↔ AllShow points.now cell position.now }
 {
-    let end = position.size().points();
-    let mut next = 0;
-    while let Some(q) = points.first_from(next, end) {
-        if position.cell(q) != cell {
-            return false;
-        }
-        next = q + 1;
-    }
-    true
+    points.all_below(position.size().points(), |q| position.cell(q) == cell)
 }
 
 /// Whether at each marked point of the board the position's ban forbids the colour exactly where this ban does.
@@ -177,13 +169,8 @@ fn ban_stays(
 ) -> bool
     ensures { IsTrue result ↔ BanStays points.now ban c position.now }
 {
-    let end = position.size().points();
-    let mut next = 0;
-    while let Some(q) = points.first_from(next, end) {
-        if is_banned(ban, c, q) != position.bans(c, q) {
-            return false;
-        }
-        next = q + 1;
-    }
-    true
+    points.all_below(
+        position.size().points(),
+        |q| is_banned(ban, c, q) == position.bans(c, q),
+    )
 }
