@@ -1,7 +1,7 @@
 //! A position with trial moves that can be taken back.
 
 ghost use Rattle.std.specs.Prelude.{◌≡◌, ℕ, ◌+◌, ◌*◌, ◌-◌, ◌^◌, ◌<◌, ◌≤◌, min, Bool, IsTrue, true, false, not, ◌&&◌};
-ghost use Rattle.std.specs.Prelude.{[], ◌∷◌, length};
+ghost use Rattle.std.specs.Prelude.{[], ◌∷◌, length, ◌↔◌, IsNone, IfSome};
 ghost use Rattle.std.specs.FinSet as set;
 ghost use Rattle.go_rules.specs.Strings.{cell_at, liberty_points};
 ghost use Rattle.go_rules.specs.Boundary.{boundary_points};
@@ -17,8 +17,10 @@ ghost use Rattle.trial_board.specs.declared.moves.TrialPlay.{TrialPlay};
 ghost use Rattle.trial_board.specs.SomeLiberties.{FindsLiberties};
 ghost use Rattle.trial_board.specs.Trials.{Trying, Stays, Moved, IsNoted, Put, most_moves, after, tried, tried_free};
 ghost use Rattle.trial_board.specs.Trials.{made_or_suicide, tail, is_some_move};
+ghost use Rattle.trial_board.specs.Changed.{changed};
 
 use crate::captured::{MAX_CAPTURED, note, nothing_captured};
+use crate::changes::{Changes, changes_of};
 use crate::moves::{MAX_TRIAL_MOVES, TrialMove, TrialPlay, Tried};
 use crate::overlay::Overlay;
 use crate::undo::{Undo, nothing_kept};
@@ -223,6 +225,25 @@ impl<L: Look> Trial<L> {
             return self.board.look.ko(p, c);
         }
         is_banned(self.ban, c, p)
+    }
+
+    /// What the standing moves changed of the position, None exactly where no move stands: the ban of the position is
+    /// not told then. It looks at no point.
+    pub fn changes(&self) -> Option<Changes>
+        ensures none { IsNone result ↔ (self.now.moves ≡ []) }
+        ensures over { (pos : BoardState) → Agrees (L.seen self.now.look) pos
+            → IfSome result (λ c. after pos self.now.moves ≡ changed pos c) }
+    {
+        if self.standing == 0 {
+            return None;
+        }
+        Some(changes_of(
+            &self.board.known,
+            &self.kept,
+            self.standing,
+            &self.row,
+            self.ban,
+        ))
     }
 
     /// Adds a pass, which lifts the ban.

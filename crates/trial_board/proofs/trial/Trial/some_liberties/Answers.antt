@@ -1,5 +1,5 @@
 -- What the search found of the liberties, on the board after the moves.
-use Rattle.std.proofs.Common.{ℕ, List, sym, subst, ◌∙◌}
+use Rattle.std.proofs.Common.{ℕ, List, sym, subst}
 use Rattle.go_rules.specs.declared.Cell.{Cell}
 use Rattle.go_base.specs.declared.flood.Found.{Found}
 use Rattle.go_base.specs.Floods.{Searches}
