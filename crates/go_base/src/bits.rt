@@ -93,8 +93,8 @@ impl PointBits {
         first_marked(&self.words, first, end)
     }
 
-    /// Whether the test says yes of each point below `end` whose bit is set. A point without a bit is not asked for, nor
-    /// is any after the first where the test says no.
+    /// Whether the test says yes of each point below `end` whose bit is set. No other point is asked for, and none
+    /// after the first where the test says no.
     pub fn all_below<F: Fn(Point) -> bool>(&self, end: u16, test: F) -> bool
         requires bound { end ≤ largest_points }
         requires asked { (q : ℕ) → q < end → F.pre test q }
@@ -102,13 +102,14 @@ impl PointBits {
         ensures no { result ≡ false → (q : ℕ) × (q < end) × IsTrue (is_marked self.now q) × F.post test q false }
     {
         let mut base = 0;
-        while base < end {
-            if !all_of_word(self.words[base as usize / 64], base, end, &test) {
+        while base + WORD_BITS <= end {
+            if !all_of_word(self.words[base as usize / 64], base, &test) {
                 return false;
             }
             base += WORD_BITS;
         }
-        true
+        let below = (1 << (end - base)) - 1;
+        all_of_word(self.words[base as usize / 64] & below, base, &test)
     }
 
     /// The least point from `first` on whose bit is set, None exactly where there is none. Of the words, `used` notes
@@ -174,26 +175,20 @@ fn point_below(q: u16, end: u16) -> Option<Point>
     if q < end { Some(q) } else { None }
 }
 
-// Whether the test says yes of each point below `end` that the word marks, whose bits are those of the points from
-// `base` on.
-fn all_of_word<F: Fn(Point) -> bool>(word: u64, base: Point, end: u16, test: &F) -> bool
-    requires bound { end ≤ largest_points }
-    requires below { base < end }
-    requires asked { (q : ℕ) → q < end → F.pre test.now q }
-    ensures yes { IsTrue result → (k : ℕ) → base + k < end → bit_at word k ≡ 1 → F.post test.now (base + k) true }
-    ensures no { result ≡ false
-        → (k : ℕ) × (k < 64) × (base + k < end) × (bit_at word k ≡ 1) × F.post test.now (base + k) false }
+// Whether the test says yes of each point that the word marks, whose bits are those of the points from `base` on.
+fn all_of_word<F: Fn(Point) -> bool>(word: u64, base: Point, test: &F) -> bool
+    requires below { base < largest_points }
+    requires asked { (k : ℕ) → k < 64 → bit_at word k ≡ 1 → F.pre test.now (base + k) }
+    ensures yes { IsTrue result → (k : ℕ) → k < 64 → bit_at word k ≡ 1 → F.post test.now (base + k) true }
+    ensures no { result ≡ false → (k : ℕ) × (k < 64) × (bit_at word k ≡ 1) × F.post test.now (base + k) false }
 {
     let mut rest = word;
     while rest != 0 {
         let bit = rest.trailing_zeros() as u16;
-        if base + bit >= end {
-            return true;
-        }
         if !test(base + bit) {
             return false;
         }
-        rest &= !(1 << bit);
+        rest &= rest - 1;
     }
     true
 }

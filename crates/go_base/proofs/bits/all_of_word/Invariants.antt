@@ -6,8 +6,7 @@ use Rattle.go_base.proofs.bits.all_of_word.Given as goal
 abbrev pub invariant-loop-rest : goal.invariant-loop-rest
 invariant-loop-rest g l = record {
   left : (k : ℕ) → bit_at l.rest k ≡ 1 → bit_at l.word k ≡ 1;
-  passed : (k : ℕ) → l.base + k < l.end → bit_at l.word k ≡ 1 → bit_at l.rest k ≡ 0
-      → goal.F-post g l.test (l.base + k) true;
+  passed : (k : ℕ) → k < 64 → bit_at l.word k ≡ 1 → bit_at l.rest k ≡ 0 → goal.F-post g l.test (l.base + k) true;
 }
 
 -- each bit that is cleared makes the word less
