@@ -8,3 +8,4 @@ pub mod CarryLemmas
 pub mod OrderLemmas
 pub mod AtariLemmas
 pub mod EscapeLemmas
+pub mod TableLemmas

@@ -71,6 +71,22 @@ without a b = record {
   attacker = a.attacker && not b.attacker;
 }
 
+-- those that are in both sets
+abbrev pub both : Allowances → Allowances → Allowances
+both a b = record {
+  defender = a.defender && b.defender;
+  neither = a.neither && b.neither;
+  attacker = a.attacker && b.attacker;
+}
+
+-- those that are in one of the sets
+abbrev pub either : Allowances → Allowances → Allowances
+either a b = record {
+  defender = a.defender || b.defender;
+  neither = a.neither || b.neither;
+  attacker = a.attacker || b.attacker;
+}
+
 -- the allowance of the attacker, or else of the defender, where it is to be there
 abbrev pub own_where : Bool → Bool → Allowances
 own_where attacker there = record { defender = not attacker && there; neither = false; attacker = attacker && there }

@@ -3,6 +3,7 @@ pub mod Bound
 pub mod Escapes
 pub mod Stages
 pub mod Steps
+pub mod Table
 pub use Rattle.read_rules.specs.GameTree
 pub use Rattle.read_rules.specs.Answer
 pub use Rattle.read_rules.specs.ActiveArea

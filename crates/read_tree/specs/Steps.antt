@@ -5,8 +5,8 @@ use Rattle.std.specs.Ordering.{nat_cmp}
 use Rattle.std.specs.FinSet as set
 use Rattle.go_rules.specs.Strings.{cell_at, is_liberty, liberties}
 use Rattle.go_rules.specs.Position.{BoardState, IsPosition, other, stone_of, is_banned}
-use Rattle.read_tree.specs.declared.tree.Outlook.{Outlook}
-use Rattle.read_tree.specs.declared.tree.Outlook.TheVariants.{Safe, Taken, Open}
+use Rattle.read_tree.specs.declared.outlook.Outlook.{Outlook}
+use Rattle.read_tree.specs.declared.outlook.Outlook.TheVariants.{Safe, Taken, Open}
 use Rattle.trial_board.specs.declared.moves.TrialMove.{TrialMove}
 use Rattle.trial_board.specs.Trials.{tail}
 use Rattle.read_rules.specs.declared.node.Node.{Node}
@@ -17,8 +17,8 @@ use Rattle.read_rules.specs.declared.question.Spot.TheVariants.{Pass}
 use Rattle.read_rules.specs.declared.question.Answer.{Answer}
 use Rattle.read_tree.specs.declared.turn.Turn.{Turn}
 use Rattle.read_tree.specs.declared.allowances.Allowances.{Allowances}
-use Rattle.read_tree.specs.declared.tree.Made.{Made}
-use Rattle.read_tree.specs.declared.tree.Made.TheVariants.{Not, Legal, Allowed}
+use Rattle.read_tree.specs.declared.making.Made.{Made}
+use Rattle.read_tree.specs.declared.making.Made.TheVariants.{Not, Legal, Allowed}
 use Rattle.read_rules.specs.GameTree.{child_of, first_move, pass_saves, succeeds}
 use Rattle.read_tree.specs.Allowances.{Ko, neither_may, has, has_some, own_ko, under, next_turn, ko_of, best_code}
 use Rattle.read_rules.specs.ActiveArea.{IsNodeOf}

@@ -13,7 +13,7 @@ ghost use Rattle.read_tree.specs.Escapes.{IsLibertyAfter, RunsFree, Escapes};
 
 use crate::apart::all_but;
 use crate::bound::outlasts;
-use crate::tree::stone_of;
+use crate::outlook::stone_of;
 use crate::turn::Turn;
 use go_base::points::PointSet;
 use go_base::sides::neighbour;

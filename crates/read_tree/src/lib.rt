@@ -14,9 +14,12 @@ mod bound;
 mod candidates;
 mod escape;
 pub mod laws;
+mod making;
 mod order;
+mod outlook;
 pub mod reading;
 pub mod report;
+pub mod table;
 mod tree;
 pub mod turn;
 

@@ -2,6 +2,7 @@
 
 ghost use Rattle.std.specs.Prelude.{◌≡◌, ◌≢◌, ◌+◌, ◌*◌, ◌<◌, ◌≤◌, ◌↔◌, ℕ, suc, Bool, true, false, length, IsNone};
 ghost use Rattle.std.specs.Prelude.{IfSome, IsTrue, None, Some};
+ghost use Rattle.std.specs.FinSet as set;
 ghost use Rattle.go_rules.specs.Position.{BoardState};
 ghost use Rattle.go_rules.specs.Strings.{cell_at, liberties, liberty_points};
 ghost use Rattle.go_rules.specs.Neighbourhood.{neighbourhood_of};
@@ -15,10 +16,12 @@ ghost use Rattle.read_tree.specs.Allowances.{Ko, under};
 ghost use Rattle.read_tree.specs.Bound.{outlasts};
 ghost use Rattle.read_rules.specs.GoodMoves.{IsOnBoard};
 ghost use Rattle.read_tree.specs.Steps.{first_turn, unread, better, IsBest, AreNodesOf};
+ghost use Rattle.read_tree.specs.Table.{IsTrueTable};
 
 use crate::allowances::Allowances;
 use crate::bound::has_too_many;
 use crate::report::Report;
+use crate::table::{Entry, empty_table};
 use crate::tree::{pass_saves, succeeds};
 use crate::turn::Turn;
 use go_base::points::PointSet;
@@ -26,6 +29,9 @@ use go_base::{Cell, Colour, Look, Point};
 use read_moves::candidates;
 use read_rules::{Answer, Depths, Kind, ReadingQuestion, Spot};
 use trial_board::Trial;
+
+/// From how many plies on a reading remembers nodes.
+const PLIES_WITH_TABLE: u8 = 12;
 
 /// The first turn of a question: the side that is asked about is to play.
 fn first_turn(question: &ReadingQuestion) -> Turn
@@ -66,6 +72,7 @@ fn best_point<L: Look>(
     first: Answer,
     known: &PointSet,
     reply: &mut Point,
+    table: &mut [Entry],
 ) -> Answer
     requires room { length board.old.moves + plies < most_moves }
     requires target { turn.target < (L.shows board.old.look).size * (L.shows board.old.look).size }
@@ -74,6 +81,7 @@ fn best_point<L: Look>(
     requires code { first.code < 3 }
     requires none { IsNone first.at ↔ (first.code ≡ 0) }
     requires on_board { IfSome first.at (IsOnBoard (L.shows board.old.look).size) }
+    requires table { IsTrueTable (L.seen board.old.look) turn.target turn.defender table.old }
     ensures stays { Stays L.shows L.seen board.old board.new }
     ensures code { result.code ≤ 3 }
     ensures none { IsNone result.at ↔ (result.code ≡ 0) }
@@ -96,7 +104,7 @@ fn best_point<L: Look>(
     let mut next = 0;
     while let Some(p) = candidates.first_from(next) {
         let asked = Allowances::above(best.code, turn.attacker_to_play);
-        let good = succeeds(board, turn, p, plies, asked, known, reply);
+        let good = succeeds(board, turn, p, plies, asked, known, reply, table);
         best = better(best, turn.attacker_to_play, good, Spot::At(p));
         if best.code == 3 {
             return best;
@@ -118,6 +126,114 @@ fn unread(attack: bool) -> Answer
             at: Some(Spot::Pass),
         }
     }
+}
+
+/// The answer to a question that is about the position, where the target's liberties are known and not too many. The
+/// table remembers attacker's nodes of this reading.
+fn read_by<L: Look>(
+    board: &mut Trial<L>,
+    question: &ReadingQuestion,
+    known: &PointSet,
+    table: &mut [Entry],
+) -> Answer
+    requires plies { 0 < question.now.plies }
+    requires room { length board.old.moves + question.now.plies ≤ most_moves }
+    requires target { question.now.target < (L.shows board.old.look).size * (L.shows board.old.look).size }
+    requires liberties { (pos : BoardState) → Agrees (L.seen board.old.look) pos
+        → known.now ≡ liberty_points pos.size (after pos board.old.moves).cells question.now.target }
+    requires few { outlasts (is_attack question.now.kind) question.now.plies question.now.wide (set.len known.now)
+        ≡ false }
+    requires table { IsTrueTable (L.seen board.old.look) question.now.target question.now.colour table.old }
+    ensures stays { Stays L.shows L.seen board.old board.new }
+    ensures code { result.code ≤ 3 }
+    ensures none { IsNone result.at ↔ (result.code ≡ 0) }
+    ensures on_board { IfSome result.at (IsOnBoard (L.shows board.old.look).size) }
+    ensures over { (pos : BoardState) → Agrees (L.seen board.new.look) pos
+        → is_about question.now (after pos board.old.moves) ≡ true
+        → result ≡ answer_of question.now (after pos board.old.moves) }
+    ensures near { (pos : BoardState) → Agrees (L.seen board.new.look) pos
+        → is_about question.now (after pos board.old.moves) ≡ true
+        → AddsNear (L.seen board.old.look) (L.seen board.new.look)
+        (InActiveArea question.now (after pos board.old.moves)) }
+{
+    let turn = first_turn(question);
+    let plies = question.plies - 1;
+    let nothing = Answer { code: 0, at: None };
+    let mut reply = turn.target;
+    if turn.attacker_to_play {
+        return best_point(board, turn, plies, nothing, known, &mut reply, table);
+    }
+    let saved = pass_saves(
+        board,
+        turn,
+        plies,
+        Allowances::all(),
+        known,
+        &mut reply,
+        table,
+    );
+    let best = better(nothing, turn.attacker_to_play, saved, Spot::Pass);
+    if best.code == 3 {
+        return best;
+    }
+    best_point(board, turn, plies, best, known, &mut reply, table)
+}
+
+/// The same with a table, which is made here: it is large, and a short reading is not to pay for it.
+#[inline(never)]
+fn read_with_table<L: Look>(
+    board: &mut Trial<L>,
+    question: &ReadingQuestion,
+    known: &PointSet,
+) -> Answer
+    requires plies { 0 < question.now.plies }
+    requires room { length board.old.moves + question.now.plies ≤ most_moves }
+    requires target { question.now.target < (L.shows board.old.look).size * (L.shows board.old.look).size }
+    requires liberties { (pos : BoardState) → Agrees (L.seen board.old.look) pos
+        → known.now ≡ liberty_points pos.size (after pos board.old.moves).cells question.now.target }
+    requires few { outlasts (is_attack question.now.kind) question.now.plies question.now.wide (set.len known.now)
+        ≡ false }
+    ensures stays { Stays L.shows L.seen board.old board.new }
+    ensures code { result.code ≤ 3 }
+    ensures none { IsNone result.at ↔ (result.code ≡ 0) }
+    ensures on_board { IfSome result.at (IsOnBoard (L.shows board.old.look).size) }
+    ensures over { (pos : BoardState) → Agrees (L.seen board.new.look) pos
+        → is_about question.now (after pos board.old.moves) ≡ true
+        → result ≡ answer_of question.now (after pos board.old.moves) }
+    ensures near { (pos : BoardState) → Agrees (L.seen board.new.look) pos
+        → is_about question.now (after pos board.old.moves) ≡ true
+        → AddsNear (L.seen board.old.look) (L.seen board.new.look)
+        (InActiveArea question.now (after pos board.old.moves)) }
+{
+    let mut table = empty_table();
+    read_by(board, question, known, &mut table)
+}
+
+/// The same with a table where there are plies enough, and without one where it would cost more than it saves.
+fn read_known<L: Look>(board: &mut Trial<L>, question: &ReadingQuestion, known: &PointSet) -> Answer
+    requires plies { 0 < question.now.plies }
+    requires room { length board.old.moves + question.now.plies ≤ most_moves }
+    requires target { question.now.target < (L.shows board.old.look).size * (L.shows board.old.look).size }
+    requires liberties { (pos : BoardState) → Agrees (L.seen board.old.look) pos
+        → known.now ≡ liberty_points pos.size (after pos board.old.moves).cells question.now.target }
+    requires few { outlasts (is_attack question.now.kind) question.now.plies question.now.wide (set.len known.now)
+        ≡ false }
+    ensures stays { Stays L.shows L.seen board.old board.new }
+    ensures code { result.code ≤ 3 }
+    ensures none { IsNone result.at ↔ (result.code ≡ 0) }
+    ensures on_board { IfSome result.at (IsOnBoard (L.shows board.old.look).size) }
+    ensures over { (pos : BoardState) → Agrees (L.seen board.new.look) pos
+        → is_about question.now (after pos board.old.moves) ≡ true
+        → result ≡ answer_of question.now (after pos board.old.moves) }
+    ensures near { (pos : BoardState) → Agrees (L.seen board.new.look) pos
+        → is_about question.now (after pos board.old.moves) ≡ true
+        → AddsNear (L.seen board.old.look) (L.seen board.new.look)
+        (InActiveArea question.now (after pos board.old.moves)) }
+{
+    if question.plies < PLIES_WITH_TABLE {
+        return read_by(board, question, known, &mut []);
+    }
+    read_with_table(board, question, known)
 }
 
 /// The answer to a question that is about the position.
@@ -145,22 +261,11 @@ fn read<L: Look>(board: &mut Trial<L>, question: &ReadingQuestion) -> Answer
         (InActiveArea question.now (after pos board.old.moves)) }
 {
     let turn = first_turn(question);
-    let plies = question.plies - 1;
-    let nothing = Answer { code: 0, at: None };
     let known = board.liberties(turn.target);
     if has_too_many(turn, question.plies, &known) {
         return unread(turn.attacker_to_play);
     }
-    let mut reply = turn.target;
-    if turn.attacker_to_play {
-        return best_point(board, turn, plies, nothing, &known, &mut reply);
-    }
-    let saved = pass_saves(board, turn, plies, Allowances::all(), &known, &mut reply);
-    let best = better(nothing, turn.attacker_to_play, saved, Spot::Pass);
-    if best.code == 3 {
-        return best;
-    }
-    best_point(board, turn, plies, best, &known, &mut reply)
+    read_known(board, question, &known)
 }
 
 /// The colour of a stone.

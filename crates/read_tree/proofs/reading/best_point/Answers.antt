@@ -13,6 +13,7 @@ use Rattle.read_tree.specs.Allowances.{neither_may, under}
 use Rattle.read_tree.proofs.AllowanceLemmas.{fewer_nodes, has_all}
 use Rattle.read_rules.proofs.AreaLemmas.{AddsNear-in, AddsNear-trans, area_candidates, target_on}
 use Rattle.read_tree.proofs.BestLemmas.{asks_some, better_on, best_start, best_point, best_all, best_three}
+use Rattle.read_tree.proofs.TableLemmas.{table_more}
 use Rattle.read_tree.proofs.reading.best_point.Goals as goal
 
 -- a candidate is on the board
@@ -29,6 +30,7 @@ loop-p-init g c = record {
   code = c.requires.code;
   none = c.requires.none;
   on_board = c.requires.on_board;
+  table = table_more c.requires.table c.candidates-candidates.ensures.stays.grows;
   near = λ pos a q root tree und.
       let a0 = agrees_before c.candidates-candidates.ensures.stays.grows a in
       let here = after pos c.args.board.now.moves in
@@ -70,6 +72,7 @@ loop-p-preserved g c =
       on_board = rw c.better-best.ensures.is
           (better_on c.loop-p.best c.args.turn.attacker_to_play c.succeeds-good.result c.in-Some.p
           (g.L.Look.shows c.args.board.now.look).size i.on_board inside);
+      table = c.succeeds-good.ensures.table;
       near = λ pos a q root tree und.
           let a1 = agrees_before c.succeeds-good.ensures.stays.grows a in
           let a0 = agrees_before i.grows a1 in

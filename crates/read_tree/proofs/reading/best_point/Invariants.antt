@@ -10,6 +10,7 @@ use Rattle.read_rules.specs.ActiveArea.{IsUndecided, InActiveArea, AddsNear}
 use Rattle.read_tree.specs.Allowances.{Ko, under}
 use Rattle.read_rules.specs.GoodMoves.{IsOnBoard}
 use Rattle.read_tree.specs.Steps.{AreNodesOf, IsBest}
+use Rattle.read_tree.specs.Table.{IsTrueTable}
 use Rattle.read_tree.proofs.reading.best_point.Given as goal
 
 -- the best of the candidates before the next one, on any position that agrees
@@ -20,6 +21,7 @@ invariant-loop-p g l = record {
   code : l.best.code < 3;
   none : IsNone l.best.at ↔ (l.best.code ≡ 0);
   on_board : IfSome l.best.at (IsOnBoard (g.L.Look.shows l.fn.board.look).size);
+  table : IsTrueTable (g.L.Look.seen l.board.look) l.turn.target l.turn.defender l.table;
   near : (pos : BoardState) → Agrees (g.L.Look.seen l.board.look) pos → (q : ReadingQuestion) (root : BoardState)
       → AreNodesOf q root (suc l.plies) l.turn (record {
         defender = true;

@@ -18,6 +18,7 @@ use Rattle.trial_board.proofs.AfterLemmas.{size-after}
 use Rattle.read_rules.specs.Candidates.{is_candidate}
 use Rattle.read_rules.proofs.CandidateLaws.{candidate_on}
 use Rattle.read_rules.specs.ActiveArea.{by_play, InActiveArea}
+use Rattle.read_tree.specs.declared.table.AttackerNode.{AttackerNode}
 use Rattle.read_tree.specs.Allowances.{Ko, under, next_turn, own_ko, neither_may, has, has_some, without}
 use Rattle.read_rules.specs.GoodMoves.{good_move}
 use Rattle.read_tree.specs.Steps.{AreNodesOf, is_off_liberties}
@@ -37,6 +38,7 @@ use Rattle.read_tree.proofs.AtariLemmas.{pass_fails, atari_fails}
 use Rattle.read_tree.proofs.EscapeLemmas.{escape_succeeds, escape_near}
 use Rattle.read_tree.proofs.TakeLemmas.{take_wins}
 use Rattle.read_tree.proofs.CarryLemmas.{carries, made_free}
+use Rattle.read_tree.proofs.TableLemmas.{table_more, told_before, told_after, read_true}
 use Rattle.read_rules.proofs.AreaLemmas.{AddsNear-in, AddsNear-trans, AddsNear-mono, area_target, area_once}
 use Rattle.read_rules.proofs.AreaLemmas.{area_candidates, area_play, pred_tree, undecided_defender, target_on}
 use Rattle.read_rules.proofs.WinLemmas.{wins-captured, wins-no_plies, wins-by_move}
@@ -45,6 +47,8 @@ use Rattle.read_tree.proofs.tree.+read.Goals as goal
 -- the liberties after a legal play
 pub succeeds-has_way-good-requires : goal.succeeds-has_way-good-requires
 succeeds-has_way-good-requires g t c κs within =
+    let table = table_more c.requires.table
+    (Grows-trans c.make.ensures.grows c.liberties_after-next.ensures.stays.grows) in
     let turn = c.args.turn in
     let carried : IfSome c.liberties_after-next.result (λ found. (pos : BoardState)
     → Agrees (g.L.Look.seen c.liberties_after-next.new.board.look) pos
@@ -73,6 +77,8 @@ succeeds-has_way-good-requires g t c κs within =
 -- and after one by the own allowance
 pub succeeds-has_way-good-requires-in-Allowed : goal.succeeds-has_way-good-requires-in-Allowed
 succeeds-has_way-good-requires-in-Allowed g t c κs within =
+    let table = table_more c.requires.table
+    (Grows-trans c.make.ensures.grows c.liberties_after-next-in-Allowed.ensures.stays.grows) in
     let turn = c.args.turn in
     let carried : IfSome c.liberties_after-next-in-Allowed.result (λ found. (pos : BoardState)
     → Agrees (g.L.Look.seen c.liberties_after-next-in-Allowed.new.board.look) pos
@@ -274,6 +280,7 @@ some_of-next_to_try-requires g t c = λ p h. subst (λ (pos : BoardState). p < p
 -- the next point and the target are on the board, and the known liberties are the target's
 pub some_of-succeeds-good-requires : goal.some_of-succeeds-good-requires
 some_of-succeeds-good-requires g t c κs within =
+    let table = table_more c.loop-p.invariant.table c.next_to_try.ensures.stays.grows in
     let i = c.loop-p.invariant in
     let chosen = c.next_to_try.ensures.stays in
     let still : (p : ℕ) → p < (g.L.Look.shows c.args.board.now.look).size * (g.L.Look.shows c.args.board.now.look).size
@@ -293,6 +300,7 @@ some_of-loop-p-init g t c = record {
   stays = record { moves = refl; shown = refl; grows = Grows-refl _ };
   grows = Grows-refl _;
   some = c.requires.some;
+  table = c.requires.table;
   near = λ pos a q root tree und its. nothing_near _ _;
   left = λ pos a. left_first c.args.plies c.args.turn (after pos c.args.board.now.moves)
       (set.contains c.args.points.now)
@@ -313,6 +321,7 @@ some_of-loop-p-preserved g t c =
       };
       grows = Grows-trans i.grows (Grows-trans chosen.grows later.grows);
       some = sym c.has_some.ensures ∙ c.if-not-has_some.false;
+      table = c.succeeds-good.ensures.table;
       near = λ pos a q root tree und its.
           let i = c.loop-p.invariant in
           let chosen = c.next_to_try.ensures.stays in
@@ -416,6 +425,7 @@ candidate_inside shown moves target wide p h =
 -- the captures are on the board
 pub some_other-some_of-good-requires : goal.some_other-some_of-good-requires
 some_other-some_of-good-requires g t c κs within =
+    let table = table_more c.requires.table c.captures_of-captures.ensures.stays.grows in
     let shown = g.L.Look.shows c.args.board.now.look in
     let stays = c.captures_of-captures.ensures.stays in
     let inside : (p : ℕ) → set.contains c.captures_of-captures.result p ≡ true
@@ -440,6 +450,8 @@ some_other-others_of-others-requires-clause-captures g t c = λ pos a p.
 -- the other candidates are on the board
 pub some_other-some_of-rest-requires : goal.some_other-some_of-rest-requires
 some_other-some_of-rest-requires g t c κs within =
+    let table = table_more c.some_of-good.ensures.table
+    (Grows-trans c.is_in_atari.ensures.stays.grows c.others_of-others.ensures.stays.grows) in
     let shown = g.L.Look.shows c.args.board.now.look in
     let here = after shown c.args.board.now.moves in
     let turn = c.args.turn in
@@ -711,7 +723,7 @@ some_success-returns-clause-near g t c = λ pos a q root tree und.
 pub has_good_move-returns-then-turn-clause-over : goal.has_good_move-returns-then-turn-clause-over
 has_good_move-returns-then-turn-clause-over g t c = λ pos a und.
     let here = after pos c.args.board.now.moves in
-    Tells-same (c.some_success.ensures.over pos a)
+    Tells-same (c.some_by_table.ensures.over pos a)
     (λ ko. good_attacker c.args.turn.attacker_to_play (has_many_liberties here c.args.turn.target c.args.turn.wide) _
     (first_success c.args.plies (under c.args.turn ko) here) c.if-turn.true ((und ko).few c.if-turn.true))
 
@@ -771,20 +783,20 @@ has_good_move-returns-then-not-has_some-clause-near g t c = λ pos a q root tree
 -- the pass, and then the candidates under what it left
 pub has_good_move-returns-clause-over : goal.has_good_move-returns-clause-over
 has_good_move-returns-clause-over g t c = λ pos a und.
-    let a1 = agrees_before c.some_success-2.ensures.stays.grows a in
+    let a1 = agrees_before c.some_success.ensures.stays.grows a in
     rw (c.without-2.ensures, c.without.ensures, c.without-lost.ensures)
     (Tells-good c.args.plies c.args.turn (after pos c.args.board.now.moves) c.args.asked c.pass_saves.result
-    c.some_success-2.result c.if-turn.false
+    c.some_success.result c.if-turn.false
     (rw c.escapes.ensures.stays.moves at (c.pass_saves.ensures.over pos a1)) (rw (
       c.pass_saves.ensures.stays.moves,
       c.escapes.ensures.stays.moves,
       c.without-lost.ensures,
-    ) at (c.some_success-2.ensures.over pos a)))
+    ) at (c.some_success.ensures.over pos a)))
 
 -- the looks for an escape, after the pass and those of the defender's plays lie in the active area
 pub has_good_move-returns-clause-near : goal.has_good_move-returns-clause-near
 has_good_move-returns-clause-near g t c = λ pos a q root tree und.
-    let a2 = agrees_before c.some_success-2.ensures.stays.grows a in
+    let a2 = agrees_before c.some_success.ensures.stays.grows a in
     let a1 = agrees_before c.pass_saves.ensures.stays.grows a2 in
     let a0 = agrees_before c.escapes.ensures.stays.grows a1 in
     let here = after pos c.args.board.now.moves in
@@ -803,7 +815,7 @@ has_good_move-returns-clause-near g t c = λ pos a q root tree und.
     ((rw (
       c.pass_saves.ensures.stays.moves,
       c.escapes.ensures.stays.moves,
-    ) at (c.some_success-2.ensures.near pos a q root))
+    ) at (c.some_success.ensures.near pos a q root))
     (fewer_nodes c.without-lost.result tree lost) (λ ko. undecided_defender stands c.if-turn.false))
 
 -- the target is captured
@@ -986,3 +998,120 @@ attacker_wins-returns-in-Open-clause-near g t c = λ pos a q root tree.
     (size-after pos c.args.board.now.moves) inside stands p h)))
     (AddsNear-mono (InActiveArea q root) (λ p. (p ≡ c.args.turn.target)
     ⊎ InActiveArea q root p) (rest nodes und) (λ p h. inr h))))
+
+-- What the table tells stays true while more is seen: after a play that is not made,
+pub succeeds-returns-in-Not-clause-table : goal.succeeds-returns-in-Not-clause-table
+succeeds-returns-in-Not-clause-table g t c = table_more c.requires.table c.make.ensures.grows
+
+-- after the choice of a point where none is left,
+pub some_of-returns-clause-table : goal.some_of-returns-clause-table
+some_of-returns-clause-table g t c = table_more c.loop-p.invariant.table c.next_to_try.ensures.stays.grows
+
+-- after the look for an atari,
+pub some_other-returns-then-is_in_atari-clause-table : goal.some_other-returns-then-is_in_atari-clause-table
+some_other-returns-then-is_in_atari-clause-table g t c =
+    table_more c.some_of-good.ensures.table c.is_in_atari.ensures.stays.grows
+
+-- also before the pass,
+pub pass_saves-returns-then-is_in_atari-clause-table : goal.pass_saves-returns-then-is_in_atari-clause-table
+pass_saves-returns-then-is_in_atari-clause-table g t c = table_more c.requires.table c.is_in_atari.ensures.stays.grows
+
+-- after the looks for an escape,
+pub has_good_move-returns-then-escapes-clause-table : goal.has_good_move-returns-then-escapes-clause-table
+has_good_move-returns-then-escapes-clause-table g t c = table_more c.requires.table c.escapes.ensures.stays.grows
+
+-- also before the pass is read,
+pub has_good_move-pass_saves-requires : goal.has_good_move-pass_saves-requires
+has_good_move-pass_saves-requires g t c κs within =
+    let table = table_more c.requires.table c.escapes.ensures.stays.grows in
+    let liberties : (pos : BoardState) → Agrees (g.L.Look.seen c.escapes.new.board.look) pos
+    → c.args.known.now ≡ liberty_points pos.size (after pos c.escapes.new.board.moves).cells c.args.turn.target =
+    λ pos a. rw c.escapes.ensures.stays.moves (c.requires.liberties pos (agrees_before c.escapes.ensures.stays.grows a))
+    in
+    search rules
+
+-- and after the looks at the target: where it is captured,
+pub attacker_wins-returns-then-eq-clause-table : goal.attacker_wins-returns-then-eq-clause-table
+attacker_wins-returns-then-eq-clause-table g t c = table_more c.requires.table c.cell.ensures.stays.grows
+
+-- where no ply is left,
+pub attacker_wins-returns-then-plies-eq0-clause-table : goal.attacker_wins-returns-then-plies-eq0-clause-table
+attacker_wins-returns-then-plies-eq0-clause-table g t c = table_more c.requires.table c.cell.ensures.stays.grows
+
+-- where it has too many liberties,
+pub attacker_wins-returns-in-Safe-clause-table : goal.attacker_wins-returns-in-Safe-clause-table
+attacker_wins-returns-in-Safe-clause-table g t c =
+    table_more c.requires.table (Grows-trans c.cell.ensures.stays.grows
+    (Grows-trans c.liberties_known-known.ensures.stays.grows c.outlook_of.ensures.stays.grows))
+
+-- where it is taken,
+pub attacker_wins-returns-in-Taken-clause-table : goal.attacker_wins-returns-in-Taken-clause-table
+attacker_wins-returns-in-Taken-clause-table g t c =
+    table_more c.requires.table (Grows-trans c.cell.ensures.stays.grows
+    (Grows-trans c.liberties_known-known.ensures.stays.grows c.outlook_of.ensures.stays.grows))
+
+-- and where its node is to be read
+pub attacker_wins-has_good_move-good-requires : goal.attacker_wins-has_good_move-good-requires
+attacker_wins-has_good_move-good-requires g t c κs within =
+    let table = table_more c.requires.table (Grows-trans c.cell.ensures.stays.grows
+    (Grows-trans c.liberties_known-known.ensures.stays.grows c.outlook_of.ensures.stays.grows)) in
+    let moves = c.outlook_of.ensures.stays.moves ∙ c.liberties_known-known.ensures.stays.moves in
+    let same = c.outlook_of.ensures.stays.shown ∙ c.liberties_known-known.ensures.stays.shown
+    ∙ c.cell.ensures.stays.shown in
+    let target : c.args.turn.target
+    < (g.L.Look.shows c.outlook_of.new.board.look).size * (g.L.Look.shows c.outlook_of.new.board.look).size =
+    subst (λ (pos : BoardState). c.args.turn.target < pos.size * pos.size) (sym same) c.requires.target in
+    let liberties : (pos : BoardState) → Agrees (g.L.Look.seen c.outlook_of.new.board.look) pos
+    → c.liberties_known-known.result
+    ≡ liberty_points pos.size (after pos c.outlook_of.new.board.moves).cells c.args.turn.target =
+    λ pos a. rw moves (c.liberties_known-known.ensures.over pos (agrees_before c.outlook_of.ensures.stays.grows a)) in
+    search rules
+
+-- what the table knows is told
+pub some_by_table-returns-then-not-has_some-clause-over : goal.some_by_table-returns-then-not-has_some-clause-over
+some_by_table-returns-then-not-has_some-clause-over g t c = λ pos a.
+    let turn = c.args.turn in
+    let seen = g.L.Look.seen c.args.board.now.look in
+    told_before turn (record { changes = c.in-Some.changes; plies = c.args.plies; wide = turn.wide })
+    c.find-before.result c.args.asked c.without-missing.result c.both.result pos (after pos c.args.board.now.moves)
+    (c.find-before.ensures seen turn.target turn.defender c.requires.table) a c.requires.attacker refl
+    (c.in-Some.ensures.over pos a) c.without-missing.ensures (sym c.has_some.ensures ∙ c.if-not-has_some.true)
+    c.both.ensures
+
+-- what was found of the rest is remembered
+pub some_by_table-returns-clause-table : goal.some_by_table-returns-clause-table
+some_by_table-returns-clause-table g t c =
+    let turn = c.args.turn in
+    let seen = g.L.Look.seen c.args.board.now.look in
+    let node : AttackerNode = record { changes = c.in-Some.changes; plies = c.args.plies; wide = turn.wide } in
+    let kept = read_true turn node c.find-before.result c.with-verdict.result c.args.asked c.without-missing.result
+    c.some_success-good.result c.args.board.now.moves
+    (c.find-before.ensures seen turn.target turn.defender c.requires.table) c.some_success-good.ensures.stays.grows
+    c.requires.attacker refl c.in-Some.ensures.over c.some_success-good.ensures.over c.without-missing.ensures
+    c.with-verdict.ensures in
+    c.keep.ensures (g.L.Look.seen c.some_success-good.new.board.look) turn.target turn.defender
+    c.some_success-good.ensures.table kept
+
+-- and told with what was known
+pub some_by_table-returns-clause-over : goal.some_by_table-returns-clause-over
+some_by_table-returns-clause-over g t c = λ pos a.
+    let turn = c.args.turn in
+    let seen = g.L.Look.seen c.args.board.now.look in
+    let node : AttackerNode = record { changes = c.in-Some.changes; plies = c.args.plies; wide = turn.wide } in
+    let kept = read_true turn node c.find-before.result c.with-verdict.result c.args.asked c.without-missing.result
+    c.some_success-good.result c.args.board.now.moves
+    (c.find-before.ensures seen turn.target turn.defender c.requires.table) c.some_success-good.ensures.stays.grows
+    c.requires.attacker refl c.in-Some.ensures.over c.some_success-good.ensures.over c.without-missing.ensures
+    c.with-verdict.ensures in
+    told_after turn node c.find-before.result c.with-verdict.result c.args.asked c.without-missing.result
+    c.some_success-good.result c.both-2.result pos (after pos c.args.board.now.moves) kept a c.requires.attacker refl
+    (c.in-Some.ensures.over pos (agrees_before c.some_success-good.ensures.stays.grows a)) c.without-missing.ensures
+    c.with-verdict.ensures c.both-2.ensures
+
+-- the rest is read in the active area
+pub some_by_table-returns-clause-near : goal.some_by_table-returns-clause-near
+some_by_table-returns-clause-near g t c = λ pos a q root tree und.
+    let less : (ko : Ko) → has c.without-missing.result ko ≡ true → has c.args.asked ko ≡ true =
+    λ ko h. without_less c.args.asked c.find-before.result.known ko
+    (sym (ap (λ s. has s ko) c.without-missing.ensures) ∙ h) in
+    c.some_success-good.ensures.near pos a q root (fewer_nodes c.without-missing.result tree less) und

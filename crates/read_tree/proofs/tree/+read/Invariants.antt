@@ -10,6 +10,7 @@ use Rattle.read_rules.specs.Candidates.{is_candidate}
 use Rattle.read_rules.specs.ActiveArea.{IsUndecided, InActiveArea, AddsNear}
 use Rattle.read_tree.specs.Allowances.{Ko, has_some, under}
 use Rattle.read_tree.specs.Steps.{AreNodesOf, IsLeft}
+use Rattle.read_tree.specs.Table.{IsTrueTable}
 use Rattle.read_tree.proofs.tree.+read.Given as goal
 
 -- each step down the tree spends a ply, and within a node the order of the calls is fixed
@@ -40,9 +41,13 @@ decreases-some_other g l = 8 * l.plies + 4
 abbrev pub decreases-some_success : goal.decreases-some_success
 decreases-some_success g l = 8 * l.plies + 5
 
--- a good move is one step above all candidates, and below a node with one ply more
+-- the table is one step above all candidates
+abbrev pub decreases-some_by_table : goal.decreases-some_by_table
+decreases-some_by_table g l = 8 * l.plies + 6
+
+-- a good move is one step above the table, and below a node with one ply more
 abbrev pub decreases-has_good_move : goal.decreases-has_good_move
-decreases-has_good_move g l = 8 * l.plies + 6
+decreases-has_good_move g l = 8 * l.plies + 7
 
 -- what is missing is what no point that was tried gave, on any position that agrees
 abbrev pub invariant-some_of-loop-p : goal.invariant-some_of-loop-p
@@ -50,6 +55,7 @@ invariant-some_of-loop-p g l = record {
   stays : Stays g.L.Look.shows g.L.Look.seen l.fn.board l.board;
   grows : Grows (g.L.Look.seen l.initial.board.look) (g.L.Look.seen l.board.look);
   some : has_some l.missing ≡ true;
+  table : IsTrueTable (g.L.Look.seen l.board.look) l.turn.target l.turn.defender l.table;
   near : (pos : BoardState) → Agrees (g.L.Look.seen l.board.look) pos → (q : ReadingQuestion) (root : BoardState)
       → AreNodesOf q root (suc l.plies) l.turn l.asked (after pos l.fn.board.moves)
       → ((ko : Ko) → IsUndecided (under l.turn ko) (after pos l.fn.board.moves))

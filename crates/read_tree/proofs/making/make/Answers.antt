@@ -9,7 +9,7 @@ use Rattle.read_tree.specs.Allowances.{under, own_ko}
 use Rattle.read_tree.proofs.ChildLemmas.{child_of-done, child_of-dropped, child_of-suicide, child_of-refused}
 use Rattle.read_tree.proofs.ChildLemmas.{moves-refused, moves-banned, at_most_one_more}
 use Rattle.read_tree.proofs.AllowanceLemmas.{next_keeps, next_spends, nothing_left, one_left}
-use Rattle.read_tree.proofs.tree.make.Goals as goal
+use Rattle.read_tree.proofs.making.make.Goals as goal
 
 -- the play was made
 pub returns-in-Done-clause-over : goal.returns-in-Done-clause-over

@@ -6,7 +6,7 @@ use Rattle.go_rules.proofs.Paths.{same_cell-true}
 use Rattle.trial_board.specs.Trials.{after}
 use Rattle.trial_board.proofs.AfterLemmas.{size-after}
 use Rattle.read_tree.proofs.StageLemmas.{its_count}
-use Rattle.read_tree.proofs.tree.is_in_atari.Goals as goal
+use Rattle.read_tree.proofs.outlook.is_in_atari.Goals as goal
 
 -- the target is the defender's and has one liberty, on each position that agrees
 pub returns-clause-over : goal.returns-clause-over

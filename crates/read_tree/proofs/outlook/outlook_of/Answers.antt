@@ -7,7 +7,7 @@ use Rattle.trial_board.specs.Trials.{after}
 use Rattle.read_tree.specs.Bound.{outlasts}
 use Rattle.read_tree.proofs.TakeLemmas.{near_liberty}
 use Rattle.read_rules.proofs.AreaLemmas.{target_on}
-use Rattle.read_tree.proofs.tree.outlook_of.Goals as goal
+use Rattle.read_tree.proofs.outlook.outlook_of.Goals as goal
 
 -- a target that is safe has too many liberties on each position that agrees
 pub returns-then-has_too_many-clause-over : goal.returns-then-has_too_many-clause-over

@@ -1,0 +1,197 @@
+-- The table of attacker's nodes: what is true stays true while more is seen, and what a node's answer is by its verdict.
+use Rattle.std.proofs.Common.{◌≡◌, ℕ, Bool, true, false, not, ◌&&◌, ◌||◌, is_some, List, ap, sym, refl, subst, rules, ◌∙◌, ◌<◌, length, get_or}
+use Rattle.std.proofs.lemmas.List.Elements.{All-get_or, All-weaker}
+use Rattle.go_rules.specs.declared.Colour.{Colour}
+use Rattle.go_rules.specs.Position.{BoardState}
+use Rattle.go_base.specs.Facts.{Fact, Agrees, Grows, agrees_before}
+use Rattle.read_rules.specs.GameTree.{first_success}
+use Rattle.read_tree.specs.declared.turn.Turn.{Turn}
+use Rattle.read_tree.specs.declared.allowances.Allowances.{Allowances}
+use Rattle.read_tree.specs.declared.table.AttackerNode.{AttackerNode}
+use Rattle.read_tree.specs.declared.table.Verdict.{Verdict}
+use Rattle.read_tree.specs.declared.table.Entry.{Entry}
+use Rattle.read_tree.specs.contracts.table.AttackerNodePartialEq.TheImpl.{ghosts}
+use Rattle.trial_board.specs.declared.moves.TrialMove.{TrialMove}
+use Rattle.trial_board.specs.Trials.{after}
+use Rattle.trial_board.specs.Changed.{changed}
+use Rattle.read_tree.specs.Allowances.{Ko, defender_may, neither_may, attacker_may, under, has, has_some, without, both}
+use Rattle.read_tree.specs.Allowances.{either, Tells}
+use Rattle.read_rules.specs.declared.node.Node.{Node}
+use Rattle.read_tree.proofs.AllowanceLemmas.{none_of, Tells-same}
+use Rattle.read_tree.specs.Table.{is_won, IsTrueOf, IsTrueTable}
+
+-- nodes that compare as equal are one
+pub same_node : (a b : AttackerNode) → ghosts.eq a b ≡ true → a ≡ b
+same_node a b e = search rules
+
+-- what is true of a node stays true while more is seen
+true_more : {seen more : Fact → Bool} {target : ℕ} {defender : Colour} {node : AttackerNode} {verdict : Verdict}
+    → IsTrueOf seen target defender node verdict → Grows seen more → IsTrueOf more target defender node verdict
+true_more t grows = record { each = λ pos a. t.each pos (agrees_before grows a) }
+
+-- a table that is true stays true while more is seen
+pub table_more : {seen more : Fact → Bool} {target : ℕ} {defender : Colour} {table : List Entry}
+    → IsTrueTable seen target defender table → Grows seen more → IsTrueTable more target defender table
+table_more {seen} {more} {target} {defender} {table} t grows = record {
+  all = All-weaker (λ (e : Entry). IsTrueOf seen target defender e.node e.verdict)
+      (λ (e : Entry). IsTrueOf more target defender e.node e.verdict) (λ e h. true_more h grows) table t.all;
+}
+
+-- the verdict of an entry is true of the node that is compared as equal to its own
+pub found : {seen : Fact → Bool} {target : ℕ} {defender : Colour} (table : List Entry) (i : ℕ) (other : Entry)
+    (node : AttackerNode) → i < length table → ghosts.eq (get_or table i other).node node ≡ true
+    → IsTrueTable seen target defender table → IsTrueOf seen target defender node (get_or table i other).verdict
+found {seen} {target} {defender} table i other node h same t =
+    subst (λ (n : AttackerNode). IsTrueOf seen target defender n (get_or table i other).verdict)
+    (same_node (get_or table i other).node node same)
+    (All-get_or (λ (e : Entry). IsTrueOf seen target defender e.node e.verdict) table i other h t.all)
+
+-- those that are in both sets
+has_both : (a b : Allowances) (ko : Ko) → has (both a b) ko ≡ (has a ko && has b ko)
+has_both a b defender_may = refl
+has_both a b neither_may = refl
+has_both a b attacker_may = refl
+
+-- those that are in one of the sets
+has_either : (a b : Allowances) (ko : Ko) → has (either a b) ko ≡ (has a ko || has b ko)
+has_either a b defender_may = refl
+has_either a b neither_may = refl
+has_either a b attacker_may = refl
+
+-- those that are not in the other set
+has_without : (a b : Allowances) (ko : Ko) → has (without a b) ko ≡ (has a ko && not (has b ko))
+has_without a b defender_may = refl
+has_without a b neither_may = refl
+has_without a b attacker_may = refl
+
+-- what is known before and what was found of the rest is the answer wherever either speaks
+joined : (known good asked found test : Bool) → (known ≡ true → good ≡ test) → found ≡ ((asked && not known) && test)
+    → (known || (asked && not known)) ≡ true → ((known && good) || found) ≡ test
+joined true good asked found test k f h = search rules
+joined false good true found test k f h = search rules
+joined false good false found test k f h = cc
+
+-- what was asked is known where nothing of it is missing
+nothing_missing : (asked known : Allowances) → has_some (without asked known) ≡ false
+    → (ko : Ko) → has asked ko ≡ true → has known ko ≡ true
+nothing_missing asked known none ko h =
+    of_two (has asked ko) (has known ko) (sym (has_without asked known ko) ∙ none_of (without asked known) ko none) h
+  where
+    of_two : (a k : Bool) → (a && not k) ≡ false → a ≡ true → k ≡ true
+    of_two true true e h = refl
+    of_two true false e h = cc
+    of_two false k e h = cc
+
+-- and where what was missing is known too
+all_known : (asked known missing : Allowances) → missing ≡ without asked known
+    → (ko : Ko) → has asked ko ≡ true → has (either known missing) ko ≡ true
+all_known asked known missing e ko h =
+    has_either known missing ko
+    ∙ ap (λ b. has known ko || b) (ap (λ s. has s ko) e ∙ has_without asked known ko)
+    ∙ of_two (has asked ko) (has known ko) h
+  where
+    of_two : (a k : Bool) → a ≡ true → (k || (a && not k)) ≡ true
+    of_two true true h = refl
+    of_two true false h = refl
+    of_two false k h = cc
+
+-- what was known before, and what was found of the rest, is true
+more_true : {seen more : Fact → Bool} {target : ℕ} {defender : Colour} {node : AttackerNode} {before : Verdict}
+    (asked missing good : Allowances) (verdict : Verdict)
+    → IsTrueOf seen target defender node before → Grows seen more → missing ≡ without asked before.known
+    → verdict ≡ record {
+      known = either before.known missing;
+      good = either (both before.known before.good) good;
+    }
+    → ((pos : BoardState) → Agrees more pos → Tells missing good (is_won target defender node pos))
+    → IsTrueOf more target defender node verdict
+more_true {seen} {more} {target} {defender} {node} {before} asked missing good verdict t grows e is tells = record {
+  each = λ pos a ko h.
+      let won = is_won target defender node pos ko in
+      let gone = ap (λ s. has s ko) e ∙ has_without asked before.known ko in
+      ap (λ (v : Verdict). has v.good ko) is
+      ∙ has_either (both before.known before.good) good ko
+      ∙ ap (λ b. b || has good ko) (has_both before.known before.good ko)
+      ∙ joined (has before.known ko) (has before.good ko) (has asked ko) (has good ko) won
+      (t.each pos (agrees_before grows a) ko) ((tells pos a).each ko ∙ ap (λ b. b && won) gone)
+      (sym (ap (λ b. has before.known ko || b) gone) ∙ sym (has_either before.known missing ko)
+      ∙ sym (ap (λ (v : Verdict). has v.known ko) is) ∙ h);
+}
+
+-- the node of a turn, with this side to play and so many wide plies left
+with_turn : Turn → Bool → ℕ → Ko → Node
+with_turn turn attacks wide ko =
+    under (record { target = turn.target; defender = turn.defender; attacker_to_play = attacks; wide = wide }) ko
+
+-- at the attacker's turn the node is won where the position after the moves is
+won_is : (turn : Turn) (node : AttackerNode) (pos here : BoardState) → turn.attacker_to_play ≡ true
+    → turn.wide ≡ node.wide → here ≡ changed pos node.changes → (ko : Ko)
+    → is_won turn.target turn.defender node pos ko ≡ is_some (first_success node.plies (under turn ko) here)
+unfolding with_turn
+won_is turn node pos here attacks wide at ko =
+    ap (λ b. is_some (first_success node.plies (with_turn turn b node.wide ko) (changed pos node.changes)))
+    (sym attacks)
+    ∙ ap (λ w. is_some (first_success node.plies (with_turn turn turn.attacker_to_play w ko)
+    (changed pos node.changes))) (sym wide)
+    ∙ ap (λ p. is_some (first_success node.plies (under turn ko) p)) (sym at)
+
+-- where what was asked is known, it is told by the verdict
+told_by : {seen : Fact → Bool} (turn : Turn) (node : AttackerNode) (verdict : Verdict) (asked found : Allowances)
+    (pos here : BoardState) → IsTrueOf seen turn.target turn.defender node verdict → Agrees seen pos
+    → turn.attacker_to_play ≡ true → turn.wide ≡ node.wide → here ≡ changed pos node.changes
+    → ((ko : Ko) → has asked ko ≡ true → has verdict.known ko ≡ true) → found ≡ both asked verdict.good
+    → Tells asked found (λ ko. is_some (first_success node.plies (under turn ko) here))
+told_by turn node verdict asked found pos here t a attacks wide at covered is = record {
+  each = λ ko.
+      ap (λ s. has s ko) is ∙ has_both asked verdict.good ko
+      ∙ same_where (has asked ko) (has verdict.good ko) (is_some (first_success node.plies (under turn ko) here))
+      (λ h. t.each pos a ko (covered ko h) ∙ won_is turn node pos here attacks wide at ko);
+}
+  where
+    same_where : (a g w : Bool) → (a ≡ true → g ≡ w) → (a && g) ≡ (a && w)
+    same_where true g w h = h refl
+    same_where false g w h = refl
+
+-- it is where nothing of it is missing
+pub told_before : {seen : Fact → Bool} (turn : Turn) (node : AttackerNode) (verdict : Verdict)
+    (asked missing found : Allowances) (pos here : BoardState)
+    → IsTrueOf seen turn.target turn.defender node verdict → Agrees seen pos → turn.attacker_to_play ≡ true
+    → turn.wide ≡ node.wide → here ≡ changed pos node.changes → missing ≡ without asked verdict.known
+    → has_some missing ≡ false → found ≡ both asked verdict.good
+    → Tells asked found (λ ko. is_some (first_success node.plies (under turn ko) here))
+told_before turn node verdict asked missing found pos here t a attacks wide at e none is =
+    told_by turn node verdict asked found pos here t a attacks wide at
+    (nothing_missing asked verdict.known (sym (ap has_some e) ∙ none)) is
+
+-- and where what was missing was found
+pub told_after : {seen : Fact → Bool} (turn : Turn) (node : AttackerNode) (before verdict : Verdict)
+    (asked missing good found : Allowances) (pos here : BoardState)
+    → IsTrueOf seen turn.target turn.defender node verdict → Agrees seen pos → turn.attacker_to_play ≡ true
+    → turn.wide ≡ node.wide → here ≡ changed pos node.changes → missing ≡ without asked before.known
+    → verdict ≡ record {
+      known = either before.known missing;
+      good = either (both before.known before.good) good;
+    }
+    → found ≡ both asked verdict.good
+    → Tells asked found (λ ko. is_some (first_success node.plies (under turn ko) here))
+told_after turn node before verdict asked missing good found pos here t a attacks wide at e same is =
+    told_by turn node verdict asked found pos here t a attacks wide at
+    (λ ko h. ap (λ (v : Verdict). has v.known ko) same ∙ all_known asked before.known missing e ko h) is
+
+-- what was known before, and what the reading found of the rest, is true of the node after the moves
+pub read_true : {seen more : Fact → Bool} (turn : Turn) (node : AttackerNode) (before verdict : Verdict)
+    (asked missing good : Allowances) (moves : List TrialMove)
+    → IsTrueOf seen turn.target turn.defender node before → Grows seen more → turn.attacker_to_play ≡ true
+    → turn.wide ≡ node.wide
+    → ((pos : BoardState) → Agrees seen pos → after pos moves ≡ changed pos node.changes)
+    → ((pos : BoardState) → Agrees more pos
+    → Tells missing good (λ ko. is_some (first_success node.plies (under turn ko) (after pos moves))))
+    → missing ≡ without asked before.known
+    → verdict ≡ record {
+      known = either before.known missing;
+      good = either (both before.known before.good) good;
+    }
+    → IsTrueOf more turn.target turn.defender node verdict
+read_true turn node before verdict asked missing good moves t grows attacks wide at tells e is =
+    more_true asked missing good verdict t grows e is (λ pos a. Tells-same (tells pos a)
+    (λ ko. sym (won_is turn node pos (after pos moves) attacks wide (at pos (agrees_before grows a)) ko)))

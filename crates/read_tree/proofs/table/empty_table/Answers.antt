@@ -1,0 +1,15 @@
+use Rattle.std.proofs.Common.{subst, sym}
+use Rattle.std.specs.Prelude.{List}
+use Rattle.std.proofs.lemmas.List.Elements.{All-replicate}
+use Rattle.read_tree.specs.declared.table.Entry.{Entry}
+use Rattle.read_tree.specs.Table.{IsTrueOf, IsTrueTable}
+use Rattle.read_tree.proofs.table.empty_table.Goals as goal
+
+-- of each node nothing is known
+pub returns : goal.returns
+returns c = λ seen target defender.
+    subst (λ (table : List Entry). IsTrueTable seen target defender table) (sym c.filled_with.ensures)
+    (record {
+      all = All-replicate (λ (e : Entry). IsTrueOf seen target defender e.node e.verdict) 1024 _
+          (c.nothing.ensures seen target defender _);
+    })

@@ -1,0 +1,105 @@
+//! What the target's liberties alone say of a node.
+
+ghost use Rattle.std.specs.Prelude.{◌≡◌, ◌*◌, ◌<◌, ◌||◌, true};
+ghost use Rattle.go_rules.specs.Neighbourhood.{neighbourhood_of};
+ghost use Rattle.go_rules.specs.Strings.{liberties, liberty_points};
+ghost use Rattle.std.specs.FinSet as set;
+ghost use Rattle.go_rules.specs.Position.{BoardState, stone_of};
+ghost use Rattle.go_base.specs.Facts.{Agrees, AddsIn};
+ghost use Rattle.go_base.specs.Views.{alone};
+ghost use Rattle.trial_board.specs.Trials.{Stays, after};
+ghost use Rattle.read_tree.specs.Bound.{outlasts};
+ghost use Rattle.read_tree.specs.Steps.{IsTaken, IsInAtari, is_safe};
+
+use crate::bound::has_too_many;
+use crate::turn::Turn;
+use go_base::points::PointSet;
+use go_base::{Cell, Colour, Look};
+use trial_board::Trial;
+
+/// How many liberties a string in atari has.
+const IN_ATARI: u16 = 1;
+
+/// The cell of a stone of the colour.
+pub fn stone_of(colour: Colour) -> Cell
+    ensures { result ≡ stone_of colour }
+{
+    match colour {
+        Colour::Black => Cell::Black,
+        Colour::White => Cell::White,
+    }
+}
+
+/// Whether it is the attacker's turn and he may take the target by its only liberty.
+fn can_take<L: Look>(board: &mut Trial<L>, turn: Turn, liberties: &PointSet) -> bool
+    requires target { turn.target < (L.shows board.old.look).size * (L.shows board.old.look).size }
+    requires liberties { liberties.now ≡ liberty_points (L.shows board.old.look).size
+        (after (L.shows board.old.look) board.old.moves).cells turn.target }
+    ensures stays { Stays L.shows L.seen board.old board.new }
+    ensures count { board.new.count ≡ board.old.count }
+    ensures over { (pos : BoardState) → Agrees (L.seen board.new.look) pos
+        → liberties.now ≡ liberty_points pos.size (after pos board.old.moves).cells turn.target
+        → result ≡ true → IsTaken turn (after pos board.old.moves) }
+    ensures near { AddsIn (L.seen board.old.look) (L.seen board.new.look)
+        (λ p. alone turn.target p || set.contains liberties.now p) }
+{
+    if !turn.attacker_to_play || board.cell(turn.target) != stone_of(turn.defender) {
+        return false;
+    }
+    match liberties.first_from(0) {
+        Some(l) => liberties.first_from(l + 1).is_none() && !board.bans(turn.mover(), l),
+        None => false,
+    }
+}
+
+/// Whether it is the defender's turn, the target is his and in atari, and a ply is left after his move. Then the
+/// attacker takes it, unless the defender plays at its liberty or takes an enemy string next to it.
+pub fn is_in_atari<L: Look>(board: &mut Trial<L>, turn: Turn, plies: u8, known: &PointSet) -> bool
+    requires target { turn.target < (L.shows board.old.look).size * (L.shows board.old.look).size }
+    requires liberties { (pos : BoardState) → Agrees (L.seen board.old.look) pos
+        → known.now ≡ liberty_points pos.size (after pos board.old.moves).cells turn.target }
+    ensures stays { Stays L.shows L.seen board.old board.new }
+    ensures over { (pos : BoardState) → Agrees (L.seen board.new.look) pos → result ≡ true
+        → IsInAtari plies turn (after pos board.old.moves) }
+    ensures near { AddsIn (L.seen board.old.look) (L.seen board.new.look) (alone turn.target) }
+{
+    if turn.attacker_to_play || plies == 0 || known.count() != IN_ATARI {
+        return false;
+    }
+    board.cell(turn.target) == stone_of(turn.defender)
+}
+
+/// What is known of a node by the target's liberties alone.
+#[derive(Clone, Copy, Debug, PartialEq, Eq)]
+pub enum Outlook {
+    /// The target is not captured: it has too many liberties.
+    Safe,
+    /// The attacker takes it now.
+    Taken,
+    /// It is to be read.
+    Open,
+}
+
+/// What is known of a node by the target's liberties, which are handed in, with `plies` plies left.
+pub fn outlook_of<L: Look>(board: &mut Trial<L>, turn: Turn, plies: u8, known: &PointSet) -> Outlook
+    requires target { turn.target < (L.shows board.old.look).size * (L.shows board.old.look).size }
+    requires liberties { (pos : BoardState) → Agrees (L.seen board.old.look) pos
+        → known.now ≡ liberty_points pos.size (after pos board.old.moves).cells turn.target }
+    ensures stays { Stays L.shows L.seen board.old board.new }
+    ensures over { (pos : BoardState) → Agrees (L.seen board.new.look) pos
+        → outlasts turn.attacker_to_play plies turn.wide
+        (liberties pos.size (after pos board.old.moves).cells turn.target) ≡ is_safe result }
+    ensures taken { (pos : BoardState) → Agrees (L.seen board.new.look) pos → result ≡ Outlook.Taken
+        → IsTaken turn (after pos board.old.moves) }
+    ensures near { (pos : BoardState) → Agrees (L.seen board.new.look) pos
+        → AddsIn (L.seen board.old.look) (L.seen board.new.look)
+        (neighbourhood_of pos.size (after pos board.old.moves).cells (alone turn.target)) }
+{
+    if has_too_many(turn, plies, known) {
+        return Outlook::Safe;
+    }
+    if can_take(board, turn, known) {
+        return Outlook::Taken;
+    }
+    Outlook::Open
+}
