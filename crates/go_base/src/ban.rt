@@ -1,6 +1,6 @@
 //! The test of the ko ban.
 
-ghost use Rattle.std.specs.Prelude.{◌≡◌};
+ghost use Rattle.std.specs.Prelude.{◌≡◌, ◌↔◌, IsTrue};
 ghost use Rattle.go_rules.specs.Position.{is_banned};
 
 use crate::size::Point;
@@ -14,4 +14,11 @@ pub fn is_banned(ban: Option<(Point, Colour)>, c: Colour, p: Point) -> bool
         Some((q, colour)) => q == p && colour == c,
         None => false,
     }
+}
+
+/// Whether two bans are the same.
+pub(crate) fn are_same(ban: Option<(Point, Colour)>, other: Option<(Point, Colour)>) -> bool
+    ensures { IsTrue result ↔ (ban ≡ other) }
+{
+    ban == other
 }

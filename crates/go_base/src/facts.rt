@@ -12,7 +12,7 @@ ghost use Rattle.go_base.specs.Bits.{is_marked};
 ghost use Rattle.go_base.specs.Facts.{Agrees};
 ghost use Rattle.go_base.specs.AmongFacts.{told, seen_as, asked_of, SeesCell, AsksBan, AllShow, BanStays, is_fact_at};
 
-use crate::ban::is_banned;
+use crate::ban::{are_same, is_banned};
 use crate::bits::PointBits;
 use crate::points::PointSet;
 use crate::position::Position;
@@ -101,10 +101,13 @@ impl Facts {
         all_show(&self.white, Cell::White, position)
     }
 
-    /// Whether the ban is as it was seen wherever it was asked for.
+    /// Whether the ban is as it was seen wherever it was asked for. Where it is the same ban, no point is looked at.
     fn ban_stands(&self, position: &Position) -> bool
         ensures { IsTrue result ↔ ((c : Colour) → BanStays (asked_of self.now c) self.now.ban c position.now) }
     {
+        if are_same(self.ban, position.ban()) {
+            return true;
+        }
         if !ban_stays(&self.asked_of_black, self.ban, Colour::Black, position) {
             return false;
         }

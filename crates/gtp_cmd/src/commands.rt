@@ -1,6 +1,6 @@
 //! The commands of the protocol, and what a line says.
 
-ghost use Rattle.std.specs.Prelude.{◌≡◌, ◌∷◌, ◌++◌, map, option_map, find, IfOk, OnOk};
+ghost use Rattle.std.specs.Prelude.{◌≡◌, ◌∷◌, ◌++◌, length, map, option_map, find, IfOk, OnOk};
 ghost use Rattle.std.specs.List.{flat_map};
 ghost use Rattle.std.specs.Str.{bytes_eq};
 ghost use Rattle.gtp_cmd.specs.Words.{kept, line_feed, plain, words_of};
@@ -11,7 +11,7 @@ ghost use Rattle.gtp_cmd.specs.Commands.{command_in, named, names_text, command_
 use crate::arguments::{colour, colour_and_target, depths, first_number, size_numbered, vertex};
 use crate::komi::KomiText;
 use crate::refusals::RefuseText;
-use crate::words::{next_word, spells};
+use crate::words::{byte_count, next_word, spells};
 use go_base::{Bytes, Colour, NoMemory, Point, Size};
 use std::alloc::Global;
 
@@ -246,11 +246,20 @@ const TABLE: [Row; 23] = [
     },
 ];
 
+/// Whether the row's word is this word, which has so many bytes.
+fn is_row_of(row: &Row, word: &[u8], count: usize) -> bool
+    requires { count ≡ length (kept word.now) }
+    ensures { result ≡ bytes_eq (kept word.now) row.now.word.now }
+{
+    row.word.len() == count && spells(word, row.word)
+}
+
 /// The command of the first of these rows whose word this is.
 fn first_command(rows: &[Row], word: &[u8]) -> Option<CommandName>
     ensures { result ≡ option_map (λ r. r.command) (find (λ r. bytes_eq (kept word.now) r.word.now) rows.now) }
 {
-    let row = rows.iter().find(|row| spells(word, row.word))?;
+    let count = byte_count(word);
+    let row = rows.iter().find(|row| is_row_of(row, word, count))?;
     Some(row.command)
 }
 
