@@ -30,7 +30,8 @@ row_of-entry kind row = omega (arith, kind_below kind)
 -- the rows of the entries of some rows are these rows
 pub rows_of-entries : (kinds : List RowKind) (targets : List ℕ) → map row_of (map (entry_in kinds) targets) ≡ targets
 rows_of-entries kinds [] = refl
-rows_of-entries kinds (t ∷ ts) = ap (λ r. r ∷ map row_of (map (entry_in kinds) ts)) (row_of-entry (get_or kinds t Plain) t)
+rows_of-entries kinds (t ∷ ts) =
+    ap (λ r. r ∷ map row_of (map (entry_in kinds) ts)) (row_of-entry (get_or kinds t Plain) t)
     ∙ ap (λ rs. t ∷ rs) (rows_of-entries kinds ts)
 
 -- a row has four letters

@@ -30,7 +30,8 @@ entry_in kinds row = entry_with (slice_index_or kinds row Plain) row
 pub record AreEntries (rows : List Row) (entries : List ℕ) : Type 0 where
   pub many : length entries ≡ 4 * length rows
   pub each : (r : ℕ) (x : Seen) → r < length rows
-      → slice_index_or entries (4 * r + letter_number x) 0 ≡ entry_with (kind_at rows (step_at rows r x)) (step_at rows r x)
+      → slice_index_or entries (4 * r + letter_number x) 0
+      ≡ entry_with (kind_at rows (step_at rows r x)) (step_at rows r x)
 
 -- the lists belong together, each row has its kind, and each entry is that of its row
 pub record HasEntries (table : Flat) (entries : List ℕ) (kinds : List RowKind) : Type 0 where

@@ -1,5 +1,6 @@
 //! The flat table of an automaton: five vectors for all rows. It grows row by row, and then it is closed.
-ghost use Rattle.std.specs.Prelude.{◌≡◌, ◌+◌, ◌*◌, ◌<◌, ◌≤◌, ◌++◌, ◌∷◌, [], length, take, slice_index_or, map, All, IfOk};
+ghost use Rattle.std.specs.Prelude.{◌≡◌, ◌+◌, ◌*◌, ◌<◌, ◌≤◌, ◌++◌, ◌∷◌, [], length, take, slice_index_or, map};
+ghost use Rattle.std.specs.Prelude.{All, IfOk};
 ghost use Rattle.dfa_core.specs.Automata.{Row, row_at, step_at, IsAutomaton};
 ghost use Rattle.dfa_core.specs.Words.{letter_number};
 ghost use Rattle.dfa_core.specs.Tables.{part_of, numbers_of};

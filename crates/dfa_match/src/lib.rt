@@ -4,8 +4,8 @@
 //! an anchor. `scan` gives exactly the hits, each once; it is given no diagrams. On a padded board each letter of a
 //! transformation is one step for all anchors. The walks from all anchors stand in one list, and all of them read a
 //! letter before the next letter is read; those that are dead are dropped behind each fourth letter. The anchor's own
-//! letter is read once for all transformations. Two laws say that a word that is read from an anchor matches a pattern exactly where the
-//! pattern fits there.
+//! letter is read once for all transformations. Two laws say that a word that is read from an anchor matches a pattern
+//! exactly where the pattern fits there.
 //!
 //! After GNU Go Manual, "The DFA pattern matcher".
 #![tactic(auto)]
