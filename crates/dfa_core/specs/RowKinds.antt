@@ -1,5 +1,6 @@
 -- What a row means to a walk that enters it.
-use Rattle.std.specs.Prelude.{◌≡◌, ℕ, ◌<◌, Bool, ◌&&◌, ◌==◌, List, [], ◌∷◌, length, slice_index_or, if◌then◌else◌}
+use Rattle.std.specs.Prelude.{◌≡◌, ℕ, ◌<◌, ◌≤◌, ◌^◌, Bool, ◌&&◌, ◌==◌, List, [], ◌∷◌, length, slice_index_or}
+use Rattle.std.specs.Prelude.{if◌then◌else◌}
 use Rattle.dfa_core.specs.declared.kind.RowKind.{RowKind}
 use Rattle.dfa_core.specs.declared.kind.RowKind.TheVariants.{Plain, Accepting, Dead}
 use Rattle.dfa_core.specs.Automata.{Row, row_at}
@@ -24,7 +25,12 @@ pub record AreKinds (rows : List Row) (kinds : List RowKind) : Type 0 where
   pub one_each : length kinds ≡ length rows
   pub each : (r : ℕ) → r < length rows → slice_index_or kinds r Plain ≡ kind_at rows r
 
--- the lists belong together, and each row that they show has its kind
+-- the most rows that a table has
+abbrev pub most_rows : ℕ
+most_rows = 2 ^ 30
+
+-- the lists belong together, each row that they show has its kind, and there are no more rows than the most
 pub record HasKinds (table : Flat) (kinds : List RowKind) : Type 0 where
   pub flat : IsFlat table
   pub of_rows : AreKinds (rows_in table) kinds
+  pub few : length table.depths ≤ most_rows

@@ -52,9 +52,3 @@ pub record IsFlat (table : Flat) : Type 0 where
 -- the numbers of all rows, one row after the other
 abbrev pub numbers_of : List Row → List ℕ
 numbers_of rows = flat_map (λ row. row.numbers) rows
-
--- the targets are those of the rows, four for each row in the order of the letters
-pub record AreTargets (rows : List Row) (targets : List ℕ) : Type 0 where
-  pub many : length targets ≡ 4 * length rows
-  pub each : (r : ℕ) (x : Seen) → r < length rows
-      → slice_index_or targets (4 * r + letter_number x) 0 ≡ step_at rows r x

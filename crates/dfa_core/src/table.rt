@@ -1,15 +1,21 @@
-//! The flat table of an automaton: five vectors for all rows.
-ghost use Rattle.std.specs.Prelude.{◌≡◌, ◌+◌, ◌*◌, ◌<◌, ◌≤◌, ◌++◌, ◌∷◌, [], length, take, slice_index_or, IfOk};
-ghost use Rattle.dfa_core.specs.Automata.{Row, row_at, step_at};
+//! The flat table of an automaton: five vectors for all rows. It grows row by row, and then it is closed.
+ghost use Rattle.std.specs.Prelude.{◌≡◌, ◌+◌, ◌*◌, ◌<◌, ◌≤◌, ◌++◌, ◌∷◌, [], length, take, slice_index_or, map};
+ghost use Rattle.std.specs.Prelude.{All, IfOk};
+ghost use Rattle.dfa_core.specs.Automata.{Row, row_at, step_at, IsAutomaton};
 ghost use Rattle.dfa_core.specs.Words.{letter_number};
-ghost use Rattle.dfa_core.specs.Tables.{AreTargets, part_of, numbers_of};
-ghost use Rattle.dfa_core.specs.RowKinds.{kind_at, AreKinds};
+ghost use Rattle.dfa_core.specs.Tables.{part_of, numbers_of};
+ghost use Rattle.dfa_core.specs.RowKinds.{kind_at, most_rows};
+ghost use Rattle.dfa_core.specs.Entries.{entry_in, AreEntries};
 
 use crate::automaton::Seen;
+use crate::entry::{entry_of, row_in};
 use crate::kind::{RowKind, kind_of};
 use go_base::NoMemory;
 use std::alloc::Global;
 use std::marker::Model;
+
+/// The most rows that a table may have: an entry is less than four times as much.
+const MOST_ROWS: usize = 1_073_741_824;
 
 /// A table of rows, seen as the rows. It grows row by row.
 #[derive(Drop)]
@@ -22,7 +28,7 @@ pub struct Table {
     numbers: Vec<u16>,
     /// The depth of each row.
     depths: Vec<u16>,
-    /// The kind of each row, which a walk asks for at each step.
+    /// The kind of each row.
     kinds: Vec<RowKind>,
 }
 
@@ -57,12 +63,12 @@ fn column(letter: Seen) -> usize
     letter as usize
 }
 
-/// The row that a letter leads to from a row, of the targets of an automaton.
-pub fn target_in(targets: &[u32], row: u32, letter: Seen) -> u32
-    requires { 4 * row + 4 ≤ length targets.now }
-    ensures { result ≡ slice_index_or targets.now (4 * row + letter_number letter) 0 }
+/// The entry of the row that a letter leads to from a row, of the entries of an automaton.
+pub fn entry_at(entries: &[u32], row: u32, letter: Seen) -> u32
+    requires { 4 * row + 4 ≤ length entries.now }
+    ensures { result ≡ slice_index_or entries.now (4 * row + letter_number letter) 0 }
 {
-    targets[4 * row as usize + column(letter)]
+    entries[4 * row as usize + column(letter)]
 }
 
 /// The numbers from one place to another.
@@ -90,7 +96,8 @@ impl Table {
         })
     }
 
-    /// The table with one row more, which accepts the numbers of both lists, one list after the other. Takes memory.
+    /// The table with one row more, which accepts the numbers of both lists, one list after the other. Takes memory;
+    /// for more than 2^30 rows there is none.
     pub fn with_row(
         self,
         targets_of_row: [u32; 4],
@@ -111,6 +118,9 @@ impl Table {
             mut depths,
             mut kinds,
         } = self;
+        if depths.len() >= MOST_ROWS {
+            return Err(NoMemory);
+        }
         let kind = kind_of(depths.len(), targets_of_row, first, second);
         targets.extend_from_slice(&targets_of_row)?;
         numbers.extend_from_slice(first)?;
@@ -134,26 +144,101 @@ impl Table {
         self.depths.len()
     }
 
+    /// The closed table of the same rows.
+    pub fn closed(self) -> ClosedTable
+        requires { IsAutomaton self }
+        ensures { result ≡ self }
+    {
+        let Table {
+            mut targets,
+            starts,
+            numbers,
+            depths,
+            kinds,
+        } = self;
+        write_kinds(&mut targets, &kinds);
+        ClosedTable {
+            entries: targets,
+            starts,
+            numbers,
+            depths,
+            kinds,
+        }
+    }
+}
+
+/// Writes each of these targets as its entry.
+fn write_kinds(targets: &mut [u32], kinds: &[RowKind])
+    requires few { length kinds.now ≤ most_rows }
+    requires rows { All (λ row. row < length kinds.now) targets.old }
+    ensures { targets.new ≡ map (entry_in kinds.now) targets.old }
+{
+    'targets: for target in targets.iter_mut() {
+        let row = *target;
+        *target = entry_of(kinds[row as usize], row);
+    }
+}
+
+/// A table to which no row is added, seen as the rows. Beside each target it has the kind of its row.
+#[derive(Drop)]
+pub struct ClosedTable {
+    /// The entries of the rows that Friend, Enemy, Empty and Off lead to: four for each row.
+    entries: Vec<u32>,
+    /// Where the numbers of each row begin, and at the end where those of the last row end.
+    starts: Vec<usize>,
+    /// The numbers of all rows, one row after the other.
+    numbers: Vec<u16>,
+    /// The depth of each row.
+    depths: Vec<u16>,
+    /// The kind of each row.
+    kinds: Vec<RowKind>,
+}
+
+impl Model for ClosedTable {
+    ghost use Rattle.std.specs.Prelude.{List, map};
+    ghost use Rattle.dfa_core.specs.Automata.{Row};
+    ghost use Rattle.dfa_core.specs.Tables.{rows_in};
+    ghost use Rattle.dfa_core.specs.Entries.{row_of, HasEntries};
+
+    ghost Value = { List Row };
+
+    ghost view = { λ t. rows_in (record {
+      targets = map row_of t.entries.items;
+      starts = t.starts.items;
+      numbers = t.numbers.items;
+      depths = t.depths.items;
+    }) };
+
+    ghost invariant = { λ t. HasEntries (record {
+      targets = map row_of t.entries.items;
+      starts = t.starts.items;
+      numbers = t.numbers.items;
+      depths = t.depths.items;
+    }) t.entries.items t.kinds.items };
+}
+
+impl ClosedTable {
+    /// How many rows it has.
+    pub fn rows(&self) -> usize
+        ensures { result ≡ length self.now }
+    {
+        self.depths.len()
+    }
+
     /// The row that a letter leads to from a row.
     pub fn target(&self, row: u32, letter: Seen) -> u32
         requires { row < length self.now }
         ensures { result ≡ step_at self.now row letter }
     {
-        self.targets[4 * row as usize + column(letter)]
+        row_in(self.entries[4 * row as usize + column(letter)])
     }
 
-    /// The rows that the letters lead to, four for each row.
-    pub fn targets(&self) -> &[u32]
-        ensures { AreTargets self.now result.now }
+    /// The entries of the rows that the letters lead to, four for each row.
+    pub fn entries(&self) -> &[u32]
+        requires { IsAutomaton self.now }
+        ensures { AreEntries self.now result.now }
     {
-        self.targets.as_slice()
-    }
-
-    /// The kind of each row.
-    pub fn kinds(&self) -> &[RowKind]
-        ensures { AreKinds self.now result.now }
-    {
-        self.kinds.as_slice()
+        self.entries.as_slice()
     }
 
     /// How many letters lead to a row.

@@ -1,8 +1,7 @@
 -- Where the places around an anchor stand on the padded board.
-use Rattle.std.specs.Prelude.{ℕ, suc, ◌+◌, ◌-◌, ◌*◌, ◌/◌, ◌%◌, ℤ, pos, negsuc, List, [], ◌∷◌}
+use Rattle.std.specs.Prelude.{ℕ, suc, ◌+◌, ◌-◌, ◌*◌, ◌/◌, ◌%◌, ℤ, pos, negsuc}
 use Rattle.go_rules.specs.Board.{largest_size}
-use Rattle.go_rules.specs.Transform.{Offset, largest_offset, transformed}
-use Rattle.spiral.specs.Spiral.{offset_at}
+use Rattle.go_rules.specs.Transform.{Offset, largest_offset}
 use Rattle.dfa_match.specs.Sights.{padded_side}
 
 -- the index at which the square of all offsets around the point m of a board of size s begins
@@ -29,11 +28,3 @@ last_step = 2 * largest_offset * padded_side + 2 * largest_offset
 -- how far behind the beginning of a square its own point lies
 abbrev pub no_step : ℕ
 no_step = step_by (pos 0, pos 0)
-
--- how far behind the beginning of a square the place of the offset with the index i lies, moved by t
-abbrev pub step_to : ℕ → ℕ → ℕ
-step_to t i = step_by (transformed t (offset_at i))
-
--- the same of the offset with the index i and of the three behind it
-abbrev pub four_steps : ℕ → ℕ → List ℕ
-four_steps t i = step_to t i ∷ step_to t (i + 1) ∷ step_to t (i + 2) ∷ step_to t (i + 3) ∷ []

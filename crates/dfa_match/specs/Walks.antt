@@ -1,5 +1,5 @@
 -- Walks of an automaton from all anchors at once, letter by letter.
-use Rattle.std.specs.Prelude.{◌≡◌, ◌⊎◌, ℕ, ◌+◌, ◌*◌, ◌<◌, ◌≤◌, Bool, true, false, List, [], ◌∷◌, ◌++◌, map, filter}
+use Rattle.std.specs.Prelude.{◌≡◌, ◌⊎◌, ℕ, ◌+◌, ◌*◌, ◌<◌, ◌≤◌, Bool, true, false, List, map, filter}
 use Rattle.std.specs.Prelude.{slice_index_or, Contains, AllPairs}
 use Rattle.std.specs.List.{flat_map, range_with_len}
 use Rattle.go_rules.specs.declared.Colour.{Colour}
@@ -57,19 +57,6 @@ second_walks_of automaton letters s =
 -- the hits of the rows where the walks stand
 abbrev pub hits_of : List Row → ℕ → List Walk → List Hit
 hits_of automaton t walks = flat_map (λ w. hits_at t w.anchor (row_at automaton w.row).numbers) walks
-
--- the walk after the letters more that it reads at these steps
-abbrev pub after_letters : List Row → List Seen → List ℕ → Walk → Walk
-after_letters automaton letters [] w = w
-after_letters automaton letters (step ∷ steps) w =
-    after_letters automaton letters steps (after_letter automaton letters step w)
-
--- the hits of the rows to which the letters at these steps lead the walk
-abbrev pub hits_along : List Row → List Seen → ℕ → List ℕ → Walk → List Hit
-hits_along automaton letters t [] w = []
-hits_along automaton letters t (step ∷ steps) w =
-    hits_at t w.anchor (row_at automaton (after_letter automaton letters step w).row).numbers
-    ++ hits_along automaton letters t steps (after_letter automaton letters step w)
 
 -- the row that the first i letters lead to from the anchor m
 abbrev pub row_after : List Row → BoardState → Colour → ℕ → ℕ → ℕ → ℕ

@@ -2,10 +2,10 @@
 //!
 //! A hit is a number that the automaton accepts at the end of a word, which is what is seen along the moved spiral from
 //! an anchor. `scan` gives exactly the hits, each once; it is given no diagrams. On a padded board each letter of a
-//! transformation is one step for all anchors. The walks from all anchors stand in one list, and each reads four
-//! letters before the next one does; those that are dead then are dropped. The anchor's own letter is read once for
-//! all transformations. Two laws say that a word that is read from an anchor matches a pattern exactly where the
-//! pattern fits there.
+//! transformation is one step for all anchors. The walks from all anchors stand in one list, and all of them read a
+//! letter before the next letter is read; those that are dead are dropped behind each fourth letter. The anchor's own
+//! letter is read once for all transformations. Two laws say that a word that is read from an anchor matches a pattern
+//! exactly where the pattern fits there.
 //!
 //! After GNU Go Manual, "The DFA pattern matcher".
 #![tactic(auto)]
@@ -28,16 +28,13 @@ mod letters;
 mod sights;
 mod walks;
 
-use crate::letters::{LETTERS, next_steps, read_letters};
-use crate::sights::Sights;
+use crate::letters::{drop_some, read_letter};
+use crate::sights::{Sights, step_of};
 use crate::walks::{Walk, copied, first_walks, give_all, give_start, second_walks};
 use dfa_core::Automaton;
 use go_base::transform::TRANSFORMATIONS;
 use go_base::{Colour, Look, NoMemory, Point, Transform};
 use spiral::{OFFSETS, TurnedSpiral};
-
-/// In how many turns a walk reads all letters behind that of its anchor.
-const TURNS: u16 = (OFFSETS - 1) / LETTERS as u16;
 
 /// A pattern that an automaton accepts from an anchor under a transformation.
 #[derive(Clone, Copy, Debug, PartialEq, Eq)]
@@ -87,12 +84,13 @@ fn sweep(
     give_all(automaton, t, second, out)?;
     let mut walks = copied(*out.allocator(), second)?;
     let mut spiral = TurnedSpiral::new(t);
-    'letters: for turn in 0..TURNS {
+    'letters: for index in 1..OFFSETS {
         if walks.is_empty() {
             return Ok(());
         }
-        let steps = next_steps(&mut spiral, LETTERS as u16 * turn + 1);
-        read_letters(automaton, sights, &steps, t, &mut walks, out)?;
+        let step = step_of(spiral.moved(index));
+        read_letter(automaton, sights, step, t, &mut walks, out)?;
+        drop_some(automaton, index, &mut walks);
     }
     Ok(())
 }

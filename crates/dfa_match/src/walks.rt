@@ -4,7 +4,7 @@ ghost use Rattle.std.specs.Prelude.{length, map, filter, All, IfOk, OnOk};
 ghost use Rattle.std.specs.List.{range_with_len};
 ghost use Rattle.go_rules.specs.Board.{largest_size};
 ghost use Rattle.dfa_core.specs.Automata.{Row, row_at, step_at};
-ghost use Rattle.dfa_core.specs.Tables.{AreTargets};
+ghost use Rattle.dfa_core.specs.Entries.{AreEntries, entry_with};
 ghost use Rattle.dfa_core.specs.RowKinds.{kind_at};
 ghost use Rattle.dfa_match.specs.Hits.{hits_at};
 ghost use Rattle.dfa_match.specs.Steps.{last_corner, last_step, no_step};
@@ -12,7 +12,7 @@ ghost use Rattle.dfa_match.specs.Walks.{walk_at, after_letter, IsWithin, is_aliv
 
 use crate::sights::{Sights, corner_of, step_of};
 use crate::{Hit, add};
-use dfa_core::{Automaton, RowKind, target_in};
+use dfa_core::{Automaton, RowKind, Seen, entry_at, row_in};
 use go_base::{NoMemory, Point, Size, Transform};
 use std::alloc::Global;
 
@@ -64,27 +64,32 @@ pub fn copied(alloc: Global, walks: &[Walk]) -> Result<Vec<Walk>, NoMemory>
     Ok(copy)
 }
 
+/// The entry of the row to which the letter at this step behind its corner leads a walk.
+#[inline(always)]
+pub fn next_entry(entries: &[u32], sights: &Sights, step: u16, row: u32, corner: u16) -> u32
+    requires row { 4 * row + 4 ≤ length entries.now }
+    requires corner { corner ≤ last_corner }
+    requires step { step ≤ last_step }
+    ensures { (automaton : List Row) → AreEntries automaton entries.now → row < length automaton → result ≡
+        (let next : ℕ = step_at automaton row (slice_index_or sights.now.letters (corner + step) Seen.Off) in
+        entry_with (kind_at automaton next) next) }
+{
+    entry_at(entries, row, sights.letter(corner, step))
+}
+
 /// The walk after one letter more, which it reads at this step behind its corner.
-fn moved_on(targets: &[u32], sights: &Sights, step: u16, walk: Walk) -> Walk
-    requires row { 4 * walk.row + 4 ≤ length targets.now }
+fn moved_on(entries: &[u32], sights: &Sights, step: u16, walk: Walk) -> Walk
+    requires row { 4 * walk.row + 4 ≤ length entries.now }
     requires corner { walk.corner ≤ last_corner }
     requires step { step ≤ last_step }
-    ensures { (automaton : List Row) → AreTargets automaton targets.now → walk.row < length automaton
+    ensures { (automaton : List Row) → AreEntries automaton entries.now → walk.row < length automaton
         → result ≡ after_letter automaton sights.now.letters step walk }
 {
     Walk {
-        row: target_in(targets, walk.row, sights.letter(walk.corner, step)),
+        row: row_in(next_entry(entries, sights, step, walk.row, walk.corner)),
         corner: walk.corner,
         anchor: walk.anchor,
     }
-}
-
-/// The kind of a row, of the kinds of an automaton.
-fn kind_in(kinds: &[RowKind], row: u32) -> RowKind
-    requires { row < length kinds.now }
-    ensures { result ≡ slice_index_or kinds.now row RowKind.Plain }
-{
-    kinds[row as usize]
 }
 
 /// Whether a walk goes on from a row with this kind.
@@ -164,13 +169,12 @@ pub fn second_walks(
         (map (after_letter automaton.now sights.now.letters no_step) first.now)) }
 {
     let _ = automaton.rows();
-    let targets = automaton.targets();
-    let kinds = automaton.kinds();
+    let entries = automaton.entries();
     let step = step_of((0, 0));
     let mut walks = Vec::with_capacity(alloc, first.len())?;
     'walks: for walk in first {
-        let next = moved_on(targets, sights, step, *walk);
-        if is_alive(kind_in(kinds, next.row)) {
+        let next = moved_on(entries, sights, step, *walk);
+        if is_alive(automaton.kind(next.row)) {
             walks.push(next)?;
         }
     }

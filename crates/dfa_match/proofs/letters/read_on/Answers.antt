@@ -1,68 +1,72 @@
-use Rattle.std.proofs.Common.{◌≡◌, ◌∙◌, ◌+◌, ◌<◌, ℕ, ◌++◌, Bool, List, length, get_or, take, sym, ap, subst}
-use Rattle.std.specs.List.{All, flat_map}
+use Rattle.std.proofs.Common.{◌≡◌, ℕ, ◌+◌, ◌<◌, ◌%◌, bit_or, max, [], List, length, get_or, arith, ap, sym, ◌∙◌}
+use Rattle.std.proofs.Common.{subst, inl, inr, get_or-set_same, get_or-set_other}
+use Rattle.std.specs.Int.{bit_at}
+use Rattle.std.specs.List.{AllWithin}
 use Rattle.std.proofs.Math.ListN.{set}
-use Rattle.std.proofs.lemmas.List.{take_more, flat_map_more}
-use Rattle.dfa_core.specs.Automata.{Row}
+use Rattle.std.proofs.lemmas.Bool.{cases_lt}
+use Rattle.std.proofs.lemmas.List.{get_or_default}
+use Rattle.std.proofs.lemmas.List.Edits.{map_over_more}
+use Rattle.std.proofs.lemmas.Nat.Bits.{bit_at_or, bit_at_lowest}
+use Rattle.dfa_core.specs.Automata.{Row, row_at, step_at}
+use Rattle.dfa_core.specs.RowKinds.{kind_at}
+use Rattle.dfa_core.specs.Entries.{entry_with, row_of}
+use Rattle.dfa_core.proofs.Entries.{row_of-entry, silent_entry}
+use Rattle.dfa_core.specs.declared.automaton.Seen.TheVariants.{Off}
 use Rattle.dfa_match.specs.declared.walks.Walk.{Walk}
-use Rattle.dfa_match.specs.declared.Hit.{Hit}
-use Rattle.dfa_match.specs.Walks.{after_letters, hits_along, IsWithin, is_alive, goes_on}
-use Rattle.dfa_match.proofs.FewLetters.{only_row}
-use Rattle.dfa_match.proofs.InPlace.{ChangesInPlace, ChangesInPlace-same, ChangesInPlace-on, ChangesInPlace-over}
-use Rattle.dfa_match.proofs.letters.read_on.Goals.{then-is_alive, else-is_alive}
+use Rattle.dfa_match.specs.Walks.{after_letter}
+use Rattle.dfa_match.proofs.InPlace.{same_next}
 use Rattle.dfa_match.proofs.letters.read_on.Goals as goal
 
--- no walk
-abbrev none : Walk
-none = record { row = 0; corner = 0; anchor = 0 }
+-- a number that is joined of two is even only where both are
+or_even : (a b : ℕ) → bit_or a b % 2 ≡ 0 → (a % 2 ≡ 0) × (b % 2 ≡ 0)
+or_even a b even =
+    let none : max (bit_at a 0) (bit_at b 0) ≡ 0 = sym (bit_at_or a b 0) ∙ bit_at_lowest (bit_or a b) ∙ even in (
+      omega (arith, none, bit_at_lowest a),
+      omega (arith, none, bit_at_lowest b),
+    )
 
--- the walk that is looked at is as it was, and stands at a row
-here : (rows : ℕ) (f : Walk → Walk) (p : Walk → Bool) (old now : List Walk) (k i : ℕ) → ChangesInPlace f p old now k i
-    → i < length old → All (IsWithin rows) old → IsWithin rows (get_or now i none)
-here rows f p old now k i left low within = subst (IsWithin rows) (sym (ChangesInPlace-same left none))
-    (within i none low)
+-- one walk more at a row that accepts nothing
+silent_more : (automaton : List Row) (walks : List Walk) (i : ℕ) (w : Walk) → i < length walks
+    → AllWithin (λ v. (row_at automaton v.row).numbers ≡ []) walks 0 i → (row_at automaton w.row).numbers ≡ []
+    → AllWithin (λ v. (row_at automaton v.row).numbers ≡ []) (set walks i w) 0 (i + 1)
+silent_more automaton walks i w on before now k d low high =
+    elim (cases_lt k i) [
+      | inl old ↦ subst (λ v. (row_at automaton v.row).numbers ≡ [])
+          (sym (get_or-set_other walks i k w d (λ same. omega (arith, same)))) (before k d low old)
+      | inr last ↦
+          let same : k ≡ i = omega arith in
+          subst (λ v. (row_at automaton v.row).numbers ≡ [])
+          (sym (ap (λ j. get_or (set walks i w) j d) same ∙ get_or-set_same walks i w d on)) now
+    ]
 
--- so it can be read
-pub read_steps-reading-requires-clause-within : goal.read_steps-reading-requires-clause-within
-read_steps-reading-requires-clause-within c =
-    here _ _ _ _ _ _ _ c.walks.invariant.left c.walks-test.true c.requires.within
-
--- and give out hits
-pub give_met-requires-clause-within : goal.give_met-requires-clause-within
-give_met-requires-clause-within c = here _ _ _ _ _ _ _ c.walks.invariant.left c.walks-test.true c.requires.within
-
--- one walk more was looked at
+-- one walk more has read its letter
 pub walks-preserved : goal.walks-preserved
 walks-preserved c =
     let automaton : List Row = c.args.automaton.now in
-    let read : Walk → Walk = after_letters automaton c.args.sights.now.letters c.args.steps.now in
-    let along : Walk → List Hit = hits_along automaton c.args.sights.now.letters c.args.t c.args.steps.now in
-    let old : List Walk = c.args.walks.now in
-    let was : Walk = get_or c.walks.walks c.walks.index none in
-    let walk : Walk = record { row = c.read_steps-reading.result.row; corner = was.corner; anchor = was.anchor } in
-    let same : was ≡ get_or old c.walks.index none = ChangesInPlace-same c.walks.invariant.left none in
-    let is : walk ≡ read (get_or old c.walks.index none) =
-    only_row automaton c.args.sights.now.letters c.args.steps.now was c.read_steps-reading.result.row
-    c.read_steps-reading.ensures.row ∙ ap read same in
-    let alive : goes_on automaton walk ≡ c.is_alive.result = ap is_alive (sym c.read_steps-reading.ensures.kind)
-    ∙ sym c.is_alive.ensures in
-    let hits : c.give_met.new.out.items ≡ c.args.out.now.items ++ flat_map along (take (c.walks.index + 1) old) =
-    c.in_ok-give_met.ensures ∙ ap (λ hs. hs ++ along was) c.walks.invariant.hits
-    ∙ ap (λ w. (c.args.out.now.items ++ flat_map along (take c.walks.index old)) ++ along w) same
-    ∙ flat_map_more along c.args.out.now.items (take c.walks.index old) (get_or old c.walks.index none)
-    ∙ ap (λ ws. c.args.out.now.items ++ flat_map along ws) (sym (take_more old c.walks.index none c.walks-test.true)) in
-    elim c.if-is_alive.branch [
-      | then-is_alive w ↦ record {
-        left = subst (λ n. ChangesInPlace read (goes_on automaton) old (set c.walks.walks c.walks.count walk) n
-            (c.walks.index + 1)) (sym w.count-is)
-            (ChangesInPlace-on read (goes_on automaton) old c.walks.walks c.walks.count c.walks.index none walk
-            c.walks.invariant.left c.walks-test.true is (alive ∙ w.if-is_alive.true));
-        hits = hits;
-      }
-      | else-is_alive w ↦ record {
-        left = subst (λ n. ChangesInPlace read (goes_on automaton) old (set c.walks.walks c.walks.count walk) n
-            (c.walks.index + 1)) (sym w.count-is)
-            (ChangesInPlace-over read (goes_on automaton) old c.walks.walks c.walks.count c.walks.index none walk
-            c.walks.invariant.left c.walks-test.true is (alive ∙ w.if-is_alive.false));
-        hits = hits;
-      }
-    ]
+    let letters = c.args.sights.now.letters in
+    let none : Walk = record { row = 0; corner = 0; anchor = 0 } in
+    let walk : Walk = get_or c.walks.walks c.walks.walk-index none in
+    let on : c.walks.walk-index < length c.walks.walks = omega (arith, c.walks.auto.walks) in
+    let low : walk.row < length automaton = subst (λ (w : Walk). w.row < length automaton)
+    (sym (same_next (after_letter automaton letters c.args.step) c.args.walks.now c.walks.walks c.walks.walk-index none
+    c.walks-test.true c.walks.invariant.value))
+    (c.requires.within c.walks.walk-index none c.walks-test.true).row in
+    let next : ℕ = step_at automaton walk.row (get_or letters (walk.corner + c.args.step) Off) in
+    let entry : c.next_entry-entry.result ≡ entry_with (kind_at automaton next) next =
+    c.next_entry-entry.ensures automaton c.entries-entries.ensures low in
+    let row : c.row_in-walk.result ≡ next = c.row_in-walk.ensures ∙ ap row_of entry
+    ∙ row_of-entry (kind_at automaton next) next in
+    record {
+      value = ap (λ r. set c.walks.walks c.walks.walk-index
+          (record { row = r; corner = walk.corner; anchor = walk.anchor })) row
+          ∙ map_over_more (after_letter automaton letters c.args.step) c.args.walks.now c.walks.walks
+          c.walks.walk-index walk c.walks-test.true c.walks.invariant.value
+          (get_or_default c.walks.walks c.walks.walk-index _ walk on);
+      silent = λ even.
+          let parts = or_even c.walks.met c.next_entry-entry.result even in
+          silent_more automaton c.walks.walks c.walks.walk-index
+          (record { row = c.row_in-walk.result; corner = walk.corner; anchor = walk.anchor }) on
+          (c.walks.invariant.silent parts.0)
+          (subst (λ r. (row_at automaton r).numbers ≡ []) (sym row)
+          (silent_entry automaton next (subst (λ e. e % 2 ≡ 0) entry parts.1)));
+    }

@@ -1,14 +1,13 @@
-use Rattle.std.proofs.Common.{◌≡◌, ◌++◌, take}
-use Rattle.std.specs.List.{flat_map}
-use Rattle.dfa_match.specs.Walks.{after_letters, hits_along, goes_on}
-use Rattle.dfa_match.proofs.InPlace.{ChangesInPlace}
+use Rattle.std.proofs.Common.{◌≡◌, ◌++◌, ◌%◌, [], map, take, drop}
+use Rattle.std.specs.List.{AllWithin}
+use Rattle.dfa_core.specs.Automata.{row_at}
+use Rattle.dfa_match.specs.Walks.{after_letter}
 use Rattle.dfa_match.proofs.letters.read_on.Given as goal
 
--- of the walks before those that go on behind the letters stand in front, and the hits along them were added
+-- the walks before have read the letter, and where the number is even none of them came to a row that accepts something
 abbrev pub invariant-walks : goal.invariant-walks
 invariant-walks l = record {
-  left : ChangesInPlace (after_letters l.automaton l.sights.letters l.steps) (goes_on l.automaton) l.fn.walks l.walks
-      l.count l.index;
-  hits : l.out.items ≡ l.fn.out.items
-      ++ flat_map (hits_along l.automaton l.sights.letters l.t l.steps) (take l.index l.fn.walks);
+  value : l.walks ≡ map (after_letter l.automaton l.sights.letters l.step)
+      (take l.walk-index l.fn.walks) ++ drop l.walk-index l.fn.walks;
+  silent : l.met % 2 ≡ 0 → AllWithin (λ w. (row_at l.automaton w.row).numbers ≡ []) l.walks 0 l.walk-index;
 }

@@ -1,4 +1,4 @@
-use Rattle.std.proofs.Common.{◌≡◌, ◌++◌, ◌∷◌, ◌<◌, true, false, List, [], length, get_or, ap, sym, ◌∙◌, subst, arith}
+use Rattle.std.proofs.Common.{◌≡◌, ◌++◌, ◌∷◌, ◌<◌, true, false, List, [], length, get_or, ap, sym, ◌∙◌, arith}
 use Rattle.std.proofs.lemmas.List.{append-nil}
 use Rattle.dfa_core.specs.Automata.{Row}
 use Rattle.dfa_core.specs.RowKinds.{kind_at}
@@ -19,13 +19,9 @@ walks-preserved c =
     let low : walk.row < length automaton = (c.requires c.walks.walk-index (record { row = 0; corner = 0; anchor = 0 })
     on).row in
     let next : c.moved_on-next.result ≡ after_letter automaton c.args.sights.now.letters no_step walk =
-    c.moved_on-next.ensures automaton c.targets-targets.ensures low
+    c.moved_on-next.ensures automaton c.entries-entries.ensures low
     ∙ ap (λ step. after_letter automaton c.args.sights.now.letters step walk) c.step_of-step.ensures.value in
-    let inside : c.moved_on-next.result.row < length automaton =
-    subst (λ (w : Walk). w.row < length automaton) (sym next)
-    (c.rows.ensures.automaton.targets walk.row _ low) in
-    let kind : c.kind_in.result ≡ kind_at automaton c.moved_on-next.result.row =
-    c.kind_in.ensures ∙ c.kinds-kinds.ensures.each c.moved_on-next.result.row inside in
+    let kind : c.kind.result ≡ kind_at automaton c.moved_on-next.result.row = c.kind.ensures in
     record {
       gathered = elim c.if-is_alive.branch [
         | then-is_alive+in_ok-push w ↦

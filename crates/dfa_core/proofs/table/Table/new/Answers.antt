@@ -1,4 +1,4 @@
-use Rattle.std.proofs.Common.{◌∙◌, ◌++◌, ◌∷◌, [], ap}
+use Rattle.std.proofs.Common.{◌∙◌, ◌++◌, ◌∷◌, [], ap, arith, length}
 use Rattle.dfa_core.specs.Tables.{Flat, rows_in}
 use Rattle.dfa_core.proofs.Tables.{flat_with, rows_in-none, IsFlat-none}
 use Rattle.dfa_core.proofs.RowKinds.{AreKinds-none}
@@ -18,4 +18,5 @@ invariant_of-result c =
           ∙ ap (λ starts. starts ++ 0 ∷ []) c.new-starts.ensures.items) c.new-2.ensures.items c.new-3.ensures.items;
       of_rows = AreKinds-none (rows_in table) c.new-4.result.items
           (rows_in-none table c.new-3.ensures.items) c.new-4.ensures.items;
+      few = omega (arith, ap length c.new-3.ensures.items);
     }

@@ -1,4 +1,5 @@
-use Rattle.std.proofs.Common.{◌≡◌, ◌∙◌, ◌++◌, ◌∷◌, [], sym, ap, arith}
+use Rattle.std.proofs.Common.{◌≡◌, ◌∙◌, ◌++◌, ◌∷◌, [], sym, ap, arith, length}
+use Rattle.std.proofs.lemmas.List.{length_push}
 use Rattle.dfa_core.specs.Automata.{Row}
 use Rattle.dfa_core.specs.Tables.{Flat, rows_in}
 use Rattle.dfa_core.specs.RowKinds.{kind_with}
@@ -36,9 +37,9 @@ one_more : (c : In_ok-push-3) → rows_in (new_table c) ≡ rows_in (old_table c
 one_more c =
     rows_in-grown (old_table c) (new_table c)
     c.args.targets_of_row c.extend_from_slice-2.new.self.items c.args.first.now c.args.second.now c.args.depth
-    c.len-2.result
+    c.len-3.result
     c.self.invariant.flat (omega arith) c.in_ok-extend_from_slice.ensures.items c.in_ok-push.ensures.items
-    (c.len-2.ensures ∙ c.extend_from_slice-3.new.self.ok.0) c.in_ok-extend_from_slice-2.ensures.items
+    (c.len-3.ensures ∙ c.extend_from_slice-3.new.self.ok.0) c.in_ok-extend_from_slice-2.ensures.items
     c.in_ok-extend_from_slice-3.ensures.items c.in_ok-push-2.ensures.items
 
 -- the new row comes behind those of the table that was given
@@ -60,13 +61,21 @@ invariant_of-result c =
     record {
       flat = IsFlat-grown (old_table at) (new_table at)
           c.args.targets_of_row c.extend_from_slice-2.new.self.items c.args.first.now c.args.second.now c.args.depth
-          c.len-2.result
+          c.len-3.result
           c.self.invariant.flat (omega arith) c.in_ok-extend_from_slice.ensures.items c.in_ok-push.ensures.items
-          (c.len-2.ensures ∙ c.extend_from_slice-3.new.self.ok.0) c.in_ok-extend_from_slice-2.ensures.items
+          (c.len-3.ensures ∙ c.extend_from_slice-3.new.self.ok.0) c.in_ok-extend_from_slice-2.ensures.items
           c.in_ok-extend_from_slice-3.ensures.items c.in_ok-push-2.ensures.items;
       of_rows = AreKinds-more (rows_in (old_table at)) (rows_in (new_table at))
           (row_of at) c.self.inside.kinds.items c.push-3.new.self.items c.kind_of-kind.result c.self.invariant.of_rows
           (one_more at) c.in_ok-push-3.ensures.items
           (c.kind_of-kind.ensures ∙ ap (λ n. kind_with n c.args.targets_of_row (c.args.first.now ++ c.args.second.now))
-          (c.len.ensures ∙ c.self.inside.depths.ok.0 ∙ sym (length-rows (old_table at))));
+          (c.len-2.ensures ∙ c.self.inside.depths.ok.0 ∙ sym (length-rows (old_table at))));
+      few = omega (
+        arith,
+        c.if-len-ge-MOST_ROWS.false,
+        c.len.ensures,
+        c.self.inside.depths.ok.0,
+        ap length c.in_ok-push-2.ensures.items,
+        length_push c.self.inside.depths.items c.args.depth,
+      );
     }
