@@ -1,13 +1,9 @@
 -- What a caller of `eval` owes: a constraint that a pattern keeps may be evaluated, and where each argument that has a
 -- point has one on the board, the arguments of each expression are placed.
-use Rattle.std.proofs.Common.{◌≡◌, true, nat_le, IsTrue, List, [], ◌∷◌, Some, refl}
-use Rattle.std.proofs.lemmas.Bool.{leb-true, and_from}
-use Rattle.pat_types.specs.declared.pattern.LabelAt.{LabelAt}
+use Rattle.std.proofs.Common.{◌≡◌, true, List, [], ◌∷◌, refl}
+use Rattle.std.proofs.lemmas.Bool.{and_from}
 use Rattle.pat_types.specs.declared.expr.Arg.{Arg}
 use Rattle.pat_types.specs.declared.expr.Expr.{Expr, Num, Call, Not', Neg', Bin'}
-use Rattle.pat_types.specs.Labels.{can_evaluate, leaf_count, is_constraint}
-use Rattle.cons_eval.specs.Bounds.{IsConstraint}
-use Rattle.cons_eval.proofs.Parts.{first_of, second_of}
 use Rattle.cons_eval.specs.Meanings.{Meanings, is_on_board, are_on_board, are_placed}
 
 -- arguments that are each placed
@@ -27,11 +23,3 @@ all_placed m (Call f args) h = args_on_board m args h
 all_placed m (Not' p e) h = all_placed m e h
 all_placed m (Neg' p e) h = all_placed m e h
 all_placed m (Bin' op p a q b) h = and_from (are_placed m a) (are_placed m b) (all_placed m a h) (all_placed m b h)
-
--- a constraint that a pattern with these labels keeps
-pub constraint_of : (labels : List LabelAt) (e : Expr) → IsTrue (is_constraint labels (Some e)) → IsConstraint e
-constraint_of labels e h = record {
-  labels = labels;
-  can = first_of (can_evaluate labels e) (nat_le (leaf_count e) 4096) h;
-  few = leb-true (leaf_count e) 4096 (second_of (can_evaluate labels e) (nat_le (leaf_count e) 4096) h);
-}

@@ -128,16 +128,6 @@ call_refused labels text items Arity t h = call_told labels text items (Some Ari
 call_refused labels text items UnknownLabel t h = call_told labels text items (Some UnknownLabel) t h
 call_refused labels text items NoMemory t h = tt
 
--- no items, or items that are not in the grammar
-pub items_refused : (labels : List LabelAt) (text : List ℕ) (e : ConsError) → Fails e (items_within text)
-    → Refuses labels text e
-items_refused labels text Syntax h = λ w s. let q = sym (written_within text w s) ∙ h in cc
-items_refused labels text TooDeep h = absurd h
-items_refused labels text UnknownFunction h = absurd h
-items_refused labels text Arity h = absurd h
-items_refused labels text UnknownLabel h = absurd h
-items_refused labels text NoMemory h = tt
-
 -- items that are not in the grammar are refused rightly
 pub scan_refused : (labels : List LabelAt) (text : List ℕ) (items : List Item) (e : ConsError)
     → items_within text ≡ Some items → Fails e (scanned items) → Refuses labels text e

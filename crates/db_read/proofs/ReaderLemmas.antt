@@ -22,13 +22,13 @@ use Rattle.db_rules.specs.Colon.{colon_fault, fields_fault}
 use Rattle.db_rules.specs.Labels.{constraint_fault, labels_closing_fault}
 use Rattle.db_rules.specs.Blocks.{Block, SoFar, words_in, blocks_of, begun_with, placed, table}
 use Rattle.db_rules.specs.Entries.{entry_of, entry_of_block}
-use Rattle.db_rules.specs.Faults.{own_fault, at_line, first_number, expression_kind, expression_fault, closes}
+use Rattle.db_rules.specs.Faults.{own_fault, at_line, closes}
 use Rattle.db_rules.specs.Faults.{gathered_fault, closing_fault}
 use Rattle.db_read.specs.declared.draft.Draft.{Draft}
 use Rattle.db_read.specs.declared.error.DbError.{DbError}
 use Rattle.db_read.specs.declared.reader.Reader.{Reader}
 use Rattle.db_read.specs.Drafts.{Drafts, IsPastColon, IsUnjudged, IsJudged}
-use Rattle.db_read.specs.Reading.{BlamesAt, IsAtStage, ReadsNow, Shows, settled_stage, settled}
+use Rattle.db_read.specs.Reading.{BlamesAt, IsAtStage, ReadsNow, Shows}
 
 -- what some lines come to, of these parts
 abbrev pub parts : Stage → List KeptLine → List Block → Option Block → SoFar
@@ -231,38 +231,6 @@ labels_gathered r number stage front done None stage_is s = absurd (cc (s.draft,
 labels_gathered r number stage front done (Some b) stage_is s =
     ap (λ t. gathered_fault number t (Some b)) stage_is ∙ rw (s.draft.0.diagram.lines, s.draft.0.marks.lines) refl
 
--- a line that closes nothing leaves the stage as it is
-pub settled_stays : (stage : Stage) (kind : Option LineKind) → closes stage kind ≡ false
-    → settled_stage stage kind ≡ stage
-settled_stays Start kind stays = refl
-settled_stays Diagram kind stays = refl
-settled_stays Labels kind stays = refl
-settled_stays Expression None stays = absurd cc
-settled_stays Expression (Some Pattern) stays = absurd cc
-settled_stays Expression (Some Colon) stays = absurd cc
-settled_stays Expression (Some Semicolon) stays = refl
-settled_stays Expression (Some Action) stays = absurd cc
-settled_stays Expression (Some Other) stays = absurd cc
-settled_stays Actions kind stays = refl
-
--- an expression line alone does not close an expression
-pub semicolon_goes_on : (kind : Option LineKind) → closes Expression kind ≡ false → kind ≡ Some Semicolon
-semicolon_goes_on None stays = absurd cc
-semicolon_goes_on (Some Pattern) stays = absurd cc
-semicolon_goes_on (Some Colon) stays = absurd cc
-semicolon_goes_on (Some Semicolon) stays = refl
-semicolon_goes_on (Some Action) stays = absurd cc
-semicolon_goes_on (Some Other) stays = absurd cc
-
--- what closes an expression leaves it behind
-settled_closed : (kind : Option LineKind) → closes Expression kind ≡ true → settled_stage Expression kind ≡ Actions
-settled_closed None leaves = refl
-settled_closed (Some Pattern) leaves = refl
-settled_closed (Some Colon) leaves = refl
-settled_closed (Some Semicolon) leaves = absurd cc
-settled_closed (Some Action) leaves = refl
-settled_closed (Some Other) leaves = refl
-
 -- what is closed is a constraint diagram or an expression
 pub closed_stage : (stage : Stage) (kind : Option LineKind) → closes stage kind ≡ true → (stage ≡ Labels → ⊥)
     → stage ≡ Expression
@@ -271,35 +239,6 @@ closed_stage Diagram kind leaves other = absurd cc
 closed_stage Labels kind leaves other = absurd (other refl)
 closed_stage Expression kind leaves other = refl
 closed_stage Actions kind leaves other = absurd cc
-
--- an expression without a fault is closed
-pub expression_closed : (r n : Reader) (number : ℕ) (kind : Option LineKind) (stage : Stage) (front : List KeptLine)
-    (done : List Block) (now : Option Block) → closes stage kind ≡ true → stage ≡ Expression
-    → Shows r (parts stage front done now) → n.stage ≡ Actions → n.done ≡ r.done → n.begun ≡ r.begun
-    → ((b : Block) → Drafts r.draft b → (expression_kind b ≡ None) × Drafts n.draft b)
-    → (r.draft.constraint ≡ None → IsJudged n.draft)
-    → (gathered_fault number stage now ≡ None) × Shows n (parts (settled_stage stage kind) front done now)
-expression_closed r n number kind stage front done None leaves stage_is s ns nd nb reads judges =
-    absurd (cc (s.draft, stage_is))
-expression_closed r n number kind stage front done (Some b) leaves stage_is s ns nd nb reads judges =
-    let there : IsAtStage Expression r.draft b = subst (λ t. IsAtStage t r.draft b) stage_is s.draft.1 in
-    let closed : closes Expression kind ≡ true = subst (λ t. closes t kind ≡ true) stage_is leaves in
-    let next : settled_stage stage kind ≡ Actions =
-    ap (λ t. settled_stage t kind) stage_is ∙ settled_closed kind closed in
-    let read = reads b s.draft.0 in
-    let shows : Shows n (parts Actions front done (Some b)) =
-    Shows-now r n stage Actions front done b b s ns nd nb read.1 (there.0, judges there.1) (λ h. absurd cc) in (
-      ap (λ t. gathered_fault number t (Some b)) stage_is ∙ ap (at_line (first_number b.expression)) read.0,
-      subst (λ t. Shows n (parts t front done (Some b))) (sym next) shows,
-    )
-
--- the fault of an expression is that of its block
-pub expression_gathered : (r : Reader) (number : ℕ) (stage : Stage) (front : List KeptLine) (done : List Block)
-    (now : Option Block) (e : DbError) → stage ≡ Expression → Shows r (parts stage front done now)
-    → ((b : Block) → Drafts r.draft b → BlamesAt e (expression_fault b)) → BlamesAt e (gathered_fault number stage now)
-expression_gathered r number stage front done None e stage_is s blames = absurd (cc (s.draft, stage_is))
-expression_gathered r number stage front done (Some b) e stage_is s blames =
-    subst (λ t. BlamesAt e (gathered_fault number t (Some b))) (sym stage_is) (blames b s.draft.0)
 
 -- the entries with that of the block that another follows
 pub entries-closed : (done : List Block) (now : Option Block)
@@ -338,9 +277,3 @@ closed_fault number kind s leaves none = rw leaves none
 pub closed_blames : (number : ℕ) (kind : Option LineKind) (s : SoFar) (e : DbError) → closes s.stage kind ≡ true
     → BlamesAt e (gathered_fault number s.stage s.now) → BlamesAt e (closing_fault number kind s)
 closed_blames number kind s e leaves blames = rw leaves blames
-
--- where a line leaves no expression behind, the reader has read the same as before
-pub Shows-settled : (r : Reader) (kind : Option LineKind) (s : SoFar) → settled_stage s.stage kind ≡ s.stage → Shows r s
-    → Shows r (settled kind s)
-Shows-settled r kind s same shows =
-    subst (λ t. Shows r (parts t s.front s.done s.now)) (sym same) shows

@@ -1,10 +1,10 @@
 -- A front and whole blocks have no fault, and are read as what they are.
-use Rattle.std.proofs.Common.{◌≡◌, ℕ, ◌+◌, ◌<◌, ◌≤◌, Bool, true, false, cond, List, [], ◌∷◌, ◌++◌, length, map, Option}
+use Rattle.std.proofs.Common.{◌≡◌, ℕ, ◌+◌, ◌<◌, ◌≤◌, Bool, true, false, cond, List, [], ◌∷◌, ◌++◌, length, Option}
 use Rattle.std.proofs.Common.{Some, None, refl, sym, ap, subst, ◌∙◌, append_assoc, arith}
 use Rattle.std.specs.Prelude.{fold, slice_index}
 use Rattle.std.specs.List.{All, flat_map}
 use Rattle.std.proofs.lemmas.Bool.{lt-leb}
-use Rattle.std.proofs.lemmas.List.{append-nil, length-append, map-append, length-map}
+use Rattle.std.proofs.lemmas.List.{append-nil, length-append, map-append}
 use Rattle.std.proofs.lemmas.List.Elements.{All-head, All-tail}
 use Rattle.db_lex.specs.declared.line.LineKind.{LineKind}
 use Rattle.db_lex.specs.declared.line.LineKind.TheVariants.{Pattern, Colon, Semicolon, Action, Other}
@@ -24,8 +24,6 @@ use Rattle.db_rules.specs.Faults.{or_else, at_line, first_number, most_entries, 
 use Rattle.db_rules.specs.Faults.{pattern_fault, own_fault, table_fault, closes, closing_fault, found, found_at_end}
 use Rattle.db_rules.specs.Faults.{first_fault, end_number, entries}
 use Rattle.db_rules.specs.Database.{IsLineOf, IsInFront, IsColonLine, IsBlock, IsDatabase}
-use Rattle.db_rules.specs.Entries.{entry_of_block}
-use Rattle.db_rules.proofs.BlockTexts.{faultless_is_database}
 use Rattle.db_rules.proofs.TableLemmas.{found_table}
 use Rattle.db_rules.proofs.Walk.{walk, first_fault-walk}
 
@@ -449,14 +447,3 @@ database_is_read helpers text d =
       front_is = ap (λ (s : SoFar). s.front) leads.there ∙ blocks.front;
       blocks_are = ap blocks_of leads.there ∙ blocks.all;
     }
-
--- a text without a fault has no more entries than it may have
-pub few_entries : (helpers : List (List ℕ)) (text : List ℕ) → first_fault helpers text ≡ None
-    → length (entries text) ≤ most_entries
-unfolding entries
-few_entries helpers text none =
-    let d = faultless_is_database helpers text none in
-    let blocks = blocks_of (so_far (kept_lines text)) in
-    let as_many : length (map entry_of_block blocks) ≡ length d.blocks =
-    length-map blocks entry_of_block ∙ ap length (database_is_read helpers text d).blocks_are in
-    subst (λ n. n ≤ most_entries) (sym as_many) d.few

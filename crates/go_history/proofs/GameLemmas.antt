@@ -1,5 +1,5 @@
 -- What holds of games that go on by one move.
-use Rattle.std.proofs.Common.{◌≡◌, ℕ, zero, suc, ◌+◌, ◌*◌, ◌<◌, ◌≤◌, List, [], ◌∷◌, ◌++◌, length, take, get_or, Option}
+use Rattle.std.proofs.Common.{◌≡◌, ℕ, zero, suc, ◌+◌, ◌*◌, ◌≤◌, List, [], ◌∷◌, ◌++◌, length, take, Option}
 use Rattle.std.proofs.Common.{Some, None, refl, sym, ap, subst, arith, ◌∙◌, add_assoc, inl, inr}
 use Rattle.std.proofs.Math.ListN.{set}
 use Rattle.std.proofs.lemmas.Bool.{cases_Bool}
@@ -9,7 +9,7 @@ use Rattle.go_rules.specs.declared.Move.{Move}
 use Rattle.go_rules.specs.Board.{largest_size, largest_points}
 use Rattle.go_rules.specs.Position.{BoardState, same_colour, stone_of}
 use Rattle.go_rules.specs.Play.{is_taken}
-use Rattle.go_rules.specs.Replay.{moved, led_to, replay_from, captures_from, taken_by, IsLegalMove, IsLegalGame}
+use Rattle.go_rules.specs.Replay.{moved, led_to, replay_from, captures_from, taken_by, IsLegalGame}
 use Rattle.go_rules.proofs.Counts.{count_below_at_most}
 use Rattle.go_history.specs.Taken.{stones_taken}
 use Rattle.go_rules.proofs.CaptureLaws.{moved_size}
@@ -33,15 +33,6 @@ pub IsLegalGame-take : (pos : BoardState) (n : ℕ) (ms : List Move) → IsLegal
 IsLegalGame-take pos zero ms legal = tt
 IsLegalGame-take pos (suc n) [] legal = tt
 IsLegalGame-take pos (suc n) (m ∷ ms) legal = (legal.0, IsLegalGame-take (led_to pos (moved pos m)) n ms legal.1)
-
--- each move of a legal game is legal after those before it
-pub IsLegalMove-at : (pos : BoardState) (ms : List Move) (n : ℕ) (m : Move) → IsLegalGame pos ms → n < length ms
-    → IsLegalMove (replay_from pos (take n ms)) (get_or ms n m)
-unfolding replay_from
-IsLegalMove-at pos [] n m legal within = absurd (omega arith)
-IsLegalMove-at pos (first ∷ ms) zero m legal within = legal.0
-IsLegalMove-at pos (first ∷ ms) (suc n) m legal within =
-    IsLegalMove-at (led_to pos (moved pos first)) ms n m legal.1 (omega arith)
 
 -- a move takes at most the stones of a whole board
 pub taken_by-bound : (pos : BoardState) (c : Colour) (at : Option ℕ) → pos.size ≤ largest_size

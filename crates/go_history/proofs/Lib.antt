@@ -1,4 +1,3 @@
 pub mod GameLemmas
 pub mod HeldGames
 pub mod RefusedMoves
-pub mod Stones

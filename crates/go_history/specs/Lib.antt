@@ -1,3 +1,4 @@
 pub mod Games
 pub mod Histories
 pub mod Taken
+pub mod Errors

@@ -1,5 +1,5 @@
 -- What the getters read, by the rows of a parse.
-use Rattle.std.proofs.Common.{◌≡◌, ◌∙◌, ◌≤◌, ap, ℕ, false, List, Option, Some, None, Result, Ok, Err, refl, sym, subst}
+use Rattle.std.proofs.Common.{◌≡◌, ◌∙◌, ap, ℕ, false, List, Option, Some, None, Result, Ok, Err, refl, sym, subst}
 use Rattle.std.proofs.Common.{arith, codes, option_map, []}
 use Rattle.std.specs.Prelude.{MatchOption, unwrap_or}
 use Rattle.std.specs.Option.{option_map_or}
@@ -39,18 +39,6 @@ pub number_from : (f : Found) (id : Text) (low high n : ℕ) → HasNumber f id 
 number_from f id low high n has is =
     let same : number_of has.0 ≡ n = same_Some _ _ (sym (number_of_text f id has.0 has.1) ∙ is) in
     (omega (arith, has.2.1.0), omega (arith, has.2.1.1))
-
--- a number of a range fits the type
-pub wide_number : (f : Found) (id : Text) (low high : ℕ) → high ≤ largest → HasNumber f id low high
-    → HasNumber f id 0 largest
-wide_number f id low high fits has = (has.0, has.1, (has.2.0, (omega arith, omega (arith, has.2.1.1))))
-
--- a value that lies in a smaller range lies in the larger one, where there is a value
-pub wide_only : (f : Found) (id : Text) (low high : ℕ) → high ≤ largest → HasOnlyNumber f id low high
-    → HasOnlyNumber f id 0 largest
-wide_only f id low high fits only text one =
-    let whole = only text one in
-    (whole.0, (omega arith, omega (arith, whole.1.1)))
 
 -- whether a flag is set, by the text that `get_str` gives
 pub flag_read : (f : Found) (id : Text) (o : Option Text) → o ≡ first_value f id

@@ -1,5 +1,5 @@
 -- Strings that are the same, and the least point of each.
-use Rattle.std.proofs.Common.{◌≡◌, ℕ, ◌+◌, ◌*◌, ◌<◌, ◌≤◌, ◌&&◌, true, false, List, refl, sym, ap, subst, arith, inl}
+use Rattle.std.proofs.Common.{◌≡◌, ℕ, ◌+◌, ◌*◌, ◌<◌, ◌≤◌, ◌&&◌, true, false, List, sym, ap, subst, arith, inl}
 use Rattle.std.proofs.Common.{inr, ◌∙◌}
 use Rattle.std.proofs.lemmas.Bool.{cases_Bool, cases_eq, cases_lt, or_cases, or_left, or_right, eqb-true, eq-eqb}
 use Rattle.std.proofs.lemmas.Bool.{both_ways, and_parts, and_from, lt-ltb, ltb-true, not-true, not_from_false}
@@ -7,7 +7,6 @@ use Rattle.std.specs.Ordering.{nat_cmp}
 use Rattle.std.specs.Cmp.{nat_cmp_total}
 use Rattle.std.specs.FinSet as sets
 use Rattle.go_rules.specs.declared.Cell.{Cell}
-use Rattle.go_rules.specs.declared.Cell.TheVariants.{Empty, Black, White}
 use Rattle.go_rules.specs.Strings.{cell_at, is_stone, is_in_string, string_at, start}
 use Rattle.go_rules.specs.Boundary.{is_enemy, is_beside_string, is_boundary, boundary_points, LeastOf, AddsLeast}
 use Rattle.go_rules.specs.Boundary.{KnowsLeast}
@@ -48,16 +47,6 @@ string_cell s cells p q h = path_same s cells p (IsInString-from_test s cells p 
 pub string_self : (s : ℕ) (cells : List Cell) (p : ℕ) → p < s * s → is_stone (cell_at cells p) ≡ true
     → is_in_string s cells p p ≡ true
 string_self s cells p on h = is_is_in_string-from_fact s cells p p on (record { stone = h; path = start })
-
--- an enemy is a stone
-pub enemy_stone : (a b : Cell) → is_enemy a b ≡ true → is_stone b ≡ true
-enemy_stone Black White h = refl
-enemy_stone White Black h = refl
-enemy_stone Empty b h = absurd (both_ways false refl h)
-enemy_stone Black Empty h = absurd (both_ways false refl h)
-enemy_stone Black Black h = absurd (both_ways false refl h)
-enemy_stone White Empty h = absurd (both_ways false refl h)
-enemy_stone White White h = absurd (both_ways false refl h)
 
 -- the least points of the enemy strings that the points below n belong to are there, and nothing else is
 pub record Bounds (s : ℕ) (cells : List Cell) (p n : ℕ) (least : sets.FinSet nat_cmp) : Type 0 where

@@ -3,13 +3,9 @@ use Rattle.std.proofs.Common.{◌≡◌, Bool, true, false, not, refl, sym, ◌�
 use Rattle.std.proofs.lemmas.Bool.{both_ways, not-false}
 use denote.Enum.Bare.{sameb}
 use Rattle.go_rules.specs.contracts.Cell.{the_type}
-use Rattle.go_rules.specs.contracts.Colour.{the_type as colour_type}
 use Rattle.go_rules.specs.declared.Cell.{Cell}
 use Rattle.go_rules.specs.declared.Cell.TheVariants.{Empty, Black, White}
-use Rattle.go_rules.specs.declared.Colour.{Colour}
-use Rattle.go_rules.specs.declared.Colour.TheVariants.{Black as black, White as white}
 use Rattle.go_rules.specs.Strings.{same_cell, is_stone}
-use Rattle.go_rules.specs.Position.{same_colour}
 use Rattle.go_rules.proofs.Paths.{same_cell-true, same_cell-from}
 
 -- the derived == of cells is the test of the definitions
@@ -23,13 +19,6 @@ eq_is_same_cell Black White = refl
 eq_is_same_cell White Empty = refl
 eq_is_same_cell White Black = refl
 eq_is_same_cell White White = refl
-
--- the derived == of colours is the test of the definitions
-pub eq_is_same_colour : (a b : Colour) → sameb colour_type a b ≡ same_colour a b
-eq_is_same_colour black black = refl
-eq_is_same_colour black white = refl
-eq_is_same_colour white black = refl
-eq_is_same_colour white white = refl
 
 -- cells that compare as equal are equal
 pub cells_same : (a b : Cell) (r : Bool) → r ≡ sameb the_type a b → r ≡ true → a ≡ b

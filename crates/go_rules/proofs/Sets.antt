@@ -1,5 +1,5 @@
 -- What the set of the numbers below n that pass has.
-use Rattle.std.proofs.Common.{◌≡◌, ℕ, zero, suc, ◌+◌, ◌||◌, ◌&&◌, Bool, true, false, eqb, ltb, refl, sym, ap, arith}
+use Rattle.std.proofs.Common.{◌≡◌, ℕ, zero, suc, ◌+◌, ◌||◌, ◌&&◌, Bool, true, eqb, ltb, refl, sym, ap, arith}
 use Rattle.std.proofs.Common.{inl, inr, ◌∙◌, add-one}
 use Rattle.std.proofs.lemmas.Bool.{cases_Bool, cases_eq, cases_lt, lt-ltb, le-ltb, eq-eqb, ne_eqb}
 use Rattle.std.specs.Ordering.{nat_cmp, eq_by_cmp}
@@ -71,10 +71,4 @@ set_below-none test = refl
 pub set_below-hit : (n : ℕ) (test : ℕ → Bool) → test n ≡ true → set.insert (set_below n test) n ≡ set_below (n + 1) test
 unfolding set_below
 set_below-hit n test t = let k : set_below (suc n) test ≡ set.insert (set_below n test) n = rw t refl in
-    sym (ap (λ m. set_below m test) (add-one n) ∙ k)
-
--- a number that fails does not come
-pub set_below-miss : (n : ℕ) (test : ℕ → Bool) → test n ≡ false → set_below n test ≡ set_below (n + 1) test
-unfolding set_below
-set_below-miss n test f = let k : set_below (suc n) test ≡ set_below n test = rw f refl in
     sym (ap (λ m. set_below m test) (add-one n) ∙ k)

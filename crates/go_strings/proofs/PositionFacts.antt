@@ -1,11 +1,9 @@
 -- All facts of a position agree with it.
-use Rattle.std.proofs.Common.{◌≡◌, true, refl}
+use Rattle.std.proofs.Common.{◌≡◌, true}
 use Rattle.std.proofs.lemmas.Bool.{eqb-true}
-use Rattle.go_rules.specs.declared.Cell.{Cell}
-use Rattle.go_rules.specs.declared.Cell.TheVariants.{Empty, Black, White}
-use Rattle.go_rules.specs.Strings.{cell_at, same_cell}
+use Rattle.go_rules.specs.Strings.{cell_at}
 use Rattle.go_rules.specs.Position.{BoardState, IsPosition, is_banned}
-use Rattle.go_rules.proofs.Paths.{same_cell-true, same_cell-itself}
+use Rattle.go_rules.proofs.Paths.{same_cell-true}
 use Rattle.go_base.specs.Facts.{Fact, SizeIs, CellIs, BanIs, IsFactOf, Agrees}
 use Rattle.go_base.proofs.SeenFacts.{same_bool-true}
 use Rattle.go_strings.specs.Seen.{is_so}
@@ -19,7 +17,3 @@ so_holds pos (BanIs p c forbidden) t = same_bool-true (is_banned pos.ban c p) fo
 -- all that are so agree
 pub all_agree : (pos : BoardState) → IsPosition pos → Agrees (is_so pos) pos
 all_agree pos good = record { sound = good; each = so_holds pos }
-
--- what stands at a point is so
-pub cell_is_so : (a b : Cell) → b ≡ a → same_cell a b ≡ true
-cell_is_so a b e = rw e (same_cell-itself a)

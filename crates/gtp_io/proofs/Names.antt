@@ -1,7 +1,7 @@
 -- What holds of names and their contents, which stand in two lists of one length.
 use Rattle.std.proofs.Common.{◌≡◌, ℕ, ◌+◌, ◌<◌, true, false, cond, List, [], ◌∷◌, length, map, drop}
-use Rattle.std.proofs.Common.{get_or, Some, None, sym, ap, ◌∙◌, arith}
-use Rattle.std.proofs.lemmas.List.{drop_more, drop_all}
+use Rattle.std.proofs.Common.{get_or, Some, sym, ap, ◌∙◌, arith}
+use Rattle.std.proofs.lemmas.List.{drop_more}
 use Rattle.std.specs.Str.{bytes_eq}
 use Rattle.std.specs.List.{slice_get}
 use Rattle.std.proofs.lemmas.Option.{slice_get-map, slice_get-get_or}
@@ -43,8 +43,3 @@ module _ {X Y : Type 0} (f : X → List ℕ) (g : Y → List ℕ) (xs : List X) 
       from ∙ ap (λ t. cond t (Some (g (get_or ys i y)))
       (named (map f (drop (i + 1) xs)) (map g (drop (i + 1) ys)) name)) this
       ∙ sym (slice_get-map g ys i ∙ ap (option_map g) (slice_get-get_or ys i y (omega arith)))
-
--- past the last name there is none
-pub named-past : {X Y : Type 0} (f : X → List ℕ) (g : Y → List ℕ) (xs : List X) (ys : List Y) (name : List ℕ) (i : ℕ)
-    → i ≡ length xs → named (map f (drop i xs)) (map g (drop i ys)) name ≡ None
-named-past f g xs ys name i past = ap (λ l. named (map f l) (map g (drop i ys)) name) (drop_all i xs (omega arith))

@@ -1,16 +1,15 @@
 -- Lines from the front are the lines that the bytes are cut into.
-use Rattle.std.proofs.Common.{◌≡◌, ℕ, ◌+◌, ◌-◌, ◌<◌, ◌≤◌, true, false, cond, eqb, leb, min, List, [], ◌∷◌}
+use Rattle.std.proofs.Common.{◌≡◌, ℕ, ◌+◌, ◌<◌, true, false, cond, eqb, leb, List, [], ◌∷◌}
 use Rattle.std.proofs.Common.{◌++◌, length, map, take, get_or, refl, sym, ap, subst, ◌∙◌, append_assoc}
-use Rattle.std.proofs.Common.{append-nil, arith, length-append, length-take, inl, inr}
+use Rattle.std.proofs.Common.{append-nil, arith, length-append}
 use Rattle.std.specs.List.{onto_first, All, concat}
-use Rattle.std.proofs.lemmas.Bool.{cases_lt}
 use Rattle.std.proofs.lemmas.Bool.Decides.{nat_tests}
 use Rattle.std.proofs.lemmas.List.{take_more, take_all}
 use Rattle.std.proofs.lemmas.List.Elements.{All-head, All-tail}
 use Rattle.gtp_rules.specs.Lines.{RawLine, Line, TooLong, line_feed, longest_line, line_of, texts_of, all_but_last}
 use Rattle.gtp_rules.specs.Lines.{last_text, rest_of, lines_of, rest_line, lines_with_rest}
 use Rattle.gtp_rules.proofs.LineLemmas.{texts_of-cons}
-use Rattle.gtp_lex.specs.Held.{longest_held, longer, lines_from, held_from, held_line, lines_in_turn, held_after}
+use Rattle.gtp_lex.specs.Held.{longer, lines_from, held_from, held_line, lines_in_turn, held_after}
 
 -- the lines of two pieces are those of the first, and then those of the second after what the first leaves held
 pub lines_from-append : (held : RawLine) (xs ys : List ℕ)
@@ -70,24 +69,6 @@ held_from-text line (b ∷ bs) none =
     ∙ ap (λ h. held_from h bs) (longer-line_of line b)
     ∙ held_from-text (line ++ b ∷ []) bs (All-tail (λ x. eqb x line_feed ≡ false) b bs none)
     ∙ ap line_of (append_assoc line (b ∷ []) bs)
-
--- a line that is too long is told by its first bytes
-pub line_of-take : (line text : List ℕ) → length line ≤ longest_held
-    → line_of (line ++ take (min (length text) (longest_held - length line)) text) ≡ line_of (line ++ text)
-line_of-take line text within =
-    let count = min (length text) (longest_held - length line) in
-    elim (cases_lt count (length text)) [
-      | inl fewer ↦
-          let kept : longest_line < length (line ++ take count text) =
-          simp (length-append, length-take) (omega arith) in
-          let whole : longest_line < length (line ++ text) = simp length-append (omega arith) in
-          too_long (line ++ take count text) kept ∙ sym (too_long (line ++ text) whole)
-      | inr all ↦ ap (λ l. line_of (line ++ l)) (take_all count text all)
-    ]
-  where
-    -- a text of more bytes than a line may have
-    too_long : (l : List ℕ) → longest_line < length l → line_of l ≡ TooLong
-    too_long l more = grind (arith, nat_tests)
 
 -- The line feed after a text.
 

@@ -1,5 +1,5 @@
 -- What a reading under one code finds, and which answer the codes come to.
-use Rattle.std.proofs.Common.{◌≡◌, ◌≢◌, ◌∙◌, ℕ, ◌-◌, Bool, true, false, not, cond, Option, Some, None, is_some, ◌<◌}
+use Rattle.std.proofs.Common.{◌≡◌, ◌≢◌, ◌∙◌, ℕ, ◌-◌, Bool, true, false, not, cond, Option, None, is_some, ◌<◌}
 use Rattle.std.proofs.Common.{◌≤◌, ap, sym, refl, arith, inl, inr, eq-eqb}
 use Rattle.std.proofs.lemmas.Bool.{cases_Bool, cases_eq, ne_eqb, and_parts, and_from}
 use Rattle.go_rules.specs.declared.Cell.{Cell}
@@ -93,50 +93,6 @@ unfolding answer_of
 answer_with q pos code at e f =
     ap (λ (m : Option Spot). record { code = code; at = m }) f
     ∙ ap (λ (k : ℕ). record { code = k; at = move_of q pos k }) (sym e)
-
--- a reading under a code that finds no move shows that the code is not attained
-missed : {q : ReadingQuestion} {pos : BoardState} {code : ℕ} {found : Option Spot} → Reads q pos code found
-    → found ≡ None → attains_code q pos code ≡ false
-missed r e = sym r.attained ∙ ap is_some e
-
--- a reading under a code that finds a move shows that the code is attained
-hit : {q : ReadingQuestion} {pos : BoardState} {code : ℕ} {found : Option Spot} {spot : Spot} → Reads q pos code found
-    → found ≡ Some spot → attains_code q pos code ≡ true
-hit r e = sym r.attained ∙ ap is_some e
-
--- the move that a reading under a code finds is the first that attains it
-move : {q : ReadingQuestion} {pos : BoardState} {code : ℕ} {found : Option Spot} {spot : Spot} → Reads q pos code found
-    → found ≡ Some spot → Some spot ≡ first_move_of q pos code
-move r e = sym e ∙ r.move (ap is_some e)
-
--- a move that is found under code 3 is answered with code 3
-pub answer_3 : (q : ReadingQuestion) (pos : BoardState) (three : Option Spot) (spot : Spot) → is_about q pos ≡ true
-    → Reads q pos 3 three → three ≡ Some spot
-    → record { code = 3; at = Some spot } ≡ answer_of q pos
-answer_3 q pos three spot a r e =
-    answer_with q pos 3 (Some spot) (code_of-chosen q pos ∙ chosen-3 _ _ _ _ a (hit r e)) (move r e)
-
--- a move that is found under code 2, where none is under 3, is answered with code 2
-pub answer_2 : (q : ReadingQuestion) (pos : BoardState) (three two : Option Spot) (spot : Spot) → is_about q pos ≡ true
-    → Reads q pos 3 three → three ≡ None → Reads q pos 2 two → two ≡ Some spot
-    → record { code = 2; at = Some spot } ≡ answer_of q pos
-answer_2 q pos three two spot a r3 e3 r e =
-    answer_with q pos 2 (Some spot) (code_of-chosen q pos ∙ chosen-2 _ _ _ _ a (missed r3 e3) (hit r e)) (move r e)
-
--- a move that is found under code 1, where none is under 3 and 2, is answered with code 1
-pub answer_1 : (q : ReadingQuestion) (pos : BoardState) (three two one : Option Spot) (spot : Spot)
-    → is_about q pos ≡ true → Reads q pos 3 three → three ≡ None → Reads q pos 2 two → two ≡ None
-    → Reads q pos 1 one → one ≡ Some spot → record { code = 1; at = Some spot } ≡ answer_of q pos
-answer_1 q pos three two one spot a r3 e3 r2 e2 r e =
-    answer_with q pos 1 (Some spot) (code_of-chosen q pos ∙ chosen-1 _ _ _ _ a (missed r3 e3) (missed r2 e2) (hit r e))
-    (move r e)
-
--- where no move is found under any code the answer is code 0 without a move
-pub answer_0 : (q : ReadingQuestion) (pos : BoardState) (three two one : Option Spot) → is_about q pos ≡ true
-    → Reads q pos 3 three → three ≡ None → Reads q pos 2 two → two ≡ None
-    → Reads q pos 1 one → one ≡ None → record { code = 0; at = None } ≡ answer_of q pos
-answer_0 q pos three two one a r3 e3 r2 e2 r e =
-    answer_with q pos 0 None (code_of-chosen q pos ∙ chosen-0 _ _ _ _ a (missed r3 e3) (missed r2 e2) (missed r e)) refl
 
 -- a stone is of its own colour
 stone-colour : (cell : Cell) → cell ≢ Empty → cell ≡ stone_of (colour_of cell)

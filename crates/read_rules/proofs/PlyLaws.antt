@@ -1,5 +1,5 @@
 -- With more plies the attacker wins where he won; and where the ban forbids no candidate, the allowances do not matter.
-use Rattle.std.proofs.Common.{◌≡◌, ℕ, zero, suc, ◌+◌, true, cond, Ok, refl, sym, ap, inl, inr, ◌∙◌, add-one}
+use Rattle.std.proofs.Common.{◌≡◌, ℕ, zero, suc, ◌+◌, true, Ok, refl, sym, ap, inl, inr, ◌∙◌, add-one}
 use Rattle.std.proofs.lemmas.Bool.{cases_Bool, both_ways}
 use Rattle.go_rules.proofs.Tests.{same_tests}
 use Rattle.go_rules.specs.Position.{BoardState}
@@ -57,12 +57,6 @@ one_more (suc n) node pos h = elim (cases_Bool (is_captured pos node.target)) [
 -- the child of a legal play, under other allowances
 abbrev other_child : Node → ℕ → ℕ → Node
 other_child node a d = next_node (with_allowances node a d) (allowance_of (with_allowances node a d))
-
--- it is the child under allowances of its own
-child_is : (node : Node) (a d : ℕ) → other_child node a d ≡ with_allowances (next_node node (allowance_of node))
-    (cond node.attacker_to_play (allowance_of (with_allowances node a d)) a)
-    (cond node.attacker_to_play d (allowance_of (with_allowances node a d)))
-child_is node a d = refl
 
 -- where the ban forbids no candidate, a child is one by a legal play
 legal_child : {below : Node → BoardState → Type 0} {node : Node} {pos : BoardState} → IsFreeHere below node pos

@@ -1,14 +1,13 @@
 -- One put after another.
 use Rattle.std.proofs.Common.{◌≡◌, ◌∙◌, ◌<◌, ◌+◌, ◌-◌, ◌++◌, ◌∷◌, ℕ, suc, List, [], Option, Result, Ok}
-use Rattle.std.proofs.Common.{Err, OnOk, OnErr, length, take, drop, get_or, ap, refl, sym, subst, inl, inr}
+use Rattle.std.proofs.Common.{Err, OnErr, length, take, drop, get_or, ap, sym, subst}
 use Rattle.std.proofs.Common.{append_assoc, append-nil, drop-cons}
 use Rattle.std.specs.List.{concat}
 use Rattle.std.proofs.lemmas.List.{take-append-drop, take_more, take_rest}
 use Rattle.std.proofs.lemmas.List.Folds.{concat-append}
 use Rattle.std.proofs.KnownBytes.{Appends-trans}
 use Rattle.std.specs.Io.KnownBytes.{Appends}
-use Rattle.gtp_io.specs.Outside.{IsCounted}
-use Rattle.run_notes.specs.Putting.{IsNoted, PutsFront}
+use Rattle.run_notes.specs.Putting.{PutsFront}
 
 -- a call that failed put a front of more bytes too
 pub fails_early : (a b : Option (List ℕ)) (first second : List ℕ) → PutsFront a b first
@@ -70,18 +69,3 @@ piece_front a b c pieces i piece lt at before part =
 pub on_err_from : {T E P : Type 0} (result : Result T E) → P → OnErr result P
 on_err_from (Ok x) p = tt
 on_err_from (Err e) p = p
-
--- the notes, by what a call put on them
-pub noted : {T E : Type 0} (a b : Option (List ℕ)) (before now : ℕ) (text : List ℕ) (r : Result T E)
-    → OnOk r (Appends a b text)
-    → OnErr r (PutsFront a b text) → IsCounted before now r → IsNoted a b before now text
-noted a b before now text (Ok x) all part counted =
-    record { got = text; missing = []; front = sym (append-nil text); writes = all; whole = inl refl }
-noted a b before now text (Err e) all part counted =
-    record {
-      got = part.part;
-      missing = part.missing;
-      front = part.whole;
-      writes = part.writes;
-      whole = inr counted.failed;
-    }

@@ -74,7 +74,10 @@ fn named<'a>(alloc: Global, name: Bytes) -> Draft<'a>
 }
 
 /// What stands for an entry before the first Pattern line: it has no name, and no line of it was read.
-pub fn nameless<'a>(alloc: Global) -> Draft<'a> {
+pub fn nameless<'a>(alloc: Global) -> Draft<'a>
+    ensures begun { (k : KeptLine) → name_on k.bytes ≡ [] → Drafts result (begun_with k) }
+    ensures unjudged { IsUnjudged result }
+{
     named(alloc, Bytes::new(alloc))
 }
 
