@@ -1,4 +1,3 @@
 pub mod Games
 pub mod Histories
 pub mod Taken
-pub mod Errors

@@ -1,22 +1,20 @@
 //! A game's list of moves.
 
 ghost use Rattle.std.specs.Prelude.{◌≡◌, ◌-◌, ◌*◌, ◌<◌, ◌≤◌, ◌↔◌, [], ◌∷◌, ◌++◌, take, length, Ok, Err, IsOk, IsErr};
-ghost use Rattle.std.specs.Prelude.{IfOk, IfSome, OnOk, OnErr, Some, codes};
+ghost use Rattle.std.specs.Prelude.{IfOk, IfSome, OnOk, OnErr};
 ghost use Rattle.go_rules.specs.declared.Illegal.{Illegal};
 ghost use Rattle.go_rules.specs.Replay.{empty_board, moved, captures, IsLegalGame};
 ghost use Rattle.go_strings.specs.Games.{reached};
 ghost use Rattle.go_strings.specs.Refused.{refusal_of};
 ghost use Rattle.go_history.specs.Games.{most_moves, new_game, position_of};
-ghost use Rattle.go_history.specs.Errors.{error_text};
 
 use crate::captures::Captures;
 use go_base::{Colour, Illegal, NoMemory, Position, Size};
 use go_rules::Move;
 use go_strings::{PlayError, StringBoard};
 use std::alloc::Global;
-use std::error::Error;
-use std::fmt::{self, Display, Formatter, Write};
 use std::marker::Model;
+use thiserror::Error;
 
 /// The greatest number of moves that a history holds.
 pub const MAX_MOVES: usize = 10_000;
@@ -25,43 +23,23 @@ pub const MAX_MOVES: usize = 10_000;
 const USUAL_MOVES: usize = 512;
 
 /// Why a move is not added.
-#[derive(Clone, Copy, Debug, PartialEq, Eq)]
+#[derive(Clone, Copy, Debug, PartialEq, Eq, Error)]
 pub enum HistoryError {
     /// The rules forbid the move, for this reason.
+    #[error("illegal move")]
     Illegal(Illegal),
     /// The move is legal, and the list has as many moves as it may have.
+    #[error("history full")]
     Full,
     /// There was no memory for the move.
+    #[error("out of memory")]
     NoMemory,
 }
 
 /// There is no move to take back.
-#[derive(Clone, Copy, Debug, PartialEq, Eq)]
+#[derive(Clone, Copy, Debug, PartialEq, Eq, Error)]
+#[error("cannot undo")]
 pub struct Nothing;
-
-impl Display for HistoryError {
-    ghost output = { λ e. Some (error_text e) };
-
-    fn fmt<W: Write>(&self, f: &mut Formatter<W>) -> fmt::Result {
-        match self {
-            HistoryError::Illegal(_) => f.write_str("illegal move"),
-            HistoryError::Full => f.write_str("history full"),
-            HistoryError::NoMemory => f.write_str("out of memory"),
-        }
-    }
-}
-
-impl Error for HistoryError {}
-
-impl Display for Nothing {
-    ghost output = { λ _. Some (codes "cannot undo") };
-
-    fn fmt<W: Write>(&self, f: &mut Formatter<W>) -> fmt::Result {
-        f.write_str("cannot undo")
-    }
-}
-
-impl Error for Nothing {}
 
 /// The moves of a game so far, each legal after those before it, seen as the board's size and the list of the moves.
 #[derive(Drop)]
