@@ -40,7 +40,9 @@ pub struct Verdict {
 /// A node that is remembered, and what is known of it.
 #[derive(Clone, Copy, Debug, PartialEq, Eq)]
 pub struct Entry {
+    /// The node.
     pub node: AttackerNode,
+    /// What is known of it.
     pub verdict: Verdict,
 }
 
