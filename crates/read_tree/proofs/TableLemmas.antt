@@ -1,5 +1,7 @@
--- The table of attacker's nodes: what is true stays true while more is seen, and what a node's answer is by its verdict.
-use Rattle.std.proofs.Common.{◌≡◌, ℕ, Bool, true, false, not, ◌&&◌, ◌||◌, is_some, List, ap, sym, refl, subst, rules, ◌∙◌, ◌<◌, length, get_or}
+-- The table of attacker's nodes: what is true stays true while more is seen, and what a node's answer is by its
+-- verdict.
+use Rattle.std.proofs.Common.{◌≡◌, ℕ, Bool, true, false, not, ◌&&◌, ◌||◌, is_some, List, ap, sym, refl, subst, rules}
+use Rattle.std.proofs.Common.{◌∙◌, ◌<◌, length, get_or}
 use Rattle.std.proofs.lemmas.List.Elements.{All-get_or, All-weaker}
 use Rattle.go_rules.specs.declared.Colour.{Colour}
 use Rattle.go_rules.specs.Position.{BoardState}

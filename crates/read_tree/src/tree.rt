@@ -304,8 +304,8 @@ fn some_success<L: Look>(
     asked.without(missing.without(rest))
 }
 
-/// The same for the attacker, by the table: what it knows of the node is not read again, and what is read is remembered.
-/// Near the end of the reading a node is read sooner than it is found.
+/// The same for the attacker, by the table: what it knows of the node is not read again, and what is read is
+/// remembered. Near the end of the reading a node is read sooner than it is found.
 #[cycle(read)]
 fn some_by_table<L: Look>(
     board: &mut Trial<L>,

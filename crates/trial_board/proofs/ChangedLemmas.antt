@@ -1,7 +1,7 @@
 -- What the trial moves changed: a point that no move touched is as the position has it, and of each other it is told
 -- what was put there.
-use Rattle.std.proofs.Common.{◌≡◌, ◌≢◌, ℕ, zero, suc, ◌+◌, ◌*◌, ◌<◌, ◌||◌, Bool, true, false, cond, eqb, List, ◌∷◌, length}
-use Rattle.std.proofs.Common.{get_or, Option, Some, None, map, refl, sym, ap, subst, arith, inl, inr, ◌∙◌}
+use Rattle.std.proofs.Common.{◌≡◌, ◌≢◌, ℕ, zero, suc, ◌+◌, ◌*◌, ◌<◌, ◌||◌, Bool, true, false, cond, eqb, List, ◌∷◌}
+use Rattle.std.proofs.Common.{length, get_or, Option, Some, None, map, refl, sym, ap, subst, arith, inl, inr, ◌∙◌}
 use Rattle.std.specs.Prelude.{◌⊎◌}
 use Rattle.std.proofs.lemmas.Bool.{cases_Bool, cases_eq, ne_eqb, eqb-true, or_parts}
 use Rattle.std.proofs.lemmas.List.FromFn.{get_or-map-range_with_len, fill_by_all}
