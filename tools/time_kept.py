@@ -7,7 +7,9 @@ records, as tools/compare_readings.py finds them, QUESTIONS of them (60). Each i
 (5000); and after each of a row of moves that are far from its string, as many as find room there. The row is played in ROUNDS
 orders (50), each by chance, and taken back behind each, so that neither program meets a whole position again. The time of a
 session that makes the same moves and does not ask is taken off; all times are the processor's, and the shortest of three
-counts. Then questions about every stone of random boards, at several depths, fill a cache of 65,536 questions.
+counts. Since that difference is small beside GNU Go's sessions, all stones of the same positions are also asked about, once
+and behind each of 30 moves that are far from them. Then questions about every stone of random boards, at several depths,
+fill a cache of 65,536 questions.
 """
 
 import pathlib
@@ -47,6 +49,36 @@ def rounds_of_moves(luck: random.Random, asked: compare_readings.Asked, rounds: 
     points = far_points(asked)
     orders = [luck.sample(points, len(points)) for _ in range(rounds)]
     return [[f"play {'bw'[number % 2]} {vertex}" for number, vertex in enumerate(order)] for order in orders]
+
+
+def far_from(asked: compare_readings.Asked, vertex: str) -> list[str]:
+    """One attack question for each stone that is far from the vertex."""
+    column, row = sgf.COLUMNS.index(vertex[0]), int(vertex[1:])
+    stones = asked.black + asked.white
+    far = [at for at in stones if abs(sgf.COLUMNS.index(at[0]) - column) + abs(int(at[1:]) - row) > asked.size]
+    return [f"attack {stone}" for stone in far]
+
+
+def moves_far_from_many(luck: random.Random, asked: compare_readings.Asked) -> Iterator[tuple[str, list[str]]]:
+    """Plays at 30 empty points, each with the questions about the stones that are far from it."""
+    taken = set(asked.black) | set(asked.white)
+    places = [f"{column}{row}" for column in sgf.COLUMNS[: asked.size] for row in range(1, asked.size + 1)]
+    empty = [vertex for vertex in places if vertex not in taken]
+    for number, vertex in enumerate(luck.sample(empty, min(30, len(empty)))):
+        yield f"play {'bw'[number % 2]} {vertex}", far_from(asked, vertex)
+
+
+def about_all_far_stones(questions: list[compare_readings.Asked]) -> Timed:
+    """Each stone is asked about once, and again behind each move that is far from it, which is then taken back."""
+    luck = random.Random(1)
+    asking, plain, count = [], [], 0
+    for asked in questions:
+        there = compare_readings.set_up(asked) + [f"attack {stone}" for stone in asked.black + asked.white]
+        moves = list(moves_far_from_many(luck, asked))
+        asking += there + joined([play, *about, "undo"] for play, about in moves)
+        plain += there + joined([play, "undo"] for play, _ in moves)
+        count += sum(len(about) for _, about in moves)
+    return Timed("all far stones", asking, plain, count)
 
 
 def after_each(orders: list[list[str]], text: list[str]) -> list[str]:
@@ -106,7 +138,7 @@ def main(gopat: str, gnugo: str, regression: str, wanted: str = "60", repeats: s
     random.Random(1).shuffle(questions)
     questions = questions[: int(wanted)]
     print(f"{len(questions)} questions, at the depths of the options")
-    for kind in kinds_of_asking(questions, int(repeats), int(rounds)):
+    for kind in [*kinds_of_asking(questions, int(repeats), int(rounds)), about_all_far_stones(questions)]:
         ours = microseconds([gopat], kind)
         theirs = microseconds([gnugo, "--mode", "gtp", "--quiet"], kind)
         print(f"{kind.name:22} {ours:9.2f} us by gopat, {theirs:9.2f} us by GNU Go: {ours / theirs:.2f} of its time")
