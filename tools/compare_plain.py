@@ -14,8 +14,8 @@ from typing import Iterator
 
 import gtp
 
-# Plies and wide plies, so small that the whole tree is read in a moment.
-DEPTHS = [(1, 0), (1, 1), (2, 0), (2, 2), (3, 1), (3, 3), (4, 0), (4, 2), (4, 4), (5, 0), (5, 1), (5, 2), (6, 0), (6, 1), (7, 0)]
+# Plies and wide plies, so small that the whole tree is read in a moment. From 12 plies on gopat remembers nodes.
+DEPTHS = [(1, 0), (1, 1), (2, 0), (2, 2), (3, 1), (3, 3), (4, 0), (4, 2), (4, 4), (5, 0), (5, 1), (5, 2), (6, 0), (6, 1), (7, 0), (12, 0), (14, 0)]
 
 COLUMNS = "ABCDEFGHJ"
 
