@@ -59,10 +59,6 @@ module _ (p : Pattern) (masks : List LetterMask) (n : ℕ) (are : AreMasks p (le
   length_at_whole whole = length_at_blank p n some
       (not-true (is_drawn (drawn_along p (n - 1))) (sym (has_each-blank p (n - 1) mask before) ∙ whole))
 
--- no masks are those of no indices
-pub AreMasks-none : (p : Pattern) (masks : List LetterMask) → masks ≡ [] → AreMasks p 0 masks
-AreMasks-none p masks none = record { size = ap length none; each = λ i x low. absurd (omega (arith, low)) }
-
 -- one mask more is that of one index more
 pub AreMasks-more : (p : Pattern) (i : ℕ) (masks more : List LetterMask) (mask : LetterMask) → AreMasks p i masks
     → more ≡ masks ++ mask ∷ [] → ((x : Seen) → has_letter mask x ≡ admits p i x) → AreMasks p (i + 1) more
