@@ -6,7 +6,7 @@ use Rattle.std.proofs.lemmas.List.{length_push, get_or_push, get_or_append_left,
 use Rattle.std.proofs.lemmas.List.{take_all, append-nil, append_assoc, length-take-le, get_or-take, get_or-drop}
 use Rattle.std.proofs.lemmas.Grind.{flat_map-append}
 use Rattle.std.proofs.Math.Seq.{drop-append_seam, take-add}
-use Rattle.dfa_core.specs.Automata.{Row, no_row, row_at}
+use Rattle.dfa_core.specs.Automata.{Row, no_row, row_at, HaveFourTargets}
 use Rattle.dfa_core.specs.Tables.{Flat, part_of, start_of, row_in, first_rows, rows_in, IsFlat, numbers_of}
 
 -- the table of four lists
@@ -238,3 +238,12 @@ module _ (t : Flat) (good : IsFlat t) where
 -- a row of the table has a depth
 pub row_below : (t : Flat) (rows : List Row) (r : ℕ) → rows_in t ≡ rows → r < length rows → r < length t.depths
 row_below t rows r same low = omega (arith, ap length same, length-rows t)
+
+-- each row of a table has four targets
+pub four_targets : (t : Flat) → IsFlat t → HaveFourTargets (rows_in t)
+four_targets t flat r low =
+    let inside : r < length t.depths = omega (arith, low, length-rows t) in
+    ap (λ row. length row.targets) (row_at-rows t r inside)
+    ∙ length-take-le (4 * r + 4 - 4 * r) (drop (4 * r) t.targets)
+    (omega (arith, inside, flat.targets, length-drop (4 * r) t.targets))
+    ∙ omega arith

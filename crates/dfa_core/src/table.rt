@@ -1,7 +1,7 @@
 //! The flat table of an automaton: five vectors for all rows. It grows row by row, and then it is closed.
 ghost use Rattle.std.specs.Prelude.{◌≡◌, ◌+◌, ◌*◌, ◌<◌, ◌≤◌, ◌++◌, ◌∷◌, [], length, take, slice_index_or, map};
 ghost use Rattle.std.specs.Prelude.{All, IfOk};
-ghost use Rattle.dfa_core.specs.Automata.{Row, row_at, step_at, IsAutomaton};
+ghost use Rattle.dfa_core.specs.Automata.{Row, row_at, step_at, IsAutomaton, HaveFourTargets};
 ghost use Rattle.dfa_core.specs.Words.{letter_number};
 ghost use Rattle.dfa_core.specs.Tables.{part_of, numbers_of};
 ghost use Rattle.dfa_core.specs.RowKinds.{kind_at, most_rows};
@@ -218,9 +218,10 @@ impl Model for ClosedTable {
 }
 
 impl ClosedTable {
-    /// How many rows it has.
+    /// How many rows it has. Each has a target for each letter.
     pub fn rows(&self) -> usize
-        ensures { result ≡ length self.now }
+        ensures value { result ≡ length self.now }
+        ensures four { HaveFourTargets self.now }
     {
         self.depths.len()
     }
