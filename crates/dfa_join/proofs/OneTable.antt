@@ -67,8 +67,8 @@ module _ (patterns : List Pattern) (a b : List Row) (one : IsTableOf patterns a)
   back : (u v : Word) → reach b u ≡ reach b v → reach a u ≡ reach a v
   back u v e = one.automaton.rows.same u v (two.automaton.rows.apart u v e)
 
-  -- from a row that a word reaches in both tables, a letter that leads to a known row or to the next one leads in both to
-  -- the same row
+  -- from a row that a word reaches in both tables, a letter that leads to a known row or to the next one leads to the
+  -- same row in both
   same_step : (n r : ℕ) (x : Seen) → Meet a b n → Meets a b r → step_at a r x ≤ n → step_at b r x ≤ n
       → step_at a r x ≡ step_at b r x
   same_step n r x known here low high =
@@ -125,7 +125,8 @@ module _ (patterns : List Pattern) (a b : List Row) (one : IsTableOf patterns a)
       (subst (IsInOrder n) of_b second) in
       (of_a ∙ same.0 ∙ sym of_b, subst (λ ts. Meet a b (fresh_after n ts)) (sym of_a) same.1)
 
-  -- a row has the same targets in both tables, where the rows before it have, and what these lead to is reached in both
+  -- a row has the same targets in both tables, where the rows before it have, and what these lead to is reached in
+  -- both
   next_row : (r : ℕ) → r < length a → r < length b → targets_of (take r a) ≡ targets_of (take r b)
       → Meet a b (fresh_after 1 (targets_of (take r a)))
       → ((row_at a r).targets ≡ (row_at b r).targets)
