@@ -2,9 +2,7 @@
 use Rattle.std.specs.Prelude.{◌≡◌, ℕ, zero, suc, ◌+◌, ◌-◌, ◌*◌, ◌<◌, ◌≤◌, List, [], ◌∷◌, ◌++◌, length, take, drop}
 use Rattle.std.specs.Prelude.{slice_index_or}
 use Rattle.std.specs.List.{flat_map}
-use Rattle.dfa_core.specs.declared.automaton.Seen.{Seen}
-use Rattle.dfa_core.specs.Automata.{Row, step_at}
-use Rattle.dfa_core.specs.Words.{letter_number}
+use Rattle.dfa_core.specs.Automata.{Row}
 
 -- four targets for each row, where the numbers of each row begin and where those of the last end, the numbers of all
 -- rows, and the depths
