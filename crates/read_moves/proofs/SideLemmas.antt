@@ -1,15 +1,15 @@
 -- The empty sides of a point.
 use Rattle.std.proofs.Common.{◌≡◌, ℕ, ◌+◌, ◌*◌, ◌/◌, ◌%◌, ◌<◌, ◌||◌, ◌&&◌, Bool, true, false, eqb, ltb, List, refl, sym}
 use Rattle.std.proofs.Common.{ap, subst, arith, inl, inr, ◌∙◌}
-use Rattle.std.proofs.lemmas.Bool.{or_cases, eqb-true, and_parts, and_from, eq-eqb, lt-ltb, ltb-true}
+use Rattle.std.proofs.lemmas.Bool.{or_cases, eqb-true, and_parts, ltb-true}
 use Rattle.std.specs.Ordering.{nat_cmp}
 use Rattle.std.specs.FinSet as sets
 use Rattle.go_rules.specs.declared.Cell.{Cell}
 use Rattle.go_rules.specs.Board.{are_neighbours, are_one_apart}
-use Rattle.go_rules.proofs.Counts.{any_below_gives, any_below_from}
+use Rattle.go_rules.proofs.Counts.{any_below_gives}
 use Rattle.go_rules.proofs.Sets.{same_nat_set, contains-set_below, len-set_below}
 use Rattle.go_rules.specs.Below.{set_below, count_below}
-use Rattle.go_rules.proofs.Paths.{same_cell-true, same_cell-from}
+use Rattle.go_rules.proofs.Paths.{same_cell-true}
 use Rattle.go_base.specs.Views.{alone, neighbours_of}
 use Rattle.go_base.proofs.PointNeighbourhoods.{whole_self, close_next, close_again, close_mono, alone_self}
 use Rattle.go_rules.specs.Neighbourhood.{neighbourhood_of}
@@ -31,14 +31,6 @@ side_gives s cells l x h =
       beside = subst (λ y. are_neighbours s y x ≡ true) (eqb-true k.0 l both.0) both.1;
     }
 
--- and back
-pub side_from : (s : ℕ) (cells : List Cell) (l x : ℕ) → l < s * s → IsEmptyNeighbour s cells l x
-    → is_empty_beside s cells (alone l) x ≡ true
-unfolding is_empty_beside
-side_from s cells l x on side =
-    and_from _ _ (and_from _ _ (lt-ltb x (s * s) side.on_board) (same_cell-from _ _ side.is_empty))
-    (any_below_from (s * s) _ l on (and_from _ _ (eq-eqb l l refl) side.beside))
-
 -- no number is one apart from itself
 not_apart : (a : ℕ) → are_one_apart a a ≡ true → ⊥
 not_apart a h = elim (or_cases _ _ h) [
@@ -54,12 +46,6 @@ not_its_own s l h = elim (or_cases (eqb (l / s) (l / s) && are_one_apart (l % s)
       | inl e ↦ not_apart (l % s) (and_parts (eqb (l / s) (l / s)) (are_one_apart (l % s) (l % s)) e).1
       | inr e ↦ not_apart (l / s) (and_parts (eqb (l % s) (l % s)) (are_one_apart (l / s) (l / s)) e).1
     ]
-
--- what a set has after points were added to none was added
-pub added_to_none : (old : sets.FinSet nat_cmp) (x : ℕ) (b : Bool) → old ≡ sets.empty
-    → (sets.contains old x || b) ≡ true → b ≡ true
-added_to_none old x b none h =
-    sym (ap (λ y. y || b) (ap (λ t. sets.contains t x) none ∙ sets.contains-empty nat_cmp x)) ∙ h
 
 -- an empty neighbour of l is on the board
 beside_within : (s : ℕ) (cells : List Cell) (l x : ℕ) → is_empty_beside s cells (alone l) x ≡ (ltb x
@@ -81,12 +67,6 @@ sides_counted s cells l old found none added =
     ∙ ap (λ b. b || test x) (ap (λ t. sets.contains t x) none ∙ sets.contains-empty nat_cmp x)
     ∙ beside_within s cells l x ∙ sym (contains-set_below (s * s) test x)))
     ∙ len-set_below (s * s) test
-
--- where a point fails one of two tests, it does not come by both
-pub none_added : (a x y : Bool) → y ≡ false → a ≡ (a || (x && y))
-none_added true x y e = refl
-none_added false true y e = sym e
-none_added false false y e = refl
 
 -- the sides of l are near it
 pub sides_near : (s : ℕ) (cells : List Cell) (l : ℕ) → l < s * s → (r : ℕ) → neighbours_of s l r ≡ true

@@ -11,7 +11,7 @@ mod quiet;
 pub mod reach;
 pub mod stages;
 
-pub use moves::empty_sides;
+pub use moves::{add_sides, empty_sides};
 pub use read_rules::Depths;
 pub use stages::{candidates, wide_candidates};
 

@@ -38,7 +38,7 @@ fn add_empty<L: Look>(board: &mut Trial<L>, q: Point, found: &mut PointSet)
 }
 
 /// Adds the empty neighbours of l.
-fn add_sides<L: Look>(board: &mut Trial<L>, l: Point, found: &mut PointSet)
+pub fn add_sides<L: Look>(board: &mut Trial<L>, l: Point, found: &mut PointSet)
     requires { l < (L.shows board.old.look).size * (L.shows board.old.look).size }
     ensures stays { Stays L.shows L.seen board.old board.new }
     ensures over { (pos : BoardState) → Agrees (L.seen board.new.look) pos → (p : ℕ)

@@ -14,6 +14,7 @@ use Rattle.read_rules.proofs.CandidateLaws.{candidate_on}
 use Rattle.read_rules.specs.declared.question.Spot.TheVariants.{Pass}
 use Rattle.read_rules.specs.GameTree.{is_captured, has_many_liberties, allowance_of, next_node, attacker_wins, suits}
 use Rattle.read_rules.specs.GameTree.{succeeds, pass_saves, first_success, at_point}
+use Rattle.read_tree.specs.Allowances.{all_three}
 use Rattle.read_tree.specs.Allowances.{Ko, defender_may, neither_may, attacker_may, attacker_ko_of, defender_ko_of, has}
 use Rattle.read_tree.specs.Allowances.{has_some, own_ko, own_where, under, next_turn, without, Tells}
 use Rattle.read_rules.specs.declared.question.ReadingQuestion.{ReadingQuestion}
@@ -323,7 +324,7 @@ pub Tells-none : (asked : Allowances) (test : Ko → Bool) → ((ko : Ko) → te
 Tells-none asked test h = record { each = λ ko. has_none ko ∙ sym (and_false_right (has asked ko) (test ko) (h ko)) }
 
 -- all are there
-pub has_all : (ko : Ko) → has (record { defender = true; neither = true; attacker = true }) ko ≡ true
+pub has_all : (ko : Ko) → has all_three ko ≡ true
 has_all defender_may = refl
 has_all neither_may = refl
 has_all attacker_may = refl

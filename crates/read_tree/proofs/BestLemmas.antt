@@ -21,6 +21,7 @@ use Rattle.read_rules.specs.GameTree.{pass_saves, first_success, first_move, at_
 use Rattle.read_rules.specs.Answer.{is_attack, first_node, is_about, answer_of}
 use Rattle.read_rules.specs.ActiveArea.{IsNodeOf, first}
 use Rattle.read_tree.specs.Bound.{outlasts}
+use Rattle.read_tree.specs.Allowances.{all_three}
 use Rattle.read_tree.specs.Allowances.{Ko, defender_may, neither_may, attacker_may, has, has_some, own_ko, under, ko_of}
 use Rattle.read_tree.specs.Allowances.{codes_above, best_code, Tells}
 use Rattle.read_rules.specs.GoodMoves.{IsOnBoard, good_move}
@@ -411,11 +412,7 @@ best_answer q pos best ne about few i =
 
 -- the first turn is one of the trees under each allowance
 pub first_nodes : (q : ReadingQuestion) (pos : BoardState) → q.plies ≢ 0
-    → AreNodesOf q pos (suc (q.plies - 1)) (first_turn q) (record {
-      defender = true;
-      neither = true;
-      attacker = true;
-    }) pos
+    → AreNodesOf q pos (suc (q.plies - 1)) (first_turn q) all_three pos
 first_nodes q pos ne = record {
   each = λ ko h. let e : q.plies ≡ suc (q.plies - 1) = omega arith in
       subst (λ m. IsNodeOf q pos m (under (first_turn q) ko) pos) e (by q.kind ko);

@@ -115,11 +115,6 @@ stands_by_liberties pos t h =
     stone_stands Black h = refl
     stone_stands White h = refl
 
--- what outlasts, in numbers
-Outlasts : Bool → ℕ → ℕ → ℕ → Type 0
-Outlasts attacker n k l =
-    cond attacker (((n + 1) / 2 < l) ⊎ (most_by_wide k < l)) ((n / 2 < l) ⊎ (most_by_wide (k - 1) < l))
-
 -- where one of two tests of order passes, its first number is below its second
 lt_cases : (a b c d : ℕ) → (ltb a b || ltb c d) ≡ true → (a < b) ⊎ (c < d)
 lt_cases a b c d h = elim (or_cases (ltb a b) (ltb c d) h) [

@@ -87,6 +87,10 @@ either a b = record {
   attacker = a.attacker || b.attacker;
 }
 
+-- each of the three allowances
+abbrev pub all_three : Allowances
+all_three = record { defender = true; neither = true; attacker = true }
+
 -- the allowance of the attacker, or else of the defender, where it is to be there
 abbrev pub own_where : Bool → Bool → Allowances
 own_where attacker there = record { defender = not attacker && there; neither = false; attacker = attacker && there }

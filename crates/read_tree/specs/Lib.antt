@@ -1,9 +1,11 @@
 pub mod Allowances
 pub mod Bound
 pub mod Escapes
+pub mod Readings
 pub mod Stages
 pub mod Steps
 pub mod Table
+pub mod Walk
 pub use Rattle.read_rules.specs.GameTree
 pub use Rattle.read_rules.specs.Answer
 pub use Rattle.read_rules.specs.ActiveArea

@@ -1,11 +1,9 @@
 //! Whether a defender's play at a liberty leaves his target more liberties than the attacker can take.
 
-ghost use Rattle.std.specs.Prelude.{◌≡◌, ◌⊎◌, ℕ, ◌*◌, ◌<◌, ◌&&◌, ◌||◌, true, IsTrue};
+ghost use Rattle.std.specs.Prelude.{◌≡◌, ℕ, ◌*◌, ◌<◌, ◌&&◌, ◌||◌, true, IsTrue};
 ghost use Rattle.std.specs.FinSet as set;
 ghost use Rattle.go_rules.specs.Below.{any_below};
-ghost use Rattle.go_rules.specs.Board.{largest_points};
 ghost use Rattle.go_rules.specs.Position.{BoardState};
-ghost use Rattle.go_rules.specs.Strings.{cell_at};
 ghost use Rattle.go_base.specs.Facts.{Agrees, AddsIn};
 ghost use Rattle.go_base.specs.Views.{alone, neighbours_of};
 ghost use Rattle.trial_board.specs.Trials.{Stays, after};
@@ -16,24 +14,9 @@ use crate::bound::outlasts;
 use crate::outlook::stone_of;
 use crate::turn::Turn;
 use go_base::points::PointSet;
-use go_base::sides::neighbour;
-use go_base::{Cell, Look, Point};
+use go_base::{Look, Point};
+use read_moves::add_sides;
 use trial_board::Trial;
-
-/// Adds q where it is empty.
-fn add_empty<L: Look>(board: &mut Trial<L>, q: Point, kept: &mut PointSet)
-    requires on_board { q < (L.shows board.old.look).size * (L.shows board.old.look).size }
-    requires small { q < largest_points }
-    ensures stays { Stays L.shows L.seen board.old board.new }
-    ensures over { (pos : BoardState) → Agrees (L.seen board.new.look) pos → (x : ℕ)
-        → IsTrue (set.contains kept.new x) → (set.contains kept.old x ≡ true)
-        ⊎ ((x ≡ q) × (cell_at (after pos board.old.moves).cells x ≡ Cell.Empty)) }
-    ensures near { AddsIn (L.seen board.old.look) (L.seen board.new.look) (alone q) }
-{
-    if board.cell(q) == Cell::Empty {
-        kept.add(q);
-    }
-}
 
 /// Liberties that the target has after the defender's play at its liberty l: the others that are known, and the empty
 /// sides of l.
@@ -45,13 +28,8 @@ fn kept_at<L: Look>(board: &mut Trial<L>, l: Point, known: &PointSet) -> PointSe
     ensures near { (pos : BoardState) → Agrees (L.seen board.new.look) pos
         → AddsIn (L.seen board.old.look) (L.seen board.new.look) (neighbours_of pos.size l) }
 {
-    let size = board.size();
     let mut kept = all_but(known, l);
-    for side in 0..4 {
-        if let Some(q) = neighbour(size, l, side) {
-            add_empty(board, q, &mut kept);
-        }
-    }
+    add_sides(board, l, &mut kept);
     kept
 }
 

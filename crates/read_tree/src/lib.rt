@@ -15,6 +15,7 @@ mod candidates;
 mod escape;
 pub mod laws;
 mod making;
+mod memory;
 mod order;
 mod outlook;
 pub mod reading;

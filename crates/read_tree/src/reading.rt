@@ -1,25 +1,27 @@
 //! The two questions: attack and defend.
 
-ghost use Rattle.std.specs.Prelude.{◌≡◌, ◌≢◌, ◌+◌, ◌*◌, ◌<◌, ◌≤◌, ◌↔◌, ℕ, suc, Bool, true, false, length, IsNone};
+ghost use Rattle.std.specs.Prelude.{◌≡◌, ◌≢◌, ◌+◌, ◌*◌, ◌<◌, ◌≤◌, ◌↔◌, suc, true, false, length, IsNone};
 ghost use Rattle.std.specs.Prelude.{IfSome, IsTrue, None, Some};
-ghost use Rattle.std.specs.FinSet as set;
 ghost use Rattle.go_rules.specs.Position.{BoardState};
-ghost use Rattle.go_rules.specs.Strings.{cell_at, liberties, liberty_points};
+ghost use Rattle.go_rules.specs.Strings.{cell_at, liberties};
 ghost use Rattle.go_rules.specs.Neighbourhood.{neighbourhood_of};
 ghost use Rattle.go_base.specs.Facts.{Agrees, Grows, AddsIn, CellIs};
 ghost use Rattle.trial_board.specs.Trials.{Stays, most_moves, after};
 ghost use Rattle.go_base.specs.Views.{nowhere, alone};
 ghost use Rattle.read_rules.specs.Candidates.{is_candidate};
-ghost use Rattle.read_rules.specs.ActiveArea.{IsUndecided, InActiveArea, AddsNear};
-ghost use Rattle.read_rules.specs.Answer.{is_attack, is_about, answer_of, asked_on, colour_of};
-ghost use Rattle.read_tree.specs.Allowances.{Ko, under};
+ghost use Rattle.read_rules.specs.ActiveArea.{InActiveArea, AddsNear};
+ghost use Rattle.read_rules.specs.Answer.{is_attack, answer_of, asked_on, colour_of};
+ghost use Rattle.read_tree.specs.Allowances.{all_three};
 ghost use Rattle.read_tree.specs.Bound.{outlasts};
 ghost use Rattle.read_rules.specs.GoodMoves.{IsOnBoard};
-ghost use Rattle.read_tree.specs.Steps.{first_turn, unread, better, IsBest, AreNodesOf};
+ghost use Rattle.read_tree.specs.Steps.{first_turn, unread, better, IsBest};
+ghost use Rattle.read_tree.specs.Readings.{IsToRead, Answers};
 ghost use Rattle.read_tree.specs.Table.{IsTrueTable};
+ghost use Rattle.read_tree.specs.Walk.{IsPointOf, AreLibertiesOf, OnEachAgreeing, LooksNear};
 
 use crate::allowances::Allowances;
 use crate::bound::has_too_many;
+use crate::memory::Memory;
 use crate::report::Report;
 use crate::table::{Entry, empty_table};
 use crate::tree::{pass_saves, succeeds};
@@ -71,40 +73,29 @@ fn best_point<L: Look>(
     plies: u8,
     first: Answer,
     known: &PointSet,
-    reply: &mut Point,
-    table: &mut [Entry],
+    memory: &mut Memory,
 ) -> Answer
     requires room { length board.old.moves + plies < most_moves }
-    requires target { turn.target < (L.shows board.old.look).size * (L.shows board.old.look).size }
-    requires liberties { (pos : BoardState) → Agrees (L.seen board.old.look) pos
-        → known.now ≡ liberty_points pos.size (after pos board.old.moves).cells turn.target }
+    requires target { IsPointOf L.shows board.old turn.target }
+    requires liberties { AreLibertiesOf L.seen board.old turn.target known.now }
     requires code { first.code < 3 }
     requires none { IsNone first.at ↔ (first.code ≡ 0) }
     requires on_board { IfSome first.at (IsOnBoard (L.shows board.old.look).size) }
-    requires table { IsTrueTable (L.seen board.old.look) turn.target turn.defender table.old }
+    requires table { IsTrueTable (L.seen board.old.look) turn.target turn.defender memory.old.table.now }
     ensures stays { Stays L.shows L.seen board.old board.new }
     ensures code { result.code ≤ 3 }
     ensures none { IsNone result.at ↔ (result.code ≡ 0) }
     ensures on_board { IfSome result.at (IsOnBoard (L.shows board.old.look).size) }
-    ensures over { (pos : BoardState) → Agrees (L.seen board.new.look) pos
-        → IsBest plies turn (after pos board.old.moves) nowhere first
-        → IsBest plies turn (after pos board.old.moves)
-        (is_candidate (after pos board.old.moves) turn.target turn.wide) result }
-    ensures near { (pos : BoardState) → Agrees (L.seen board.new.look) pos → (q : ReadingQuestion) (root : BoardState)
-        → AreNodesOf q root (suc plies) turn (record {
-          defender = true;
-          neither = true;
-          attacker = true;
-        }) (after pos board.old.moves)
-        → ((ko : Ko) → IsUndecided (under turn ko) (after pos board.old.moves))
-        → AddsNear (L.seen board.old.look) (L.seen board.new.look) (InActiveArea q root) }
+    ensures over { OnEachAgreeing L.seen board.old board.new (λ here. IsBest plies turn here nowhere first
+        → IsBest plies turn here (is_candidate here turn.target turn.wide) result) }
+    ensures near { LooksNear L.seen board.old board.new (suc plies) turn all_three }
 {
     let candidates = candidates(board, turn.target, turn.wide);
     let mut best = first;
     let mut next = 0;
     while let Some(p) = candidates.first_from(next) {
         let asked = Allowances::above(best.code, turn.attacker_to_play);
-        let good = succeeds(board, turn, p, plies, asked, known, reply, table);
+        let good = succeeds(board, turn, p, plies, asked, known, memory);
         best = better(best, turn.attacker_to_play, good, Spot::At(p));
         if best.code == 3 {
             return best;
@@ -136,47 +127,26 @@ fn read_by<L: Look>(
     known: &PointSet,
     table: &mut [Entry],
 ) -> Answer
-    requires plies { 0 < question.now.plies }
-    requires room { length board.old.moves + question.now.plies ≤ most_moves }
-    requires target { question.now.target < (L.shows board.old.look).size * (L.shows board.old.look).size }
-    requires liberties { (pos : BoardState) → Agrees (L.seen board.old.look) pos
-        → known.now ≡ liberty_points pos.size (after pos board.old.moves).cells question.now.target }
-    requires few { outlasts (is_attack question.now.kind) question.now.plies question.now.wide (set.len known.now)
-        ≡ false }
+    requires ready { IsToRead L.shows L.seen board.old question.now known.now }
     requires table { IsTrueTable (L.seen board.old.look) question.now.target question.now.colour table.old }
-    ensures stays { Stays L.shows L.seen board.old board.new }
-    ensures code { result.code ≤ 3 }
-    ensures none { IsNone result.at ↔ (result.code ≡ 0) }
-    ensures on_board { IfSome result.at (IsOnBoard (L.shows board.old.look).size) }
-    ensures over { (pos : BoardState) → Agrees (L.seen board.new.look) pos
-        → is_about question.now (after pos board.old.moves) ≡ true
-        → result ≡ answer_of question.now (after pos board.old.moves) }
-    ensures near { (pos : BoardState) → Agrees (L.seen board.new.look) pos
-        → is_about question.now (after pos board.old.moves) ≡ true
-        → AddsNear (L.seen board.old.look) (L.seen board.new.look)
-        (InActiveArea question.now (after pos board.old.moves)) }
+    ensures { Answers L.shows L.seen board.old board.new question.now result }
 {
     let turn = first_turn(question);
     let plies = question.plies - 1;
     let nothing = Answer { code: 0, at: None };
-    let mut reply = turn.target;
-    if turn.attacker_to_play {
-        return best_point(board, turn, plies, nothing, known, &mut reply, table);
-    }
-    let saved = pass_saves(
-        board,
-        turn,
-        plies,
-        Allowances::all(),
-        known,
-        &mut reply,
+    let mut memory = Memory {
+        reply: turn.target,
         table,
-    );
+    };
+    if turn.attacker_to_play {
+        return best_point(board, turn, plies, nothing, known, &mut memory);
+    }
+    let saved = pass_saves(board, turn, plies, Allowances::all(), known, &mut memory);
     let best = better(nothing, turn.attacker_to_play, saved, Spot::Pass);
     if best.code == 3 {
         return best;
     }
-    best_point(board, turn, plies, best, known, &mut reply, table)
+    best_point(board, turn, plies, best, known, &mut memory)
 }
 
 /// The same with a table, which is made here: it is large, and a short reading is not to pay for it.
@@ -186,24 +156,8 @@ fn read_with_table<L: Look>(
     question: &ReadingQuestion,
     known: &PointSet,
 ) -> Answer
-    requires plies { 0 < question.now.plies }
-    requires room { length board.old.moves + question.now.plies ≤ most_moves }
-    requires target { question.now.target < (L.shows board.old.look).size * (L.shows board.old.look).size }
-    requires liberties { (pos : BoardState) → Agrees (L.seen board.old.look) pos
-        → known.now ≡ liberty_points pos.size (after pos board.old.moves).cells question.now.target }
-    requires few { outlasts (is_attack question.now.kind) question.now.plies question.now.wide (set.len known.now)
-        ≡ false }
-    ensures stays { Stays L.shows L.seen board.old board.new }
-    ensures code { result.code ≤ 3 }
-    ensures none { IsNone result.at ↔ (result.code ≡ 0) }
-    ensures on_board { IfSome result.at (IsOnBoard (L.shows board.old.look).size) }
-    ensures over { (pos : BoardState) → Agrees (L.seen board.new.look) pos
-        → is_about question.now (after pos board.old.moves) ≡ true
-        → result ≡ answer_of question.now (after pos board.old.moves) }
-    ensures near { (pos : BoardState) → Agrees (L.seen board.new.look) pos
-        → is_about question.now (after pos board.old.moves) ≡ true
-        → AddsNear (L.seen board.old.look) (L.seen board.new.look)
-        (InActiveArea question.now (after pos board.old.moves)) }
+    requires { IsToRead L.shows L.seen board.old question.now known.now }
+    ensures { Answers L.shows L.seen board.old board.new question.now result }
 {
     let mut table = empty_table();
     read_by(board, question, known, &mut table)
@@ -211,24 +165,8 @@ fn read_with_table<L: Look>(
 
 /// The same with a table where there are plies enough, and without one where it would cost more than it saves.
 fn read_known<L: Look>(board: &mut Trial<L>, question: &ReadingQuestion, known: &PointSet) -> Answer
-    requires plies { 0 < question.now.plies }
-    requires room { length board.old.moves + question.now.plies ≤ most_moves }
-    requires target { question.now.target < (L.shows board.old.look).size * (L.shows board.old.look).size }
-    requires liberties { (pos : BoardState) → Agrees (L.seen board.old.look) pos
-        → known.now ≡ liberty_points pos.size (after pos board.old.moves).cells question.now.target }
-    requires few { outlasts (is_attack question.now.kind) question.now.plies question.now.wide (set.len known.now)
-        ≡ false }
-    ensures stays { Stays L.shows L.seen board.old board.new }
-    ensures code { result.code ≤ 3 }
-    ensures none { IsNone result.at ↔ (result.code ≡ 0) }
-    ensures on_board { IfSome result.at (IsOnBoard (L.shows board.old.look).size) }
-    ensures over { (pos : BoardState) → Agrees (L.seen board.new.look) pos
-        → is_about question.now (after pos board.old.moves) ≡ true
-        → result ≡ answer_of question.now (after pos board.old.moves) }
-    ensures near { (pos : BoardState) → Agrees (L.seen board.new.look) pos
-        → is_about question.now (after pos board.old.moves) ≡ true
-        → AddsNear (L.seen board.old.look) (L.seen board.new.look)
-        (InActiveArea question.now (after pos board.old.moves)) }
+    requires { IsToRead L.shows L.seen board.old question.now known.now }
+    ensures { Answers L.shows L.seen board.old board.new question.now result }
 {
     if question.plies < PLIES_WITH_TABLE {
         return read_by(board, question, known, &mut []);
@@ -240,11 +178,8 @@ fn read_known<L: Look>(board: &mut Trial<L>, question: &ReadingQuestion, known: 
 fn read<L: Look>(board: &mut Trial<L>, question: &ReadingQuestion) -> Answer
     requires plies { 0 < question.now.plies }
     requires room { length board.old.moves + question.now.plies ≤ most_moves }
-    requires target { question.now.target < (L.shows board.old.look).size * (L.shows board.old.look).size }
-    ensures stays { Stays L.shows L.seen board.old board.new }
-    ensures code { result.code ≤ 3 }
-    ensures none { IsNone result.at ↔ (result.code ≡ 0) }
-    ensures on_board { IfSome result.at (IsOnBoard (L.shows board.old.look).size) }
+    requires target { IsPointOf L.shows board.old question.now.target }
+    ensures answers { Answers L.shows L.seen board.old board.new question.now result }
     ensures too_many { IsTrue (outlasts (is_attack question.now.kind) question.now.plies question.now.wide
         (liberties (L.shows board.old.look).size (after (L.shows board.old.look) board.old.moves).cells
         question.now.target))
@@ -252,13 +187,6 @@ fn read<L: Look>(board: &mut Trial<L>, question: &ReadingQuestion) -> Answer
         × AddsIn (L.seen board.old.look) (L.seen board.new.look)
         (neighbourhood_of (L.shows board.old.look).size (after (L.shows board.old.look) board.old.moves).cells
         (alone question.now.target)) }
-    ensures over { (pos : BoardState) → Agrees (L.seen board.new.look) pos
-        → is_about question.now (after pos board.old.moves) ≡ true
-        → result ≡ answer_of question.now (after pos board.old.moves) }
-    ensures near { (pos : BoardState) → Agrees (L.seen board.new.look) pos
-        → is_about question.now (after pos board.old.moves) ≡ true
-        → AddsNear (L.seen board.old.look) (L.seen board.new.look)
-        (InActiveArea question.now (after pos board.old.moves)) }
 {
     let turn = first_turn(question);
     let known = board.liberties(turn.target);

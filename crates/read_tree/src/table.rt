@@ -48,7 +48,7 @@ pub struct Entry {
 
 impl Verdict {
     /// Nothing is known.
-    fn nothing() -> Verdict
+    pub fn nothing() -> Verdict
         ensures { (seen : Fact → Bool) (target : ℕ) (defender : Colour) (node : AttackerNode)
             → IsTrueOf seen target defender node result }
     {

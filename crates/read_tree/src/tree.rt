@@ -1,6 +1,6 @@
 //! The walk over the game tree: the plays of a node one after another, each read to its end before the next.
 
-ghost use Rattle.std.specs.Prelude.{◌≡◌, ◌⊎◌, ◌+◌, ◌*◌, ◌<◌, ◌≤◌, ℕ, suc, ◌-◌, ◌==◌, ◌||◌, ◌&&◌, nat_lt, true, false};
+ghost use Rattle.std.specs.Prelude.{◌≡◌, ◌+◌, ◌<◌, ◌≤◌, ℕ, suc, true, false};
 ghost use Rattle.std.specs.Prelude.{IsTrue, IfSome, length, is_some, if◌then◌else◌};
 ghost use Rattle.go_rules.specs.Neighbourhood.{neighbourhood_of};
 ghost use Rattle.go_rules.specs.Strings.{liberty_points};
@@ -18,6 +18,8 @@ ghost use Rattle.read_rules.specs.GoodMoves.{good_move};
 ghost use Rattle.read_tree.specs.Steps.{has_way, AreNodesOf, TellsBy};
 ghost use Rattle.read_tree.specs.Steps.{is_off_liberties, IsCarried};
 ghost use Rattle.read_tree.specs.Table.{IsTrueTable};
+ghost use Rattle.read_tree.specs.Walk.{IsPointOf, AreLibertiesOf, OnEachAgreeing};
+ghost use Rattle.read_tree.specs.Walk.{LooksNear, LooksNearWhere, LooksNearOrAt};
 
 use crate::allowances::Allowances;
 use crate::apart::{all_but, copy_of};
@@ -25,9 +27,10 @@ use crate::bound::leaves_too_many;
 use crate::candidates::{captures_of, others_of};
 use crate::escape::escapes;
 use crate::making::{Made, make};
+use crate::memory::Memory;
 use crate::order::{TryOrder, last_reply, next_to_try};
 use crate::outlook::{Outlook, is_in_atari, outlook_of, stone_of};
-use crate::table::{AttackerNode, Entry, find, keep};
+use crate::table::AttackerNode;
 use crate::turn::Turn;
 use go_base::points::PointSet;
 use go_base::{Cell, Look, Point};
@@ -44,10 +47,9 @@ fn liberties_after<L: Look>(
     p: Point,
     known: &PointSet,
 ) -> Option<PointSet>
-    requires target { turn.target < (L.shows board.old.look).size * (L.shows board.old.look).size }
+    requires target { IsPointOf L.shows board.old turn.target }
     ensures stays { Stays L.shows L.seen board.old board.new }
-    ensures over { (pos : BoardState) → Agrees (L.seen board.new.look) pos
-        → IfSome result (IsCarried turn (after pos board.old.moves) p known.now) }
+    ensures over { OnEachAgreeing L.seen board.old board.new (λ here. IfSome result (IsCarried turn here p known.now)) }
     ensures near { AddsIn (L.seen board.old.look) (L.seen board.new.look) (alone turn.target) }
 {
     if !turn.attacker_to_play || board.cell(turn.target) != stone_of(turn.defender) {
@@ -62,9 +64,8 @@ fn liberties_known<L: Look>(
     target: Point,
     known: Option<PointSet>,
 ) -> PointSet
-    requires target { target < (L.shows board.old.look).size * (L.shows board.old.look).size }
-    requires liberties { IfSome known (λ found. (pos : BoardState) → Agrees (L.seen board.old.look) pos
-        → found ≡ liberty_points pos.size (after pos board.old.moves).cells target) }
+    requires target { IsPointOf L.shows board.old target }
+    requires liberties { IfSome known (AreLibertiesOf L.seen board.old target) }
     ensures stays { Stays L.shows L.seen board.old board.new }
     ensures over { (pos : BoardState) → Agrees (L.seen board.new.look) pos
         → result ≡ liberty_points pos.size (after pos board.old.moves).cells target }
@@ -94,25 +95,20 @@ fn has_way<L: Look>(
     plies: u8,
     asked: Allowances,
     known: Option<PointSet>,
-    reply: &mut Point,
-    table: &mut [Entry],
+    memory: &mut Memory,
 ) -> Allowances
     requires room { length board.old.moves + plies ≤ most_moves }
-    requires target { turn.target < (L.shows board.old.look).size * (L.shows board.old.look).size }
+    requires target { IsPointOf L.shows board.old turn.target }
     requires some { has_some asked ≡ true }
-    requires liberties { IfSome known (λ found. (pos : BoardState) → Agrees (L.seen board.old.look) pos
-        → found ≡ liberty_points pos.size (after pos board.old.moves).cells turn.target) }
-    requires table { IsTrueTable (L.seen board.old.look) turn.target turn.defender table.old }
+    requires liberties { IfSome known (AreLibertiesOf L.seen board.old turn.target) }
+    requires table { IsTrueTable (L.seen board.old.look) turn.target turn.defender memory.old.table.now }
     ensures stays { Stays L.shows L.seen board.old board.new }
-    ensures table { IsTrueTable (L.seen board.new.look) turn.target turn.defender table.new }
-    ensures over { (pos : BoardState) → Agrees (L.seen board.new.look) pos
-        → Tells asked result (λ ko. has_way turn.attacker_to_play
-        (attacker_wins plies (under (next_turn turn) ko) (after pos board.old.moves))) }
-    ensures near { (pos : BoardState) → Agrees (L.seen board.new.look) pos → (q : ReadingQuestion) (root : BoardState)
-        → AreNodesOf q root plies (next_turn turn) asked (after pos board.old.moves)
-        → AddsNear (L.seen board.old.look) (L.seen board.new.look) (λ p. (p ≡ turn.target) ⊎ InActiveArea q root p) }
+    ensures table { IsTrueTable (L.seen board.new.look) turn.target turn.defender memory.new.table.now }
+    ensures over { OnEachAgreeing L.seen board.old board.new (λ here. Tells asked result (λ ko. has_way
+        turn.attacker_to_play (attacker_wins plies (under (next_turn turn) ko) here))) }
+    ensures near { LooksNearOrAt L.seen board.old board.new plies (next_turn turn) asked }
 {
-    let won = attacker_wins(board, turn.next(), plies, asked, known, reply, table);
+    let won = attacker_wins(board, turn.next(), plies, asked, known, memory);
     attackers(turn.attacker_to_play, asked, won)
 }
 
@@ -125,32 +121,27 @@ pub fn succeeds<L: Look>(
     plies: u8,
     asked: Allowances,
     known: &PointSet,
-    reply: &mut Point,
-    table: &mut [Entry],
+    memory: &mut Memory,
 ) -> Allowances
     requires room { length board.old.moves + plies < most_moves }
-    requires target { turn.target < (L.shows board.old.look).size * (L.shows board.old.look).size }
-    requires on_board { p < (L.shows board.old.look).size * (L.shows board.old.look).size }
+    requires target { IsPointOf L.shows board.old turn.target }
+    requires on_board { IsPointOf L.shows board.old p }
     requires some { has_some asked ≡ true }
-    requires liberties { (pos : BoardState) → Agrees (L.seen board.old.look) pos
-        → known.now ≡ liberty_points pos.size (after pos board.old.moves).cells turn.target }
-    requires table { IsTrueTable (L.seen board.old.look) turn.target turn.defender table.old }
+    requires liberties { AreLibertiesOf L.seen board.old turn.target known.now }
+    requires table { IsTrueTable (L.seen board.old.look) turn.target turn.defender memory.old.table.now }
     ensures stays { Stays L.shows L.seen board.old board.new }
-    ensures table { IsTrueTable (L.seen board.new.look) turn.target turn.defender table.new }
-    ensures over { (pos : BoardState) → Agrees (L.seen board.new.look) pos
-        → Tells asked result (λ ko. succeeds plies (under turn ko) (after pos board.old.moves) p) }
-    ensures near { (pos : BoardState) → Agrees (L.seen board.new.look) pos → (q : ReadingQuestion) (root : BoardState)
-        → AreNodesOf q root (suc plies) turn asked (after pos board.old.moves)
-        → ((ko : Ko) → IsUndecided (under turn ko) (after pos board.old.moves))
-        → IsTrue (is_candidate (after pos board.old.moves) turn.target turn.wide p)
-        → AddsNear (L.seen board.old.look) (L.seen board.new.look) (InActiveArea q root) }
+    ensures table { IsTrueTable (L.seen board.new.look) turn.target turn.defender memory.new.table.now }
+    ensures over { OnEachAgreeing L.seen board.old board.new (λ here. Tells asked result (λ ko. succeeds plies (under
+        turn ko) here p)) }
+    ensures near { LooksNearWhere L.seen board.old board.new (suc plies) turn asked (λ here. IsTrue (is_candidate here
+        turn.target turn.wide p)) }
 {
     let own = asked.has_own(turn.attacker_to_play);
     match make(board, turn, p, own) {
         Made::Not => Allowances::none(),
         Made::Legal => {
             let next = liberties_after(board, turn, p, known);
-            let good = has_way(board, turn, plies, asked, next, reply, table);
+            let good = has_way(board, turn, plies, asked, next, memory);
             board.back();
             good
         }
@@ -162,8 +153,7 @@ pub fn succeeds<L: Look>(
                 plies,
                 Allowances::neither_alone(),
                 next,
-                reply,
-                table,
+                memory,
             );
             board.back();
             Allowances::own_where(turn.attacker_to_play, good.neither)
@@ -182,36 +172,29 @@ fn some_of<L: Look>(
     asked: Allowances,
     points: &PointSet,
     known: &PointSet,
-    reply: &mut Point,
-    table: &mut [Entry],
+    memory: &mut Memory,
 ) -> Allowances
     requires room { length board.old.moves + plies < most_moves }
-    requires target { turn.target < (L.shows board.old.look).size * (L.shows board.old.look).size }
+    requires target { IsPointOf L.shows board.old turn.target }
     requires some { has_some asked ≡ true }
-    requires liberties { (pos : BoardState) → Agrees (L.seen board.old.look) pos
-        → known.now ≡ liberty_points pos.size (after pos board.old.moves).cells turn.target }
-    requires on_board { (p : ℕ) → IsTrue (set.contains points.now p)
-        → p < (L.shows board.old.look).size * (L.shows board.old.look).size }
-    requires table { IsTrueTable (L.seen board.old.look) turn.target turn.defender table.old }
+    requires liberties { AreLibertiesOf L.seen board.old turn.target known.now }
+    requires on_board { (p : ℕ) → IsTrue (set.contains points.now p) → IsPointOf L.shows board.old p }
+    requires table { IsTrueTable (L.seen board.old.look) turn.target turn.defender memory.old.table.now }
     ensures stays { Stays L.shows L.seen board.old board.new }
-    ensures table { IsTrueTable (L.seen board.new.look) turn.target turn.defender table.new }
-    ensures over { (pos : BoardState) → Agrees (L.seen board.new.look) pos
-        → TellsBy plies turn (after pos board.old.moves) (set.contains points.now) asked result }
-    ensures near { (pos : BoardState) → Agrees (L.seen board.new.look) pos → (q : ReadingQuestion) (root : BoardState)
-        → AreNodesOf q root (suc plies) turn asked (after pos board.old.moves)
-        → ((ko : Ko) → IsUndecided (under turn ko) (after pos board.old.moves))
-        → ((p : ℕ) → IsTrue (set.contains points.now p)
-        → IsTrue (is_candidate (after pos board.old.moves) turn.target turn.wide p))
-        → AddsNear (L.seen board.old.look) (L.seen board.new.look) (InActiveArea q root) }
+    ensures table { IsTrueTable (L.seen board.new.look) turn.target turn.defender memory.new.table.now }
+    ensures over { OnEachAgreeing L.seen board.old board.new (λ here. TellsBy plies turn here (set.contains points.now)
+        asked result) }
+    ensures near { LooksNearWhere L.seen board.old board.new (suc plies) turn asked (λ here. (p : ℕ) → IsTrue
+        (set.contains points.now p) → IsTrue (is_candidate here turn.target turn.wide p)) }
 {
-    let mut order = TryOrder::beginning_with(*reply);
+    let mut order = TryOrder::beginning_with(memory.reply);
     let mut missing = asked;
     let mut tried = PointSet::new();
     while let Some(p) = next_to_try(board, points, &tried, known, &mut order) {
-        let good = succeeds(board, turn, p, plies, missing, known, reply, table);
+        let good = succeeds(board, turn, p, plies, missing, known, memory);
         missing = missing.without(good);
         if !missing.has_some() {
-            *reply = last_reply(turn.attacker_to_play, p, *reply);
+            memory.reply = last_reply(turn.attacker_to_play, p, memory.reply);
             return asked;
         }
         tried.add(p);
@@ -229,30 +212,24 @@ fn some_other<L: Look>(
     plies: u8,
     asked: Allowances,
     known: &PointSet,
-    reply: &mut Point,
-    table: &mut [Entry],
+    memory: &mut Memory,
 ) -> Allowances
     requires room { length board.old.moves + plies < most_moves }
-    requires target { turn.target < (L.shows board.old.look).size * (L.shows board.old.look).size }
+    requires target { IsPointOf L.shows board.old turn.target }
     requires some { has_some asked ≡ true }
-    requires liberties { (pos : BoardState) → Agrees (L.seen board.old.look) pos
-        → known.now ≡ liberty_points pos.size (after pos board.old.moves).cells turn.target }
-    requires table { IsTrueTable (L.seen board.old.look) turn.target turn.defender table.old }
+    requires liberties { AreLibertiesOf L.seen board.old turn.target known.now }
+    requires table { IsTrueTable (L.seen board.old.look) turn.target turn.defender memory.old.table.now }
     ensures stays { Stays L.shows L.seen board.old board.new }
-    ensures table { IsTrueTable (L.seen board.new.look) turn.target turn.defender table.new }
-    ensures over { (pos : BoardState) → Agrees (L.seen board.new.look) pos
-        → TellsBy plies turn (after pos board.old.moves)
-        (is_off_liberties turn (after pos board.old.moves)) asked result }
-    ensures near { (pos : BoardState) → Agrees (L.seen board.new.look) pos → (q : ReadingQuestion) (root : BoardState)
-        → AreNodesOf q root (suc plies) turn asked (after pos board.old.moves)
-        → ((ko : Ko) → IsUndecided (under turn ko) (after pos board.old.moves))
-        → AddsNear (L.seen board.old.look) (L.seen board.new.look) (InActiveArea q root) }
+    ensures table { IsTrueTable (L.seen board.new.look) turn.target turn.defender memory.new.table.now }
+    ensures over { OnEachAgreeing L.seen board.old board.new (λ here. TellsBy plies turn here (is_off_liberties turn
+        here) asked result) }
+    ensures near { LooksNear L.seen board.old board.new (suc plies) turn asked }
 {
     if leaves_too_many(turn, plies, known.count()) {
         return Allowances::none();
     }
     let captures = captures_of(board, turn.target, known);
-    let good = some_of(board, turn, plies, asked, &captures, known, reply, table);
+    let good = some_of(board, turn, plies, asked, &captures, known, memory);
     if turn.wide == 0 {
         return good;
     }
@@ -264,7 +241,7 @@ fn some_other<L: Look>(
         return good;
     }
     let others = others_of(board, turn.target, known, &captures);
-    let rest = some_of(board, turn, plies, missing, &others, known, reply, table);
+    let rest = some_of(board, turn, plies, missing, &others, known, memory);
     asked.without(missing.without(rest))
 }
 
@@ -277,30 +254,25 @@ fn some_success<L: Look>(
     plies: u8,
     asked: Allowances,
     known: &PointSet,
-    reply: &mut Point,
-    table: &mut [Entry],
+    memory: &mut Memory,
 ) -> Allowances
     requires room { length board.old.moves + plies < most_moves }
-    requires target { turn.target < (L.shows board.old.look).size * (L.shows board.old.look).size }
+    requires target { IsPointOf L.shows board.old turn.target }
     requires some { has_some asked ≡ true }
-    requires liberties { (pos : BoardState) → Agrees (L.seen board.old.look) pos
-        → known.now ≡ liberty_points pos.size (after pos board.old.moves).cells turn.target }
-    requires table { IsTrueTable (L.seen board.old.look) turn.target turn.defender table.old }
+    requires liberties { AreLibertiesOf L.seen board.old turn.target known.now }
+    requires table { IsTrueTable (L.seen board.old.look) turn.target turn.defender memory.old.table.now }
     ensures stays { Stays L.shows L.seen board.old board.new }
-    ensures table { IsTrueTable (L.seen board.new.look) turn.target turn.defender table.new }
-    ensures over { (pos : BoardState) → Agrees (L.seen board.new.look) pos
-        → Tells asked result (λ ko. is_some (first_success plies (under turn ko) (after pos board.old.moves))) }
-    ensures near { (pos : BoardState) → Agrees (L.seen board.new.look) pos → (q : ReadingQuestion) (root : BoardState)
-        → AreNodesOf q root (suc plies) turn asked (after pos board.old.moves)
-        → ((ko : Ko) → IsUndecided (under turn ko) (after pos board.old.moves))
-        → AddsNear (L.seen board.old.look) (L.seen board.new.look) (InActiveArea q root) }
+    ensures table { IsTrueTable (L.seen board.new.look) turn.target turn.defender memory.new.table.now }
+    ensures over { OnEachAgreeing L.seen board.old board.new (λ here. Tells asked result (λ ko. is_some (first_success
+        plies (under turn ko) here))) }
+    ensures near { LooksNear L.seen board.old board.new (suc plies) turn asked }
 {
-    let good = some_of(board, turn, plies, asked, known, known, reply, table);
+    let good = some_of(board, turn, plies, asked, known, known, memory);
     let missing = asked.without(good);
     if !missing.has_some() {
         return asked;
     }
-    let rest = some_other(board, turn, plies, missing, known, reply, table);
+    let rest = some_other(board, turn, plies, missing, known, memory);
     asked.without(missing.without(rest))
 }
 
@@ -313,44 +285,39 @@ fn some_by_table<L: Look>(
     plies: u8,
     asked: Allowances,
     known: &PointSet,
-    reply: &mut Point,
-    table: &mut [Entry],
+    memory: &mut Memory,
 ) -> Allowances
     requires room { length board.old.moves + plies < most_moves }
-    requires target { turn.target < (L.shows board.old.look).size * (L.shows board.old.look).size }
+    requires target { IsPointOf L.shows board.old turn.target }
     requires some { has_some asked ≡ true }
-    requires liberties { (pos : BoardState) → Agrees (L.seen board.old.look) pos
-        → known.now ≡ liberty_points pos.size (after pos board.old.moves).cells turn.target }
+    requires liberties { AreLibertiesOf L.seen board.old turn.target known.now }
     requires attacker { turn.attacker_to_play ≡ true }
-    requires table { IsTrueTable (L.seen board.old.look) turn.target turn.defender table.old }
+    requires table { IsTrueTable (L.seen board.old.look) turn.target turn.defender memory.old.table.now }
     ensures stays { Stays L.shows L.seen board.old board.new }
-    ensures table { IsTrueTable (L.seen board.new.look) turn.target turn.defender table.new }
-    ensures over { (pos : BoardState) → Agrees (L.seen board.new.look) pos
-        → Tells asked result (λ ko. is_some (first_success plies (under turn ko) (after pos board.old.moves))) }
-    ensures near { (pos : BoardState) → Agrees (L.seen board.new.look) pos → (q : ReadingQuestion) (root : BoardState)
-        → AreNodesOf q root (suc plies) turn asked (after pos board.old.moves)
-        → ((ko : Ko) → IsUndecided (under turn ko) (after pos board.old.moves))
-        → AddsNear (L.seen board.old.look) (L.seen board.new.look) (InActiveArea q root) }
+    ensures table { IsTrueTable (L.seen board.new.look) turn.target turn.defender memory.new.table.now }
+    ensures over { OnEachAgreeing L.seen board.old board.new (λ here. Tells asked result (λ ko. is_some (first_success
+        plies (under turn ko) here))) }
+    ensures near { LooksNear L.seen board.old board.new (suc plies) turn asked }
 {
-    if table.is_empty() || plies < LEAST_PLIES {
-        return some_success(board, turn, plies, asked, known, reply, table);
+    if plies < LEAST_PLIES || !memory.has_room() {
+        return some_success(board, turn, plies, asked, known, memory);
     }
     let Some(changes) = board.changes() else {
-        return some_success(board, turn, plies, asked, known, reply, table);
+        return some_success(board, turn, plies, asked, known, memory);
     };
     let node = AttackerNode {
         changes,
         plies,
         wide: turn.wide,
     };
-    let before = find(table, &node);
+    let before = memory.find(&node);
     let missing = asked.without(before.known);
     if !missing.has_some() {
         return asked.both(before.good);
     }
-    let good = some_success(board, turn, plies, missing, known, reply, table);
+    let good = some_success(board, turn, plies, missing, known, memory);
     let verdict = before.with(missing, good);
-    keep(table, &node, verdict);
+    memory.keep(&node, verdict);
     asked.both(verdict.good)
 }
 
@@ -364,20 +331,18 @@ pub fn pass_saves<L: Look>(
     plies: u8,
     asked: Allowances,
     known: &PointSet,
-    reply: &mut Point,
-    table: &mut [Entry],
+    memory: &mut Memory,
 ) -> Allowances
     requires room { length board.old.moves + plies < most_moves }
-    requires target { turn.target < (L.shows board.old.look).size * (L.shows board.old.look).size }
+    requires target { IsPointOf L.shows board.old turn.target }
     requires some { has_some asked ≡ true }
-    requires liberties { (pos : BoardState) → Agrees (L.seen board.old.look) pos
-        → known.now ≡ liberty_points pos.size (after pos board.old.moves).cells turn.target }
+    requires liberties { AreLibertiesOf L.seen board.old turn.target known.now }
     requires defender { turn.attacker_to_play ≡ false }
-    requires table { IsTrueTable (L.seen board.old.look) turn.target turn.defender table.old }
+    requires table { IsTrueTable (L.seen board.old.look) turn.target turn.defender memory.old.table.now }
     ensures stays { Stays L.shows L.seen board.old board.new }
-    ensures table { IsTrueTable (L.seen board.new.look) turn.target turn.defender table.new }
-    ensures over { (pos : BoardState) → Agrees (L.seen board.new.look) pos
-        → Tells asked result (λ ko. pass_saves plies (under turn ko) (after pos board.old.moves)) }
+    ensures table { IsTrueTable (L.seen board.new.look) turn.target turn.defender memory.new.table.now }
+    ensures over { OnEachAgreeing L.seen board.old board.new (λ here. Tells asked result (λ ko. pass_saves plies (under
+        turn ko) here)) }
     ensures near { (pos : BoardState) → Agrees (L.seen board.new.look) pos → (q : ReadingQuestion) (root : BoardState)
         → AreNodesOf q root (suc plies) turn asked (after pos board.old.moves)
         → is_captured (after pos board.old.moves) turn.target ≡ false
@@ -387,15 +352,7 @@ pub fn pass_saves<L: Look>(
         return Allowances::none();
     }
     board.pass();
-    let good = has_way(
-        board,
-        turn,
-        plies,
-        asked,
-        Some(copy_of(known)),
-        reply,
-        table,
-    );
+    let good = has_way(board, turn, plies, asked, Some(copy_of(known)), memory);
     board.back();
     good
 }
@@ -408,36 +365,30 @@ fn has_good_move<L: Look>(
     plies: u8,
     asked: Allowances,
     known: &PointSet,
-    reply: &mut Point,
-    table: &mut [Entry],
+    memory: &mut Memory,
 ) -> Allowances
     requires room { length board.old.moves + plies < most_moves }
-    requires target { turn.target < (L.shows board.old.look).size * (L.shows board.old.look).size }
+    requires target { IsPointOf L.shows board.old turn.target }
     requires some { has_some asked ≡ true }
-    requires liberties { (pos : BoardState) → Agrees (L.seen board.old.look) pos
-        → known.now ≡ liberty_points pos.size (after pos board.old.moves).cells turn.target }
-    requires table { IsTrueTable (L.seen board.old.look) turn.target turn.defender table.old }
+    requires liberties { AreLibertiesOf L.seen board.old turn.target known.now }
+    requires table { IsTrueTable (L.seen board.old.look) turn.target turn.defender memory.old.table.now }
     ensures stays { Stays L.shows L.seen board.old board.new }
-    ensures table { IsTrueTable (L.seen board.new.look) turn.target turn.defender table.new }
-    ensures over { (pos : BoardState) → Agrees (L.seen board.new.look) pos
-        → ((ko : Ko) → IsUndecided (under turn ko) (after pos board.old.moves))
-        → Tells asked result (λ ko. is_some (good_move plies (under turn ko) (after pos board.old.moves))) }
-    ensures near { (pos : BoardState) → Agrees (L.seen board.new.look) pos → (q : ReadingQuestion) (root : BoardState)
-        → AreNodesOf q root (suc plies) turn asked (after pos board.old.moves)
-        → ((ko : Ko) → IsUndecided (under turn ko) (after pos board.old.moves))
-        → AddsNear (L.seen board.old.look) (L.seen board.new.look) (InActiveArea q root) }
+    ensures table { IsTrueTable (L.seen board.new.look) turn.target turn.defender memory.new.table.now }
+    ensures over { OnEachAgreeing L.seen board.old board.new (λ here. ((ko : Ko) → IsUndecided (under turn ko) here) →
+        Tells asked result (λ ko. is_some (good_move plies (under turn ko) here))) }
+    ensures near { LooksNear L.seen board.old board.new (suc plies) turn asked }
 {
     if turn.attacker_to_play {
-        return some_by_table(board, turn, plies, asked, known, reply, table);
+        return some_by_table(board, turn, plies, asked, known, memory);
     }
     if escapes(board, turn, plies, known) {
         return asked;
     }
-    let lost = asked.without(pass_saves(board, turn, plies, asked, known, reply, table));
+    let lost = asked.without(pass_saves(board, turn, plies, asked, known, memory));
     if !lost.has_some() {
         return asked;
     }
-    asked.without(lost.without(some_success(board, turn, plies, lost, known, reply, table)))
+    asked.without(lost.without(some_success(board, turn, plies, lost, known, memory)))
 }
 
 /// Those of the asked under which the target is captured, with `plies` plies left.
@@ -448,22 +399,18 @@ fn attacker_wins<L: Look>(
     plies: u8,
     asked: Allowances,
     known: Option<PointSet>,
-    reply: &mut Point,
-    table: &mut [Entry],
+    memory: &mut Memory,
 ) -> Allowances
     requires room { length board.old.moves + plies ≤ most_moves }
-    requires target { turn.target < (L.shows board.old.look).size * (L.shows board.old.look).size }
+    requires target { IsPointOf L.shows board.old turn.target }
     requires some { has_some asked ≡ true }
-    requires liberties { IfSome known (λ found. (pos : BoardState) → Agrees (L.seen board.old.look) pos
-        → found ≡ liberty_points pos.size (after pos board.old.moves).cells turn.target) }
-    requires table { IsTrueTable (L.seen board.old.look) turn.target turn.defender table.old }
+    requires liberties { IfSome known (AreLibertiesOf L.seen board.old turn.target) }
+    requires table { IsTrueTable (L.seen board.old.look) turn.target turn.defender memory.old.table.now }
     ensures stays { Stays L.shows L.seen board.old board.new }
-    ensures table { IsTrueTable (L.seen board.new.look) turn.target turn.defender table.new }
-    ensures over { (pos : BoardState) → Agrees (L.seen board.new.look) pos
-        → Tells asked result (λ ko. attacker_wins plies (under turn ko) (after pos board.old.moves)) }
-    ensures near { (pos : BoardState) → Agrees (L.seen board.new.look) pos → (q : ReadingQuestion) (root : BoardState)
-        → AreNodesOf q root plies turn asked (after pos board.old.moves)
-        → AddsNear (L.seen board.old.look) (L.seen board.new.look) (λ p. (p ≡ turn.target) ⊎ InActiveArea q root p) }
+    ensures table { IsTrueTable (L.seen board.new.look) turn.target turn.defender memory.new.table.now }
+    ensures over { OnEachAgreeing L.seen board.old board.new (λ here. Tells asked result (λ ko. attacker_wins plies
+        (under turn ko) here)) }
+    ensures near { LooksNearOrAt L.seen board.old board.new plies turn asked }
 {
     if board.cell(turn.target) == Cell::Empty {
         return asked;
@@ -476,7 +423,7 @@ fn attacker_wins<L: Look>(
         Outlook::Safe => Allowances::none(),
         Outlook::Taken => asked,
         Outlook::Open => {
-            let good = has_good_move(board, turn, plies - 1, asked, &known, reply, table);
+            let good = has_good_move(board, turn, plies - 1, asked, &known, memory);
             attackers(turn.attacker_to_play, asked, good)
         }
     }

@@ -1,12 +1,11 @@
 //! What the standing trial moves changed of a position, as one value that can be compared.
 
-ghost use Rattle.std.specs.Prelude.{◌≡◌, ◌≢◌, ◌⊎◌, ℕ, ◌+◌, ◌<◌, ◌≤◌, ◌==◌, ◌||◌, Bool, true, length, Some, None};
-ghost use Rattle.std.specs.FinSet as set;
+ghost use Rattle.std.specs.Prelude.{◌≡◌, ◌≢◌, ◌⊎◌, ℕ, ◌+◌, ◌<◌, ◌≤◌, ◌==◌, ◌||◌, Bool, true, Some, None};
 ghost use Rattle.go_rules.specs.Board.{largest_points};
-ghost use Rattle.go_base.specs.Bits.{set_words, is_marked};
+ghost use Rattle.go_base.specs.Bits.{is_marked};
 ghost use Rattle.trial_board.specs.Captured.{most_captured};
 ghost use Rattle.trial_board.specs.Trials.{most_moves};
-ghost use Rattle.trial_board.specs.Standing.{kept_at, taken_by};
+ghost use Rattle.trial_board.specs.Standing.{kept_at};
 ghost use Rattle.trial_board.specs.Changed.{told_at, is_played_at, is_touched_by, is_touched, TellsPut};
 
 use crate::captured::MAX_CAPTURED;

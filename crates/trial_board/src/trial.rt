@@ -1,6 +1,6 @@
 //! A position with trial moves that can be taken back.
 
-ghost use Rattle.std.specs.Prelude.{◌≡◌, ℕ, ◌+◌, ◌*◌, ◌-◌, ◌^◌, ◌<◌, ◌≤◌, min, Bool, IsTrue, true, false, not, ◌&&◌};
+ghost use Rattle.std.specs.Prelude.{◌≡◌, ℕ, ◌+◌, ◌*◌, ◌-◌, ◌^◌, ◌<◌, min, not, ◌&&◌};
 ghost use Rattle.std.specs.Prelude.{[], ◌∷◌, length, ◌↔◌, IsNone, IfSome};
 ghost use Rattle.std.specs.FinSet as set;
 ghost use Rattle.go_rules.specs.Strings.{cell_at, liberty_points};
@@ -13,7 +13,6 @@ ghost use Rattle.go_rules.specs.Position.{BoardState, IsPosition, is_banned};
 ghost use Rattle.go_rules.specs.Play.{play_free};
 ghost use Rattle.go_base.specs.Facts.{Agrees, Grows, AddsIn};
 ghost use Rattle.trial_board.specs.declared.moves.TrialMove.{TrialMove};
-ghost use Rattle.trial_board.specs.declared.moves.TrialPlay.{TrialPlay};
 ghost use Rattle.trial_board.specs.SomeLiberties.{FindsLiberties};
 ghost use Rattle.trial_board.specs.Trials.{Trying, Stays, Moved, IsNoted, Put, most_moves, after, tried, tried_free};
 ghost use Rattle.trial_board.specs.Trials.{made_or_suicide, tail, is_some_move};
@@ -219,6 +218,7 @@ impl<L: Look> Trial<L> {
         ensures count { self.new.count ≡ self.old.count }
         ensures over { (pos : BoardState) → Agrees (L.seen self.new.look) pos
             → result ≡ is_banned (after pos self.old.moves).ban c p }
+        ensures answer { result ≡ is_banned (after (L.shows self.old.look) self.old.moves).ban c p }
         ensures near { AddsIn (L.seen self.old.look) (L.seen self.new.look) (alone p) }
     {
         if self.standing == 0 {

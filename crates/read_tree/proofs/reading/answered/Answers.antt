@@ -30,7 +30,7 @@ returns-clause-near g c = λ pos a.
       wide = c.args.depths.wide;
     } in
     let a3 = subst (λ look. Agrees (g.L.Look.seen look) pos) c.finish.ensures a in
-    let a2 = agrees_before c.read-answer.ensures.stays.grows a3 in
+    let a2 = agrees_before c.read-answer.ensures.answers.stays.grows a3 in
     let a1 = subst (λ t. Agrees (g.L.Look.seen t.look) pos) c.new-board.ensures a2 in
     let cell_here = a1.each (CellIs c.args.target c.cell.result) c.cell.ensures.told in
     let cell_shown = subst (λ (p : BoardState). cell_at p.cells c.args.target ≡ c.cell.result) c.cell.ensures.same
@@ -47,7 +47,7 @@ returns-clause-near g c = λ pos a.
     let at_board = subst (λ t. is_about question (after pos t.moves) ≡ true
     → AddsNear (g.L.Look.seen t.look) (g.L.Look.seen c.read-answer.new.board.look)
     (InActiveArea question (after pos t.moves)))
-    c.new-board.ensures (c.read-answer.ensures.near pos a3) in
+    c.new-board.ensures (c.read-answer.ensures.answers.near pos a3) in
     let readings = subst (λ (q : ReadingQuestion). is_about q pos ≡ true
     → AddsNear (g.L.Look.seen c.cell.new.self) (g.L.Look.seen c.read-answer.new.board.look) (InActiveArea q pos))
     is_asked at_board in

@@ -1,16 +1,15 @@
-use Rattle.std.proofs.Common.{◌≡◌, ◌-◌, ◌<◌, suc, true, ◌&&◌, nat_lt, ◌↔◌, IsNone, IfSome}
+use Rattle.std.proofs.Common.{◌≡◌, ◌-◌, ◌<◌, suc, ◌&&◌, nat_lt, ◌↔◌, IsNone, IfSome}
 use Rattle.std.specs.FinSet as set
 use Rattle.go_rules.specs.Board.{largest_points}
 use Rattle.go_rules.specs.Position.{BoardState}
 use Rattle.go_base.specs.Facts.{Agrees, Grows}
 use Rattle.go_base.specs.Views.{nowhere}
 use Rattle.trial_board.specs.Trials.{Stays, after}
-use Rattle.read_rules.specs.declared.question.ReadingQuestion.{ReadingQuestion}
-use Rattle.read_rules.specs.ActiveArea.{IsUndecided, InActiveArea, AddsNear}
-use Rattle.read_tree.specs.Allowances.{Ko, under}
+use Rattle.read_tree.specs.Allowances.{all_three}
 use Rattle.read_rules.specs.GoodMoves.{IsOnBoard}
-use Rattle.read_tree.specs.Steps.{AreNodesOf, IsBest}
+use Rattle.read_tree.specs.Steps.{IsBest}
 use Rattle.read_tree.specs.Table.{IsTrueTable}
+use Rattle.read_tree.specs.Walk.{LooksNear}
 use Rattle.read_tree.proofs.reading.best_point.Given as goal
 
 -- the best of the candidates before the next one, on any position that agrees
@@ -21,15 +20,8 @@ invariant-loop-p g l = record {
   code : l.best.code < 3;
   none : IsNone l.best.at ↔ (l.best.code ≡ 0);
   on_board : IfSome l.best.at (IsOnBoard (g.L.Look.shows l.fn.board.look).size);
-  table : IsTrueTable (g.L.Look.seen l.board.look) l.turn.target l.turn.defender l.table;
-  near : (pos : BoardState) → Agrees (g.L.Look.seen l.board.look) pos → (q : ReadingQuestion) (root : BoardState)
-      → AreNodesOf q root (suc l.plies) l.turn (record {
-        defender = true;
-        neither = true;
-        attacker = true;
-      }) (after pos l.fn.board.moves)
-      → ((ko : Ko) → IsUndecided (under l.turn ko) (after pos l.fn.board.moves))
-      → AddsNear (g.L.Look.seen l.fn.board.look) (g.L.Look.seen l.board.look) (InActiveArea q root);
+  table : IsTrueTable (g.L.Look.seen l.board.look) l.turn.target l.turn.defender l.memory.table.now;
+  near : LooksNear g.L.Look.seen l.fn.board l.board (suc l.plies) l.turn all_three;
   best : (pos : BoardState) → Agrees (g.L.Look.seen l.board.look) pos
       → IsBest l.plies l.turn (after pos l.fn.board.moves) nowhere l.fn.first
       → IsBest l.plies l.turn (after pos l.fn.board.moves) (λ q. nat_lt q l.next && set.contains l.candidates q) l.best;

@@ -1,5 +1,5 @@
 -- The best of all moves is the answer, and the reading stays in the area.
-use Rattle.std.proofs.Common.{ℕ, List, ◌≡◌, ◌≢◌, ◌∙◌, ◌-◌, ◌&&◌, Bool, true, false, refl, ap, sym, arith}
+use Rattle.std.proofs.Common.{ℕ, List, rules, ◌≡◌, ◌≢◌, ◌∙◌, ◌-◌, ◌&&◌, Bool, true, false, refl, ap, sym, arith}
 use Rattle.std.specs.FinSet as set
 use Rattle.std.specs.Ordering.{nat_cmp}
 use Rattle.go_rules.specs.declared.Cell.{Cell}
@@ -43,102 +43,113 @@ few_at : (q : ReadingQuestion) (s : ℕ) (cells : List Cell) (known : set.FinSet
 few_at q s cells known few is =
     sym (ap (outlasts (is_attack q.kind) q.plies q.wide) (ap set.len is ∙ len-liberty_points s cells q.target)) ∙ few
 
--- the attacker's moves
-pub returns-then-turn-clause-over : goal.returns-then-turn-clause-over
-returns-then-turn-clause-over g c = λ pos a about.
-    let q = c.args.question.now in
-    let here = after pos c.args.board.now.moves in
-    let some : q.plies ≢ 0 = omega (arith, c.requires.plies) in
-    let a1 = agrees_before c.best_point.ensures.stays.grows a in
-    let few = few_at q pos.size here.cells c.args.known.now c.requires.few (c.requires.liberties pos a1) in
-    let attacks = turn_of c.first_turn-turn.ensures c.if-turn.true in
-    let und = undecided_at q.plies (first_turn q) here pos.size (size-after pos c.args.board.now.moves)
-    (about_stands q here about) few in
-    best_answer q here c.best_point.result some about
-    (and_off_right (is_attack q.kind) _ ((und neither_may).few attacks))
-    ((rw c.first_turn-turn.ensures at (c.best_point.ensures.over pos a))
-    (best_nothing (q.plies - 1) (first_turn q) here attacks))
+-- the attacker's moves, whose looks lie in the active area
+pub returns-then-turn : goal.returns-then-turn
+returns-then-turn g c = record {
+  stays = c.best_point.ensures.stays;
+  code = c.best_point.ensures.code;
+  none = c.best_point.ensures.none;
+  on_board = c.best_point.ensures.on_board;
+  over = λ pos a about.
+      let q = c.args.question.now in
+      let here = after pos c.args.board.now.moves in
+      let some : q.plies ≢ 0 = omega (arith, c.requires.ready.plies) in
+      let a1 = agrees_before c.best_point.ensures.stays.grows a in
+      let few = few_at q pos.size here.cells c.args.known.now c.requires.ready.few
+      (c.requires.ready.liberties pos a1) in
+      let attacks = turn_of c.first_turn-turn.ensures c.if-turn.true in
+      let und = undecided_at q.plies (first_turn q) here pos.size (size-after pos c.args.board.now.moves)
+      (about_stands q here about) few in
+      best_answer q here c.best_point.result some about
+      (and_off_right (is_attack q.kind) _ ((und neither_may).few attacks))
+      ((rw c.first_turn-turn.ensures at (c.best_point.ensures.over pos a))
+      (best_nothing (q.plies - 1) (first_turn q) here attacks));
+  near = λ pos a about.
+      let q = c.args.question.now in
+      let here = after pos c.args.board.now.moves in
+      let some : q.plies ≢ 0 = omega (arith, c.requires.ready.plies) in
+      let a0 = agrees_before c.best_point.ensures.stays.grows a in
+      let few = few_at q pos.size here.cells c.args.known.now c.requires.ready.few
+      (c.requires.ready.liberties pos a0) in
+      (rw c.first_turn-turn.ensures at (c.best_point.ensures.near pos a q here)) (first_nodes q here some)
+      (undecided_at q.plies (first_turn q) here pos.size (size-after pos c.args.board.now.moves)
+      (about_stands q here about) few);
+}
 
--- the looks of the attacker's plays lie in the active area
-pub returns-then-turn-clause-near : goal.returns-then-turn-clause-near
-returns-then-turn-clause-near g c = λ pos a about.
-    let q = c.args.question.now in
-    let here = after pos c.args.board.now.moves in
-    let some : q.plies ≢ 0 = omega (arith, c.requires.plies) in
-    let a0 = agrees_before c.best_point.ensures.stays.grows a in
-    let few = few_at q pos.size here.cells c.args.known.now c.requires.few (c.requires.liberties pos a0) in
-    (rw c.first_turn-turn.ensures at (c.best_point.ensures.near pos a q here)) (first_nodes q here some)
-    (undecided_at q.plies (first_turn q) here pos.size (size-after pos c.args.board.now.moves)
-    (about_stands q here about) few)
+-- the defender's pass saves under each allowance, and the looks after it lie in the active area
+pub returns-then-best-eq3 : goal.returns-then-best-eq3
+returns-then-best-eq3 g c = record {
+  stays = search rules;
+  code = search rules;
+  none = search rules;
+  on_board = search rules;
+  over = λ pos a about.
+      let q = c.args.question.now in
+      let here = after pos c.args.board.now.moves in
+      let some : q.plies ≢ 0 = omega (arith, c.requires.ready.plies) in
+      let saved = rw (
+        c.all.ensures,
+        c.first_turn-turn.ensures,
+      ) at (c.pass_saves-saved.ensures.over pos a) in
+      best_answer q here c.better-best.result some about
+      (and_off (is_attack q.kind) _ (turn_of c.first_turn-turn.ensures c.if-turn.false))
+      (best_three (q.plies - 1) (first_turn q) here nowhere c.better-best.result
+      (rw (c.better-best.ensures.is, c.first_turn-turn.ensures)
+      (best_pass (q.plies - 1) (first_turn q) here c.pass_saves-saved.result saved)) c.if-best-eq3.true
+      (is_candidate here q.target q.wide));
+  near = λ pos a about.
+      let q = c.args.question.now in
+      let here = after pos c.args.board.now.moves in
+      let some : q.plies ≢ 0 = omega (arith, c.requires.ready.plies) in
+      (rw (
+        c.all.ensures,
+        c.first_turn-turn.ensures,
+      ) at (c.pass_saves-saved.ensures.near pos a q here)) (first_nodes q here some)
+      (about_stands q here about);
+}
 
--- the defender's pass saves under each allowance
-pub returns-then-best-eq3-clause-over : goal.returns-then-best-eq3-clause-over
-returns-then-best-eq3-clause-over g c = λ pos a about.
-    let q = c.args.question.now in
-    let here = after pos c.args.board.now.moves in
-    let some : q.plies ≢ 0 = omega (arith, c.requires.plies) in
-    let saved = rw (
-      c.all.ensures,
-      c.first_turn-turn.ensures,
-    ) at (c.pass_saves-saved.ensures.over pos a) in
-    best_answer q here c.better-best.result some about
-    (and_off (is_attack q.kind) _ (turn_of c.first_turn-turn.ensures c.if-turn.false))
-    (best_three (q.plies - 1) (first_turn q) here nowhere c.better-best.result
-    (rw (c.better-best.ensures.is, c.first_turn-turn.ensures)
-    (best_pass (q.plies - 1) (first_turn q) here c.pass_saves-saved.result saved)) c.if-best-eq3.true
-    (is_candidate here q.target q.wide))
-
--- the looks after the pass lie in the active area
-pub returns-then-best-eq3-clause-near : goal.returns-then-best-eq3-clause-near
-returns-then-best-eq3-clause-near g c = λ pos a about.
-    let q = c.args.question.now in
-    let here = after pos c.args.board.now.moves in
-    let some : q.plies ≢ 0 = omega (arith, c.requires.plies) in
-    (rw (
-      c.all.ensures,
-      c.first_turn-turn.ensures,
-    ) at (c.pass_saves-saved.ensures.near pos a q here)) (first_nodes q here some)
-    (about_stands q here about)
-
--- the pass, and then the defender's plays
-pub returns-clause-over : goal.returns-clause-over
-returns-clause-over g c = λ pos a about.
-    let q = c.args.question.now in
-    let here = after pos c.args.board.now.moves in
-    let some : q.plies ≢ 0 = omega (arith, c.requires.plies) in
-    let a1 = agrees_before c.best_point-2.ensures.stays.grows a in
-    let saved = rw (
-      c.all.ensures,
-      c.first_turn-turn.ensures,
-    ) at (c.pass_saves-saved.ensures.over pos a1) in
-    best_answer q here c.best_point-2.result some about
-    (and_off (is_attack q.kind) _ (turn_of c.first_turn-turn.ensures c.if-turn.false))
-    ((rw (
-      c.pass_saves-saved.ensures.stays.moves,
-      c.first_turn-turn.ensures,
-    ) at (c.best_point-2.ensures.over pos a))
-    (rw (c.better-best.ensures.is, c.first_turn-turn.ensures)
-    (best_pass (q.plies - 1) (first_turn q) here c.pass_saves-saved.result saved)))
-
--- the looks after the pass and of the defender's plays lie in the active area
-pub returns-clause-near : goal.returns-clause-near
-returns-clause-near g c = λ pos a about.
-    let q = c.args.question.now in
-    let here = after pos c.args.board.now.moves in
-    let some : q.plies ≢ 0 = omega (arith, c.requires.plies) in
-    let a1 = agrees_before c.best_point-2.ensures.stays.grows a in
-    let stands = about_stands q here about in
-    AddsNear-trans
-    ((rw (
-      c.all.ensures,
-      c.first_turn-turn.ensures,
-    ) at (c.pass_saves-saved.ensures.near pos a1 q here))
-    (first_nodes q here some) stands)
-    ((rw (
-      c.pass_saves-saved.ensures.stays.moves,
-      c.first_turn-turn.ensures,
-    ) at (c.best_point-2.ensures.near pos a q here))
-    (first_nodes q here some) (λ ko. undecided_defender stands (turn_of c.first_turn-turn.ensures c.if-turn.false)))
+-- the pass, and then the defender's plays: their looks lie in the active area
+pub returns : goal.returns
+returns g c = record {
+  stays = search rules;
+  code = search rules;
+  none = search rules;
+  on_board = search rules;
+  over = λ pos a about.
+      let q = c.args.question.now in
+      let here = after pos c.args.board.now.moves in
+      let some : q.plies ≢ 0 = omega (arith, c.requires.ready.plies) in
+      let a1 = agrees_before c.best_point-2.ensures.stays.grows a in
+      let saved = rw (
+        c.all.ensures,
+        c.first_turn-turn.ensures,
+      ) at (c.pass_saves-saved.ensures.over pos a1) in
+      best_answer q here c.best_point-2.result some about
+      (and_off (is_attack q.kind) _ (turn_of c.first_turn-turn.ensures c.if-turn.false))
+      ((rw (
+        c.pass_saves-saved.ensures.stays.moves,
+        c.first_turn-turn.ensures,
+      ) at (c.best_point-2.ensures.over pos a))
+      (rw (c.better-best.ensures.is, c.first_turn-turn.ensures)
+      (best_pass (q.plies - 1) (first_turn q) here c.pass_saves-saved.result saved)));
+  near = λ pos a about.
+      let q = c.args.question.now in
+      let here = after pos c.args.board.now.moves in
+      let some : q.plies ≢ 0 = omega (arith, c.requires.ready.plies) in
+      let a1 = agrees_before c.best_point-2.ensures.stays.grows a in
+      let stands = about_stands q here about in
+      AddsNear-trans
+      ((rw (
+        c.all.ensures,
+        c.first_turn-turn.ensures,
+      ) at (c.pass_saves-saved.ensures.near pos a1 q here))
+      (first_nodes q here some) stands)
+      ((rw (
+        c.pass_saves-saved.ensures.stays.moves,
+        c.first_turn-turn.ensures,
+      ) at (c.best_point-2.ensures.near pos a q here))
+      (first_nodes q here some) (λ ko. undecided_defender stands (turn_of c.first_turn-turn.ensures c.if-turn.false)));
+}
 
 -- what the table tells is of the first turn's target
 pub best_point-requires-clause-table : goal.best_point-requires-clause-table
@@ -146,7 +157,7 @@ best_point-requires-clause-table g c = rw c.first_turn-turn.ensures c.requires.t
 
 -- and so are the liberties
 pub best_point-requires-clause-liberties : goal.best_point-requires-clause-liberties
-best_point-requires-clause-liberties g c = λ pos a. rw c.first_turn-turn.ensures (c.requires.liberties pos a)
+best_point-requires-clause-liberties g c = λ pos a. rw c.first_turn-turn.ensures (c.requires.ready.liberties pos a)
 
 -- also where the pass is tried
 pub pass_saves-saved-requires-clause-table : goal.pass_saves-saved-requires-clause-table
@@ -154,4 +165,5 @@ pass_saves-saved-requires-clause-table g c = rw c.first_turn-turn.ensures c.requ
 
 -- and its liberties are known
 pub pass_saves-saved-requires-clause-liberties : goal.pass_saves-saved-requires-clause-liberties
-pass_saves-saved-requires-clause-liberties g c = λ pos a. rw c.first_turn-turn.ensures (c.requires.liberties pos a)
+pass_saves-saved-requires-clause-liberties g c = λ pos a.
+    rw c.first_turn-turn.ensures (c.requires.ready.liberties pos a)

@@ -55,7 +55,7 @@ invariant-some_of-loop-p g l = record {
   stays : Stays g.L.Look.shows g.L.Look.seen l.fn.board l.board;
   grows : Grows (g.L.Look.seen l.initial.board.look) (g.L.Look.seen l.board.look);
   some : has_some l.missing ≡ true;
-  table : IsTrueTable (g.L.Look.seen l.board.look) l.turn.target l.turn.defender l.table;
+  table : IsTrueTable (g.L.Look.seen l.board.look) l.turn.target l.turn.defender l.memory.table.now;
   near : (pos : BoardState) → Agrees (g.L.Look.seen l.board.look) pos → (q : ReadingQuestion) (root : BoardState)
       → AreNodesOf q root (suc l.plies) l.turn l.asked (after pos l.fn.board.moves)
       → ((ko : Ko) → IsUndecided (under l.turn ko) (after pos l.fn.board.moves))

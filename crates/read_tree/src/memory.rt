@@ -1,0 +1,50 @@
+//! What a reading remembers while it goes on.
+
+ghost use Rattle.std.specs.Prelude.{ℕ, Bool, ◌<◌, ◌↔◌, IsTrue, length};
+ghost use Rattle.go_rules.specs.declared.Colour.{Colour};
+ghost use Rattle.go_base.specs.Facts.{Fact};
+ghost use Rattle.read_tree.specs.Table.{IsTrueOf, IsTrueTable};
+
+use crate::table::{AttackerNode, Entry, Verdict, find, keep};
+use go_base::Point;
+
+/// What a reading remembers while it goes on. No answer depends on it: it tells which point is tried first, and which
+/// nodes need not be read again.
+#[derive(Drop)]
+pub struct Memory<'a> {
+    /// The attacker's play that had its way last; it is tried first where it is a point of the node.
+    pub reply: Point,
+    /// The attacker's nodes that were read, and what was found; without entries none is remembered.
+    pub table: &'a mut [Entry],
+}
+
+impl Memory<'_> {
+    /// Whether there is room for nodes.
+    pub fn has_room(&self) -> bool
+        ensures { IsTrue result ↔ (0 < length self.now.table.now) }
+    {
+        !self.table.is_empty()
+    }
+
+    /// What is known of the node.
+    pub fn find(&self, node: &AttackerNode) -> Verdict
+        ensures { (seen : Fact → Bool) (target : ℕ) (defender : Colour)
+            → IsTrueTable seen target defender self.now.table.now → IsTrueOf seen target defender node.now result }
+    {
+        if !self.has_room() {
+            return Verdict::nothing();
+        }
+        find(self.table, node)
+    }
+
+    /// Remembers what is known of the node, where there is room.
+    pub fn keep(&mut self, node: &AttackerNode, verdict: Verdict)
+        ensures { (seen : Fact → Bool) (target : ℕ) (defender : Colour)
+            → IsTrueTable seen target defender self.old.table.now → IsTrueOf seen target defender node.now verdict
+            → IsTrueTable seen target defender self.new.table.now }
+    {
+        if self.has_room() {
+            keep(self.table, node, verdict);
+        }
+    }
+}
