@@ -104,8 +104,9 @@ fn has_way<L: Look>(
     requires table { IsTrueTable (L.seen board.old.look) turn.target turn.defender memory.old.table.now }
     ensures stays { Stays L.shows L.seen board.old board.new }
     ensures table { IsTrueTable (L.seen board.new.look) turn.target turn.defender memory.new.table.now }
-    ensures over { OnEachAgreeing L.seen board.old board.new (λ here. Tells asked result (λ ko. has_way
-        turn.attacker_to_play (attacker_wins plies (under (next_turn turn) ko) here))) }
+    ensures over { OnEachAgreeing L.seen board.old board.new (λ here.
+        Tells asked result (λ ko. has_way turn.attacker_to_play (attacker_wins plies (under (next_turn turn) ko)
+        here))) }
     ensures near { LooksNearOrAt L.seen board.old board.new plies (next_turn turn) asked }
 {
     let won = attacker_wins(board, turn.next(), plies, asked, known, memory);
@@ -131,10 +132,10 @@ pub fn succeeds<L: Look>(
     requires table { IsTrueTable (L.seen board.old.look) turn.target turn.defender memory.old.table.now }
     ensures stays { Stays L.shows L.seen board.old board.new }
     ensures table { IsTrueTable (L.seen board.new.look) turn.target turn.defender memory.new.table.now }
-    ensures over { OnEachAgreeing L.seen board.old board.new (λ here. Tells asked result (λ ko. succeeds plies (under
-        turn ko) here p)) }
-    ensures near { LooksNearWhere L.seen board.old board.new (suc plies) turn asked (λ here. IsTrue (is_candidate here
-        turn.target turn.wide p)) }
+    ensures over { OnEachAgreeing L.seen board.old board.new (λ here.
+        Tells asked result (λ ko. succeeds plies (under turn ko) here p)) }
+    ensures near { LooksNearWhere L.seen board.old board.new (suc plies) turn asked (λ here.
+        IsTrue (is_candidate here turn.target turn.wide p)) }
 {
     let own = asked.has_own(turn.attacker_to_play);
     match make(board, turn, p, own) {
@@ -182,10 +183,10 @@ fn some_of<L: Look>(
     requires table { IsTrueTable (L.seen board.old.look) turn.target turn.defender memory.old.table.now }
     ensures stays { Stays L.shows L.seen board.old board.new }
     ensures table { IsTrueTable (L.seen board.new.look) turn.target turn.defender memory.new.table.now }
-    ensures over { OnEachAgreeing L.seen board.old board.new (λ here. TellsBy plies turn here (set.contains points.now)
-        asked result) }
-    ensures near { LooksNearWhere L.seen board.old board.new (suc plies) turn asked (λ here. (p : ℕ) → IsTrue
-        (set.contains points.now p) → IsTrue (is_candidate here turn.target turn.wide p)) }
+    ensures over { OnEachAgreeing L.seen board.old board.new (λ here.
+        TellsBy plies turn here (set.contains points.now) asked result) }
+    ensures near { LooksNearWhere L.seen board.old board.new (suc plies) turn asked (λ here.
+        (p : ℕ) → IsTrue (set.contains points.now p) → IsTrue (is_candidate here turn.target turn.wide p)) }
 {
     let mut order = TryOrder::beginning_with(memory.reply);
     let mut missing = asked;
@@ -221,8 +222,8 @@ fn some_other<L: Look>(
     requires table { IsTrueTable (L.seen board.old.look) turn.target turn.defender memory.old.table.now }
     ensures stays { Stays L.shows L.seen board.old board.new }
     ensures table { IsTrueTable (L.seen board.new.look) turn.target turn.defender memory.new.table.now }
-    ensures over { OnEachAgreeing L.seen board.old board.new (λ here. TellsBy plies turn here (is_off_liberties turn
-        here) asked result) }
+    ensures over { OnEachAgreeing L.seen board.old board.new (λ here.
+        TellsBy plies turn here (is_off_liberties turn here) asked result) }
     ensures near { LooksNear L.seen board.old board.new (suc plies) turn asked }
 {
     if leaves_too_many(turn, plies, known.count()) {
@@ -263,8 +264,8 @@ fn some_success<L: Look>(
     requires table { IsTrueTable (L.seen board.old.look) turn.target turn.defender memory.old.table.now }
     ensures stays { Stays L.shows L.seen board.old board.new }
     ensures table { IsTrueTable (L.seen board.new.look) turn.target turn.defender memory.new.table.now }
-    ensures over { OnEachAgreeing L.seen board.old board.new (λ here. Tells asked result (λ ko. is_some (first_success
-        plies (under turn ko) here))) }
+    ensures over { OnEachAgreeing L.seen board.old board.new (λ here.
+        Tells asked result (λ ko. is_some (first_success plies (under turn ko) here))) }
     ensures near { LooksNear L.seen board.old board.new (suc plies) turn asked }
 {
     let good = some_of(board, turn, plies, asked, known, known, memory);
@@ -295,8 +296,8 @@ fn some_by_table<L: Look>(
     requires table { IsTrueTable (L.seen board.old.look) turn.target turn.defender memory.old.table.now }
     ensures stays { Stays L.shows L.seen board.old board.new }
     ensures table { IsTrueTable (L.seen board.new.look) turn.target turn.defender memory.new.table.now }
-    ensures over { OnEachAgreeing L.seen board.old board.new (λ here. Tells asked result (λ ko. is_some (first_success
-        plies (under turn ko) here))) }
+    ensures over { OnEachAgreeing L.seen board.old board.new (λ here.
+        Tells asked result (λ ko. is_some (first_success plies (under turn ko) here))) }
     ensures near { LooksNear L.seen board.old board.new (suc plies) turn asked }
 {
     if plies < LEAST_PLIES || !memory.has_room() {
@@ -341,8 +342,8 @@ pub fn pass_saves<L: Look>(
     requires table { IsTrueTable (L.seen board.old.look) turn.target turn.defender memory.old.table.now }
     ensures stays { Stays L.shows L.seen board.old board.new }
     ensures table { IsTrueTable (L.seen board.new.look) turn.target turn.defender memory.new.table.now }
-    ensures over { OnEachAgreeing L.seen board.old board.new (λ here. Tells asked result (λ ko. pass_saves plies (under
-        turn ko) here)) }
+    ensures over { OnEachAgreeing L.seen board.old board.new (λ here.
+        Tells asked result (λ ko. pass_saves plies (under turn ko) here)) }
     ensures near { (pos : BoardState) → Agrees (L.seen board.new.look) pos → (q : ReadingQuestion) (root : BoardState)
         → AreNodesOf q root (suc plies) turn asked (after pos board.old.moves)
         → is_captured (after pos board.old.moves) turn.target ≡ false
@@ -374,8 +375,9 @@ fn has_good_move<L: Look>(
     requires table { IsTrueTable (L.seen board.old.look) turn.target turn.defender memory.old.table.now }
     ensures stays { Stays L.shows L.seen board.old board.new }
     ensures table { IsTrueTable (L.seen board.new.look) turn.target turn.defender memory.new.table.now }
-    ensures over { OnEachAgreeing L.seen board.old board.new (λ here. ((ko : Ko) → IsUndecided (under turn ko) here) →
-        Tells asked result (λ ko. is_some (good_move plies (under turn ko) here))) }
+    ensures over { OnEachAgreeing L.seen board.old board.new (λ here.
+        ((ko : Ko) → IsUndecided (under turn ko) here)
+        → Tells asked result (λ ko. is_some (good_move plies (under turn ko) here))) }
     ensures near { LooksNear L.seen board.old board.new (suc plies) turn asked }
 {
     if turn.attacker_to_play {
@@ -408,8 +410,8 @@ fn attacker_wins<L: Look>(
     requires table { IsTrueTable (L.seen board.old.look) turn.target turn.defender memory.old.table.now }
     ensures stays { Stays L.shows L.seen board.old board.new }
     ensures table { IsTrueTable (L.seen board.new.look) turn.target turn.defender memory.new.table.now }
-    ensures over { OnEachAgreeing L.seen board.old board.new (λ here. Tells asked result (λ ko. attacker_wins plies
-        (under turn ko) here)) }
+    ensures over { OnEachAgreeing L.seen board.old board.new (λ here.
+        Tells asked result (λ ko. attacker_wins plies (under turn ko) here)) }
     ensures near { LooksNearOrAt L.seen board.old board.new plies turn asked }
 {
     if board.cell(turn.target) == Cell::Empty {
