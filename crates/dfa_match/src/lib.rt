@@ -24,6 +24,7 @@ ghost use Rattle.dfa_match.specs.declared.Hit.{Hit as HitSeen};
 ghost use Rattle.dfa_match.specs.Hits.{hits_at, IsHit, AreHits, AreHitsBefore};
 ghost use Rattle.dfa_match.specs.Walks.{IsWithin, first_walks_of, second_walks_of};
 
+mod cursor;
 mod letters;
 mod sights;
 mod walks;
