@@ -104,7 +104,7 @@ hits_of-alive automaton t (w ∷ walks) =
     alive_one automaton t w walks (goes_on automaton w) refl (hits_of-alive automaton t walks)
 
 -- the first offset of the spiral leads nowhere
-offset_at-zero : offset_at 0 ≡ (plus 0, plus 0)
+pub offset_at-zero : offset_at 0 ≡ (plus 0, plus 0)
 unfolding offset_at
 offset_at-zero = refl
 

@@ -15,7 +15,7 @@ use Rattle.go_rules.specs.Transform.{Offset, transformed, largest_offset, IsNear
 use Rattle.spiral.specs.Spiral.{offset_at, place_at, strip_of, point_of}
 use Rattle.dfa_core.specs.declared.automaton.Seen.{Seen}
 use Rattle.dfa_core.specs.declared.automaton.Seen.TheVariants.{Off}
-use Rattle.dfa_match.specs.Steps.{corner_at, strip_by, step_by, last_corner}
+use Rattle.dfa_match.specs.Steps.{corner_at, strip_by, step_by}
 use Rattle.dfa_match.specs.Sights.{seen_of, seen_at, seen_at_place, padded_side, padded_point, seen_below}
 use Rattle.dfa_match.specs.Sights.{AreSightsBelow, AreSights}
 
@@ -101,15 +101,6 @@ some_size (suc s) m on = omega arith
 pub strip_by-is : (z : ℤ) → neg_ℤ (pos largest_offset) ≤ℤ z → pos (strip_by z) ≡ z +ℤ pos largest_offset
 strip_by-is (pos n) low = omega (arith, ints)
 strip_by-is (negsuc n) low = omega (arith, ints, low)
-
--- no strip of that square is past the last
-pub strip_by-most : (z : ℤ) → neg_ℤ (pos largest_offset) ≤ℤ z → z ≤ℤ pos largest_offset
-    → strip_by z ≤ 2 * largest_offset
-strip_by-most z low high = omega (arith, ints, strip_by-is z low)
-
--- the square around a point of a board begins no later than that around the last point of the largest board
-pub corner_at-most : (s m : ℕ) → 0 < s → s ≤ largest_size → m < s * s → corner_at s m ≤ last_corner
-corner_at-most s m some few on = omega (arith, div_below m s s some on, mod_below m s some)
 
 module _ (at : BoardState) (friend : Colour) where
   -- of no points nothing is seen but what is off the board

@@ -3,10 +3,15 @@ use Rattle.std.specs.Prelude.{ℕ, suc, ◌+◌, ◌-◌, ◌*◌, ◌/◌, ◌%
 use Rattle.go_rules.specs.Board.{largest_size}
 use Rattle.go_rules.specs.Transform.{Offset, largest_offset}
 use Rattle.dfa_match.specs.Sights.{padded_side}
+use Rattle.dfa_match.specs.declared.cursor.Cursor.{Cursor}
 
 -- the index at which the square of all offsets around the point m of a board of size s begins
 abbrev pub corner_at : ℕ → ℕ → ℕ
 corner_at s m = m / s * padded_side + m % s
+
+-- where the point m of a board of size s stands: its column, and where the square around it begins
+abbrev pub cursor_at : ℕ → ℕ → Cursor
+cursor_at s m = record { column = m % s; corner = corner_at s m }
 
 -- the row or the column of that square that the part of an offset leads to
 abbrev pub strip_by : ℤ → ℕ

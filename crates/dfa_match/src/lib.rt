@@ -13,6 +13,7 @@
 ghost use Rattle.std.specs.Prelude.{◌≡◌, ◌↔◌, true, List, ℕ, ◌+◌, ◌<◌, ◌++◌, [], length, All, IfOk, OnOk};
 ghost use Rattle.go_rules.specs.Position.{BoardState};
 ghost use Rattle.go_rules.specs.Transform.{transformations};
+ghost use Rattle.spiral.specs.Spiral.{offset_at};
 ghost use Rattle.dfa_core.specs.Automata.{Row};
 ghost use Rattle.dfa_match.specs.Sights.{word_at, AreSights};
 ghost use Rattle.go_rules.specs.declared.Colour.{Colour as ColourSeen};
@@ -24,6 +25,7 @@ ghost use Rattle.dfa_match.specs.declared.Hit.{Hit as HitSeen};
 ghost use Rattle.dfa_match.specs.Hits.{hits_at, IsHit, AreHits, AreHitsBefore};
 ghost use Rattle.dfa_match.specs.Walks.{IsWithin, first_walks_of, second_walks_of};
 
+mod cursor;
 mod letters;
 mod sights;
 mod walks;
@@ -34,7 +36,7 @@ use crate::walks::{Walk, copied, first_walks, give_all, give_start, second_walks
 use dfa_core::Automaton;
 use go_base::transform::TRANSFORMATIONS;
 use go_base::{Colour, Look, NoMemory, Point, Transform};
-use spiral::{OFFSETS, TurnedSpiral};
+use spiral::{OFFSETS, following};
 
 /// A pattern that an automaton accepts from an anchor under a transformation.
 #[derive(Clone, Copy, Debug, PartialEq, Eq)]
@@ -61,8 +63,17 @@ fn add(out: &mut Vec<Hit>, numbers: &[u16], t: Transform, anchor: Point) -> Resu
     Ok(())
 }
 
+/// The first offset behind the anchor's own.
+fn second_offset() -> (i8, i8)
+    ensures { result ≡ offset_at 1 }
+{
+    following(0, 0)
+}
+
 /// Runs the automaton from all anchors at once under one transformation, until no walk is left. `first` are the walks
-/// before the first letter and `second` those behind it; they are the same under each transformation.
+/// before the first letter and `second` those behind it; they are the same under each transformation. Apart from its
+/// caller it has the registers for itself.
+#[inline(never)]
 fn sweep(
     automaton: &Automaton,
     sights: &Sights,
@@ -83,14 +94,15 @@ fn sweep(
     give_start(automaton, t, first, out)?;
     give_all(automaton, t, second, out)?;
     let mut walks = copied(*out.allocator(), second)?;
-    let mut spiral = TurnedSpiral::new(t);
+    let mut by = second_offset();
     'letters: for index in 1..OFFSETS {
         if walks.is_empty() {
             return Ok(());
         }
-        let step = step_of(spiral.moved(index));
+        let step = step_of(t.apply(by.0, by.1));
         read_letter(automaton, sights, step, t, &mut walks, out)?;
         drop_some(automaton, index, &mut walks);
+        by = following(by.0, by.1);
     }
     Ok(())
 }

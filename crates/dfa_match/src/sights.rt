@@ -1,7 +1,6 @@
 //! What a friend sees on a position, on a board that is padded so that no step from a point leaves it.
-ghost use Rattle.std.specs.Prelude.{◌≡◌, ℕ, ◌+◌, ◌*◌, ◌/◌, ◌%◌, ◌<◌, ◌≤◌, replicate, pos, neg_ℤ, ◌≤ℤ◌, slice_index_or};
+ghost use Rattle.std.specs.Prelude.{◌≡◌, ◌+◌, ◌*◌, ◌<◌, ◌≤◌, replicate, pos, neg_ℤ, ◌≤ℤ◌, slice_index_or};
 ghost use Rattle.std.specs.Prelude.{length};
-ghost use Rattle.go_rules.specs.Board.{largest_size};
 ghost use Rattle.go_rules.specs.Position.{BoardState};
 ghost use Rattle.go_rules.specs.Transform.{largest_offset, IsNear};
 ghost use Rattle.go_rules.specs.declared.Colour.{Colour as ColourSeen};
@@ -9,12 +8,16 @@ ghost use Rattle.go_rules.specs.Strings.{cell_at};
 ghost use Rattle.dfa_match.specs.Sights.{seen_of, padded_side, AreSights};
 ghost use Rattle.dfa_match.specs.Steps.{strip_by, step_by, last_corner, last_step};
 
+use crate::cursor::Cursor;
 use dfa_core::Seen;
 use go_base::size::MAX_OFFSET;
 use go_base::{Cell, Colour, Look, Point, Size};
 
 /// How many rows and columns the padded board has.
-const SIDE: usize = 73;
+pub const SIDE: usize = 73;
+
+/// How far behind the beginning of the square of all offsets around a point the point itself lies.
+const CENTRE: usize = MAX_OFFSET as usize * SIDE + MAX_OFFSET as usize;
 
 /// The letters that a friend sees, row by row, with the largest offset before the first row and column and behind the
 /// last ones.
@@ -61,26 +64,6 @@ fn no_letters() -> [Seen; SIDE * SIDE]
     [Seen::Off; SIDE * SIDE]
 }
 
-/// The index of the point in a row and a column of the board.
-fn place_of(row: u8, column: u8) -> usize
-    requires row { row < largest_size }
-    requires column { column < largest_size }
-    ensures value { result ≡ (row + largest_offset) * padded_side + (column + largest_offset) }
-    ensures bound { result < padded_side * padded_side }
-{
-    (row as usize + MAX_OFFSET as usize) * SIDE + column as usize + MAX_OFFSET as usize
-}
-
-/// Where the square of all offsets around the point in a row and a column begins on the padded board.
-pub fn corner_of(row: u8, column: u8) -> u16
-    requires row { row < largest_size }
-    requires column { column < largest_size }
-    ensures value { result ≡ row * padded_side + column }
-    ensures bound { result ≤ last_corner }
-{
-    row as u16 * SIDE as u16 + column as u16
-}
-
 /// The row or the column of the square of all offsets that the part of an offset leads to.
 fn strip_in_square(by: i8) -> u16
     requires low { neg_ℤ (pos largest_offset) ≤ℤ by }
@@ -107,11 +90,12 @@ impl Sights {
         ensures same { L.shows look.new ≡ L.shows look.old }
     {
         let size = look.size();
-        let side = size.get() as u16;
+        let _ = size.get();
         let mut letters = no_letters();
+        let mut at = Cursor::first();
         'points: for p in 0..size.points() {
-            let place = place_of((p / side) as u8, (p % side) as u8);
-            letters[place] = sight(look, friend, p);
+            letters[at.corner as usize + CENTRE] = sight(look, friend, p);
+            at = at.next(size);
         }
         Sights { size, letters }
     }

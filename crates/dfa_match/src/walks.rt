@@ -1,16 +1,16 @@
 //! The walks of an automaton from all anchors: how they begin, and what they give out.
-ghost use Rattle.std.specs.Prelude.{◌≡◌, true, false, ℕ, ◌+◌, ◌*◌, ◌/◌, ◌%◌, ◌<◌, ◌≤◌, ◌++◌, List, slice_index_or};
+ghost use Rattle.std.specs.Prelude.{◌≡◌, true, false, ℕ, ◌+◌, ◌*◌, ◌<◌, ◌≤◌, ◌++◌, List, slice_index_or};
 ghost use Rattle.std.specs.Prelude.{length, map, filter, All, IfOk, OnOk};
 ghost use Rattle.std.specs.List.{range_with_len};
-ghost use Rattle.go_rules.specs.Board.{largest_size};
 ghost use Rattle.dfa_core.specs.Automata.{Row, row_at, step_at};
 ghost use Rattle.dfa_core.specs.Entries.{AreEntries, entry_with};
 ghost use Rattle.dfa_core.specs.RowKinds.{kind_at};
 ghost use Rattle.dfa_match.specs.Hits.{hits_at};
-ghost use Rattle.dfa_match.specs.Steps.{last_corner, last_step, no_step};
+ghost use Rattle.dfa_match.specs.Steps.{cursor_at, last_corner, last_step, no_step};
 ghost use Rattle.dfa_match.specs.Walks.{walk_at, after_letter, IsWithin, is_alive as is_alive_at, goes_on, hits_of};
 
-use crate::sights::{Sights, corner_of, step_of};
+use crate::cursor::Cursor;
+use crate::sights::{Sights, step_of};
 use crate::{Hit, add};
 use dfa_core::{Automaton, RowKind, Seen, entry_at, row_in};
 use go_base::{NoMemory, Point, Size, Transform};
@@ -27,17 +27,15 @@ pub struct Walk {
     pub anchor: Point,
 }
 
-/// The walk from a point of a board with this many rows and columns, before the first letter.
-fn first_walk(side: u16, anchor: Point) -> Walk
-    requires some { 0 < side }
-    requires few { side ≤ largest_size }
-    requires anchor { anchor < side * side }
-    ensures value { result ≡ walk_at side 0 anchor }
+/// The walk from a point that stands here, before the first letter.
+fn first_walk(at: Cursor, anchor: Point) -> Walk
+    requires { at.corner ≤ last_corner }
+    ensures value { (size : ℕ) → at ≡ cursor_at size anchor → result ≡ walk_at size 0 anchor }
     ensures within { (rows : ℕ) → 0 < rows → IsWithin rows result }
 {
     Walk {
         row: 0,
-        corner: corner_of((anchor / side) as u8, (anchor % side) as u8),
+        corner: at.corner,
         anchor,
     }
 }
@@ -47,10 +45,12 @@ pub fn first_walks(alloc: Global, size: Size) -> Result<Vec<Walk>, NoMemory>
     ensures value { IfOk result (λ walks. walks.items ≡ map (walk_at size 0) (range_with_len 0 (size * size))) }
     ensures within { (rows : ℕ) → 0 < rows → IfOk result (λ walks. All (IsWithin rows) walks.items) }
 {
-    let side = size.get() as u16;
+    let _ = size.get();
     let mut walks = Vec::with_capacity(alloc, size.points() as usize)?;
+    let mut at = Cursor::first();
     'points: for anchor in 0..size.points() {
-        walks.push(first_walk(side, anchor))?;
+        walks.push(first_walk(at, anchor))?;
+        at = at.next(size);
     }
     Ok(walks)
 }

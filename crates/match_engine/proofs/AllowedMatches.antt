@@ -1,7 +1,7 @@
 -- Keeping the matches that are allowed, in one list.
 use Rattle.std.proofs.Common.{◌≡◌, ℕ, ◌+◌, ◌<◌, ◌≤◌, Bool, true, false, cond, List, [], ◌∷◌, ◌++◌, length, get_or, take}
 use Rattle.std.proofs.Common.{drop, set, filter, Contains, refl, sym, ap, ◌∙◌, subst, arith}
-use Rattle.std.proofs.lemmas.List.{take_more, take_more_set, take_all, drop-drop, drop-set-lt, append-nil, length-set}
+use Rattle.std.proofs.lemmas.List.{take_more, take_more_set, drop-drop, drop-set-lt, append-nil, length-set}
 use Rattle.std.proofs.lemmas.List.{get_or-drop}
 use Rattle.std.proofs.lemmas.List.Elements.{filter-append, Contains-get_or}
 use Rattle.match_rules.specs.declared.found.Match.{Match}
@@ -71,11 +71,6 @@ module _ (test : Match → Bool) (old now : List Match) (k n : ℕ) (z : Match) 
   kept_next false after j is now_is count =
       subst (λ i. KeepsFirst test old after i (n + 1)) (sym count)
       (subst (λ xs. KeepsFirst test old xs k (n + 1)) (sym now_is) (passed_over (sym is)))
-
--- at the end the first places have all that pass
-pub all_kept : (test : Match → Bool) (old now : List Match) (k n : ℕ) → KeepsFirst test old now k n → length old ≤ n
-    → take k now ≡ filter test old
-all_kept test old now k n is end = is.kept ∙ ap (filter test) (take_all n old end)
 
 -- the element that is read next is one of the list
 pub kept_there : (test : Match → Bool) (old now : List Match) (k n : ℕ) (z : Match) → KeepsFirst test old now k n

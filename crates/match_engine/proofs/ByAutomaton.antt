@@ -1,16 +1,18 @@
 -- The matches that the hits of an automaton are, and the matches by the automaton.
 use Rattle.std.proofs.Common.{◌≡◌, ℕ, ◌+◌, ◌*◌, ◌<◌, ◌≤◌, Bool, true, false, ◌&&◌, cond, ltb, eqb, List, [], ◌∷◌, ◌++◌}
-use Rattle.std.proofs.Common.{length, get_or, take, Contains, Option, Some, None, slice_get, refl, sym, ap, ◌∙◌, subst}
+use Rattle.std.proofs.Common.{length, get_or, take, map, Contains, Option, Some, None, slice_get, refl, sym, ap, ◌∙◌}
+use Rattle.std.proofs.Common.{subst}
 use Rattle.std.proofs.Common.{arith, pos, ◌+ℤ◌, ◌-ℤ◌}
-use Rattle.std.specs.List.{filter_map, list_any}
+use Rattle.std.specs.List.{filter_map, list_any, All}
 use Rattle.std.specs.List.Sorted.{IsPermutation}
 use Rattle.std.specs.Option.{option_to_list}
 use Rattle.std.proofs.lemmas.Bool.{and_parts, and_from, ltb-true, lt-ltb, eqb-true, eq-eqb, false≢true}
 use Rattle.std.proofs.lemmas.Int.{ints}
-use Rattle.std.proofs.lemmas.List.{take_more}
+use Rattle.std.proofs.lemmas.List.{take_more, append-nil, map-append}
 use Rattle.std.proofs.lemmas.List.Elements.{filter_map-append}
 use Rattle.std.proofs.lemmas.List.Folds.{Any-from_list_any, list_any-from_Any}
-use Rattle.std.proofs.lemmas.List.Sorted.{Contains-permutation, IsPermutation-sym}
+use Rattle.std.proofs.lemmas.List.Sorted.{Contains-permutation, IsPermutation-sym, IsPermutation-map}
+use Rattle.std.proofs.lemmas.List.Sorted.{All-permutation}
 use Rattle.std.proofs.lemmas.Option.{none-some, same_Some, cond_some}
 use Rattle.go_rules.specs.declared.Colour.{Colour}
 use Rattle.go_rules.specs.Position.{BoardState}
@@ -30,29 +32,48 @@ use Rattle.match_rules.specs.declared.found.Match.{Match}
 use Rattle.go_rules.specs.Play.{is_legal}
 use Rattle.match_engine.specs.AutomatonMatches.{lies_on_board, accepts_from, has_hit, place_of_anchor, is_found}
 use Rattle.match_engine.specs.AutomatonMatches.{found_by}
-use Rattle.match_engine.specs.Found.{place_of_star, match_at, match_from}
+use Rattle.match_engine.specs.Found.{place_of_star, star_if_whole, match_if_legal, match_from}
 use Rattle.match_rules.proofs.Lists.{Contains-filter_map, Contains-filter_map_from}
 use Rattle.match_rules.proofs.Orders.{IsBy, by-has, by-from, by-in_order, same_matches}
 use Rattle.match_engine.proofs.Places.{sum_of, placed_on, place_at-sum, place_at-none}
 use Rattle.go_rules.specs.Board.{largest_points}
-use Rattle.match_engine.specs.Ranks.{rank_of}
-use Rattle.std.specs.List.Sorted.{IsNonDecreasingBy}
-use Rattle.match_engine.proofs.SortedMatches.{IsSmall, sorted-in_order, AreDistinct-filter_map}
+use Rattle.match_engine.specs.Ranks.{rank_of, match_with}
+use Rattle.std.specs.List.Sorted.{IsNonDecreasing, IsNonDecreasingBy}
+use Rattle.match_engine.proofs.SortedMatches.{IsSmall, sorted-in_order, rising_by_rank, AreDistinct-filter_map}
 use Rattle.dfa_match.proofs.DistinctOrders.{AreDistinct-permutation}
 
--- one hit more, and the match that it is
-pub among_more : (f : Hit → Option Match) (hits : List Hit) (i : ℕ) (hit : Hit) (before after : List Match)
-    → i < length hits → hit ≡ get_or hits i hit
-    → before ≡ filter_map f (take i hits) → after ≡ before ++ option_to_list (f hit)
-    → after ≡ filter_map f (take (i + 1) hits)
-among_more f hits i hit before after low read was now =
-    now ∙ ap (λ zs. zs ++ option_to_list (f hit)) was ∙ ap (λ zs. filter_map f (take i hits) ++ zs) (alone (f hit))
-    ∙ sym (ap (filter_map f) (take_more hits i hit low ∙ ap (λ h. take i hits ++ h ∷ []) (sym read))
-    ∙ filter_map-append f (take i hits) (hit ∷ []))
+-- what one hit more gives, if it gives something
+filtered_more : (f : Hit → Option Match) (hits : List Hit) (i : ℕ) (hit : Hit) → i < length hits
+    → hit ≡ get_or hits i hit
+    → filter_map f (take (i + 1) hits) ≡ filter_map f (take i hits) ++ option_to_list (f hit)
+filtered_more f hits i hit low read =
+    ap (filter_map f) (take_more hits i hit low ∙ ap (λ h. take i hits ++ h ∷ []) (sym read))
+    ∙ filter_map-append f (take i hits) (hit ∷ [])
+    ∙ ap (λ zs. filter_map f (take i hits) ++ zs) (sym (alone (f hit)))
   where
     alone : (o : Option Match) → option_to_list o ≡ filter_map (λ (x : Option Match). x) (o ∷ [])
     alone None = refl
     alone (Some z) = refl
+
+-- one hit more that is a match, and the rank of the match
+pub among_more : (f : Hit → Option Match) (hits : List Hit) (i : ℕ) (hit : Hit) (ranks more : List ℕ) (z : Match)
+    (rank : ℕ) → i < length hits → hit ≡ get_or hits i hit → f hit ≡ Some z → match_with rank ≡ z
+    → map match_with ranks ≡ filter_map f (take i hits) → more ≡ ranks ++ rank ∷ []
+    → map match_with more ≡ filter_map f (take (i + 1) hits)
+among_more f hits i hit ranks more z rank low read is back was now =
+    ap (map match_with) now ∙ map-append match_with ranks (rank ∷ [])
+    ∙ ap (λ y. map match_with ranks ++ y ∷ []) back ∙ ap (λ zs. zs ++ z ∷ []) was
+    ∙ sym (filtered_more f hits i hit low read
+    ∙ ap (λ o. filter_map f (take i hits) ++ option_to_list o) is)
+
+-- one hit more that is no match
+pub among_same : (f : Hit → Option Match) (hits : List Hit) (i : ℕ) (hit : Hit) (ranks : List ℕ)
+    → i < length hits → hit ≡ get_or hits i hit → f hit ≡ None
+    → map match_with ranks ≡ filter_map f (take i hits) → map match_with ranks ≡ filter_map f (take (i + 1) hits)
+among_same f hits i hit ranks low read is was =
+    was ∙ sym (append-nil (filter_map f (take i hits)))
+    ∙ sym (filtered_more f hits i hit low read
+    ∙ ap (λ o. filter_map f (take i hits) ++ option_to_list o) is)
 
 -- no mark tries more than the eight transformations
 pub count_within : (mark : Mark) → count_of mark ≤ transformations
@@ -86,30 +107,40 @@ module _ (patterns : List Pattern) (board : BoardState) (friend : Colour) where
   pub made-Some : (hit : Hit) (z : Match) → made hit ≡ Some z → IsMade patterns board friend hit z
   made-Some hit z e = by_pattern (slice_get patterns hit.pattern) refl e
     where
-      by_star : (p : Pattern) (star : Option ℕ) → slice_get patterns hit.pattern ≡ Some p
-          → hit.transform < count_of p.mark → place_of_star p board.size hit.transform hit.anchor ≡ star
-          → match_at p board friend hit.pattern hit.transform star ≡ Some z → IsMade patterns board friend hit z
-      by_star p None number low at found = absurd (none-some z found)
-      by_star p (Some m) number low at found =
-          let parts = cond_some (lies_on_board p board.size hit.transform m && is_legal board friend m)
+      by_whole : (p : Pattern) (m : ℕ) (b : Bool) → slice_get patterns hit.pattern ≡ Some p
+          → hit.transform < count_of p.mark → place_of_star p board.size hit.transform hit.anchor ≡ Some m
+          → lies_on_board p board.size hit.transform m ≡ b
+          → match_if_legal board friend hit.pattern hit.transform (cond b (Some m) None) ≡ Some z
+          → IsMade patterns board friend hit z
+      by_whole p m false number low at whole found = absurd (none-some z found)
+      by_whole p m true number low at whole found =
+          let parts = cond_some (is_legal board friend m)
           (record { pattern = hit.pattern; transform = hit.transform; at = m }) z found in
-          let both = and_parts (lies_on_board p board.size hit.transform m) (is_legal board friend m) parts.0 in
           let same : m ≡ z.at = ap (λ (y : Match). y.at) parts.1 in
           record {
             pattern = p;
             number = number;
             transform = low;
             star = at ∙ ap Some same;
-            whole = subst (λ n. lies_on_board p board.size hit.transform n ≡ true) same both.0;
-            legal = subst (λ n. is_legal board friend n ≡ true) same both.1;
+            whole = subst (λ n. lies_on_board p board.size hit.transform n ≡ true) same whole;
+            legal = subst (λ n. is_legal board friend n ≡ true) same parts.0;
             same_pattern = ap (λ (y : Match). y.pattern) parts.1;
             same_transform = ap (λ (y : Match). y.transform) parts.1;
           }
 
+      by_star : (p : Pattern) (star : Option ℕ) → slice_get patterns hit.pattern ≡ Some p
+          → hit.transform < count_of p.mark → place_of_star p board.size hit.transform hit.anchor ≡ star
+          → match_if_legal board friend hit.pattern hit.transform (star_if_whole p board.size hit.transform star)
+          ≡ Some z → IsMade patterns board friend hit z
+      by_star p None number low at found = absurd (none-some z found)
+      by_star p (Some m) number low at found =
+          by_whole p m (lies_on_board p board.size hit.transform m) number low at refl found
+
       by_test : (p : Pattern) (b : Bool) → slice_get patterns hit.pattern ≡ Some p
           → ltb hit.transform (count_of p.mark) ≡ b
-          → cond b (match_at p board friend hit.pattern hit.transform
-          (place_of_star p board.size hit.transform hit.anchor)) None ≡ Some z → IsMade patterns board friend hit z
+          → cond b (match_if_legal board friend hit.pattern hit.transform
+          (star_if_whole p board.size hit.transform (place_of_star p board.size hit.transform hit.anchor))) None
+          ≡ Some z → IsMade patterns board friend hit z
       by_test p true number low found =
           by_star p (place_of_star p board.size hit.transform hit.anchor) number
           (ltb-true hit.transform (count_of p.mark) low) refl found
@@ -124,12 +155,13 @@ module _ (patterns : List Pattern) (board : BoardState) (friend : Colour) where
   pub made-from : (hit : Hit) (z : Match) → IsMade patterns board friend hit z → made hit ≡ Some z
   made-from hit z is =
       ap (λ o. match_from o board friend hit) is.number
-      ∙ ap (λ b. cond b (match_at is.pattern board friend hit.pattern hit.transform
-      (place_of_star is.pattern board.size hit.transform hit.anchor)) None)
+      ∙ ap (λ b. cond b (match_if_legal board friend hit.pattern hit.transform (star_if_whole is.pattern board.size
+      hit.transform (place_of_star is.pattern board.size hit.transform hit.anchor))) None)
       (lt-ltb hit.transform (count_of is.pattern.mark) is.transform)
-      ∙ ap (match_at is.pattern board friend hit.pattern hit.transform) is.star
-      ∙ ap (λ b. cond b (Some (record { pattern = hit.pattern; transform = hit.transform; at = z.at })) None)
-      (and_from (lies_on_board is.pattern board.size hit.transform z.at) (is_legal board friend z.at) is.whole is.legal)
+      ∙ ap (λ o. match_if_legal board friend hit.pattern hit.transform
+      (star_if_whole is.pattern board.size hit.transform o)) is.star
+      ∙ ap (λ b. match_if_legal board friend hit.pattern hit.transform (cond b (Some z.at) None)) is.whole
+      ∙ ap (λ b. cond b (Some (record { pattern = hit.pattern; transform = hit.transform; at = z.at })) None) is.legal
       ∙ ap Some (λ i. record { pattern = is.same_pattern i; transform = is.same_transform i; at = z.at })
 
 module _ (p : Pattern) (s t : ℕ) where
@@ -329,3 +361,14 @@ module _ (automaton : List Row) (board : BoardState) (friend : Colour) where
         Contains-permutation found sorted z moved
         (subst (λ zs. Contains zs z) (sym from) (Contains-filter_map_from (made patterns board friend) hits of.0 z
         (are.complete of.0 of.1) (made-from patterns board friend of.0 z of.2))))
+
+    -- the matches with the sorted ranks of the matches of the hits are what the automaton finds
+    pub sorted_ranks : (hits : List Hit) (ranks sorted : List ℕ) → board.size * board.size ≤ largest_points
+        → AreHits automaton board friend hits
+        → map match_with ranks ≡ filter_map (made patterns board friend) hits
+        → All (λ n. rank_of (match_with n) ≡ n) ranks → IsPermutation ranks sorted → IsNonDecreasing sorted
+        → map match_with sorted ≡ found_by automaton patterns board friend
+    sorted_ranks hits ranks sorted small are from true_ranks moved order =
+        sorted_matches hits (map match_with ranks) (map match_with sorted) small are from
+        (IsPermutation-map match_with ranks sorted moved)
+        (rising_by_rank sorted (All-permutation (λ n. rank_of (match_with n) ≡ n) ranks sorted moved true_ranks) order)

@@ -1,17 +1,6 @@
 -- Readings after one another.
-use Rattle.std.proofs.Common.{◌≡◌, ℕ, ◌-◌, ◌^◌, ◌≤◌, refl, ap, ◌∙◌, arith}
-use Rattle.match_engine.specs.Readings.{ReadingsView, raised, codes_at, codes_of, Follows}
-
--- no reading changes nothing
-pub Follows-refl : (r : ReadingsView) → Follows r r
-Follows-refl r = record {
-  plies = refl;
-  wide = refl;
-  capacity = refl;
-  fresh = omega arith;
-  trials = omega arith;
-  refused = omega arith;
-}
+use Rattle.std.proofs.Common.{◌≡◌, ap, ◌∙◌, arith}
+use Rattle.match_engine.specs.Readings.{ReadingsView, codes_at, codes_of, Follows}
 
 -- readings after readings
 pub Follows-trans : (a b c : ReadingsView) → Follows a b → Follows b c → Follows a c
@@ -27,7 +16,3 @@ Follows-trans a b c first next = record {
 -- the codes are those of before
 pub codes_stay : (a b : ReadingsView) → Follows a b → codes_of b ≡ codes_of a
 codes_stay a b f = ap (λ n. codes_at n b.wide) f.plies ∙ ap (codes_at a.plies) f.wide
-
--- a count that is raised does not fall
-pub raised-most : (count n : ℕ) → count ≤ 2 ^ 64 - 1 → count ≤ raised count n
-raised-most count n most = omega (arith, most)

@@ -18,7 +18,6 @@ use Rattle.cons_eval.specs.Functions.{after_play, is_safe_move}
 use Rattle.match_engine.specs.declared.plays.Plays.{Plays}
 use Rattle.match_engine.specs.Readings.{codes_at}
 use Rattle.match_engine.specs.Remembered.{Remembers}
-use Rattle.match_engine.specs.declared.legality.PointAnswers.{PointAnswers}
 use Rattle.match_engine.specs.PointAnswers.{Knows}
 use Rattle.match_engine.proofs.QuestionPoints.{Knows-nothing, Knows-more}
 

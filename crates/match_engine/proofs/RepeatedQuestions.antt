@@ -1,8 +1,7 @@
 -- A question that was read is found again while the facts of its answer hold and few other questions were read.
-use Rattle.std.proofs.Common.{◌≡◌, ◌∙◌, ℕ, suc, ◌≤◌, arith, inl, inr, sym, ap, subst, None, refl, true, rules}
+use Rattle.std.proofs.Common.{◌≡◌, ◌∙◌, ℕ, suc, ◌≤◌, arith, inl, inr, sym, ap, subst, None, true, rules}
 use Rattle.go_rules.specs.Position.{BoardState, IsPosition}
-use Rattle.go_base.specs.Facts.{Fact, SizeIs, CellIs, BanIs, IsFactOf, Agrees}
-use Rattle.go_base.specs.AmongFacts.{told}
+use Rattle.go_base.specs.Facts.{Fact, SizeIs, CellIs, BanIs, IsFactOf}
 use Rattle.read_rules.specs.declared.question.Answer.{Answer}
 use Rattle.read_rules.specs.ActiveArea.{InActiveArea, AgreeOn, IsAboutOne}
 use Rattle.read_cache.specs.Variants.{Stands}

@@ -1,14 +1,15 @@
 -- Lists of different matches that are sorted by rank are in order, and what differs gives matches that differ.
 use Rattle.std.proofs.Common.{◌≡◌, zero, suc, ◌<◌, ◌≤◌, ◌⊎◌, inl, inr, List, [], ◌∷◌, get_or, Contains, Option, Some}
-use Rattle.std.proofs.Common.{None, refl, sym, ap, subst, arith}
-use Rattle.std.specs.List.{filter_map, cons_option, AllPairs}
-use Rattle.std.specs.List.Sorted.{IsNonDecreasingBy}
+use Rattle.std.proofs.Common.{None, refl, sym, ap, ◌∙◌, subst, arith, ℕ, length, map}
+use Rattle.std.specs.List.{filter_map, cons_option, All, AllPairs}
+use Rattle.std.specs.List.Sorted.{IsNonDecreasing, IsNonDecreasingBy}
 use Rattle.std.proofs.lemmas.Bool.{cases_order}
+use Rattle.std.proofs.lemmas.List.{length-map, get_or-map}
 use Rattle.std.proofs.lemmas.List.Elements.{Contains-get_or}
 use Rattle.dfa_core.specs.Automata.{AreDistinct}
 use Rattle.match_rules.specs.declared.found.Match.{Match}
 use Rattle.match_rules.specs.Match.{ComesBefore}
-use Rattle.match_engine.specs.Ranks.{rank_of}
+use Rattle.match_engine.specs.Ranks.{rank_of, match_with}
 use Rattle.go_rules.specs.Board.{largest_points}
 use Rattle.go_rules.specs.Transform.{transformations}
 use Rattle.match_rules.proofs.Lists.{Contains-first, Contains-rest, Contains-filter_map}
@@ -50,6 +51,18 @@ sorted-in_order xs sorted small distinct i j d l k =
           (let less = before-rank (get_or xs j d) (get_or xs i d) (small (get_or xs j d) (Contains-get_or xs j d k))
           after in omega (arith, less, sorted i j d (omega arith) k))
     ]
+
+-- matches are sorted by rank where their ranks are sorted
+pub rising_by_rank : (ranks : List ℕ) → All (λ n. rank_of (match_with n) ≡ n) ranks → IsNonDecreasing ranks
+    → IsNonDecreasingBy rank_of (map match_with ranks)
+rising_by_rank ranks true_ranks order i j d l k =
+    let on : j < length ranks = omega (arith, k, length-map ranks match_with) in
+    let low : i < length ranks = omega (arith, l, on) in
+    let at_i : rank_of (get_or (map match_with ranks) i d) ≡ get_or ranks i 0 =
+    ap rank_of (get_or-map match_with ranks i 0 d low) ∙ true_ranks i 0 low in
+    let at_j : rank_of (get_or (map match_with ranks) j d) ≡ get_or ranks j 0 =
+    ap rank_of (get_or-map match_with ranks j 0 d on) ∙ true_ranks j 0 on in
+    omega (arith, at_i, at_j, order i j 0 l on)
 
 module _ {X : Type 0} where
   -- the empty list has no two elements

@@ -1,7 +1,15 @@
 -- The order of matches as one number.
-use Rattle.std.specs.Prelude.{ℕ, ◌+◌, ◌*◌}
+use Rattle.std.specs.Prelude.{ℕ, ◌+◌, ◌*◌, ◌/◌, ◌%◌}
 use Rattle.match_rules.specs.declared.found.Match.{Match}
 
 -- the place of the match among all matches of patterns: by the pattern's number, the transformation, and the point
 abbrev pub rank_of : Match → ℕ
-rank_of z = (z.pattern * 8 + z.transform) * 1024 + z.at
+rank_of z = (z.pattern * 8 + z.transform) * 65536 + z.at
+
+-- the match whose rank is this number
+abbrev pub match_with : ℕ → Match
+match_with rank = record {
+  pattern = rank / 65536 / 8 % 65536;
+  transform = rank / 65536 % 8;
+  at = rank % 65536;
+}

@@ -1,5 +1,5 @@
 -- What contracts see of readings, and how calls change it.
-use Rattle.std.specs.Prelude.{◌≡◌, ℕ, ◌+◌, ◌-◌, ◌^◌, ◌≤◌, ◌⊎◌, IsTrue, Bool, List, [], Option, Some, None, IfSome, min}
+use Rattle.std.specs.Prelude.{◌≡◌, ℕ, ◌+◌, ◌-◌, ◌^◌, ◌≤◌, ◌⊎◌, IsTrue, [], Option, Some, None, IfSome, min}
 use Rattle.go_rules.specs.Position.{BoardState}
 use Rattle.go_base.specs.Facts.{Fact, Agrees}
 use Rattle.go_base.specs.AmongFacts.{told}
@@ -11,7 +11,7 @@ use Rattle.read_rules.specs.GoodMoves.{IsOnBoard}
 use Rattle.read_cache.specs.declared.variants.Variant.{Variant}
 use Rattle.read_cache.specs.Kept.{Kept, HoldsOfEach, IsFound, IsMissing, kept_first, variants_of}
 use Rattle.match_engine.specs.declared.keys.Key.{Key}
-use Rattle.match_engine.specs.Keys.{same_key, meaning_of}
+use Rattle.match_engine.specs.Keys.{same_key}
 use Rattle.cons_eval.specs.Readings.{Codes}
 
 -- the questions that are kept, the last used first, each with its variants, the last kept or found first; and how many

@@ -1,6 +1,6 @@
 //! The matches of patterns on a position, by an automaton.
-ghost use Rattle.std.specs.Prelude.{◌≡◌, ℕ, ◌+◌, ◌*◌, ◌<◌, ◌&&◌, filter, if◌then◌else◌, length, Some, Contains, IfOk};
-ghost use Rattle.std.specs.Prelude.{OnOk, OnErr, slice_get, slice_set as set};
+ghost use Rattle.std.specs.Prelude.{◌≡◌, ℕ, ◌+◌, ◌*◌, ◌<◌, filter, map, if◌then◌else◌, length, Some, Contains, IfOk};
+ghost use Rattle.std.specs.Prelude.{All, OnOk, OnErr, slice_get, slice_set as set};
 ghost use Rattle.std.specs.List.{filter_map};
 ghost use Rattle.go_rules.specs.Position.{BoardState};
 ghost use Rattle.dfa_core.specs.Automata.{accepted};
@@ -15,46 +15,26 @@ ghost use Rattle.helpers.specs.Asking.{says_yes};
 ghost use Rattle.helpers.specs.Slots.{states_of};
 ghost use Rattle.match_engine.specs.HelperCalls.{after_matches};
 ghost use Rattle.match_engine.specs.AutomatonMatches.{found_by as is_found_by, automaton_matches, is_allowed_at};
-ghost use Rattle.match_engine.specs.AutomatonMatches.{lies_on_board as does_lie_on_board, IsFoundThere};
+ghost use Rattle.match_engine.specs.AutomatonMatches.{IsFoundThere};
 ghost use Rattle.match_engine.specs.PointAnswers.{Knows};
 ghost use Rattle.match_engine.specs.Readings.{Follows, codes_of};
-ghost use Rattle.match_engine.specs.Ranks.{rank_of as rank};
+ghost use Rattle.match_engine.specs.Ranks.{rank_of as rank, match_with as match_with_rank};
 ghost use Rattle.match_engine.specs.Found.{match_of as match_made, match_from};
 
 use crate::agreeing::keep_agreed;
 use crate::allowing::is_allowed;
 use crate::legality::PointAnswers;
-use crate::placing::{lies_on_board, star_place};
+use crate::placing::star_place;
 use crate::plays::Plays;
+use crate::ranks::{matches_with, rank_of};
 use crate::readings::Readings;
 use dfa_core::Automaton;
 use dfa_match::{Hit, scan};
-use go_base::{Colour, NoMemory, Point, Position, Transform, Watch};
+use go_base::{Colour, NoMemory, Position, Watch};
 use helpers::Helpers;
 use match_rules::Match;
 use pat_types::{Pattern, mark_count};
 use std::alloc::Global;
-
-/// Whether every letter lies on the board, with the star at a point under a transformation, and the friend's play there
-/// is legal.
-fn is_possible(
-    p: &Pattern,
-    position: &Position,
-    friend: Colour,
-    legal: &mut PointAnswers,
-    t: Transform,
-    at: Point,
-) -> bool
-    requires on_board { at < position.now.size * position.now.size }
-    requires knows { Knows (λ q. is_legal_on position.now friend q) legal.old }
-    ensures value { result ≡ does_lie_on_board p.now position.now.size t at && is_legal_on position.now friend at }
-    ensures knows { Knows (λ q. is_legal_on position.now friend q) legal.new }
-{
-    if !lies_on_board(p, t, at, position.size()) {
-        return false;
-    }
-    legal.is_legal(position, friend, at)
-}
 
 /// The match that a hit of this pattern is: where its transformation is one of the mark's, the diagram lies on the
 /// board, and the friend's play at the star is legal.
@@ -74,7 +54,7 @@ fn match_of(
         return None;
     }
     let at = star_place(p, hit.transform, hit.anchor, position.size())?;
-    if is_possible(p, position, friend, legal, hit.transform, at) {
+    if legal.is_legal(position, friend, at) {
         Some(Match {
             pattern: hit.pattern,
             transform: hit.transform,
@@ -85,36 +65,30 @@ fn match_of(
     }
 }
 
-/// The matches that these hits are, in the order of the hits. The friend's play at a point is tried once.
-fn matches_among(
+/// The ranks of the matches that these hits are, in the order of the hits. The friend's play at a point is tried once.
+/// Takes memory.
+fn ranks_among(
     alloc: Global,
     patterns: &[Pattern],
     position: &Position,
     friend: Colour,
     hits: &[Hit],
-) -> Result<Vec<Match>, NoMemory>
+) -> Result<Vec<u64>, NoMemory>
     requires numbers { (hit : HitSeen) → Contains hits.now hit → hit.pattern < length patterns.now }
     requires anchors { (hit : HitSeen) → Contains hits.now hit → hit.anchor < position.now.size * position.now.size }
-    ensures { IfOk result (λ v. v.items ≡ filter_map
+    ensures value { IfOk result (λ v. map match_with_rank v.items ≡ filter_map
         (λ hit. match_from (slice_get patterns.now hit.pattern) position.now friend hit) hits.now) }
+    ensures ranks { IfOk result (λ v. All (λ n. rank (match_with_rank n) ≡ n) v.items) }
 {
-    let mut found = Vec::new(alloc);
+    let mut ranks = Vec::with_capacity(alloc, hits.len())?;
     let mut legal = PointAnswers::new();
     for hit in hits {
         let p = &patterns[hit.pattern as usize];
-        if let Some(m) = match_of(p, position, friend, &mut legal, *hit) {
-            found.push(m)?;
+        if let Some(z) = match_of(p, position, friend, &mut legal, *hit) {
+            ranks.push(rank_of(&z))?;
         }
     }
-    Ok(found)
-}
-
-/// The place of a match among all matches of patterns: by the pattern's place in the list, the transformation and the
-/// point. One number is compared faster than three.
-fn rank_of(z: &Match) -> u64
-    ensures { result ≡ rank z.now }
-{
-    (z.pattern as u64 * 8 + z.transform.get() as u64) * 1024 + z.at as u64
+    Ok(ranks)
 }
 
 /// What an automaton finds on a position, with a legal move: sorted by the pattern's place in the list, the
@@ -132,9 +106,9 @@ fn found_by(
     let _ = position.size().points();
     let mut watch = Watch::new(position);
     let hits = scan(automaton, &mut watch, friend, Vec::new(alloc))?;
-    let mut found = matches_among(alloc, patterns, position, friend, hits.as_slice())?;
-    found.sort_unstable_by_key(|z| rank_of(z));
-    Ok(found)
+    let mut ranks = ranks_among(alloc, patterns, position, friend, hits.as_slice())?;
+    ranks.sort_unstable();
+    matches_with(alloc, &ranks)
 }
 
 /// The pattern at a place of the list.

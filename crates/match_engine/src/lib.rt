@@ -18,6 +18,7 @@ pub mod laws;
 mod legality;
 mod placing;
 mod plays;
+mod ranks;
 mod readings;
 
 pub use finder::matches;

@@ -1,11 +1,13 @@
 use Rattle.std.proofs.Common.{◌≡◌, ℕ, ◌<◌, map}
-use Rattle.std.specs.List.{All, range_with_len}
+use Rattle.std.specs.List.{range_with_len, All}
+use Rattle.dfa_match.specs.Steps.{cursor_at}
 use Rattle.dfa_match.specs.Walks.{walk_at, IsWithin}
 use Rattle.dfa_match.proofs.walks.first_walks.Given as goal
 
--- there is a walk from each point before
+-- there is a walk from each point before, and the next one stands at the cursor
 abbrev pub invariant-points : goal.invariant-points
 invariant-points l = record {
   value : l.walks.items ≡ map (walk_at l.fn.size 0) (range_with_len 0 l.anchor);
   within : (rows : ℕ) → 0 < rows → All (IsWithin rows) l.walks.items;
+  at : l.at ≡ cursor_at l.fn.size l.anchor;
 }

@@ -1,6 +1,3 @@
-use Rattle.std.proofs.Common.{sym, ap, subst}
-use Rattle.read_cache.specs.Kept.{IsFound}
-use Rattle.match_engine.specs.Keys.{same_key}
 use Rattle.match_engine.specs.Caches.{kept_in}
 use Rattle.match_engine.proofs.KeptReadings.{Answers-found, AllRest-found}
 use Rattle.match_engine.proofs.readings.Readings.find.Goals as goal

@@ -1,0 +1,54 @@
+-- Where the points of a board stand, one after another.
+use Rattle.std.proofs.Common.{◌≡◌, ℕ, ◌+◌, ◌*◌, ◌/◌, ◌%◌, ◌<◌, ◌≤◌, sym, ap, ◌∙◌, arith}
+use Rattle.std.proofs.lemmas.Nat.{div-mul-add, mod-mul-add, div-add-mod', div_below, mod_below}
+use Rattle.go_rules.specs.Board.{largest_size}
+use Rattle.go_rules.specs.Transform.{largest_offset}
+use Rattle.dfa_match.specs.declared.cursor.Cursor.{Cursor}
+use Rattle.dfa_match.specs.Sights.{padded_side}
+use Rattle.dfa_match.specs.Steps.{corner_at, cursor_at, last_corner}
+
+module _ (s m : ℕ) (at : Cursor) (is : at ≡ cursor_at s m) where
+  -- the column of the point
+  column_is : at.column ≡ m % s
+  column_is = ap (λ (c : Cursor). c.column) is
+
+  -- where its square begins
+  corner_is : at.corner ≡ corner_at s m
+  corner_is = ap (λ (c : Cursor). c.corner) is
+
+  -- the next point of a row stands one column further
+  pub cursor_in_row : at.column + 1 < s
+      → record { column = at.column + 1; corner = at.corner + 1 } ≡ cursor_at s (m + 1)
+  cursor_in_row low =
+      let below : m % s + 1 < s = omega (arith, column_is) in
+      let next : m / s * s + (m % s + 1) ≡ m + 1 = omega (arith, div-add-mod' m s) in
+      let row : (m + 1) / s ≡ m / s = sym (ap (λ n. n / s) next) ∙ div-mul-add (m / s) s (m % s + 1) below in
+      let column : (m + 1) % s ≡ m % s + 1 = sym (ap (λ n. n % s) next) ∙ mod-mul-add (m / s) s (m % s + 1) below in
+      let at_column : at.column + 1 ≡ (m + 1) % s = omega (arith, column_is, column) in
+      let at_corner : at.corner + 1 ≡ corner_at s (m + 1) = omega (arith, corner_is, row, column) in
+      λ i. record { column = at_column i; corner = at_corner i }
+
+  -- behind the last point of a row the next row begins
+  pub cursor_in_next_row : at.column < s → s ≤ at.column + 1 → (corner : ℕ)
+      → corner + at.column ≡ at.corner + padded_side → record { column = 0; corner = corner } ≡ cursor_at s (m + 1)
+  cursor_in_next_row low end corner is_corner =
+      let last : m % s + 1 ≡ s = omega (arith, column_is) in
+      let some : 0 < s = omega arith in
+      let next : (m / s + 1) * s + 0 ≡ m + 1 = grind (arith, div-add-mod' m s, last) in
+      let row : (m + 1) / s ≡ m / s + 1 = sym (ap (λ n. n / s) next) ∙ div-mul-add (m / s + 1) s 0 some in
+      let column : (m + 1) % s ≡ 0 = sym (ap (λ n. n % s) next) ∙ mod-mul-add (m / s + 1) s 0 some in
+      let at_corner : corner ≡ corner_at s (m + 1) = omega (arith, column_is, corner_is, row, column, is_corner) in
+      λ i. record { column = sym column i; corner = at_corner i }
+
+  -- the point itself lies behind the beginning of its square
+  pub cursor_place : at.corner + (largest_offset * padded_side + largest_offset)
+      ≡ (m / s + largest_offset) * padded_side + (m % s + largest_offset)
+  cursor_place = omega (arith, corner_is)
+
+  -- a point has its column on the board
+  pub cursor_column : 0 < s → at.column < s
+  cursor_column some = omega (arith, column_is, mod_below m s some)
+
+  -- the square around a point begins no later than that around the last point of the largest board
+  pub cursor_corner : 0 < s → s ≤ largest_size → m < s * s → at.corner ≤ last_corner
+  cursor_corner some few on = omega (arith, corner_is, div_below m s s some on, mod_below m s some)
