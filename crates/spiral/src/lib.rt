@@ -10,11 +10,9 @@
 mod moving;
 mod numbering;
 mod ring;
-mod turned;
 
-pub use moving::{place, place_from};
+pub use moving::{place, place_beside, place_from};
 pub use numbering::{OFFSETS, following, index, offset, offsets_differ};
-pub use turned::TurnedSpiral;
 
 #[cfg(test)]
 mod tests;

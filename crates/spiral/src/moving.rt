@@ -1,5 +1,5 @@
 //! Where offsets lead from a point of a board.
-ghost use Rattle.std.specs.Prelude.{◌≡◌, ◌*◌, ◌<◌, pos, ◌+ℤ◌, IfSome};
+ghost use Rattle.std.specs.Prelude.{◌≡◌, ℕ, ◌*◌, ◌/◌, ◌%◌, ◌<◌, pos, ◌+ℤ◌, IfSome};
 ghost use Rattle.go_rules.specs.Transform.{Offset, IsNear};
 ghost use Rattle.spiral.specs.Spiral.{offset_count, offset_at, strip_of, point_of, place_at};
 
@@ -21,7 +21,7 @@ fn moved(from: u8, by: i8, size: Size) -> Option<u8>
 }
 
 /// The point that an offset leads to from a row and a column; None exactly off the board.
-pub fn stepped(row: u8, column: u8, by: (i8, i8), size: Size) -> Option<Point>
+fn stepped(row: u8, column: u8, by: (i8, i8), size: Size) -> Option<Point>
     requires row { row < size }
     requires column { column < size }
     ensures value { result ≡ point_of size (strip_of size (pos row +ℤ by.0)) (strip_of size (pos column +ℤ by.1)) }
@@ -30,6 +30,24 @@ pub fn stepped(row: u8, column: u8, by: (i8, i8), size: Size) -> Option<Point>
     let row = moved(row, by.0, size)?;
     let column = moved(column, by.1, size)?;
     Some(row as u16 * size.get() as u16 + column as u16)
+}
+
+/// The point that an offset, moved by a transformation, leads to from the point in a row and a column; None exactly off
+/// the board.
+pub fn place_beside(
+    row: u8,
+    column: u8,
+    t: Transform,
+    offset: (i8, i8),
+    size: Size,
+) -> Option<Point>
+    requires near { IsNear offset }
+    requires row { row < size }
+    requires column { column < size }
+    ensures value { (from : ℕ) → row ≡ from / size → column ≡ from % size → result ≡ place_at size t from offset }
+    ensures on_board { IfSome result (λ p. p < size * size) }
+{
+    stepped(row, column, t.apply(offset.0, offset.1), size)
 }
 
 /// The point that the offset of `dr` rows down and `dc` columns to the right, moved by a transformation, leads to from
@@ -41,10 +59,11 @@ pub fn place_from(from: Point, t: Transform, dr: i8, dc: i8, size: Size) -> Opti
     ensures on_board { IfSome result (λ p. p < size * size) }
 {
     let side = size.get() as u16;
-    stepped(
+    place_beside(
         (from / side) as u8,
         (from % side) as u8,
-        t.apply(dr, dc),
+        t,
+        (dr, dc),
         size,
     )
 }
