@@ -1,18 +1,20 @@
 -- What a function of the walk over the game tree needs, and what it tells, over every position that agrees with what
 -- was seen.
-use Rattle.std.specs.Prelude.{◌≡◌, ◌⊎◌, ℕ, ◌*◌, ◌<◌, Bool}
+use Rattle.std.specs.Prelude.{◌≡◌, ◌⊎◌, ℕ, ◌+◌, ◌*◌, ◌<◌, Bool, true, List, length}
 use Rattle.std.specs.Ordering.{nat_cmp}
 use Rattle.std.specs.FinSet as set
 use Rattle.go_rules.specs.Position.{BoardState}
 use Rattle.go_rules.specs.Strings.{liberty_points}
 use Rattle.go_base.specs.Facts.{Fact, Agrees}
-use Rattle.trial_board.specs.Trials.{Trying, after}
+use Rattle.trial_board.specs.Trials.{Trying, after, most_moves}
 use Rattle.read_rules.specs.declared.question.ReadingQuestion.{ReadingQuestion}
 use Rattle.read_rules.specs.ActiveArea.{IsUndecided, InActiveArea, AddsNear}
 use Rattle.read_tree.specs.declared.turn.Turn.{Turn}
 use Rattle.read_tree.specs.declared.allowances.Allowances.{Allowances}
-use Rattle.read_tree.specs.Allowances.{Ko, under}
+use Rattle.read_tree.specs.Allowances.{Ko, under, has_some}
+use Rattle.read_tree.specs.declared.table.Entry.{Entry}
 use Rattle.read_tree.specs.Steps.{AreNodesOf}
+use Rattle.read_tree.specs.Table.{IsTrueTable}
 
 -- p is a point of the board
 abbrev pub IsPointOf : {L : Type 0} → (L → BoardState) → Trying L → ℕ → Type 0
@@ -48,3 +50,13 @@ abbrev pub LooksNearOrAt : {L : Type 0} → (L → Fact → Bool) → Trying L �
 LooksNearOrAt seen old new n turn asked = OnEachAgreeing seen old new (λ here.
     (q : ReadingQuestion) (root : BoardState) → AreNodesOf q root n turn asked here
     → AddsNear (seen old.look) (seen new.look) (λ p. (p ≡ turn.target) ⊎ InActiveArea q root p))
+
+-- a function of the walk may go on with n plies left after a move: there is room for them, the target is on the board,
+-- some allowance is asked for, and the points and the table are what the target's liberties and the nodes are
+pub record IsReady {L : Type 0} (shows : L → BoardState) (seen : L → Fact → Bool) (board : Trying L) (turn : Turn)
+    (n : ℕ) (asked : Allowances) (points : set.FinSet nat_cmp) (entries : List Entry) : Type 0 where
+  pub room : length board.moves + n < most_moves
+  pub target : IsPointOf shows board turn.target
+  pub some : has_some asked ≡ true
+  pub liberties : AreLibertiesOf seen board turn.target points
+  pub table : IsTrueTable (seen board.look) turn.target turn.defender entries

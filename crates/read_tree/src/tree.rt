@@ -1,6 +1,6 @@
 //! The walk over the game tree: the plays of a node one after another, each read to its end before the next.
 
-ghost use Rattle.std.specs.Prelude.{◌≡◌, ◌+◌, ◌<◌, ◌≤◌, ℕ, suc, true, false};
+ghost use Rattle.std.specs.Prelude.{◌≡◌, ◌+◌, ◌≤◌, ℕ, suc, true, false};
 ghost use Rattle.std.specs.Prelude.{IsTrue, IfSome, length, is_some, if◌then◌else◌};
 ghost use Rattle.go_rules.specs.Neighbourhood.{neighbourhood_of};
 ghost use Rattle.go_rules.specs.Strings.{liberty_points};
@@ -18,7 +18,7 @@ ghost use Rattle.read_rules.specs.GoodMoves.{good_move};
 ghost use Rattle.read_tree.specs.Steps.{has_way, AreNodesOf, TellsBy};
 ghost use Rattle.read_tree.specs.Steps.{is_off_liberties, IsCarried};
 ghost use Rattle.read_tree.specs.Table.{IsTrueTable};
-ghost use Rattle.read_tree.specs.Walk.{IsPointOf, AreLibertiesOf, OnEachAgreeing};
+ghost use Rattle.read_tree.specs.Walk.{IsReady, IsPointOf, AreLibertiesOf, OnEachAgreeing};
 ghost use Rattle.read_tree.specs.Walk.{LooksNear, LooksNearWhere, LooksNearOrAt};
 
 use crate::allowances::Allowances;
@@ -124,12 +124,8 @@ pub fn succeeds<L: Look>(
     known: &PointSet,
     memory: &mut Memory,
 ) -> Allowances
-    requires room { length board.old.moves + plies < most_moves }
-    requires target { IsPointOf L.shows board.old turn.target }
+    requires ready { IsReady L.shows L.seen board.old turn plies asked known.now memory.old.table.now }
     requires on_board { IsPointOf L.shows board.old p }
-    requires some { has_some asked ≡ true }
-    requires liberties { AreLibertiesOf L.seen board.old turn.target known.now }
-    requires table { IsTrueTable (L.seen board.old.look) turn.target turn.defender memory.old.table.now }
     ensures stays { Stays L.shows L.seen board.old board.new }
     ensures table { IsTrueTable (L.seen board.new.look) turn.target turn.defender memory.new.table.now }
     ensures over { OnEachAgreeing L.seen board.old board.new (λ here.
@@ -175,12 +171,8 @@ fn some_of<L: Look>(
     known: &PointSet,
     memory: &mut Memory,
 ) -> Allowances
-    requires room { length board.old.moves + plies < most_moves }
-    requires target { IsPointOf L.shows board.old turn.target }
-    requires some { has_some asked ≡ true }
-    requires liberties { AreLibertiesOf L.seen board.old turn.target known.now }
+    requires ready { IsReady L.shows L.seen board.old turn plies asked known.now memory.old.table.now }
     requires on_board { (p : ℕ) → IsTrue (set.contains points.now p) → IsPointOf L.shows board.old p }
-    requires table { IsTrueTable (L.seen board.old.look) turn.target turn.defender memory.old.table.now }
     ensures stays { Stays L.shows L.seen board.old board.new }
     ensures table { IsTrueTable (L.seen board.new.look) turn.target turn.defender memory.new.table.now }
     ensures over { OnEachAgreeing L.seen board.old board.new (λ here.
@@ -215,11 +207,7 @@ fn some_other<L: Look>(
     known: &PointSet,
     memory: &mut Memory,
 ) -> Allowances
-    requires room { length board.old.moves + plies < most_moves }
-    requires target { IsPointOf L.shows board.old turn.target }
-    requires some { has_some asked ≡ true }
-    requires liberties { AreLibertiesOf L.seen board.old turn.target known.now }
-    requires table { IsTrueTable (L.seen board.old.look) turn.target turn.defender memory.old.table.now }
+    requires { IsReady L.shows L.seen board.old turn plies asked known.now memory.old.table.now }
     ensures stays { Stays L.shows L.seen board.old board.new }
     ensures table { IsTrueTable (L.seen board.new.look) turn.target turn.defender memory.new.table.now }
     ensures over { OnEachAgreeing L.seen board.old board.new (λ here.
@@ -257,11 +245,7 @@ fn some_success<L: Look>(
     known: &PointSet,
     memory: &mut Memory,
 ) -> Allowances
-    requires room { length board.old.moves + plies < most_moves }
-    requires target { IsPointOf L.shows board.old turn.target }
-    requires some { has_some asked ≡ true }
-    requires liberties { AreLibertiesOf L.seen board.old turn.target known.now }
-    requires table { IsTrueTable (L.seen board.old.look) turn.target turn.defender memory.old.table.now }
+    requires { IsReady L.shows L.seen board.old turn plies asked known.now memory.old.table.now }
     ensures stays { Stays L.shows L.seen board.old board.new }
     ensures table { IsTrueTable (L.seen board.new.look) turn.target turn.defender memory.new.table.now }
     ensures over { OnEachAgreeing L.seen board.old board.new (λ here.
@@ -288,12 +272,8 @@ fn some_by_table<L: Look>(
     known: &PointSet,
     memory: &mut Memory,
 ) -> Allowances
-    requires room { length board.old.moves + plies < most_moves }
-    requires target { IsPointOf L.shows board.old turn.target }
-    requires some { has_some asked ≡ true }
-    requires liberties { AreLibertiesOf L.seen board.old turn.target known.now }
+    requires ready { IsReady L.shows L.seen board.old turn plies asked known.now memory.old.table.now }
     requires attacker { turn.attacker_to_play ≡ true }
-    requires table { IsTrueTable (L.seen board.old.look) turn.target turn.defender memory.old.table.now }
     ensures stays { Stays L.shows L.seen board.old board.new }
     ensures table { IsTrueTable (L.seen board.new.look) turn.target turn.defender memory.new.table.now }
     ensures over { OnEachAgreeing L.seen board.old board.new (λ here.
@@ -334,12 +314,8 @@ pub fn pass_saves<L: Look>(
     known: &PointSet,
     memory: &mut Memory,
 ) -> Allowances
-    requires room { length board.old.moves + plies < most_moves }
-    requires target { IsPointOf L.shows board.old turn.target }
-    requires some { has_some asked ≡ true }
-    requires liberties { AreLibertiesOf L.seen board.old turn.target known.now }
+    requires ready { IsReady L.shows L.seen board.old turn plies asked known.now memory.old.table.now }
     requires defender { turn.attacker_to_play ≡ false }
-    requires table { IsTrueTable (L.seen board.old.look) turn.target turn.defender memory.old.table.now }
     ensures stays { Stays L.shows L.seen board.old board.new }
     ensures table { IsTrueTable (L.seen board.new.look) turn.target turn.defender memory.new.table.now }
     ensures over { OnEachAgreeing L.seen board.old board.new (λ here.
@@ -368,11 +344,7 @@ fn has_good_move<L: Look>(
     known: &PointSet,
     memory: &mut Memory,
 ) -> Allowances
-    requires room { length board.old.moves + plies < most_moves }
-    requires target { IsPointOf L.shows board.old turn.target }
-    requires some { has_some asked ≡ true }
-    requires liberties { AreLibertiesOf L.seen board.old turn.target known.now }
-    requires table { IsTrueTable (L.seen board.old.look) turn.target turn.defender memory.old.table.now }
+    requires { IsReady L.shows L.seen board.old turn plies asked known.now memory.old.table.now }
     ensures stays { Stays L.shows L.seen board.old board.new }
     ensures table { IsTrueTable (L.seen board.new.look) turn.target turn.defender memory.new.table.now }
     ensures over { OnEachAgreeing L.seen board.old board.new (λ here.

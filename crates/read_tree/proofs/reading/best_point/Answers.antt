@@ -1,8 +1,9 @@
 -- The candidates in reading order, each asked only for the codes above the best so far.
 use Rattle.std.proofs.Common.{◌≡◌, ◌∙◌, ◌+◌, ◌*◌, ◌<◌, ℕ, suc, true, List, sym, subst, arith, rules, ◌&&◌, nat_lt}
 use Rattle.std.specs.FinSet as set
-use Rattle.go_base.specs.Facts.{agrees_before, Grows-refl, Grows-trans, same_size}
+use Rattle.go_base.specs.Facts.{Agrees, agrees_before, Grows-refl, Grows-trans, same_size}
 use Rattle.go_rules.specs.Position.{BoardState}
+use Rattle.go_rules.specs.Strings.{liberty_points}
 use Rattle.trial_board.specs.declared.moves.TrialMove.{TrialMove}
 use Rattle.trial_board.specs.Trials.{after}
 use Rattle.trial_board.proofs.AfterLemmas.{size-after}
@@ -50,6 +51,15 @@ succeeds-good-requires g c =
     c.args.turn.wide c.in-Some.p (sym (c.candidates-candidates.ensures.answer c.in-Some.p)
     ∙ c.in-Some.ensures.some.2) in
     let some = asks_some c.loop-p.best.code c.args.turn.attacker_to_play c.loop-p.invariant.code in
+    let i = c.loop-p.invariant in
+    let still : (p : ℕ) → p < (g.L.Look.shows c.args.board.now.look).size * (g.L.Look.shows c.args.board.now.look).size
+    → p < (g.L.Look.shows c.loop-p.board.look).size * (g.L.Look.shows c.loop-p.board.look).size =
+    λ p h. subst (λ (pos : BoardState). p < pos.size * pos.size) (sym i.stays.shown) h in
+    let on = still c.in-Some.p inside in
+    let target = still c.args.turn.target c.requires.target in
+    let liberties : (pos : BoardState) → Agrees (g.L.Look.seen c.loop-p.board.look) pos
+    → c.args.known.now ≡ liberty_points pos.size (after pos c.loop-p.board.moves).cells c.args.turn.target =
+    λ pos a. rw i.stays.moves (c.requires.liberties pos (agrees_before i.stays.grows a)) in
     search rules
 
 -- one more candidate

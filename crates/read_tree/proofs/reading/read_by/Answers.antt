@@ -160,10 +160,11 @@ pub best_point-requires-clause-liberties : goal.best_point-requires-clause-liber
 best_point-requires-clause-liberties g c = λ pos a. rw c.first_turn-turn.ensures (c.requires.ready.liberties pos a)
 
 -- also where the pass is tried
-pub pass_saves-saved-requires-clause-table : goal.pass_saves-saved-requires-clause-table
-pass_saves-saved-requires-clause-table g c = rw c.first_turn-turn.ensures c.requires.table
-
--- and its liberties are known
-pub pass_saves-saved-requires-clause-liberties : goal.pass_saves-saved-requires-clause-liberties
-pass_saves-saved-requires-clause-liberties g c = λ pos a.
-    rw c.first_turn-turn.ensures (c.requires.ready.liberties pos a)
+pub pass_saves-saved-requires-clause-ready : goal.pass_saves-saved-requires-clause-ready
+pass_saves-saved-requires-clause-ready g c = record {
+  room = search rules;
+  target = search rules;
+  some = search rules;
+  liberties = λ pos a. rw c.first_turn-turn.ensures (c.requires.ready.liberties pos a);
+  table = rw c.first_turn-turn.ensures c.requires.table;
+}

@@ -47,7 +47,7 @@ use Rattle.read_tree.proofs.tree.+read.Goals as goal
 -- the liberties after a legal play
 pub succeeds-has_way-good-requires : goal.succeeds-has_way-good-requires
 succeeds-has_way-good-requires g t c κs within =
-    let table = table_more c.requires.table
+    let table = table_more c.requires.ready.table
     (Grows-trans c.make.ensures.grows c.liberties_after-next.ensures.stays.grows) in
     let turn = c.args.turn in
     let carried : IfSome c.liberties_after-next.result (λ found. (pos : BoardState)
@@ -67,17 +67,18 @@ succeeds-has_way-good-requires g t c κs within =
       size = size-after pos c.args.board.now.moves;
       whole = whole_after pos c.args.board.now.moves a.sound.cells;
       point_on = target_on pos.size (g.L.Look.shows c.args.board.now.look).size c.args.p size c.requires.on_board;
-      target_on = target_on pos.size (g.L.Look.shows c.args.board.now.look).size turn.target size c.requires.target;
+      target_on = target_on pos.size (g.L.Look.shows c.args.board.now.look).size turn.target size
+          c.requires.ready.target;
       legal = made_free turn neither_may here c.args.p (under (next_turn turn) neither_may)
           (after pos c.make.new.board.moves) ((rw c.in-Legal.is at (c.make.ensures.over pos a1)) neither_may);
-      known_is = c.requires.liberties pos a0;
+      known_is = c.requires.ready.liberties pos a0;
     })) in
     search rules
 
 -- and after one by the own allowance
 pub succeeds-has_way-good-requires-in-Allowed : goal.succeeds-has_way-good-requires-in-Allowed
 succeeds-has_way-good-requires-in-Allowed g t c κs within =
-    let table = table_more c.requires.table
+    let table = table_more c.requires.ready.table
     (Grows-trans c.make.ensures.grows c.liberties_after-next-in-Allowed.ensures.stays.grows) in
     let turn = c.args.turn in
     let carried : IfSome c.liberties_after-next-in-Allowed.result (λ found. (pos : BoardState)
@@ -98,10 +99,11 @@ succeeds-has_way-good-requires-in-Allowed g t c κs within =
       size = size-after pos c.args.board.now.moves;
       whole = whole_after pos c.args.board.now.moves a.sound.cells;
       point_on = target_on pos.size (g.L.Look.shows c.args.board.now.look).size c.args.p size c.requires.on_board;
-      target_on = target_on pos.size (g.L.Look.shows c.args.board.now.look).size turn.target size c.requires.target;
+      target_on = target_on pos.size (g.L.Look.shows c.args.board.now.look).size turn.target size
+          c.requires.ready.target;
       legal = made_free turn (own_ko turn.attacker_to_play) here c.args.p (under (next_turn turn) neither_may)
           (after pos c.make.new.board.moves) (rw c.in-Allowed.is at (c.make.ensures.over pos a1)).0;
-      known_is = c.requires.liberties pos a0;
+      known_is = c.requires.ready.liberties pos a0;
     })) in
     search rules
 
@@ -143,9 +145,9 @@ pub succeeds-returns-in-Not-clause-near : goal.succeeds-returns-in-Not-clause-ne
 succeeds-returns-in-Not-clause-near g t c = λ pos a q root tree und candidate.
     let a0 = agrees_before c.make.ensures.grows a in
     let here = after pos c.args.board.now.moves in
-    let one = some_of c.args.asked c.requires.some in
+    let one = some_of c.args.asked c.requires.ready.some in
     let inside = target_on pos.size (g.L.Look.shows c.args.board.now.look).size c.args.turn.target
-    (same_size (g.met.L.Look.sized c.args.board.now.look) a0) c.requires.target in
+    (same_size (g.met.L.Look.sized c.args.board.now.look) a0) c.requires.ready.target in
     AddsNear-in (InActiveArea q root) (c.make.ensures.near pos a)
     (λ p h. area_play q root here (suc c.args.plies) (under c.args.turn one.0) (tree.each one.0 one.1) pos.size
     (size-after pos c.args.board.now.moves) inside
@@ -161,9 +163,9 @@ succeeds-returns-in-Legal-clause-near g t c = λ pos a q root tree und candidate
     let here = after pos c.args.board.now.moves in
     let new = after pos c.make.new.board.moves in
     let turn = c.args.turn in
-    let one = some_of c.args.asked c.requires.some in
+    let one = some_of c.args.asked c.requires.ready.some in
     let inside = target_on pos.size (g.L.Look.shows c.args.board.now.look).size turn.target
-    (same_size (g.met.L.Look.sized c.args.board.now.look) a0) c.requires.target in
+    (same_size (g.met.L.Look.sized c.args.board.now.look) a0) c.requires.ready.target in
     let made = rw c.in-Legal.is at (c.make.ensures.over pos a1) in
     let nodes : AreNodesOf q root c.args.plies (next_turn turn) c.args.asked new =
     record {
@@ -199,7 +201,7 @@ succeeds-returns-in-Allowed-clause-near g t c = λ pos a q root tree und candida
     let own = own_ko turn.attacker_to_play in
     let asked = sym c.has_own-own.ensures ∙ c.make.ensures.own c.in-Allowed.is in
     let inside = target_on pos.size (g.L.Look.shows c.args.board.now.look).size turn.target
-    (same_size (g.met.L.Look.sized c.args.board.now.look) a0) c.requires.target in
+    (same_size (g.met.L.Look.sized c.args.board.now.look) a0) c.requires.ready.target in
     let made = rw c.in-Allowed.is at (c.make.ensures.over pos a1) in
     let node = by_play (tree.each own asked) (und own) c.args.p candidate
     (under (next_turn turn) neither_may) new made.0 in
@@ -231,7 +233,7 @@ pass_saves-returns-then-is_in_atari-clause-over g t c = λ pos a.
     let a0 = agrees_before c.is_in_atari.ensures.stays.grows a in
     let inside = target_on here.size pos.size turn.target (size-after pos c.args.board.now.moves)
     (target_on pos.size (g.L.Look.shows c.args.board.now.look).size turn.target
-    (same_size (g.met.L.Look.sized c.args.board.now.look) a0) c.requires.target) in
+    (same_size (g.met.L.Look.sized c.args.board.now.look) a0) c.requires.ready.target) in
     rw c.none.ensures (Tells-none c.args.asked _
     (pass_fails c.args.plies turn here inside (c.is_in_atari.ensures.over pos a c.if-is_in_atari.true)))
 
@@ -241,9 +243,9 @@ pass_saves-returns-then-is_in_atari-clause-near g t c = λ pos a q root tree sta
     let a0 = agrees_before c.is_in_atari.ensures.stays.grows a in
     let here = after pos c.args.board.now.moves in
     let turn = c.args.turn in
-    let one = some_of c.args.asked c.requires.some in
+    let one = some_of c.args.asked c.requires.ready.some in
     let inside = target_on pos.size (g.L.Look.shows c.args.board.now.look).size turn.target
-    (same_size (g.met.L.Look.sized c.args.board.now.look) a0) c.requires.target in
+    (same_size (g.met.L.Look.sized c.args.board.now.look) a0) c.requires.ready.target in
     AddsNear-in (InActiveArea q root) c.is_in_atari.ensures.near
     (λ p h. area_target q root here (suc c.args.plies) (under turn one.0) (tree.each one.0 one.1) pos.size
     (size-after pos c.args.board.now.moves) inside stands p (eqb-true p turn.target h))
@@ -256,9 +258,9 @@ pass_saves-returns-clause-near g t c = λ pos a q root tree stands.
     let a0 = agrees_before c.is_in_atari.ensures.stays.grows a1 in
     let here = after pos c.args.board.now.moves in
     let turn = c.args.turn in
-    let one = some_of c.args.asked c.requires.some in
+    let one = some_of c.args.asked c.requires.ready.some in
     let inside = target_on pos.size (g.L.Look.shows c.args.board.now.look).size turn.target
-    (same_size (g.met.L.Look.sized c.args.board.now.look) a0) c.requires.target in
+    (same_size (g.met.L.Look.sized c.args.board.now.look) a0) c.requires.ready.target in
     let passed = rw (c.pass.ensures, c.is_in_atari.ensures.stays.moves) at
     (c.has_way-good.ensures.near pos a2 q root) in
     rw c.back.ensures.moves (AddsNear-trans (AddsNear-in (InActiveArea q root) c.is_in_atari.ensures.near
@@ -287,11 +289,11 @@ some_of-succeeds-good-requires g t c κs within =
     → p < (g.L.Look.shows c.next_to_try.new.board.look).size * (g.L.Look.shows c.next_to_try.new.board.look).size =
     λ p h. subst (λ (pos : BoardState). p < pos.size * pos.size) (sym (chosen.shown ∙ i.stays.shown)) h in
     let inside = still c.in-Some.p (c.requires.on_board c.in-Some.p c.in-Some.ensures.some.1) in
-    let target = still c.args.turn.target c.requires.target in
+    let target = still c.args.turn.target c.requires.ready.target in
     let moves = chosen.moves ∙ i.stays.moves in
     let liberties : (pos : BoardState) → Agrees (g.L.Look.seen c.next_to_try.new.board.look) pos
     → c.args.known.now ≡ liberty_points pos.size (after pos c.next_to_try.new.board.moves).cells c.args.turn.target =
-    λ pos a. rw moves (c.requires.liberties pos (agrees_before i.stays.grows (agrees_before chosen.grows a))) in
+    λ pos a. rw moves (c.requires.ready.liberties pos (agrees_before i.stays.grows (agrees_before chosen.grows a))) in
     search rules
 
 -- nothing was tried
@@ -299,8 +301,8 @@ pub some_of-loop-p-init : goal.some_of-loop-p-init
 some_of-loop-p-init g t c = record {
   stays = record { moves = refl; shown = refl; grows = Grows-refl _ };
   grows = Grows-refl _;
-  some = c.requires.some;
-  table = c.requires.table;
+  some = c.requires.ready.some;
+  table = c.requires.ready.table;
   near = λ pos a q root tree und its. nothing_near _ _;
   left = λ pos a. left_first c.args.plies c.args.turn (after pos c.args.board.now.moves)
       (set.contains c.args.points.now)
@@ -329,14 +331,14 @@ some_of-loop-p-preserved g t c =
           let a0 = agrees_before chosen.grows a1 in
           let first = agrees_before i.stays.grows a0 in
           let here = after pos c.args.board.now.moves in
-          let one = some_of c.args.asked c.requires.some in
+          let one = some_of c.args.asked c.requires.ready.some in
           let inside = target_on pos.size (g.L.Look.shows c.args.board.now.look).size c.args.turn.target (same_size
-          (g.met.L.Look.sized c.args.board.now.look) first) c.requires.target in
+          (g.met.L.Look.sized c.args.board.now.look) first) c.requires.ready.target in
           AddsNear-trans (i.near pos a0 q root tree und its)
           (AddsNear-trans (AddsNear-in (InActiveArea q root) (c.next_to_try.ensures.near pos a1)
           (order_near q root here (suc c.args.plies) (under c.args.turn one.0) (tree.each one.0 one.1) pos.size
           (size-after pos c.args.board.now.moves) inside (und one.0).stands
-          c.args.known.now (c.requires.liberties pos first)))
+          c.args.known.now (c.requires.ready.liberties pos first)))
           ((rw (chosen.moves ∙ i.stays.moves) at (c.succeeds-good.ensures.near pos a q root))
           (fewer_nodes c.loop-p.missing tree (i.left pos a0).asked_for) und (its c.in-Some.p
           c.in-Some.ensures.some.1)));
@@ -381,14 +383,14 @@ some_of-returns-then-not-has_some-clause-near g t c = λ pos a q root tree und i
     let a0 = agrees_before chosen.grows a1 in
     let first = agrees_before i.stays.grows a0 in
     let here = after pos c.args.board.now.moves in
-    let one = some_of c.args.asked c.requires.some in
+    let one = some_of c.args.asked c.requires.ready.some in
     let inside = target_on pos.size (g.L.Look.shows c.args.board.now.look).size c.args.turn.target (same_size
-    (g.met.L.Look.sized c.args.board.now.look) first) c.requires.target in
+    (g.met.L.Look.sized c.args.board.now.look) first) c.requires.ready.target in
     AddsNear-trans (i.near pos a0 q root tree und its)
     (AddsNear-trans (AddsNear-in (InActiveArea q root) (c.next_to_try.ensures.near pos a1)
     (order_near q root here (suc c.args.plies) (under c.args.turn one.0) (tree.each one.0 one.1) pos.size
     (size-after pos c.args.board.now.moves) inside (und one.0).stands
-    c.args.known.now (c.requires.liberties pos first)))
+    c.args.known.now (c.requires.ready.liberties pos first)))
     ((rw (chosen.moves ∙ i.stays.moves) at (c.succeeds-good.ensures.near pos a q root)) (fewer_nodes c.loop-p.missing
     tree (i.left pos a0).asked_for) und (its c.in-Some.p c.in-Some.ensures.some.1)))
 
@@ -407,14 +409,14 @@ some_of-returns-clause-near g t c = λ pos a q root tree und its.
     let a0 = agrees_before c.next_to_try.ensures.stays.grows a in
     let first = agrees_before i.stays.grows a0 in
     let here = after pos c.args.board.now.moves in
-    let one = some_of c.args.asked c.requires.some in
+    let one = some_of c.args.asked c.requires.ready.some in
     let inside = target_on pos.size (g.L.Look.shows c.args.board.now.look).size c.args.turn.target (same_size
-    (g.met.L.Look.sized c.args.board.now.look) first) c.requires.target in
+    (g.met.L.Look.sized c.args.board.now.look) first) c.requires.ready.target in
     AddsNear-trans (i.near pos a0 q root tree und its)
     (AddsNear-in (InActiveArea q root) (c.next_to_try.ensures.near pos a)
     (order_near q root here (suc c.args.plies) (under c.args.turn one.0) (tree.each one.0 one.1) pos.size
     (size-after pos c.args.board.now.moves) inside (und one.0).stands
-    c.args.known.now (c.requires.liberties pos first)))
+    c.args.known.now (c.requires.ready.liberties pos first)))
 
 -- a candidate is on the board
 candidate_inside : (shown : BoardState) (moves : List TrialMove) (target wide p : ℕ)
@@ -437,6 +439,13 @@ some_other-some_of-good-requires g t c κs within =
     (sym (c.captures_of-captures.ensures.over shown
     (subst (Agrees (g.L.Look.seen c.captures_of-captures.new.board.look)) stays.shown
     (g.met.L.Look.holds c.captures_of-captures.new.board.look)) p) ∙ h))) in
+    let target : c.args.turn.target < (g.L.Look.shows c.captures_of-captures.new.board.look).size *
+    (g.L.Look.shows c.captures_of-captures.new.board.look).size =
+    subst (λ (pos : BoardState). c.args.turn.target < pos.size * pos.size) (sym stays.shown) c.requires.target in
+    let liberties : (pos : BoardState) → Agrees (g.L.Look.seen c.captures_of-captures.new.board.look) pos
+    → c.args.known.now ≡ liberty_points pos.size (after pos c.captures_of-captures.new.board.moves).cells
+    c.args.turn.target =
+    λ pos a. rw stays.moves (c.requires.liberties pos (agrees_before stays.grows a)) in
     search rules
 
 -- what the captures are is still known once they were tried
@@ -1001,7 +1010,7 @@ attacker_wins-returns-in-Open-clause-near g t c = λ pos a q root tree.
 
 -- What the table tells stays true while more is seen: after a play that is not made,
 pub succeeds-returns-in-Not-clause-table : goal.succeeds-returns-in-Not-clause-table
-succeeds-returns-in-Not-clause-table g t c = table_more c.requires.table c.make.ensures.grows
+succeeds-returns-in-Not-clause-table g t c = table_more c.requires.ready.table c.make.ensures.grows
 
 -- after the choice of a point where none is left,
 pub some_of-returns-clause-table : goal.some_of-returns-clause-table
@@ -1014,7 +1023,8 @@ some_other-returns-then-is_in_atari-clause-table g t c =
 
 -- also before the pass,
 pub pass_saves-returns-then-is_in_atari-clause-table : goal.pass_saves-returns-then-is_in_atari-clause-table
-pass_saves-returns-then-is_in_atari-clause-table g t c = table_more c.requires.table c.is_in_atari.ensures.stays.grows
+pass_saves-returns-then-is_in_atari-clause-table g t c =
+    table_more c.requires.ready.table c.is_in_atari.ensures.stays.grows
 
 -- after the looks for an escape,
 pub has_good_move-returns-then-escapes-clause-table : goal.has_good_move-returns-then-escapes-clause-table
@@ -1074,7 +1084,7 @@ some_by_table-returns-then-not-has_some-clause-over g t c = λ pos a.
     let seen = g.L.Look.seen c.args.board.now.look in
     told_before turn (record { changes = c.in-Some.changes; plies = c.args.plies; wide = turn.wide })
     c.find-before.result c.args.asked c.without-missing.result c.both.result pos (after pos c.args.board.now.moves)
-    (c.find-before.ensures seen turn.target turn.defender c.requires.table) a c.requires.attacker refl
+    (c.find-before.ensures seen turn.target turn.defender c.requires.ready.table) a c.requires.attacker refl
     (c.in-Some.ensures.over pos a) c.without-missing.ensures (sym c.has_some.ensures ∙ c.if-not-has_some.true)
     c.both.ensures
 
@@ -1086,7 +1096,8 @@ some_by_table-returns-clause-table g t c =
     let node : AttackerNode = record { changes = c.in-Some.changes; plies = c.args.plies; wide = turn.wide } in
     let kept = read_true turn node c.find-before.result c.with-verdict.result c.args.asked c.without-missing.result
     c.some_success-good.result c.args.board.now.moves
-    (c.find-before.ensures seen turn.target turn.defender c.requires.table) c.some_success-good.ensures.stays.grows
+    (c.find-before.ensures seen turn.target turn.defender c.requires.ready.table)
+    c.some_success-good.ensures.stays.grows
     c.requires.attacker refl c.in-Some.ensures.over c.some_success-good.ensures.over c.without-missing.ensures
     c.with-verdict.ensures in
     c.keep.ensures (g.L.Look.seen c.some_success-good.new.board.look) turn.target turn.defender
@@ -1100,7 +1111,8 @@ some_by_table-returns-clause-over g t c = λ pos a.
     let node : AttackerNode = record { changes = c.in-Some.changes; plies = c.args.plies; wide = turn.wide } in
     let kept = read_true turn node c.find-before.result c.with-verdict.result c.args.asked c.without-missing.result
     c.some_success-good.result c.args.board.now.moves
-    (c.find-before.ensures seen turn.target turn.defender c.requires.table) c.some_success-good.ensures.stays.grows
+    (c.find-before.ensures seen turn.target turn.defender c.requires.ready.table)
+    c.some_success-good.ensures.stays.grows
     c.requires.attacker refl c.in-Some.ensures.over c.some_success-good.ensures.over c.without-missing.ensures
     c.with-verdict.ensures in
     told_after turn node c.find-before.result c.with-verdict.result c.args.asked c.without-missing.result
