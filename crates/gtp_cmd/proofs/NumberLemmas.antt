@@ -1,8 +1,8 @@
 -- What a word of digits writes when it is read from its front.
-use Rattle.std.proofs.Common.{◌≡◌, ℕ, ◌+◌, ◌-◌, ◌*◌, ◌<◌, ◌≤◌, true, false, cond, ◌&&◌, List, [], ◌∷◌, ◌++◌}
+use Rattle.std.proofs.Common.{◌≡◌, ℕ, ◌+◌, ◌-◌, ◌*◌, ◌<◌, true, false, cond, ◌&&◌, List, [], ◌∷◌, ◌++◌}
 use Rattle.std.proofs.Math.Bool.{and-false}
-use Rattle.std.proofs.Common.{length, take, drop, get_or, min, unwrap_or, leb, Option, Some, None, IfSome, refl, sym}
-use Rattle.std.proofs.Common.{ap, subst, ◌∙◌, arith, take-append-drop}
+use Rattle.std.proofs.Common.{length, take, drop, get_or, min, unwrap_or, Option, Some, None, refl, sym}
+use Rattle.std.proofs.Common.{ap, ◌∙◌, arith, take-append-drop}
 use Rattle.std.specs.List.{list_all}
 use Rattle.std.specs.Char.{is_ascii_digit, digit_value}
 use Rattle.std.specs.Str.Parse.{digits_value, digits_value_after}
@@ -10,7 +10,7 @@ use Rattle.std.proofs.lemmas.Bool.Decides.{nat_tests}
 use Rattle.std.proofs.lemmas.List.{drop_more}
 use Rattle.std.proofs.lemmas.List.Elements.{filter-append, filter_more}
 use Rattle.std.proofs.lemmas.List.Folds.{list_all-append}
-use Rattle.gtp_cmd.specs.Words.{is_kept, kept, has_bytes, is_number, number_of, up_to, most_id}
+use Rattle.gtp_cmd.specs.Words.{is_kept, kept, has_bytes, is_number, number_of}
 use Rattle.gtp_cmd.specs.RawWords.{large, capped}
 
 -- the number grows by its last digit
@@ -85,11 +85,6 @@ number_more word i value within here digit all is =
     ∙ capped-push (kept (take i word)) (get_or word i 0) all digit
     ∙ sym (ap (λ l. capped (number_of l)) (kept-more word i within here))
 
--- the number so far isn't above what stands for the largest
-pub capped-small : (o : Option ℕ) (value : Option ℕ) → value ≡ capped o → IfSome value (λ n. n ≤ large)
-capped-small None value is = subst (λ v. IfSome v (λ n. n ≤ large)) (sym is) tt
-capped-small (Some n) value is = subst (λ v. IfSome v (λ n. n ≤ large)) (sym is) (omega arith)
-
 -- a word is cut at one of its bytes, which is kept
 pub kept-cut : (word : List ℕ) (i : ℕ) → i < length word → is_kept (get_or word i 0) ≡ true
     → kept word ≡ kept (take i word) ++ get_or word i 0 ∷ kept (drop (i + 1) word)
@@ -112,26 +107,3 @@ not_number word i within here other =
     ∙ and-false (list_all is_ascii_digit front) in
     sym (ap (λ t. capped (cond (has_bytes (kept word) && t) (Some (digits_value 10 (kept word))) None)) none
     ∙ ap (λ t. capped (cond t (Some (digits_value 10 (kept word))) None)) (and-false (has_bytes (kept word))))
-
--- where the number is above the greatest id there is no id
-pub id-above : (o : Option ℕ) (n : ℕ) → Some n ≡ capped o → most_id < n → None ≡ up_to most_id o
-id-above None n is above = absurd (cc)
-id-above (Some m) n is above =
-    let same : n ≡ min m large = (cc) in
-    let more : most_id < m = omega arith in
-    let test : leb m most_id ≡ false = grind (arith, nat_tests) in
-    sym (ap (λ t. cond t (Some m) None) test)
-
--- a number that is not above the greatest id is the id
-pub id-within : (o : Option ℕ) (n : ℕ) → Some n ≡ capped o → n ≤ most_id → Some n ≡ up_to most_id o
-id-within None n is within = absurd (cc)
-id-within (Some m) n is within =
-    let same : n ≡ min m large = (cc) in
-    let whole : n ≡ m = omega arith in
-    let test : leb m most_id ≡ true = grind (arith, nat_tests) in
-    ap Some whole ∙ sym (ap (λ t. cond t (Some m) None) test)
-
--- a word without a number has no id
-pub id-none : (o : Option ℕ) → None ≡ capped o → None ≡ up_to most_id o
-id-none None is = refl
-id-none (Some m) is = absurd (cc)

@@ -1,7 +1,14 @@
 -- The rows of commands that the code keeps.
+use Rattle.std.specs.Prelude.{Bool}
+use Rattle.std.specs.Str.{bytes_eq}
 use Rattle.gtp_cmd.specs.declared.commands.Row.{Row as CodeRow}
+use Rattle.gtp_cmd.specs.Words.{kept}
 use Rattle.gtp_cmd.specs.Commands.{Row}
 
 -- a row of the code, as a row of the definition
 abbrev pub row_seen : CodeRow → Row
 row_seen r = record { command = r.command; word = r.word.now }
+
+-- no byte of the row's word is dropped
+abbrev pub is_plain : CodeRow → Bool
+is_plain r = bytes_eq (kept r.word.now) r.word.now

@@ -1,11 +1,11 @@
 //! The commands of the protocol, and what a line says.
 
-ghost use Rattle.std.specs.Prelude.{◌≡◌, ◌∷◌, ◌++◌, length, map, option_map, find, IfOk, OnOk};
-ghost use Rattle.std.specs.List.{flat_map};
+ghost use Rattle.std.specs.Prelude.{◌≡◌, ◌∷◌, ◌++◌, true, length, map, option_map, find, IfOk, OnOk};
+ghost use Rattle.std.specs.List.{flat_map, list_all};
 ghost use Rattle.std.specs.Str.{bytes_eq};
 ghost use Rattle.gtp_cmd.specs.Words.{kept, line_feed, plain, words_of};
 ghost use Rattle.gtp_cmd.specs.Komi.{komi_of};
-ghost use Rattle.gtp_cmd.specs.CodeRows.{row_seen};
+ghost use Rattle.gtp_cmd.specs.CodeRows.{row_seen, is_plain};
 ghost use Rattle.gtp_cmd.specs.Commands.{command_in, named, names_text, command_of, known_of, first_argument};
 
 use crate::arguments::{colour, colour_and_target, depths, first_number, size_numbered, vertex};
@@ -254,8 +254,8 @@ fn is_row_of(row: &Row, word: &[u8], count: usize) -> bool
     row.word.len() == count && spells(word, row.word)
 }
 
-/// The command of the first of these rows whose word this is.
-fn first_command(rows: &[Row], word: &[u8]) -> Option<CommandName>
+/// The command of the first of these rows whose word this is, with the bytes that are dropped still in it.
+fn command_spelt(rows: &[Row], word: &[u8]) -> Option<CommandName>
     ensures { result ≡ option_map (λ r. r.command) (find (λ r. bytes_eq (kept word.now) r.word.now) rows.now) }
 {
     let count = byte_count(word);
@@ -263,8 +263,36 @@ fn first_command(rows: &[Row], word: &[u8]) -> Option<CommandName>
     Some(row.command)
 }
 
+/// Whether a word stands as the row has it.
+fn is_written(row: &Row, word: &[u8]) -> bool
+    ensures { result ≡ bytes_eq word.now row.now.word.now }
+{
+    word == row.word
+}
+
+/// The command of the first of these rows that has this word as it stands.
+fn command_written(rows: &[Row], word: &[u8]) -> Option<CommandName>
+    ensures { result ≡ option_map (λ r. r.command) (find (λ r. bytes_eq word.now r.word.now) rows.now) }
+{
+    let row = rows.iter().find(|row| is_written(row, word))?;
+    Some(row.command)
+}
+
+/// The command of the first of these rows whose word this is. Mostly no byte of a word is dropped, so it is compared as
+/// it stands before its bytes are read one by one.
+fn first_command(rows: &[Row], word: &[u8]) -> Option<CommandName>
+    requires { list_all is_plain rows.now ≡ true }
+    ensures { result ≡ option_map (λ r. r.command) (find (λ r. bytes_eq (kept word.now) r.word.now) rows.now) }
+{
+    match command_written(rows, word) {
+        Some(command) => Some(command),
+        None => command_spelt(rows, word),
+    }
+}
+
 /// The same, by rows as the definitions have them.
 fn command_in(rows: &[Row], word: &[u8]) -> Option<CommandName>
+    requires { list_all is_plain rows.now ≡ true }
     ensures { result ≡ command_in (map row_seen rows.now) (kept word.now) }
 {
     first_command(rows, word)

@@ -1,4 +1,5 @@
 pub mod Each
+pub mod FirstEntries
 pub mod Places
 pub mod LastingVariants
 pub mod MapEntries

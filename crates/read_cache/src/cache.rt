@@ -8,6 +8,7 @@ ghost use Rattle.read_cache.specs.Kept.{no_questions, variants_of, put_first, ke
 ghost use Rattle.read_cache.specs.Kept.{IsRight, AreVariants, IsFound, IsMissing};
 ghost use Rattle.read_cache.specs.Places.{HasAt, StandsAt, front_of};
 
+use crate::front::{promote, value_of};
 use crate::question::Question;
 use crate::variants::{Variant, Variants, alone, brought_to_front, first_standing, with_first};
 use go_base::{Facts, NoMemory, Position};
@@ -70,7 +71,7 @@ impl<Q: Question> Cache<Q> {
         ensures right { IfSome result (λ found. found.1 ≡ Q.meaning q.now position.now) }
         ensures none { IfNone result (IsMissing Q.eq q.now position.now self.now) }
     {
-        match self.kept.peek(q) {
+        match value_of(&self.kept, q) {
             Some(kept) => match first_standing(kept.as_slice(), position) {
                 Some(place) => Some((place, kept.as_slice()[place].answer)),
                 None => None,
@@ -87,7 +88,7 @@ impl<Q: Question> Cache<Q> {
             → self.new ≡ put_first Q.eq q.now (front_of Q.eq q.now self.old place at) self.old }
     {
         if place == 0 {
-            self.kept.promote(q);
+            promote(&mut self.kept, q);
             return;
         }
         self.bring_from_behind(q, place);

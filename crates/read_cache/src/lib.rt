@@ -10,6 +10,7 @@
 #![tactic(auto)]
 
 mod cache;
+mod front;
 mod question;
 mod variants;
 

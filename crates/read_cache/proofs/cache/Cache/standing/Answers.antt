@@ -19,7 +19,7 @@ as_slice-requires-in-Some-first_standing g c = variants_fit g.row.Q-Answer g.met
 pub returns-in-Some-first_standing-clause-some : goal.returns-in-Some-first_standing-clause-some
 returns-in-Some-first_standing-clause-some g c =
     let map = c.self.inside.kept in
-    let at_key = sym c.peek.ensures ∙ ap option_copied c.in-Some.is in
+    let at_key = sym c.value_of.ensures ∙ ap option_copied c.in-Some.is in
     let there = variants_of-there g.Q.PartialEq.eq c.args.q.now map.entries map.cap c.args.self.now
     c.self.view_is c.in-Some.kept.now at_key in
     StandsAt-by g.Q.PartialEq.eq c.args.q.now c.args.position.now c.args.self.now c.in-Some.kept.now.items
@@ -31,7 +31,7 @@ returns-in-Some-first_standing-clause-some g c =
 pub returns-in-Some-first_standing-clause-right : goal.returns-in-Some-first_standing-clause-right
 returns-in-Some-first_standing-clause-right g c =
     let map = c.self.inside.kept in
-    let at_key = sym c.peek.ensures ∙ ap option_copied c.in-Some.is in
+    let at_key = sym c.value_of.ensures ∙ ap option_copied c.in-Some.is in
     let are = variants_are g.Q.PartialEq.eq c.args.q.now map.entries map.cap c.args.self.now c.self.view_is
     g.Q.Question.meaning g.met.Q.Question.same c.self.invariant c.in-Some.kept.now at_key in
     let place = c.in-Some-first_standing.place in
@@ -44,7 +44,7 @@ returns-in-Some-first_standing-clause-right g c =
 pub returns-in-None-first_standing-clause-none : goal.returns-in-None-first_standing-clause-none
 returns-in-None-first_standing-clause-none g c =
     let map = c.self.inside.kept in
-    let at_key = sym c.peek.ensures ∙ ap option_copied c.in-Some.is in
+    let at_key = sym c.value_of.ensures ∙ ap option_copied c.in-Some.is in
     let there = variants_of-there g.Q.PartialEq.eq c.args.q.now map.entries map.cap c.args.self.now
     c.self.view_is c.in-Some.kept.now at_key in
     IsMissing-by g.Q.PartialEq.eq c.args.q.now c.args.position.now c.args.self.now c.in-Some.kept.now.items
@@ -56,4 +56,4 @@ returns-in-None-clause-none g c =
     let map = c.self.inside.kept in
     IsMissing-none g.Q.PartialEq.eq c.args.q.now c.args.position.now c.args.self.now
     (variants_of-none g.Q.PartialEq.eq c.args.q.now map.entries map.cap c.args.self.now c.self.view_is
-    (sym c.peek.ensures ∙ ap option_copied c.in-None.is))
+    (sym c.value_of.ensures ∙ ap option_copied c.in-None.is))

@@ -1,0 +1,37 @@
+//! The key that was used last stands first in a cache, and is met there without a search of its map.
+
+ghost use Rattle.std.specs.Prelude.{◌≡◌, true, option_copied};
+ghost use Rattle.std.specs.Map.{lookup};
+ghost use Rattle.lru.specs.LruCache.{lru_cache, promoted};
+
+use lru::LruCache;
+use std::hash::Hash;
+
+/// Whether the key is the one that was used last, so that it stands first already.
+fn is_first<K: Eq + Hash, V>(cache: &LruCache<K, V>, key: &K) -> bool
+    ensures { result ≡ true → promoted (K.eq key.now) cache.now.entries ≡ cache.now.entries }
+{
+    match cache.peek_mru() {
+        Some((first, _)) => *key == *first,
+        None => false,
+    }
+}
+
+/// The value of the key.
+pub(crate) fn value_of<'a, K: Eq + Hash, V>(cache: &'a LruCache<K, V>, key: &K) -> Option<&'a V>
+    ensures { option_copied result ≡ lookup (K.eq key.now) cache.now.entries }
+{
+    match cache.peek_mru() {
+        Some((first, value)) if *key == *first => Some(value),
+        _ => cache.peek(key),
+    }
+}
+
+/// Puts the key before the others, if it is there.
+pub(crate) fn promote<K: Eq + Hash, V>(cache: &mut LruCache<K, V>, key: &K)
+    ensures { cache.new ≡ lru_cache (promoted (K.eq key.now) cache.old.entries) cache.old.cap }
+{
+    if !is_first(cache, key) {
+        cache.promote(key);
+    }
+}
