@@ -5,6 +5,7 @@ use Rattle.std.specs.List.{list_all, range_with_len}
 use Rattle.std.proofs.lemmas.Bool.{false≢true}
 use Rattle.std.proofs.lemmas.Int.{ints}
 use Rattle.go_rules.specs.Transform.{transformations}
+use Rattle.go_rules.proofs.Tests.{same_tests}
 use Rattle.spiral.specs.Spiral.{place_at}
 use Rattle.pat_types.specs.declared.pattern.Pattern.{Pattern}
 use Rattle.pat_types.specs.Cells.{anchor_of}
@@ -18,12 +19,6 @@ use Rattle.match_engine.proofs.Places.{placed_between, place_at-sum}
 pub some_value : {X : Type 0} (o : Option X) → is_some o ≡ true → (x : X) × (o ≡ Some x)
 some_value None e = absurd (false≢true e)
 some_value (Some x) e = (x, refl)
-
--- two tests that follow from each other are one
-pub same_test : (a b : Bool) → (a ≡ true → b ≡ true) → (b ≡ true → a ≡ true) → a ≡ b
-same_test true b to back = sym (to refl)
-same_test false true to back = back refl
-same_test false false to back = refl
 
 module _ (p : Pattern) (s t m : ℕ) where
   -- a letter's cell lies on the board
@@ -66,7 +61,7 @@ module _ (p : Pattern) (s t m : ℕ) where
   -- where the first letter lies on the board, the last decides
   pub last_decides : t < transformations → is_on 0 0 ≡ true → is_on (p.rows - 1) (p.cols - 1) ≡ lies_on_board p s t m
   last_decides low first =
-      same_test (is_on (p.rows - 1) (p.cols - 1)) (lies_on_board p s t m)
+      same_tests (is_on (p.rows - 1) (p.cols - 1)) (lies_on_board p s t m)
       (λ last. on_all (between_corners low first last))
       (λ all. on_each all (p.rows - 1) (p.cols - 1) (omega (arith, p.diagram.rows_from))
       (omega (arith, p.diagram.columns_from)))
@@ -74,7 +69,7 @@ module _ (p : Pattern) (s t m : ℕ) where
   -- where the first letter does not, the diagram does not
   pub first_decides : is_on 0 0 ≡ false → false ≡ lies_on_board p s t m
   first_decides first =
-      same_test false (lies_on_board p s t m) (λ e. absurd (false≢true e))
+      same_tests false (lies_on_board p s t m) (λ e. absurd (false≢true e))
       (λ all. sym first ∙ on_each all 0 0 (omega (arith, p.diagram.rows_from)) (omega (arith, p.diagram.columns_from)))
 
 -- the place of the cell in row r and column c of the diagram, with the anchor's cell at a under t
@@ -108,7 +103,7 @@ module _ (p : Pattern) (s t a : ℕ) (low : t < transformations) where
   broken_last None star off = refl
   broken_last (Some m) star off =
       ap (λ b. cond b (Some m) None)
-      (same_test false (lies_on_board p s t m) (λ e. absurd (false≢true e))
+      (same_tests false (lies_on_board p s t m) (λ e. absurd (false≢true e))
       (λ all. ap is_some (sym (cell_from_anchor m (p.rows - 1) (p.cols - 1) star ∙ off))
       ∙ on_each p s t m all (p.rows - 1) (p.cols - 1) (omega (arith, p.diagram.rows_from))
       (omega (arith, p.diagram.columns_from))))

@@ -13,6 +13,7 @@ use Rattle.read_rules.specs.declared.question.ReadingQuestion.{ReadingQuestion}
 use Rattle.read_rules.specs.declared.question.Kind.{Kind}
 use Rattle.read_rules.specs.declared.question.Kind.TheVariants.{Attack}
 use Rattle.read_rules.specs.Answer.{code_of, answer_of, asked_on}
+use Rattle.read_rules.proofs.RuleLemmas.{code-answer_of}
 use Rattle.cons_eval.specs.Readings.{Codes, code_at}
 use Rattle.cons_eval.specs.Functions.{after_play, is_safe_move}
 use Rattle.match_engine.specs.declared.plays.Plays.{Plays}
@@ -21,15 +22,10 @@ use Rattle.match_engine.specs.Remembered.{Remembers}
 use Rattle.match_engine.specs.PointAnswers.{Knows}
 use Rattle.match_engine.proofs.QuestionPoints.{Knows-nothing, Knows-more}
 
--- the code of an answer is that of the question
-answer_code : (q : ReadingQuestion) (pos : BoardState) → (answer_of q pos).code ≡ code_of q pos
-unfolding answer_of
-answer_code q pos = refl
-
 -- so it is that of the readings at these depths
 pub answer_codes : (plies wide : ℕ) (kind : Kind) (pos : BoardState) (p code : ℕ)
     → code ≡ (answer_of (asked_on pos kind p plies wide) pos).code → code ≡ codes_at plies wide kind pos p
-answer_codes plies wide kind pos p code is = is ∙ answer_code (asked_on pos kind p plies wide) pos
+answer_codes plies wide kind pos p code is = is ∙ code-answer_of (asked_on pos kind p plies wide) pos
 
 -- what is no empty point is a stone
 stone_there : (cell : Cell) → (cell ≡ Empty → ⊥) → is_stone cell ≡ true
@@ -42,7 +38,7 @@ pub read_code : (plies wide : ℕ) (kind : Kind) (pos : BoardState) (p code : �
     → code ≡ (answer_of (asked_on pos kind p plies wide) pos).code
     → code ≡ code_at (codes_at plies wide) kind pos p
 read_code plies wide kind pos p code some is =
-    is ∙ answer_code (asked_on pos kind p plies wide) pos
+    is ∙ code-answer_of (asked_on pos kind p plies wide) pos
     ∙ sym (ap (λ b. cond b (codes_at plies wide kind pos p) 0) (stone_there (cell_at pos.cells p) some))
 
 module _ (code : Codes) (board : BoardState) (c : Colour) where

@@ -14,6 +14,7 @@ use Rattle.go_rules.proofs.Paths.{path_on_board}
 use Rattle.go_rules.proofs.Plays.{at_put_other, at_after, alive_not_taken, length_after}
 use Rattle.go_rules.proofs.PlayLaws.{done_state}
 use Rattle.go_rules.proofs.Results.{put_on, play_occupied, play_ko, play_else}
+use Rattle.go_rules.proofs.PlayLaws.{play_done}
 use Rattle.trial_board.specs.declared.moves.TrialMove.{TrialMove}
 use Rattle.trial_board.specs.declared.moves.TrialMove.TheVariants.{Pass, Play}
 use Rattle.trial_board.specs.Trials.{given, after}
@@ -90,17 +91,6 @@ module _ (s : ℕ) (cells : List Cell) (c : Colour) (p : ℕ) (was_empty : cell_
       empty_both true k e = refl
       empty_both false k e = e
 
--- a legal play is one with no regard to the ban
-pub legal_free : (pos : BoardState) (c : Colour) (p : ℕ) (new : BoardState) → play pos c p ≡ Ok new
-    → play_free pos c p ≡ Ok new
-legal_free pos c p new e = elim (cases_Bool (is_stone (cell_at pos.cells p))) [
-  | inl t ↦ absurd (let w = play_occupied pos c p t ∙ e in cc)
-  | inr f ↦ elim (cases_Bool (is_banned pos.ban c p)) [
-    | inl b ↦ absurd (let w = play_ko pos c p f b ∙ e in cc)
-    | inr n ↦ play_else pos c p f n ∙ e
-  ]
-]
-
 -- the cells after trial moves are those of the whole board
 abbrev pub IsWhole : BoardState → Type 0
 IsWhole pos = length pos.cells ≡ pos.size * pos.size
@@ -120,7 +110,7 @@ whole_play : (pos : BoardState) (c : Colour) (p : ℕ) (dropped : Bool) → IsWh
     → IsWhole (given pos (cond dropped (play_free pos c p) (play pos c p)))
 whole_play pos c p true w = whole_given pos (play_free pos c p) (whole_free pos c p) w
 whole_play pos c p false w =
-    whole_given pos (play pos c p) (λ new e. whole_free pos c p new (legal_free pos c p new e)) w
+    whole_given pos (play pos c p) (λ new e. whole_free pos c p new (play_done pos c p new e)) w
 
 -- the board is whole after trial moves on a whole one
 pub whole_after : (pos : BoardState) (ms : List TrialMove) → IsWhole pos → IsWhole (after pos ms)

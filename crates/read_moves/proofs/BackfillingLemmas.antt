@@ -8,7 +8,7 @@ use Rattle.std.specs.FinSet as sets
 use Rattle.go_rules.specs.Below.{any_below}
 use Rattle.go_rules.proofs.Counts.{any_below_gives, any_below_from}
 use Rattle.go_rules.proofs.Sets.{eq_by_nat_cmp}
-use Rattle.read_moves.proofs.BesideLemmas.{same_tests}
+use Rattle.go_rules.proofs.Tests.{same_tests}
 
 -- a set with one member, from which this one was taken, is empty
 emptied : (points : sets.FinSet nat_cmp) (q : ℕ) → sets.len points ≡ 1 → sets.contains points q ≡ true

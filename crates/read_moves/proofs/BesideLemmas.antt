@@ -11,17 +11,11 @@ use Rattle.go_rules.specs.Board.{are_neighbours}
 use Rattle.go_rules.specs.Strings.{cell_at, same_cell}
 use Rattle.go_rules.proofs.Counts.{any_below_gives, any_below_from}
 use Rattle.go_rules.proofs.Sets.{contains-insert_nat}
+use Rattle.go_rules.proofs.Tests.{same_tests}
 use Rattle.go_base.specs.Sides.{neighbour_at}
 use Rattle.go_base.specs.Views.{alone, neighbours_of}
 use Rattle.go_base.proofs.SidesOfPoints.{neighbour_at-all, neighbour_at-near}
 use Rattle.read_rules.specs.Candidates.{is_empty_beside}
-
--- two tests that follow from each other are the same
-pub same_tests : (a b : Bool) → (a ≡ true → b ≡ true) → (b ≡ true → a ≡ true) → a ≡ b
-same_tests true true f g = refl
-same_tests false false f g = refl
-same_tests true false f g = sym (f refl)
-same_tests false true f g = g refl
 
 -- the point at a side of l is a neighbour of l on the board
 pub neighbours_of-side : (s l side q r : ℕ) → l < s * s → neighbour_at s l side ≡ Some q → alone q r ≡ true

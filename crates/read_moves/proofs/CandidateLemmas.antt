@@ -25,7 +25,7 @@ use Rattle.read_rules.specs.Candidates.{attacker_of, is_empty_beside, leaves_onl
 use Rattle.read_rules.specs.Candidates.{near_candidates}
 use Rattle.read_moves.specs.Stages.{is_wide_candidate}
 use Rattle.read_moves.specs.Steps.{is_left}
-use Rattle.read_moves.proofs.BesideLemmas.{same_tests}
+use Rattle.go_rules.proofs.Tests.{same_tests}
 use Rattle.read_moves.proofs.StageLemmas.{candidate_stages}
 
 -- which empty points are beside points of a set depends on the set's members alone

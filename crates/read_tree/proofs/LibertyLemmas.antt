@@ -18,7 +18,8 @@ use Rattle.go_rules.proofs.Results.{after_on}
 use Rattle.go_rules.proofs.PlayLaws.{done_state}
 use Rattle.read_rules.specs.declared.node.Node.{Node}
 use Rattle.read_tree.specs.declared.turn.Turn.{Turn}
-use Rattle.read_moves.proofs.AfterPlays.{after_liberty, legal_free}
+use Rattle.go_rules.proofs.PlayLaws.{play_done}
+use Rattle.read_moves.proofs.AfterPlays.{after_liberty}
 use Rattle.read_rules.specs.ActiveArea.{IsUndecided}
 use Rattle.read_tree.specs.Allowances.{Ko, under}
 use Rattle.read_rules.specs.GameTree.{is_captured, has_many_liberties, mover_of, allowance_of, next_node, attacker_wins}
@@ -102,7 +103,7 @@ play_size pos c p new e = ap (λ (n : BoardState). n.size) (done_state pos c p n
 -- a child comes of a play by the side whose turn it is
 pub child_free : (node : Node) (pos : BoardState) (p : ℕ) (next : Node) (new : BoardState) → IsChild node pos p next new
     → (left : ℕ) × (play_free pos (mover_of node) p ≡ Ok new) × (next ≡ next_node node left)
-child_free node pos p next new (inl w) = (allowance_of node, legal_free pos (mover_of node) p new w.legal, w.next_is)
+child_free node pos p next new (inl w) = (allowance_of node, play_done pos (mover_of node) p new w.legal, w.next_is)
 child_free node pos p next new (inr w) = (allowance_of node - 1, w.free, w.next_is)
 
 -- a target with a liberty stands

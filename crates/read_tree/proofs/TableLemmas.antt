@@ -19,7 +19,7 @@ use Rattle.trial_board.specs.Changed.{changed}
 use Rattle.read_tree.specs.Allowances.{Ko, defender_may, neither_may, attacker_may, under, has, has_some, without, both}
 use Rattle.read_tree.specs.Allowances.{either, Tells}
 use Rattle.read_rules.specs.declared.node.Node.{Node}
-use Rattle.read_tree.proofs.AllowanceLemmas.{none_of, Tells-same}
+use Rattle.read_tree.proofs.AllowanceLemmas.{none_of, Tells-same, has-without}
 use Rattle.read_tree.specs.Table.{is_won, IsTrueOf, IsTrueTable}
 
 -- nodes that compare as equal are one
@@ -60,12 +60,6 @@ has_either a b defender_may = refl
 has_either a b neither_may = refl
 has_either a b attacker_may = refl
 
--- those that are not in the other set
-has_without : (a b : Allowances) (ko : Ko) → has (without a b) ko ≡ (has a ko && not (has b ko))
-has_without a b defender_may = refl
-has_without a b neither_may = refl
-has_without a b attacker_may = refl
-
 -- what is known before and what was found of the rest is the answer wherever either speaks
 joined : (known good asked found test : Bool) → (known ≡ true → good ≡ test) → found ≡ ((asked && not known) && test)
     → (known || (asked && not known)) ≡ true → ((known && good) || found) ≡ test
@@ -77,7 +71,7 @@ joined false good false found test k f h = cc
 nothing_missing : (asked known : Allowances) → has_some (without asked known) ≡ false
     → (ko : Ko) → has asked ko ≡ true → has known ko ≡ true
 nothing_missing asked known none ko h =
-    of_two (has asked ko) (has known ko) (sym (has_without asked known ko) ∙ none_of (without asked known) ko none) h
+    of_two (has asked ko) (has known ko) (sym (has-without asked known ko) ∙ none_of (without asked known) ko none) h
   where
     of_two : (a k : Bool) → (a && not k) ≡ false → a ≡ true → k ≡ true
     of_two true true e h = refl
@@ -89,7 +83,7 @@ all_known : (asked known missing : Allowances) → missing ≡ without asked kno
     → (ko : Ko) → has asked ko ≡ true → has (either known missing) ko ≡ true
 all_known asked known missing e ko h =
     has_either known missing ko
-    ∙ ap (λ b. has known ko || b) (ap (λ s. has s ko) e ∙ has_without asked known ko)
+    ∙ ap (λ b. has known ko || b) (ap (λ s. has s ko) e ∙ has-without asked known ko)
     ∙ of_two (has asked ko) (has known ko) h
   where
     of_two : (a k : Bool) → a ≡ true → (k || (a && not k)) ≡ true
@@ -110,7 +104,7 @@ more_true : {seen more : Fact → Bool} {target : ℕ} {defender : Colour} {node
 more_true {seen} {more} {target} {defender} {node} {before} asked missing good verdict t grows e is tells = record {
   each = λ pos a ko h.
       let won = is_won target defender node pos ko in
-      let gone = ap (λ s. has s ko) e ∙ has_without asked before.known ko in
+      let gone = ap (λ s. has s ko) e ∙ has-without asked before.known ko in
       ap (λ (v : Verdict). has v.good ko) is
       ∙ has_either (both before.known before.good) good ko
       ∙ ap (λ b. b || has good ko) (has_both before.known before.good ko)

@@ -59,13 +59,7 @@ pub fn place_from(from: Point, t: Transform, dr: i8, dc: i8, size: Size) -> Opti
     ensures on_board { IfSome result (λ p. p < size * size) }
 {
     let side = size.get() as u16;
-    place_beside(
-        (from / side) as u8,
-        (from % side) as u8,
-        t,
-        (dr, dc),
-        size,
-    )
+    place_beside((from / side) as u8, (from % side) as u8, t, (dr, dc), size)
 }
 
 /// The point that the offset with an index, moved by a transformation, leads to from the anchor; None exactly off the
