@@ -20,7 +20,7 @@ use Rattle.session.specs.Serving.{PutsPart, PutsReply, Replies, RepliesPart, Run
 use Rattle.session.specs.Waiting.{WaitingState, holds_with, sent_with, progress_with, Stop, IsStop, CutsReply, MayStop}
 use Rattle.session.specs.Waiting.{MayCut, Sends}
 use Rattle.session.proofs.ServeLemmas.{RunsTo-one, RunsPart-one}
-use Rattle.session.specs.Replies.{IsReply, IsReplyTo, IsRefusal, IsSound, reply_bytes, reply_ends}
+use Rattle.session.specs.Replies.{IsReplyTo, IsRefusal, IsSound, reply_bytes, reply_ends}
 use Rattle.session.specs.declared.reply.Reply.{Reply}
 use Rattle.session.specs.declared.reply.Reply.TheVariants.{Nothing, Short, Text, NoMemory}
 
@@ -31,22 +31,6 @@ MayGive-reply old given Nothing new is = inl (is.0, is.2, is.1)
 MayGive-reply old given (Short text quit) new is = inl (is.0, is.2, is.1)
 MayGive-reply old given (Text bytes) new is = inl (is.0, is.2, is.1)
 MayGive-reply old given (NoMemory id) new is = inr (is.0, is.1, is.2, refl)
-
--- a reply to a command is one to a line
-pub IsReplyTo-command : {M : Type 0} (old : M) (given : Step M) (reply : Reply) (new : M)
-    → IsReply old given reply new → IsReplyTo old given reply new
-IsReplyTo-command old given Nothing new is = absurd is
-IsReplyTo-command old given (Short text quit) new is = is
-IsReplyTo-command old given (Text bytes) new is = is
-IsReplyTo-command old given (NoMemory id) new is = is
-
--- a command is never passed over
-pub IsReply-some : {M : Type 0} (old : M) (given : Step M) (reply : Reply) (new : M) → IsReply old given reply new
-    → reply ≡ Nothing → ⊥
-IsReply-some old given Nothing new is none = is
-IsReply-some old given (Short text quit) new is none = cc
-IsReply-some old given (Text bytes) new is none = cc
-IsReply-some old given (NoMemory id) new is none = cc
 
 -- The session answered a line with a reply of some bytes.
 module _ (matcher : Matcher) (old new : SessionState) (line : RawLine) (reply : Reply)

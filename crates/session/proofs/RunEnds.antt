@@ -2,7 +2,7 @@
 use Rattle.std.proofs.Common.{◌≡◌, ℕ, ◌+◌, ◌-◌, ◌<◌, ◌≤◌, Bool, true, false, List, [], ◌∷◌, ◌++◌, length, take, Option}
 use Rattle.std.proofs.Common.{None, refl, sym, ap, subst, ◌∙◌, append-nil, arith, inl, inr, length-append}
 use Rattle.std.specs.Io.KnownBytes.{Appends, Consumes, IsAtEnd, Keeps}
-use Rattle.std.proofs.KnownBytes.{Consumes-nil, Consumes-trans, Consumes-kept}
+use Rattle.std.proofs.KnownBytes.{Consumes-trans, Consumes-kept}
 use Rattle.std.proofs.lemmas.List.{take_at, take_all, length-take-le}
 use Rattle.gtp_rules.specs.Lines.{RawLine, Line, lines_of, lines_with_rest, rest_of, rest_line}
 use Rattle.gtp_rules.specs.Steps.{Step}
@@ -13,11 +13,11 @@ use Rattle.gtp_lex.proofs.HeldLemmas.{lines_from-append, held_from-append, lines
 use Rattle.gtp_lex.proofs.HeldLemmas.{lines_with_rest-lines_from}
 use Rattle.session.specs.SessionState.{SessionState}
 use Rattle.session.specs.Turns.{Turn}
-use Rattle.session.specs.Tallies.{Tally, Progress, Advances, IsTallied, no_tally, together}
+use Rattle.session.specs.Tallies.{Tally, Progress, Advances, IsTallied, together}
 use Rattle.session.specs.Serving.{RunsTo, RunsPart}
 use Rattle.session.specs.Ends.{most_taken, Streams, earlier}
 use Rattle.session.specs.Opened.{ServesCounting}
-use Rattle.session.proofs.TallyLemmas.{Advances-none, Advances-trans, IsTallied-nil, IsTallied-append, IsTallied-run}
+use Rattle.session.proofs.TallyLemmas.{Advances-trans, IsTallied-append, IsTallied-run}
 use Rattle.session.proofs.TallyLemmas.{BreaksOff-after, BreaksOff-more, BreaksOff-is, BreaksOff-cut}
 use Rattle.session.specs.declared.outcome.End.TheVariants.{Done, InputFault, OutputFault, InputTooLong}
 
@@ -53,21 +53,6 @@ earlier-append : (taken part : List ℕ) (piece : ℕ) → length part ≡ piece
 earlier-append taken part piece len =
     ap (λ n. take n (taken ++ part)) (let whole = length-append taken part in omega (arith, whole))
     ∙ take_at taken part (length taken) refl
-
--- before the first byte
-pub served_start : (M : Type 0) (step : M → RawLine → Step M) (goes : SessionState → Turn M → SessionState → Type 0)
-    (m : M)
-    (l : Option (List ℕ))
-    (p : Progress) → Served step goes m m l l p p (Line []) most_taken
-served_start M step goes m l p = record {
-  taken = [];
-  tally = no_tally;
-  reads = Consumes-nil l;
-  advances = Advances-none goes p;
-  run = IsTallied-nil M step m;
-  held_is = refl;
-  few = refl;
-}
 
 -- The source gave a piece, its lines were answered, and none ended the session.
 pub served_more : (M : Type 0) (step : M → RawLine → Step M) (goes : SessionState → Turn M → SessionState → Type 0)

@@ -1,11 +1,9 @@
 -- How a run of a command line came to its end, by how it read its options, opened its files and served its lines.
 use Rattle.std.proofs.Common.{◌≡◌, ◌≢◌, ℕ, ◌+◌, Bool, true, false, cond, List, ◌++◌, length, Option, Some, None, refl}
-use Rattle.std.proofs.Common.{sym, ap, subst, ◌∙◌, inr, ◌≤◌, ◌<◌, arith}
+use Rattle.std.proofs.Common.{sym, ap, subst, ◌∙◌, ◌≤◌, ◌<◌, arith}
 use Rattle.std.proofs.lemmas.List.{length-append}
 use Rattle.std.specs.Prelude.{option_map}
 use Rattle.gtp_lex.specs.Lines.{LinesState}
-use Rattle.go_options.specs.CommandLine.{is_taken, rows_in}
-use Rattle.go_options.specs.Found.{AreFound}
 use Rattle.go_options.specs.declared.options.Options.{Options}
 use Rattle.run_notes.specs.declared.notes.Counts.{Counts}
 use Rattle.run_notes.specs.declared.notes.Sent.{Sent}
@@ -24,9 +22,9 @@ use Rattle.session.specs.Matcher.{Matcher}
 use Rattle.session.specs.SessionState.{SessionState, machine_of}
 use Rattle.session.specs.Opening.{IsRefused, MissedIn}
 use Rattle.session.specs.Opened.{Opens, CameBy, ServesCounting, EndsCounting}
-use Rattle.session.specs.Outcomes.{Phase, NotTaken, NotOpened, Served}
+use Rattle.session.specs.Outcomes.{Phase, NotOpened, Served}
 use Rattle.session.specs.Ends.{Streams, IsRight, most_taken}
-use Rattle.session.specs.Headline.{Came, AreCounts, AreCountsOf, IsSent, IsCauseOf, MissedAfter, files_in}
+use Rattle.session.specs.Headline.{AreCounts, AreCountsOf, IsSent, IsCauseOf, MissedAfter}
 use Rattle.session.specs.Serving.{progress_of}
 use Rattle.session.specs.declared.outcome.End.{End}
 use Rattle.session.specs.declared.outcome.End.TheVariants.{InputTooLong}
@@ -77,26 +75,6 @@ came-served helpers contents options session matcher lines before after end coun
       told = subst (λ o. IsSent options.generate o counting.tally) (sym notes)
           (sent-told options.generate sent counting.tally counting.advances.replies counting.advances.bytes);
     })
-
--- the words gave the options of the run
-pub came-given : (helpers : List SlotState) (words : List (List ℕ)) (options : Options) (contents : List ℕ
-    → Option (List ℕ))
-    (before after : Streams) (counts : Option Counts)
-    (sent : Option Sent) (phase : Phase) → is_taken words ≡ true → AreFound (rows_in words) options
-    → CameBy helpers options contents before after counts sent phase
-    → Came helpers words contents before after counts sent phase
-came-given helpers words options contents before after counts sent NotTaken taken found came = absurd came
-came-given helpers words options contents before after counts sent (NotOpened error) taken found came =
-    (inr (options, record { taken = taken; found = found }, came.0), came.1)
-came-given helpers words options contents before after counts sent (Served end) taken found came =
-    (options, record { taken = taken; found = found }, came)
-
--- the names missed are among the file words
-pub missed-given : (words : List (List ℕ)) (options : Options) (before now : List (List ℕ)) (phase : Phase)
-    → AreFound (rows_in words) options
-    → MissedAfter options.files before now phase → MissedAfter (files_in words) before now phase
-missed-given words options before now phase found missed = subst (λ files. MissedAfter files before now phase)
-    (sym found.files) missed
 
 -- a source that never fails causes no fault
 pub uncaused : (fault : Type 0) (count : ℕ) → IsCauseOf fault 0 0 → IsCauseOf fault count count
@@ -207,8 +185,3 @@ module _ (options : Options) (error : OpenError) (phase : Phase) (is : phase ≡
   pub missed-unopened : (before now : List (List ℕ)) → MissedIn options.files before now error
       → MissedAfter options.files before now phase
   missed-unopened before now missed = subst (MissedAfter options.files before now) (sym is) missed
-
--- the lines were served, and no name was missed
-pub missed-served : (names before now : List (List ℕ)) (end : End) (phase : Phase) → phase ≡ Served end → now ≡ before
-    → MissedAfter names before now phase
-missed-served names before now end phase is same = subst (MissedAfter names before now) (sym is) same

@@ -42,6 +42,14 @@ impl Brief {
         Brief { text }
     }
 
+    /// This text, which is handed over as it stands.
+    pub(crate) fn of(text: Short) -> Brief
+        requires { length text ≤ result_room }
+        ensures { result ≡ text }
+    {
+        Brief { text }
+    }
+
     /// A number in decimal.
     pub(crate) fn number(n: u32) -> Brief
         ensures { result ≡ decimal n }
@@ -80,6 +88,14 @@ pub(crate) fn told(text: &[u8]) -> Answer
     ensures { result ≡ Answer.Told text.now }
 {
     Answer::Told(Brief::new(text))
+}
+
+/// A success with this text as its result.
+pub(crate) fn told_text(text: Short) -> Answer
+    requires { length text ≤ result_room }
+    ensures { result ≡ Answer.Told text }
+{
+    Answer::Told(Brief::of(text))
 }
 
 /// A success with this number as its result.

@@ -7,7 +7,7 @@ ghost use Rattle.session.specs.Answers.{IsAnswer};
 ghost use Rattle.session.specs.Counting.{counted, has_stone};
 ghost use Rattle.session.specs.Asking.{ReadsAs, CountsRefused, asks_at, after_trials};
 
-use crate::answer::{Answer, told};
+use crate::answer::{Answer, told, told_text};
 use crate::engine::Engine;
 use crate::engine::board_commands::has_stone;
 use crate::readings::answer_text;
@@ -53,7 +53,7 @@ impl Engine {
         let answer = self.readings.read(kind, &position, p);
         let tried = self.readings.last();
         self.count_reading(tried);
-        told(answer_text(position.size(), answer).as_slice())
+        told_text(answer_text(position.size(), answer))
     }
 
     pub(crate) fn deepen(&mut self, plies: u8, wide: u8) -> Answer
