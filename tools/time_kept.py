@@ -3,9 +3,9 @@
 usage: python3 tools/time_kept.py GOPAT GNUGO REGRESSION [QUESTIONS [REPEATS [ROUNDS]]]
 
 REGRESSION is the folder with *.tst in GNU Go's source: its attack and defend questions are asked in the positions of its game
-records, as tools/compare_readings.py finds them, QUESTIONS of them (60). Each is asked for the first time; REPEATS times again
-(5000); and after each of a row of moves that are far from its string, as many as find room there. The row is played in ROUNDS
-orders (50), each by chance, and taken back behind each, so that neither program meets a whole position again. The time of a
+records, as tools/compare_readings.py finds them, QUESTIONS of them (all). Each is asked for the first time; REPEATS times again
+(1000); and after each of a row of moves that are far from its string, as many as find room there. The row is played in ROUNDS
+orders (10), each by chance, and taken back behind each, so that neither program meets a whole position again. The time of a
 session that makes the same moves and does not ask is taken off; all times are the processor's, and the shortest of three
 counts. Since that difference is small beside GNU Go's sessions, all stones of the same positions are also asked about, once
 and behind each of 30 moves that are far from them. Then questions about every stone of random boards, at several depths,
@@ -133,7 +133,7 @@ def filling(luck: random.Random) -> Iterator[str]:
                 asked += 2 * len(stones)
 
 
-def main(gopat: str, gnugo: str, regression: str, wanted: str = "60", repeats: str = "5000", rounds: str = "50"):
+def main(gopat: str, gnugo: str, regression: str, wanted: str = "1000", repeats: str = "1000", rounds: str = "10"):
     questions = [asked for asked in compare_readings.asked_of_gnugo(gnugo, pathlib.Path(regression)) if asked.theirs.ok]
     random.Random(1).shuffle(questions)
     questions = questions[: int(wanted)]
