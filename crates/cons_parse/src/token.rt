@@ -1,6 +1,6 @@
 //! The tokens of an expression.
 
-ghost use Rattle.std.specs.Prelude.{◌≡◌, ◌≤◌, ◌<◌, ◌^◌, ◌+◌, ◌∷◌, ◌==◌, ◌&&◌, ◌||◌, nat_le, nat_lt, ℕ, length, IfSome};
+ghost use Rattle.std.specs.Prelude.{◌≡◌, ◌≤◌, ◌<◌, ◌+◌, ◌==◌, ◌&&◌, ◌||◌, nat_lt, ℕ, length, IfSome};
 ghost use Rattle.std.specs.Prelude.{true, slice_index};
 ghost use Rattle.std.specs.List.{prefix_len};
 ghost use Rattle.cons_parse.specs.Tokens.{is_letter as letter, is_digit as digit, is_name_byte as name_byte};

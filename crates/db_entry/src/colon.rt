@@ -1,11 +1,9 @@
 //! The colon line: its faults, and what it says.
 
-ghost use Rattle.std.specs.Prelude.{◌≡◌, ◌≤◌, ◌<◌, ◌==◌, ◌&&◌, ◌||◌, not, nat_lt, nat_le, is_none, ℕ, List, [], ◌∷◌};
-ghost use Rattle.std.specs.Prelude.{◌++◌, length, map, count_by, codes, Some, None, IfOk, IfErr, take};
+ghost use Rattle.std.specs.Prelude.{◌≡◌, ◌<◌, ◌==◌, ◌&&◌, ◌||◌, not, nat_lt, is_none, ℕ, List, []};
+ghost use Rattle.std.specs.Prelude.{length, map, Some, None, IfOk, IfErr, take};
 ghost use Rattle.std.specs.List.{list_any, list_all};
 ghost use Rattle.std.specs.Str.{bytes_eq};
-ghost use Rattle.db_lex.specs.Lines.{trimmed};
-ghost use Rattle.pat_types.specs.Diagrams.{is_star};
 ghost use Rattle.db_rules.specs.Diagram.{star_count as stars};
 ghost use Rattle.db_rules.specs.declared.kind.FaultKind.{FaultKind};
 ghost use Rattle.db_rules.specs.Kinds.{first_of};

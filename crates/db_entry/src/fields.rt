@@ -1,10 +1,9 @@
 //! The fields of a colon line.
 
-ghost use Rattle.std.specs.Prelude.{◌≡◌, ◌≤◌, ◌<◌, ◌^◌, ◌+◌, ◌-◌, ◌==◌, ◌&&◌, ◌||◌, not, nat_lt, nat_le, ℕ, List, []};
-ghost use Rattle.std.specs.Prelude.{◌∷◌, length, take, drop, map, IfOk, if◌then◌else◌};
+ghost use Rattle.std.specs.Prelude.{◌≡◌, ◌≤◌, ◌<◌, ◌^◌, ◌+◌, ◌-◌, ◌==◌, ◌&&◌, ◌||◌, nat_lt, []};
+ghost use Rattle.std.specs.Prelude.{◌∷◌, length, take, drop, if◌then◌else◌};
 ghost use Rattle.std.specs.List.{list_all, position_or_len};
-ghost use Rattle.db_lex.specs.Lines.{trimmed};
-ghost use Rattle.db_rules.specs.Colon.{split_at_commas, depth_after as next_depth, fields_of as all_fields};
+ghost use Rattle.db_rules.specs.Colon.{split_at_commas, depth_after as next_depth};
 ghost use Rattle.db_rules.specs.Colon.{is_digit as digit, is_name_byte as name_byte, is_name as name};
 ghost use Rattle.db_rules.specs.Colon.{is_text_byte as text_byte, is_closed_text as closed_text, is_item as item};
 ghost use Rattle.db_rules.specs.Colon.{name_part, after_open, comma, mark_by_byte, are_classes as classes};

@@ -1,7 +1,7 @@
 //! The entry that is being read.
 
 ghost use Rattle.go_rules.specs.Board.{largest_size};
-ghost use Rattle.std.specs.Prelude.{◌≡◌, ◌≤◌, ◌<◌, ℕ, [], length, get_or, map, vec_len};
+ghost use Rattle.std.specs.Prelude.{◌≤◌, ◌<◌, ℕ, [], length, get_or, map, vec_len};
 
 mod lines;
 

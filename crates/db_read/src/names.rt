@@ -1,6 +1,6 @@
 //! The Pattern line and its name.
 
-ghost use Rattle.std.specs.Prelude.{IfNone, ◌≡◌, ◌<◌, ◌≤◌, ◌==◌, ◌||◌, not, nat_lt, ℕ, length};
+ghost use Rattle.std.specs.Prelude.{IfNone, ◌≡◌, ◌<◌, ◌≤◌, ◌==◌, ◌||◌, not, nat_lt, length};
 ghost use Rattle.std.specs.List.{list_all};
 ghost use Rattle.db_rules.specs.Entries.{name_on};
 ghost use Rattle.db_rules.specs.Faults.{is_name_char as may_be_in_name, pattern_fault as first_pattern_fault};

@@ -1,7 +1,7 @@
 //! Reading a text, line by line.
 
-ghost use Rattle.std.specs.Prelude.{◌≡◌, ◌↔◌, ◌++◌, Option, IsTrue, ◌≤◌, ◌<◌, ◌^◌, ℕ, Bool, true, false, List, [], ◌∷◌};
-ghost use Rattle.std.specs.Prelude.{length, map, OnOk, IfOk, IfErr, Some, None, fold, slice_index};
+ghost use Rattle.std.specs.Prelude.{◌≡◌, ◌↔◌, ◌++◌, Option, IsTrue, ◌<◌, ℕ, true, false, List, []};
+ghost use Rattle.std.specs.Prelude.{length, map, OnOk, IfOk, IfErr, Some, None, slice_index};
 ghost use Rattle.db_lex.specs.declared.line.LineKind.{LineKind};
 ghost use Rattle.db_lex.specs.Lines.{KeptLine, kind_of, word_of};
 ghost use Rattle.db_rules.specs.declared.stage.TableCell.{TableCell};

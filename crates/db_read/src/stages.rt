@@ -1,6 +1,6 @@
 //! The table of stages, and what leaving a stage closes.
 
-ghost use Rattle.std.specs.Prelude.{[], ◌∷◌, ◌≡◌, ◌<◌, ◌^◌, ◌+◌, ◌==◌, ◌&&◌, nat_lt, ℕ, Some, None};
+ghost use Rattle.std.specs.Prelude.{[], ◌∷◌, ◌≡◌, ◌<◌, ◌&&◌, nat_lt, Some, None};
 ghost use Rattle.std.specs.List.{position_or_len};
 ghost use Rattle.pat_types.specs.Diagrams.{is_star};
 ghost use Rattle.db_rules.specs.Blocks.{Block, table as next_by_table, end_refused};

@@ -1,6 +1,6 @@
 //! The enemy strings next to a string, on a board whose cells are told one by one.
 
-ghost use Rattle.std.specs.Prelude.{◌≡◌, ℕ, ◌*◌, ◌<◌};
+ghost use Rattle.std.specs.Prelude.{◌≡◌, ◌*◌, ◌<◌};
 ghost use Rattle.go_rules.specs.Board.{largest_points};
 ghost use Rattle.go_rules.specs.Boundary.{boundary_points, AddsLeast, KnowsLeast};
 ghost use Rattle.go_rules.specs.Neighbourhood.{neighbourhood_of};

@@ -7,7 +7,7 @@ ghost use Rattle.go_rules.specs.Below.{set_below};
 ghost use Rattle.go_rules.specs.Board.{largest_points};
 ghost use Rattle.go_rules.specs.declared.Cell.{Cell};
 ghost use Rattle.go_rules.specs.declared.Colour.{Colour};
-ghost use Rattle.go_rules.specs.Position.{BoardState, is_banned};
+ghost use Rattle.go_rules.specs.Position.{is_banned};
 ghost use Rattle.go_base.specs.Bits.{is_marked};
 ghost use Rattle.go_base.specs.Facts.{Agrees};
 ghost use Rattle.go_base.specs.AmongFacts.{told, seen_as, asked_of, SeesCell, AsksBan, AllShow, BanStays, is_fact_at};

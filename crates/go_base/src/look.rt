@@ -1,8 +1,7 @@
 //! Views of a position that record what was asked: a reading of the board rests on these facts alone.
 
-ghost use Rattle.std.specs.Prelude.{◌≡◌, ℕ, ◌*◌, ◌<◌, Bool, IsTrue, false};
-ghost use Rattle.go_rules.specs.Strings.{cell_at};
-ghost use Rattle.go_rules.specs.Position.{BoardState, is_banned};
+ghost use Rattle.std.specs.Prelude.{◌≡◌, ◌*◌, ◌<◌, Bool, IsTrue};
+ghost use Rattle.go_rules.specs.Position.{BoardState};
 ghost use Rattle.go_base.specs.Views.{alone};
 ghost use Rattle.go_base.specs.Facts.{Agrees, Grows, AddsIn, Agrees-prop, ban_set};
 ghost use Rattle.go_base.specs.AmongFacts.{told};

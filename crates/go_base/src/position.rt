@@ -1,6 +1,6 @@
 //! Positions of the game, and the plays and passes that lead from one to the next.
 
-ghost use Rattle.std.specs.Prelude.{◌≡◌, ℕ, ◌*◌, ◌<◌, replicate, None, IfOk};
+ghost use Rattle.std.specs.Prelude.{◌≡◌, ◌*◌, ◌<◌, replicate, None, IfOk};
 ghost use Rattle.go_rules.specs.Board.{largest_points};
 ghost use Rattle.go_rules.specs.Position.{BoardState, IsPosition, is_banned};
 ghost use Rattle.go_rules.specs.Play.{pass as passed, play as played, play_free as played_free};

@@ -1,6 +1,6 @@
 //! The four sides of a point.
 
-ghost use Rattle.std.specs.Prelude.{◌≡◌, ℕ, ◌*◌, ◌<◌, IfSome, IsTrue};
+ghost use Rattle.std.specs.Prelude.{◌≡◌, ◌*◌, ◌<◌, IfSome, IsTrue};
 ghost use Rattle.go_rules.specs.Board.{largest_points, are_neighbours};
 ghost use Rattle.go_base.specs.Sides.{neighbour_at};
 

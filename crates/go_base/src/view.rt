@@ -1,10 +1,10 @@
 //! Boards whose cells are told one by one, so that one flood serves a position and a board of trial moves.
 
-ghost use Rattle.std.specs.Prelude.{◌≡◌, ℕ, ◌*◌, ◌<◌, ◌≤◌, List, Bool, IsTrue, length, slice_set, take, drop, refl};
+ghost use Rattle.std.specs.Prelude.{◌≡◌, ℕ, ◌*◌, ◌<◌, ◌≤◌, List, Bool, IsTrue, length, slice_set, take};
 ghost use Rattle.go_rules.specs.declared.Cell.{Cell};
 ghost use Rattle.go_rules.specs.Strings.{cell_at};
 ghost use Rattle.go_rules.specs.Position.{BoardState};
-ghost use Rattle.go_base.specs.Views.{Looks, anywhere, nowhere, alone};
+ghost use Rattle.go_base.specs.Views.{Looks, nowhere, alone};
 
 use crate::size::{MAX_POINTS, Point, Size};
 use go_rules::Cell;

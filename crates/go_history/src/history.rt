@@ -5,7 +5,6 @@ ghost use Rattle.std.specs.Prelude.{IfOk, IfSome, OnOk, OnErr};
 ghost use Rattle.go_rules.specs.declared.Illegal.{Illegal};
 ghost use Rattle.go_rules.specs.Replay.{empty_board, moved, captures, IsLegalGame};
 ghost use Rattle.go_strings.specs.Games.{reached};
-ghost use Rattle.go_strings.specs.Refused.{refusal_of};
 ghost use Rattle.go_history.specs.Games.{most_moves, new_game, position_of};
 
 use crate::captures::Captures;

@@ -1,9 +1,9 @@
 //! The command line as a command of `clap`.
-ghost use Rattle.std.specs.Prelude.{◌≡◌, codes, false, IfOk};
+ghost use Rattle.std.specs.Prelude.{◌≡◌, false, IfOk};
 ghost use Rattle.clap.specs.Simple.{app_of};
 ghost use Rattle.clap.specs.Walk.{rule_of};
 ghost use Rattle.go_options.specs.CommandLine.{bare_command, command_line, default_rule, flag_rule, option_rule};
-ghost use Rattle.go_options.specs.CommandLine.{whole_from, words_rule};
+ghost use Rattle.go_options.specs.CommandLine.{words_rule};
 
 use clap::builder::ValueParser;
 use clap::{Arg, ArgAction, Command, value_parser};

@@ -1,7 +1,7 @@
 //! Notes of what points had before they were changed. Taking the notes back, the last one first, gives what stood
 //! before them.
 
-ghost use Rattle.std.specs.Prelude.{◌≡◌, ℕ, ◌*◌, ◌<◌, ◌++◌, ◌∷◌, [], slice_set, slice_index_or, slice_index, length};
+ghost use Rattle.std.specs.Prelude.{◌≡◌, ◌*◌, ◌<◌, ◌++◌, ◌∷◌, [], slice_set, slice_index_or};
 ghost use Rattle.std.specs.Prelude.{take, drop, OnOk, OnErr};
 ghost use Rattle.go_rules.specs.declared.Cell.{Cell};
 ghost use Rattle.go_rules.specs.Board.{largest_points};

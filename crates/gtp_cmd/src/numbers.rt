@@ -2,7 +2,7 @@
 
 ghost use Rattle.std.specs.Prelude.{◌≡◌, ◌+◌, ◌-◌, ◌*◌, ◌≤◌, true, min, unwrap_or, IfSome};
 ghost use Rattle.std.specs.Char.{is_ascii_digit};
-ghost use Rattle.gtp_cmd.specs.Words.{kept, number_of, id_of, most_id};
+ghost use Rattle.gtp_cmd.specs.Words.{kept, number_of, id_of};
 ghost use Rattle.gtp_cmd.specs.RawWords.{large, capped};
 
 use crate::bytes::is_kept;

@@ -1,7 +1,7 @@
 //! The bytes of replies.
 
-ghost use Rattle.std.specs.Prelude.{◌≡◌, ◌+◌, ◌≤◌, [], ◌++◌, codes, length, IfOk};
-ghost use Rattle.gtp_cmd.specs.Replies.{id_text, after_blank, success_text, refusal_text, text_of};
+ghost use Rattle.std.specs.Prelude.{◌≡◌, ◌+◌, ◌≤◌, [], ◌++◌, length, IfOk};
+ghost use Rattle.gtp_cmd.specs.Replies.{id_text, success_text, refusal_text, text_of};
 ghost use Rattle.gtp_cmd.specs.Rooms.{result_room};
 
 use crate::refusals::RefuseText;

@@ -1,5 +1,5 @@
 //! Loaders over contents in memory.
-ghost use Rattle.std.specs.Prelude.{◌≡◌, ◌≢◌, ◌⊎◌, ◌++◌, ◌<◌, List, ℕ, [], None, Some, Err, map, length, Contains};
+ghost use Rattle.std.specs.Prelude.{◌≡◌, ◌≢◌, ◌⊎◌, ◌++◌, ◌<◌, [], None, Some, Err, map, length, Contains};
 ghost use Rattle.std.specs.Prelude.{IfOk, OnOk, IsErrOf, IfSome, IsSome, IsSomeAnd, MatchBool, slice_get};
 ghost use Rattle.std.specs.Prelude.{option_and_then, string_bytes, vec_len, unwrap_or};
 ghost use Rattle.gtp_io.specs.Loading.{IsLoaded, missed_after, named};

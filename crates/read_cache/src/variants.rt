@@ -1,9 +1,6 @@
 //! The variants of one question.
 
-ghost use Rattle.std.specs.Prelude.{◌≡◌, ◌<◌, ◌≤◌, ◌+◌, [], ◌∷◌, ◌++◌, length, take, drop, Contains, IfSome, IfNone};
-ghost use Rattle.go_rules.specs.Position.{BoardState};
-ghost use Rattle.go_base.specs.Facts.{Agrees};
-ghost use Rattle.go_base.specs.AmongFacts.{told};
+ghost use Rattle.std.specs.Prelude.{◌≡◌, ◌<◌, ◌≤◌, ◌+◌, [], ◌∷◌, ◌++◌, length, take, drop, IfSome, IfNone};
 ghost use Rattle.read_cache.specs.Variants.{IsFirstStanding, NoneStands, most_variants};
 ghost use Rattle.read_cache.specs.declared.variants.Variant.{Variant as VariantSeen};
 ghost use Rattle.smallvec.specs.SmallVec.{small_vec_len};

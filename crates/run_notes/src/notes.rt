@@ -1,5 +1,5 @@
 //! The notes of a run.
-ghost use Rattle.std.specs.Prelude.{◌≡◌, ◌++◌, List, ℕ, Some, OnOk, OnErr};
+ghost use Rattle.std.specs.Prelude.{Some, OnOk, OnErr};
 ghost use Rattle.std.specs.List.{concat};
 ghost use Rattle.std.specs.Io.KnownBytes.{Appends};
 ghost use Rattle.gtp_io.specs.Outside.{IsCounted};

@@ -1,6 +1,6 @@
 //! Where offsets lead from a point of a board.
 ghost use Rattle.std.specs.Prelude.{◌≡◌, ℕ, ◌*◌, ◌/◌, ◌%◌, ◌<◌, pos, ◌+ℤ◌, IfSome};
-ghost use Rattle.go_rules.specs.Transform.{Offset, IsNear};
+ghost use Rattle.go_rules.specs.Transform.{IsNear};
 ghost use Rattle.spiral.specs.Spiral.{offset_count, offset_at, strip_of, point_of, place_at};
 
 use crate::numbering::offset;

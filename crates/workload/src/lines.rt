@@ -2,7 +2,7 @@
 ghost use Rattle.std.specs.Prelude.{◌≡◌, ◌+◌, ◌*◌, ◌<◌, ◌≤◌, ◌^◌, ◌++◌, codes, length};
 ghost use Rattle.gtp_cmd.specs.Vertices.{vertex_text};
 ghost use Rattle.workload.specs.GeneratedLines.{colour_of_line, ended, line_with, next_number, opening_lines};
-ghost use Rattle.workload.specs.GeneratedLines.{point_of_number, rows, text_of};
+ghost use Rattle.workload.specs.GeneratedLines.{rows, text_of};
 
 use go_base::Size;
 use gtp_cmd::{Short, vertex_text};

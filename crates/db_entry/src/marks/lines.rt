@@ -1,9 +1,8 @@
 //! What a further line does to a constraint diagram.
 
 ghost use Rattle.go_rules.specs.Board.{largest_size};
-ghost use Rattle.std.specs.Prelude.{◌≡◌, ◌≤◌, ◌<◌, get_or, ◌==◌, ◌&&◌, ◌||◌, ◌+◌, not, ℕ, List, [], ◌∷◌, ◌++◌, length};
-ghost use Rattle.std.specs.Prelude.{map, drop, OnOk, IfErr, None};
-ghost use Rattle.std.specs.List.{list_any};
+ghost use Rattle.std.specs.Prelude.{◌≡◌, ◌≤◌, ◌<◌, get_or, ◌==◌, ◌&&◌, ◌||◌, ◌+◌, ℕ, List, [], ◌∷◌, ◌++◌, length};
+ghost use Rattle.std.specs.Prelude.{map, OnOk, IfErr, None};
 ghost use Rattle.pat_types.specs.Labels.{names as some_has, are_apart as apart};
 ghost use Rattle.pat_types.specs.Diagrams.{drawn_strip};
 ghost use Rattle.db_rules.specs.Diagram.{is_letter};

@@ -1,6 +1,6 @@
 //! Reading an entry, line by line.
 
-ghost use Rattle.std.specs.Prelude.{◌==◌, if◌then◌else◌, ◌≡◌, ◌≤◌, ◌<◌, ◌^◌, ◌++◌, ◌∷◌, [], ℕ, List, length, map, IfOk};
+ghost use Rattle.std.specs.Prelude.{◌≡◌, ◌<◌, ◌++◌, ◌∷◌, [], List, length, IfOk};
 ghost use Rattle.std.specs.Prelude.{IfErr, OnOk, None};
 ghost use Rattle.db_lex.specs.Lines.{KeptLine, word_of};
 ghost use Rattle.db_rules.specs.Blocks.{Block, begun_with, words_in};
