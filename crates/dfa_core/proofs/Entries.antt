@@ -42,7 +42,7 @@ letter_below Empty = omega arith
 letter_below Off = omega arith
 
 -- each number below four is that of a letter
-letter_with : (k : ℕ) → k < 4 → (x : Seen) × (letter_number x ≡ k)
+pub letter_with : (k : ℕ) → k < 4 → (x : Seen) × (letter_number x ≡ k)
 letter_with zero low = (Friend, refl)
 letter_with (suc zero) low = (Enemy, refl)
 letter_with (suc (suc zero)) low = (Empty, refl)

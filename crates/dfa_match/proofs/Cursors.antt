@@ -13,7 +13,7 @@ module _ (s m : ℕ) (at : Cursor) (is : at ≡ cursor_at s m) where
   column_is = ap (λ (c : Cursor). c.column) is
 
   -- where its square begins
-  corner_is : at.corner ≡ corner_at s m
+  pub corner_is : at.corner ≡ corner_at s m
   corner_is = ap (λ (c : Cursor). c.corner) is
 
   -- the next point of a row stands one column further

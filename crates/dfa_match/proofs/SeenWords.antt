@@ -1,5 +1,5 @@
 -- What is seen along the spiral, letter by letter.
-use Rattle.std.proofs.Common.{◌≡◌, ℕ, zero, suc, ◌+◌, [], ◌∷◌, ◌++◌, length, refl, sym, ap, ◌∙◌, arith}
+use Rattle.std.proofs.Common.{◌≡◌, ℕ, zero, suc, ◌+◌, ◌<◌, ◌≤◌, [], ◌∷◌, ◌++◌, length, refl, sym, ap, ◌∙◌, arith}
 use Rattle.dfa_core.specs.declared.automaton.Seen.{Seen}
 use Rattle.dfa_match.specs.Sights.{word_from}
 
@@ -32,3 +32,12 @@ module _ (seen : ℕ → Seen) where
       ap (word_from seen i) sums ∙ word_from-suc i (n + k) ∙ ap (λ w. seen i ∷ w) (word_split (suc i) n k)
       ∙ ap (λ j. seen i ∷ (word_from seen (suc i) n ++ word_from seen j k)) place
       ∙ ap (λ w. w ++ word_from seen (i + suc n) k) (sym (word_from-suc i n))
+
+-- where the same is seen at each index, the words are the same
+pub word_from-same : (f g : ℕ → Seen) (i n : ℕ) → ((k : ℕ) → i ≤ k → k < i + n → f k ≡ g k)
+    → word_from f i n ≡ word_from g i n
+word_from-same f g i zero same = word_from-zero f i ∙ sym (word_from-zero g i)
+word_from-same f g i (suc n) same = word_from-suc f i n
+    ∙ ap (λ x. x ∷ word_from f (suc i) n) (same i (omega arith) (omega arith))
+    ∙ ap (λ w. g i ∷ w) (word_from-same f g (suc i) n (λ k low high. same k (omega arith) (omega arith)))
+    ∙ sym (word_from-suc g i n)

@@ -26,14 +26,19 @@ pub record AreHits (automaton : List Row) (pos : BoardState) (friend : Colour) (
   pub complete : (hit : Hit) → IsHit automaton pos friend hit → Contains hits hit
   pub once : AreDistinct hits
 
--- a hit under a transformation before t, or one under t whose word has fewer than i letters
-pub record IsHitBefore (automaton : List Row) (pos : BoardState) (friend : Colour) (t i : ℕ) (hit : Hit) : Type 0 where
+-- a hit under a transformation before t, or one under t whose word has fewer letters than this says of its anchor
+pub record IsHitBefore (automaton : List Row) (pos : BoardState) (friend : Colour) (t : ℕ) (below : ℕ → ℕ)
+    (hit : Hit) : Type 0 where
   pub is : IsHit automaton pos friend hit
-  pub before : (hit.transform < t) ⊎ ((hit.transform ≡ t) × (is.letters < i))
+  pub before : (hit.transform < t) ⊎ ((hit.transform ≡ t) × (is.letters < below hit.anchor))
 
 -- the list has exactly these hits, each once
-pub record AreHitsBefore (automaton : List Row) (pos : BoardState) (friend : Colour) (t i : ℕ)
+pub record AreHitsBefore (automaton : List Row) (pos : BoardState) (friend : Colour) (t : ℕ) (below : ℕ → ℕ)
     (hits : List Hit) : Type 0 where
-  pub sound : (hit : Hit) → Contains hits hit → IsHitBefore automaton pos friend t i hit
-  pub complete : (hit : Hit) → IsHitBefore automaton pos friend t i hit → Contains hits hit
+  pub sound : (hit : Hit) → Contains hits hit → IsHitBefore automaton pos friend t below hit
+  pub complete : (hit : Hit) → IsHitBefore automaton pos friend t below hit → Contains hits hit
   pub once : AreDistinct hits
+
+-- no word has fewer letters than none
+abbrev pub nothing_read : ℕ → ℕ
+nothing_read m = 0

@@ -1,7 +1,9 @@
 -- Where the places around an anchor stand on the padded board.
-use Rattle.std.specs.Prelude.{ℕ, suc, ◌+◌, ◌-◌, ◌*◌, ◌/◌, ◌%◌, ℤ, pos, negsuc}
+use Rattle.std.specs.Prelude.{◌≡◌, ℕ, suc, ◌+◌, ◌-◌, ◌*◌, ◌/◌, ◌%◌, ◌<◌, ◌≤◌, ℤ, pos, negsuc, List, length}
+use Rattle.std.specs.Prelude.{slice_index_or}
 use Rattle.go_rules.specs.Board.{largest_size}
-use Rattle.go_rules.specs.Transform.{Offset, largest_offset}
+use Rattle.go_rules.specs.Transform.{Offset, largest_offset, transformations, transformed}
+use Rattle.spiral.specs.Spiral.{offset_count, offset_at}
 use Rattle.dfa_match.specs.Sights.{padded_side}
 use Rattle.dfa_match.specs.declared.cursor.Cursor.{Cursor}
 
@@ -33,3 +35,31 @@ last_step = 2 * largest_offset * padded_side + 2 * largest_offset
 -- how far behind the beginning of a square its own point lies
 abbrev pub no_step : ℕ
 no_step = step_by (pos 0, pos 0)
+
+-- how many steps a transformation has: one for each offset, and as many more as a walk may come past the last one
+-- before it is dropped
+abbrev pub step_count : ℕ
+step_count = offset_count + 1024
+
+-- the list has, by the indices of the spiral, how far behind the beginning of a square the places of the offsets lie
+-- when they are moved by t; past the last offset it leads to some place of the square
+pub record AreSteps (t : ℕ) (steps : List ℕ) : Type 0 where
+  pub all : length steps ≡ step_count
+  pub each : (i : ℕ) → i < offset_count → slice_index_or steps i 0 ≡ step_by (transformed t (offset_at i))
+  pub past : (i : ℕ) → i < step_count → slice_index_or steps i 0 ≤ last_step
+
+-- the list has these for each transformation, one after the other
+pub record AreAllSteps (steps : List ℕ) : Type 0 where
+  pub all : length steps ≡ transformations * step_count
+  pub each : (t i : ℕ) → t < transformations → i < offset_count
+      → slice_index_or steps (t * step_count + i) 0 ≡ step_by (transformed t (offset_at i))
+  pub past : (k : ℕ) → k < transformations * step_count → slice_index_or steps k 0 ≤ last_step
+
+-- behind the old list stand n steps: those of the offsets, moved by t, and past the last offset such as lead to some
+-- place of the square
+pub record AreStepsBehind (t n : ℕ) (old steps : List ℕ) : Type 0 where
+  pub all : length steps ≡ length old + n
+  pub before : (k : ℕ) → k < length old → slice_index_or steps k 0 ≡ slice_index_or old k 0
+  pub each : (i : ℕ) → i < n → i < offset_count
+      → slice_index_or steps (length old + i) 0 ≡ step_by (transformed t (offset_at i))
+  pub past : (i : ℕ) → i < n → slice_index_or steps (length old + i) 0 ≤ last_step

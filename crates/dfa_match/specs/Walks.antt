@@ -1,70 +1,115 @@
--- Walks of an automaton from all anchors at once, letter by letter.
-use Rattle.std.specs.Prelude.{◌≡◌, ◌⊎◌, ℕ, ◌+◌, ◌*◌, ◌<◌, ◌≤◌, Bool, true, false, List, map, filter}
-use Rattle.std.specs.Prelude.{slice_index_or, Contains, AllPairs}
+-- Walks of an automaton from all anchors, each with the letters that it has read.
+use Rattle.std.specs.Prelude.{◌≡◌, ℕ, ◌+◌, ◌*◌, ◌<◌, ◌≤◌, Bool, ◌&&◌, ◌==◌, not, nat_lt, nat_le, List, [], map}
+use Rattle.std.specs.Prelude.{filter, length, slice_index_or, Contains, AllPairs, if◌then◌else◌}
 use Rattle.std.specs.List.{flat_map, range_with_len}
 use Rattle.go_rules.specs.declared.Colour.{Colour}
 use Rattle.go_rules.specs.Position.{BoardState}
+use Rattle.spiral.specs.Spiral.{offset_count}
 use Rattle.dfa_core.specs.declared.automaton.Seen.{Seen}
 use Rattle.dfa_core.specs.declared.automaton.Seen.TheVariants.{Off}
-use Rattle.dfa_core.specs.declared.kind.RowKind.{RowKind}
-use Rattle.dfa_core.specs.declared.kind.RowKind.TheVariants.{Plain, Accepting, Dead}
-use Rattle.dfa_core.specs.Automata.{Row, row_at, step_at, reach, IsDead}
+use Rattle.dfa_core.specs.Automata.{Row, row_at, step_at, reach}
+use Rattle.dfa_core.specs.Entries.{entry_with, row_of}
 use Rattle.dfa_core.specs.RowKinds.{kind_at}
+use Rattle.dfa_core.specs.Words.{Word, letter_number}
+use Rattle.dfa_shortcuts.specs.Shortcuts.{is_dead_entry}
+use Rattle.dfa_shortcuts.specs.Openings.{opening_letters, unknown, word_number}
 use Rattle.dfa_match.specs.declared.Hit.{Hit}
 use Rattle.dfa_match.specs.declared.walks.Walk.{Walk}
 use Rattle.dfa_match.specs.Hits.{hits_at}
-use Rattle.dfa_match.specs.Sights.{word_at}
+use Rattle.dfa_match.specs.Sights.{word_at, word_from}
 use Rattle.dfa_match.specs.Steps.{corner_at, last_corner, no_step}
 
--- the walk from the point m of a board of size s that stands at row r
-abbrev pub walk_at : ℕ → ℕ → ℕ → Walk
-walk_at s r m = record { row = r; corner = corner_at s m; anchor = m }
+-- the entry of a row, by its kind
+abbrev pub entry_at_row : List Row → ℕ → ℕ
+entry_at_row automaton r = entry_with (kind_at automaton r) r
 
 -- the walks from all points of a board of size s, before the first letter
-abbrev pub first_walks_of : ℕ → List Walk
-first_walks_of s = map (walk_at s 0) (range_with_len 0 (s * s))
+abbrev pub first_walks_of : List Row → ℕ → List Walk
+first_walks_of automaton s = map (λ m. record {
+  entry = entry_at_row automaton 0;
+  letters = 0;
+  corner = corner_at s m;
+  anchor = m;
+}) (range_with_len 0 (s * s))
 
--- the walk after one letter more, which it reads at this step behind its corner
-abbrev pub after_letter : List Row → List Seen → ℕ → Walk → Walk
-after_letter automaton letters step w =
-    record {
-      row = step_at automaton w.row (slice_index_or letters (w.corner + step) Off);
+-- the walk behind the letter of its anchor
+abbrev pub after_anchor : List Row → List Seen → Walk → Walk
+after_anchor automaton letters w = record {
+  entry =
+      entry_at_row automaton (step_at automaton (row_of w.entry) (slice_index_or letters (w.corner + no_step) Off));
+  letters = 1;
+  corner = w.corner;
+  anchor = w.anchor;
+}
+
+-- whether a walk goes on: its row is not dead, and there are letters left
+abbrev pub goes_on : Walk → Bool
+goes_on w = not (is_dead_entry w.entry) && nat_lt w.letters offset_count
+
+-- the walks from all points of a board of size s behind the letters of the points, but for those that do not go on
+abbrev pub second_walks_of : List Row → List Seen → ℕ → List Walk
+second_walks_of automaton letters s = filter goes_on (map (after_anchor automaton letters) (first_walks_of automaton s))
+
+-- the first n letters that are read from this corner by these steps
+abbrev pub word_behind : List Seen → List ℕ → ℕ → ℕ → Word
+word_behind letters steps corner n =
+    word_from (λ i. slice_index_or letters (corner + slice_index_or steps i 0) Off) 0 n
+
+-- what is known of the row behind the opening of a walk
+abbrev pub opening_of : List ℕ → List ℕ → List Seen → Walk → ℕ
+opening_of openings steps letters w =
+    slice_index_or openings (word_number (word_behind letters steps w.corner opening_letters)) unknown
+
+-- the walk behind its opening, or as it was where nothing is known of the row there
+abbrev pub after_opening : List ℕ → List ℕ → List Seen → Walk → Walk
+after_opening openings steps letters w =
+    if opening_of openings steps letters w == unknown then w else record {
+      entry = opening_of openings steps letters w;
+      letters = opening_letters;
       corner = w.corner;
-      anchor =
-          w.anchor;
+      anchor = w.anchor;
     }
 
--- the walk stands at one of so many rows, and reads on the padded board
-pub record IsWithin (rows : ℕ) (w : Walk) : Type 0 where
-  pub row : w.row < rows
+-- the place among the entries that a walk reads next
+abbrev pub place_of : List ℕ → List Seen → Walk → ℕ
+place_of steps letters w =
+    4 * row_of w.entry + letter_number (slice_index_or letters (w.corner + slice_index_or steps w.letters 0) Off)
+
+-- the walk behind the next letter and those that are passed over
+abbrev pub after_letters : List ℕ → List ℕ → List ℕ → List Seen → Walk → Walk
+after_letters entries passed steps letters w = record {
+  entry = slice_index_or entries (place_of steps letters w) 0;
+  letters = w.letters + 1 + slice_index_or passed (place_of steps letters w) 0;
+  corner = w.corner;
+  anchor = w.anchor;
+}
+
+-- the walk stands at a row, with its kind, and reads on the padded board
+pub record IsStanding (automaton : List Row) (w : Walk) : Type 0 where
+  pub row : row_of w.entry < length automaton
+  pub kind : w.entry ≡ entry_at_row automaton (row_of w.entry)
   pub corner : w.corner ≤ last_corner
 
--- whether a walk at a row of this kind goes on
-abbrev pub is_alive : RowKind → Bool
-is_alive Plain = true
-is_alive Accepting = true
-is_alive Dead = false
-
--- whether the walk goes on from the row where it stands
-abbrev pub goes_on : List Row → Walk → Bool
-goes_on automaton w = is_alive (kind_at automaton w.row)
-
--- the walks from all points of a board of size s behind the letters of the points, but for those at dead rows
-abbrev pub second_walks_of : List Row → List Seen → ℕ → List Walk
-second_walks_of automaton letters s =
-    filter (goes_on automaton) (map (after_letter automaton letters no_step) (first_walks_of s))
+-- the numbers that are accepted where a walk stands, as long as its letters are those of the spiral
+abbrev pub given_at : List Row → Walk → List ℕ
+given_at automaton w = if nat_le w.letters offset_count then (row_at automaton (row_of w.entry)).numbers else []
 
 -- the hits of the rows where the walks stand
 abbrev pub hits_of : List Row → ℕ → List Walk → List Hit
-hits_of automaton t walks = flat_map (λ w. hits_at t w.anchor (row_at automaton w.row).numbers) walks
+hits_of automaton t walks = flat_map (λ w. hits_at t w.anchor (given_at automaton w)) walks
 
 -- the row that the first i letters lead to from the anchor m
 abbrev pub row_after : List Row → BoardState → Colour → ℕ → ℕ → ℕ → ℕ
 row_after automaton pos friend t i m = reach automaton (word_at pos friend t m i)
 
--- the list has, by rising anchors, the walk of each point of a board of this size at the row of that point, but for
--- points whose row is dead
-pub record AreWalks (automaton : List Row) (size : ℕ) (row : ℕ → ℕ) (walks : List Walk) : Type 0 where
-  pub each : (w : Walk) → Contains walks w → (w.anchor < size * size) × (w ≡ walk_at size (row w.anchor) w.anchor)
-  pub all : (m : ℕ) → m < size * size → IsDead automaton (row m) ⊎ Contains walks (walk_at size (row m) m)
+-- the walk is from a point of the board, and stands where its letters lead
+pub record IsWalk (automaton : List Row) (pos : BoardState) (friend : Colour) (t : ℕ) (w : Walk) : Type 0 where
+  pub anchor : w.anchor < pos.size * pos.size
+  pub corner : w.corner ≡ corner_at pos.size w.anchor
+  pub row : w.letters ≤ offset_count → row_of w.entry ≡ row_after automaton pos friend t w.letters w.anchor
+
+-- the list has such walks, by rising anchors
+pub record AreWalks (automaton : List Row) (pos : BoardState) (friend : Colour) (t : ℕ)
+    (walks : List Walk) : Type 0 where
+  pub each : (w : Walk) → Contains walks w → IsWalk automaton pos friend t w
   pub rising : AllPairs (λ v w. v.anchor < w.anchor) walks

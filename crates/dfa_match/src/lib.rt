@@ -1,42 +1,52 @@
 //! The scan of a board: an automaton is run from each point under each transformation.
 //!
 //! A hit is a number that the automaton accepts at the end of a word, which is what is seen along the moved spiral from
-//! an anchor. `scan` gives exactly the hits, each once; it is given no diagrams. On a padded board each letter of a
-//! transformation is one step for all anchors. The walks from all anchors stand in one list, and all of them read a
-//! letter before the next letter is read; those that are dead are dropped behind each fourth letter. The anchor's own
-//! letter is read once for all transformations. Two laws say that a word that is read from an anchor matches a pattern
-//! exactly where the pattern fits there.
+//! an anchor. `scan` gives exactly the hits, each once; it is given no diagrams. The walks from all anchors stand in
+//! one list: each of them reads a letter, and then each the next. The anchor's own letter is read once for all
+//! transformations, the first nine letters in one look where nothing is accepted among them, and letters at which no
+//! pattern looks are passed over. Two laws say that a word that is read from an anchor matches a pattern exactly where
+//! the pattern fits there.
 //!
 //! After GNU Go Manual, "The DFA pattern matcher".
 #![tactic(auto)]
 
-ghost use Rattle.std.specs.Prelude.{◌≡◌, ◌↔◌, true, List, ℕ, ◌+◌, ◌<◌, ◌++◌, [], length, All, IfOk, OnOk};
+ghost use Rattle.std.specs.Prelude.{◌≡◌, ◌↔◌, true, List, ℕ, ◌+◌, ◌<◌, ◌++◌, [], map, All, IfOk, OnOk};
 ghost use Rattle.go_rules.specs.Position.{BoardState};
 ghost use Rattle.go_rules.specs.Transform.{transformations};
-ghost use Rattle.spiral.specs.Spiral.{offset_at};
 ghost use Rattle.dfa_core.specs.Automata.{Row};
 ghost use Rattle.dfa_match.specs.Sights.{word_at, AreSights};
 ghost use Rattle.go_rules.specs.declared.Colour.{Colour as ColourSeen};
 ghost use Rattle.pat_types.specs.declared.pattern.Pattern.{Pattern};
 ghost use Rattle.dfa_core.specs.Fits.{pattern_length};
 ghost use Rattle.dfa_core.specs.States.{is_matched, IsAutomatonOf};
+ghost use Rattle.dfa_shortcuts.specs.Openings.{AreOpenings};
+ghost use Rattle.dfa_shortcuts.specs.Shortcuts.{AreShortcuts};
 ghost use Rattle.dfa_match.specs.Fitting.{FitsAt, IsFit};
 ghost use Rattle.dfa_match.specs.declared.Hit.{Hit as HitSeen};
-ghost use Rattle.dfa_match.specs.Hits.{hits_at, IsHit, AreHits, AreHitsBefore};
-ghost use Rattle.dfa_match.specs.Walks.{IsWithin, first_walks_of, second_walks_of};
+ghost use Rattle.dfa_match.specs.Hits.{hits_at, IsHit, AreHits, AreHitsBefore, nothing_read};
+ghost use Rattle.dfa_match.specs.Rings.{ring_of};
+ghost use Rattle.dfa_match.specs.Steps.{AreSteps};
+ghost use Rattle.dfa_match.specs.Walks.{IsStanding, first_walks_of, second_walks_of};
 
 mod cursor;
-mod letters;
+mod rings;
+mod scanner;
 mod sights;
+mod steps;
 mod walks;
 
-use crate::letters::{drop_some, read_letter};
-use crate::sights::{Sights, step_of};
-use crate::walks::{Walk, copied, first_walks, give_all, give_start, second_walks};
+use crate::rings::{Ring, rings};
+use crate::sights::Sights;
+use crate::steps::steps_under;
+use crate::walks::{
+    Walk, drop_ended, first_walks, give_all, give_start, opened_walks, read_letters, second_walks,
+};
 use dfa_core::Automaton;
+use dfa_shortcuts::Shortcuts;
 use go_base::transform::TRANSFORMATIONS;
 use go_base::{Colour, Look, NoMemory, Point, Transform};
-use spiral::{OFFSETS, following};
+pub use scanner::Scanner;
+use spiral::OFFSETS;
 
 /// A pattern that an automaton accepts from an anchor under a transformation.
 #[derive(Clone, Copy, Debug, PartialEq, Eq)]
@@ -63,46 +73,47 @@ fn add(out: &mut Vec<Hit>, numbers: &[u16], t: Transform, anchor: Point) -> Resu
     Ok(())
 }
 
-/// The first offset behind the anchor's own.
-fn second_offset() -> (i8, i8)
-    ensures { result ≡ offset_at 1 }
-{
-    following(0, 0)
-}
+/// How often a letter is read on each walk before those that do not go on are dropped.
+const PASSES: u16 = 4;
 
-/// Runs the automaton from all anchors at once under one transformation, until no walk is left. `first` are the walks
-/// before the first letter and `second` those behind it; they are the same under each transformation. Apart from its
-/// caller it has the registers for itself.
-#[inline(never)]
+/// Runs the automaton from all anchors under one transformation, until no walk is left. `first` are the walks before
+/// the first letter, `second` those behind it and `rings` the rings around their anchors; they are the same under each
+/// transformation.
 fn sweep(
     automaton: &Automaton,
+    shortcuts: &Shortcuts,
     sights: &Sights,
+    steps: &[u16],
+    t: Transform,
     first: &[Walk],
     second: &[Walk],
-    t: Transform,
+    rings: &[Ring],
     out: &mut Vec<Hit>,
 ) -> Result<(), NoMemory>
+    requires shortcuts { AreShortcuts automaton.now shortcuts.now.entries.items shortcuts.now.passed.items }
+    requires openings { AreOpenings automaton.now shortcuts.now.openings.items }
+    requires steps { AreSteps t steps.now }
     requires transform { t < transformations }
-    requires first { first.now ≡ first_walks_of sights.now.size }
+    requires first { first.now ≡ first_walks_of automaton.now sights.now.size }
     requires second { second.now ≡ second_walks_of automaton.now sights.now.letters sights.now.size }
-    requires within { All (IsWithin (length automaton.now)) first.now }
+    requires rings { rings.now ≡ map (ring_of sights.now.letters) second.now }
+    requires standing { All (IsStanding automaton.now) first.now }
     ensures ok { (at : BoardState) (friend : ColourSeen) → AreSights at friend sights.now.size sights.now.letters
-        → AreHitsBefore automaton.now at friend t 0 out.old.items
-        → OnOk result (AreHitsBefore automaton.now at friend (t + 1) 0 out.new.items) }
+        → AreHitsBefore automaton.now at friend t nothing_read out.old.items
+        → OnOk result (AreHitsBefore automaton.now at friend (t + 1) nothing_read out.new.items) }
 {
     let _ = automaton.rows();
     give_start(automaton, t, first, out)?;
     give_all(automaton, t, second, out)?;
-    let mut walks = copied(*out.allocator(), second)?;
-    let mut by = second_offset();
-    'letters: for index in 1..OFFSETS {
+    let mut walks = opened_walks(*out.allocator(), shortcuts, sights, t, second, rings)?;
+    'letters: for pass in 0..OFFSETS {
         if walks.is_empty() {
             return Ok(());
         }
-        let step = step_of(t.apply(by.0, by.1));
-        read_letter(automaton, sights, step, t, &mut walks, out)?;
-        drop_some(automaton, index, &mut walks);
-        by = following(by.0, by.1);
+        read_letters(automaton, shortcuts, sights, steps, t, &mut walks, out)?;
+        if pass % PASSES == PASSES - 1 {
+            drop_ended(&mut walks);
+        }
     }
     Ok(())
 }
@@ -110,23 +121,34 @@ fn sweep(
 /// The hits of an automaton on the position of a look: each number that it accepts along the spiral from some anchor
 /// under some transformation, once. `out` must be empty, and gives the allocator. Takes memory.
 pub fn scan<L: Look>(
-    automaton: &Automaton,
+    scanner: &Scanner,
     look: &mut L,
     friend: Colour,
     out: Vec<Hit>,
 ) -> Result<Vec<Hit>, NoMemory>
     requires { out.items ≡ [] }
-    ensures hits { IfOk result (λ hits. AreHits automaton.now (L.shows look.old) friend hits.items) }
+    ensures hits { IfOk result (λ hits. AreHits scanner.now (L.shows look.old) friend hits.items) }
     ensures same { L.shows look.new ≡ L.shows look.old }
 {
+    let Scanner {
+        automaton,
+        shortcuts,
+        steps,
+    } = scanner;
     let _ = automaton.rows();
     let mut out = out;
     let sights = Sights::of(look, friend);
-    let first = first_walks(*out.allocator(), sights.size)?;
+    let first = first_walks(*out.allocator(), automaton, sights.size)?;
     let second = second_walks(*out.allocator(), automaton, &sights, &first)?;
+    let plain = steps_under(steps, Transform::new(0).unwrap());
+    let mirrored = steps_under(steps, Transform::new(4).unwrap());
+    let rings = rings(*out.allocator(), &sights, plain, mirrored, &second)?;
     'transforms: for n in 0..TRANSFORMATIONS {
         if let Some(t) = Transform::new(n) {
-            sweep(automaton, &sights, &first, &second, t, &mut out)?;
+            let under = steps_under(steps, t);
+            sweep(
+                automaton, shortcuts, &sights, under, t, &first, &second, &rings, &mut out,
+            )?;
         }
     }
     Ok(out)

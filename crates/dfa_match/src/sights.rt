@@ -1,12 +1,10 @@
 //! What a friend sees on a position, on a board that is padded so that no step from a point leaves it.
 ghost use Rattle.std.specs.Prelude.{◌≡◌, ◌+◌, ◌*◌, ◌<◌, ◌≤◌, replicate, pos, neg_ℤ, ◌≤ℤ◌, slice_index_or};
 ghost use Rattle.std.specs.Prelude.{length};
-ghost use Rattle.go_rules.specs.Position.{BoardState};
 ghost use Rattle.go_rules.specs.Transform.{largest_offset, IsNear};
-ghost use Rattle.go_rules.specs.declared.Colour.{Colour as ColourSeen};
 ghost use Rattle.go_rules.specs.Strings.{cell_at};
 ghost use Rattle.dfa_match.specs.Sights.{seen_of, padded_side, AreSights};
-ghost use Rattle.dfa_match.specs.Steps.{strip_by, step_by, last_corner, last_step};
+ghost use Rattle.dfa_match.specs.Steps.{strip_by, step_by, no_step, last_corner, last_step};
 
 use crate::cursor::Cursor;
 use dfa_core::Seen;
@@ -98,6 +96,15 @@ impl Sights {
             at = at.next(size);
         }
         Sights { size, letters }
+    }
+
+    /// The letter of the anchor with this corner.
+    #[inline(always)]
+    pub fn anchor(&self, corner: u16) -> Seen
+        requires { corner ≤ last_corner }
+        ensures { result ≡ slice_index_or self.now.letters (corner + no_step) Seen.Off }
+    {
+        self.letters[corner as usize + CENTRE]
     }
 
     /// The letter that a walk from the anchor with this corner reads at this step.

@@ -1,124 +1,170 @@
-//! The walks of an automaton from all anchors: how they begin, and what they give out.
-ghost use Rattle.std.specs.Prelude.{◌≡◌, true, false, ℕ, ◌+◌, ◌*◌, ◌<◌, ◌≤◌, ◌++◌, List, slice_index_or};
-ghost use Rattle.std.specs.Prelude.{length, map, filter, All, IfOk, OnOk};
-ghost use Rattle.std.specs.List.{range_with_len};
-ghost use Rattle.dfa_core.specs.Automata.{Row, row_at, step_at};
-ghost use Rattle.dfa_core.specs.Entries.{AreEntries, entry_with};
-ghost use Rattle.dfa_core.specs.RowKinds.{kind_at};
+//! The walks of an automaton from all anchors: how they begin, how they go on, and what they give out.
+ghost use Rattle.std.specs.Prelude.{◌≡◌, ℕ, ◌+◌, ◌*◌, ◌%◌, ◌<◌, ◌≤◌, ◌++◌, false, List, length, map, filter, All};
+ghost use Rattle.std.specs.Prelude.{IfOk, OnOk};
+ghost use Rattle.dfa_core.specs.Entries.{row_of};
+ghost use Rattle.dfa_shortcuts.specs.Shortcuts.{is_accepting_entry, AreShortcuts};
 ghost use Rattle.dfa_match.specs.Hits.{hits_at};
-ghost use Rattle.dfa_match.specs.Steps.{cursor_at, last_corner, last_step, no_step};
-ghost use Rattle.dfa_match.specs.Walks.{walk_at, after_letter, IsWithin, is_alive as is_alive_at, goes_on, hits_of};
+ghost use Rattle.dfa_match.specs.Rings.{ring_of};
+ghost use Rattle.dfa_match.specs.Steps.{last_corner, step_count, AreSteps};
+ghost use Rattle.dfa_match.specs.Walks.{first_walks_of, after_anchor, after_opening, after_letters, goes_on};
+ghost use Rattle.dfa_match.specs.Walks.{given_at, hits_of, IsStanding};
 
 use crate::cursor::Cursor;
-use crate::sights::{Sights, step_of};
+use crate::rings::{Ring, opening_number};
+use crate::sights::Sights;
 use crate::{Hit, add};
-use dfa_core::{Automaton, RowKind, Seen, entry_at, row_in};
+use dfa_core::{Automaton, RowKind, entry_at, row_in};
+use dfa_shortcuts::{OPENING_LETTERS, Shortcuts, is_accepting, is_dead};
 use go_base::{NoMemory, Point, Size, Transform};
+use spiral::OFFSETS;
 use std::alloc::Global;
 
 /// A walk from one anchor.
 #[derive(Clone, Copy)]
 pub struct Walk {
-    /// The row where it stands.
-    pub row: u32,
+    /// The row where it stands, beside its kind, as an entry of an automaton.
+    pub entry: u32,
+    /// How many letters it has read or passed over.
+    pub letters: u16,
     /// Where the square of all offsets around its anchor begins on the padded board.
     pub corner: u16,
     /// The point from which it began.
     pub anchor: Point,
 }
 
-/// The walk from a point that stands here, before the first letter.
-fn first_walk(at: Cursor, anchor: Point) -> Walk
-    requires { at.corner ≤ last_corner }
-    ensures value { (size : ℕ) → at ≡ cursor_at size anchor → result ≡ walk_at size 0 anchor }
-    ensures within { (rows : ℕ) → 0 < rows → IsWithin rows result }
-{
-    Walk {
-        row: 0,
-        corner: at.corner,
-        anchor,
+impl Walk {
+    /// Whether it goes on: its row is not dead, and there are letters left.
+    #[inline(always)]
+    fn goes_on(self) -> bool
+        ensures { result ≡ goes_on self }
+    {
+        !is_dead(self.entry) && self.letters < OFFSETS
     }
 }
 
 /// The walks from all points of a board, before the first letter. Takes memory.
-pub fn first_walks(alloc: Global, size: Size) -> Result<Vec<Walk>, NoMemory>
-    ensures value { IfOk result (λ walks. walks.items ≡ map (walk_at size 0) (range_with_len 0 (size * size))) }
-    ensures within { (rows : ℕ) → 0 < rows → IfOk result (λ walks. All (IsWithin rows) walks.items) }
+pub fn first_walks(alloc: Global, automaton: &Automaton, size: Size) -> Result<Vec<Walk>, NoMemory>
+    ensures value { IfOk result (λ walks. walks.items ≡ first_walks_of automaton.now size) }
+    ensures standing { IfOk result (λ walks. All (IsStanding automaton.now) walks.items) }
 {
     let _ = size.get();
+    let _ = automaton.rows();
     let mut walks = Vec::with_capacity(alloc, size.points() as usize)?;
     let mut at = Cursor::first();
+    let entry = automaton.kind(0) as u32;
     'points: for anchor in 0..size.points() {
-        walks.push(first_walk(at, anchor))?;
+        walks.push(Walk {
+            entry,
+            letters: 0,
+            corner: at.corner,
+            anchor,
+        })?;
         at = at.next(size);
     }
     Ok(walks)
 }
 
-/// A list of the same walks. Takes memory.
-pub fn copied(alloc: Global, walks: &[Walk]) -> Result<Vec<Walk>, NoMemory>
-    ensures { IfOk result (λ copy. copy.items ≡ walks.now) }
+/// The walk behind the letter of its anchor.
+fn behind_anchor(automaton: &Automaton, sights: &Sights, walk: Walk) -> Walk
+    requires standing { IsStanding automaton.now walk }
+    ensures { result ≡ after_anchor automaton.now sights.now.letters walk }
 {
-    let mut copy = Vec::with_capacity(alloc, walks.len())?;
-    copy.extend_from_slice(walks)?;
-    Ok(copy)
-}
-
-/// The entry of the row to which the letter at this step behind its corner leads a walk.
-#[inline(always)]
-pub fn next_entry(entries: &[u32], sights: &Sights, step: u16, row: u32, corner: u16) -> u32
-    requires row { 4 * row + 4 ≤ length entries.now }
-    requires corner { corner ≤ last_corner }
-    requires step { step ≤ last_step }
-    ensures { (automaton : List Row) → AreEntries automaton entries.now → row < length automaton → result ≡
-        (let next : ℕ = step_at automaton row (slice_index_or sights.now.letters (corner + step) Seen.Off) in
-        entry_with (kind_at automaton next) next) }
-{
-    entry_at(entries, row, sights.letter(corner, step))
-}
-
-/// The walk after one letter more, which it reads at this step behind its corner.
-fn moved_on(entries: &[u32], sights: &Sights, step: u16, walk: Walk) -> Walk
-    requires row { 4 * walk.row + 4 ≤ length entries.now }
-    requires corner { walk.corner ≤ last_corner }
-    requires step { step ≤ last_step }
-    ensures { (automaton : List Row) → AreEntries automaton entries.now → walk.row < length automaton
-        → result ≡ after_letter automaton sights.now.letters step walk }
-{
+    let _ = automaton.rows();
+    let letter = sights.anchor(walk.corner);
     Walk {
-        row: row_in(next_entry(entries, sights, step, walk.row, walk.corner)),
-        corner: walk.corner,
-        anchor: walk.anchor,
+        entry: entry_at(automaton.entries(), row_in(walk.entry), letter),
+        letters: 1,
+        ..walk
     }
 }
 
-/// Whether a walk goes on from a row with this kind.
-pub fn is_alive(kind: RowKind) -> bool
-    ensures { result ≡ is_alive_at kind }
+/// The walks behind the letters of their anchors, but for those that do not go on. Under each transformation it is the
+/// same letter. Takes memory.
+pub fn second_walks(
+    alloc: Global,
+    automaton: &Automaton,
+    sights: &Sights,
+    first: &[Walk],
+) -> Result<Vec<Walk>, NoMemory>
+    requires { All (IsStanding automaton.now) first.now }
+    ensures { IfOk result (λ walks. walks.items
+        ≡ filter goes_on (map (after_anchor automaton.now sights.now.letters) first.now)) }
 {
-    match kind {
-        RowKind::Plain => true,
-        RowKind::Accepting => true,
-        RowKind::Dead => false,
+    let mut walks = Vec::with_capacity(alloc, first.len())?;
+    'walks: for walk in first {
+        let next = behind_anchor(automaton, sights, *walk);
+        if next.goes_on() {
+            walks.push(next)?;
+        }
+    }
+    Ok(walks)
+}
+
+/// The walk behind its opening under one transformation, or as it was where nothing is known of the row there.
+#[inline(always)]
+fn behind_opening(
+    shortcuts: &Shortcuts,
+    sights: &Sights,
+    ring: Ring,
+    t: Transform,
+    walk: Walk,
+) -> Walk
+    requires corner { walk.corner ≤ last_corner }
+    requires ring { ring ≡ ring_of sights.now.letters walk }
+    ensures { (steps : List ℕ) → AreSteps t steps
+        → result ≡ after_opening shortcuts.now.openings.items steps sights.now.letters walk }
+{
+    match shortcuts.opening(opening_number(sights.anchor(walk.corner), ring, t)) {
+        Some(entry) => Walk {
+            entry,
+            letters: OPENING_LETTERS as u16,
+            ..walk
+        },
+        None => walk,
     }
 }
 
-/// Adds the hits of the row where a walk stands, which has this kind.
+/// The walks behind their openings under one transformation, but for those that do not go on. `rings` are the rings
+/// around their anchors. Takes memory.
+#[inline(never)]
+pub fn opened_walks(
+    alloc: Global,
+    shortcuts: &Shortcuts,
+    sights: &Sights,
+    t: Transform,
+    second: &[Walk],
+    rings: &[Ring],
+) -> Result<Vec<Walk>, NoMemory>
+    requires corners { All (λ w. w.corner ≤ last_corner) second.now }
+    requires rings { rings.now ≡ map (ring_of sights.now.letters) second.now }
+    ensures { (steps : List ℕ) → AreSteps t steps → IfOk result (λ walks. walks.items ≡ filter goes_on
+        (map (after_opening shortcuts.now.openings.items steps sights.now.letters) second.now)) }
+{
+    let mut walks = Vec::with_capacity(alloc, second.len())?;
+    'walks: for index in 0..second.len() {
+        let next = behind_opening(shortcuts, sights, rings[index], t, second[index]);
+        if next.goes_on() {
+            walks.push(next)?;
+        }
+    }
+    Ok(walks)
+}
+
+/// Adds the hits of the row where a walk stands.
+#[inline(always)]
 fn give_out(
     automaton: &Automaton,
-    kind: RowKind,
     t: Transform,
     walk: Walk,
     out: &mut Vec<Hit>,
 ) -> Result<(), NoMemory>
-    requires row { walk.row < length automaton.now }
-    requires kind { kind ≡ kind_at automaton.now walk.row }
-    ensures { OnOk result
-        (out.new.items ≡ out.old.items ++ hits_at t walk.anchor (row_at automaton.now walk.row).numbers) }
+    requires { IsStanding automaton.now walk }
+    ensures { OnOk result (out.new.items ≡ out.old.items ++ hits_at t walk.anchor (given_at automaton.now walk)) }
 {
-    match kind {
-        RowKind::Accepting => add(out, automaton.accepts(walk.row), t, walk.anchor),
-        RowKind::Plain | RowKind::Dead => Ok(()),
+    if is_accepting(walk.entry) && walk.letters <= OFFSETS {
+        add(out, automaton.accepts(row_in(walk.entry)), t, walk.anchor)
+    } else {
+        Ok(())
     }
 }
 
@@ -129,24 +175,24 @@ pub fn give_all(
     walks: &[Walk],
     out: &mut Vec<Hit>,
 ) -> Result<(), NoMemory>
-    requires { All (IsWithin (length automaton.now)) walks.now }
+    requires { All (IsStanding automaton.now) walks.now }
     ensures { OnOk result (out.new.items ≡ out.old.items ++ hits_of automaton.now t walks.now) }
 {
     'walks: for walk in walks {
-        give_out(automaton, automaton.kind(walk.row), t, *walk, out)?;
+        give_out(automaton, t, *walk, out)?;
     }
     Ok(())
 }
 
-/// Adds the hits of the start where the walks stand before their first letter. For most automata there are none.
+/// Adds the hits of the start, where the walks stand before their first letter. For most automata there are none.
 pub fn give_start(
     automaton: &Automaton,
     t: Transform,
     walks: &[Walk],
     out: &mut Vec<Hit>,
 ) -> Result<(), NoMemory>
-    requires within { All (IsWithin (length automaton.now)) walks.now }
-    requires start { All (λ w. w.row ≡ 0) walks.now }
+    requires standing { All (IsStanding automaton.now) walks.now }
+    requires start { All (λ w. row_of w.entry ≡ 0) walks.now }
     ensures { OnOk result (out.new.items ≡ out.old.items ++ hits_of automaton.now t walks.now) }
 {
     let _ = automaton.rows();
@@ -156,27 +202,76 @@ pub fn give_start(
     }
 }
 
-/// The walks behind the letter of their anchors, but for those at a dead row. Under each transformation it is the same
-/// letter. Takes memory.
-pub fn second_walks(
-    alloc: Global,
+/// Reads a letter on each walk, and answers a number that is even only where no walk came to a row that accepts
+/// something. Apart from its caller it has the registers for itself.
+#[inline(never)]
+fn read_on(shortcuts: &Shortcuts, sights: &Sights, steps: &[u16], walks: &mut [Walk]) -> u32
+    requires entries { All (λ w. 4 * row_of w.entry + 4 ≤ length shortcuts.now.entries.items) walks.old }
+    requires passed { All (λ w. 4 * row_of w.entry + 4 ≤ length shortcuts.now.passed.items) walks.old }
+    requires corners { All (λ w. w.corner ≤ last_corner) walks.old }
+    requires letters { All (λ w. w.letters < step_count) walks.old }
+    requires steps { (t : ℕ) × AreSteps t steps.now }
+    ensures value { walks.new ≡ map (after_letters shortcuts.now.entries.items shortcuts.now.passed.items steps.now
+        sights.now.letters) walks.old }
+    ensures few { (n : ℕ) → All (λ w. w.letters < n) walks.old → All (λ w. w.letters < n + 256) walks.new }
+    ensures silent { result % 2 ≡ 0 → All (λ w. is_accepting_entry w.entry ≡ false) walks.new }
+{
+    let mut met = 0;
+    'walks: for walk in walks.iter_mut() {
+        let letter = sights.letter(walk.corner, steps[walk.letters as usize]);
+        let (entry, passed) = shortcuts.behind(row_in(walk.entry), letter);
+        walk.entry = entry;
+        walk.letters += 1 + passed as u16;
+        met |= entry;
+    }
+    met
+}
+
+/// Reads a letter on each walk, and adds the hits of the rows to which they come. A walk that does not go on reads on
+/// too, until it is dropped, and no hit comes of it.
+pub fn read_letters(
     automaton: &Automaton,
+    shortcuts: &Shortcuts,
     sights: &Sights,
-    first: &[Walk],
-) -> Result<Vec<Walk>, NoMemory>
-    requires { All (IsWithin (length automaton.now)) first.now }
-    ensures { IfOk result (λ walks. walks.items ≡ filter (goes_on automaton.now)
-        (map (after_letter automaton.now sights.now.letters no_step) first.now)) }
+    steps: &[u16],
+    t: Transform,
+    walks: &mut Vec<Walk>,
+    out: &mut Vec<Hit>,
+) -> Result<(), NoMemory>
+    requires shortcuts { AreShortcuts automaton.now shortcuts.now.entries.items shortcuts.now.passed.items }
+    requires steps { AreSteps t steps.now }
+    requires standing { All (IsStanding automaton.now) walks.old.items }
+    requires letters { All (λ w. w.letters < step_count) walks.old.items }
+    ensures walks { walks.new.items ≡ map (after_letters shortcuts.now.entries.items shortcuts.now.passed.items
+        steps.now sights.now.letters) walks.old.items }
+    ensures few { (n : ℕ) → All (λ w. w.letters < n) walks.old.items → All (λ w. w.letters < n + 256) walks.new.items }
+    ensures hits { OnOk result (out.new.items ≡ out.old.items ++ hits_of automaton.now t
+        (map (after_letters shortcuts.now.entries.items shortcuts.now.passed.items steps.now sights.now.letters)
+        walks.old.items)) }
 {
     let _ = automaton.rows();
-    let entries = automaton.entries();
-    let step = step_of((0, 0));
-    let mut walks = Vec::with_capacity(alloc, first.len())?;
-    'walks: for walk in first {
-        let next = moved_on(entries, sights, step, *walk);
-        if is_alive(automaton.kind(next.row)) {
-            walks.push(next)?;
+    let met = read_on(shortcuts, sights, steps, walks);
+    if met % 2 != 0 {
+        return give_all(automaton, t, walks, out);
+    }
+    Ok(())
+}
+
+/// Drops the walks that do not go on.
+///
+/// A walk is written behind those that go on, whether it goes on or not; the next one is written over one that does
+/// not. So nothing is decided for a walk, and no choice can be foretold wrongly.
+#[inline(never)]
+pub fn drop_ended(walks: &mut Vec<Walk>)
+    ensures { walks.new.items ≡ filter goes_on walks.old.items }
+{
+    let mut kept = 0;
+    'walks: for index in 0..walks.len() {
+        let walk = walks[index];
+        walks[kept] = walk;
+        if walk.goes_on() {
+            kept += 1;
         }
     }
-    Ok(walks)
+    walks.truncate(kept);
 }

@@ -9,6 +9,7 @@ ghost use Rattle.match_rules.specs.Match.{matches_of};
 
 use db_read::read;
 use dfa_join::{JoinError, compile};
+use dfa_match::Scanner;
 use go_base::{Colour, Position, Size};
 use helpers::Helpers;
 use match_engine::{Match, Readings, matches};
@@ -37,8 +38,9 @@ fn found(
         patterns.now position.now friend) }
 {
     let automaton = compile(alloc, patterns, 100_000)?;
+    let scanner = Scanner::new(alloc, automaton)?;
     Ok(matches(
-        alloc, patterns, &automaton, position, friend, readings, helpers,
+        alloc, patterns, &scanner, position, friend, readings, helpers,
     )?)
 }
 

@@ -2,7 +2,6 @@
 ghost use Rattle.std.specs.Prelude.{◌≡◌, ◌*◌, ◌<◌, true};
 ghost use Rattle.go_rules.specs.Position.{other};
 ghost use Rattle.match_rules.specs.Conditions.{has_class, is_safe, is_enemy_safe, is_allowed as is_allowed_by};
-ghost use Rattle.match_rules.specs.Conditions.{unsafe_class, enemy_class};
 ghost use Rattle.match_engine.specs.Readings.{Follows, codes_of};
 ghost use Rattle.match_engine.specs.Remembered.{Remembers};
 

@@ -1,5 +1,5 @@
 //! What the constraint of a pattern is valued by: the position before the move, the moved labels, and readings.
-ghost use Rattle.std.specs.Prelude.{◌≡◌, ◌*◌, ◌<◌, true, IfSome, pos, Some};
+ghost use Rattle.std.specs.Prelude.{◌≡◌, ◌*◌, ◌<◌, true, Some};
 ghost use Rattle.cons_eval.specs.Values.{is_so as is_so_value, value_of};
 ghost use Rattle.match_rules.specs.Conditions.{label_with as first_label, place_of_label, meanings_at};
 ghost use Rattle.match_rules.specs.Conditions.{is_constraint_true as is_true};

@@ -2,7 +2,6 @@
 ghost use Rattle.std.specs.Prelude.{◌≡◌, ℕ, ◌+◌, ◌*◌, ◌<◌, filter, map, if◌then◌else◌, length, Some, Contains, IfOk};
 ghost use Rattle.std.specs.Prelude.{All, OnOk, OnErr, slice_get, slice_set as set};
 ghost use Rattle.std.specs.List.{filter_map};
-ghost use Rattle.go_rules.specs.Position.{BoardState};
 ghost use Rattle.dfa_core.specs.Automata.{accepted};
 ghost use Rattle.dfa_core.specs.States.{IsAutomatonOf};
 ghost use Rattle.dfa_core.specs.Words.{Word};
@@ -28,8 +27,7 @@ use crate::placing::star_place;
 use crate::plays::Plays;
 use crate::ranks::{matches_with, rank_of};
 use crate::readings::Readings;
-use dfa_core::Automaton;
-use dfa_match::{Hit, scan};
+use dfa_match::{Hit, Scanner, scan};
 use go_base::{Colour, NoMemory, Position, Watch};
 use helpers::Helpers;
 use match_rules::Match;
@@ -96,16 +94,16 @@ fn ranks_among(
 fn found_by(
     alloc: Global,
     patterns: &[Pattern],
-    automaton: &Automaton,
+    scanner: &Scanner,
     position: &Position,
     friend: Colour,
 ) -> Result<Vec<Match>, NoMemory>
-    requires numbers { (w : Word) (n : ℕ) → Contains (accepted automaton.now w) n → n < length patterns.now }
-    ensures found { IfOk result (λ v. v.items ≡ is_found_by automaton.now patterns.now position.now friend) }
+    requires numbers { (w : Word) (n : ℕ) → Contains (accepted scanner.now w) n → n < length patterns.now }
+    ensures found { IfOk result (λ v. v.items ≡ is_found_by scanner.now patterns.now position.now friend) }
 {
     let _ = position.size().points();
     let mut watch = Watch::new(position);
-    let hits = scan(automaton, &mut watch, friend, Vec::new(alloc))?;
+    let hits = scan(scanner, &mut watch, friend, Vec::new(alloc))?;
     let mut ranks = ranks_among(alloc, patterns, position, friend, hits.as_slice())?;
     ranks.sort_unstable();
     matches_with(alloc, &ranks)
@@ -180,26 +178,26 @@ fn keep_allowed(
 pub fn matches(
     alloc: Global,
     patterns: &[Pattern],
-    automaton: &Automaton,
+    scanner: &Scanner,
     position: &Position,
     friend: Colour,
     readings: &mut Readings,
     helpers: &mut Helpers,
 ) -> Result<Vec<Match>, NoMemory>
-    requires numbers { (w : Word) (n : ℕ) → Contains (accepted automaton.now w) n → n < length patterns.now }
+    requires numbers { (w : Word) (n : ℕ) → Contains (accepted scanner.now w) n → n < length patterns.now }
     // For every automaton.
     ensures automaton { IfOk result (λ v. v.items
         ≡ automaton_matches (codes_of readings.old) (says_yes (states_of state helpers.old))
-        automaton.now patterns.now position.now friend) }
+        scanner.now patterns.now position.now friend) }
     // For that of the patterns.
-    ensures patterns { IfOk result (λ v. IsAutomatonOf patterns.now automaton.now → v.items
+    ensures patterns { IfOk result (λ v. IsAutomatonOf patterns.now scanner.now → v.items
         ≡ matches_of (codes_of readings.old) (says_yes (states_of state helpers.old)) patterns.now position.now
         friend) }
     // The helpers were asked about all that matches if they say yes, each as often as the rule of asking says.
     ensures calls { OnOk result (states_of state helpers.new ≡ after_matches (states_of state helpers.old) patterns.now
-        (automaton_matches (codes_of readings.old) all_yes automaton.now patterns.now position.now friend) position.now
+        (automaton_matches (codes_of readings.old) all_yes scanner.now patterns.now position.now friend) position.now
         friend) }
-    ensures calls_of_patterns { OnOk result (IsAutomatonOf patterns.now automaton.now → states_of state helpers.new
+    ensures calls_of_patterns { OnOk result (IsAutomatonOf patterns.now scanner.now → states_of state helpers.new
         ≡ after_matches (states_of state helpers.old) patterns.now
         (matches_of (codes_of readings.old) all_yes patterns.now position.now friend) position.now friend) }
     // The depths of the readings are as before, and no count has fallen.
@@ -208,7 +206,7 @@ pub fn matches(
     ensures unread { OnErr result (readings.new ≡ readings.old) }
     ensures unasked { OnErr result (helpers.new ≡ helpers.old) }
 {
-    let mut found = found_by(alloc, patterns, automaton, position, friend)?;
+    let mut found = found_by(alloc, patterns, scanner, position, friend)?;
     keep_allowed(patterns, position, friend, readings, &mut found);
     keep_agreed(patterns, position, friend, helpers, &mut found);
     Ok(found)

@@ -1,10 +1,9 @@
 //! A cache of readings that may be missing, as in readings that stand in for others: then nothing is found, and nothing
 //! is kept.
 ghost use Rattle.std.specs.Prelude.{◌≡◌, true, false, None, IfSome, IfNone};
-ghost use Rattle.go_rules.specs.Position.{BoardState};
 ghost use Rattle.match_engine.specs.Caches.{kept_in};
-ghost use Rattle.match_engine.specs.Keys.{same_key, meaning_of};
-ghost use Rattle.match_engine.specs.Readings.{AllRest, Rests};
+ghost use Rattle.match_engine.specs.Keys.{same_key};
+ghost use Rattle.match_engine.specs.Readings.{Rests};
 ghost use Rattle.read_cache.specs.Kept.{IsFound, IsMissing, kept_first, variants_of};
 
 use crate::keys::Key;

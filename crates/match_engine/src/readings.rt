@@ -1,12 +1,12 @@
 //! Readings, counted and kept.
-ghost use Rattle.std.specs.Prelude.{◌≡◌, ◌≢◌, ◌*◌, ◌<◌, ◌≤◌, Some, None, IfOk, IfSome, IfNone, OnSome};
+ghost use Rattle.std.specs.Prelude.{◌≡◌, ◌≢◌, ◌*◌, ◌<◌, ◌≤◌, Some, None, IfOk, IfSome, IfNone};
 ghost use Rattle.go_rules.specs.Strings.{cell_at};
 ghost use Rattle.go_base.specs.Facts.{Agrees};
 ghost use Rattle.go_base.specs.AmongFacts.{told};
 ghost use Rattle.read_rules.specs.Answer.{answer_of, asked_on};
 ghost use Rattle.read_rules.specs.GoodMoves.{IsOnBoard};
-ghost use Rattle.match_engine.specs.Keys.{same_key, meaning_of};
-ghost use Rattle.read_cache.specs.Kept.{IsFound, IsMissing};
+ghost use Rattle.match_engine.specs.Keys.{same_key};
+ghost use Rattle.read_cache.specs.Kept.{IsMissing};
 ghost use Rattle.match_engine.specs.Readings.{HasRead, WasFresh, WasKept, Follows, AllRest, Rests, Answers};
 ghost use Rattle.match_engine.specs.Readings.{first_readings, with_depths};
 

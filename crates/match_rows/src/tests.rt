@@ -1,6 +1,7 @@
 //! Rows worked by hand. A point is its number in reading order: of a board of 3, B3 is 1, A2 is 3, C2 is 5 and B1 is 7.
 use db_read::{DbError, read};
 use dfa_join::{JoinError, compile};
+use dfa_match::Scanner;
 use go_base::{Colour, Point, Position, Size};
 use helpers::{Helper, Helpers, NearEdge, NoBan};
 use match_engine::{Match, Readings, matches};
@@ -95,13 +96,14 @@ fn matches_by(
         return Err("the other list is no longer")?;
     }
     let automaton = compile(rt.alloc(), &others, 10_000)?;
+    let scanner = Scanner::new(rt.alloc(), automaton)?;
     let depths = Depths::new(3, 2).ok_or("the depths are in range")?;
     let mut readings = Readings::new(rt.alloc(), depths, 4096)?;
     let mut helpers = Helpers::new(rt.alloc(), Vec::new(rt.alloc()))?;
     Ok(matches(
         rt.alloc(),
         &patterns,
-        &automaton,
+        &scanner,
         position,
         friend,
         &mut readings,
@@ -516,12 +518,13 @@ fn matches_asking(
         return Err("the list is no longer")?;
     }
     let automaton = compile(rt.alloc(), &patterns, 10_000)?;
+    let scanner = Scanner::new(rt.alloc(), automaton)?;
     let depths = Depths::new(3, 2).ok_or("the depths are in range")?;
     let mut readings = Readings::new(rt.alloc(), depths, 4096)?;
     let found = matches(
         rt.alloc(),
         &patterns,
-        &automaton,
+        &scanner,
         position,
         Colour::Black,
         &mut readings,

@@ -1,6 +1,6 @@
 //! What a session keeps beside its helpers: the plain machine, its patterns and its counts; and its answer to each
 //! line.
-ghost use Rattle.std.specs.Prelude.{◌≡◌, ◌≢◌, ◌≤◌, ◌↔◌, List, ℕ, length, IfOk};
+ghost use Rattle.std.specs.Prelude.{◌≡◌, ◌≢◌, ◌≤◌, ◌↔◌, length, IfOk};
 ghost use Rattle.gtp_lex.specs.Raw.{raw_line};
 ghost use Rattle.go_options.specs.Found.{AreInRange};
 ghost use Rattle.go_strings.specs.Games.{reached};
@@ -25,6 +25,7 @@ mod reading_commands;
 use crate::answer::{Answer, grown, told};
 use crate::reply::Reply;
 use dfa_core::Automaton;
+use dfa_match::Scanner;
 use go_base::{Bytes, NoMemory, Position, Size};
 use go_history::{History, Move};
 use go_options::Options;
@@ -70,7 +71,7 @@ pub struct Engine {
     komi: KomiText,
     readings: Readings,
     patterns: Vec<Pattern>,
-    automaton: Automaton,
+    scanner: Scanner,
     counts: ReadingCounts,
     // whether a line may have taken long since `took_long` was asked last
     long: bool,
@@ -92,7 +93,7 @@ impl Model for Engine {
       plies = s.readings.plies;
       wide = s.readings.wide;
       patterns = s.patterns.items;
-      automaton = s.automaton;
+      automaton = s.scanner;
       counts = record {
         readings = s.counts.readings;
         fresh = s.counts.fresh;
@@ -102,7 +103,7 @@ impl Model for Engine {
       readings = s.readings;
     } };
 
-    ghost invariant = { λ s. NumbersPatterns s.automaton s.patterns.items };
+    ghost invariant = { λ s. NumbersPatterns s.scanner s.patterns.items };
 }
 
 /// `true` or `false`.
@@ -128,6 +129,7 @@ impl Engine {
             ≡ first_kept patterns.items automaton options.now.depth options.now.branch options.now.cache) }
     {
         let size = Size::new(FIRST_SIZE).unwrap();
+        let scanner = Scanner::new(alloc, automaton)?;
         Ok(Engine {
             alloc,
             history: History::new(alloc, size)?,
@@ -138,7 +140,7 @@ impl Engine {
                 options.cache,
             )?,
             patterns,
-            automaton,
+            scanner,
             counts: NO_COUNTS,
             long: false,
         })

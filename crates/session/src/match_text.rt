@@ -10,7 +10,7 @@ ghost use Rattle.session.specs.MatchTexts.{name_of, match_text, matches_text, Ar
 ghost use Rattle.session.specs.PatternTexts.{feed_after};
 
 use crate::vertices::{push_number, push_vertex};
-use dfa_core::Automaton;
+use dfa_match::Scanner;
 use go_base::{Bytes, Colour, NoMemory, Position, Size};
 use helpers::Helpers;
 use match_engine::{Readings, matches};
@@ -74,15 +74,15 @@ fn list_text(
 pub(crate) fn matches_text(
     alloc: Global,
     patterns: &[Pattern],
-    automaton: &Automaton,
+    scanner: &Scanner,
     position: &Position,
     friend: Colour,
     readings: &mut Readings,
     helpers: &mut Helpers,
 ) -> Result<Bytes, NoMemory>
-    requires { NumbersPatterns automaton.now patterns.now }
+    requires { NumbersPatterns scanner.now patterns.now }
     ensures text { IfOk result (λ text. text ≡ matches_text patterns.now position.now.size
-        (automaton_matches (codes_of readings.old) (says_yes (states_of state helpers.old)) automaton.now patterns.now
+        (automaton_matches (codes_of readings.old) (says_yes (states_of state helpers.old)) scanner.now patterns.now
         position.now friend)) }
     ensures depths { SameDepths readings.old readings.new }
     ensures refused { readings.old.refused ≤ readings.new.refused }
@@ -90,7 +90,7 @@ pub(crate) fn matches_text(
     ensures helpers { without_calls (states_of state helpers.new) ≡ without_calls (states_of state helpers.old) }
 {
     let found = matches(
-        alloc, patterns, automaton, position, friend, readings, helpers,
+        alloc, patterns, scanner, position, friend, readings, helpers,
     )?;
     list_text(alloc, patterns, position.size(), found.as_slice())
 }

@@ -1,5 +1,5 @@
 //! How a run opens the pattern files that its words name.
-ghost use Rattle.std.specs.Prelude.{◌≡◌, ◌≤◌, ◌++◌, [], length, drop, map, IfOk, OnOk, IfErr, None, string_bytes};
+ghost use Rattle.std.specs.Prelude.{◌≡◌, ◌≤◌, ◌++◌, length, drop, map, IfOk, OnOk, IfErr, None, string_bytes};
 ghost use Rattle.gtp_io.specs.Loading.{missed_after};
 ghost use Rattle.db_rules.specs.Entries.{entry_of};
 ghost use Rattle.db_rules.specs.Faults.{first_fault, entries};

@@ -1,6 +1,5 @@
 //! Replies that wait, so that those of many lines go out in one call of the output.
 ghost use Rattle.std.specs.Prelude.{◌≡◌, ◌+◌, ◌<◌, ◌≤◌, ◌++◌, true, length, take, OnOk, IfErr, Option, List, ℕ};
-ghost use Rattle.std.specs.Io.KnownBytes.{append_known};
 ghost use Rattle.gtp_io.specs.Outside.{IsCounted};
 ghost use Rattle.run_notes.specs.declared.notes.Sent.{Sent};
 ghost use Rattle.session.specs.Tallies.{kept_sum};

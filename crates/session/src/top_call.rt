@@ -1,5 +1,5 @@
 //! The top call of the program.
-ghost use Rattle.std.specs.Prelude.{◌≡◌, ◌↔◌, MatchOption, Option, None, Some, ℕ, if◌then◌else◌, option_map, map};
+ghost use Rattle.std.specs.Prelude.{◌≡◌, ◌↔◌, MatchOption, Option, None, Some, if◌then◌else◌, option_map, map};
 ghost use Rattle.std.specs.Prelude.{string_bytes};
 ghost use Rattle.session.specs.Headline.{Came, IsCauseOf, MissedAfter, Runs, RunsHad, files_in};
 ghost use Rattle.session.specs.Opened.{CameBy, EndsCounting};

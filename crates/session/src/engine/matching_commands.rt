@@ -33,7 +33,7 @@ impl Engine {
         grown(matches_text(
             self.alloc,
             &self.patterns,
-            &self.automaton,
+            &self.scanner,
             &position,
             friend,
             &mut self.readings,

@@ -1,5 +1,5 @@
 //! The commands that read whether a string can be captured.
-ghost use Rattle.std.specs.Prelude.{◌≡◌, ◌*◌, ◌<◌, true, false, is_some};
+ghost use Rattle.std.specs.Prelude.{◌≡◌, ◌*◌, ◌<◌, true, is_some};
 ghost use Rattle.session.specs.SessionState.{machine_of};
 ghost use Rattle.session.specs.ReadingCommands.{read, deepened};
 ghost use Rattle.gtp_cmd.specs.Within.{AreDepths};

@@ -1,19 +1,33 @@
-use Rattle.std.proofs.Common.{◌<◌, ◌++◌, ◌∷◌, [], map, sym, ap, ◌∙◌, subst, arith}
-use Rattle.std.specs.List.{All, range_with_len}
+use Rattle.std.proofs.Common.{◌*◌, ◌<◌, ◌≤◌, ◌++◌, ◌∷◌, [], sym, ap, ◌∙◌, subst, arith}
+use Rattle.std.specs.List.{All}
 use Rattle.std.proofs.lemmas.List.Elements.{All-push}
 use Rattle.std.proofs.lemmas.List.FromFn.{map-range_with_len_more}
-use Rattle.dfa_match.specs.Walks.{walk_at, IsWithin}
+use Rattle.dfa_match.specs.declared.walks.Walk.{Walk}
+use Rattle.dfa_match.specs.Steps.{corner_at, last_corner}
+use Rattle.dfa_match.specs.Walks.{IsStanding}
+use Rattle.dfa_match.proofs.Cursors.{cursor_corner, corner_is}
+use Rattle.dfa_match.proofs.StandingWalks.{first_walk, first_walk-is, first_standing}
 use Rattle.dfa_match.proofs.walks.first_walks.Goals as goal
 
 -- one walk more
 pub points-preserved : goal.points-preserved
-points-preserved c = record {
-  value = c.in_ok-push.ensures.items ∙ ap (λ ws. ws ++ c.first_walk.result ∷ []) c.points.invariant.value
-      ∙ ap (λ w. map (walk_at c.args.size 0) (range_with_len 0 c.points.anchor) ++ w ∷ [])
-      (c.first_walk.ensures.value c.args.size c.points.invariant.at)
-      ∙ sym (map-range_with_len_more (walk_at c.args.size 0) 0 c.points.anchor c.points.anchor (omega arith));
-  within = λ rows some. subst (All (IsWithin rows)) (sym c.in_ok-push.ensures.items)
-      (All-push (IsWithin rows) c.points.walks.items c.first_walk.result (c.points.invariant.within rows some)
-      (c.first_walk.ensures.within rows some));
-  at = c.next-at.ensures c.points.anchor c.points.invariant.at;
-}
+points-preserved c =
+    let walk : Walk = first_walk c.args.automaton.now c.args.size c.points.anchor in
+    let is = first_walk-is c.args.automaton.now c.args.size c.points.anchor c.kind-entry.result c.points.at
+    c.kind-entry.ensures c.points.invariant.at in
+    let on : c.points.anchor < c.args.size * c.args.size =
+    subst (λ n. c.points.anchor < n) c.points-anchor-end.ensures.value c.points-test.true in
+    let low : corner_at c.args.size c.points.anchor ≤ last_corner =
+    subst (λ n. n ≤ last_corner) (corner_is c.args.size c.points.anchor c.points.at c.points.invariant.at)
+    (cursor_corner c.args.size c.points.anchor c.points.at c.points.invariant.at
+    (omega (arith, c.get.ensures.at_least)) c.get.ensures.at_most on) in
+    let items = c.in_ok-push.ensures.items ∙ ap (λ w. c.points.walks.items ++ w ∷ []) is in
+    record {
+      value = items ∙ ap (λ ws. ws ++ walk ∷ []) c.points.invariant.value
+          ∙ sym (map-range_with_len_more (first_walk c.args.automaton.now c.args.size) 0 c.points.anchor
+          c.points.anchor (omega arith));
+      standing = subst (All (IsStanding c.args.automaton.now)) (sym items)
+          (All-push (IsStanding c.args.automaton.now) c.points.walks.items walk c.points.invariant.standing
+          (first_standing c.args.automaton.now c.args.size c.points.anchor c.rows.ensures.automaton low));
+      at = c.next-at.ensures c.points.anchor c.points.invariant.at;
+    }

@@ -2,7 +2,7 @@ use Rattle.std.proofs.Common.{◌≡◌, ◌++◌, [], sym, ap, ◌∙◌, inl, 
 use Rattle.std.proofs.lemmas.List.{append-nil}
 use Rattle.dfa_core.specs.Automata.{row_at}
 use Rattle.dfa_core.proofs.RowKinds.{kind-dead, kind-plain}
-use Rattle.dfa_match.proofs.Levels.{hits_of-start}
+use Rattle.dfa_match.proofs.StandingWalks.{hits_of-start}
 use Rattle.dfa_match.proofs.walks.give_start.Goals as goal
 
 -- where the start accepts nothing no walk gives out anything

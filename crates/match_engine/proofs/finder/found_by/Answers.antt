@@ -24,13 +24,13 @@ ranks_among-requires-clause-anchors c = λ hit there.
 -- the matches with the sorted ranks are what the automaton finds
 pub returns : goal.returns
 returns c =
-    let found : map match_with c.sort_unstable.new.self.items ≡ found_by c.args.automaton.now c.args.patterns.now
+    let found : map match_with c.sort_unstable.new.self.items ≡ found_by c.args.scanner.now c.args.patterns.now
     c.args.position.now c.args.friend =
-    sorted_ranks c.args.automaton.now c.args.position.now c.args.friend c.args.patterns.now c.in_ok-hits.hits.items
+    sorted_ranks c.args.scanner.now c.args.position.now c.args.friend c.args.patterns.now c.in_ok-hits.hits.items
     c.in_ok-ranks.ranks.items c.sort_unstable.new.self.items
     (subst (λ s. s * s ≤ largest_points) c.size.ensures.value
     (subst (λ n. n ≤ largest_points) c.points.ensures.value c.points.ensures.bound))
-    (subst (λ b. AreHits c.args.automaton.now b c.args.friend c.in_ok-hits.hits.items) c.new-watch.ensures.shows
+    (subst (λ b. AreHits c.args.scanner.now b c.args.friend c.in_ok-hits.hits.items) c.new-watch.ensures.shows
     c.in_ok-hits.ensures.hits)
     (c.in_ok-ranks.ensures.value ∙ ap (filter_map (made c.args.patterns.now c.args.position.now c.args.friend))
     c.as_slice.ensures.value)

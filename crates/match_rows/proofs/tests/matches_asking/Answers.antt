@@ -1,8 +1,10 @@
-use Rattle.std.proofs.Common.{arith, length, ap, ◌≡◌}
+use Rattle.std.proofs.Common.{arith, length, ap, subst, Contains, ◌≡◌}
+use Rattle.dfa_core.specs.Automata.{accepted}
 use Rattle.match_rows.proofs.tests.matches_asking.Goals as goal
 
 -- the automaton accepts numbers of the list alone
 pub matches-requires : goal.matches-requires
 matches-requires c = record {
-  numbers = λ w n here. let low = c.in_ok-automaton.ensures.numbers w n here in omega (arith, low);
+  numbers = λ w n here. let low = c.in_ok-automaton.ensures.numbers w n
+      (subst (λ rows. Contains (accepted rows w) n) c.in_ok-scanner.ensures here) in omega (arith, low);
 }

@@ -16,10 +16,10 @@ list_text-requires g c =
     let patterns = c.args.patterns.now in
     let code = codes_of c.args.readings.now in
     let advice = says_yes (states_of (λ z. (goal.Helper-dyn g z).state z.1) c.args.helpers.now) in
-    let found = automaton_matches code advice c.args.automaton.now patterns c.args.position.now c.args.friend in
+    let found = automaton_matches code advice c.args.scanner.now patterns c.args.position.now c.args.friend in
     subst (λ zs. AreAmong patterns c.size.result zs) (sym (c.as_slice.ensures.value ∙ c.in_ok-found.ensures.automaton))
     (subst (λ s. AreAmong patterns s found) (sym c.size.ensures.value)
-    (AreAmong-found code advice c.args.automaton.now patterns c.args.position.now c.args.friend))
+    (AreAmong-found code advice c.args.scanner.now patterns c.args.position.now c.args.friend))
 
 -- the helpers were asked, and keep the rest
 pub returns-clause-helpers : goal.returns-clause-helpers

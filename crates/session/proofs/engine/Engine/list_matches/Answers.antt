@@ -5,5 +5,5 @@ use Rattle.session.proofs.engine.Engine.list_matches.Goals as goal
 
 -- each number that the session's automaton accepts is that of one of its patterns
 pub matches_text-requires : goal.matches_text-requires
-matches_text-requires g c = subst (λ patterns. NumbersPatterns c.self.inside.automaton patterns)
+matches_text-requires g c = subst (λ patterns. NumbersPatterns c.self.inside.scanner patterns)
     (sym c.deref.ensures.value) c.self.invariant

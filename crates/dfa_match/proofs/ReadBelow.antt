@@ -1,0 +1,83 @@
+-- Below how many letters the words of each point have been read.
+use Rattle.std.proofs.Common.{◌≡◌, ℕ, ◌+◌, ◌<◌, ◌⊎◌, inl, inr, ◌==◌, cond, List}
+use Rattle.std.proofs.Common.{[], ◌∷◌, if◌then◌else◌, map, Contains, refl, ap, ◌∙◌}
+use Rattle.std.proofs.Common.{arith}
+use Rattle.std.specs.List.{AllPairs}
+use Rattle.std.proofs.lemmas.Bool.{cases_Bool, eqb-true, eqb-false, eq-eqb, ne_eqb}
+use Rattle.spiral.specs.Spiral.{offset_count}
+use Rattle.match_rules.proofs.Lists.{Contains-cons_cases, Contains-first, Contains-rest, Contains-nil}
+use Rattle.match_rules.proofs.Lists.{AllPairs-rest, AllPairs-before}
+use Rattle.dfa_match.specs.declared.walks.Walk.{Walk}
+
+-- below how many letters the words of the point m have been read: as f says of its walk, and all where it has no walk
+-- left
+abbrev pub read_below : (Walk → ℕ) → List Walk → ℕ → ℕ
+read_below f [] m = offset_count + 1
+read_below f (w ∷ walks) m = if w.anchor == m then f w else read_below f walks m
+
+-- as many as the walk has read, before what is accepted behind them is given out
+abbrev pub before_giving : Walk → ℕ
+before_giving w = w.letters
+
+-- and after that
+abbrev pub after_giving : Walk → ℕ
+after_giving w = w.letters + 1
+
+-- a point has a walk, or none
+pub read_cases : (f : Walk → ℕ) (walks : List Walk) (m : ℕ)
+    → ((w : Walk) × Contains walks w × (w.anchor ≡ m) × (read_below f walks m ≡ f w))
+    ⊎ (((w : Walk) → Contains walks w → w.anchor ≡ m → ⊥) × (read_below f walks m ≡ offset_count + 1))
+read_cases f [] m = inr ((λ w there same. Contains-nil w there), refl)
+read_cases f (w ∷ walks) m = elim (cases_Bool (w.anchor == m)) [
+  | inl here ↦ inl (
+    w,
+    Contains-first w walks w refl,
+    eqb-true w.anchor m here,
+    ap (λ b. cond b (f w) (read_below f walks m)) here,
+  )
+  | inr other ↦ elim (read_cases f walks m) [
+    | inl later ↦ inl (
+      later.0,
+      Contains-rest w walks later.0 later.1,
+      later.2,
+      ap (λ b. cond b (f w) (read_below f walks m)) other ∙ later.3,
+    )
+    | inr none ↦ inr (
+      (λ v there same. elim (Contains-cons_cases w walks v there) [
+        | inl first ↦ eqb-false w.anchor m other (ap (λ (u : Walk). u.anchor) first ∙ same)
+        | inr later ↦ none.0 v later same
+      ]),
+      ap (λ b. cond b (f w) (read_below f walks m)) other ∙ none.1,
+    )
+  ]
+]
+
+-- where anchors rise the point of a walk has that one
+pub read_there : (f : Walk → ℕ) (walks : List Walk) (w : Walk) → AllPairs (λ u v. u.anchor < v.anchor) walks
+    → Contains walks w → read_below f walks w.anchor ≡ f w
+read_there f [] w rising there = absurd (Contains-nil w there)
+read_there f (v ∷ walks) w rising there = elim (Contains-cons_cases v walks w there) [
+  | inl first ↦ ap (λ b. cond b (f v) (read_below f walks w.anchor))
+      (eq-eqb v.anchor w.anchor (ap (λ (u : Walk). u.anchor) first)) ∙ ap f first
+  | inr later ↦
+      let before : v.anchor < w.anchor =
+      AllPairs-before (λ (u : Walk) (x : Walk). u.anchor < x.anchor) v walks w rising later in
+      ap (λ b. cond b (f v) (read_below f walks w.anchor))
+      (ne_eqb v.anchor w.anchor (λ same. omega (arith, before, same)))
+      ∙ read_there f walks w (AllPairs-rest (λ (u : Walk) (x : Walk). u.anchor < x.anchor) v walks rising) later
+]
+
+-- a point without a walk has no walk for another count
+pub read_none : (f : Walk → ℕ) (walks : List Walk) (m : ℕ) → ((w : Walk) → Contains walks w → w.anchor ≡ m → ⊥)
+    → read_below f walks m ≡ offset_count + 1
+read_none f walks m none = elim (read_cases f walks m) [
+  | inl some ↦ absurd (none some.0 some.1 some.2)
+  | inr still ↦ still.1
+]
+
+-- walks that are changed, but for their anchors, are counted behind the change
+pub read_changed : (f : Walk → Walk) (h : Walk → ℕ) (walks : List Walk) (m : ℕ) → ((w : Walk) → (f w).anchor ≡ w.anchor)
+    → read_below h (map f walks) m ≡ read_below (λ w. h (f w)) walks m
+read_changed f h [] m keeps = refl
+read_changed f h (w ∷ walks) m keeps = ap (λ k. cond (k == m) (h (f w)) (read_below h (map f walks) m)) (keeps w)
+    ∙ ap (λ n. cond (w.anchor == m) (h (f w)) n) (read_changed f h walks m keeps)

@@ -1,0 +1,92 @@
+-- Lists of steps, as they grow and as they are read.
+use Rattle.std.proofs.Common.{◌≡◌, ℕ, ◌+◌, ◌-◌, ◌*◌, ◌<◌, ◌≤◌, ◌++◌, List, [], ◌∷◌, length, get_or}
+use Rattle.std.proofs.Common.{ℤ, pos as plus, refl, sym, ap, ◌∙◌, subst, arith, inl, inr}
+use Rattle.std.proofs.lemmas.Bool.{cases_lt}
+use Rattle.std.proofs.lemmas.List.{length_push, get_or_push, get_or_append_left}
+use Rattle.go_rules.specs.Transform.{Offset, transformed}
+use Rattle.spiral.specs.Spiral.{offset_count, offset_at}
+use Rattle.dfa_match.specs.Steps.{step_by, step_count, last_step, AreStepsBehind}
+
+-- behind the old list stand no steps
+pub steps_none : (t : ℕ) (old : List ℕ) → AreStepsBehind t 0 old old
+steps_none t old = record {
+  all = omega arith;
+  before = λ k low. refl;
+  each = λ i low few. absurd (omega (arith, low));
+  past = λ i low. absurd (omega (arith, low));
+}
+
+-- one step more
+pub steps_more : (t n : ℕ) (old steps more : List ℕ) (step : ℕ) → AreStepsBehind t n old steps
+    → more ≡ steps ++ step ∷ [] → (n < offset_count → step ≡ step_by (transformed t (offset_at n))) → step ≤ last_step
+    → AreStepsBehind t (n + 1) old more
+steps_more t n old steps more step before added is low_step = record {
+  all = ap length added ∙ length_push steps step ∙ omega (arith, before.all);
+  before = λ k low. ap (λ ss. get_or ss k 0) added
+      ∙ get_or_append_left steps (step ∷ []) 0 k (omega (arith, before.all)) ∙ before.before k low;
+  each = λ i low few. elim (cases_lt i n) [
+    | inl old_one ↦ stands i old_one ∙ before.each i old_one few
+    | inr last ↦
+        let same : n ≡ i = omega arith in
+        pushed i same ∙ is (omega (arith, same)) ∙ ap (λ j. step_by (transformed t (offset_at j))) same
+  ];
+  past = λ i low. elim (cases_lt i n) [
+    | inl old_one ↦ omega (arith, stands i old_one, before.past i old_one)
+    | inr last ↦
+        let same : n ≡ i = omega arith in
+        omega (arith, pushed i same, low_step)
+  ];
+}
+  where
+    stands : (i : ℕ) → i < n → get_or more (length old + i) 0 ≡ get_or steps (length old + i) 0
+    stands i low = ap (λ ss. get_or ss (length old + i) 0) added
+        ∙ get_or_append_left steps (step ∷ []) 0 (length old + i) (omega (arith, before.all, low))
+
+    pushed : (i : ℕ) → n ≡ i → get_or more (length old + i) 0 ≡ step
+    pushed i same = ap (λ ss. get_or ss (length old + i) 0) added
+        ∙ get_or_push steps step 0 (length old + i) (omega (arith, before.all, same))
+
+-- the list has the steps of the first n transformations, one after the other
+pub record AreStepsBelow (n : ℕ) (steps : List ℕ) : Type 0 where
+  pub all : length steps ≡ n * step_count
+  pub each : (t i : ℕ) → t < n → i < offset_count
+      → get_or steps (t * step_count + i) 0 ≡ step_by (transformed t (offset_at i))
+  pub past : (k : ℕ) → k < n * step_count → get_or steps k 0 ≤ last_step
+
+-- those of one transformation more
+pub steps_below_more : (n t : ℕ) (old new : List ℕ) → AreStepsBelow n old → t ≡ n → AreStepsBehind t step_count old new
+    → AreStepsBelow (n + 1) new
+steps_below_more n t old new below same behind = record {
+  all = omega (arith, behind.all, below.all);
+  each = λ u i low few. elim (cases_lt u n) [
+    | inl old_one ↦ behind.before (u * step_count + i) (omega (arith, below.all, old_one, few))
+        ∙ below.each u i old_one few
+    | inr last ↦
+        let is : u ≡ t = omega (arith, low, last, same) in
+        let place : u * step_count + i ≡ length old + i = omega (arith, below.all, is, same) in
+        ap (λ k. get_or new k 0) place ∙ behind.each i (omega (arith, few)) few
+        ∙ ap (λ v. step_by (transformed v (offset_at i))) (sym is)
+  ];
+  past = λ k low. elim (cases_lt k (length old)) [
+    | inl old_one ↦
+        let on : k < n * step_count = omega (arith, old_one, below.all) in
+        omega (arith, behind.before k old_one, below.past k on)
+    | inr last ↦
+        let i : ℕ = k - length old in
+        let place : length old + i ≡ k = omega (arith, last) in
+        subst (λ j. get_or new j 0 ≤ last_step) place (behind.past i (omega (arith, low, last, below.all)))
+  ];
+}
+
+-- the first offset leads nowhere
+pub offset_at-zero : offset_at 0 ≡ (plus 0, plus 0)
+unfolding offset_at
+offset_at-zero = refl
+
+-- and it is moved nowhere by any transformation
+pub still : (t : ℕ) → transformed t (plus 0, plus 0) ≡ (plus 0, plus 0)
+still t = grind arith
+
+-- an offset is its two parts
+pub offset_by_its_parts : (d : Offset) (x y : ℤ) (o : Offset) → d ≡ o → x ≡ d.0 → y ≡ d.1 → o ≡ (x, y)
+offset_by_its_parts d x y o same r c = rw (r, c) (sym same)

@@ -1,0 +1,161 @@
+-- The rings around anchors, which are turned from one transformation to the next.
+use Rattle.std.proofs.Common.{◌≡◌, ℕ, zero, suc, ◌+◌, ◌*◌, ◌<◌, List, [], ◌∷◌, get_or, refl, sym, ap, ◌∙◌, arith}
+use Rattle.go_rules.specs.Transform.{Offset, transformed, transformations}
+use Rattle.spiral.specs.Spiral.{offset_at}
+use Rattle.dfa_core.specs.declared.automaton.Seen.{Seen}
+use Rattle.dfa_core.specs.declared.automaton.Seen.TheVariants.{Off}
+use Rattle.dfa_core.specs.Words.{Word, letter_number}
+use Rattle.dfa_core.proofs.Entries.{letter_below}
+use Rattle.dfa_shortcuts.specs.Openings.{opening_letters, word_number}
+use Rattle.dfa_match.specs.declared.rings.Ring.{Ring}
+use Rattle.dfa_match.specs.declared.walks.Walk.{Walk}
+use Rattle.dfa_match.specs.Rings.{ring_letters, letters_around, ring_of, ring_under, turned_number}
+use Rattle.dfa_match.specs.Sights.{word_from}
+use Rattle.dfa_match.specs.Steps.{step_by, no_step, AreSteps}
+use Rattle.dfa_match.specs.Walks.{word_behind}
+use Rattle.dfa_match.proofs.SeenWords.{word_from-suc, word_from-same}
+use Rattle.dfa_match.proofs.StepLists.{offset_at-zero, still}
+
+-- the letters that are seen at eight places
+abbrev eight : (ℕ → Seen) → Word
+eight seen = seen 1 ∷ seen 2 ∷ seen 3 ∷ seen 4 ∷ seen 5 ∷ seen 6 ∷ seen 7 ∷ seen 8 ∷ []
+
+-- those that are seen at the same places from the third one on, and then at the first two
+abbrev two_on : (ℕ → Seen) → Word
+two_on seen = seen 3 ∷ seen 4 ∷ seen 5 ∷ seen 6 ∷ seen 7 ∷ seen 8 ∷ seen 1 ∷ seen 2 ∷ []
+
+-- the letters of a ring are those that are seen at its eight places
+word-eight : (seen : ℕ → Seen) → word_from seen 1 ring_letters ≡ eight seen
+unfolding word_from
+word-eight seen = refl
+
+-- eight letters whose first two are put behind the others have the number that is turned
+number_turns : (a b c d e f g h : Seen)
+    → word_number (c ∷ d ∷ e ∷ f ∷ g ∷ h ∷ a ∷ b ∷ [])
+    ≡ turned_number (word_number (a ∷ b ∷ c ∷ d ∷ e ∷ f ∷ g ∷ h ∷ []))
+number_turns a b c d e f g h = omega (
+  arith,
+  letter_below a,
+  letter_below b,
+  letter_below c,
+  letter_below d,
+  letter_below e,
+  letter_below f,
+  letter_below g,
+  letter_below h,
+)
+
+-- a letter before eight others is the highest digit
+number_before : (x a b c d e f g h : Seen) → word_number (x ∷ a ∷ b ∷ c ∷ d ∷ e ∷ f ∷ g ∷ h ∷ [])
+    ≡ 65536 * letter_number x + word_number (a ∷ b ∷ c ∷ d ∷ e ∷ f ∷ g ∷ h ∷ [])
+number_before x a b c d e f g h = omega arith
+
+module _ (letters : List Seen) (corner : ℕ) where
+  -- what is seen at an offset from the anchor
+  abbrev seen_by : Offset → Seen
+  seen_by d = get_or letters (corner + step_by d) Off
+
+  -- the places of a ring under t
+  abbrev places : ℕ → ℕ → Seen
+  places t i = seen_by (transformed t (offset_at i))
+
+  -- where the letters under u are those under t from two places on, the number is turned
+  turned_from : (t u : ℕ) → eight (places u) ≡ two_on (places t)
+      → turned_number (word_number (letters_around letters t corner)) ≡ word_number (letters_around letters u corner)
+  turned_from t u on =
+      let seen : ℕ → Seen = places t in
+      ap (λ w. turned_number (word_number w)) (word-eight seen)
+      ∙ sym (number_turns (seen 1) (seen 2) (seen 3) (seen 4) (seen 5) (seen 6) (seen 7) (seen 8))
+      ∙ ap word_number (sym on) ∙ ap word_number (sym (word-eight (places u)))
+
+  -- transformation 1 turns the ring
+  turned-one : turned_number (word_number (letters_around letters 0 corner))
+      ≡ word_number (letters_around letters 1 corner)
+  unfolding offset_at
+  turned-one = turned_from 0 1 refl
+
+  -- transformation 2 turns it once more
+  turned-two : turned_number (word_number (letters_around letters 1 corner))
+      ≡ word_number (letters_around letters 2 corner)
+  unfolding offset_at
+  turned-two = turned_from 1 2 refl
+
+  -- and so does transformation 3
+  turned-three : turned_number (word_number (letters_around letters 2 corner))
+      ≡ word_number (letters_around letters 3 corner)
+  unfolding offset_at
+  turned-three = turned_from 2 3 refl
+
+  -- transformation 7 turns the mirrored ring
+  turned-seven : turned_number (word_number (letters_around letters 4 corner))
+      ≡ word_number (letters_around letters 7 corner)
+  unfolding offset_at
+  turned-seven = turned_from 4 7 refl
+
+  -- transformation 6 turns it once more
+  turned-six : turned_number (word_number (letters_around letters 7 corner))
+      ≡ word_number (letters_around letters 6 corner)
+  unfolding offset_at
+  turned-six = turned_from 7 6 refl
+
+  -- and so does transformation 5
+  turned-five : turned_number (word_number (letters_around letters 6 corner))
+      ≡ word_number (letters_around letters 5 corner)
+  unfolding offset_at
+  turned-five = turned_from 6 5 refl
+
+-- the number of a ring under t is that of the letters that are read around the anchor
+ring_read : (letters : List Seen) (w : Walk) (t : ℕ) → t < transformations
+    → ring_under t (ring_of letters w) ≡ word_number (letters_around letters t w.corner)
+ring_read letters w zero low = refl
+ring_read letters w (suc zero) low = turned-one letters w.corner
+ring_read letters w (suc (suc zero)) low = ap turned_number (turned-one letters w.corner) ∙ turned-two letters w.corner
+ring_read letters w (suc (suc (suc zero))) low =
+    ap turned_number (ap turned_number (turned-one letters w.corner) ∙ turned-two letters w.corner)
+    ∙ turned-three letters w.corner
+ring_read letters w (suc (suc (suc (suc zero)))) low = refl
+ring_read letters w (suc (suc (suc (suc (suc zero))))) low =
+    ap turned_number (ap turned_number (turned-seven letters w.corner) ∙ turned-six letters w.corner)
+    ∙ turned-five letters w.corner
+ring_read letters w (suc (suc (suc (suc (suc (suc zero)))))) low =
+    ap turned_number (turned-seven letters w.corner) ∙ turned-six letters w.corner
+ring_read letters w (suc (suc (suc (suc (suc (suc (suc zero))))))) low = turned-seven letters w.corner
+ring_read letters w (suc (suc (suc (suc (suc (suc (suc (suc t)))))))) low = absurd (omega (arith, low))
+
+module _ (letters : List Seen) (steps : List ℕ) (t corner : ℕ) (are : AreSteps t steps) where
+  -- what is read behind a corner by a step
+  abbrev read_by : ℕ → Seen
+  read_by i = get_or letters (corner + get_or steps i 0) Off
+
+  -- by the steps the letters around the anchor are read
+  pub ring_by_steps : word_from read_by 1 ring_letters ≡ letters_around letters t corner
+  ring_by_steps = word_from-same read_by (places letters corner t) 1 ring_letters
+      (λ i low few. ap (λ step. get_or letters (corner + step) Off) (are.each i (omega (arith, few))))
+
+  -- the first letter that is read is the anchor's
+  anchor_by_steps : read_by 0 ≡ get_or letters (corner + no_step) Off
+  anchor_by_steps = ap (λ step. get_or letters (corner + step) Off)
+      (are.each 0 (omega arith) ∙ ap (λ d. step_by (transformed t d)) offset_at-zero ∙ ap step_by (still t))
+
+  -- the number of an opening is the anchor's letter before the number of the ring
+  opening_by_steps : word_number (word_behind letters steps corner opening_letters)
+      ≡ 65536 * letter_number (get_or letters (corner + no_step) Off) + word_number (letters_around letters t corner)
+  opening_by_steps =
+      let seen : ℕ → Seen = read_by in
+      ap word_number (word_from-suc seen 0 ring_letters)
+      ∙ ap (λ w. word_number (seen 0 ∷ w)) (word-eight seen)
+      ∙ number_before (seen 0) (seen 1) (seen 2) (seen 3) (seen 4) (seen 5) (seen 6) (seen 7) (seen 8)
+      ∙ ap (λ w. 65536 * letter_number (seen 0) + word_number w) (sym (word-eight seen) ∙ ring_by_steps)
+      ∙ ap (λ x. 65536 * letter_number x + word_number (letters_around letters t corner)) anchor_by_steps
+
+-- so it is where the ring is turned
+pub opening_turned : (letters : List Seen) (steps : List ℕ) (t : ℕ) (w : Walk) (anchor : Seen) (ring : Ring)
+    → t < transformations → AreSteps t steps → anchor ≡ get_or letters (w.corner + no_step) Off
+    → ring ≡ ring_of letters w
+    → 65536 * letter_number anchor + ring_under t ring
+    ≡ word_number (word_behind letters steps w.corner opening_letters)
+opening_turned letters steps t w anchor ring low are seen is =
+    ap (λ x. 65536 * letter_number x + ring_under t ring) seen
+    ∙ ap (λ n. 65536 * letter_number (get_or letters (w.corner + no_step) Off) + n)
+    (ap (ring_under t) is ∙ ring_read letters w t low)
+    ∙ sym (opening_by_steps letters steps t w.corner are)

@@ -1,9 +1,0 @@
-use Rattle.std.proofs.lemmas.List.Filters.{FiltersInPlace}
-use Rattle.dfa_match.specs.Walks.{goes_on}
-use Rattle.dfa_match.proofs.letters.drop_dead.Given as goal
-
--- of the walks before those that go on stand in front
-abbrev pub invariant-walks : goal.invariant-walks
-invariant-walks l = record {
-  kept : FiltersInPlace (goes_on l.automaton) l.fn.walks.items l.walks.items l.kept l.index;
-}

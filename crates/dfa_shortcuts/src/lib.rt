@@ -1,0 +1,87 @@
+//! Shortcuts through an automaton: rows to which several letters lead, found in one look.
+//!
+//! Behind many rows no pattern looks at the next letters: each of them leads on to one row. A shortcut passes over such
+//! letters. An opening is the first nine letters of a word, which are the anchor's and those of the ring around it; the
+//! row behind them is found by their number. No shortcut leads over a row that accepts something.
+#![tactic(auto)]
+
+ghost use Rattle.std.specs.Prelude.{◌≡◌, ◌≢◌, ◌≤◌, ◌+◌, ◌*◌, length, slice_index_or, IfOk, IfSome, IfNone};
+ghost use Rattle.dfa_core.specs.Words.{letter_number};
+ghost use Rattle.dfa_shortcuts.specs.Shortcuts.{AreShortcuts};
+ghost use Rattle.dfa_shortcuts.specs.Openings.{AreOpenings, unknown};
+
+mod entries;
+mod openings;
+mod passing;
+
+pub use crate::entries::{is_accepting, is_dead};
+pub use crate::openings::OPENING_LETTERS;
+use crate::openings::{UNKNOWN, openings_of};
+use crate::passing::{Passed, passed_from};
+use dfa_core::{Automaton, Seen};
+use go_base::NoMemory;
+use std::alloc::Global;
+
+/// The shortcuts of an automaton.
+#[derive(Drop)]
+pub struct Shortcuts {
+    /// For each row and letter, in the order of the automaton's entries, the entry of the row behind the letter and
+    /// those that are passed over.
+    pub entries: Vec<u32>,
+    /// For each of these, how many letters are passed over behind the one that is read.
+    pub passed: Vec<u8>,
+    /// By the numbers of openings, the entries of the rows behind them. It has none for a small automaton.
+    pub openings: Vec<u32>,
+}
+
+impl Shortcuts {
+    /// The shortcuts of an automaton. Takes memory: five bytes for each letter of each row, and a megabyte for the
+    /// openings of an automaton that is not small.
+    pub fn of(alloc: Global, automaton: &Automaton) -> Result<Shortcuts, NoMemory>
+        ensures shortcuts { IfOk result (λ s. AreShortcuts automaton.now s.entries.items s.passed.items) }
+        ensures openings { IfOk result (λ s. AreOpenings automaton.now s.openings.items) }
+    {
+        let _ = automaton.rows();
+        let from = automaton.entries();
+        let mut entries = Vec::with_capacity(alloc, from.len())?;
+        let mut passed = Vec::with_capacity(alloc, from.len())?;
+        'entries: for entry in from {
+            let Passed {
+                entry: behind,
+                letters,
+            } = passed_from(from, *entry);
+            entries.push(behind)?;
+            passed.push(letters)?;
+        }
+        Ok(Shortcuts {
+            entries,
+            passed,
+            openings: openings_of(alloc, automaton)?,
+        })
+    }
+
+    /// The entry of the row behind this letter and those that are passed over, and how many these are.
+    #[inline(always)]
+    pub fn behind(&self, row: u32, letter: Seen) -> (u32, u8)
+        requires entries { 4 * row + 4 ≤ length self.now.entries.items }
+        requires passed { 4 * row + 4 ≤ length self.now.passed.items }
+        ensures entry { result.0 ≡ slice_index_or self.now.entries.items (4 * row + letter_number letter) 0 }
+        ensures passed { result.1 ≡ slice_index_or self.now.passed.items (4 * row + letter_number letter) 0 }
+    {
+        let place = 4 * row as usize + letter as usize;
+        (self.entries[place], self.passed[place])
+    }
+
+    /// The entry of the row behind the opening with a number; None where nothing is known of it.
+    #[inline(always)]
+    pub fn opening(&self, number: u32) -> Option<u32>
+        ensures known { IfSome result (λ entry. (entry ≢ unknown)
+            × (entry ≡ slice_index_or self.now.openings.items number unknown)) }
+        ensures none { IfNone result (slice_index_or self.now.openings.items number unknown ≡ unknown) }
+    {
+        match self.openings.get(number as usize) {
+            Some(entry) if *entry != UNKNOWN => Some(*entry),
+            _ => None,
+        }
+    }
+}
