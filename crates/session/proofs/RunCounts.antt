@@ -2,6 +2,7 @@
 use Rattle.std.proofs.Common.{◌≡◌, ℕ, suc, ◌+◌, ◌^◌, ◌<◌, ◌≤◌, Bool, true, false, cond, List, [], ◌∷◌, length, Option}
 use Rattle.std.proofs.Common.{Some, None, refl, sym, ap, subst, ◌∙◌, arith, inl, inr}
 use Rattle.std.specs.Prelude.{◌==◌}
+use Rattle.std.specs.Option.{is_some}
 use Rattle.std.proofs.lemmas.List.{length-append}
 use Rattle.std.proofs.lemmas.List.Sums.{sum_by-cons}
 use Rattle.gtp_rules.specs.Lines.{RawLine, Line, TooLong, line_feed, lines_of, lines_with_rest, rest_of, rest_line}
@@ -12,7 +13,8 @@ use Rattle.run_notes.specs.declared.notes.Counts.{Counts}
 use Rattle.session.specs.Machine.{Machine}
 use Rattle.session.specs.SessionState.{SessionState, no_counts}
 use Rattle.session.specs.Counting.{counted, is_read_line, readings_in}
-use Rattle.session.specs.Asking.{IsAfterLine}
+use Rattle.session.specs.Asking.{Asks, Nothing, One, Many, ReadsAs, ReadsNothing, IsAfterLine, AskNothing}
+use Rattle.session.specs.Asking.{asks_of_line, after_trials}
 use Rattle.session.specs.Serving.{HasFewFresh}
 use Rattle.session.specs.Turns.{Turn, IsAlong}
 use Rattle.session.specs.Tallies.{Tally, IsTallied, BreaksOff, one_turn}
@@ -156,6 +158,38 @@ few_along [] a b along few = subst (λ (k : SessionState). HasFewFresh k.counts)
 few_along (turn ∷ turns) a b (mid, first, rest) few =
     few_along turns mid b rest (few_fresh-line turn.machine turn.line a mid first.readings first.read few)
 
+-- where no reading was fresh, none was before, and no more plays were tried than before
+module _ (turn : Turn Machine) (a b : SessionState) (unfresh : b.counts.fresh ≡ 0) where
+  untried_by : (asks : Asks) → ReadsAs asks a b → (a.counts.fresh ≡ 0) × (b.counts.trials ≡ a.counts.trials)
+  untried_by Nothing read =
+      (ap (λ (c : Counts). c.fresh) (sym read.counts) ∙ unfresh, ap (λ (c : Counts). c.trials) read.counts)
+  untried_by (One key) read = by b.readings.last read.fresh read.trials
+    where
+      by : (last : Option ℕ) → b.counts.fresh ≡ counted a.counts.fresh (is_some last)
+          → b.counts.trials ≡ after_trials a.counts.trials last
+          → (a.counts.fresh ≡ 0) × (b.counts.trials ≡ a.counts.trials)
+      by None fresh trials = (sym fresh ∙ unfresh, trials)
+      by (Some n) fresh trials = absurd (omega (arith, fresh, unfresh))
+  untried_by Many read = (sym read.counts.fresh ∙ unfresh, read.counts.trials)
+
+-- the same along lines
+untried_along : (turns : List (Turn Machine)) (a b : SessionState) → IsAlong IsAfterLine a turns b
+    → b.counts.fresh ≡ 0 → (a.counts.fresh ≡ 0) × (b.counts.trials ≡ a.counts.trials)
+untried_along [] a b along unfresh =
+    (ap (λ (k : SessionState). k.counts.fresh) (sym along) ∙ unfresh, ap (λ (k : SessionState). k.counts.trials) along)
+untried_along (turn ∷ turns) a b (mid, first, rest) unfresh =
+    let later = untried_along turns mid b rest unfresh in
+    let here = untried_by turn a mid later.0 (asks_of_line turn.machine turn.line) first.read in
+    (here.0, later.1 ∙ here.1)
+
+-- where no line asks for anything, all is counted that was
+idle_along : (turns : List (Turn Machine)) (a b : SessionState) → IsAlong IsAfterLine a turns b → AskNothing turns
+    → b.counts ≡ a.counts
+idle_along [] a b along idle = ap (λ (k : SessionState). k.counts) along
+idle_along (turn ∷ turns) a b (mid, first, rest) idle =
+    let nothing : ReadsNothing a mid = subst (λ asks. ReadsAs asks a mid) (idle 0 turn (omega arith)) first.read in
+    idle_along turns mid b rest (λ k d low. idle (suc k) d (omega (arith, low))) ∙ nothing.counts
+
 -- the counts of a session that has answered few lines since it had counted nothing
 pub counts_of : (first last : SessionState) (turns : List (Turn Machine)) → IsAlong IsAfterLine first turns last
     → first.counts ≡ no_counts
@@ -172,4 +206,6 @@ counts_of first last turns along none room few =
       fresh = (few_along turns first last along start).few;
       hits = λ unrefused n hits. (let law = hits_are_kept first [] turns first last 0 n refl along room unrefused hits
           (omega (arith, readings, fresh)) small in omega (arith, law));
+      untried = λ unfresh. (untried_along turns first last along unfresh).1 ∙ ap (λ (c : Counts). c.trials) none;
+      idle = λ idle. idle_along turns first last along idle ∙ none;
     }

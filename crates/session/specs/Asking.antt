@@ -1,5 +1,5 @@
 -- What a line asks of the readings, and what the session counts of it.
-use Rattle.std.specs.Prelude.{◌≡◌, ℕ, ◌+◌, ◌-◌, ◌^◌, ◌≤◌, min, Option, Some, None, if◌then◌else◌}
+use Rattle.std.specs.Prelude.{◌≡◌, ℕ, ◌+◌, ◌-◌, ◌^◌, ◌≤◌, min, Option, Some, None, List, All, if◌then◌else◌}
 use Rattle.std.specs.Option.{is_some}
 use Rattle.go_rules.specs.Position.{IsPosition}
 use Rattle.gtp_rules.specs.Lines.{RawLine, Line, TooLong}
@@ -104,3 +104,7 @@ pub record IsAfterLine (old : SessionState) (turn : Turn Machine) (new : Session
   pub machine : turn.machine ≡ machine_of old
   pub readings : new.counts.readings ≡ counted old.counts.readings (is_read_line turn.machine turn.line)
   pub read : ReadsAs (asks_of_line turn.machine turn.line) old new
+
+-- no line asks for a reading or for matches
+abbrev pub AskNothing : List (Turn Machine) → Type 0
+AskNothing turns = All (λ turn. asks_of_line turn.machine turn.line ≡ Nothing) turns

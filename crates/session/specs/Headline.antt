@@ -11,6 +11,8 @@ use Rattle.session.specs.Matcher.{plain_matcher}
 use Rattle.session.specs.Answering.{step}
 use Rattle.session.specs.Turns.{Turn}
 use Rattle.session.specs.Counting.{readings_in}
+use Rattle.session.specs.Asking.{AskNothing}
+use Rattle.session.specs.SessionState.{no_counts}
 use Rattle.session.specs.CertainHit.{HaveCertainHits}
 use Rattle.session.specs.Tallies.{Tally, kept_sum}
 use Rattle.session.specs.Ends.{Streams, Serves}
@@ -74,10 +76,13 @@ ServesLines (Some n) step first before after end tally = ServesGenerated n step 
 
 -- The counts are those of these lines: each that asks for a reading and is answered with a code is counted, and no more
 -- are fresh. Where no keeping was refused, a certain hit is not fresh: n of them leave only the other readings to be.
+-- Without a fresh reading no play was tried, and where no line asks for a reading or for matches nothing is counted.
 pub record AreCountsOf (turns : List (Turn Machine)) (counts : Counts) : Type 0 where
   pub readings : counts.readings ≡ readings_in turns
   pub fresh : counts.fresh ≤ counts.readings
   pub hits : counts.refused ≡ 0 → (n : ℕ) → HaveCertainHits [] turns n → counts.fresh + n ≤ counts.readings
+  pub untried : counts.fresh ≡ 0 → counts.trials ≡ 0
+  pub idle : AskNothing turns → counts ≡ no_counts
 
 -- the counts are told where they are asked for: those of the lines of the tally
 abbrev pub AreCounts : Bool → Option Counts → Tally Machine → Type 0
