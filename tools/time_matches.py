@@ -6,7 +6,8 @@ BUILD is GNU Go's source after ./configure and make; RECORDS a folder that is se
 diagrams alone with the class letter `s`, without their constraints, so that neither program reads; one with the mark O or
 without a stone is left out, as by tools/compare_matches.py. GNU Go's matcher is linked with a callback that only counts: it tests
 no legality and sorts nothing. gopat's time is that of its whole reply, without what a session takes that sets the positions up
-and asks nothing. A call is one position and one colour; all times are the processor's.
+and asks nothing; and once more with the constraint `0` at each entry, which is false, so that the same matches are found, tried
+and sorted, and none is written. A call is one position and one colour; all times are the processor's.
 """
 
 import collections
@@ -76,6 +77,12 @@ def diagrams_of(path: pathlib.Path) -> Iterator[bytes]:
         mark = lines[colon][1:2]
         if mark != b"O" and any(letter in word for word in words for letter in (b"O", b"X")):
             yield b"\n".join([b" ".join(lines[0].split()[:2]), b"", *words, b"", b":" + mark + b",s", b"", b""])
+
+
+def unlisted(entry: bytes) -> bytes:
+    """The entry with a constraint that is false."""
+    diagram = entry.split(b"\n\n")[1]
+    return entry + b"\n\n".join([diagram, b";0", b""]) + b"\n"
 
 
 def widened(folder: pathlib.Path, room: pathlib.Path):
@@ -154,6 +161,8 @@ def main(gopat: str, build: str, patterns: str, records: str, wanted: str = "120
         room = pathlib.Path(name)
         database = room / "timed.db"
         database.write_bytes(b"".join(entries))
+        silent = room / "silent.db"
+        silent.write_bytes(b"".join(map(unlisted, entries)))
         command = [gopat, "--states", "1000000", str(database)]
         theirs = compiled_by_gnugo(folder, room, database)
         ours, empty = cost.of(command), cost.of([gopat])
@@ -161,9 +170,11 @@ def main(gopat: str, build: str, patterns: str, records: str, wanted: str = "120
         print(f"compiled by GNU Go  {theirs.seconds:.2f} s, {theirs.megabytes:.1f} MB")
         matches, microseconds = microseconds_of_gnugo(matcher_of(folder, room), asked, int(repeats))
         called = microseconds_of_gopat(command, asked, int(repeats))
+        found = microseconds_of_gopat([*command[:-1], str(silent)], asked, int(repeats))
         alone = microseconds_of_gopat([gopat], asked, int(repeats))
         print(f"a call of gopat     {called:.1f} us, {matches_of_gopat(command, asked)} matches")
         print(f"a call of GNU Go    {microseconds:.1f} us, {matches} matches: {called / microseconds:.2f} times its time")
+        print(f"with none listed    {found:.1f} us: {found / microseconds:.2f} times its time")
         print(f"without patterns    {alone:.1f} us")
 
 
