@@ -1,8 +1,8 @@
-use Rattle.std.proofs.Common.{arith, length, ap, subst, Contains, ◌≡◌}
+use Rattle.std.proofs.Common.{arith, subst, Contains}
 use Rattle.dfa_core.specs.Automata.{accepted}
-use Rattle.match_rows.proofs.tests.matches_asking.Goals as goal
+use Rattle.match_rows.proofs.tests.matches_in.Goals as goal
 
--- the automaton accepts numbers of the list alone
+-- the other list is no longer, and its automaton accepts numbers of it alone
 pub matches-requires : goal.matches-requires
 matches-requires c = record {
   numbers = λ w n here. let low = c.in_ok-automaton.ensures.numbers w n

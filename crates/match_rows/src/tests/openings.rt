@@ -1,0 +1,300 @@
+//! A list whose automaton is large enough for a table of openings, and its patterns alone, whose automata have none.
+use super::{Found, MOST_ROWS, matches_in, patterns_of, rows_within, told};
+use dfa_join::compile;
+use dfa_shortcuts::Shortcuts;
+use go_base::{Colour, Position, Size};
+use match_engine::Match;
+use pat_types::Pattern;
+use std::test::Fail;
+
+/// How many rows an automaton has at least for a table of its openings.
+const LEAST_ROWS: u32 = 4096;
+
+/// How many openings there are: words of nine letters, of which there are four.
+const OPENINGS: u32 = 262_144;
+
+/// How many patterns the long list has.
+const PATTERNS: u16 = 18;
+
+/// A pattern of the long list. How often it matches in the game was counted by a plain program, which compares each
+/// diagram with the board.
+struct Shape {
+    /// The text of the pattern.
+    text: &'static [u8],
+    /// How many rows its own automaton has: two more than the letters of the words that it accepts. With eleven or less
+    /// it accepts within an opening.
+    rows: u32,
+    /// How often it matches for black under each transformation.
+    black: [usize; 8],
+    /// How often it matches for white under each transformation.
+    white: [usize; 8],
+}
+
+/// A game: `X` is black and `O` is white.
+const GAME: &[u8] = b"
+. . O . X . . . .
+. . . X . O . . .
+. . X . . O . O .
+. . . . O X . . .
+X . . . X O . . .
+. . . X . O X O .
+. X O . . . X . .
+O X . O X O . . X
+. . O X . . O . .
+";
+
+/// The long list. `Edge` and `Corner` draw an edge beside the stone that is read first, so it lies within an opening.
+const SHAPES: [Shape; PATTERNS as usize] = [
+    Shape {
+        text: b"Pattern Hane\nOX\n*?\n:8,s\n",
+        rows: 9,
+        black: [2, 0, 2, 2, 2, 1, 3, 1],
+        white: [2, 3, 3, 1, 3, 0, 4, 1],
+    },
+    Shape {
+        text: b"Pattern Cut\nXO\nO*\n:8,s\n",
+        rows: 9,
+        black: [1, 0, 0, 0, 0, 0, 0, 1],
+        white: [0, 0, 2, 0, 0, 2, 0, 0],
+    },
+    Shape {
+        text: b"Pattern Attach\nX*\n.O\n:8,s\n",
+        rows: 9,
+        black: [1, 0, 2, 2, 0, 2, 2, 1],
+        white: [2, 2, 1, 0, 2, 1, 0, 2],
+    },
+    Shape {
+        text: b"Pattern Diagonal\n?.?\n?O?\n*?X\n:8,s\n",
+        rows: 11,
+        black: [0, 1, 0, 1, 2, 0, 1, 0],
+        white: [0, 2, 1, 0, 1, 1, 2, 1],
+    },
+    Shape {
+        text: b"Pattern Shoulder\n?*.\nX.?\n:8,s\n",
+        rows: 18,
+        black: [3, 1, 4, 4, 0, 4, 1, 2],
+        white: [1, 2, 1, 2, 3, 3, 3, 1],
+    },
+    Shape {
+        text: b"Pattern Peep\nX*X\n??.\n:8,s\n",
+        rows: 19,
+        black: [1, 1, 0, 1, 0, 1, 1, 1],
+        white: [0, 0, 0, 0, 0, 0, 0, 0],
+    },
+    Shape {
+        text: b"Pattern Edge\n?*O|\n?..|\n:8,s\n",
+        rows: 26,
+        black: [1, 0, 1, 0, 1, 0, 1, 0],
+        white: [0, 0, 0, 0, 0, 1, 0, 1],
+    },
+    Shape {
+        text: b"Pattern Corner\n*.O?|\n----+\n:8,s\n",
+        rows: 26,
+        black: [0, 0, 0, 0, 0, 0, 0, 1],
+        white: [0, 1, 0, 0, 0, 0, 0, 0],
+    },
+    Shape {
+        text: b"Pattern Jump\n*.O\n:8,s\n",
+        rows: 26,
+        black: [6, 6, 6, 5, 6, 5, 6, 6],
+        white: [5, 5, 5, 2, 5, 2, 5, 5],
+    },
+    Shape {
+        text: b"Pattern DiagonalJump\n??O\n?.?\n*??\n:8,s\n",
+        rows: 26,
+        black: [0, 3, 3, 1, 1, 0, 3, 3],
+        white: [4, 3, 3, 2, 2, 4, 3, 3],
+    },
+    Shape {
+        text: b"Pattern LargeKnight\n???O\n*..?\n:8,s\n",
+        rows: 49,
+        black: [1, 0, 1, 1, 1, 1, 1, 3],
+        white: [1, 2, 4, 2, 1, 1, 0, 3],
+    },
+    Shape {
+        text: b"Pattern TwoPointJump\n*..O\n:8,s\n",
+        rows: 49,
+        black: [4, 5, 3, 2, 3, 2, 4, 5],
+        white: [1, 1, 3, 1, 3, 1, 1, 1],
+    },
+    Shape {
+        text: b"Pattern Stand\n??Ox\n?*OX\n:8,s\n",
+        rows: 26,
+        black: [0, 0, 0, 0, 1, 0, 0, 0],
+        white: [1, 0, 1, 0, 0, 0, 0, 0],
+    },
+    Shape {
+        text: b"Pattern Row\n*??OO\n:8,s\n",
+        rows: 49,
+        black: [0, 2, 0, 0, 0, 0, 0, 2],
+        white: [0, 0, 0, 1, 0, 1, 0, 0],
+    },
+    Shape {
+        text: b"Pattern Tower\n???x\n???O\n*??O\n:8,s\n",
+        rows: 50,
+        black: [1, 0, 1, 0, 0, 0, 0, 0],
+        white: [1, 0, 2, 0, 2, 0, 2, 0],
+    },
+    Shape {
+        text: b"Pattern Open\n??...\n???O?\n*????\n:8,s\n",
+        rows: 50,
+        black: [1, 0, 0, 0, 1, 1, 0, 0],
+        white: [1, 1, 0, 2, 0, 1, 1, 1],
+    },
+    Shape {
+        text: b"Pattern Base\n???o\n???O\n*?.?\n:8,s\n",
+        rows: 50,
+        black: [2, 1, 3, 1, 2, 1, 2, 1],
+        white: [1, 2, 3, 2, 2, 1, 1, 1],
+    },
+    Shape {
+        text: b"Pattern Cap\n?????o\n*??O??\n?????X\n:8,s\n",
+        rows: 50,
+        black: [1, 1, 0, 0, 0, 0, 2, 1],
+        white: [0, 0, 3, 0, 1, 1, 0, 1],
+    },
+];
+
+/// The position of a drawing of a board of 9, row after row from the top.
+fn drawn(drawing: &[u8]) -> Result<Position, Fail> {
+    let size = Size::new(9).ok_or("the size is one of a board")?;
+    let mut position = Position::new(size);
+    let mut next = 0;
+    for mark in drawing {
+        if *mark <= b' ' {
+            continue;
+        }
+        if next >= position.size().points() {
+            return Err("the drawing has the points of the board")?;
+        }
+        match *mark {
+            b'X' => position = position.play(Colour::Black, next)?,
+            b'O' => position = position.play(Colour::White, next)?,
+            _ => {}
+        }
+        next += 1;
+    }
+    Ok(position)
+}
+
+/// The patterns of the long list. It has to have an automaton with a table of openings.
+fn long_list(rt: &HostRuntime) -> Result<Vec<Pattern>, Fail> {
+    let mut text = Vec::new(rt.alloc());
+    for shape in &SHAPES {
+        text.extend_from_slice(shape.text)?;
+    }
+    match rows_within(rt, &text, MOST_ROWS)? {
+        Some(rows) if rows >= LEAST_ROWS => Ok(patterns_of(rt, &text)?),
+        _ => Err("the automaton of the list has a table of openings")?,
+    }
+}
+
+/// One pattern of a list, as a list.
+fn one_of(patterns: &[Pattern], number: usize) -> Result<&[Pattern], Fail> {
+    if number >= patterns.len() {
+        return Err("the list has the pattern")?;
+    }
+    Ok(&patterns[number..number + 1])
+}
+
+/// How many openings have a row behind them that is known.
+fn known_openings(shortcuts: &Shortcuts) -> u32 {
+    let mut known = 0_u32;
+    for number in 0..OPENINGS {
+        if shortcuts.opening(number).is_some() {
+            known = known.saturating_add(1);
+        }
+    }
+    known
+}
+
+/// How many rows the automaton of a list has, and its shortcuts.
+fn rows_and_shortcuts(rt: &HostRuntime, patterns: &[Pattern]) -> Result<(u32, Shortcuts), Fail> {
+    if patterns.len() > 4096 {
+        return Err("the list is short")?;
+    }
+    let automaton = compile(rt.alloc(), patterns, MOST_ROWS)?;
+    let shortcuts = Shortcuts::of(rt.alloc(), &automaton)?;
+    Ok((automaton.rows(), shortcuts))
+}
+
+/// What each pattern of the long list finds by its own automaton, one pattern after the other.
+fn found_alone(
+    rt: &HostRuntime,
+    patterns: &[Pattern],
+    position: &Position,
+    friend: Colour,
+) -> Result<Vec<Found>, Fail> {
+    let mut alone = Vec::new(rt.alloc());
+    for number in 0..PATTERNS {
+        let one = one_of(patterns, number as usize)?;
+        for z in &matches_in(rt, one, one, position, friend)? {
+            alone.push((number, z.transform.get(), z.at))?;
+        }
+    }
+    Ok(alone)
+}
+
+/// How many of these matches are of one pattern, under each transformation.
+fn counted(found: &[Match], number: usize) -> [usize; 8] {
+    let mut counts = [0_usize; 8];
+    for z in found {
+        if z.pattern as usize == number {
+            let count = &mut counts[z.transform.get() as usize];
+            *count = count.saturating_add(1);
+        }
+    }
+    counts
+}
+
+// Of the 262,144 openings, 5,336 have a word that the list accepts behind their first letter.
+#[test]
+fn only_a_large_automaton_has_a_table_of_openings(rt: HostRuntime) -> Result<(), Fail> {
+    let patterns = long_list(&rt)?;
+    let (rows, shortcuts) = rows_and_shortcuts(&rt, &patterns)?;
+    assert_eq!(rt; rows, 4923, "the whole list");
+    assert_eq!(rt; known_openings(&shortcuts), 256_808);
+    for (number, shape) in SHAPES.iter().enumerate() {
+        let (rows, shortcuts) = rows_and_shortcuts(&rt, one_of(&patterns, number)?)?;
+        assert_eq!(rt; rows, shape.rows, "pattern {number} alone");
+        assert!(rt; shortcuts.openings.is_empty(), "pattern {number} alone");
+    }
+    Ok(())
+}
+
+#[test]
+fn openings_lead_to_what_each_pattern_finds_alone(rt: HostRuntime) -> Result<(), Fail> {
+    let patterns = long_list(&rt)?;
+    let position = drawn(GAME)?;
+    for friend in [Colour::Black, Colour::White] {
+        let found = matches_in(&rt, &patterns, &patterns, &position, friend)?;
+        let alone = found_alone(&rt, &patterns, &position, friend)?;
+        assert_eq!(rt;
+            told(&rt, &found)?.as_slice(),
+            alone.as_slice(),
+            "{friend:?}"
+        );
+    }
+    Ok(())
+}
+
+#[test]
+fn openings_lead_to_the_matches_of_a_plain_program(rt: HostRuntime) -> Result<(), Fail> {
+    let patterns = long_list(&rt)?;
+    let position = drawn(GAME)?;
+    let black = matches_in(&rt, &patterns, &patterns, &position, Colour::Black)?;
+    let white = matches_in(&rt, &patterns, &patterns, &position, Colour::White)?;
+    for (number, shape) in SHAPES.iter().enumerate() {
+        assert_eq!(rt;
+            counted(&black, number),
+            shape.black,
+            "black, pattern {number}"
+        );
+        assert_eq!(rt;
+            counted(&white, number),
+            shape.white,
+            "white, pattern {number}"
+        );
+    }
+    Ok(())
+}
