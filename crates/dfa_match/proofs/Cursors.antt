@@ -1,11 +1,24 @@
 -- Where the points of a board stand, one after another.
-use Rattle.std.proofs.Common.{◌≡◌, ℕ, ◌+◌, ◌*◌, ◌/◌, ◌%◌, ◌<◌, ◌≤◌, sym, ap, ◌∙◌, arith}
+use Rattle.std.proofs.Common.{◌≡◌, ℕ, zero, suc, ◌+◌, ◌*◌, ◌/◌, ◌%◌, ◌<◌, ◌≤◌, sym, ap, ◌∙◌, arith}
 use Rattle.std.proofs.lemmas.Nat.{div-mul-add, mod-mul-add, div-add-mod', div_below, mod_below}
 use Rattle.go_rules.specs.Board.{largest_size}
 use Rattle.go_rules.specs.Transform.{largest_offset}
 use Rattle.dfa_match.specs.declared.cursor.Cursor.{Cursor}
 use Rattle.dfa_match.specs.Sights.{padded_side}
-use Rattle.dfa_match.specs.Steps.{corner_at, cursor_at, last_corner}
+use Rattle.dfa_match.specs.Steps.{corner_at, anchor_at_corner, cursor_at, last_corner}
+
+-- a board that has a point has a row
+some_rows : (s m : ℕ) → m < s * s → 0 < s
+some_rows zero m on = absurd (omega (arith, on))
+some_rows (suc s) m on = omega arith
+
+-- the point whose square begins where that of the point m does is m
+pub anchor_of_corner : (s m : ℕ) → s ≤ largest_size → m < s * s → anchor_at_corner s (corner_at s m) ≡ m
+unfolding anchor_at_corner
+anchor_of_corner s m few on =
+    let column : m % s < padded_side = omega (arith, few, mod_below m s (some_rows s m on)) in
+    ap (λ n. n * s + corner_at s m % padded_side) (div-mul-add (m / s) padded_side (m % s) column)
+    ∙ ap (λ n. m / s * s + n) (mod-mul-add (m / s) padded_side (m % s) column) ∙ div-add-mod' m s
 
 module _ (s m : ℕ) (at : Cursor) (is : at ≡ cursor_at s m) where
   -- the column of the point

@@ -21,7 +21,7 @@ use Rattle.dfa_match.specs.declared.Hit.{Hit}
 use Rattle.dfa_match.specs.declared.walks.Walk.{Walk}
 use Rattle.dfa_match.specs.Sights.{seen_at, word_from, word_at}
 use Rattle.dfa_match.specs.Hits.{hits_at, IsHit, IsHitBefore, AreHitsBefore}
-use Rattle.dfa_match.specs.Walks.{given_at, hits_of, IsWalk, AreWalks}
+use Rattle.dfa_match.specs.Walks.{anchor_of, given_at, hits_of, IsWalk, AreWalks}
 use Rattle.dfa_match.proofs.SeenWords.{word_length}
 use Rattle.dfa_match.proofs.WordRows.{accepted-at, word_on}
 use Rattle.dfa_match.proofs.ReadBelow.{read_below, before_giving, after_giving, read_cases, read_there, read_none}
@@ -90,29 +90,29 @@ module _ (automaton : List Row) (pos : BoardState) (friend : Colour) (t : ℕ) (
   -- what is accepted behind the letters of a walk, as long as they are those of the spiral
   abbrev accepted_now : Walk → List ℕ
   accepted_now w = if nat_le w.letters offset_count
-      then accepted automaton (word_at pos friend t w.anchor w.letters) else []
+      then accepted automaton (word_at pos friend t (anchor_of pos.size w) w.letters) else []
 
   -- this is what is given out there
   given_now : (w : Walk) → IsWalk automaton pos friend t w → given_at automaton w ≡ accepted_now w
   given_now w is = elim (cases_Bool (nat_le w.letters offset_count)) [
     | inl few ↦ ap (λ b. cond b (row_at automaton (row_of w.entry)).numbers []) few
         ∙ ap (λ r. (row_at automaton r).numbers) (is.row (leb-true w.letters offset_count few))
-        ∙ sym (accepted-at automaton (word_at pos friend t w.anchor w.letters))
-        ∙ sym (ap (λ b. cond b (accepted automaton (word_at pos friend t w.anchor w.letters)) []) few)
+        ∙ sym (accepted-at automaton (word_at pos friend t (anchor_of pos.size w) w.letters))
+        ∙ sym (ap (λ b. cond b (accepted automaton (word_at pos friend t (anchor_of pos.size w) w.letters)) []) few)
     | inr past ↦ ap (λ b. cond b (row_at automaton (row_of w.entry)).numbers []) past
-        ∙ sym (ap (λ b. cond b (accepted automaton (word_at pos friend t w.anchor w.letters)) []) past)
+        ∙ sym (ap (λ b. cond b (accepted automaton (word_at pos friend t (anchor_of pos.size w) w.letters)) []) past)
   ]
 
   -- a number that is accepted there
   now_accepts : (w : Walk) (k : ℕ) → Contains (accepted_now w) k → (w.letters ≤ offset_count)
-      × Contains (accepted automaton (word_at pos friend t w.anchor w.letters)) k
+      × Contains (accepted automaton (word_at pos friend t (anchor_of pos.size w) w.letters)) k
   now_accepts w k there = elim (cases_Bool (nat_le w.letters offset_count)) [
     | inl few ↦ (
       leb-true w.letters offset_count few,
-      subst (λ b. Contains (cond b (accepted automaton (word_at pos friend t w.anchor w.letters)) []) k) few there,
+      subst (λ b. Contains (cond b (accepted automaton (word_at pos friend t (anchor_of pos.size w) w.letters)) []) k) few there,
     )
     | inr past ↦ absurd (Contains-nil k
-        (subst (λ b. Contains (cond b (accepted automaton (word_at pos friend t w.anchor w.letters)) []) k) past
+        (subst (λ b. Contains (cond b (accepted automaton (word_at pos friend t (anchor_of pos.size w) w.letters)) []) k) past
         there))
   ]
 
@@ -120,34 +120,34 @@ module _ (automaton : List Row) (pos : BoardState) (friend : Colour) (t : ℕ) (
   now_distinct : (w : Walk) → AreDistinct (accepted_now w)
   now_distinct w = elim (cases_Bool (nat_le w.letters offset_count)) [
     | inl few ↦
-        subst (λ b. AreDistinct (cond b (accepted automaton (word_at pos friend t w.anchor w.letters)) []))
-        (sym few) (good.distinct (word_at pos friend t w.anchor w.letters))
+        subst (λ b. AreDistinct (cond b (accepted automaton (word_at pos friend t (anchor_of pos.size w) w.letters)) []))
+        (sym few) (good.distinct (word_at pos friend t (anchor_of pos.size w) w.letters))
     | inr past ↦
-        subst (λ b. AreDistinct (cond b (accepted automaton (word_at pos friend t w.anchor w.letters)) []))
+        subst (λ b. AreDistinct (cond b (accepted automaton (word_at pos friend t (anchor_of pos.size w) w.letters)) []))
         (sym past) (λ i j d low low' e. absurd (omega (arith, low)))
   ]
 
   -- the hits behind the letters of a walk
   abbrev now_at : Walk → List Hit
-  now_at w = hits_at t w.anchor (accepted_now w)
+  now_at w = hits_at t (anchor_of pos.size w) (accepted_now w)
 
   -- the hits of the rows where the walks stand are these
-  hits_now : hits_of automaton t walks ≡ flat_map now_at walks
-  hits_now = flat_map-same (λ w. hits_at t w.anchor (given_at automaton w)) now_at walks
-      (λ w there. ap (hits_at t w.anchor) (given_now w (are.each w there)))
+  hits_now : hits_of automaton pos.size t walks ≡ flat_map now_at walks
+  hits_now = flat_map-same (λ w. hits_at t (anchor_of pos.size w) (given_at automaton w)) now_at walks
+      (λ w there. ap (hits_at t (anchor_of pos.size w)) (given_now w (are.each w there)))
 
   -- each of them is a hit
   now_sound : t < transformations → (hit : Hit) → Contains (flat_map now_at walks) hit
       → (is : IsHit automaton pos friend hit) × (hit.transform ≡ t)
-      × (is.letters ≡ read_below before_giving walks hit.anchor)
-      × (is.letters < read_below after_giving walks hit.anchor)
+      × (is.letters ≡ read_below pos.size before_giving walks hit.anchor)
+      × (is.letters < read_below pos.size after_giving walks hit.anchor)
   now_sound low hit there =
       let from = Contains-flat_map now_at walks hit there in
       let w : Walk = from.0 in
-      let at = hits_at-contains t w.anchor (accepted_now w) hit from.2 in
+      let at = hits_at-contains t (anchor_of pos.size w) (accepted_now w) hit from.2 in
       let accepts = now_accepts w hit.pattern at.1 in
       let transform : hit.transform ≡ t = ap (λ (h : Hit). h.transform) at.0 in
-      let anchor : hit.anchor ≡ w.anchor = ap (λ (h : Hit). h.anchor) at.0 in (
+      let anchor : hit.anchor ≡ anchor_of pos.size w = ap (λ (h : Hit). h.anchor) at.0 in (
         record {
           transform = subst (λ u. u < transformations) (sym transform) low;
           anchor = subst (λ m. m < pos.size * pos.size) (sym anchor) (are.each w from.1).anchor;
@@ -156,58 +156,58 @@ module _ (automaton : List Row) (pos : BoardState) (friend : Colour) (t : ℕ) (
           accepts = subst (λ m. Contains
               (accepted automaton (word_at pos friend hit.transform m w.letters)) hit.pattern) (sym anchor)
               (subst (λ u. Contains
-              (accepted automaton (word_at pos friend u w.anchor w.letters)) hit.pattern) (sym transform)
+              (accepted automaton (word_at pos friend u (anchor_of pos.size w) w.letters)) hit.pattern) (sym transform)
               accepts.1);
         },
         transform,
-        subst (λ m. w.letters ≡ read_below before_giving walks m) (sym anchor)
-            (sym (read_there before_giving walks w are.rising from.1)),
-        subst (λ m. w.letters < read_below after_giving walks m) (sym anchor)
-            (omega (arith, read_there after_giving walks w are.rising from.1)),
+        subst (λ m. w.letters ≡ read_below pos.size before_giving walks m) (sym anchor)
+            (sym (read_there pos.size before_giving walks w are.rising from.1)),
+        subst (λ m. w.letters < read_below pos.size after_giving walks m) (sym anchor)
+            (omega (arith, read_there pos.size after_giving walks w are.rising from.1)),
       )
 
   -- and each hit is one of them
   now_complete : (hit : Hit) (is : IsHit automaton pos friend hit) → hit.transform ≡ t
-      → is.letters ≡ read_below before_giving walks hit.anchor → Contains (flat_map now_at walks) hit
-  now_complete hit is transform letters = elim (read_cases before_giving walks hit.anchor) [
+      → is.letters ≡ read_below pos.size before_giving walks hit.anchor → Contains (flat_map now_at walks) hit
+  now_complete hit is transform letters = elim (read_cases pos.size before_giving walks hit.anchor) [
     | inr none ↦ absurd (omega (arith, is.spiral, letters, none.1))
     | inl some ↦
         let w : Walk = some.0 in
         let read : is.letters ≡ w.letters = letters ∙ some.3 in
-        let accepts : Contains (accepted automaton (word_at pos friend t w.anchor w.letters)) hit.pattern =
+        let accepts : Contains (accepted automaton (word_at pos friend t (anchor_of pos.size w) w.letters)) hit.pattern =
         subst (λ m. Contains (accepted automaton (word_at pos friend t m w.letters)) hit.pattern) (sym some.2)
         (subst (λ n. Contains (accepted automaton (word_at pos friend t hit.anchor n)) hit.pattern) read
         (accepts_now automaton pos friend t hit is transform)) in
         let there : Contains (accepted_now w) hit.pattern =
         subst (λ b. Contains
-        (cond b (accepted automaton (word_at pos friend t w.anchor w.letters)) []) hit.pattern)
+        (cond b (accepted automaton (word_at pos friend t (anchor_of pos.size w) w.letters)) []) hit.pattern)
         (sym (le-leb w.letters offset_count (omega (arith, is.spiral, read)))) accepts in
-        let anchor : hit.anchor ≡ w.anchor = sym some.2 in
-        let same : hit ≡ hit_of t w.anchor hit.pattern =
+        let anchor : hit.anchor ≡ anchor_of pos.size w = sym some.2 in
+        let same : hit ≡ hit_of t (anchor_of pos.size w) hit.pattern =
         λ j. record { pattern = hit.pattern; transform = transform j; anchor = anchor j } in
         subst (Contains (flat_map now_at walks)) (sym same)
-        (Contains-flat_map_from now_at walks w (hit_of t w.anchor hit.pattern) some.1
-        (Contains-map_from (hit_of t w.anchor) (accepted_now w) hit.pattern there))
+        (Contains-flat_map_from now_at walks w (hit_of t (anchor_of pos.size w) hit.pattern) some.1
+        (Contains-map_from (hit_of t (anchor_of pos.size w)) (accepted_now w) hit.pattern there))
   ]
 
   -- no two of them are the same
   now_once : AreDistinct (flat_map now_at walks)
   now_once =
       AreDistinct-from_pairs (flat_map now_at walks)
-      (AllPairs-flat_map (λ x y. x ≡ y → ⊥) (λ v w. v.anchor < w.anchor) now_at walks are.rising
-      (λ w. pairs_from_distinct (now_at w) (hits_at-distinct t w.anchor (accepted_now w) (now_distinct w)))
+      (AllPairs-flat_map (λ x y. x ≡ y → ⊥) (λ v w. anchor_of pos.size v < anchor_of pos.size w) now_at walks are.rising
+      (λ w. pairs_from_distinct (now_at w) (hits_at-distinct t (anchor_of pos.size w) (accepted_now w) (now_distinct w)))
       (λ v w y z less in_v in_w same.
-      let of_v : y.anchor ≡ v.anchor =
-      ap (λ (h : Hit). h.anchor) (hits_at-contains t v.anchor (accepted_now v) y in_v).0 in
-      let of_w : z.anchor ≡ w.anchor =
-      ap (λ (h : Hit). h.anchor) (hits_at-contains t w.anchor (accepted_now w) z in_w).0 in
+      let of_v : y.anchor ≡ anchor_of pos.size v =
+      ap (λ (h : Hit). h.anchor) (hits_at-contains t (anchor_of pos.size v) (accepted_now v) y in_v).0 in
+      let of_w : z.anchor ≡ anchor_of pos.size w =
+      ap (λ (h : Hit). h.anchor) (hits_at-contains t (anchor_of pos.size w) (accepted_now w) z in_w).0 in
       omega (arith, less, of_v, of_w, ap (λ (h : Hit). h.anchor) same)))
 
   -- a hit that was given out before is none of them
-  apart : (hit : Hit) → IsHitBefore automaton pos friend t (read_below before_giving walks) hit
+  apart : (hit : Hit) → IsHitBefore automaton pos friend t (read_below pos.size before_giving walks) hit
       → ((is : IsHit automaton pos friend hit) × (hit.transform ≡ t)
-      × (is.letters ≡ read_below before_giving walks hit.anchor)
-      × (is.letters < read_below after_giving walks hit.anchor)) → ⊥
+      × (is.letters ≡ read_below pos.size before_giving walks hit.anchor)
+      × (is.letters < read_below pos.size after_giving walks hit.anchor)) → ⊥
   apart hit was now = elim was.before [
     | inl earlier ↦ omega (arith, earlier, now.1)
     | inr less ↦ one_length hit.anchor was.is.letters now.0.letters hit.pattern (omega (arith, less.1, now.2))
@@ -215,22 +215,22 @@ module _ (automaton : List Row) (pos : BoardState) (friend : Colour) (t : ℕ) (
   ]
 
   -- how many letters have been read before and after the hits of a point are given out
-  given_cases : (m : ℕ) → (read_below after_giving walks m ≡ read_below before_giving walks m + 1)
-      ⊎ ((read_below before_giving walks m ≡ offset_count + 1)
-      × (read_below after_giving walks m ≡ offset_count + 1))
-  given_cases m = elim (read_cases before_giving walks m) [
-    | inl some ↦ inl (subst (λ k. read_below after_giving walks k ≡ some.0.letters + 1) some.2
-        (read_there after_giving walks some.0 are.rising some.1) ∙ ap (λ n. n + 1) (sym some.3))
-    | inr none ↦ inr (none.1, read_none after_giving walks m none.0)
+  given_cases : (m : ℕ) → (read_below pos.size after_giving walks m ≡ read_below pos.size before_giving walks m + 1)
+      ⊎ ((read_below pos.size before_giving walks m ≡ offset_count + 1)
+      × (read_below pos.size after_giving walks m ≡ offset_count + 1))
+  given_cases m = elim (read_cases pos.size before_giving walks m) [
+    | inl some ↦ inl (subst (λ k. read_below pos.size after_giving walks k ≡ some.0.letters + 1) some.2
+        (read_there pos.size after_giving walks some.0 are.rising some.1) ∙ ap (λ n. n + 1) (sym some.3))
+    | inr none ↦ inr (none.1, read_none pos.size after_giving walks m none.0)
   ]
 
   -- the hits of the rows where the walks stand join those before
   pub hits_more : (old new : List Hit) → t < transformations
-      → AreHitsBefore automaton pos friend t (read_below before_giving walks) old
-      → new ≡ old ++ hits_of automaton t walks
-      → AreHitsBefore automaton pos friend t (read_below after_giving walks) new
+      → AreHitsBefore automaton pos friend t (read_below pos.size before_giving walks) old
+      → new ≡ old ++ hits_of automaton pos.size t walks
+      → AreHitsBefore automaton pos friend t (read_below pos.size after_giving walks) new
   hits_more old new low before add =
-      subst (AreHitsBefore automaton pos friend t (read_below after_giving walks))
+      subst (AreHitsBefore automaton pos friend t (read_below pos.size after_giving walks))
       (sym (add ∙ ap (λ hs. old ++ hs) hits_now)) (record {
         sound = λ hit there. elim (Contains-append_cases old (flat_map now_at walks) hit there) [
           | inl in_old ↦
@@ -255,7 +255,7 @@ module _ (automaton : List Row) (pos : BoardState) (friend : Colour) (t : ℕ) (
         complete = λ hit is. elim is.before [
           | inl earlier ↦ Contains-append_left old (flat_map now_at walks) hit
               (before.complete hit (record { is = is.is; before = inl earlier }))
-          | inr now ↦ elim (cases_lt is.is.letters (read_below before_giving walks hit.anchor)) [
+          | inr now ↦ elim (cases_lt is.is.letters (read_below pos.size before_giving walks hit.anchor)) [
             | inl less ↦ Contains-append_left old (flat_map now_at walks) hit
                 (before.complete hit (record { is = is.is; before = inr (now.0, less) }))
             | inr here ↦ Contains-append_right old (flat_map now_at walks) hit

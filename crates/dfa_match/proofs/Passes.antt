@@ -18,12 +18,13 @@ use Rattle.dfa_match.specs.declared.walks.Walk.{Walk}
 use Rattle.dfa_match.specs.Sights.{word_at, AreSights}
 use Rattle.dfa_match.specs.Hits.{AreHitsBefore, nothing_read}
 use Rattle.dfa_match.specs.Steps.{AreSteps}
-use Rattle.dfa_match.specs.Walks.{first_walks_of, second_walks_of, after_anchor, goes_on, after_opening, after_letters}
+use Rattle.go_rules.specs.Board.{largest_size}
+use Rattle.dfa_match.specs.Walks.{anchor_of, first_walks_of, second_walks_of, after_anchor, goes_on, after_opening, after_letters}
 use Rattle.dfa_match.specs.Walks.{IsStanding, hits_of, AreWalks}
 use Rattle.dfa_match.proofs.StandingWalks.{letters_left}
-use Rattle.dfa_match.proofs.WalkRows.{ended_cases, opening_anchor, opening_more, opened_standing}
+use Rattle.dfa_match.proofs.WalkRows.{ended_cases, opening_corner, opening_more, opened_standing}
 use Rattle.dfa_match.proofs.WordRows.{dead_ends}
-use Rattle.dfa_match.proofs.SeenWalks.{first_letters, walks_changed, walks_kept, walks_first, walks_begun, walk_opened}
+use Rattle.dfa_match.proofs.SeenWalks.{first_letters, walks_changed, walks_kept, small_walks, walks_begun, walk_opened}
 use Rattle.dfa_match.proofs.SeenWalks.{opening_silent, walk_passed, letters_silent}
 use Rattle.dfa_match.proofs.ReadBelow.{read_below, before_giving, after_giving}
 use Rattle.dfa_match.proofs.WalkResults.{hits_begun, hits_changed, hits_kept}
@@ -58,17 +59,17 @@ module _ (automaton : List Row) (good : IsAutomaton automaton) (pos : BoardState
   -- behind the row of a walk that does not go on nothing is accepted, but where it has read the whole spiral
   ended_silent : (walks : List Walk) (w : Walk) (n : ℕ) → AreWalks automaton pos friend t walks
       → Contains walks w → IsStanding automaton w → goes_on w ≡ false → w.letters ≤ n → n ≤ offset_count
-      → (offset_count ≤ w.letters → ⊥) → accepted automaton (word_at pos friend t w.anchor n) ≡ []
+      → (offset_count ≤ w.letters → ⊥) → accepted automaton (word_at pos friend t (anchor_of pos.size w) n) ≡ []
   ended_silent walks w n are there stands ends more few left = elim (ended_cases automaton w stands ends) [
-    | inl dead ↦ dead_ends automaton pos friend t w.anchor w.letters n more
+    | inl dead ↦ dead_ends automaton pos friend t (anchor_of pos.size w) w.letters n more
         (subst (IsDead automaton) ((are.each w there).row (omega (arith, more, few))) dead)
     | inr past ↦ absurd (left past)
   ]
 
   -- the walks whose hits were given out and that do not go on are dropped
   pub hits_dropped : (walks : List Walk) (hits : List Hit) → AreWalks automaton pos friend t walks
-      → All (IsStanding automaton) walks → AreHitsBefore automaton pos friend t (read_below after_giving walks) hits
-      → AreHitsBefore automaton pos friend t (read_below after_giving (filter goes_on walks)) hits
+      → All (IsStanding automaton) walks → AreHitsBefore automaton pos friend t (read_below pos.size after_giving walks) hits
+      → AreHitsBefore automaton pos friend t (read_below pos.size after_giving (filter goes_on walks)) hits
   hits_dropped walks hits are standing before =
       hits_kept automaton pos friend t walks are goes_on after_giving hits before
       (λ w n there ends few more. ended_silent walks w n are there
@@ -80,17 +81,17 @@ module _ (automaton : List Row) (good : IsAutomaton automaton) (pos : BoardState
     pub hits_second : (old begun new : List Hit)
         → All (IsStanding automaton) (map (after_anchor automaton letters) (first_walks_of automaton pos.size))
         → AreHitsBefore automaton pos friend t nothing_read old
-        → begun ≡ old ++ hits_of automaton t (first_walks_of automaton pos.size)
-        → new ≡ begun ++ hits_of automaton t (second_walks_of automaton letters pos.size)
+        → begun ≡ old ++ hits_of automaton pos.size t (first_walks_of automaton pos.size)
+        → new ≡ begun ++ hits_of automaton pos.size t (second_walks_of automaton letters pos.size)
         → AreHitsBefore automaton pos friend t
-        (read_below after_giving (second_walks_of automaton letters pos.size)) new
+        (read_below pos.size after_giving (second_walks_of automaton letters pos.size)) new
     hits_second old begun new standing before add_first add_second =
         let first : List Walk = first_walks_of automaton pos.size in
         let read : List Walk = map (after_anchor automaton letters) first in
-        let are_first = walks_first automaton pos friend t in
+        let are_first = small_walks automaton pos friend t size letters sights in
         let are_read = walks_begun automaton pos friend t size letters sights in
         let from_start = hits_more automaton pos friend t first are_first good old begun low
-        (hits_begun automaton pos friend t old before) add_first in
+        (hits_begun automaton pos friend t old (subst (λ s. s ≤ largest_size) sights.same_size sights.few) before) add_first in
         let from_anchors = hits_changed automaton pos friend t first are_first (after_anchor automaton letters)
         after_giving before_giving begun (λ w. refl) from_start
         (λ w there. omega (arith, first_letters automaton pos.size w there))
@@ -112,7 +113,7 @@ module _ (automaton : List Row) (good : IsAutomaton automaton) (pos : BoardState
           let second = walks_kept automaton pos friend t goes_on read
           (walks_begun automaton pos friend t size letters sights) in
           walks_changed automaton pos friend t (after_opening openings steps letters) (filter goes_on read) second
-          (opening_anchor openings steps letters)
+          (opening_corner openings steps letters)
           (λ w there. walk_opened automaton pos friend t size letters sights low steps are_steps openings w are
           (second.each w there))
 
@@ -128,8 +129,8 @@ module _ (automaton : List Row) (good : IsAutomaton automaton) (pos : BoardState
       pub hits_opened : (openings : List ℕ) (hits : List Hit) → AreOpenings automaton openings
           → All (IsStanding automaton) (second_walks_of automaton letters pos.size)
           → AreHitsBefore automaton pos friend t
-          (read_below after_giving (second_walks_of automaton letters pos.size)) hits
-          → AreHitsBefore automaton pos friend t (read_below after_giving (filter goes_on
+          (read_below pos.size after_giving (second_walks_of automaton letters pos.size)) hits
+          → AreHitsBefore automaton pos friend t (read_below pos.size after_giving (filter goes_on
           (map (after_opening openings steps letters) (second_walks_of automaton letters pos.size)))) hits
       hits_opened openings hits are standing before =
           let read : List Walk = map (after_anchor automaton letters) (first_walks_of automaton pos.size) in
@@ -139,7 +140,7 @@ module _ (automaton : List Row) (good : IsAutomaton automaton) (pos : BoardState
           hits_dropped (map (after_opening openings steps letters) second) hits (walks_opened openings are)
           (opened_standing automaton good openings steps letters second are standing)
           (hits_changed automaton pos friend t second are_second (after_opening openings steps letters)
-          after_giving after_giving hits (opening_anchor openings steps letters) before
+          after_giving after_giving hits (opening_corner openings steps letters) before
           (λ w there.
           let one = second_letters automaton letters pos.size w there in
           omega (arith, one, opening_more openings steps letters w one))
@@ -163,10 +164,10 @@ module _ (automaton : List Row) (good : IsAutomaton automaton) (pos : BoardState
 
         -- the hits of the rows where they come to join those before
         pub hits_read : (old new : List Hit)
-            → AreHitsBefore automaton pos friend t (read_below after_giving walks) old
-            → new ≡ old ++ hits_of automaton t (map (after_letters entries passed steps letters) walks)
+            → AreHitsBefore automaton pos friend t (read_below pos.size after_giving walks) old
+            → new ≡ old ++ hits_of automaton pos.size t (map (after_letters entries passed steps letters) walks)
             → AreHitsBefore automaton pos friend t
-            (read_below after_giving (map (after_letters entries passed steps letters) walks)) new
+            (read_below pos.size after_giving (map (after_letters entries passed steps letters) walks)) new
         hits_read old new before add =
             hits_more automaton pos friend t (map (after_letters entries passed steps letters) walks) walks_read good
             old new low

@@ -8,12 +8,14 @@ use Rattle.spiral.specs.Spiral.{offset_count}
 use Rattle.match_rules.proofs.Lists.{Contains-cons_cases, Contains-first, Contains-rest, Contains-nil}
 use Rattle.match_rules.proofs.Lists.{AllPairs-rest, AllPairs-before}
 use Rattle.dfa_match.specs.declared.walks.Walk.{Walk}
+use Rattle.dfa_match.specs.Steps.{anchor_at_corner}
+use Rattle.dfa_match.specs.Walks.{anchor_of}
 
--- below how many letters the words of the point m have been read: as f says of its walk, and all where it has no walk
--- left
-abbrev pub read_below : (Walk → ℕ) → List Walk → ℕ → ℕ
-read_below f [] m = offset_count + 1
-read_below f (w ∷ walks) m = if w.anchor == m then f w else read_below f walks m
+-- below how many letters the words of the point m of a board of size s have been read: as f says of its walk, and all
+-- where it has no walk left
+abbrev pub read_below : ℕ → (Walk → ℕ) → List Walk → ℕ → ℕ
+read_below s f [] m = offset_count + 1
+read_below s f (w ∷ walks) m = if anchor_of s w == m then f w else read_below s f walks m
 
 -- as many as the walk has read, before what is accepted behind them is given out
 abbrev pub before_giving : Walk → ℕ
@@ -24,60 +26,65 @@ abbrev pub after_giving : Walk → ℕ
 after_giving w = w.letters + 1
 
 -- a point has a walk, or none
-pub read_cases : (f : Walk → ℕ) (walks : List Walk) (m : ℕ)
-    → ((w : Walk) × Contains walks w × (w.anchor ≡ m) × (read_below f walks m ≡ f w))
-    ⊎ (((w : Walk) → Contains walks w → w.anchor ≡ m → ⊥) × (read_below f walks m ≡ offset_count + 1))
-read_cases f [] m = inr ((λ w there same. Contains-nil w there), refl)
-read_cases f (w ∷ walks) m = elim (cases_Bool (w.anchor == m)) [
+pub read_cases : (s : ℕ) (f : Walk → ℕ) (walks : List Walk) (m : ℕ)
+    → ((w : Walk) × Contains walks w × (anchor_of s w ≡ m) × (read_below s f walks m ≡ f w))
+    ⊎ (((w : Walk) → Contains walks w → anchor_of s w ≡ m → ⊥) × (read_below s f walks m ≡ offset_count + 1))
+read_cases s f [] m = inr ((λ w there same. Contains-nil w there), refl)
+read_cases s f (w ∷ walks) m = elim (cases_Bool (anchor_of s w == m)) [
   | inl here ↦ inl (
     w,
     Contains-first w walks w refl,
-    eqb-true w.anchor m here,
-    ap (λ b. cond b (f w) (read_below f walks m)) here,
+    eqb-true (anchor_of s w) m here,
+    ap (λ b. cond b (f w) (read_below s f walks m)) here,
   )
-  | inr other ↦ elim (read_cases f walks m) [
+  | inr other ↦ elim (read_cases s f walks m) [
     | inl later ↦ inl (
       later.0,
       Contains-rest w walks later.0 later.1,
       later.2,
-      ap (λ b. cond b (f w) (read_below f walks m)) other ∙ later.3,
+      ap (λ b. cond b (f w) (read_below s f walks m)) other ∙ later.3,
     )
     | inr none ↦ inr (
       (λ v there same. elim (Contains-cons_cases w walks v there) [
-        | inl first ↦ eqb-false w.anchor m other (ap (λ (u : Walk). u.anchor) first ∙ same)
+        | inl first ↦ eqb-false (anchor_of s w) m other (ap (anchor_of s) first ∙ same)
         | inr later ↦ none.0 v later same
       ]),
-      ap (λ b. cond b (f w) (read_below f walks m)) other ∙ none.1,
+      ap (λ b. cond b (f w) (read_below s f walks m)) other ∙ none.1,
     )
   ]
 ]
 
 -- where anchors rise the point of a walk has that one
-pub read_there : (f : Walk → ℕ) (walks : List Walk) (w : Walk) → AllPairs (λ u v. u.anchor < v.anchor) walks
-    → Contains walks w → read_below f walks w.anchor ≡ f w
-read_there f [] w rising there = absurd (Contains-nil w there)
-read_there f (v ∷ walks) w rising there = elim (Contains-cons_cases v walks w there) [
-  | inl first ↦ ap (λ b. cond b (f v) (read_below f walks w.anchor))
-      (eq-eqb v.anchor w.anchor (ap (λ (u : Walk). u.anchor) first)) ∙ ap f first
+pub read_there : (s : ℕ) (f : Walk → ℕ) (walks : List Walk) (w : Walk)
+    → AllPairs (λ u v. anchor_of s u < anchor_of s v) walks
+    → Contains walks w → read_below s f walks (anchor_of s w) ≡ f w
+read_there s f [] w rising there = absurd (Contains-nil w there)
+read_there s f (v ∷ walks) w rising there = elim (Contains-cons_cases v walks w there) [
+  | inl first ↦ ap (λ b. cond b (f v) (read_below s f walks (anchor_of s w)))
+      (eq-eqb (anchor_of s v) (anchor_of s w) (ap (anchor_of s) first)) ∙ ap f first
   | inr later ↦
-      let before : v.anchor < w.anchor =
-      AllPairs-before (λ (u : Walk) (x : Walk). u.anchor < x.anchor) v walks w rising later in
-      ap (λ b. cond b (f v) (read_below f walks w.anchor))
-      (ne_eqb v.anchor w.anchor (λ same. omega (arith, before, same)))
-      ∙ read_there f walks w (AllPairs-rest (λ (u : Walk) (x : Walk). u.anchor < x.anchor) v walks rising) later
+      let before : anchor_of s v < anchor_of s w =
+      AllPairs-before (λ (u : Walk) (x : Walk). anchor_of s u < anchor_of s x) v walks w rising later in
+      ap (λ b. cond b (f v) (read_below s f walks (anchor_of s w)))
+      (ne_eqb (anchor_of s v) (anchor_of s w) (λ same. omega (arith, before, same)))
+      ∙ read_there s f walks w
+      (AllPairs-rest (λ (u : Walk) (x : Walk). anchor_of s u < anchor_of s x) v walks rising) later
 ]
 
 -- a point without a walk has no walk for another count
-pub read_none : (f : Walk → ℕ) (walks : List Walk) (m : ℕ) → ((w : Walk) → Contains walks w → w.anchor ≡ m → ⊥)
-    → read_below f walks m ≡ offset_count + 1
-read_none f walks m none = elim (read_cases f walks m) [
+pub read_none : (s : ℕ) (f : Walk → ℕ) (walks : List Walk) (m : ℕ)
+    → ((w : Walk) → Contains walks w → anchor_of s w ≡ m → ⊥)
+    → read_below s f walks m ≡ offset_count + 1
+read_none s f walks m none = elim (read_cases s f walks m) [
   | inl some ↦ absurd (none some.0 some.1 some.2)
   | inr still ↦ still.1
 ]
 
 -- walks that are changed, but for their anchors, are counted behind the change
-pub read_changed : (f : Walk → Walk) (h : Walk → ℕ) (walks : List Walk) (m : ℕ) → ((w : Walk) → (f w).anchor ≡ w.anchor)
-    → read_below h (map f walks) m ≡ read_below (λ w. h (f w)) walks m
-read_changed f h [] m keeps = refl
-read_changed f h (w ∷ walks) m keeps = ap (λ k. cond (k == m) (h (f w)) (read_below h (map f walks) m)) (keeps w)
-    ∙ ap (λ n. cond (w.anchor == m) (h (f w)) n) (read_changed f h walks m keeps)
+pub read_changed : (s : ℕ) (f : Walk → Walk) (h : Walk → ℕ) (walks : List Walk) (m : ℕ)
+    → ((w : Walk) → (f w).corner ≡ w.corner)
+    → read_below s h (map f walks) m ≡ read_below s (λ w. h (f w)) walks m
+read_changed s f h [] m keeps = refl
+read_changed s f h (w ∷ walks) m keeps = ap (λ k. cond (k == m) (h (f w)) (read_below s h (map f walks) m))
+    (ap (anchor_at_corner s) (keeps w))
+    ∙ ap (λ n. cond (anchor_of s w == m) (h (f w)) n) (read_changed s f h walks m keeps)

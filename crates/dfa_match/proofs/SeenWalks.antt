@@ -10,7 +10,10 @@ use Rattle.go_rules.specs.Transform.{IsNear, transformed, transformations}
 use Rattle.go_rules.proofs.Transforms.{keeps_near}
 use Rattle.spiral.specs.Spiral.{offset_at, offset_count}
 use Rattle.spiral.proofs.Indexes.{offsets_near}
-use Rattle.match_rules.proofs.Lists.{Contains-map, Contains-filter, Contains-below, AllPairs-map, range_rises}
+use Rattle.match_rules.proofs.Lists.{Contains-map, Contains-filter, Contains-below, AllPairs-map}
+use Rattle.std.proofs.lemmas.List.FromFn.{get_or-range_with_len, length-range_with_len}
+use Rattle.go_rules.specs.Board.{largest_size}
+use Rattle.dfa_match.proofs.Cursors.{anchor_of_corner}
 use Rattle.dfa_core.specs.declared.automaton.Seen.{Seen}
 use Rattle.dfa_core.specs.declared.automaton.Seen.TheVariants.{Off}
 use Rattle.dfa_core.specs.Automata.{Row, row_at, step_at, reach, reach_from, accepted}
@@ -22,8 +25,8 @@ use Rattle.dfa_shortcuts.specs.Shortcuts.{AreShortcuts}
 use Rattle.dfa_shortcuts.specs.Openings.{opening_letters, AreOpenings}
 use Rattle.dfa_match.specs.declared.walks.Walk.{Walk}
 use Rattle.dfa_match.specs.Sights.{seen_at, word_from, word_at, AreSights}
-use Rattle.dfa_match.specs.Steps.{corner_at, no_step, AreSteps}
-use Rattle.dfa_match.specs.Walks.{first_walks_of, after_anchor, word_behind}
+use Rattle.dfa_match.specs.Steps.{corner_at, anchor_at_corner, no_step, AreSteps}
+use Rattle.dfa_match.specs.Walks.{anchor_of, first_walks_of, after_anchor, word_behind}
 use Rattle.dfa_match.specs.Walks.{after_opening, after_letters, row_after, IsWalk, AreWalks}
 use Rattle.dfa_match.proofs.PaddedBoard.{letter_seen}
 use Rattle.dfa_match.proofs.StepLists.{offset_at-zero, still}
@@ -41,15 +44,20 @@ first_letters automaton s w there =
 module _ (automaton : List Row) (pos : BoardState) (friend : Colour) (t : ℕ) where
   -- walks that are changed, but for their anchors, are such walks where each of them is
   pub walks_changed : (f : Walk → Walk) (walks : List Walk) → AreWalks automaton pos friend t walks
-      → ((w : Walk) → (f w).anchor ≡ w.anchor)
+      → ((w : Walk) → (f w).corner ≡ w.corner)
       → ((w : Walk) → Contains walks w → IsWalk automaton pos friend t (f w))
       → AreWalks automaton pos friend t (map f walks)
   walks_changed f walks are keeps is = record {
     each = λ w there. let from = Contains-map f walks w there in
         subst (IsWalk automaton pos friend t) from.2 (is from.0 from.1);
-    rising = AllPairs-map (λ v w. v.anchor < w.anchor) f walks
+    rising = AllPairs-map (λ v w. anchor_of pos.size v < anchor_of pos.size w) f walks
         (λ i j d less low. let before = are.rising i j d less low in
-        omega (arith, before, keeps (get_or walks i d), keeps (get_or walks j d)));
+        omega (
+          arith,
+          before,
+          ap (anchor_at_corner pos.size) (keeps (get_or walks i d)),
+          ap (anchor_at_corner pos.size) (keeps (get_or walks j d)),
+        ));
   }
 
   -- the walks that pass a test are such walks
@@ -57,30 +65,42 @@ module _ (automaton : List Row) (pos : BoardState) (friend : Colour) (t : ℕ) w
       → AreWalks automaton pos friend t (filter test walks)
   walks_kept test walks are = record {
     each = λ w there. are.each w (Contains-filter test walks w there).0;
-    rising = AllPairs-filter (λ v w. v.anchor < w.anchor) test walks are.rising;
+    rising = AllPairs-filter (λ v w. anchor_of pos.size v < anchor_of pos.size w) test walks are.rising;
   }
 
   -- before the first letter there is a walk from each point, at the start
-  pub walks_first : AreWalks automaton pos friend t (first_walks_of automaton pos.size)
-  walks_first = record {
+  pub walks_first : pos.size ≤ largest_size → AreWalks automaton pos friend t (first_walks_of automaton pos.size)
+  walks_first small = record {
     each = λ w there.
         let from = Contains-map (first_walk automaton pos.size) (range_with_len 0 (pos.size * pos.size)) w there in
+        let on = Contains-below (pos.size * pos.size) from.0 from.1 in
+        let anchor = anchor_of_corner pos.size from.0 small on in
         subst (IsWalk automaton pos friend t) from.2 (record {
-          anchor = Contains-below (pos.size * pos.size) from.0 from.1;
-          corner = refl;
+          anchor = omega (arith, anchor, on);
+          corner = ap (corner_at pos.size) (sym anchor);
           row = λ few. row_of-entry (kind_at automaton 0) 0
-              ∙ sym (ap (reach automaton) (word_from-zero (seen_at pos friend t from.0) 0));
+              ∙ sym (ap (reach automaton)
+              (word_from-zero (seen_at pos friend t (anchor_of pos.size (first_walk automaton pos.size from.0))) 0));
         });
-    rising = AllPairs-map (λ v w. v.anchor < w.anchor) (first_walk automaton pos.size)
-        (range_with_len 0 (pos.size * pos.size)) (range_rises 0 (pos.size * pos.size));
+    rising = AllPairs-map (λ v w. anchor_of pos.size v < anchor_of pos.size w) (first_walk automaton pos.size)
+        (range_with_len 0 (pos.size * pos.size))
+        (λ i j d less low. omega (arith, less, first_anchor i d (omega (arith, less, low)), first_anchor j d low));
   }
+    where
+      first_anchor : (k d : ℕ) → k < length (range_with_len 0 (pos.size * pos.size))
+          → anchor_of pos.size (first_walk automaton pos.size (get_or (range_with_len 0 (pos.size * pos.size)) k d)) ≡ k
+      first_anchor k d low =
+          let on : k < pos.size * pos.size = omega (arith, low, length-range_with_len 0 (pos.size * pos.size)) in
+          let is : get_or (range_with_len 0 (pos.size * pos.size)) k d ≡ k =
+          omega (arith, get_or-range_with_len 0 (pos.size * pos.size) k d on) in
+          ap (λ m. anchor_of pos.size (first_walk automaton pos.size m)) is ∙ anchor_of_corner pos.size k small on
 
   module _ (size : ℕ) (letters : List Seen) (sights : AreSights pos friend size letters) where
     -- the letter of its anchor is what is seen there
     anchor_seen : (w : Walk) → IsWalk automaton pos friend t w
-        → get_or letters (w.corner + no_step) Off ≡ seen_at pos friend t w.anchor 0
+        → get_or letters (w.corner + no_step) Off ≡ seen_at pos friend t (anchor_of pos.size w) 0
     anchor_seen w is = ap (λ k. get_or letters (k + no_step) Off) is.corner
-        ∙ letter_seen pos friend size letters t w.anchor 0 no_step (plus 0, plus 0) sights is.anchor
+        ∙ letter_seen pos friend size letters t (anchor_of pos.size w) 0 no_step (plus 0, plus 0) sights is.anchor
         (subst IsNear offset_at-zero (offsets_near 0 (omega arith)))
         (sym (ap (transformed t) offset_at-zero ∙ still t)) refl
 
@@ -95,17 +115,21 @@ module _ (automaton : List Row) (pos : BoardState) (friend : Colour) (t : ℕ) w
           let row : ℕ = step_at automaton (row_of w.entry) letter in
           row_of-entry (kind_at automaton row) row
           ∙ ap (λ r. step_at automaton r letter) (is.row (omega (arith, none))
-          ∙ ap (λ i. row_after automaton pos friend t i w.anchor) none)
-          ∙ ap (step_at automaton (row_after automaton pos friend t 0 w.anchor)) (anchor_seen w is)
-          ∙ row_next automaton pos friend t 0 w.anchor;
+          ∙ ap (λ i. row_after automaton pos friend t i (anchor_of pos.size w)) none)
+          ∙ ap (step_at automaton (row_after automaton pos friend t 0 (anchor_of pos.size w))) (anchor_seen w is)
+          ∙ row_next automaton pos friend t 0 (anchor_of pos.size w);
     }
+
+    -- before the first letter there is a walk from each point of the board
+    pub small_walks : AreWalks automaton pos friend t (first_walks_of automaton pos.size)
+    small_walks = walks_first (subst (λ s. s ≤ largest_size) sights.same_size sights.few)
 
     -- each walk has read the anchor's own letter
     pub walks_begun : AreWalks automaton pos friend t
         (map (after_anchor automaton letters) (first_walks_of automaton pos.size))
-    walks_begun = walks_changed (after_anchor automaton letters) (first_walks_of automaton pos.size) walks_first
+    walks_begun = walks_changed (after_anchor automaton letters) (first_walks_of automaton pos.size) small_walks
         (λ w. refl)
-        (λ w there. walk_begun w (walks_first.each w there) (first_letters automaton pos.size w there))
+        (λ w there. walk_begun w (small_walks.each w there) (first_letters automaton pos.size w there))
 
     module _ (low : t < transformations) (steps : List ℕ) (are_steps : AreSteps t steps) where
       -- what is read behind a corner by a step is what is seen along the spiral
@@ -116,11 +140,11 @@ module _ (automaton : List Row) (pos : BoardState) (friend : Colour) (t : ℕ) w
 
       -- so is the word that is read behind the corner of a walk
       word_seen : (w : Walk) (n : ℕ) → IsWalk automaton pos friend t w → n ≤ offset_count
-          → word_behind letters steps w.corner n ≡ word_at pos friend t w.anchor n
+          → word_behind letters steps w.corner n ≡ word_at pos friend t (anchor_of pos.size w) n
       word_seen w n is few = ap (λ k. word_behind letters steps k n) is.corner
-          ∙ word_from-same (λ i. get_or letters (corner_at pos.size w.anchor + get_or steps i 0) Off)
-          (seen_at pos friend t w.anchor) 0 n
-          (λ i none less. step_seen w.anchor i is.anchor (omega (arith, less)))
+          ∙ word_from-same (λ i. get_or letters (corner_at pos.size (anchor_of pos.size w) + get_or steps i 0) Off)
+          (seen_at pos friend t (anchor_of pos.size w)) 0 n
+          (λ i none less. step_seen (anchor_of pos.size w) i is.anchor (omega (arith, less)))
 
       -- a walk behind its opening
       pub walk_opened : (openings : List ℕ) (w : Walk) → AreOpenings automaton openings
@@ -144,18 +168,18 @@ module _ (automaton : List Row) (pos : BoardState) (friend : Colour) (t : ℕ) w
       pub opening_silent : (openings : List ℕ) (w : Walk) (n : ℕ) → AreOpenings automaton openings
           → IsWalk automaton pos friend t w → w.letters ≡ 1 → 1 < n
           → n ≤ (after_opening openings steps letters w).letters
-          → accepted automaton (word_at pos friend t w.anchor n) ≡ []
+          → accepted automaton (word_at pos friend t (anchor_of pos.size w) n) ≡ []
       opening_silent openings w n are is one more few = elim (opening_cases openings steps letters w) [
         | inl same ↦ absurd (omega (arith, one, more, few, ap (λ (v : Walk). v.letters) same))
         | inr known ↦
             let word : Word = word_behind letters steps w.corner opening_letters in
-            let seen : ℕ → Seen = seen_at pos friend t w.anchor in
+            let seen : ℕ → Seen = seen_at pos friend t (anchor_of pos.size w) in
             let within : n ≤ opening_letters = omega (arith, few, ap (λ (v : Walk). v.letters) known.0) in
             (are.each word
             (word_length (λ i. get_or letters (w.corner + get_or steps i 0) Off) 0 opening_letters)).silent known.1
-            (word_at pos friend t w.anchor n) (word_from seen (0 + n) (opening_letters - n))
+            (word_at pos friend t (anchor_of pos.size w) n) (word_from seen (0 + n) (opening_letters - n))
             (word_seen w opening_letters is (omega arith)
-            ∙ word_on automaton pos friend t w.anchor n opening_letters within)
+            ∙ word_on automaton pos friend t (anchor_of pos.size w) n opening_letters within)
             (omega (arith, more, word_length seen 0 n))
       ]
 
@@ -172,16 +196,16 @@ module _ (automaton : List Row) (pos : BoardState) (friend : Colour) (t : ℕ) w
         -- the row behind the letter and further ones, where the letter is one of the spiral's
         row_passed : (j : ℕ) → w.letters < offset_count
             → reach_from automaton (step_at automaton (row_of w.entry) letter_of)
-            (word_from (seen_at pos friend t w.anchor) (w.letters + 1) j)
-            ≡ row_after automaton pos friend t (w.letters + 1 + j) w.anchor
+            (word_from (seen_at pos friend t (anchor_of pos.size w)) (w.letters + 1) j)
+            ≡ row_after automaton pos friend t (w.letters + 1 + j) (anchor_of pos.size w)
         row_passed j left =
-            let rest : Word = word_from (seen_at pos friend t w.anchor) (w.letters + 1) j in
+            let rest : Word = word_from (seen_at pos friend t (anchor_of pos.size w)) (w.letters + 1) j in
             ap (λ r. reach_from automaton (step_at automaton r letter_of) rest) (is.row (omega (arith, left)))
             ∙ ap (λ x. reach_from automaton
-            (step_at automaton (row_after automaton pos friend t w.letters w.anchor) x) rest)
+            (step_at automaton (row_after automaton pos friend t w.letters (anchor_of pos.size w)) x) rest)
             (ap (λ k. get_or letters (k + get_or steps w.letters 0) Off) is.corner
-            ∙ step_seen w.anchor w.letters is.anchor left)
-            ∙ sym (row_on automaton pos friend t w.letters j w.anchor)
+            ∙ step_seen (anchor_of pos.size w) w.letters is.anchor left)
+            ∙ sym (row_on automaton pos friend t w.letters j (anchor_of pos.size w))
 
         -- a walk behind a letter and those that are passed over; of one that had read the whole spiral nothing is said
         pub walk_passed : IsWalk automaton pos friend t (after_letters entries passed steps letters w)
@@ -189,7 +213,7 @@ module _ (automaton : List Row) (pos : BoardState) (friend : Colour) (t : ℕ) w
           anchor = is.anchor;
           corner = is.corner;
           row = λ few.
-              let seen : ℕ → Seen = seen_at pos friend t w.anchor in
+              let seen : ℕ → Seen = seen_at pos friend t (anchor_of pos.size w) in
               let rest : Word = word_from seen (w.letters + 1) passed_of in
               let row : ℕ = reach_from automaton (step_at automaton (row_of w.entry) letter_of) rest in
               ap row_of ((are.each (row_of w.entry) letter_of on).to rest
@@ -200,13 +224,13 @@ module _ (automaton : List Row) (pos : BoardState) (friend : Colour) (t : ℕ) w
         -- nothing is accepted between, as far as the spiral goes
         pub letters_silent : (n : ℕ) → n ≤ offset_count → w.letters < n
             → n < (after_letters entries passed steps letters w).letters
-            → accepted automaton (word_at pos friend t w.anchor n) ≡ []
+            → accepted automaton (word_at pos friend t (anchor_of pos.size w) n) ≡ []
         letters_silent n few more less =
-            let seen : ℕ → Seen = seen_at pos friend t w.anchor in
+            let seen : ℕ → Seen = seen_at pos friend t (anchor_of pos.size w) in
             let j : ℕ = n - (w.letters + 1) in
             let whole : n ≡ w.letters + 1 + j = omega (arith, more) in
-            accepted-at automaton (word_at pos friend t w.anchor n)
-            ∙ ap (λ k. (row_at automaton (row_after automaton pos friend t k w.anchor)).numbers) whole
+            accepted-at automaton (word_at pos friend t (anchor_of pos.size w) n)
+            ∙ ap (λ k. (row_at automaton (row_after automaton pos friend t k (anchor_of pos.size w))).numbers) whole
             ∙ ap (λ r. (row_at automaton r).numbers) (sym (row_passed j (omega (arith, few, more))))
             ∙ (are.each (row_of w.entry) letter_of on).silent (word_from seen (w.letters + 1) j)
             (omega (arith, more, less, word_length seen (w.letters + 1) j))

@@ -24,7 +24,8 @@ use Rattle.dfa_match.specs.declared.walks.Walk.{Walk}
 use Rattle.dfa_match.specs.Hits.{hits_at}
 use Rattle.dfa_match.specs.Steps.{corner_at, cursor_at, last_corner}
 use Rattle.dfa_match.specs.Walks.{first_walks_of}
-use Rattle.dfa_match.specs.Walks.{entry_at_row, after_letters, after_opening, opening_of, hits_of, goes_on}
+use Rattle.dfa_match.specs.Walks.{anchor_of, entry_at_row, after_letters, after_opening, opening_of, given_at, hits_of}
+use Rattle.dfa_match.specs.Walks.{goes_on}
 use Rattle.dfa_match.specs.Walks.{IsStanding}
 
 -- the walk from the point m of a board of size s, before the first letter
@@ -33,7 +34,6 @@ first_walk automaton s m = record {
   entry = entry_at_row automaton 0;
   letters = 0;
   corner = corner_at s m;
-  anchor = m;
 }
 
 -- a kind's tag is its number
@@ -45,11 +45,11 @@ kind_tag Dead = refl
 -- the walk that is made of these parts is that of the point
 pub first_walk-is : (automaton : List Row) (s m : ℕ) (kind : RowKind) (at : Cursor)
     → kind ≡ kind_at automaton 0 → at ≡ cursor_at s m
-    → record { entry = tag_of the_type kind; letters = 0; corner = at.corner; anchor = m } ≡ first_walk automaton s m
+    → record { entry = tag_of the_type kind; letters = 0; corner = at.corner } ≡ first_walk automaton s m
 first_walk-is automaton s m kind at is stands =
     let entry : tag_of the_type kind ≡ entry_at_row automaton 0 = omega (arith, kind_tag kind, ap kind_number is) in
     let corner : at.corner ≡ corner_at s m = ap (λ (c : Cursor). c.corner) stands in
-    λ i. record { entry = entry i; letters = 0; corner = corner i; anchor = m }
+    λ i. record { entry = entry i; letters = 0; corner = corner i }
 
 -- it stands at the start
 pub first_standing : (automaton : List Row) (s m : ℕ) → IsAutomaton automaton → corner_at s m ≤ last_corner
@@ -85,7 +85,6 @@ unopened openings steps letters w is =
       entry = opening_of openings steps letters w;
       letters = opening_letters;
       corner = w.corner;
-      anchor = w.anchor;
     })) test)
 
 -- a walk whose entry is not that of an accepting row stands at one that accepts nothing
@@ -94,24 +93,28 @@ pub silent_standing : (automaton : List Row) (w : Walk) → IsStanding automaton
 silent_standing automaton w standing silent =
     silent_row automaton (row_of w.entry) (subst (λ e. is_accepting_entry e ≡ false) standing.kind silent)
 
--- walks at rows that accept nothing give out nothing
-pub hits_of-silent : (automaton : List Row) (t : ℕ) (walks : List Walk)
-    → All (λ w. (row_at automaton (row_of w.entry)).numbers ≡ []) walks → hits_of automaton t walks ≡ []
-hits_of-silent automaton t [] silent = refl
-hits_of-silent automaton t (w ∷ walks) silent =
-    ap (λ ns. hits_at t w.anchor ns ++ hits_of automaton t walks)
-    (given_none (nat_le w.letters offset_count) (silent 0 w (omega arith)))
-    ∙ hits_of-silent automaton t walks (λ k d low. silent (suc k) d (omega (arith, low)))
+-- a walk at a row that accepts nothing gives out nothing
+pub given_at-silent : (automaton : List Row) (w : Walk) → (row_at automaton (row_of w.entry)).numbers ≡ []
+    → given_at automaton w ≡ []
+given_at-silent automaton w silent = given_none (nat_le w.letters offset_count)
   where
-    given_none : (few : Bool) → (row_at automaton (row_of w.entry)).numbers ≡ []
-        → cond few (row_at automaton (row_of w.entry)).numbers [] ≡ []
-    given_none true none = none
-    given_none false none = refl
+    given_none : (few : Bool) → cond few (row_at automaton (row_of w.entry)).numbers [] ≡ []
+    given_none true = silent
+    given_none false = refl
+
+-- walks at rows that accept nothing give out nothing
+pub hits_of-silent : (automaton : List Row) (s t : ℕ) (walks : List Walk)
+    → All (λ w. (row_at automaton (row_of w.entry)).numbers ≡ []) walks → hits_of automaton s t walks ≡ []
+hits_of-silent automaton s t [] silent = refl
+hits_of-silent automaton s t (w ∷ walks) silent =
+    ap (λ ns. hits_at t (anchor_of s w) ns ++ hits_of automaton s t walks)
+    (given_at-silent automaton w (silent 0 w (omega arith)))
+    ∙ hits_of-silent automaton s t walks (λ k d low. silent (suc k) d (omega (arith, low)))
 
 -- walks at the start give out nothing where it accepts nothing
-pub hits_of-start : (automaton : List Row) (t : ℕ) (walks : List Walk) → All (λ w. row_of w.entry ≡ 0) walks
-    → (row_at automaton 0).numbers ≡ [] → hits_of automaton t walks ≡ []
-hits_of-start automaton t walks start silent = hits_of-silent automaton t walks
+pub hits_of-start : (automaton : List Row) (s t : ℕ) (walks : List Walk) → All (λ w. row_of w.entry ≡ 0) walks
+    → (row_at automaton 0).numbers ≡ [] → hits_of automaton s t walks ≡ []
+hits_of-start automaton s t walks start silent = hits_of-silent automaton s t walks
     (λ k d low. ap (λ r. (row_at automaton r).numbers) (start k d low) ∙ silent)
 
 -- before their first letter all walks are at the start

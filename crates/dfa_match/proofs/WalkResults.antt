@@ -1,6 +1,6 @@
 -- Which hits have been given out, as walks begin, go on and end.
 use Rattle.std.proofs.Common.{◌≡◌, ℕ, ◌+◌, ◌*◌, ◌<◌, ◌≤◌, ◌⊎◌, inl, inr, Bool, false, List}
-use Rattle.std.proofs.Common.{[], map, filter, Contains, refl, ◌∙◌, subst}
+use Rattle.std.proofs.Common.{[], map, filter, Contains, ◌∙◌, subst}
 use Rattle.std.proofs.Common.{arith}
 use Rattle.std.specs.List.{range_with_len}
 use Rattle.std.proofs.lemmas.Bool.{cases_lt, cases_Bool}
@@ -20,6 +20,9 @@ use Rattle.dfa_match.specs.Walks.{first_walks_of, AreWalks}
 use Rattle.dfa_match.proofs.SeenWalks.{first_letters}
 use Rattle.dfa_match.proofs.ReadBelow.{read_below, before_giving, read_cases, read_there, read_none, read_changed}
 use Rattle.dfa_match.proofs.StandingWalks.{first_walk}
+use Rattle.dfa_match.proofs.Cursors.{anchor_of_corner}
+use Rattle.dfa_match.specs.Walks.{anchor_of}
+use Rattle.go_rules.specs.Board.{largest_size}
 
 module _ (automaton : List Row) (pos : BoardState) (friend : Colour) where
   -- behind the last transformation the hits are all
@@ -66,21 +69,21 @@ module _ (automaton : List Row) (pos : BoardState) (friend : Colour) where
     }
 
     -- from each point a walk begins
-    pub hits_begun : (hits : List Hit) → AreHitsBefore automaton pos friend t nothing_read hits
-        → AreHitsBefore automaton pos friend t (read_below before_giving (first_walks_of automaton pos.size)) hits
-    hits_begun hits before = hits_past nothing_read (read_below before_giving (first_walks_of automaton pos.size)) hits
+    pub hits_begun : (hits : List Hit) → pos.size ≤ largest_size → AreHitsBefore automaton pos friend t nothing_read hits
+        → AreHitsBefore automaton pos friend t (read_below pos.size before_giving (first_walks_of automaton pos.size)) hits
+    hits_begun hits small before = hits_past nothing_read (read_below pos.size before_giving (first_walks_of automaton pos.size)) hits
         before (λ m n on few less. absurd (omega (arith, less)))
-        (λ m n on few low less. elim (read_cases before_giving (first_walks_of automaton pos.size) m) [
+        (λ m n on few low less. elim (read_cases pos.size before_giving (first_walks_of automaton pos.size) m) [
           | inl some ↦ absurd (omega (arith, less, some.3, first_letters automaton pos.size some.0 some.1))
           | inr none ↦ absurd (none.0 (first_walk automaton pos.size m)
               (Contains-map_from (first_walk automaton pos.size) (range_with_len 0 (pos.size * pos.size)) m
-              (Contains-below_from (pos.size * pos.size) m on)) refl)
+              (Contains-below_from (pos.size * pos.size) m on)) (anchor_of_corner pos.size m small on))
         ])
 
     -- where each walk that is left has read the whole spiral no hit follows
     pub hits_ended : (f : Walk → ℕ) (walks : List Walk) (hits : List Hit)
         → ((w : Walk) → Contains walks w → offset_count < f w)
-        → AreHitsBefore automaton pos friend t (read_below f walks) hits
+        → AreHitsBefore automaton pos friend t (read_below pos.size f walks) hits
         → AreHitsBefore automaton pos friend (t + 1) nothing_read hits
     hits_ended f walks hits past before = record {
       sound = λ hit there. let was = before.sound hit there in
@@ -95,7 +98,7 @@ module _ (automaton : List Row) (pos : BoardState) (friend : Colour) where
             is = is.is;
             before = inr (
               omega (arith, here, earlier),
-              elim (read_cases f walks hit.anchor) [
+              elim (read_cases pos.size f walks hit.anchor) [
                 | inl some ↦ omega (arith, is.is.spiral, some.3, past some.0 some.1)
                 | inr none ↦ omega (arith, is.is.spiral, none.1)
               ],
@@ -110,13 +113,13 @@ module _ (automaton : List Row) (pos : BoardState) (friend : Colour) where
     module _ (walks : List Walk) (are : AreWalks automaton pos friend t walks) where
       -- walks that are changed go on from where they were, where nothing is accepted between
       pub hits_changed : (f : Walk → Walk) (g h : Walk → ℕ) (hits : List Hit)
-          → ((w : Walk) → (f w).anchor ≡ w.anchor) → AreHitsBefore automaton pos friend t (read_below g walks) hits
+          → ((w : Walk) → (f w).corner ≡ w.corner) → AreHitsBefore automaton pos friend t (read_below pos.size g walks) hits
           → ((w : Walk) → Contains walks w → g w ≤ h (f w))
           → ((w : Walk) (n : ℕ) → Contains walks w → n ≤ offset_count → g w ≤ n → n < h (f w)
-          → accepted automaton (word_at pos friend t w.anchor n) ≡ [])
-          → AreHitsBefore automaton pos friend t (read_below h (map f walks)) hits
+          → accepted automaton (word_at pos friend t (anchor_of pos.size w) n) ≡ [])
+          → AreHitsBefore automaton pos friend t (read_below pos.size h (map f walks)) hits
       hits_changed f g h hits keeps before more silent =
-          hits_past (read_below g walks) (read_below h (map f walks)) hits before
+          hits_past (read_below pos.size g walks) (read_below pos.size h (map f walks)) hits before
           (λ m n on few less. elim (both m) [
             | inl some ↦ omega (arith, less, some.3, some.4, more some.0 some.1)
             | inr none ↦ omega (arith, few, none.1)
@@ -127,39 +130,39 @@ module _ (automaton : List Row) (pos : BoardState) (friend : Colour) where
             | inr none ↦ absurd (omega (arith, few, low, none.0))
           ])
         where
-          both : (m : ℕ) → ((w : Walk) × Contains walks w × (w.anchor ≡ m) × (read_below g walks m ≡ g w)
-              × (read_below h (map f walks) m ≡ h (f w)))
-              ⊎ ((read_below g walks m ≡ offset_count + 1) × (read_below h (map f walks) m ≡ offset_count + 1))
-          both m = elim (read_cases g walks m) [
+          both : (m : ℕ) → ((w : Walk) × Contains walks w × (anchor_of pos.size w ≡ m) × (read_below pos.size g walks m ≡ g w)
+              × (read_below pos.size h (map f walks) m ≡ h (f w)))
+              ⊎ ((read_below pos.size g walks m ≡ offset_count + 1) × (read_below pos.size h (map f walks) m ≡ offset_count + 1))
+          both m = elim (read_cases pos.size g walks m) [
             | inl some ↦ inl (
               some.0,
               some.1,
               some.2,
               some.3,
-              read_changed f h walks m keeps ∙ subst (λ k. read_below (λ w. h (f w)) walks k ≡ h (f some.0)) some.2
-                  (read_there (λ w. h (f w)) walks some.0 are.rising some.1),
+              read_changed pos.size f h walks m keeps ∙ subst (λ k. read_below pos.size (λ w. h (f w)) walks k ≡ h (f some.0)) some.2
+                  (read_there pos.size (λ w. h (f w)) walks some.0 are.rising some.1),
             )
             | inr none ↦ inr (
               none.1,
-              read_changed f h walks m keeps ∙ read_none (λ w. h (f w)) walks m none.0,
+              read_changed pos.size f h walks m keeps ∙ read_none pos.size (λ w. h (f w)) walks m none.0,
             )
           ]
 
       -- walks that fail a test are dropped, where nothing is accepted on their ways
       pub hits_kept : (test : Walk → Bool) (f : Walk → ℕ) (hits : List Hit)
-          → AreHitsBefore automaton pos friend t (read_below f walks) hits
+          → AreHitsBefore automaton pos friend t (read_below pos.size f walks) hits
           → ((w : Walk) (n : ℕ) → Contains walks w → test w ≡ false → n ≤ offset_count → f w ≤ n
-          → accepted automaton (word_at pos friend t w.anchor n) ≡ [])
-          → AreHitsBefore automaton pos friend t (read_below f (filter test walks)) hits
+          → accepted automaton (word_at pos friend t (anchor_of pos.size w) n) ≡ [])
+          → AreHitsBefore automaton pos friend t (read_below pos.size f (filter test walks)) hits
       hits_kept test f hits before silent =
-          hits_past (read_below f walks) (read_below f (filter test walks)) hits before
-          (λ m n on few less. elim (read_cases f (filter test walks) m) [
+          hits_past (read_below pos.size f walks) (read_below pos.size f (filter test walks)) hits before
+          (λ m n on few less. elim (read_cases pos.size f (filter test walks) m) [
             | inl some ↦ omega (arith, less, some.3, same m some.0 some.1 some.2)
             | inr none ↦ omega (arith, few, none.1)
           ])
-          (λ m n on few low less. elim (read_cases f (filter test walks) m) [
+          (λ m n on few low less. elim (read_cases pos.size f (filter test walks) m) [
             | inl some ↦ absurd (omega (arith, low, less, some.3, same m some.0 some.1 some.2))
-            | inr none ↦ elim (read_cases f walks m) [
+            | inr none ↦ elim (read_cases pos.size f walks m) [
               | inl was ↦ elim (cases_Bool (test was.0)) [
                 | inl passes ↦ absurd (none.0 was.0 (Contains-filter_from test walks was.0 was.1 passes) was.2)
                 | inr fails ↦ subst (λ k. accepted automaton (word_at pos friend t k n) ≡ []) was.2
@@ -169,6 +172,6 @@ module _ (automaton : List Row) (pos : BoardState) (friend : Colour) where
             ]
           ])
         where
-          same : (m : ℕ) (w : Walk) → Contains (filter test walks) w → w.anchor ≡ m → read_below f walks m ≡ f w
-          same m w there at = subst (λ k. read_below f walks k ≡ f w) at
-              (read_there f walks w are.rising (Contains-filter test walks w there).0)
+          same : (m : ℕ) (w : Walk) → Contains (filter test walks) w → anchor_of pos.size w ≡ m → read_below pos.size f walks m ≡ f w
+          same m w there at = subst (λ k. read_below pos.size f walks k ≡ f w) at
+              (read_there pos.size f walks w are.rising (Contains-filter test walks w there).0)

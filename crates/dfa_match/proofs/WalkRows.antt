@@ -52,7 +52,6 @@ opened openings steps letters w = record {
   entry = opening_of openings steps letters w;
   letters = opening_letters;
   corner = w.corner;
-  anchor = w.anchor;
 }
 
 -- a walk is as it was, or behind an opening that is known
@@ -71,11 +70,11 @@ opening_cases openings steps letters w =
     ]
 
 -- behind its opening a walk is from the same anchor
-pub opening_anchor : (openings steps : List ℕ) (letters : List Seen) (w : Walk)
-    → (after_opening openings steps letters w).anchor ≡ w.anchor
-opening_anchor openings steps letters w = elim (opening_cases openings steps letters w) [
-  | inl same ↦ ap (λ (v : Walk). v.anchor) same
-  | inr known ↦ ap (λ (v : Walk). v.anchor) known.0
+pub opening_corner : (openings steps : List ℕ) (letters : List Seen) (w : Walk)
+    → (after_opening openings steps letters w).corner ≡ w.corner
+opening_corner openings steps letters w = elim (opening_cases openings steps letters w) [
+  | inl same ↦ ap (λ (v : Walk). v.corner) same
+  | inr known ↦ ap (λ (v : Walk). v.corner) known.0
 ]
 
 -- behind its opening a walk that had read one letter has read one or more

@@ -11,6 +11,10 @@ use Rattle.dfa_match.specs.declared.cursor.Cursor.{Cursor}
 abbrev pub corner_at : ℕ → ℕ → ℕ
 corner_at s m = m / s * padded_side + m % s
 
+-- the point of a board of size s around which the square begins at this index
+unfoldable pub anchor_at_corner : ℕ → ℕ → ℕ
+anchor_at_corner s corner = corner / padded_side * s + corner % padded_side
+
 -- where the point m of a board of size s stands: its column, and where the square around it begins
 abbrev pub cursor_at : ℕ → ℕ → Cursor
 cursor_at s m = record { column = m % s; corner = corner_at s m }

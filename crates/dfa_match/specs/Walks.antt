@@ -17,7 +17,11 @@ use Rattle.dfa_match.specs.declared.Hit.{Hit}
 use Rattle.dfa_match.specs.declared.walks.Walk.{Walk}
 use Rattle.dfa_match.specs.Hits.{hits_at}
 use Rattle.dfa_match.specs.Sights.{word_at, word_from}
-use Rattle.dfa_match.specs.Steps.{corner_at, last_corner, no_step}
+use Rattle.dfa_match.specs.Steps.{corner_at, anchor_at_corner, last_corner, no_step}
+
+-- the point from which a walk on a board of size s began
+abbrev pub anchor_of : ℕ → Walk → ℕ
+anchor_of s w = anchor_at_corner s w.corner
 
 -- the entry of a row, by its kind
 abbrev pub entry_at_row : List Row → ℕ → ℕ
@@ -29,7 +33,6 @@ first_walks_of automaton s = map (λ m. record {
   entry = entry_at_row automaton 0;
   letters = 0;
   corner = corner_at s m;
-  anchor = m;
 }) (range_with_len 0 (s * s))
 
 -- the walk behind the letter of its anchor
@@ -39,7 +42,6 @@ after_anchor automaton letters w = record {
       entry_at_row automaton (step_at automaton (row_of w.entry) (slice_index_or letters (w.corner + no_step) Off));
   letters = 1;
   corner = w.corner;
-  anchor = w.anchor;
 }
 
 -- whether a walk goes on: its row is not dead, and there are letters left
@@ -67,7 +69,6 @@ after_opening openings steps letters w =
       entry = opening_of openings steps letters w;
       letters = opening_letters;
       corner = w.corner;
-      anchor = w.anchor;
     }
 
 -- the place among the entries that a walk reads next
@@ -81,7 +82,6 @@ after_letters entries passed steps letters w = record {
   entry = slice_index_or entries (place_of steps letters w) 0;
   letters = w.letters + 1 + slice_index_or passed (place_of steps letters w) 0;
   corner = w.corner;
-  anchor = w.anchor;
 }
 
 -- the walk stands at a row, with its kind, and reads on the padded board
@@ -94,9 +94,9 @@ pub record IsStanding (automaton : List Row) (w : Walk) : Type 0 where
 abbrev pub given_at : List Row → Walk → List ℕ
 given_at automaton w = if nat_le w.letters offset_count then (row_at automaton (row_of w.entry)).numbers else []
 
--- the hits of the rows where the walks stand
-abbrev pub hits_of : List Row → ℕ → List Walk → List Hit
-hits_of automaton t walks = flat_map (λ w. hits_at t w.anchor (given_at automaton w)) walks
+-- the hits of the rows where the walks on a board of size s stand
+abbrev pub hits_of : List Row → ℕ → ℕ → List Walk → List Hit
+hits_of automaton s t walks = flat_map (λ w. hits_at t (anchor_of s w) (given_at automaton w)) walks
 
 -- the row that the first i letters lead to from the anchor m
 abbrev pub row_after : List Row → BoardState → Colour → ℕ → ℕ → ℕ → ℕ
@@ -104,12 +104,13 @@ row_after automaton pos friend t i m = reach automaton (word_at pos friend t m i
 
 -- the walk is from a point of the board, and stands where its letters lead
 pub record IsWalk (automaton : List Row) (pos : BoardState) (friend : Colour) (t : ℕ) (w : Walk) : Type 0 where
-  pub anchor : w.anchor < pos.size * pos.size
-  pub corner : w.corner ≡ corner_at pos.size w.anchor
-  pub row : w.letters ≤ offset_count → row_of w.entry ≡ row_after automaton pos friend t w.letters w.anchor
+  pub anchor : anchor_of pos.size w < pos.size * pos.size
+  pub corner : w.corner ≡ corner_at pos.size (anchor_of pos.size w)
+  pub row : w.letters ≤ offset_count
+      → row_of w.entry ≡ row_after automaton pos friend t w.letters (anchor_of pos.size w)
 
 -- the list has such walks, by rising anchors
 pub record AreWalks (automaton : List Row) (pos : BoardState) (friend : Colour) (t : ℕ)
     (walks : List Walk) : Type 0 where
   pub each : (w : Walk) → Contains walks w → IsWalk automaton pos friend t w
-  pub rising : AllPairs (λ v w. v.anchor < w.anchor) walks
+  pub rising : AllPairs (λ v w. anchor_of pos.size v < anchor_of pos.size w) walks

@@ -1,9 +1,9 @@
 //! The points of a board in reading order, with their places on the padded board.
 ghost use Rattle.std.specs.Prelude.{◌≡◌, ℕ, ◌+◌, ◌<◌, ◌≤◌};
-ghost use Rattle.dfa_match.specs.Steps.{cursor_at, last_corner};
+ghost use Rattle.dfa_match.specs.Steps.{anchor_at_corner, cursor_at, last_corner};
 
 use crate::sights::SIDE;
-use go_base::Size;
+use go_base::{Point, Size};
 
 /// Where a point of a board stands. From one point to the next it is counted on, without a division.
 #[derive(Clone, Copy)]
@@ -44,4 +44,12 @@ impl Cursor {
             }
         }
     }
+}
+
+/// The point of a board around which the square of all offsets begins at this index of the padded board.
+pub fn anchor_at(corner: u16, size: Size) -> Point
+    requires { corner ≤ last_corner }
+    ensures { result ≡ anchor_at_corner size corner }
+{
+    corner / SIDE as u16 * size.get() as u16 + corner % SIDE as u16
 }

@@ -103,8 +103,8 @@ fn sweep(
         → OnOk result (AreHitsBefore automaton.now at friend (t + 1) nothing_read out.new.items) }
 {
     let _ = automaton.rows();
-    give_start(automaton, t, first, out)?;
-    give_all(automaton, t, second, out)?;
+    give_start(automaton, sights.size, t, first, out)?;
+    give_all(automaton, sights.size, t, second, out)?;
     let mut walks = opened_walks(*out.allocator(), shortcuts, sights, t, second, rings)?;
     'letters: for pass in 0..OFFSETS {
         if walks.is_empty() {

@@ -1,5 +1,5 @@
 //! The walks of an automaton from all anchors: how they begin, how they go on, and what they give out.
-ghost use Rattle.std.specs.Prelude.{◌≡◌, ℕ, ◌+◌, ◌*◌, ◌%◌, ◌<◌, ◌≤◌, ◌++◌, false, List, length, map, filter, All};
+ghost use Rattle.std.specs.Prelude.{◌≡◌, ℕ, ◌+◌, ◌*◌, ◌%◌, ◌<◌, ◌≤◌, ◌++◌, false, List, length, map, filter, take, All};
 ghost use Rattle.std.specs.Prelude.{IfOk, OnOk};
 ghost use Rattle.dfa_core.specs.Entries.{row_of};
 ghost use Rattle.dfa_shortcuts.specs.Shortcuts.{is_accepting_entry, AreShortcuts};
@@ -7,15 +7,15 @@ ghost use Rattle.dfa_match.specs.Hits.{hits_at};
 ghost use Rattle.dfa_match.specs.Rings.{ring_of};
 ghost use Rattle.dfa_match.specs.Steps.{last_corner, step_count, AreSteps};
 ghost use Rattle.dfa_match.specs.Walks.{first_walks_of, after_anchor, after_opening, after_letters, goes_on};
-ghost use Rattle.dfa_match.specs.Walks.{given_at, hits_of, IsStanding};
+ghost use Rattle.dfa_match.specs.Walks.{anchor_of, given_at, hits_of, IsStanding};
 
-use crate::cursor::Cursor;
+use crate::cursor::{Cursor, anchor_at};
 use crate::rings::{Ring, opening_number};
 use crate::sights::Sights;
 use crate::{Hit, add};
 use dfa_core::{Automaton, RowKind, entry_at, row_in};
-use dfa_shortcuts::{OPENING_LETTERS, Shortcuts, is_accepting, is_dead};
-use go_base::{NoMemory, Point, Size, Transform};
+use dfa_shortcuts::{OPENING_LETTERS, Shortcuts, is_accepting, is_dead, shortcut};
+use go_base::{NoMemory, Size, Transform};
 use spiral::OFFSETS;
 use std::alloc::Global;
 
@@ -28,8 +28,6 @@ pub struct Walk {
     pub letters: u16,
     /// Where the square of all offsets around its anchor begins on the padded board.
     pub corner: u16,
-    /// The point from which it began.
-    pub anchor: Point,
 }
 
 impl Walk {
@@ -39,6 +37,16 @@ impl Walk {
         ensures { result ≡ goes_on self }
     {
         !is_dead(self.entry) && self.letters < OFFSETS
+    }
+
+    /// Makes it the same as another, part by part, which is faster than a whole walk that is put together first.
+    #[inline(always)]
+    fn set(&mut self, other: Walk)
+        ensures { self.new ≡ other }
+    {
+        self.entry = other.entry;
+        self.letters = other.letters;
+        self.corner = other.corner;
     }
 }
 
@@ -57,7 +65,6 @@ pub fn first_walks(alloc: Global, automaton: &Automaton, size: Size) -> Result<V
             entry,
             letters: 0,
             corner: at.corner,
-            anchor,
         })?;
         at = at.next(size);
     }
@@ -124,9 +131,33 @@ fn behind_opening(
     }
 }
 
+/// Takes each walk behind its opening under one transformation, and moves those that go on to the front. Answers how many
+/// these are. `rings` are the rings around their anchors.
+#[inline(never)]
+fn open_all(
+    shortcuts: &Shortcuts,
+    sights: &Sights,
+    t: Transform,
+    rings: &[Ring],
+    walks: &mut [Walk],
+) -> usize
+    requires corners { All (λ w. w.corner ≤ last_corner) walks.old }
+    requires rings { rings.now ≡ map (ring_of sights.now.letters) walks.old }
+    ensures left { (steps : List ℕ) → AreSteps t steps → take result walks.new ≡ filter goes_on
+        (map (after_opening shortcuts.now.openings.items steps sights.now.letters) walks.old) }
+    ensures few { result ≤ length walks.new }
+{
+    let mut left = 0;
+    'walks: for index in 0..walks.len() {
+        let next = behind_opening(shortcuts, sights, rings[index], t, walks[index]);
+        walks[left].set(next);
+        left += next.goes_on() as usize;
+    }
+    left
+}
+
 /// The walks behind their openings under one transformation, but for those that do not go on. `rings` are the rings
 /// around their anchors. Takes memory.
-#[inline(never)]
 pub fn opened_walks(
     alloc: Global,
     shortcuts: &Shortcuts,
@@ -140,29 +171,49 @@ pub fn opened_walks(
     ensures { (steps : List ℕ) → AreSteps t steps → IfOk result (λ walks. walks.items ≡ filter goes_on
         (map (after_opening shortcuts.now.openings.items steps sights.now.letters) second.now)) }
 {
-    let mut walks = Vec::with_capacity(alloc, second.len())?;
-    'walks: for index in 0..second.len() {
-        let next = behind_opening(shortcuts, sights, rings[index], t, second[index]);
-        if next.goes_on() {
-            walks.push(next)?;
-        }
-    }
+    let mut walks = Vec::new(alloc);
+    walks.extend_from_slice(second)?;
+    let left = open_all(shortcuts, sights, t, rings, &mut walks);
+    walks.truncate(left);
     Ok(walks)
+}
+
+/// Adds the hits of the row where a walk stands, as long as its letters are those of the spiral. Few walks come to a row
+/// that accepts something; apart from their loop this leaves them the registers.
+#[inline(never)]
+fn give_accepted(
+    automaton: &Automaton,
+    size: Size,
+    t: Transform,
+    walk: &Walk,
+    out: &mut Vec<Hit>,
+) -> Result<(), NoMemory>
+    requires { IsStanding automaton.now walk.now }
+    ensures { OnOk result (out.new.items
+        ≡ out.old.items ++ hits_at t (anchor_of size walk.now) (given_at automaton.now walk.now)) }
+{
+    if walk.letters > OFFSETS {
+        return Ok(());
+    }
+    let anchor = anchor_at(walk.corner, size);
+    add(out, automaton.accepts(row_in(walk.entry)), t, anchor)
 }
 
 /// Adds the hits of the row where a walk stands.
 #[inline(always)]
 fn give_out(
     automaton: &Automaton,
+    size: Size,
     t: Transform,
-    walk: Walk,
+    walk: &Walk,
     out: &mut Vec<Hit>,
 ) -> Result<(), NoMemory>
-    requires { IsStanding automaton.now walk }
-    ensures { OnOk result (out.new.items ≡ out.old.items ++ hits_at t walk.anchor (given_at automaton.now walk)) }
+    requires { IsStanding automaton.now walk.now }
+    ensures { OnOk result (out.new.items
+        ≡ out.old.items ++ hits_at t (anchor_of size walk.now) (given_at automaton.now walk.now)) }
 {
-    if is_accepting(walk.entry) && walk.letters <= OFFSETS {
-        add(out, automaton.accepts(row_in(walk.entry)), t, walk.anchor)
+    if is_accepting(walk.entry) {
+        give_accepted(automaton, size, t, walk, out)
     } else {
         Ok(())
     }
@@ -171,15 +222,16 @@ fn give_out(
 /// Adds the hits of the rows where the walks stand.
 pub fn give_all(
     automaton: &Automaton,
+    size: Size,
     t: Transform,
     walks: &[Walk],
     out: &mut Vec<Hit>,
 ) -> Result<(), NoMemory>
     requires { All (IsStanding automaton.now) walks.now }
-    ensures { OnOk result (out.new.items ≡ out.old.items ++ hits_of automaton.now t walks.now) }
+    ensures { OnOk result (out.new.items ≡ out.old.items ++ hits_of automaton.now size t walks.now) }
 {
     'walks: for walk in walks {
-        give_out(automaton, t, *walk, out)?;
+        give_out(automaton, size, t, walk, out)?;
     }
     Ok(())
 }
@@ -187,41 +239,48 @@ pub fn give_all(
 /// Adds the hits of the start, where the walks stand before their first letter. For most automata there are none.
 pub fn give_start(
     automaton: &Automaton,
+    size: Size,
     t: Transform,
     walks: &[Walk],
     out: &mut Vec<Hit>,
 ) -> Result<(), NoMemory>
     requires standing { All (IsStanding automaton.now) walks.now }
     requires start { All (λ w. row_of w.entry ≡ 0) walks.now }
-    ensures { OnOk result (out.new.items ≡ out.old.items ++ hits_of automaton.now t walks.now) }
+    ensures { OnOk result (out.new.items ≡ out.old.items ++ hits_of automaton.now size t walks.now) }
 {
     let _ = automaton.rows();
     match automaton.kind(0) {
-        RowKind::Accepting => give_all(automaton, t, walks, out),
+        RowKind::Accepting => give_all(automaton, size, t, walks, out),
         RowKind::Plain | RowKind::Dead => Ok(()),
     }
 }
 
 /// Reads a letter on each walk, and answers a number that is even only where no walk came to a row that accepts
-/// something. Apart from its caller it has the registers for itself.
+/// something. Apart from its caller it has the registers for itself, and nothing is decided for a walk: what it reads is
+/// far away in memory, and a choice that is foretold wrongly would wait for it.
 #[inline(never)]
-fn read_on(shortcuts: &Shortcuts, sights: &Sights, steps: &[u16], walks: &mut [Walk]) -> u32
-    requires entries { All (λ w. 4 * row_of w.entry + 4 ≤ length shortcuts.now.entries.items) walks.old }
-    requires passed { All (λ w. 4 * row_of w.entry + 4 ≤ length shortcuts.now.passed.items) walks.old }
+fn read_on(
+    entries: &[u32],
+    passed: &[u8],
+    sights: &Sights,
+    steps: &[u16],
+    walks: &mut [Walk],
+) -> u32
+    requires entries { All (λ w. 4 * row_of w.entry + 4 ≤ length entries.now) walks.old }
+    requires passed { All (λ w. 4 * row_of w.entry + 4 ≤ length passed.now) walks.old }
     requires corners { All (λ w. w.corner ≤ last_corner) walks.old }
     requires letters { All (λ w. w.letters < step_count) walks.old }
     requires steps { (t : ℕ) × AreSteps t steps.now }
-    ensures value { walks.new ≡ map (after_letters shortcuts.now.entries.items shortcuts.now.passed.items steps.now
-        sights.now.letters) walks.old }
+    ensures value { walks.new ≡ map (after_letters entries.now passed.now steps.now sights.now.letters) walks.old }
     ensures few { (n : ℕ) → All (λ w. w.letters < n) walks.old → All (λ w. w.letters < n + 256) walks.new }
     ensures silent { result % 2 ≡ 0 → All (λ w. is_accepting_entry w.entry ≡ false) walks.new }
 {
     let mut met = 0;
     'walks: for walk in walks.iter_mut() {
         let letter = sights.letter(walk.corner, steps[walk.letters as usize]);
-        let (entry, passed) = shortcuts.behind(row_in(walk.entry), letter);
+        let (entry, more) = shortcut(entries, passed, row_in(walk.entry), letter);
         walk.entry = entry;
-        walk.letters += 1 + passed as u16;
+        walk.letters += 1 + more as u16;
         met |= entry;
     }
     met
@@ -245,33 +304,49 @@ pub fn read_letters(
     ensures walks { walks.new.items ≡ map (after_letters shortcuts.now.entries.items shortcuts.now.passed.items
         steps.now sights.now.letters) walks.old.items }
     ensures few { (n : ℕ) → All (λ w. w.letters < n) walks.old.items → All (λ w. w.letters < n + 256) walks.new.items }
-    ensures hits { OnOk result (out.new.items ≡ out.old.items ++ hits_of automaton.now t
+    ensures hits { OnOk result (out.new.items ≡ out.old.items ++ hits_of automaton.now sights.now.size t
         (map (after_letters shortcuts.now.entries.items shortcuts.now.passed.items steps.now sights.now.letters)
         walks.old.items)) }
 {
     let _ = automaton.rows();
-    let met = read_on(shortcuts, sights, steps, walks);
+    let met = read_on(&shortcuts.entries, &shortcuts.passed, sights, steps, walks);
     if met % 2 != 0 {
-        return give_all(automaton, t, walks, out);
+        return give_all(automaton, sights.size, t, walks, out);
     }
     Ok(())
 }
 
-/// Drops the walks that do not go on.
+/// Moves the walks that go on to the front, and answers how many they are.
 ///
 /// A walk is written behind those that go on, whether it goes on or not; the next one is written over one that does
 /// not. So nothing is decided for a walk, and no choice can be foretold wrongly.
 #[inline(never)]
+fn move_to_front(walks: &mut [Walk]) -> usize
+    ensures left { take result walks.new ≡ filter goes_on walks.old }
+    ensures few { result ≤ length walks.new }
+{
+    let mut left = 0;
+    'walks: for index in 0..walks.len() {
+        let Walk {
+            entry,
+            letters,
+            corner,
+        } = walks[index];
+        let walk = Walk {
+            entry,
+            letters,
+            corner,
+        };
+        walks[left].set(walk);
+        left += walk.goes_on() as usize;
+    }
+    left
+}
+
+/// Drops the walks that do not go on.
 pub fn drop_ended(walks: &mut Vec<Walk>)
     ensures { walks.new.items ≡ filter goes_on walks.old.items }
 {
-    let mut kept = 0;
-    'walks: for index in 0..walks.len() {
-        let walk = walks[index];
-        walks[kept] = walk;
-        if walk.goes_on() {
-            kept += 1;
-        }
-    }
-    walks.truncate(kept);
+    let left = move_to_front(walks);
+    walks.truncate(left);
 }

@@ -60,18 +60,6 @@ impl Shortcuts {
         })
     }
 
-    /// The entry of the row behind this letter and those that are passed over, and how many these are.
-    #[inline(always)]
-    pub fn behind(&self, row: u32, letter: Seen) -> (u32, u8)
-        requires entries { 4 * row + 4 ≤ length self.now.entries.items }
-        requires passed { 4 * row + 4 ≤ length self.now.passed.items }
-        ensures entry { result.0 ≡ slice_index_or self.now.entries.items (4 * row + letter_number letter) 0 }
-        ensures passed { result.1 ≡ slice_index_or self.now.passed.items (4 * row + letter_number letter) 0 }
-    {
-        let place = 4 * row as usize + letter as usize;
-        (self.entries[place], self.passed[place])
-    }
-
     /// The entry of the row behind the opening with a number; None where nothing is known of it.
     #[inline(always)]
     pub fn opening(&self, number: u32) -> Option<u32>
@@ -84,4 +72,18 @@ impl Shortcuts {
             _ => None,
         }
     }
+}
+
+/// The shortcut from a row by a letter: the entry of the row behind this letter and those that are passed over, and how
+/// many these are. `entries` and `passed` are those of the shortcuts; a loop that is given them as slices keeps them in
+/// registers.
+#[inline(always)]
+pub fn shortcut(entries: &[u32], passed: &[u8], row: u32, letter: Seen) -> (u32, u8)
+    requires entries { 4 * row + 4 ≤ length entries.now }
+    requires passed { 4 * row + 4 ≤ length passed.now }
+    ensures entry { result.0 ≡ slice_index_or entries.now (4 * row + letter_number letter) 0 }
+    ensures passed { result.1 ≡ slice_index_or passed.now (4 * row + letter_number letter) 0 }
+{
+    let place = 4 * row as usize + letter as usize;
+    (entries[place], passed[place])
 }

@@ -1,6 +1,6 @@
 //! Letters that are passed over, since each of them leads on to one row.
 ghost use Rattle.std.specs.Prelude.{◌≡◌, ◌+◌, ◌*◌, ◌≤◌, List, length};
-ghost use Rattle.dfa_core.specs.Automata.{Row, IsAutomaton};
+ghost use Rattle.dfa_core.specs.Automata.{Row};
 ghost use Rattle.dfa_core.specs.Entries.{AreEntries, row_of, entry_with};
 ghost use Rattle.dfa_core.specs.RowKinds.{kind_at};
 ghost use Rattle.dfa_shortcuts.specs.Shortcuts.{LeadsOn, IsOfRow, HaveRows, has_one_target};
@@ -31,7 +31,7 @@ fn leads_one_way(entries: &[u32], row: u32) -> bool
 pub fn passed_from(entries: &[u32], entry: u32) -> Passed
     requires row { IsOfRow entries.now entry }
     requires rows { HaveRows entries.now }
-    ensures { (automaton : List Row) → IsAutomaton automaton → AreEntries automaton entries.now
+    ensures { (automaton : List Row) → AreEntries automaton entries.now
         → entry ≡ entry_with (kind_at automaton (row_of entry)) (row_of entry)
         → LeadsOn automaton (row_of entry) result.letters result.entry }
 {

@@ -13,5 +13,5 @@ returns-in-Plain c =
       | inr dead ↦ (kind-dead c.args.automaton.now 0 (sym c.kind.ensures ∙ dead)).silent
     ] in
     sym (ap (λ hs. c.args.out.now.items ++ hs)
-    (hits_of-start c.args.automaton.now c.args.t c.args.walks.now c.requires.start silent)
+    (hits_of-start c.args.automaton.now c.args.size c.args.t c.args.walks.now c.requires.start silent)
     ∙ append-nil c.args.out.now.items)

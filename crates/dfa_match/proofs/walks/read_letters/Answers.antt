@@ -23,7 +23,9 @@ next c = after_letters c.args.shortcuts.now.entries.items c.args.shortcuts.now.p
 
 -- each walk has read its letter
 read : (c : After-read_on-met) → c.read_on-met.new.walks ≡ map (next c) c.args.walks.now.items
-read c = c.read_on-met.ensures.value ∙ ap (map (next c)) c.deref_mut.ensures.value
+read c = c.read_on-met.ensures.value
+    ∙ (λ i. map (after_letters (c.deref.ensures.value i) (c.deref-2.ensures.value i) c.args.steps.now
+    c.args.sights.now.letters) (c.deref_mut.ensures.value i))
 
 -- these are the walks of the whole list
 written : (c : After-read_on-met)
@@ -59,7 +61,7 @@ pub give_all-requires : goal.give_all-requires
 give_all-requires c =
     let at_read = (goal.at.give_all-requires c).After-read_on-met in
     subst (All (IsStanding c.args.automaton.now))
-    (sym (c.deref.ensures.value ∙ written at_read ∙ read at_read))
+    (sym (c.deref-then-met-ne0.ensures.value ∙ written at_read ∙ read at_read))
     (standing at_read)
 
 -- where no row accepts something nothing is given out
@@ -70,6 +72,6 @@ returns-clause-hits c =
     let silent : All (λ w. is_accepting_entry w.entry ≡ false) walks =
     subst (All (λ w. is_accepting_entry w.entry ≡ false)) (read at_read)
     (c.read_on-met.ensures.silent (omega (arith, c.if-met-ne0.false))) in
-    sym (ap (λ hs. c.args.out.now.items ++ hs) (hits_of-silent c.args.automaton.now c.args.t walks
+    sym (ap (λ hs. c.args.out.now.items ++ hs) (hits_of-silent c.args.automaton.now c.args.sights.now.size c.args.t walks
     (λ k d low. silent_standing c.args.automaton.now (get_or walks k d) (standing at_read k d low) (silent k d low)))
     ∙ append-nil c.args.out.now.items)

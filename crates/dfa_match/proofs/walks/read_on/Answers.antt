@@ -51,28 +51,27 @@ next_same f xs ys i x low is =
 -- one walk more has read its letter
 pub walks-preserved : goal.walks-preserved
 walks-preserved c =
-    let entries : List ℕ = c.args.shortcuts.now.entries.items in
-    let passed : List ℕ = c.args.shortcuts.now.passed.items in
+    let entries : List ℕ = c.args.entries.now in
+    let passed : List ℕ = c.args.passed.now in
     let steps : List ℕ = c.args.steps.now in
     let letters = c.args.sights.now.letters in
-    let none : Walk = record { entry = 0; letters = 0; corner = 0; anchor = 0 } in
+    let none : Walk = record { entry = 0; letters = 0; corner = 0 } in
     let walk : Walk = get_or c.walks.walks c.walks.walk-index none in
     let on : c.walks.walk-index < length c.walks.walks = omega (arith, c.walks.auto.walks) in
     let place : 4 * c.row_in.result + letter_number c.letter-letter.result ≡ place_of steps letters walk =
     omega (arith, c.row_in.ensures, ap letter_number c.letter-letter.ensures) in
-    let entry : c.behind-entry.result.0 ≡ get_or entries (place_of steps letters walk) 0 =
-    c.behind-entry.ensures.entry ∙ ap (λ n. get_or entries n 0) place in
-    let more : c.behind-entry.result.1 ≡ get_or passed (place_of steps letters walk) 0 =
-    c.behind-entry.ensures.passed ∙ ap (λ n. get_or passed n 0) place in
+    let entry : c.shortcut-entry.result.0 ≡ get_or entries (place_of steps letters walk) 0 =
+    c.shortcut-entry.ensures.entry ∙ ap (λ n. get_or entries n 0) place in
+    let more : c.shortcut-entry.result.1 ≡ get_or passed (place_of steps letters walk) 0 =
+    c.shortcut-entry.ensures.passed ∙ ap (λ n. get_or passed n 0) place in
     let next : Walk = record {
-      entry = c.behind-entry.result.0;
-      letters = walk.letters + (1 + c.behind-entry.result.1);
+      entry = c.shortcut-entry.result.0;
+      letters = walk.letters + (1 + c.shortcut-entry.result.1);
       corner = walk.corner;
-      anchor = walk.anchor;
     } in
     let count : next.letters ≡ (after_letters entries passed steps letters walk).letters = omega (arith, more) in
     let is : next ≡ after_letters entries passed steps letters walk =
-    λ i. record { entry = entry i; letters = count i; corner = walk.corner; anchor = walk.anchor } in
+    λ i. record { entry = entry i; letters = count i; corner = walk.corner } in
     record {
       value = ap (set c.walks.walks c.walks.walk-index) is
           ∙ map_over_more (after_letters entries passed steps letters) c.args.walks.now c.walks.walks
@@ -83,11 +82,11 @@ walks-preserved c =
           let same = ap (λ (w : Walk). w.letters) (next_same (after_letters entries passed steps letters)
           c.args.walks.now c.walks.walks c.walks.walk-index none c.walks-test.true c.walks.invariant.value) in
           AllWithin-more_set c.walks.walks c.walks.walk-index next on (λ w. w.letters < n + 256)
-          (c.walks.invariant.few n read) (omega (arith, before, same, c.behind-entry.type_inv));
+          (c.walks.invariant.few n read) (omega (arith, before, same, c.shortcut-entry.type_inv));
       silent = λ even.
-          let parts = or_even c.walks.met c.behind-entry.result.0 even in
+          let parts = or_even c.walks.met c.shortcut-entry.result.0 even in
           silent_more c.walks.walks c.walks.walk-index next on (c.walks.invariant.silent parts.0)
-          (even_silent c.behind-entry.result.0 parts.1);
+          (even_silent c.shortcut-entry.result.0 parts.1);
     }
 
 -- each walk has read its letter

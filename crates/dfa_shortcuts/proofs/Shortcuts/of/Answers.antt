@@ -20,7 +20,7 @@ entries-preserved c = record {
   first = AreFirstShortcuts-more c.args.automaton.now c.entries-from.result.now c.entries.entry-index
       (get_or c.entries-from.result.now c.entries.entry-index 0) c.passed_from-behind.result.entry
       c.passed_from-behind.result.letters c.entries-from.ensures c.entries-test.true refl
-      (c.passed_from-behind.ensures c.args.automaton.now c.rows.ensures.automaton c.entries-from.ensures)
+      (c.passed_from-behind.ensures c.args.automaton.now c.entries-from.ensures)
       c.entries.entries.items c.entries.passed.items c.push.new.self.items c.push-in-entries.new.self.items
       c.entries.invariant.first c.in_ok-push.ensures.items c.in_ok-push-2.ensures.items;
 }
