@@ -1,19 +1,21 @@
 """Times gopat's matches and those of GNU Go's own automaton over the same patterns, in one run, and what both compilers take.
 
-usage: python3 tools/time_matches.py GOPAT BUILD PATTERNS.db RECORDS [POSITIONS [REPEATS [SEED]]]
+usage: python3 tools/time_matches.py GOPAT TIMER BUILD PATTERNS.db RECORDS [POSITIONS [REPEATS [SEED]]]
 
-BUILD is GNU Go's source after ./configure and make; RECORDS a folder that is searched for *.sgf. The entries are taken as
+TIMER is the program of crates/matcher_timer, which calls `matches` as GNU Go's matcher is called here; BUILD is GNU Go's source after ./configure and make; RECORDS a folder that is searched for *.sgf. The entries are taken as
 diagrams alone with the class letter `s`, without their constraints, so that neither program reads; one with the mark O or
 without a stone is left out, as by tools/compare_matches.py. GNU Go's matcher is linked with a callback that only counts: it tests
 no legality and sorts nothing. gopat's time is that of its whole reply, without what a session takes that sets the positions up
 and asks nothing; and once more with the constraint `0` at each entry, which is false, so that the same matches are found, tried
-and sorted, and none is written. A call is one position and one colour; all times are the processor's.
+and sorted, and none is written. A call is one position and one colour; all times are the processor's, and of RUNS runs of each in
+turn the shortest and the middle one are told.
 """
 
 import collections
 import pathlib
 import random
 import re
+import statistics
 import subprocess
 import sys
 import tempfile
@@ -62,6 +64,9 @@ int main(void) {
 }
 """
 
+
+# How often each program is run, in turn.
+RUNS = 9
 
 # GNU Go's compiler of patterns, and its libraries.
 COMPILER = ["mkpat.c", "transform.c", "dfa.c"]
@@ -144,13 +149,35 @@ def microseconds_of_gopat(command: list[str], asked: list[compare_matches.Positi
     return (spent - plain) * 1e6 / (2 * repeats * len(asked))
 
 
+def drawing(one: compare_matches.Position) -> str:
+    """The marks of a board in reading order."""
+    marks = ["."] * (one.size * one.size)
+    for stone in one.stones:
+        colour, vertex = str(stone).split()
+        row, column = one.size - int(vertex[1:]), "ABCDEFGHJKLMNOPQRST".index(vertex[0].upper())
+        marks[row * one.size + column] = "X" if colour == "b" else "O"
+    return "".join(marks)
+
+
+def microseconds_of_matches(timer: str, room: pathlib.Path, database: pathlib.Path, repeats: int, calls: int) -> float:
+    """The microseconds of a call of `matches` over the boards of the room."""
+    spent, plain = (cost.of([timer, str(database), str(room / "boards"), str(some)]).seconds for some in (repeats, 0))
+    return (spent - plain) * 1e6 / (repeats * calls)
+
+
+def told(found: list[float], theirs: list[float]) -> str:
+    """The shortest and the middle time, and what they are of the other program's."""
+    least, middle = min(found), statistics.median(found)
+    return f"{least:.1f} us, {middle:.1f} in the middle: {least / min(theirs):.2f} and {middle / statistics.median(theirs):.2f} times"
+
+
 def matches_of_gopat(command: list[str], asked: list[compare_matches.Position]) -> int:
     """How many matches a call gives."""
     found = compare_matches.by_gopat(command[0], pathlib.Path(command[-1]), asked).lists
     return compare_matches.count(found) // len(found)
 
 
-def main(gopat: str, build: str, patterns: str, records: str, wanted: str = "120", repeats: str = "20", seed: str = "1"):
+def main(gopat: str, timer: str, build: str, patterns: str, records: str, wanted: str = "120", repeats: str = "20", seed: str = "1"):
     luck, folder = random.Random(int(seed)), pathlib.Path(build).resolve()
     places = compare_matches.positions(pathlib.Path(records), int(wanted), luck)
     asked = [compare_matches.Position(one.size, compare_matches.stones_left(gopat, one)) for one in places]
@@ -168,17 +195,24 @@ def main(gopat: str, build: str, patterns: str, records: str, wanted: str = "120
         ours, empty = cost.of(command), cost.of([gopat])
         print(f"compiled by gopat   {ours.seconds:.2f} s, {ours.megabytes:.1f} MB ({empty.megabytes:.1f} MB without patterns)")
         print(f"compiled by GNU Go  {theirs.seconds:.2f} s, {theirs.megabytes:.1f} MB")
-        matches, microseconds = microseconds_of_gnugo(matcher_of(folder, room), asked, int(repeats))
-        called = microseconds_of_gopat(command, asked, int(repeats))
-        found = microseconds_of_gopat([*command[:-1], str(silent)], asked, int(repeats))
+        (room / "boards").write_text("".join(drawing(one) + "\n" for one in asked), encoding="ascii")
+        matcher, many = matcher_of(folder, room), 4 * int(repeats)
+        matches, times, inner, listed, unlisted_ones = 0, [], [], [], []
+        for _ in range(RUNS):
+            matches, microseconds = microseconds_of_gnugo(matcher, asked, many)
+            times.append(microseconds)
+            inner.append(microseconds_of_matches(timer, room, database, many, 2 * len(asked)))
+            listed.append(microseconds_of_gopat(command, asked, int(repeats)))
+            unlisted_ones.append(microseconds_of_gopat([*command[:-1], str(silent)], asked, int(repeats)))
         alone = microseconds_of_gopat([gopat], asked, int(repeats))
-        print(f"a call of gopat     {called:.1f} us, {matches_of_gopat(command, asked)} matches")
-        print(f"a call of GNU Go    {microseconds:.1f} us, {matches} matches: {called / microseconds:.2f} times its time")
-        print(f"with none listed    {found:.1f} us: {found / microseconds:.2f} times its time")
+        print(f"a call of GNU Go    {min(times):.1f} us, {statistics.median(times):.1f} in the middle, {matches} matches")
+        print(f"a call of `matches` {told(inner, times)}, {matches_of_gopat(command, asked)} matches")
+        print(f"a line, listed      {told(listed, times)}")
+        print(f"a line, none listed {told(unlisted_ones, times)}")
         print(f"without patterns    {alone:.1f} us")
 
 
 if __name__ == "__main__":
-    if not 5 <= len(sys.argv) <= 8:
+    if not 6 <= len(sys.argv) <= 9:
         sys.exit(__doc__)
     main(*sys.argv[1:])
