@@ -9,10 +9,9 @@ use Rattle.go_rules.specs.declared.Cell.TheVariants.{Empty, Black, White}
 use Rattle.go_rules.specs.Position.{BoardState}
 use Rattle.go_rules.specs.Strings.{cell_at, is_stone}
 use Rattle.go_rules.specs.Play.{play}
-use Rattle.read_rules.specs.declared.question.ReadingQuestion.{ReadingQuestion}
 use Rattle.read_rules.specs.declared.question.Kind.{Kind}
 use Rattle.read_rules.specs.declared.question.Kind.TheVariants.{Attack}
-use Rattle.read_rules.specs.Answer.{code_of, answer_of, asked_on}
+use Rattle.read_rules.specs.Answer.{answer_of, asked_on}
 use Rattle.read_rules.proofs.RuleLemmas.{code-answer_of}
 use Rattle.cons_eval.specs.Readings.{Codes, code_at}
 use Rattle.cons_eval.specs.Functions.{after_play, is_safe_move}

@@ -1,4 +1,3 @@
-pub mod Caches
 pub mod Keys
 pub mod AutomatonMatches
 pub mod Found

@@ -12,9 +12,8 @@ use go_base::{Colour, Point, Position, Transform};
 use match_rules::Match;
 use pat_types::{Arg, Expr, LabelAt, Pattern};
 use read_rules::Kind;
-use std::mem::replace;
 
-/// What the constraint of a match's pattern is valued by. It holds the readings as long as it lives.
+/// What the constraint of a match's pattern is valued by. It borrows the readings as long as it lives.
 #[derive(Drop)]
 pub struct Asking<'a> {
     /// The position before the move.
@@ -28,7 +27,7 @@ pub struct Asking<'a> {
     /// The point of its star.
     pub star: Point,
     /// The readings that it asks.
-    pub readings: Readings,
+    pub readings: &'a mut Readings,
     ghost on_board: { star < position.now.size * position.now.size },
 }
 
@@ -110,22 +109,15 @@ fn is_so(
         (meanings_at (codes_of readings.old) p.now position.now friend z.now.transform z.now.at) constraint.now) }
     ensures follows { Follows readings.old readings.new }
 {
-    let spare = readings.spare();
     let mut asking = Asking {
         position,
         friend,
         pattern: p,
         transform: z.transform,
         star: z.at,
-        readings: replace(readings, spare),
+        readings,
     };
-    let value = eval(constraint, &mut asking);
-    let Asking {
-        readings: after,
-        ..
-    } = asking;
-    *readings = after;
-    value != 0
+    eval(constraint, &mut asking) != 0
 }
 
 /// Whether the constraint of a pattern, if it has one, has a value other than 0.

@@ -12,7 +12,6 @@ mod agreeing;
 mod allowing;
 mod asking;
 mod finder;
-mod keeping;
 mod keys;
 pub mod laws;
 mod legality;

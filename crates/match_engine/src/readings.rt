@@ -10,7 +10,6 @@ ghost use Rattle.read_cache.specs.Kept.{IsMissing};
 ghost use Rattle.match_engine.specs.Readings.{HasRead, WasFresh, WasKept, Follows, AllRest, Rests, Answers};
 ghost use Rattle.match_engine.specs.Readings.{first_readings, with_depths};
 
-use crate::keeping::{find_in, keep_in};
 use crate::keys::{Key, key_of};
 use go_base::{Cell, Facts, NoMemory, Point, Position, Watch};
 use read_cache::Cache;
@@ -30,13 +29,11 @@ pub struct Readings {
     trials: u64,
     refused: u64,
     last: Option<u64>,
-    // There is none in readings that stand in for others; they refuse each keeping.
-    cache: Option<Cache<Key>>,
+    cache: Cache<Key>,
 }
 
 impl Model for Readings {
     ghost use Rattle.match_engine.specs.Readings.{ReadingsView, AllRest};
-    ghost use Rattle.match_engine.specs.Caches.{kept_in};
 
     ghost Value = { ReadingsView };
 
@@ -47,10 +44,10 @@ impl Model for Readings {
       trials = r.trials;
       refused = r.refused;
       last = r.last;
-      kept = kept_in r.cache;
+      kept = r.cache;
     } };
 
-    ghost invariant = { λ r. AllRest (kept_in r.cache) };
+    ghost invariant = { λ r. AllRest r.cache };
 }
 
 /// A fresh reading: its answer, how many trial plays it made, and the facts that it rests on.
@@ -95,7 +92,7 @@ impl Readings {
             trials: 0,
             refused: 0,
             last: None,
-            cache: Some(Cache::new(alloc, capacity)?),
+            cache: Cache::new(alloc, capacity)?,
         })
     }
 
@@ -136,7 +133,7 @@ impl Readings {
         ensures right { IfSome result (λ answer. Answers key.now position.now answer) }
         ensures rest { AllRest self.new.kept }
     {
-        let answer = find_in(&mut self.cache, key, position)?;
+        let answer = self.cache.find(key, position)?;
         self.last = None;
         Some(answer)
     }
@@ -159,22 +156,10 @@ impl Readings {
         self.fresh = self.fresh.saturating_add(1);
         self.trials = self.trials.saturating_add(read.trials);
         self.last = Some(read.trials);
-        if !keep_in(&mut self.cache, key, read.facts, read.answer) {
+        if let Err(NoMemory) = self.cache.keep(key, read.facts, read.answer) {
             self.refused = self.refused.saturating_add(1);
         }
         read.answer
-    }
-
-    /// Readings that stand in while these are lent. They take no memory.
-    pub(crate) fn spare(&self) -> Readings {
-        Readings {
-            depths: self.depths,
-            fresh: 0,
-            trials: 0,
-            refused: 0,
-            last: None,
-            cache: None,
-        }
     }
 
     /// Changes the depths alone.

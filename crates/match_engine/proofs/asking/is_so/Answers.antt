@@ -3,7 +3,7 @@ use Rattle.match_engine.proofs.ConstraintPoints.{constraint_placed}
 use Rattle.match_engine.proofs.asking.is_so.Goals as goal
 
 -- each argument is a pass, has no point, or has one on the board
-pub eval-value-requires-clause-placed : goal.eval-value-requires-clause-placed
-eval-value-requires-clause-placed c =
-    constraint_placed (codes_of c.replace.result) c.args.p.now c.args.position.now c.args.friend c.args.z.now.transform
+pub eval-requires-clause-placed : goal.eval-requires-clause-placed
+eval-requires-clause-placed c =
+    constraint_placed (codes_of c.args.readings.now) c.args.p.now c.args.position.now c.args.friend c.args.z.now.transform
     c.args.z.now.at c.requires.on_board c.args.constraint.now

@@ -1,18 +1,17 @@
-use Rattle.match_engine.specs.Caches.{kept_in}
 use Rattle.match_engine.proofs.KeptReadings.{Answers-found, AllRest-found}
 use Rattle.match_engine.proofs.readings.Readings.find.Goals as goal
 
 -- what is found answers the question
 pub returns-clause-right : goal.returns-clause-right
-returns-clause-right c = Answers-found c.args.key.now c.args.position.now (kept_in c.self.inside.cache)
-    (kept_in c.find_in.new.cache) c.in_ok-answer.answer c.self.invariant c.in_ok-answer.ensures.found
+returns-clause-right c = Answers-found c.args.key.now c.args.position.now c.self.inside.cache c.find.new.self
+    c.in_ok-answer.answer c.self.invariant c.in_ok-answer.ensures.found
 
 -- what is kept is as it was, but for its order
 pub invariant_of-self-2 : goal.invariant_of-self-2
-invariant_of-self-2 c = AllRest-found c.args.key.now c.args.position.now (kept_in c.self.inside.cache)
-    (kept_in c.find_in.new.cache) c.in_ok-answer.answer c.self.invariant c.in_ok-answer.ensures.found
+invariant_of-self-2 c = AllRest-found c.args.key.now c.args.position.now c.self.inside.cache c.find.new.self
+    c.in_ok-answer.answer c.self.invariant c.in_ok-answer.ensures.found
 
 -- each kept answer still rests on its facts
 pub returns-clause-rest : goal.returns-clause-rest
-returns-clause-rest c = AllRest-found c.args.key.now c.args.position.now (kept_in c.self.inside.cache)
-    (kept_in c.find_in.new.cache) c.in_ok-answer.answer c.self.invariant c.in_ok-answer.ensures.found
+returns-clause-rest c = AllRest-found c.args.key.now c.args.position.now c.self.inside.cache c.find.new.self
+    c.in_ok-answer.answer c.self.invariant c.in_ok-answer.ensures.found

@@ -2,22 +2,21 @@ use Rattle.std.proofs.Common.{refl, inl, inr, sym, ap, subst, ◌∙◌}
 use Rattle.read_rules.specs.Answer.{asked_on}
 use Rattle.read_cache.specs.Kept.{IsMissing}
 use Rattle.match_engine.specs.Keys.{same_key}
-use Rattle.match_engine.specs.Caches.{kept_in}
 use Rattle.match_engine.specs.Readings.{ReadingsView, AllRest, WasFresh}
 use Rattle.match_engine.proofs.KeptReadings.{AllRest-kept, as_asked}
 use Rattle.match_engine.proofs.readings.Readings.read_and_keep.Goals as goal
-use Rattle.match_engine.proofs.readings.Readings.read_and_keep.Goals.{then-not-keep_in, else-not-keep_in}
+use Rattle.match_engine.proofs.readings.Readings.read_and_keep.Goals.{in-Err, in_default}
 
 -- what was kept rests on its facts, and so does the rest
-pub invariant_of-self-else-not-keep_in : goal.invariant_of-self-else-not-keep_in
-invariant_of-self-else-not-keep_in c =
+pub invariant_of-self-in_default : goal.invariant_of-self-in_default
+invariant_of-self-in_default c =
     let read = c.read_afresh-read.result in
     let asked = c.requires.key
     ∙ sym (ap (λ (r : ReadingsView). asked_on c.args.position.now c.args.kind c.args.target r.plies r.wide)
     c.self.view_is) in
     let rests = as_asked c.args.key _ _ asked c.read_afresh-read.ensures.rests in
-    AllRest-kept c.args.key read.facts read.answer rests (kept_in c.self.inside.cache)
-    (kept_in c.keep_in.new.cache) c.self.invariant (c.keep_in.ensures.kept c.if-not-keep_in.false)
+    AllRest-kept c.args.key read.facts read.answer rests c.self.inside.cache c.keep.new.self c.self.invariant
+    c.in_default.ensures.kept
 
 -- it is counted, and kept or refused
 pub returns-clause-fresh : goal.returns-clause-fresh
@@ -38,11 +37,11 @@ returns-clause-fresh c =
       trials = inside.trials;
       refused = inside.refused;
       last = inside.last;
-      kept = kept_in inside.cache;
+      kept = inside.cache;
     } in
-    subst (λ (old : ReadingsView). WasFresh key pos read.answer old c.if-not-keep_in.self) c.self.view_is
-    (elim c.if-not-keep_in.branch as (λ _. WasFresh key pos read.answer before c.if-not-keep_in.self) [
-      | then-not-keep_in w ↦ subst (λ (new : ReadingsView). WasFresh key pos read.answer before new) (sym w.self-is)
+    subst (λ (old : ReadingsView). WasFresh key pos read.answer old c.match-keep.self) c.self.view_is
+    (elim c.match-keep.branch as (λ _. WasFresh key pos read.answer before c.match-keep.self) [
+      | in-Err w ↦ subst (λ (new : ReadingsView). WasFresh key pos read.answer before new) (sym w.self-is)
           (record {
             missing = missing;
             trials_of_last = read.trials;
@@ -50,12 +49,12 @@ returns-clause-fresh c =
             fresh = c.saturating_add-self-inside.ensures;
             trials = c.saturating_add-self-inside-2.ensures;
             keeping = inr (record {
-              not_kept = c.keep_in.ensures.not_kept w.if-not-keep_in.true;
-              kept = c.keep_in.ensures.refused w.if-not-keep_in.true;
-              refused = w.saturating_add-self-inside-then-not-keep_in.ensures;
+              not_kept = w.in-Err.ensures.not_kept;
+              kept = w.in-Err.ensures.refused;
+              refused = w.saturating_add-self-inside-in-Err.ensures;
             });
           })
-      | else-not-keep_in w ↦ subst (λ (new : ReadingsView). WasFresh key pos read.answer before new) (sym w.self-is)
+      | in_default w ↦ subst (λ (new : ReadingsView). WasFresh key pos read.answer before new) (sym w.self-is)
           (record {
             missing = missing;
             trials_of_last = read.trials;
@@ -66,7 +65,7 @@ returns-clause-fresh c =
               facts = read.facts;
               holds = c.read_afresh-read.ensures.holds;
               rests = rests;
-              kept = c.keep_in.ensures.kept w.if-not-keep_in.false;
+              kept = w.in_default.ensures.kept;
               refused = refl;
             });
           })
@@ -80,11 +79,10 @@ returns-clause-rest c =
     ∙ sym (ap (λ (r : ReadingsView). asked_on c.args.position.now c.args.kind c.args.target r.plies r.wide)
     c.self.view_is) in
     let rests = as_asked c.args.key _ _ asked c.read_afresh-read.ensures.rests in
-    elim c.if-not-keep_in.branch as (λ _. AllRest c.if-not-keep_in.self.kept) [
-      | then-not-keep_in w ↦ subst AllRest (sym
-          (ap (λ (r : ReadingsView). r.kept) w.self-is ∙ c.keep_in.ensures.refused w.if-not-keep_in.true))
+    elim c.match-keep.branch as (λ _. AllRest c.match-keep.self.kept) [
+      | in-Err w ↦ subst AllRest (sym (ap (λ (r : ReadingsView). r.kept) w.self-is ∙ w.in-Err.ensures.refused))
           c.self.invariant
-      | else-not-keep_in w ↦ subst (λ (r : ReadingsView). AllRest r.kept) (sym w.self-is)
-          (AllRest-kept c.args.key read.facts read.answer rests (kept_in c.self.inside.cache)
-          (kept_in c.keep_in.new.cache) c.self.invariant (c.keep_in.ensures.kept w.if-not-keep_in.false))
+      | in_default w ↦ subst (λ (r : ReadingsView). AllRest r.kept) (sym w.self-is)
+          (AllRest-kept c.args.key read.facts read.answer rests c.self.inside.cache c.keep.new.self c.self.invariant
+          w.in_default.ensures.kept)
     ]
