@@ -58,10 +58,6 @@ module _ (s m : ℕ) (at : Cursor) (is : at ≡ cursor_at s m) where
       ≡ (m / s + largest_offset) * padded_side + (m % s + largest_offset)
   cursor_place = omega (arith, corner_is)
 
-  -- a point has its column on the board
-  pub cursor_column : 0 < s → at.column < s
-  cursor_column some = omega (arith, column_is, mod_below m s some)
-
   -- the square around a point begins no later than that around the last point of the largest board
   pub cursor_corner : 0 < s → s ≤ largest_size → m < s * s → at.corner ≤ last_corner
   cursor_corner some few on = omega (arith, corner_is, div_below m s s some on, mod_below m s some)

@@ -44,11 +44,4 @@ impl Scanner {
             automaton,
         })
     }
-
-    /// The automaton.
-    pub fn automaton(&self) -> &Automaton
-        ensures { result.now ≡ self.now }
-    {
-        &self.automaton
-    }
 }
