@@ -1,5 +1,8 @@
 pub mod Marks
 pub mod JoinedMarks
+pub mod MadeWords
+pub mod CountedWords
+pub mod FilteredSets
 pub mod Lowest
 pub mod WordBits
 pub mod UsedWords

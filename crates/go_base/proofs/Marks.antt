@@ -143,6 +143,36 @@ marked-both old more new both = same_nat_set _ _ (λ q.
     and-over_or true b c = refl
     and-over_or false b c = refl
 
+-- where each point is marked that both mark, the set has the members of both
+pub marked-intersection : (one other new : List ℕ)
+    → ((q : ℕ) → is_marked new q ≡ (is_marked one q && is_marked other q))
+    → marked new ≡ sets.intersection (marked one) (marked other)
+marked-intersection one other new both = same_nat_set _ _ (λ q.
+    contains-marked new q ∙ ap (λ b. ltb q largest_points && b) (both q)
+    ∙ over_and (ltb q largest_points) (is_marked one q) (is_marked other q)
+    ∙ sym (sets.contains-intersection nat_cmp_total (marked one) (marked other) q
+    ∙ ap (λ b. b && sets.contains (marked other) q) (contains-marked one q)
+    ∙ ap (λ b. (ltb q largest_points && is_marked one q) && b) (contains-marked other q)))
+  where
+    over_and : (a b c : Bool) → (a && (b && c)) ≡ ((a && b) && (a && c))
+    over_and true b c = refl
+    over_and false b c = refl
+
+-- where each point is marked that the one marks and the other not, the set has the members that the other has not
+pub marked-difference : (one other new : List ℕ)
+    → ((q : ℕ) → is_marked new q ≡ (is_marked one q && not (is_marked other q)))
+    → marked new ≡ sets.difference (marked one) (marked other)
+marked-difference one other new apart = same_nat_set _ _ (λ q.
+    contains-marked new q ∙ ap (λ b. ltb q largest_points && b) (apart q)
+    ∙ over_not (ltb q largest_points) (is_marked one q) (is_marked other q)
+    ∙ sym (sets.contains-difference nat_cmp_total (marked one) (marked other) q
+    ∙ ap (λ b. b && not (sets.contains (marked other) q)) (contains-marked one q)
+    ∙ ap (λ b. (ltb q largest_points && is_marked one q) && not b) (contains-marked other q)))
+  where
+    over_not : (a b c : Bool) → (a && (b && not c)) ≡ ((a && b) && not (a && c))
+    over_not true b c = refl
+    over_not false b c = refl
+
 -- no number above the points of the largest board is in the set
 pub contains-above : (words : List ℕ) (q : ℕ) → largest_points ≤ q → sets.contains (marked words) q ≡ false
 contains-above words q h = contains-marked words q ∙ ap (λ b. b && is_marked words q) (le-ltb q largest_points h)

@@ -4,7 +4,7 @@ use Rattle.std.specs.Int.{bit_at}
 use Rattle.std.specs.Ordering.{nat_cmp}
 use Rattle.std.specs.FinSet as set
 use Rattle.go_rules.specs.Board.{largest_points}
-use Rattle.go_rules.specs.Below.{set_below}
+use Rattle.go_rules.specs.Below.{set_below, count_below}
 
 -- how many words of 64 bits hold a bit for each point of the largest board
 abbrev pub set_words : ℕ
@@ -13,6 +13,10 @@ set_words = (largest_points + 63) / 64
 -- point q is in the set that the words keep: bit q % 64 of word q / 64 is set
 abbrev pub is_marked : List ℕ → ℕ → Bool
 is_marked words q = bit_at (slice_index words (q / 64)) (q % 64) == 1
+
+-- how many of the 64 bits of a word are set
+unfoldable pub bits_set : ℕ → ℕ
+bits_set word = count_below 64 (λ k. bit_at word k == 1)
 
 -- the set that the words keep
 unfoldable pub marked : List ℕ → set.FinSet nat_cmp

@@ -1,10 +1,11 @@
 //! A bit for each point of the largest board.
 
-ghost use Rattle.std.specs.Prelude.{◌≡◌, ◌≢◌, ℕ, ◌/◌, ◌<◌, ◌≤◌, ◌||◌, ◌+◌, IsTrue, true, false};
+ghost use Rattle.std.specs.Prelude.{◌≡◌, ◌≢◌, ℕ, ◌/◌, ◌<◌, ◌≤◌, ◌&&◌, ◌||◌, ◌+◌, ◌==◌, not, IsTrue, true, false};
 ghost use Rattle.std.specs.Prelude.{IfSome, IfNone, Some, None, nat_lt, if◌then◌else◌};
 ghost use Rattle.std.specs.Int.{bit_at};
+ghost use Rattle.std.specs.FinSet as set;
 ghost use Rattle.go_rules.specs.Board.{largest_points};
-ghost use Rattle.go_base.specs.Bits.{set_words, is_marked, IsNoteOf};
+ghost use Rattle.go_base.specs.Bits.{set_words, is_marked, marked, bits_set, IsNoteOf};
 
 use crate::size::{MAX_POINTS, Point};
 use std::marker::Model;
@@ -81,6 +82,54 @@ impl PointBits {
         for i in 0..WORDS {
             self.words[i] |= other.words[i];
         }
+    }
+
+    /// The bits that the other has too.
+    pub(crate) fn intersection(&self, other: &PointBits) -> PointBits
+        ensures { (q : ℕ) → is_marked result q ≡ (is_marked self.now q && is_marked other.now q) }
+    {
+        let mut common = *self;
+        for i in 0..WORDS {
+            common.words[i] = bits_in_both(common.words[i], other.words[i]);
+        }
+        common
+    }
+
+    /// The bits that the other has not.
+    pub(crate) fn difference(&self, other: &PointBits) -> PointBits
+        ensures { (q : ℕ) → is_marked result q ≡ (is_marked self.now q && not (is_marked other.now q)) }
+    {
+        let mut rest = *self;
+        for i in 0..WORDS {
+            rest.words[i] = bits_apart(rest.words[i], other.words[i]);
+        }
+        rest
+    }
+
+    /// How many bits are set, each of them that of a point.
+    pub(crate) fn count(&self) -> u16
+        requires { (q : ℕ) → IsTrue (is_marked self.now q) → q < largest_points }
+        ensures { result ≡ set.len (marked self.now) }
+    {
+        let mut count = 0;
+        for i in 0..WORDS {
+            count += ones_of(self.words[i]);
+        }
+        count
+    }
+
+    /// A note of the words that have a bit, each of them that of a point.
+    pub(crate) fn words_in_use(&self) -> u16
+        requires { (q : ℕ) → IsTrue (is_marked self.now q) → q < largest_points }
+        ensures { IsNoteOf self.now result }
+    {
+        let mut used = 0;
+        for i in 0..WORDS as u16 {
+            if self.has_word(i) {
+                used |= 1 << i;
+            }
+        }
+        used
     }
 
     /// The least point from `first` on whose bit is set, None exactly where there is none below `end`.
@@ -191,6 +240,27 @@ fn all_of_word<F: Fn(Point) -> bool>(word: u64, base: Point, test: &F) -> bool
         rest &= rest - 1;
     }
     true
+}
+
+// The bits of the word that the other has too.
+fn bits_in_both(word: u64, other: u64) -> u64
+    ensures { (k : ℕ) → k < 64 → (bit_at result k == 1) ≡ ((bit_at word k == 1) && (bit_at other k == 1)) }
+{
+    word & other
+}
+
+// The bits of the word that the other has not.
+fn bits_apart(word: u64, other: u64) -> u64
+    ensures { (k : ℕ) → k < 64 → (bit_at result k == 1) ≡ ((bit_at word k == 1) && not (bit_at other k == 1)) }
+{
+    word & !other
+}
+
+// How many bits of the word are set.
+fn ones_of(word: u64) -> u16
+    ensures { result ≡ bits_set word }
+{
+    word.count_ones() as u16
 }
 
 // The place of the lowest set bit that is not below `from`, and 64 where there is none.
