@@ -27,3 +27,5 @@ pub mod StandingFacts
 pub mod About
 pub mod LastLiberties
 pub mod AllowedPlays
+pub mod Setups
+pub mod SetupsInWords

@@ -12,3 +12,4 @@ pub mod AmongFacts
 pub mod Sizes
 pub mod Watches
 pub mod Surroundings
+pub mod Setups
