@@ -1,7 +1,19 @@
 -- The points that some fact is about, one after another.
 use Rattle.std.proofs.Common.{◌≡◌, ℕ, ◌+◌, ◌<◌, ◌≤◌, ◌||◌, ◌&&◌, ◌∙◌}
 use Rattle.std.proofs.Common.{Bool, true, false, ltb, refl, sym, ap, arith, inl, inr}
-use Rattle.std.proofs.lemmas.Bool.{cases_lt, lt-ltb, le-ltb}
+use Rattle.std.proofs.Common.{subst, ◌*◌, ◌↔◌}
+use Rattle.std.proofs.lemmas.Bool.{cases_lt, lt-ltb, le-ltb, and_parts, and_from, or_left, or_right, or_cases}
+use Rattle.std.specs.Ordering.{nat_cmp}
+use Rattle.go_rules.specs.declared.Cell.{Cell}
+use Rattle.go_rules.specs.declared.Cell.TheVariants.{Empty, Black, White}
+use Rattle.go_rules.specs.declared.Colour.{Colour}
+use Rattle.go_rules.specs.declared.Colour.TheVariants.{Black as black, White as white}
+use Rattle.go_rules.specs.Position.{is_banned}
+use Rattle.go_base.specs.Bits.{is_marked}
+use Rattle.go_base.specs.declared.facts.Facts.{Facts}
+use Rattle.go_base.specs.Facts.{Fact, SizeIs, CellIs, BanIs}
+use Rattle.go_base.specs.AmongFacts.{told, seen_as, asked_of, is_fact_at, HasFactOf}
+use Rattle.go_base.proofs.SeenFacts.{same_bool-refl}
 use Rattle.std.specs.FinSet as set
 use Rattle.go_rules.specs.Below.{set_below}
 use Rattle.go_rules.proofs.Sets.{contains-set_below, same_nat_set, set_below-hit}
@@ -33,3 +45,55 @@ pub set_below-next : (test : ℕ → Bool) (n m : ℕ) → n ≤ m → ((r : ℕ
     → set.insert (set_below n test) m ≡ set_below (m + 1) test
 set_below-next test n m l none hit =
     ap (λ s. set.insert s m) (set_below-skip test n m l none) ∙ set_below-hit m test hit
+
+-- a point with a fact of its own is among those that the facts are about
+fact_from : (f : Facts) (p : ℕ) → HasFactOf f p → (ltb p (f.size * f.size) && is_fact_at f p) ≡ true
+fact_from f p (SizeIs n, is, at) = absurd at
+fact_from f p (CellIs q cell, is, at) =
+    let parts = and_parts _ _ is in
+    subst (λ r. (ltb r (f.size * f.size) && is_fact_at f r) ≡ true) at
+    (and_from _ _ parts.0 (or_left _ _ (seen cell parts.1)))
+  where
+    seen : (cell : Cell) → is_marked (seen_as f cell) q ≡ true
+        → (is_marked (seen_as f Empty) q || (is_marked (seen_as f Black) q || is_marked (seen_as f White) q)) ≡ true
+    seen Empty h = or_left _ _ h
+    seen Black h = or_right _ _ (or_left _ _ h)
+    seen White h = or_right _ _ (or_right _ _ h)
+fact_from f p (BanIs q c forbidden, is, at) =
+    let parts = and_parts _ _ is in
+    subst (λ r. (ltb r (f.size * f.size) && is_fact_at f r) ≡ true) at
+    (and_from _ _ parts.0 (or_right _ _ (asked c (and_parts _ _ parts.1).0)))
+  where
+    asked : (c : Colour) → is_marked (asked_of f c) q ≡ true
+        → (is_marked (asked_of f black) q || is_marked (asked_of f white) q) ≡ true
+    asked black h = or_left _ _ h
+    asked white h = or_right _ _ h
+
+-- and each of these has one
+fact_to : (f : Facts) (p : ℕ) → (ltb p (f.size * f.size) && is_fact_at f p) ≡ true → HasFactOf f p
+fact_to f p h =
+    let parts = and_parts _ _ h in
+    elim (or_cases _ _ parts.1) [
+      | inl seen ↦ elim (or_cases _ _ seen) [
+        | inl e ↦ cell Empty parts.0 e
+        | inr s ↦ elim (or_cases _ _ s) [ inl b ↦ cell Black parts.0 b | inr w ↦ cell White parts.0 w ]
+      ]
+      | inr asked ↦ elim (or_cases _ _ asked) [ inl b ↦ ban black parts.0 b | inr w ↦ ban white parts.0 w ]
+    ]
+  where
+    cell : (x : Cell) → ltb p (f.size * f.size) ≡ true → is_marked (seen_as f x) p ≡ true → HasFactOf f p
+    cell x on m = (CellIs p x, and_from _ _ on m, refl)
+
+    ban : (c : Colour) → ltb p (f.size * f.size) ≡ true → is_marked (asked_of f c) p ≡ true → HasFactOf f p
+    ban c on m = (
+      BanIs p c (is_banned f.ban c p),
+      and_from _ _ on (and_from _ _ m (same_bool-refl (is_banned f.ban c p))),
+      refl,
+    )
+
+-- the set of the points that are marked for a fact has those with a fact of their own
+pub points_with_facts : (f : Facts) (points : set.FinSet nat_cmp) → points ≡ set_below (f.size * f.size) (is_fact_at f)
+    → (p : ℕ) → (set.contains points p ≡ true) ↔ HasFactOf f p
+points_with_facts f points e p =
+    let has = ap (λ s. set.contains s p) e ∙ contains-set_below (f.size * f.size) (is_fact_at f) p in
+    (λ h. fact_to f p (sym has ∙ h), λ h. has ∙ fact_from f p h)

@@ -23,6 +23,7 @@ pub mod HeldBoards
 pub mod PointNeighbourhoods
 pub mod PlayLooks
 pub mod SeenFacts
+pub mod AddedFacts
 pub mod StandingFacts
 pub mod About
 pub mod LastLiberties

@@ -6,10 +6,9 @@ use Rattle.go_rules.specs.declared.Cell.{Cell}
 use Rattle.go_rules.specs.declared.Colour.{Colour}
 use Rattle.go_rules.specs.Strings.{cell_at}
 use Rattle.go_rules.specs.Position.{BoardState, IsPosition, is_banned}
-use Rattle.go_base.specs.Views.{alone}
 use Rattle.go_base.specs.Bits.{is_marked}
 use Rattle.go_base.specs.declared.facts.Facts.{Facts}
-use Rattle.go_base.specs.Facts.{Fact, SizeIs, CellIs, BanIs, IsFactOf, Agrees, Grows, AddsIn, IsAbout}
+use Rattle.go_base.specs.Facts.{Fact, SizeIs, CellIs, BanIs, IsFactOf, Agrees, Grows, AddsOnly}
 use Rattle.go_base.specs.AmongFacts.{told, seen_as, asked_of, same_bool, SeesCell, AsksBan}
 
 -- two truths that are told to be the same are equal
@@ -82,14 +81,17 @@ module _ (f g : Facts) (pos : BoardState) (a : Agrees (told f) pos) (p : ℕ) (o
   ban_was q c b h = sym (same_bans f.size g.size f.ban g.ban (asked_of f c) (asked_of g c) q c b sees.size sees.ban
       (sees.bans c)) ∙ h
 
-  -- what came is about p
-  pub cell_near : AddsIn (told f) (told g) (alone p)
-  cell_near = record { added = added }
+  -- nothing else came
+  pub cell_only : AddsOnly (told f) (told g) (CellIs p cell)
+  cell_only = record { added = added }
     where
-      added : (fact : Fact) → told g fact ≡ true → (told f fact ≡ true) ⊎ IsAbout (alone p) fact
+      added : (fact : Fact) → told g fact ≡ true → (told f fact ≡ true) ⊎ (fact ≡ CellIs p cell)
       added (SizeIs n) h = inl (size_was n h)
       added (BanIs q c b) h = inl (ban_was q c b h)
-      added (CellIs q x) h = elim (was q x h) [ inl o ↦ inl o | inr e ↦ inr (eq-eqb q p e.0) ]
+      added (CellIs q x) h = elim (was q x h) [
+        | inl o ↦ inl o
+        | inr e ↦ inr (ap (λ n. CellIs n x) e.0 ∙ ap (CellIs p) e.1)
+      ]
 
   -- the position still agrees
   pub cell_agrees : Agrees (told g) pos
@@ -130,11 +132,20 @@ module _ (f g : Facts) (pos : BoardState) (a : Agrees (told f) pos) (same : f.ba
           and_from _ _ (ap (λ n. ltb q (n * n)) asks.size ∙ parts.0)
           (and_from _ _ (asks.kept k q more.0) (ap (λ v. same_bool (is_banned v k q) b) asks.ban ∙ more.1))
 
-  -- what came is about p
-  pub ban_near : AddsIn (told f) (told g) (alone p)
-  ban_near = record { added = added }
+  -- nothing else came
+  pub ban_only : AddsOnly (told f) (told g) (BanIs p c (is_banned pos.ban c p))
+  ban_only = record { added = added }
     where
-      added : (fact : Fact) → told g fact ≡ true → (told f fact ≡ true) ⊎ IsAbout (alone p) fact
+      here : (q : ℕ) (k : Colour) (b : Bool) → q ≡ p → k ≡ c → is_banned g.ban k q ≡ b
+          → BanIs q k b ≡ BanIs p c (is_banned pos.ban c p)
+      here q k b point colour is =
+          ap (BanIs q k) (sym is ∙ ap (λ n. is_banned n k q) now_same ∙ ap (is_banned pos.ban k) point
+          ∙ ap (λ x. is_banned pos.ban x p) colour)
+          ∙ ap (λ n. BanIs n k (is_banned pos.ban c p)) point
+          ∙ ap (λ x. BanIs p x (is_banned pos.ban c p)) colour
+
+      added : (fact : Fact) → told g fact ≡ true
+          → (told f fact ≡ true) ⊎ (fact ≡ BanIs p c (is_banned pos.ban c p))
       added (SizeIs n) h = inl (eq-eqb f.size n (sym asks.size ∙ eqb-true g.size n h))
       added (CellIs q x) h = inl (sym (same_cells f.size g.size (seen_as f x) (seen_as g x) q asks.size (asks.cells x))
           ∙ h)
@@ -144,7 +155,7 @@ module _ (f g : Facts) (pos : BoardState) (a : Agrees (told f) pos) (same : f.ba
           elim (asks.only k q more.0) [
             | inl before ↦ inl (and_from _ _ (sym (ap (λ n. ltb q (n * n)) asks.size) ∙ parts.0)
                 (and_from _ _ before (sym (ap (λ v. same_bool (is_banned v k q) b) asks.ban) ∙ more.1)))
-            | inr e ↦ inr (eq-eqb q p e.0)
+            | inr e ↦ inr (here q k b e.0 e.1 (same_bool-true (is_banned g.ban k q) b more.1))
           ]
 
   -- the position still agrees

@@ -111,7 +111,7 @@ stone_there White ne = refl
 -- a string that is dead has no liberty
 no_liberty : (s : ℕ) (cells : List Cell) (p l : ℕ) → p < s * s → is_dead_at s cells p ≡ true → IsLiberty s cells p l → ⊥
 no_liberty s cells p l on is lib =
-    let none : liberties s cells p ≡ 0 = eqb-true _ 0 (and_parts _ _ is).1 in
+    let none : liberties s cells p ≡ 0 = eqb-true (liberties s cells p) 0 (and_parts (is_stone (cell_at cells p)) (eqb (liberties s cells p) 0) is).1 in
     let some = liberties_from s cells p l on lib in
     omega (arith, none, some)
 

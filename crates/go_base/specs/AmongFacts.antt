@@ -63,7 +63,17 @@ abbrev pub BanStays : List ℕ → Option (ℕ × Colour) → Colour → BoardSt
 BanStays points ban c pos =
     (q : ℕ) → q < pos.size * pos.size → IsTrue (is_marked points q) → is_banned pos.ban c q ≡ is_banned ban c q
 
--- some fact is about q
+-- the fact is about p; a size is about no point
+abbrev pub IsOf : ℕ → Fact → Type 0
+IsOf p (SizeIs n) = ⊥
+IsOf p (CellIs q cell) = q ≡ p
+IsOf p (BanIs q c forbidden) = q ≡ p
+
+-- some fact of these is about p
+abbrev pub HasFactOf : Facts → ℕ → Type 0
+HasFactOf f p = (fact : Fact) × IsTrue (told f fact) × IsOf p fact
+
+-- q is marked by the bits of some fact
 abbrev pub is_fact_at : Facts → ℕ → Bool
 is_fact_at f q =
     (is_marked (seen_as f Empty) q || (is_marked (seen_as f Black) q || is_marked (seen_as f White) q))

@@ -41,6 +41,20 @@ IsAbout S (BanIs p c forbidden) = IsTrue (S p)
 pub record AddsIn (before now : Fact → Bool) (S : ℕ → Bool) : Type 0 where
   pub added : (fact : Fact) → IsTrue (now fact) → IsTrue (before fact) ⊎ IsAbout S fact
 
+-- no fact came but this one
+pub record AddsOnly (before now : Fact → Bool) (fact : Fact) : Type 0 where
+  pub added : (other : Fact) → IsTrue (now other) → IsTrue (before other) ⊎ (other ≡ fact)
+
+-- no fact on a ban came
+pub record AddsNoBan (before now : Fact → Bool) : Type 0 where
+  pub was : (p : ℕ) (c : Colour) (forbidden : Bool) → IsTrue (now (BanIs p c forbidden))
+      → IsTrue (before (BanIs p c forbidden))
+
+-- no fact on a ban came but on whether c may play at p
+pub record AddsBanOf (before now : Fact → Bool) (p : ℕ) (c : Colour) : Type 0 where
+  pub added : (q : ℕ) (k : Colour) (forbidden : Bool) → IsTrue (now (BanIs q k forbidden))
+      → IsTrue (before (BanIs q k forbidden)) ⊎ ((q ≡ p) × (k ≡ c))
+
 -- a position that agrees with more agrees with less
 pub agrees_before : {before now : Fact → Bool} {pos : BoardState} → Grows before now → Agrees now pos
     → Agrees before pos
@@ -79,6 +93,14 @@ pub AddsIn-mono : {a b : Fact → Bool} {S T : ℕ → Bool} → AddsIn a b S �
     → AddsIn a b T
 AddsIn-mono {S} {T} g m =
     record { added = λ fact i. elim (g.added fact i) [ inl j ↦ inl j | inr j ↦ inr (IsAbout-mono S T fact m j) ] }
+
+-- nothing came, so no ban
+pub AddsNoBan-refl : (seen : Fact → Bool) → AddsNoBan seen seen
+AddsNoBan-refl seen = record { was = λ _ _ _ h. h }
+
+-- no ban came, and then none
+pub AddsNoBan-trans : {a b c : Fact → Bool} → AddsNoBan a b → AddsNoBan b c → AddsNoBan a c
+AddsNoBan-trans g h = record { was = λ p k x i. g.was p k x (h.was p k x i) }
 
 -- a fact about what an option holds has one proof at most where the fact has
 IfSome-prop : {A : Type 0} (o : Option A) (P : A → Type 0) → ((a : A) → IsProp (P a)) → IsProp (IfSome o P)

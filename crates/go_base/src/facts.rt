@@ -3,7 +3,6 @@
 
 ghost use Rattle.std.specs.Prelude.{◌≡◌, ℕ, ◌*◌, ◌<◌, ◌↔◌, IsTrue, false};
 ghost use Rattle.std.specs.FinSet as set;
-ghost use Rattle.go_rules.specs.Below.{set_below};
 ghost use Rattle.go_rules.specs.Board.{largest_points};
 ghost use Rattle.go_rules.specs.declared.Cell.{Cell};
 ghost use Rattle.go_rules.specs.declared.Colour.{Colour};
@@ -11,6 +10,7 @@ ghost use Rattle.go_rules.specs.Position.{is_banned};
 ghost use Rattle.go_base.specs.Bits.{is_marked};
 ghost use Rattle.go_base.specs.Facts.{Agrees};
 ghost use Rattle.go_base.specs.AmongFacts.{told, seen_as, asked_of, SeesCell, AsksBan, AllShow, BanStays, is_fact_at};
+ghost use Rattle.go_base.specs.AmongFacts.{HasFactOf};
 
 use crate::ban::{are_same, is_banned};
 use crate::bits::PointBits;
@@ -130,7 +130,7 @@ impl Facts {
 
     /// The points that some fact is about.
     pub fn points(&self) -> PointSet
-        ensures { result ≡ set_below (self.now.size * self.now.size) (is_fact_at self.now) }
+        ensures { (p : ℕ) → IsTrue (set.contains result p) ↔ HasFactOf self.now p }
     {
         let end = self.size.points();
         let about = self.about();

@@ -2,8 +2,7 @@
 
 ghost use Rattle.std.specs.Prelude.{◌≡◌, ◌*◌, ◌<◌, Bool, IsTrue};
 ghost use Rattle.go_rules.specs.Position.{BoardState};
-ghost use Rattle.go_base.specs.Views.{alone};
-ghost use Rattle.go_base.specs.Facts.{Agrees, Grows, AddsIn, Agrees-prop, ban_set};
+ghost use Rattle.go_base.specs.Facts.{Agrees, Grows, AddsOnly, Agrees-prop, ban_set};
 ghost use Rattle.go_base.specs.AmongFacts.{told};
 
 use crate::facts::Facts;
@@ -12,7 +11,7 @@ use crate::size::{Point, Size};
 use go_rules::{Cell, Colour};
 
 /// A view of one position that records what was asked of it. Each answer is that of the position shown, and is among
-/// the facts seen afterwards; the facts only grow, and each call adds facts about its own point alone.
+/// the facts seen afterwards; the facts only grow, and each call adds the fact that it tells alone.
 pub trait Look {
     ghost use Rattle.go_rules.specs.Position.{BoardState};
     ghost use Rattle.go_base.specs.Facts.{Fact, SizeIs, CellIs, BanIs};
@@ -33,7 +32,7 @@ pub trait Look {
         ensures same { shows self.new ≡ shows self.old }
         ensures grows { Grows (seen self.old) (seen self.new) }
         ensures told { IsTrue (seen self.new (CellIs p result)) }
-        ensures near { AddsIn (seen self.old) (seen self.new) (alone p) };
+        ensures only { AddsOnly (seen self.old) (seen self.new) (CellIs p result) };
 
     /// Whether the ko ban forbids c to play at p.
     fn ko(&mut self, p: Point, c: Colour) -> bool
@@ -41,7 +40,7 @@ pub trait Look {
         ensures same { shows self.new ≡ shows self.old }
         ensures grows { Grows (seen self.old) (seen self.new) }
         ensures told { IsTrue (seen self.new (BanIs p c result)) }
-        ensures near { AddsIn (seen self.old) (seen self.new) (alone p) };
+        ensures only { AddsOnly (seen self.old) (seen self.new) (BanIs p c result) };
 
     /// What was seen holds on the position shown.
     ghost holds: { (look : Self) → Agrees (seen look) (shows look) };

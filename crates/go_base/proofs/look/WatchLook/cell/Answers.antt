@@ -1,5 +1,5 @@
 use Rattle.std.proofs.Common.{◌∙◌}
-use Rattle.go_base.proofs.SeenFacts.{cell_told, cell_grows, cell_near, cell_agrees}
+use Rattle.go_base.proofs.SeenFacts.{cell_told, cell_grows, cell_only, cell_agrees}
 use Rattle.go_base.proofs.look.WatchLook.cell.Goals as goal
 
 -- the position still agrees
@@ -27,8 +27,8 @@ returns-clause-told c =
     c.see.ensures
 
 -- and nothing else
-pub returns-clause-near : goal.returns-clause-near
-returns-clause-near c =
+pub returns-clause-only : goal.returns-clause-only
+returns-clause-only c =
     let w = c.args.self.now in
-    cell_near w.facts c.see.new.self w.position.now w.holds c.args.p c.requires c.cell-cell.result c.cell-cell.ensures
+    cell_only w.facts c.see.new.self w.position.now w.holds c.args.p c.requires c.cell-cell.result c.cell-cell.ensures
     c.see.ensures

@@ -1,5 +1,5 @@
 use Rattle.std.proofs.Common.{◌∙◌}
-use Rattle.go_base.proofs.SeenFacts.{ban_told, ban_grows, ban_near, ban_agrees}
+use Rattle.go_base.proofs.SeenFacts.{ban_told, ban_grows, ban_only, ban_agrees}
 use Rattle.go_base.proofs.look.WatchLook.ko.Goals as goal
 
 -- the position still agrees
@@ -25,7 +25,8 @@ returns-clause-told c =
     c.ask.ensures)
 
 -- and nothing else
-pub returns-clause-near : goal.returns-clause-near
-returns-clause-near c =
+pub returns-clause-only : goal.returns-clause-only
+returns-clause-only c =
     let w = c.args.self.now in
-    ban_near w.facts c.ask.new.self w.position.now w.holds w.ban c.args.p c.requires c.args.c c.ask.ensures
+    rw c.bans.ensures (ban_only w.facts c.ask.new.self w.position.now w.holds w.ban c.args.p c.requires c.args.c
+    c.ask.ensures)
