@@ -11,8 +11,8 @@ use Rattle.go_rules.specs.declared.Colour.TheVariants.{Black as black, White as 
 use Rattle.go_rules.specs.Position.{is_banned}
 use Rattle.go_base.specs.Bits.{is_marked}
 use Rattle.go_base.specs.declared.facts.Facts.{Facts}
-use Rattle.go_base.specs.Facts.{Fact, SizeIs, CellIs, BanIs}
-use Rattle.go_base.specs.AmongFacts.{told, seen_as, asked_of, is_fact_at, HasFactOf}
+use Rattle.go_base.specs.Facts.{SizeIs, CellIs, BanIs}
+use Rattle.go_base.specs.AmongFacts.{seen_as, asked_of, is_fact_at, HasFactOf}
 use Rattle.go_base.proofs.SeenFacts.{same_bool-refl}
 use Rattle.std.specs.FinSet as set
 use Rattle.go_rules.specs.Below.{set_below}

@@ -1,5 +1,5 @@
 -- What one answer of a look adds, and what it does not.
-use Rattle.std.proofs.Common.{◌≡◌, ℕ, Bool, true, refl, sym, subst, inl, inr}
+use Rattle.std.proofs.Common.{ℕ, Bool, refl, sym, subst, inl, inr}
 use Rattle.std.proofs.lemmas.Bool.{eq-eqb}
 use Rattle.go_rules.specs.declared.Cell.{Cell}
 use Rattle.go_rules.specs.declared.Colour.{Colour}

@@ -1,6 +1,6 @@
 -- What is set up, in words.
 use Rattle.std.proofs.Common.{◌≡◌, ◌≢◌, ℕ, ◌*◌, ◌<◌, ◌&&◌, ◌↔◌, true, false, List, Some, None, refl, sym, ap, subst}
-use Rattle.std.proofs.Common.{◌∙◌, arith, inl, inr, length}
+use Rattle.std.proofs.Common.{◌∙◌, arith, inl, inr, eqb, length}
 use Rattle.std.proofs.lemmas.Bool.{cases_Bool, cases_eq, both_ways, eqb-true, and_parts, and_from}
 use Rattle.std.proofs.lemmas.List.FromFn.{get_or-map-range_with_len, length-map-range_with_len}
 use Rattle.std.specs.Ordering.{nat_cmp}
@@ -111,7 +111,8 @@ stone_there White ne = refl
 -- a string that is dead has no liberty
 no_liberty : (s : ℕ) (cells : List Cell) (p l : ℕ) → p < s * s → is_dead_at s cells p ≡ true → IsLiberty s cells p l → ⊥
 no_liberty s cells p l on is lib =
-    let none : liberties s cells p ≡ 0 = eqb-true (liberties s cells p) 0 (and_parts (is_stone (cell_at cells p)) (eqb (liberties s cells p) 0) is).1 in
+    let parts = and_parts (is_stone (cell_at cells p)) (eqb (liberties s cells p) 0) is in
+    let none : liberties s cells p ≡ 0 = eqb-true (liberties s cells p) 0 parts.1 in
     let some = liberties_from s cells p l on lib in
     omega (arith, none, some)
 
