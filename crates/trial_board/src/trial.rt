@@ -3,7 +3,7 @@
 ghost use Rattle.std.specs.Prelude.{◌≡◌, ℕ, ◌+◌, ◌*◌, ◌-◌, ◌^◌, ◌<◌, min, not, ◌&&◌};
 ghost use Rattle.std.specs.Prelude.{[], ◌∷◌, length, ◌↔◌, IsNone, IfSome};
 ghost use Rattle.std.specs.FinSet as set;
-ghost use Rattle.go_rules.specs.Strings.{cell_at, liberty_points};
+ghost use Rattle.go_rules.specs.Strings.{cell_at, string_at, liberty_points};
 ghost use Rattle.go_rules.specs.Boundary.{boundary_points};
 ghost use Rattle.go_rules.specs.Neighbourhood.{neighbourhood_of};
 ghost use Rattle.go_base.specs.Surroundings.{is_last_liberty_of_enemy};
@@ -11,7 +11,8 @@ ghost use Rattle.go_base.specs.Views.{alone};
 ghost use Rattle.trial_board.specs.Overlays.{neighbourhood_twice};
 ghost use Rattle.go_rules.specs.Position.{BoardState, IsPosition, is_banned};
 ghost use Rattle.go_rules.specs.Play.{play_free};
-ghost use Rattle.go_base.specs.Facts.{Agrees, Grows, AddsIn};
+ghost use Rattle.go_base.specs.Facts.{Agrees, Grows, AddsIn, AddsNoBan, AddsBanOf};
+ghost use Rattle.go_base.specs.Floods.{enemy_points};
 ghost use Rattle.trial_board.specs.declared.moves.TrialMove.{TrialMove};
 ghost use Rattle.trial_board.specs.SomeLiberties.{FindsLiberties};
 ghost use Rattle.trial_board.specs.Trials.{Trying, Stays, Moved, IsNoted, Put, most_moves, after, tried, tried_free};
@@ -26,7 +27,7 @@ use crate::undo::{Undo, nothing_kept};
 use go_base::ban::is_banned;
 use go_base::boundary::boundary_of;
 use go_base::capture::play_on;
-use go_base::flood::{Found, liberties_of, search};
+use go_base::flood::{Found, flood, liberties_of, search};
 use go_base::points::PointSet;
 use go_base::size::{Point, Size};
 use go_base::surroundings::{Surroundings, surroundings_of};
@@ -131,8 +132,32 @@ impl<L: Look> Trial<L> {
         ensures sound { (pos : BoardState) → Agrees (L.seen self.new.look) pos
             → IsPosition (after pos self.old.moves) }
         ensures near { AddsIn (L.seen self.old.look) (L.seen self.new.look) (alone p) }
+        ensures no_ban { AddsNoBan (L.seen self.old.look) (L.seen self.new.look) }
     {
         self.board.at(p)
+    }
+
+    /// The string of p, its liberties and the enemy stones next to it; all three sets are empty where p is.
+    pub fn string(&mut self, p: Point) -> Found
+        requires { p < (L.shows self.old.look).size * (L.shows self.old.look).size }
+        ensures stays { Stays L.shows L.seen self.old self.new }
+        ensures count { self.new.count ≡ self.old.count }
+        ensures over { (pos : BoardState) → Agrees (L.seen self.new.look) pos
+            → (result.stones ≡ string_at pos.size (after pos self.old.moves).cells p)
+            × (result.liberties ≡ liberty_points pos.size (after pos self.old.moves).cells p)
+            × (result.enemies ≡ enemy_points pos.size (after pos self.old.moves).cells p) }
+        ensures answer { (result.stones ≡ string_at (L.shows self.old.look).size
+            (after (L.shows self.old.look) self.old.moves).cells p)
+            × (result.liberties ≡ liberty_points (L.shows self.old.look).size
+            (after (L.shows self.old.look) self.old.moves).cells p)
+            × (result.enemies ≡ enemy_points (L.shows self.old.look).size
+            (after (L.shows self.old.look) self.old.moves).cells p) }
+        ensures near { (pos : BoardState) → Agrees (L.seen self.new.look) pos
+            → AddsIn (L.seen self.old.look) (L.seen self.new.look)
+            (neighbourhood_of pos.size (after pos self.old.moves).cells (alone p)) }
+        ensures no_ban { AddsNoBan (L.seen self.old.look) (L.seen self.new.look) }
+    {
+        flood(&mut self.board, p)
     }
 
     /// The liberties of the string of p, none where p is empty.
@@ -147,6 +172,7 @@ impl<L: Look> Trial<L> {
         ensures near { (pos : BoardState) → Agrees (L.seen self.new.look) pos
             → AddsIn (L.seen self.old.look) (L.seen self.new.look)
             (neighbourhood_of pos.size (after pos self.old.moves).cells (alone p)) }
+        ensures no_ban { AddsNoBan (L.seen self.old.look) (L.seen self.new.look) }
     {
         liberties_of(&mut self.board, p)
     }
@@ -164,6 +190,7 @@ impl<L: Look> Trial<L> {
         ensures near { (pos : BoardState) → Agrees (L.seen self.new.look) pos
             → AddsIn (L.seen self.old.look) (L.seen self.new.look)
             (neighbourhood_of pos.size (after pos self.old.moves).cells (alone p)) }
+        ensures no_ban { AddsNoBan (L.seen self.old.look) (L.seen self.new.look) }
     {
         let Found {
             stones: _,
@@ -185,6 +212,7 @@ impl<L: Look> Trial<L> {
         ensures near { (pos : BoardState) → Agrees (L.seen self.new.look) pos
             → AddsIn (L.seen self.old.look) (L.seen self.new.look)
             (neighbourhood_twice pos.size (after pos self.old.moves).cells p) }
+        ensures no_ban { AddsNoBan (L.seen self.old.look) (L.seen self.new.look) }
     {
         boundary_of(&mut self.board, p)
     }
@@ -207,6 +235,7 @@ impl<L: Look> Trial<L> {
         ensures near { (pos : BoardState) → Agrees (L.seen self.new.look) pos
             → AddsIn (L.seen self.old.look) (L.seen self.new.look)
             (neighbourhood_twice pos.size (after pos self.old.moves).cells p) }
+        ensures no_ban { AddsNoBan (L.seen self.old.look) (L.seen self.new.look) }
     {
         surroundings_of(&mut self.board, p)
     }
@@ -220,6 +249,7 @@ impl<L: Look> Trial<L> {
             → result ≡ is_banned (after pos self.old.moves).ban c p }
         ensures answer { result ≡ is_banned (after (L.shows self.old.look) self.old.moves).ban c p }
         ensures near { AddsIn (L.seen self.old.look) (L.seen self.new.look) (alone p) }
+        ensures its_ban { AddsBanOf (L.seen self.old.look) (L.seen self.new.look) p c }
     {
         if self.standing == 0 {
             return self.board.look.ko(p, c);
@@ -297,6 +327,7 @@ impl<L: Look> Trial<L> {
         ensures near { (pos : BoardState) → Agrees (L.seen self.new.look) pos
             → AddsIn (L.seen self.old.look) (L.seen self.new.look)
             (neighbourhood_twice pos.size (after pos self.old.moves).cells p) }
+        ensures no_ban { AddsNoBan (L.seen self.old.look) (L.seen self.new.look) }
     {
         match play_on(&mut self.board, c, p) {
             Ok(played) => {
@@ -338,6 +369,7 @@ impl<L: Look> Trial<L> {
         ensures near { (pos : BoardState) → Agrees (L.seen self.new.look) pos
             → AddsIn (L.seen self.old.look) (L.seen self.new.look)
             (neighbourhood_twice pos.size (after pos self.old.moves).cells p) }
+        ensures its_ban { AddsBanOf (L.seen self.old.look) (L.seen self.new.look) p c }
     {
         self.count_one();
         if self.cell(p) != Cell::Empty {
