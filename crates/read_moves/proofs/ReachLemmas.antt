@@ -33,8 +33,8 @@ use Rattle.read_moves.specs.Reaches.{HasOther, Reaches, IsLibertyBeside, IsReach
 use Rattle.read_moves.specs.declared.reach.Reach.{Reach}
 use Rattle.read_moves.specs.declared.reach.Reach.TheVariants.{Nothing, More}
 use Rattle.read_moves.specs.Steps.{is_left, LivesWithout, AllLive, IsQuiet}
-use Rattle.read_moves.proofs.AfterPlays.{put_liberty, after_liberty}
-use Rattle.read_moves.proofs.BackfillingLemmas.{one_member}
+use Rattle.read_rules.proofs.AfterPlays.{put_liberty, after_liberty}
+use Rattle.read_rules.proofs.OneMember.{one_member}
 use Rattle.go_rules.proofs.Tests.{same_tests}
 use Rattle.read_moves.proofs.OtherLiberties.{other_or_only}
 use Rattle.read_moves.proofs.SideLemmas.{not_its_own}

@@ -1,18 +1,12 @@
 -- What the steps of the search for candidates answer.
-use Rattle.std.specs.Prelude.{◌≡◌, ◌≢◌, ℕ, ◌*◌, ◌<◌, ◌&&◌, Bool, true, List}
+use Rattle.std.specs.Prelude.{◌≡◌, ◌≢◌, ℕ, ◌*◌, ◌<◌, true, List}
 use Rattle.go_rules.specs.declared.Cell.{Cell}
 use Rattle.go_rules.specs.declared.Cell.TheVariants.{Empty}
 use Rattle.go_rules.specs.declared.Colour.{Colour}
 use Rattle.go_rules.specs.Board.{are_neighbours}
-use Rattle.go_rules.specs.Strings.{cell_at, same_cell, IsLiberty}
+use Rattle.go_rules.specs.Strings.{cell_at, IsLiberty}
 use Rattle.go_rules.specs.Position.{BoardState, IsPosition, other, stone_of}
-use Rattle.go_rules.specs.Play.{play_free}
-use Rattle.read_rules.specs.Candidates.{leaves_only}
-
--- p is empty, and the play of c at l, with the ban dropped, is legal and leaves the string of its stone one liberty,
--- which is p
-abbrev pub is_left : BoardState → Colour → ℕ → ℕ → Bool
-is_left pos c l p = same_cell (cell_at pos.cells p) Empty && leaves_only l p (play_free pos c l)
+pub use Rattle.read_rules.specs.Candidates.{is_left}
 
 -- a liberty of the string of q that is not l
 pub record HasOtherLiberty (s : ℕ) (cells : List Cell) (q l : ℕ) : Type 0 where

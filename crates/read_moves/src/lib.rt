@@ -5,7 +5,6 @@
 //! they were and takes no memory.
 #![tactic(auto)]
 
-pub mod laws;
 pub mod moves;
 mod quiet;
 pub mod reach;

@@ -9,7 +9,7 @@ ghost use Rattle.go_base.specs.Facts.{Agrees, AddsIn};
 ghost use Rattle.go_base.specs.Views.{neighbours_of};
 ghost use Rattle.trial_board.specs.Trials.{Stays, after};
 ghost use Rattle.read_rules.specs.Candidates.{attacker_of, is_empty_beside, is_candidate, near_candidates};
-ghost use Rattle.read_moves.specs.Stages.{is_wide_candidate};
+ghost use Rattle.read_rules.specs.Stages.{is_wide_candidate};
 
 use crate::moves::{add_backfilling, add_beside};
 use go_base::points::PointSet;

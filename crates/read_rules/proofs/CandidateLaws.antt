@@ -47,7 +47,7 @@ wide_from s cells target p l on lib near =
     (any_below_from (s * s) _ l on (and_from _ _ lib near.beside))
 
 -- an attacker's string that is taken, and the other way round
-takes_gives : (s : ℕ) (cells : List Cell) (target p : ℕ) → is_last_liberty_of_enemy s cells target p ≡ true
+pub takes_gives : (s : ℕ) (cells : List Cell) (target p : ℕ) → is_last_liberty_of_enemy s cells target p ≡ true
     → (q : ℕ) × IsTakenAt s cells target q p
 unfolding is_last_liberty_of_enemy is_beside_string is_only_liberty
 takes_gives s cells target p h =
@@ -68,7 +68,7 @@ takes_gives s cells target p h =
     )
 
 -- the last liberty of an enemy string beside the target passes the test for one
-takes_from : (s : ℕ) (cells : List Cell) (target q p : ℕ) → target < s * s → IsTakenAt s cells target q p
+pub takes_from : (s : ℕ) (cells : List Cell) (target q p : ℕ) → target < s * s → IsTakenAt s cells target q p
     → is_last_liberty_of_enemy s cells target p ≡ true
 unfolding is_last_liberty_of_enemy is_beside_string is_only_liberty
 takes_from s cells target q p on taken =

@@ -6,3 +6,8 @@ pub mod AnswerLemmas
 pub mod RuleLemmas
 pub mod AreaLemmas
 pub mod PlyLaws
+pub mod AfterPlays
+pub mod LibertyLemmas
+pub mod StageLemmas
+pub mod OneMember
+pub mod AreaWords

@@ -33,6 +33,11 @@ abbrev pub leaves_only : ℕ → ℕ → Result BoardState Illegal → Bool
 leaves_only l p (Ok new) = is_only_liberty new.size new.cells l p
 leaves_only l p (Err why) = false
 
+-- p is empty, and the play of c at l, with the ban dropped, is legal and leaves the string of its stone one liberty,
+-- which is p
+abbrev pub is_left : BoardState → Colour → ℕ → ℕ → Bool
+is_left pos c l p = same_cell (cell_at pos.cells p) Empty && leaves_only l p (play_free pos c l)
+
 -- p is empty, and at some liberty of the target the attacker's play, with the ban dropped, is legal and leaves the
 -- string of its stone one liberty, which is p: an attacker who first plays there does not put himself into atari by
 -- filling that liberty

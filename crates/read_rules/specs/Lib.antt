@@ -5,3 +5,6 @@ pub mod GoodMoves
 pub mod Rules
 pub mod ActiveArea
 pub mod BanFree
+pub mod Stages
+pub mod Bound
+pub mod AreaInWords

@@ -1,9 +1,17 @@
 //! What the computing definitions of the candidates, of the game tree and of the answers mean, in Go's words.
 
-ghost use Rattle.std.specs.Prelude.{◌≡◌, ◌≢◌, ◌↔◌, ℕ, ◌+◌, ◌-◌, ◌*◌, ◌<◌, true, false, not, IsTrue, Some, None};
+ghost use Rattle.std.specs.Prelude.{◌≡◌, ◌≢◌, ◌↔◌, ◌⊎◌, ℕ, suc, ◌+◌, ◌-◌, ◌*◌, ◌<◌, ◌≤◌, ◌&&◌, ◌||◌, nat_lt};
+ghost use Rattle.std.specs.Prelude.{Bool, true, false, not, IsTrue, Ok, Some, None};
+ghost use Rattle.go_rules.specs.declared.Colour.{Colour};
 ghost use Rattle.go_rules.specs.Position.{BoardState};
-ghost use Rattle.go_rules.specs.Strings.{cell_at};
+ghost use Rattle.go_rules.specs.Play.{play_free};
+ghost use Rattle.go_rules.specs.Strings.{cell_at, is_liberty, liberties};
+ghost use Rattle.go_base.specs.Surroundings.{is_last_liberty_of_enemy};
+ghost use Rattle.read_rules.specs.ActiveArea.{InActiveArea, IsNodeOf};
+ghost use Rattle.read_rules.specs.AreaInWords.{IsFirstOf, IsNextOf, IsLookedAt};
+ghost use Rattle.read_rules.specs.Bound.{outlasts, IsTooMany};
 ghost use Rattle.read_rules.specs.Candidates.{is_candidate, IsCandidate};
+ghost use Rattle.read_rules.specs.Stages.{is_wide_candidate};
 ghost use Rattle.read_rules.specs.declared.node.Node.{Node};
 ghost use Rattle.read_rules.specs.declared.question.ReadingQuestion.{ReadingQuestion};
 ghost use Rattle.read_rules.specs.declared.question.Spot.{Spot};
@@ -24,6 +32,14 @@ pub fn candidates_are_by_strings()
         IsTrue (is_candidate pos target k p) ↔ IsCandidate pos target k p }
     ensures on_board { (pos : BoardState) (target k p : ℕ) → IsTrue (is_candidate pos target k p)
         → p < pos.size * pos.size }
+{}
+
+/// A candidate is a liberty of the target, the last liberty of an enemy string next to it, or, where a wide ply is
+/// left, a wide candidate.
+pub fn candidates_come_in_stages()
+    ensures { (pos : BoardState) (target k p : ℕ) → is_candidate pos target k p
+        ≡ (is_liberty pos.size pos.cells target p || is_last_liberty_of_enemy pos.size pos.cells target p
+        || (nat_lt 0 k && is_wide_candidate pos target p)) }
 {}
 
 /// Where a node is captured, where its target has too many liberties, and which children it has.
@@ -89,4 +105,30 @@ pub fn answers_are_by_codes()
     ensures first_move { (q : ReadingQuestion) (pos : BoardState) → q.plies ≢ 0 → code_of q pos ≢ 0 →
         (spot : Spot) × ((answer_of q pos).at ≡ Some spot)
         × IsFirstMove (q.plies - 1) (first_node q (code_of q pos)) pos spot }
+{}
+
+/// A string with more liberties than half of the plies, rounded up at the attacker's turn and down at the defender's,
+/// than 4, or than 2 without wide plies, is not captured, since a play takes away one liberty at most; nor is one that
+/// the attacker may not play at.
+pub fn many_liberties_stand()
+    ensures one_liberty { (pos : BoardState) (c : Colour) (p : ℕ) (new : BoardState) (t : ℕ) → t < pos.size * pos.size
+        → play_free pos c p ≡ Ok new →
+        liberties pos.size pos.cells t ≤ liberties new.size new.cells t + 1 }
+    ensures too_many { (attacker : Bool) (n k l : ℕ) → IsTrue (outlasts attacker n k l) ↔ IsTooMany attacker n k l }
+    ensures stands { (n : ℕ) (node : Node) (pos : BoardState) → node.target < pos.size * pos.size →
+        IsTooMany node.attacker_to_play n node.wide (liberties pos.size pos.cells node.target)
+        → attacker_wins n node pos ≡ false }
+    ensures many { (n k : ℕ) (pos : BoardState) (t : ℕ) → HasManyLiberties pos t k
+        → IsTooMany true n k (liberties pos.size pos.cells t) }
+{}
+
+/// How far the active area of a question reaches: its points are those that five steps lead to from the target's string
+/// at some node whose target stands, each to a point of the same string or to a neighbour of one. The nodes are the
+/// first ones under the three pairs of ko allowances, and what a play at a candidate, or the defender's pass, leads to
+/// from a node that is left undecided.
+pub fn the_active_area_is_reached_in_five_steps()
+    ensures area { (q : ReadingQuestion) (pos : BoardState) (p : ℕ) → q.target < pos.size * pos.size →
+        InActiveArea q pos p ↔ IsLookedAt q pos p }
+    ensures nodes { (q : ReadingQuestion) (pos : BoardState) (n : ℕ) (node : Node) (here : BoardState) →
+        IsNodeOf q pos n node here ↔ (IsFirstOf q pos n node here ⊎ IsNextOf q pos n node here) }
 {}

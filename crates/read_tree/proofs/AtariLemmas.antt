@@ -26,8 +26,8 @@ use Rattle.read_rules.specs.GameTree.{has_many_liberties, allowance_of, next_nod
 use Rattle.read_rules.specs.GameTree.{succeeds, pass_saves}
 use Rattle.read_rules.specs.Rules.{HasManyLiberties}
 use Rattle.read_rules.proofs.RuleLemmas.{child_gives, many_gives}
-use Rattle.read_moves.proofs.AfterPlays.{put_liberty, after_liberty}
-use Rattle.read_moves.proofs.BackfillingLemmas.{one_member}
+use Rattle.read_rules.proofs.AfterPlays.{put_liberty, after_liberty}
+use Rattle.read_rules.proofs.OneMember.{one_member}
 use Rattle.go_base.proofs.LastLiberties.{contains-liberty_points}
 use Rattle.go_base.proofs.Liberties.{len-liberty_points}
 use Rattle.read_tree.specs.declared.turn.Turn.{Turn}
@@ -37,7 +37,7 @@ use Rattle.read_tree.specs.Steps.{IsTaken, IsInAtari, is_off_liberties}
 use Rattle.read_rules.specs.Candidates.{is_candidate}
 use Rattle.read_rules.proofs.CandidateLaws.{candidate_on}
 use Rattle.read_tree.proofs.AllowanceLemmas.{and_parts_not, and_false_right}
-use Rattle.read_tree.proofs.LibertyLemmas.{child_free, counts_but_one, play_size}
+use Rattle.read_rules.proofs.LibertyLemmas.{child_free, counts_but_one, play_size}
 use Rattle.read_tree.proofs.TakeLemmas.{not_empty, turn_at, taking_wins}
 
 -- stones of the two colours are enemies

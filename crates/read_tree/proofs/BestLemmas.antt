@@ -20,14 +20,14 @@ use Rattle.read_rules.specs.GameTree.{is_captured, has_many_liberties, next_node
 use Rattle.read_rules.specs.GameTree.{pass_saves, first_success, first_move, at_point}
 use Rattle.read_rules.specs.Answer.{is_attack, first_node, is_about, answer_of}
 use Rattle.read_rules.specs.ActiveArea.{IsNodeOf, first}
-use Rattle.read_tree.specs.Bound.{outlasts}
+use Rattle.read_rules.specs.Bound.{outlasts}
 use Rattle.read_tree.specs.Allowances.{all_three}
 use Rattle.read_tree.specs.Allowances.{Ko, defender_may, neither_may, attacker_may, has, has_some, own_ko, under, ko_of}
 use Rattle.read_tree.specs.Allowances.{codes_above, best_code, Tells}
 use Rattle.read_rules.specs.GoodMoves.{IsOnBoard, good_move}
 use Rattle.read_tree.specs.Steps.{first_turn, unread, better, node_of, IsBest, AreNodesOf}
 use Rattle.read_tree.proofs.AllowanceLemmas.{none_of, has_all}
-use Rattle.read_tree.proofs.LibertyLemmas.{bounded, pass_outlasts}
+use Rattle.read_rules.proofs.LibertyLemmas.{bounded, pass_outlasts}
 use Rattle.read_rules.proofs.WinLemmas.{first_success-found, first_success-none}
 use Rattle.read_rules.proofs.AnswerLemmas.{attained_by, answer_best, about_stands}
 

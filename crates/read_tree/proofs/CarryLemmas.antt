@@ -26,8 +26,8 @@ use Rattle.read_rules.proofs.RuleLemmas.{child_gives}
 use Rattle.read_tree.specs.declared.turn.Turn.{Turn}
 use Rattle.read_tree.specs.Allowances.{Ko, under}
 use Rattle.read_tree.specs.Steps.{IsCarried}
-use Rattle.read_moves.proofs.AfterPlays.{after_liberty}
-use Rattle.read_tree.proofs.LibertyLemmas.{child_free}
+use Rattle.read_rules.proofs.AfterPlays.{after_liberty}
+use Rattle.read_rules.proofs.LibertyLemmas.{child_free}
 use Rattle.read_tree.proofs.TakeLemmas.{other_twice}
 
 -- a stone of one colour is no stone of the other

@@ -22,7 +22,7 @@ use Rattle.go_rules.proofs.Results.{result_of, free_done, play_else}
 use Rattle.go_rules.proofs.Sets.{same_nat_set, contains-set_below, len-set_below}
 use Rattle.go_rules.proofs.Tests.{same_tests}
 use Rattle.read_moves.specs.Reaches.{IsReached, by_side, by_string}
-use Rattle.read_moves.proofs.AfterPlays.{IsWhole}
+use Rattle.read_moves.proofs.WholeBoards.{IsWhole}
 use Rattle.read_moves.proofs.ReachLemmas.{gained}
 use Rattle.read_rules.specs.Candidates.{IsEmptyNeighbour}
 use Rattle.go_base.specs.Views.{alone, neighbours_of}
@@ -34,9 +34,9 @@ use Rattle.read_rules.proofs.AreaLemmas.{area_once}
 use Rattle.read_rules.proofs.RuleLemmas.{child_from}
 use Rattle.read_tree.specs.declared.turn.Turn.{Turn}
 use Rattle.read_tree.specs.Allowances.{Ko, under}
-use Rattle.read_tree.specs.Bound.{outlasts}
+use Rattle.read_rules.specs.Bound.{outlasts}
 use Rattle.read_tree.specs.Escapes.{Escapes}
-use Rattle.read_tree.proofs.LibertyLemmas.{bounded, some_liberty, more_outlasts_attacker}
+use Rattle.read_rules.proofs.LibertyLemmas.{bounded, some_liberty, more_outlasts_attacker}
 use Rattle.read_tree.proofs.OrderLemmas.{order_near}
 use Rattle.read_tree.proofs.TakeLemmas.{not_empty, near_liberty}
 

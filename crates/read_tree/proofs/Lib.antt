@@ -1,7 +1,7 @@
 pub mod ChildLemmas
 pub mod AllowanceLemmas
 pub mod BestLemmas
-pub mod LibertyLemmas
+pub mod TurnBounds
 pub mod TakeLemmas
 pub mod StageLemmas
 pub mod CarryLemmas

@@ -28,15 +28,15 @@ use Rattle.read_rules.proofs.WinLemmas.{first_success-none}
 use Rattle.read_tree.specs.declared.turn.Turn.{Turn}
 use Rattle.read_tree.specs.declared.allowances.Allowances.{Allowances}
 use Rattle.read_tree.specs.Allowances.{Ko, has, has_some, under, without, Tells}
-use Rattle.read_tree.specs.Bound.{outlasts}
-use Rattle.read_moves.specs.Stages.{is_wide_candidate}
+use Rattle.read_rules.specs.Bound.{outlasts}
+use Rattle.read_rules.specs.Stages.{is_wide_candidate}
 use Rattle.go_base.specs.Surroundings.{is_last_liberty_of_enemy}
-use Rattle.read_moves.proofs.StageLemmas.{candidate_stages}
+use Rattle.read_rules.proofs.StageLemmas.{candidate_stages}
 use Rattle.read_tree.specs.Stages.{is_capture, is_other}
 use Rattle.read_tree.specs.Steps.{IsLeft, TellsBy, is_off_liberties}
 use Rattle.read_tree.proofs.AllowanceLemmas.{none_of, has-without, success_some, and_parts_not, and_false_right}
 use Rattle.read_tree.proofs.AllowanceLemmas.{and_true, has_none}
-use Rattle.read_tree.proofs.LibertyLemmas.{bounded, child_free, play_size, play_takes_none, more_outlasts}
+use Rattle.read_rules.proofs.LibertyLemmas.{bounded, child_free, play_size, play_takes_none, more_outlasts}
 
 -- a liberty of the target is a candidate
 pub liberty_is_candidate : (here : BoardState) (t k p : ℕ) → is_liberty here.size here.cells t p ≡ true

@@ -27,7 +27,7 @@ use Rattle.read_rules.specs.Candidates.{fills}
 use Rattle.read_rules.proofs.CandidateLaws.{candidate_from}
 use Rattle.read_rules.specs.declared.node.Node.{Node}
 use Rattle.read_tree.specs.declared.turn.Turn.{Turn}
-use Rattle.read_moves.proofs.AfterPlays.{IsWhole}
+use Rattle.read_moves.proofs.WholeBoards.{IsWhole}
 use Rattle.read_rules.specs.GameTree.{has_many_liberties, attacker_wins, next_node, allowance_of}
 use Rattle.read_tree.specs.Allowances.{Ko, under}
 use Rattle.read_tree.specs.Steps.{IsTaken}

@@ -1,5 +1,4 @@
 pub mod Allowances
-pub mod Bound
 pub mod Escapes
 pub mod Readings
 pub mod Stages
@@ -10,3 +9,4 @@ pub use Rattle.read_rules.specs.GameTree
 pub use Rattle.read_rules.specs.Answer
 pub use Rattle.read_rules.specs.ActiveArea
 pub use Rattle.read_rules.specs.Rules
+pub use Rattle.read_rules.specs.Bound

@@ -10,7 +10,7 @@ use Rattle.read_rules.specs.declared.question.Answer.{Answer}
 use Rattle.read_rules.specs.ActiveArea.{InActiveArea, AddsNear}
 use Rattle.read_rules.specs.Answer.{is_attack, is_about, answer_of}
 use Rattle.read_rules.specs.GoodMoves.{IsOnBoard}
-use Rattle.read_tree.specs.Bound.{outlasts}
+use Rattle.read_rules.specs.Bound.{outlasts}
 use Rattle.read_tree.specs.Walk.{IsPointOf, AreLibertiesOf, OnEachAgreeing}
 
 -- the question has plies, for which there is room, its target is on the board, and the points are the target's

@@ -3,7 +3,7 @@ use Rattle.std.specs.Prelude.{ℕ, ◌&&◌, Bool, not}
 use Rattle.go_rules.specs.Strings.{is_liberty}
 use Rattle.go_rules.specs.Position.{BoardState}
 use Rattle.go_base.specs.Surroundings.{is_last_liberty_of_enemy}
-use Rattle.read_moves.specs.Stages.{is_wide_candidate}
+use Rattle.read_rules.specs.Stages.{is_wide_candidate}
 
 -- p is the last liberty of an enemy string next to the target, and no liberty of the target
 abbrev pub is_capture : BoardState → ℕ → ℕ → Bool

@@ -2,7 +2,7 @@
 
 ghost use Rattle.std.specs.Prelude.{◌≡◌, ◌-◌, ◌&&◌, false};
 ghost use Rattle.std.specs.FinSet as set;
-ghost use Rattle.read_tree.specs.Bound.{most_by_wide, outlasts};
+ghost use Rattle.read_rules.specs.Bound.{most_by_wide, outlasts};
 
 use crate::turn::Turn;
 use go_base::points::PointSet;
@@ -21,7 +21,7 @@ fn most_by_wide(wide: u8) -> u16
 }
 
 /// Whether so many liberties are too many for the plies and the wide plies that are left.
-#[tactic(auto, unfolding(crate::specs::Bound::outlasts))]
+#[tactic(auto, unfolding(read_rules::specs::Bound::outlasts))]
 pub fn outlasts(attacker: bool, plies: u8, wide: u8, liberties: u16) -> bool
     ensures { result ≡ outlasts attacker plies wide liberties }
 {

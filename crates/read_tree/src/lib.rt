@@ -13,7 +13,6 @@ mod apart;
 mod bound;
 mod candidates;
 mod escape;
-pub mod laws;
 mod making;
 mod memory;
 mod order;

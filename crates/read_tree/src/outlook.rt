@@ -8,7 +8,7 @@ ghost use Rattle.go_rules.specs.Position.{BoardState, stone_of};
 ghost use Rattle.go_base.specs.Facts.{Agrees, AddsIn};
 ghost use Rattle.go_base.specs.Views.{alone};
 ghost use Rattle.trial_board.specs.Trials.{Stays, after};
-ghost use Rattle.read_tree.specs.Bound.{outlasts};
+ghost use Rattle.read_rules.specs.Bound.{outlasts};
 ghost use Rattle.read_tree.specs.Steps.{IsTaken, IsInAtari, is_safe};
 
 use crate::bound::has_too_many;

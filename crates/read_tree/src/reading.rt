@@ -12,7 +12,7 @@ ghost use Rattle.read_rules.specs.Candidates.{is_candidate};
 ghost use Rattle.read_rules.specs.ActiveArea.{InActiveArea, AddsNear};
 ghost use Rattle.read_rules.specs.Answer.{is_attack, answer_of, asked_on, colour_of};
 ghost use Rattle.read_tree.specs.Allowances.{all_three};
-ghost use Rattle.read_tree.specs.Bound.{outlasts};
+ghost use Rattle.read_rules.specs.Bound.{outlasts};
 ghost use Rattle.read_rules.specs.GoodMoves.{IsOnBoard};
 ghost use Rattle.read_tree.specs.Steps.{first_turn, unread, better, IsBest};
 ghost use Rattle.read_tree.specs.Readings.{IsToRead, Answers};

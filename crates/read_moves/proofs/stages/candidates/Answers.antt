@@ -10,7 +10,8 @@ use Rattle.go_base.specs.Facts.{Agrees, agrees_before, same_size, AddsIn-trans, 
 use Rattle.go_base.specs.Surroundings.{is_last_liberty_of_enemy}
 use Rattle.trial_board.specs.Trials.{after}
 use Rattle.trial_board.proofs.AfterLemmas.{size-after}
-use Rattle.read_moves.proofs.CandidateLemmas.{candidate_plain, candidate_wide, near_twice}
+use Rattle.read_rules.proofs.StageLemmas.{candidate_plain, candidate_wide}
+use Rattle.read_moves.proofs.CandidateLemmas.{near_twice}
 use Rattle.read_moves.proofs.stages.candidates.Goals as goal
 
 -- the liberties of the target were found

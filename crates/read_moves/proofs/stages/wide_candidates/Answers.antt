@@ -12,7 +12,8 @@ use Rattle.trial_board.specs.Trials.{after}
 use Rattle.trial_board.proofs.AfterLemmas.{size-after}
 use Rattle.read_rules.specs.Candidates.{attacker_of, is_empty_beside}
 use Rattle.read_moves.specs.Steps.{is_left}
-use Rattle.read_moves.proofs.CandidateLemmas.{wide_is, near_self, near_liberties, near_plays}
+use Rattle.read_rules.proofs.StageLemmas.{wide_is}
+use Rattle.read_moves.proofs.CandidateLemmas.{near_self, near_liberties, near_plays}
 use Rattle.read_moves.proofs.stages.wide_candidates.Given.{Over}
 use Rattle.read_moves.proofs.stages.wide_candidates.Goals as goal
 use Rattle.read_moves.proofs.stages.wide_candidates.Goals.{After-new-found}

@@ -5,7 +5,7 @@ use Rattle.go_base.specs.Facts.{agrees_before}
 use Rattle.trial_board.specs.Trials.{after}
 use Rattle.trial_board.proofs.AfterLemmas.{size-after}
 use Rattle.go_rules.specs.Strings.{is_liberty}
-use Rattle.read_moves.specs.Stages.{is_wide_candidate}
+use Rattle.read_rules.specs.Stages.{is_wide_candidate}
 use Rattle.read_tree.proofs.StageLemmas.{its_liberty}
 use Rattle.read_tree.proofs.candidates.others_of.Goals as goal
 

@@ -3,7 +3,7 @@ use Rattle.std.proofs.Common.{◌-◌, true, ap, sym, subst, ◌∙◌}
 use Rattle.go_base.specs.Facts.{agrees_before}
 use Rattle.trial_board.specs.Trials.{after}
 use Rattle.trial_board.proofs.AfterLemmas.{size-after}
-use Rattle.read_tree.specs.Bound.{outlasts}
+use Rattle.read_rules.specs.Bound.{outlasts}
 use Rattle.read_tree.specs.Escapes.{IsLibertyAfter}
 use Rattle.read_tree.proofs.escape.runs_free.Goals as goal
 

@@ -7,7 +7,7 @@ use Rattle.go_rules.specs.declared.Cell.{Cell}
 use Rattle.go_rules.specs.Strings.{liberties, liberty_points}
 use Rattle.go_base.proofs.Liberties.{len-liberty_points}
 use Rattle.read_rules.specs.declared.question.ReadingQuestion.{ReadingQuestion}
-use Rattle.read_tree.specs.Bound.{outlasts}
+use Rattle.read_rules.specs.Bound.{outlasts}
 use Rattle.go_base.specs.Facts.{Agrees, agrees_before, same_size}
 use Rattle.trial_board.specs.Trials.{after}
 use Rattle.trial_board.proofs.AfterLemmas.{size-after}

@@ -6,7 +6,7 @@ use Rattle.go_rules.specs.declared.Cell.{Cell}
 use Rattle.go_rules.specs.Strings.{liberties, liberty_points}
 use Rattle.go_base.proofs.Liberties.{len-liberty_points}
 use Rattle.read_rules.specs.declared.question.ReadingQuestion.{ReadingQuestion}
-use Rattle.read_tree.specs.Bound.{outlasts}
+use Rattle.read_rules.specs.Bound.{outlasts}
 use Rattle.go_base.specs.Facts.{agrees_before}
 use Rattle.go_base.specs.Views.{nowhere}
 use Rattle.trial_board.specs.Trials.{after}
@@ -19,7 +19,7 @@ use Rattle.read_tree.specs.Steps.{first_turn}
 use Rattle.read_rules.proofs.AnswerLemmas.{about_stands}
 use Rattle.read_rules.proofs.AreaLemmas.{AddsNear-trans, undecided_defender}
 use Rattle.read_tree.proofs.BestLemmas.{best_nothing, best_pass, best_three, best_answer, first_nodes}
-use Rattle.read_tree.proofs.LibertyLemmas.{undecided_at}
+use Rattle.read_tree.proofs.TurnBounds.{undecided_at}
 use Rattle.read_tree.proofs.reading.read_by.Goals as goal
 
 -- two tests do not both pass where the first fails

@@ -9,7 +9,7 @@ use Rattle.go_rules.proofs.Cells.{eq_is_same_cell}
 use Rattle.std.proofs.lemmas.Bool.{eqb-true, and_parts, lt-ltb, le-ltb}
 use Rattle.go_rules.specs.Strings.{is_liberty, liberty_points}
 use Rattle.go_base.specs.Facts.{Agrees}
-use Rattle.read_tree.specs.Bound.{outlasts}
+use Rattle.read_rules.specs.Bound.{outlasts}
 use Rattle.read_tree.specs.Stages.{is_other}
 use Rattle.go_rules.specs.Position.{BoardState}
 use Rattle.trial_board.specs.declared.moves.TrialMove.{TrialMove}
@@ -32,8 +32,8 @@ use Rattle.read_tree.proofs.StageLemmas.{stage_over, none_other, nothing_near, l
 use Rattle.read_tree.proofs.StageLemmas.{capture_is_candidate, capture_is_off, other_is_candidate, off_by_stages}
 use Rattle.read_tree.proofs.StageLemmas.{off_by_captures, captures_near, its_liberty, its_count, known_inside}
 use Rattle.read_tree.proofs.OrderLemmas.{none_tried, newest_or_before, fewer_left, none_left, order_near}
-use Rattle.read_tree.proofs.LibertyLemmas.{bounded_at, undecided_at}
-use Rattle.read_moves.proofs.AfterPlays.{whole_after}
+use Rattle.read_tree.proofs.TurnBounds.{bounded_at, undecided_at}
+use Rattle.read_moves.proofs.WholeBoards.{whole_after}
 use Rattle.read_tree.proofs.AtariLemmas.{pass_fails, atari_fails}
 use Rattle.read_tree.proofs.EscapeLemmas.{escape_succeeds, escape_near}
 use Rattle.read_tree.proofs.TakeLemmas.{take_wins}

@@ -1,23 +1,15 @@
--- What a play leaves of a string, and that trial moves leave a whole board.
-use Rattle.std.proofs.Common.{◌≡◌, ◌≢◌, ℕ, ◌*◌, ◌<◌, Bool, true, false, cond, List, [], ◌∷◌, length, Result, Ok, Err}
-use Rattle.std.proofs.Common.{refl, sym, ap, subst, ◌∙◌, inl, inr, set}
-use Rattle.std.proofs.lemmas.Bool.{cases_Bool}
+-- What a play leaves of a string.
+use Rattle.std.proofs.Common.{◌≡◌, ◌≢◌, ℕ, ◌*◌, ◌<◌, Bool, true, false, cond, List}
+use Rattle.std.proofs.Common.{refl, sym, ap, ◌∙◌, set}
 use Rattle.go_rules.specs.declared.Cell.{Cell}
 use Rattle.go_rules.specs.declared.Cell.TheVariants.{Empty, Black, White}
 use Rattle.go_rules.specs.declared.Colour.{Colour}
-use Rattle.go_rules.specs.declared.Illegal.{Illegal}
 use Rattle.go_rules.specs.Strings.{cell_at, is_stone, Path, start, IsInString, IsLiberty}
-use Rattle.go_rules.specs.Position.{BoardState, stone_of, is_banned}
-use Rattle.go_rules.specs.Play.{play, play_free, cells_after, is_taken}
+use Rattle.go_rules.specs.Position.{stone_of}
+use Rattle.go_rules.specs.Play.{cells_after, is_taken}
 use Rattle.go_rules.proofs.Links.{path_same, path_on, path_back, path_keeps, liberties_from}
 use Rattle.go_rules.proofs.Paths.{path_on_board}
-use Rattle.go_rules.proofs.Plays.{at_put_other, at_after, alive_not_taken, length_after}
-use Rattle.go_rules.proofs.PlayLaws.{done_state}
-use Rattle.go_rules.proofs.Results.{put_on, play_occupied, play_ko, play_else}
-use Rattle.go_rules.proofs.PlayLaws.{play_done}
-use Rattle.trial_board.specs.declared.moves.TrialMove.{TrialMove}
-use Rattle.trial_board.specs.declared.moves.TrialMove.TheVariants.{Pass, Play}
-use Rattle.trial_board.specs.Trials.{given, after}
+use Rattle.go_rules.proofs.Plays.{at_put_other, at_after, alive_not_taken}
 
 -- A string with a liberty that is not the point of the play. The board is of size s; c plays at p.
 module _ (s : ℕ) (cells : List Cell) (c : Colour) (p : ℕ) (was_empty : cell_at cells p ≡ Empty) (t : ℕ)
@@ -90,30 +82,3 @@ module _ (s : ℕ) (cells : List Cell) (c : Colour) (p : ℕ) (was_empty : cell_
       empty_both : (b : Bool) (k : Cell) → k ≡ Empty → cond b Empty k ≡ Empty
       empty_both true k e = refl
       empty_both false k e = e
-
--- the cells after trial moves are those of the whole board
-abbrev pub IsWhole : BoardState → Type 0
-IsWhole pos = length pos.cells ≡ pos.size * pos.size
-
--- a play that is refused leaves the board, and one that is made gives a whole one
-whole_given : (pos : BoardState) (r : Result BoardState Illegal) → ((new : BoardState) → r ≡ Ok new → IsWhole new)
-    → IsWhole pos → IsWhole (given pos r)
-whole_given pos (Ok new) h w = h new refl
-whole_given pos (Err e) h w = w
-
--- a play with no regard to the ban gives a whole board
-whole_free : (pos : BoardState) (c : Colour) (p : ℕ) (new : BoardState) → play_free pos c p ≡ Ok new → IsWhole new
-whole_free pos c p new e = subst IsWhole (sym (done_state pos c p new e).1) (length_after pos.size (put_on pos c p) c)
-
--- and so does a play, with its ban dropped or not
-whole_play : (pos : BoardState) (c : Colour) (p : ℕ) (dropped : Bool) → IsWhole pos
-    → IsWhole (given pos (cond dropped (play_free pos c p) (play pos c p)))
-whole_play pos c p true w = whole_given pos (play_free pos c p) (whole_free pos c p) w
-whole_play pos c p false w =
-    whole_given pos (play pos c p) (λ new e. whole_free pos c p new (play_done pos c p new e)) w
-
--- the board is whole after trial moves on a whole one
-pub whole_after : (pos : BoardState) (ms : List TrialMove) → IsWhole pos → IsWhole (after pos ms)
-whole_after pos [] w = w
-whole_after pos (Pass ∷ ms) w = whole_after pos ms w
-whole_after pos (Play m ∷ ms) w = whole_play (after pos ms) m.colour m.at m.dropped (whole_after pos ms w)

@@ -17,14 +17,11 @@ use Rattle.go_rules.proofs.Paths.{IsLiberty-from_test, is_liberty-from_fact}
 use Rattle.go_rules.proofs.Results.{after_on}
 use Rattle.go_rules.proofs.PlayLaws.{done_state}
 use Rattle.read_rules.specs.declared.node.Node.{Node}
-use Rattle.read_tree.specs.declared.turn.Turn.{Turn}
 use Rattle.go_rules.proofs.PlayLaws.{play_done}
-use Rattle.read_moves.proofs.AfterPlays.{after_liberty}
-use Rattle.read_rules.specs.ActiveArea.{IsUndecided}
-use Rattle.read_tree.specs.Allowances.{Ko, under}
+use Rattle.read_rules.proofs.AfterPlays.{after_liberty}
 use Rattle.read_rules.specs.GameTree.{is_captured, has_many_liberties, mover_of, allowance_of, next_node, attacker_wins}
 use Rattle.read_rules.specs.Rules.{IsChild, HasManyLiberties}
-use Rattle.read_tree.specs.Bound.{most_by_wide, outlasts}
+use Rattle.read_rules.specs.Bound.{most_by_wide, outlasts, IsTooWide, over_four, over_three, over_two, IsTooMany}
 use Rattle.read_rules.proofs.WinLemmas.{wins-no_plies}
 use Rattle.read_rules.proofs.RuleLemmas.{many_from, many_gives, attacker_gives, defender_gives}
 
@@ -271,29 +268,6 @@ many_outlasts n pos t k h = elim (cases_Bool (has_many_liberties pos t k)) [
     by false false e (inl x) = x
     by false w e (inr x) = absurd (both_ways (eqb k 0) e (eq-eqb k 0 x.0))
 
--- The same at a turn, on a board of size s.
-module _ (n : ℕ) (turn : Turn) (here : BoardState) (s : ℕ) (size : here.size ≡ s) where
-  -- the liberties may be counted on a board of size s, which is the position's size
-  counted : (b : Bool) → outlasts turn.attacker_to_play n turn.wide (liberties s here.cells turn.target) ≡ b
-      → outlasts turn.attacker_to_play n turn.wide (liberties here.size here.cells turn.target) ≡ b
-  counted b h = ap (λ m. outlasts turn.attacker_to_play n turn.wide (liberties m here.cells turn.target)) size ∙ h
-
-  -- with too many liberties the attacker does not win under any allowance
-  pub bounded_at : turn.target < s * s
-      → outlasts turn.attacker_to_play n turn.wide (liberties s here.cells turn.target) ≡ true → (ko : Ko)
-      → attacker_wins n (under turn ko) here ≡ false
-  bounded_at on h ko = bounded n (under turn ko) here (subst (λ m. turn.target < m * m) (sym size) on) (counted true h)
-
-  -- with fewer the node is undecided
-  pub undecided_at : is_captured here turn.target ≡ false
-      → outlasts turn.attacker_to_play n turn.wide (liberties s here.cells turn.target) ≡ false → (ko : Ko)
-      → IsUndecided (under turn ko) here
-  undecided_at stands h ko = record {
-    stands = stands;
-    few = λ t. many_outlasts n here turn.target turn.wide
-        (ap (λ b. outlasts b n turn.wide (liberties here.size here.cells turn.target)) (sym t) ∙ counted false h);
-  }
-
 -- where the attacker may not play at the target, it has too many liberties
 pub many_outlast : (n k : ℕ) (pos : BoardState) (t : ℕ) → HasManyLiberties pos t k
     → outlasts true n k (liberties pos.size pos.cells t) ≡ true
@@ -301,3 +275,50 @@ many_outlast n k pos t many = elim (cases_Bool (outlasts true n k (liberties pos
   | inl h ↦ h
   | inr f ↦ absurd (both_ways (has_many_liberties pos t k) (many_outlasts n pos t k f) (many_from pos t k many))
 ]
+
+-- more than the greatest number that the wide plies allow is too wide
+wide_gives : (k l : ℕ) → most_by_wide k < l → IsTooWide k l
+wide_gives k l h = by (eqb k 0) (ltb k 3) refl refl h
+  where
+    by : (z w : Bool) → eqb k 0 ≡ z → ltb k 3 ≡ w → cond z 2 (cond w 3 4) < l → IsTooWide k l
+    by true w ez ew x = over_two (eqb-true k 0 ez) x
+    by false true ez ew x = over_three (ltb-true k 3 ew) x
+    by false false ez ew x = over_four x
+
+-- what is too wide is more than the greatest number that the wide plies allow
+wide_from : (k l : ℕ) → IsTooWide k l → most_by_wide k < l
+wide_from k l (over_four x) = by (eqb k 0) (ltb k 3)
+  where
+    by : (z w : Bool) → cond z 2 (cond w 3 4) < l
+    by true w = omega (arith, x)
+    by false true = omega (arith, x)
+    by false false = x
+wide_from k l (over_three few x) = by (eqb k 0) (ltb k 3) (lt-ltb k 3 few)
+  where
+    by : (z w : Bool) → w ≡ true → cond z 2 (cond w 3 4) < l
+    by true w e = omega (arith, x)
+    by false true e = x
+    by false false e = cc
+wide_from k l (over_two none x) = by (eqb k 0) (ltb k 3) (eq-eqb k 0 none)
+  where
+    by : (z w : Bool) → z ≡ true → cond z 2 (cond w 3 4) < l
+    by true w e = x
+    by false w e = cc
+
+-- the test for too many liberties gives the bound in words
+pub too_many-gives : (attacker : Bool) (n k l : ℕ) → outlasts attacker n k l ≡ true → IsTooMany attacker n k l
+too_many-gives true n k l h = elim (outlasts_attacker n k l h) [ inl x ↦ inl x | inr x ↦ inr (wide_gives k l x) ]
+too_many-gives false n k l h =
+    elim (outlasts_defender n k l h) [ inl x ↦ inl x | inr x ↦ inr (wide_gives (k - 1) l x) ]
+
+-- the bound in words gives the test
+pub too_many-from : (attacker : Bool) (n k l : ℕ) → IsTooMany attacker n k l → outlasts attacker n k l ≡ true
+too_many-from true n k l (inl x) = to_attacker n k l (inl x)
+too_many-from true n k l (inr x) = to_attacker n k l (inr (wide_from k l x))
+too_many-from false n k l (inl x) = to_defender n k l (inl x)
+too_many-from false n k l (inr x) = to_defender n k l (inr (wide_from (k - 1) l x))
+
+-- where the attacker may not play at the target, it has too many liberties in words
+pub many_too_many : (n k : ℕ) (pos : BoardState) (t : ℕ) → HasManyLiberties pos t k
+    → IsTooMany true n k (liberties pos.size pos.cells t)
+many_too_many n k pos t many = too_many-gives true n k _ (many_outlast n k pos t many)

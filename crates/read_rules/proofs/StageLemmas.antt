@@ -1,0 +1,146 @@
+-- The candidates by stages, and by the sets of points that are gathered for them.
+use Rattle.std.proofs.Common.{◌≡◌, ℕ, ◌*◌, ◌&&◌, ◌||◌, Bool, true, false, ltb, List, refl, sym, ap, ◌∙◌}
+use Rattle.std.proofs.lemmas.Bool.{and_parts, and_from}
+use Rattle.std.specs.Ordering.{nat_cmp}
+use Rattle.std.specs.FinSet as sets
+use Rattle.go_rules.specs.declared.Cell.{Cell}
+use Rattle.go_rules.specs.declared.Cell.TheVariants.{Empty}
+use Rattle.go_rules.specs.declared.Colour.{Colour}
+use Rattle.go_rules.specs.Board.{are_neighbours}
+use Rattle.go_rules.specs.Below.{any_below}
+use Rattle.go_rules.specs.Strings.{cell_at, same_cell, is_liberty, liberties, liberty_points}
+use Rattle.go_rules.specs.Position.{BoardState}
+use Rattle.go_rules.specs.Play.{play_free}
+use Rattle.go_rules.proofs.Counts.{any_below_gives, any_below_from, any_below_same}
+use Rattle.go_rules.proofs.Tests.{same_tests}
+use Rattle.go_base.specs.Surroundings.{is_last_liberty_of_enemy}
+use Rattle.go_base.proofs.LastLiberties.{contains-liberty_points}
+use Rattle.go_base.proofs.Liberties.{len-liberty_points}
+use Rattle.read_rules.specs.Candidates.{attacker_of, is_empty_beside, leaves_only, is_backfilling, is_candidate, is_left}
+use Rattle.read_rules.specs.Stages.{is_wide_candidate}
+
+-- a liberty, a neighbour with a wide ply, a last liberty, or a backfilling move with a wide ply: the two with a wide
+-- ply come last
+wide_last : (l w f e t b : Bool) → (((l || ((w && f) && e)) || t) || (w && b)) ≡ ((l || t) || (w && ((f && e) || b)))
+wide_last true w f e t b = refl
+wide_last false false f e t b = refl
+wide_last false true false e t b = refl
+wide_last false true true true true b = refl
+wide_last false true true true false b = refl
+wide_last false true true false t b = refl
+
+-- the candidates are the liberties, the last liberties of enemy strings, and where a wide ply is left the wide
+-- candidates
+pub candidate_stages : (here : BoardState) (target k p : ℕ) → is_candidate here target k p
+    ≡ ((is_liberty here.size here.cells target p || is_last_liberty_of_enemy here.size here.cells target p)
+    || (ltb 0 k && is_wide_candidate here target p))
+unfolding is_candidate is_wide_candidate
+candidate_stages here target k p = wide_last (is_liberty here.size here.cells target p) (ltb 0 k)
+    (ltb (liberties here.size here.cells target) 3)
+    (is_empty_beside here.size here.cells (is_liberty here.size here.cells target) p)
+    (is_last_liberty_of_enemy here.size here.cells target p) (is_backfilling here target p)
+
+-- which empty points are beside points of a set depends on the set's members alone
+empty_beside_same : (s : ℕ) (cells : List Cell) (S T : ℕ → Bool) (q : ℕ) → ((l : ℕ) → S l ≡ T l)
+    → is_empty_beside s cells S q ≡ is_empty_beside s cells T q
+unfolding is_empty_beside
+empty_beside_same s cells S T q h =
+    ap (λ b. ltb q (s * s) && same_cell (cell_at cells q) Empty && b)
+    (any_below_same (s * s) _ _ (λ k l. ap (λ b. b && are_neighbours s k q) (h k)))
+
+-- the set of the liberties has the liberties, and as many
+pub has_liberty : (s : ℕ) (cells : List Cell) (target l : ℕ) (libs : sets.FinSet nat_cmp)
+    → libs ≡ liberty_points s cells target
+    → sets.contains libs l ≡ is_liberty s cells target l
+has_liberty s cells target l libs el = ap (λ t. sets.contains t l) el ∙ contains-liberty_points s cells target l
+
+-- the set of the liberties has as many members as the target has liberties
+how_many : (s : ℕ) (cells : List Cell) (target : ℕ) (libs : sets.FinSet nat_cmp) → libs ≡ liberty_points s cells target
+    → sets.len libs ≡ liberties s cells target
+how_many s cells target libs el = ap sets.len el ∙ len-liberty_points s cells target
+
+-- the points that the attacker's plays at the liberties leave are the backfilling moves
+left_is_backfilling : (here : BoardState) (c : Colour) (target p : ℕ) (libs : sets.FinSet nat_cmp)
+    → libs ≡ liberty_points here.size here.cells target
+    → c ≡ attacker_of (cell_at here.cells target)
+    → any_below (here.size * here.size) (λ l. sets.contains libs l && is_left here c l p) ≡ is_backfilling here target p
+unfolding is_backfilling
+left_is_backfilling here c target p libs el ec = same_tests _ _
+    (λ h.
+    let l = any_below_gives (here.size * here.size) _ h in
+    let parts = and_parts _ _ l.2 in
+    let left = and_parts _ _ parts.1 in
+    let its = sym (has_liberty here.size here.cells target l.0 libs el) ∙ parts.0 in
+    and_from _ _ left.0 (any_below_from (here.size * here.size) _ l.0 l.1
+    (and_from _ _ its (ap (λ x. leaves_only l.0 p (play_free here x l.0)) (sym ec) ∙ left.1))))
+    (λ h.
+    let parts = and_parts _ _ h in
+    let l = any_below_gives (here.size * here.size) _ parts.1 in
+    let both = and_parts _ _ l.2 in
+    any_below_from (here.size * here.size) _ l.0 l.1
+    (and_from _ _ (has_liberty here.size here.cells target l.0 libs el ∙ both.0)
+    (and_from _ _ parts.0 (ap (λ x. leaves_only l.0 p (play_free here x l.0)) ec ∙ both.1))))
+
+-- What was gathered for a target on the position here: its liberties.
+module _ (here : BoardState) (target p : ℕ) (libs : sets.FinSet nat_cmp)
+    (el : libs ≡ liberty_points here.size here.cells target) where
+  -- the empty neighbours of at most two liberties and what the attacker's plays leave, added to none, are the wide
+  -- candidates
+  pub wide_is : (old : sets.FinSet nat_cmp) (c : Colour) (x : Bool) → old ≡ sets.empty
+      → c ≡ attacker_of (cell_at here.cells target)
+      → x ≡ ((sets.contains old p
+      || (ltb (sets.len libs) 3 && is_empty_beside here.size here.cells (sets.contains libs) p))
+      || any_below (here.size * here.size) (λ l. sets.contains libs l && is_left here c l p))
+      → x ≡ is_wide_candidate here target p
+  unfolding is_wide_candidate
+  wide_is old c x none ec ex =
+      let beside = λ (S : ℕ → Bool). is_empty_beside here.size here.cells S p in
+      let left = any_below (here.size * here.size) (λ l. sets.contains libs l && is_left here c l p) in
+      ex ∙ ap (λ y. (y || (ltb (sets.len libs) 3 && beside (sets.contains libs))) || left)
+      (ap (λ t. sets.contains t p) none ∙ sets.contains-empty nat_cmp p)
+      ∙ ap (λ n. (ltb n 3 && beside (sets.contains libs)) || left) (how_many here.size here.cells target libs el)
+      ∙ ap (λ y. (ltb (liberties here.size here.cells target) 3 && y) || left)
+      (empty_beside_same here.size here.cells (sets.contains libs) (is_liberty here.size here.cells target) p
+      (λ q. has_liberty here.size here.cells target q libs el))
+      ∙ ap (λ y. (ltb (liberties here.size here.cells target) 3 && beside (is_liberty here.size here.cells target))
+      || y) (left_is_backfilling here c target p libs el ec)
+
+-- What was gathered for a target on the position here: its liberties, and the last liberties of the enemy strings next
+-- to it.
+module _ (here : BoardState) (target k p : ℕ) (libs last : sets.FinSet nat_cmp)
+    (el : libs ≡ liberty_points here.size here.cells target)
+    (et : sets.contains last p ≡ is_last_liberty_of_enemy here.size here.cells target p) where
+  -- with what is wide where a wide ply is left, these are the candidates
+  in_stages : (wide : Bool) → wide ≡ (ltb 0 k && is_wide_candidate here target p)
+      → ((sets.contains last p || sets.contains libs p) || wide) ≡ is_candidate here target k p
+  in_stages wide is =
+      ap (λ y. (y || sets.contains libs p) || wide) et
+      ∙ ap (λ y. (is_last_liberty_of_enemy here.size here.cells target p || y) || wide)
+      (has_liberty here.size here.cells target p libs el)
+      ∙ turned (is_last_liberty_of_enemy here.size here.cells target p) (is_liberty here.size here.cells target p) wide
+      ∙ ap (λ y. (is_liberty here.size here.cells target p
+      || is_last_liberty_of_enemy here.size here.cells target p) || y) is
+      ∙ sym (candidate_stages here target k p)
+    where
+      turned : (a b w : Bool) → ((a || b) || w) ≡ ((b || a) || w)
+      turned true true w = refl
+      turned true false w = refl
+      turned false true w = refl
+      turned false false w = refl
+
+  -- where no wide ply is left these are the candidates
+  pub candidate_plain : (x : Bool) → ltb 0 k ≡ false → x ≡ (sets.contains last p || sets.contains libs p)
+      → x ≡ is_candidate here target k p
+  candidate_plain x none ex =
+      ex ∙ or_false (sets.contains last p || sets.contains libs p)
+      ∙ in_stages false (sym (ap (λ b. b && is_wide_candidate here target p) none))
+    where
+      or_false : (a : Bool) → a ≡ (a || false)
+      or_false true = refl
+      or_false false = refl
+
+  -- where one is left, these with the wide candidates
+  pub candidate_wide : (x wide : Bool) → ltb 0 k ≡ true → wide ≡ is_wide_candidate here target p
+      → x ≡ ((sets.contains last p || sets.contains libs p) || wide) → x ≡ is_candidate here target k p
+  candidate_wide x wide some is ex =
+      ex ∙ in_stages wide (is ∙ sym (ap (λ b. b && is_wide_candidate here target p) some))
