@@ -1,7 +1,7 @@
 //! The tactical reader: whether a string can be captured, and whether it can be saved, by a bounded game tree.
 //!
-//! `attack` and `defend` read a view of a position and hand it back; what they looked at is then among its facts, and
-//! on every position that agrees with these facts the answer is the same. Codes are 3, 2, 1 and 0: the side that is
+//! `read` reads a question on a view of a position and hands the view back; what it looked at is then among its facts,
+//! and on every position that agrees with these facts the answer is the same. `attack` and `defend` make the question. Codes are 3, 2, 1 and 0: the side that is
 //! asked about has its way even if the other may ignore the ko ban once; if neither may; only if it may itself; not at
 //! all. Nothing takes memory.
 //!
@@ -25,7 +25,7 @@ pub mod turn;
 
 pub use allowances::Allowances;
 pub use read_rules::{Answer, Depths, Kind, Node, ReadingQuestion, Spot};
-pub use reading::{attack, defend};
+pub use reading::{attack, defend, read};
 pub use report::Report;
 pub use turn::Turn;
 

@@ -1,8 +1,8 @@
-//! The two questions: attack and defend.
+//! Reading a question, and the two questions: attack and defend.
 
 ghost use Rattle.std.specs.Prelude.{◌≡◌, ◌≢◌, ◌+◌, ◌*◌, ◌<◌, ◌≤◌, ◌↔◌, suc, true, false, length, IsNone};
 ghost use Rattle.std.specs.Prelude.{IfSome, IsTrue, None, Some};
-ghost use Rattle.go_rules.specs.Position.{BoardState};
+ghost use Rattle.go_rules.specs.Position.{BoardState, stone_of};
 ghost use Rattle.go_rules.specs.Strings.{cell_at, liberties};
 ghost use Rattle.go_rules.specs.Neighbourhood.{neighbourhood_of};
 ghost use Rattle.go_base.specs.Facts.{Agrees, Grows, AddsIn, CellIs};
@@ -175,7 +175,7 @@ fn read_known<L: Look>(board: &mut Trial<L>, question: &ReadingQuestion, known: 
 }
 
 /// The answer to a question that is about the position.
-fn read<L: Look>(board: &mut Trial<L>, question: &ReadingQuestion) -> Answer
+fn read_on<L: Look>(board: &mut Trial<L>, question: &ReadingQuestion) -> Answer
     requires plies { 0 < question.now.plies }
     requires room { length board.old.moves + question.now.plies ≤ most_moves }
     requires target { IsPointOf L.shows board.old question.now.target }
@@ -208,7 +208,72 @@ fn colour_of(cell: Cell) -> Colour
     }
 }
 
-/// Reads a question of this kind.
+/// Reads a question about a stone of the position that the view shows: the answer, how many plays were tried, and the
+/// view with what was looked at. `attack` and `defend` make their question from the stone and read it so; who keeps
+/// questions hands over the one that is kept.
+pub fn read<L: Look>(look: L, question: ReadingQuestion) -> Report<L>
+    requires size { question.size ≡ (L.shows look).size }
+    requires on_board { question.target < question.size * question.size }
+    requires stone { cell_at (L.shows look).cells question.target ≡ stone_of question.colour }
+    requires plies { 0 < question.plies }
+    requires few { question.plies ≤ 200 }
+    ensures shown { L.shows result.look ≡ L.shows look }
+    ensures grows { Grows (L.seen look) (L.seen result.look) }
+    ensures target { IsTrue (L.seen result.look (CellIs question.target (stone_of question.colour))) }
+    ensures code { result.answer.code ≤ 3 }
+    ensures none { IsNone result.answer.at ↔ (result.answer.code ≡ 0) }
+    ensures on_board { IfSome result.answer.at (IsOnBoard question.size) }
+
+    // On every position that agrees with the facts seen afterwards the answer is this one; the position shown is one of
+    // them.
+    ensures over { (pos : BoardState) → Agrees (L.seen result.look) pos → result.answer ≡ answer_of question pos }
+    ensures answer { result.answer ≡ answer_of question (L.shows look) }
+
+    // With too many liberties for the plies or the wide plies that are left, an attack fails and no defence is needed:
+    // no play is tried, and what is looked at lies in the neighbourhood of the target.
+    ensures too_many { IsTrue (outlasts (is_attack question.kind) question.plies question.wide
+        (liberties (L.shows look).size (L.shows look).cells question.target))
+        → (result.answer ≡ unread (is_attack question.kind)) × (result.trials ≡ 0)
+        × AddsIn (L.seen look) (L.seen result.look)
+        (neighbourhood_of (L.shows look).size (L.shows look).cells (alone question.target)) }
+
+    // On each of these positions the points looked at lie in the active area of the reading.
+    ensures near { (pos : BoardState) → Agrees (L.seen result.look) pos
+        → AddsNear (L.seen look) (L.seen result.look) (InActiveArea question pos) }
+{
+    let mut view = look;
+    // The answer rests on the target's stone first of all.
+    let _stone = view.cell(question.target);
+    let mut board = Trial::new(view);
+    let answer = read_on(&mut board, &question);
+    let trials = board.trials();
+    Report {
+        answer,
+        trials,
+        look: board.finish(),
+    }
+}
+
+/// The question of this kind about the stone at the target.
+fn asked<L: Look>(look: &mut L, kind: Kind, target: Point, depths: Depths) -> ReadingQuestion
+    requires on_board { target < (L.shows look.old).size * (L.shows look.old).size }
+    requires stone { cell_at (L.shows look.old).cells target ≢ Cell.Empty }
+    ensures shown { L.shows look.new ≡ L.shows look.old }
+    ensures grows { Grows (L.seen look.old) (L.seen look.new) }
+    ensures question { result ≡ asked_on (L.shows look.old) kind target depths.plies depths.wide }
+    ensures near { AddsIn (L.seen look.old) (L.seen look.new) (alone target) }
+{
+    ReadingQuestion {
+        size: look.size(),
+        kind,
+        target,
+        colour: colour_of(look.cell(target)),
+        plies: depths.plies,
+        wide: depths.wide,
+    }
+}
+
+/// Reads the question of this kind about the stone at the target.
 fn answered<L: Look>(look: L, kind: Kind, target: Point, depths: Depths) -> Report<L>
     requires on_board { target < (L.shows look).size * (L.shows look).size }
     requires stone { cell_at (L.shows look).cells target ≢ Cell.Empty }
@@ -230,23 +295,8 @@ fn answered<L: Look>(look: L, kind: Kind, target: Point, depths: Depths) -> Repo
         (InActiveArea (asked_on (L.shows look) kind target depths.plies depths.wide) pos) }
 {
     let mut view = look;
-    let colour = colour_of(view.cell(target));
-    let question = ReadingQuestion {
-        size: view.size(),
-        kind,
-        target,
-        colour,
-        plies: depths.plies,
-        wide: depths.wide,
-    };
-    let mut board = Trial::new(view);
-    let answer = read(&mut board, &question);
-    let trials = board.trials();
-    Report {
-        answer,
-        trials,
-        look: board.finish(),
-    }
+    let question = asked(&mut view, kind, target, depths);
+    read(view, question)
 }
 
 /// Reads whether the string at `target` can be captured when the attacker plays first.

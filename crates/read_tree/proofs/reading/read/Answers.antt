@@ -1,123 +1,89 @@
--- The best of all moves is the answer, and the reading stays in the area.
-use Rattle.std.proofs.Common.{rules, subst, ℕ, List, ◌≡◌, ◌≢◌, ◌∙◌, ◌-◌, suc, Bool, ap, sym, arith}
-use Rattle.std.proofs.lemmas.Bool.{both_ways}
-use Rattle.std.specs.FinSet as set
-use Rattle.std.specs.Ordering.{nat_cmp}
-use Rattle.go_rules.specs.declared.Cell.{Cell}
-use Rattle.go_rules.specs.Strings.{liberties, liberty_points}
-use Rattle.go_base.proofs.Liberties.{len-liberty_points}
-use Rattle.read_rules.specs.declared.question.ReadingQuestion.{ReadingQuestion}
-use Rattle.read_rules.specs.Bound.{outlasts}
-use Rattle.go_base.specs.Facts.{Agrees, agrees_before, same_size}
+-- The first look is at the target, and those of the reading lie in the active area.
+use Rattle.std.proofs.Common.{◌≡◌, ◌∙◌, true, refl, ap, sym, subst, arith}
+use Rattle.std.proofs.lemmas.Bool.{eqb-true}
+use Rattle.go_rules.specs.Strings.{cell_at}
+use Rattle.go_rules.specs.Position.{BoardState, stone_of}
+use Rattle.go_base.specs.Facts.{Agrees, AddsIn, AddsIn-trans, AddsIn-mono, CellIs, agrees_before, same_size}
+use Rattle.go_base.specs.Views.{alone}
+use Rattle.go_base.proofs.PointNeighbourhoods.{close_alone}
+use Rattle.go_rules.specs.Neighbourhood.{neighbourhood_of}
 use Rattle.trial_board.specs.Trials.{after}
-use Rattle.trial_board.proofs.AfterLemmas.{size-after}
-use Rattle.read_tree.specs.declared.turn.Turn.{Turn}
-use Rattle.read_rules.specs.ActiveArea.{InActiveArea}
-use Rattle.read_rules.specs.Answer.{is_attack}
-use Rattle.read_tree.specs.Allowances.{neither_may, under}
-use Rattle.read_tree.specs.Steps.{first_turn, unread}
-use Rattle.read_tree.proofs.AllowanceLemmas.{has_all}
+use Rattle.read_rules.specs.declared.question.Answer.{Answer}
+use Rattle.read_rules.specs.Answer.{is_about, first_node, answer_of}
+use Rattle.read_rules.specs.ActiveArea.{first, InActiveArea, AddsNear}
 use Rattle.read_rules.proofs.AnswerLemmas.{about_stands}
-use Rattle.read_rules.proofs.AreaLemmas.{AddsNear-in, AddsNear-trans, area_once, target_on}
-use Rattle.read_tree.proofs.BestLemmas.{unread_answer, first_nodes}
+use Rattle.read_rules.proofs.AreaLemmas.{AddsNear-in, AddsNear-trans, area_target, target_on}
+use Rattle.read_tree.proofs.AskedQuestions.{about_from}
+use Rattle.read_tree.proofs.reading.read.Given.{Over}
 use Rattle.read_tree.proofs.reading.read.Goals as goal
+use Rattle.read_tree.proofs.reading.read.Goals.{After-finish}
 
--- the liberties that were found are too many where the target's are
-many_at : (q : ReadingQuestion) (s : ℕ) (cells : List Cell) {turn : Turn} {known : set.FinSet nat_cmp} {many : Bool}
-    → turn ≡ first_turn q → many ≡ outlasts turn.attacker_to_play q.plies turn.wide (set.len known)
-    → known ≡ liberty_points s cells turn.target
-    → many ≡ outlasts (is_attack q.kind) q.plies q.wide (liberties s cells q.target)
-many_at q s cells {turn} first many is =
-    many ∙ ap (outlasts turn.attacker_to_play q.plies turn.wide)
-    (ap set.len is ∙ len-liberty_points s cells turn.target)
-    ∙ ap (λ (t : Turn). outlasts t.attacker_to_play q.plies t.wide (liberties s cells t.target)) first
+-- A position that agrees with what is seen after the reading.
+module _ (g : Over) (c : After-finish g) (pos : BoardState)
+    (a : Agrees (g.L.Look.seen c.finish.result) pos) where
+  -- it agrees with what was seen when the reading had ended
+  at_end : Agrees (g.L.Look.seen c.read_on-answer.new.board.look) pos
+  at_end = subst (λ look. Agrees (g.L.Look.seen look) pos) c.finish.ensures a
 
--- the answer where the liberties are too many: the looks at them lie in the active area
-pub returns-then-has_too_many-clause-answers : goal.returns-then-has_too_many-clause-answers
-returns-then-has_too_many-clause-answers g c = record {
-  stays = search rules;
-  code = search rules;
-  none = search rules;
-  on_board = search rules;
-  over = λ pos a about.
-      let q = c.args.question.now in
-      let here = after pos c.args.board.now.moves in
-      let some : q.plies ≢ 0 = omega (arith, c.requires.plies) in
-      let size = size-after pos c.args.board.now.moves in
-      let a0 = agrees_before c.liberties-known.ensures.stays.grows a in
-      let inside = target_on pos.size (g.L.Look.shows c.args.board.now.look).size q.target
-      (same_size (g.met.L.Look.sized c.args.board.now.look) a0) c.requires.target in
-      let many = sym (many_at q pos.size here.cells c.first_turn-turn.ensures c.has_too_many.ensures
-      (c.liberties-known.ensures.over pos a)) ∙ c.if-has_too_many.true in
-      c.unread.ensures ∙ ap (λ (t : Turn). unread t.attacker_to_play) c.first_turn-turn.ensures
-      ∙ unread_answer q here some about (target_on here.size pos.size q.target size inside)
-      (ap (λ s. outlasts (is_attack q.kind) q.plies q.wide (liberties s here.cells q.target)) size ∙ many);
-  near = λ pos a about.
-      let q = c.args.question.now in
-      let here = after pos c.args.board.now.moves in
-      let some : q.plies ≢ 0 = omega (arith, c.requires.plies) in
-      let a0 = agrees_before c.liberties-known.ensures.stays.grows a in
-      let inside = target_on pos.size (g.L.Look.shows c.args.board.now.look).size q.target
-      (same_size (g.met.L.Look.sized c.args.board.now.look) a0) c.requires.target in
-      AddsNear-in (InActiveArea q here) (rw c.first_turn-turn.ensures at (c.liberties-known.ensures.near pos a))
-      (area_once q here here (suc (q.plies - 1)) (under (first_turn q) neither_may)
-      ((first_nodes q here some).each neither_may (has_all neither_may)) pos.size
-      (size-after pos c.args.board.now.moves) inside (about_stands q here about));
-}
+  -- and with what was seen at its beginning
+  at_start : Agrees (g.L.Look.seen c.cell-stone.new.self) pos
+  at_start = subst (λ t. Agrees (g.L.Look.seen t.look) pos) c.new-board.ensures
+      (agrees_before c.read_on-answer.ensures.answers.stays.grows at_end)
 
--- with too many liberties no play is tried, and the looks lie near the target
-pub returns-then-has_too_many-clause-too_many : goal.returns-then-has_too_many-clause-too_many
-returns-then-has_too_many-clause-too_many g c = λ h.
-    let shown = subst (Agrees (g.L.Look.seen c.liberties-known.new.self.look)) c.liberties-known.ensures.stays.shown
-    (g.met.L.Look.holds c.liberties-known.new.self.look) in (
-      c.unread.ensures ∙ ap (λ (t : Turn). unread t.attacker_to_play) c.first_turn-turn.ensures,
-      c.liberties-known.ensures.count,
-      rw c.first_turn-turn.ensures at (c.liberties-known.ensures.near (g.L.Look.shows c.args.board.now.look) shown),
-    )
+  -- its size is that of the position shown
+  size : pos.size ≡ (g.L.Look.shows c.args.look).size
+  size = same_size (g.met.L.Look.sized c.cell-stone.new.self) at_start ∙ ap (λ (p : BoardState). p.size) c.cell-stone.ensures.same
 
--- plays are tried only where the liberties are not too many
+  -- its target holds the stone that was seen there
+  stone : cell_at pos.cells c.args.question.target ≡ stone_of c.args.question.colour
+  stone =
+      let q = c.args.question in
+      let shown = subst (λ (p : BoardState). cell_at p.cells q.target ≡ c.cell-stone.result) c.cell-stone.ensures.same
+      ((g.met.L.Look.holds c.cell-stone.new.self).each (CellIs q.target c.cell-stone.result) c.cell-stone.ensures.told) in
+      at_start.each (CellIs q.target c.cell-stone.result) c.cell-stone.ensures.told ∙ sym shown ∙ c.requires.stone
+
+  -- the question is about it
+  about : is_about c.args.question pos ≡ true
+  about = about_from c.args.question pos (c.requires.size ∙ sym size) stone
+
+-- the answer is that of the question, which is about the position
+pub returns-clause-over : goal.returns-clause-over
+returns-clause-over g c = λ pos a.
+    let q = c.args.question in
+    let d = (goal.at.returns-clause-over g c).After-finish in
+    subst (λ t. is_about q (after pos t.moves) ≡ true → c.read_on-answer.result ≡ answer_of q (after pos t.moves))
+    c.new-board.ensures (c.read_on-answer.ensures.answers.over pos (at_end g d pos a)) (about g d pos a)
+
+-- the look at the target's cell and those of the reading lie in the active area
+pub returns-clause-near : goal.returns-clause-near
+returns-clause-near g c = λ pos a.
+    let q = c.args.question in
+    let d = (goal.at.returns-clause-near g c).After-finish in
+    let reading = subst (λ t. is_about q (after pos t.moves) ≡ true
+    → AddsNear (g.L.Look.seen t.look) (g.L.Look.seen c.read_on-answer.new.board.look)
+    (InActiveArea q (after pos t.moves)))
+    c.new-board.ensures (c.read_on-answer.ensures.answers.near pos (at_end g d pos a)) (about g d pos a) in
+    let inside = target_on pos.size q.size q.target (size g d pos a ∙ sym c.requires.size) c.requires.on_board in
+    let target = AddsNear-in (InActiveArea q pos) c.cell-stone.ensures.near
+    (λ p h. area_target q pos pos q.plies (first_node q 1)
+    (first 1 (omega arith) (omega arith)) pos.size refl inside
+    (about_stands q pos (about g d pos a)) p (eqb-true p q.target h)) in
+    subst (λ look. AddsNear (g.L.Look.seen c.args.look) (g.L.Look.seen look) (InActiveArea q pos))
+    (sym c.finish.ensures) (AddsNear-trans target reading)
+
+-- with too many liberties no play is tried
 pub returns-clause-too_many : goal.returns-clause-too_many
 returns-clause-too_many g c = λ h.
-    let shown = subst (Agrees (g.L.Look.seen c.liberties-known.new.self.look)) c.liberties-known.ensures.stays.shown
-    (g.met.L.Look.holds c.liberties-known.new.self.look) in
-    absurd (both_ways _ (sym (many_at c.args.question.now _ _ c.first_turn-turn.ensures c.has_too_many.ensures
-    (c.liberties-known.ensures.over (g.L.Look.shows c.args.board.now.look) shown)) ∙ c.if-has_too_many.false) h)
-
--- the moves are read where the liberties are known: their looks lie in the active area too
-pub returns-clause-answers : goal.returns-clause-answers
-returns-clause-answers g c = record {
-  stays = search rules;
-  code = search rules;
-  none = search rules;
-  on_board = search rules;
-  over = λ pos a about.
-      (rw c.liberties-known.ensures.stays.moves at (c.read_known.ensures.over pos a)) about;
-  near = λ pos a about.
-      let q = c.args.question.now in
-      let here = after pos c.args.board.now.moves in
-      let some : q.plies ≢ 0 = omega (arith, c.requires.plies) in
-      let ak = agrees_before c.read_known.ensures.stays.grows a in
-      let a0 = agrees_before c.liberties-known.ensures.stays.grows ak in
-      let inside = target_on pos.size (g.L.Look.shows c.args.board.now.look).size q.target
-      (same_size (g.met.L.Look.sized c.args.board.now.look) a0) c.requires.target in
-      AddsNear-trans
-      (AddsNear-in (InActiveArea q here) (rw c.first_turn-turn.ensures at (c.liberties-known.ensures.near pos ak))
-      (area_once q here here (suc (q.plies - 1)) (under (first_turn q) neither_may)
-      ((first_nodes q here some).each neither_may (has_all neither_may)) pos.size
-      (size-after pos c.args.board.now.moves) inside (about_stands q here about)))
-      ((rw c.liberties-known.ensures.stays.moves at (c.read_known.ensures.near pos a)) about);
-}
-
--- the liberties that were found are the target's, and they are not too many
-pub read_known-requires : goal.read_known-requires
-read_known-requires g c = record {
-  plies = c.requires.plies;
-  room = search rules;
-  target = search rules;
-  liberties = λ pos a.
-      rw c.liberties-known.ensures.stays.moves (c.liberties-known.ensures.over pos a
-      ∙ ap (λ (t : Turn). liberty_points pos.size (after pos c.args.board.now.moves).cells t.target)
-      c.first_turn-turn.ensures);
-  few = sym (c.has_too_many.ensures ∙ ap (λ (t : Turn). outlasts t.attacker_to_play c.args.question.now.plies t.wide
-      (set.len c.liberties-known.result)) c.first_turn-turn.ensures) ∙ c.if-has_too_many.false;
-}
+    let q = c.args.question in
+    let shown = g.L.Look.shows c.args.look in
+    let w = (rw (c.new-board.ensures, c.cell-stone.ensures.same) at c.read_on-answer.ensures.too_many) h in
+    let inside = target_on shown.size q.size q.target (sym c.requires.size) c.requires.on_board in
+    let near : AddsIn (g.L.Look.seen c.args.look) (g.L.Look.seen c.cell-stone.new.self)
+    (neighbourhood_of shown.size shown.cells (alone q.target)) =
+    AddsIn-mono c.cell-stone.ensures.near (λ p. close_alone shown.size shown.cells q.target p inside) in (
+      w.0,
+      c.trials-trials.ensures ∙ w.1,
+      subst (λ look. AddsIn (g.L.Look.seen c.args.look) (g.L.Look.seen look)
+          (neighbourhood_of shown.size shown.cells (alone q.target))) (sym c.finish.ensures)
+          (AddsIn-trans near w.2),
+    )
