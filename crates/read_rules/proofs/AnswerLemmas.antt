@@ -9,12 +9,11 @@ use Rattle.go_rules.specs.declared.Colour.TheVariants.{Black as black, White as 
 use Rattle.go_rules.specs.Strings.{cell_at, same_cell}
 use Rattle.go_rules.specs.Position.{BoardState, stone_of}
 use Rattle.go_rules.proofs.Paths.{same_cell-true, same_cell-from}
-use Rattle.read_rules.specs.declared.question.Kind.{Kind}
 use Rattle.read_rules.specs.declared.question.Spot.{Spot}
 use Rattle.read_rules.specs.declared.question.ReadingQuestion.{ReadingQuestion}
 use Rattle.read_rules.specs.GameTree.{is_captured, attacker_wins, first_move}
 use Rattle.read_rules.specs.Answer.{is_attack, first_node, attains_code, is_about, code_of, first_move_of, move_of}
-use Rattle.read_rules.specs.Answer.{answer_of, colour_of, asked_on}
+use Rattle.read_rules.specs.Answer.{answer_of, colour_of}
 use Rattle.read_rules.specs.GoodMoves.{is_barred, good_move, Reads}
 use Rattle.read_rules.proofs.WinLemmas.{wins-attacker_move, wins-defender_move}
 
@@ -95,39 +94,15 @@ answer_with q pos code at e f =
     ∙ ap (λ (k : ℕ). record { code = k; at = move_of q pos k }) (sym e)
 
 -- a stone is of its own colour
-stone-colour : (cell : Cell) → cell ≢ Empty → cell ≡ stone_of (colour_of cell)
+pub stone-colour : (cell : Cell) → cell ≢ Empty → cell ≡ stone_of (colour_of cell)
 stone-colour Empty h = absurd (h refl)
 stone-colour Black h = refl
 stone-colour White h = refl
 
--- a position of the same size with the same target is one that the question is about
-pub about_asked : (shown pos : BoardState) (kind : Kind) (t plies wide : ℕ) → cell_at shown.cells t ≢ Empty
-    → pos.size ≡ shown.size → cell_at pos.cells t ≡ cell_at shown.cells t
-    → is_about (asked_on shown kind t plies wide) pos ≡ true
-about_asked shown pos kind t plies wide h s e =
-    and_from _ _ (eq-eqb shown.size pos.size (sym s)) (same_cell-from _ _ (e ∙ stone-colour (cell_at shown.cells t) h))
-
--- the question that is asked, by its parts
-pub question_is : (shown : BoardState) (size t plies wide : ℕ) (kind : Kind) (cell : Cell) (colour : Colour)
-    → size ≡ shown.size → colour ≡ colour_of cell → cell ≡ cell_at shown.cells t
-    → record {
-      size = size;
-      kind = kind;
-      target = t;
-      colour = colour;
-      plies = plies;
-      wide = wide;
-    } ≡ asked_on shown kind t plies wide
-question_is shown size t plies wide kind cell colour s o e =
-    ap (λ (n : ℕ). record { size = n; kind = kind; target = t; colour = colour; plies = plies; wide = wide }) s
-    ∙ ap (λ (c : Colour). record {
-      size = shown.size;
-      kind = kind;
-      target = t;
-      colour = c;
-      plies = plies;
-      wide = wide;
-    }) (o ∙ ap colour_of e)
+-- a question is about each position of its size whose target holds a stone of its colour
+pub about_from : (q : ReadingQuestion) (pos : BoardState) → q.size ≡ pos.size
+    → cell_at pos.cells q.target ≡ stone_of q.colour → is_about q pos ≡ true
+about_from q pos size stone = and_from _ _ (eq-eqb q.size pos.size size) (same_cell-from _ _ stone)
 
 -- the question attains a code exactly where the side to play has a good move at its first node
 pub attained_by : (q : ReadingQuestion) (pos : BoardState) (code : ℕ) → q.plies ≢ 0 → is_captured pos q.target ≡ false

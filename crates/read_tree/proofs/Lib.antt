@@ -9,4 +9,3 @@ pub mod OrderLemmas
 pub mod AtariLemmas
 pub mod EscapeLemmas
 pub mod TableLemmas
-pub mod AskedQuestions

@@ -11,7 +11,6 @@ ghost use Rattle.trial_board.specs.Trials.{Stays, after};
 ghost use Rattle.read_rules.specs.Candidates.{near_candidates};
 ghost use Rattle.read_tree.specs.Stages.{is_capture, is_other};
 
-use crate::apart::apart_from;
 use go_base::points::PointSet;
 use go_base::{Look, Point};
 use read_moves::wide_candidates;
@@ -29,7 +28,7 @@ pub fn captures_of<L: Look>(board: &mut Trial<L>, target: Point, known: &PointSe
         → AddsIn (L.seen board.old.look) (L.seen board.new.look)
         (neighbourhood_twice pos.size (after pos board.old.moves).cells target) }
 {
-    apart_from(&board.surroundings(target).last_liberties, known)
+    board.surroundings(target).last_liberties.difference(known)
 }
 
 /// The wide candidates of the target that are neither its liberties nor captures, which both are known.
@@ -51,6 +50,7 @@ pub fn others_of<L: Look>(
         → AddsIn (L.seen board.old.look) (L.seen board.new.look)
         (near_candidates pos.size (after pos board.old.moves).cells target) }
 {
-    let wide = wide_candidates(board, target, known);
-    apart_from(&apart_from(&wide, known), captures)
+    wide_candidates(board, target, known)
+        .difference(known)
+        .difference(captures)
 }

@@ -1,6 +1,7 @@
 -- The last liberties that were found, but for the known liberties, are the captures.
 use Rattle.std.proofs.Common.{◌∙◌, ◌&&◌, not, ap, sym}
 use Rattle.std.specs.FinSet as set
+use Rattle.std.specs.Cmp.{nat_cmp_total}
 use Rattle.go_base.specs.Facts.{agrees_before}
 use Rattle.go_base.specs.Surroundings.{is_last_liberty_of_enemy}
 use Rattle.trial_board.specs.Trials.{after}
@@ -15,7 +16,8 @@ returns-clause-over g c = λ pos a p.
     let size = size-after pos c.args.board.now.moves in
     let its = its_liberty pos.size here c.args.target c.args.known.now size
     (c.requires.liberties pos (agrees_before c.surroundings.ensures.stays.grows a)) p in
-    c.apart_from.ensures p
+    ap (λ t. set.contains t p) c.difference.ensures
+    ∙ set.contains-difference nat_cmp_total _ c.args.known.now p
     ∙ ap (λ b. b && not (set.contains c.args.known.now p)) ((c.surroundings.ensures.over pos a).1 p
     ∙ ap (λ n. is_last_liberty_of_enemy n here.cells c.args.target p) (sym size))
     ∙ ap (λ b. is_last_liberty_of_enemy here.size here.cells c.args.target p && not b) its

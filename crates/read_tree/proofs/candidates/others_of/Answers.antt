@@ -1,6 +1,7 @@
 -- The wide candidates, but for the known liberties and the captures, are the others.
 use Rattle.std.proofs.Common.{◌∙◌, ◌&&◌, not, ap}
 use Rattle.std.specs.FinSet as set
+use Rattle.std.specs.Cmp.{nat_cmp_total}
 use Rattle.go_base.specs.Facts.{agrees_before}
 use Rattle.trial_board.specs.Trials.{after}
 use Rattle.trial_board.proofs.AfterLemmas.{size-after}
@@ -13,12 +14,14 @@ use Rattle.read_tree.proofs.candidates.others_of.Goals as goal
 pub returns-clause-over : goal.returns-clause-over
 returns-clause-over g c = λ pos a p.
     let here = after pos c.args.board.now.moves in
-    let a0 = agrees_before c.wide_candidates-wide.ensures.stays.grows a in
+    let a0 = agrees_before c.wide_candidates.ensures.stays.grows a in
     let its = its_liberty pos.size here c.args.target c.args.known.now (size-after pos c.args.board.now.moves)
     (c.requires.liberties pos a0) p in
-    c.apart_from-2.ensures p
-    ∙ ap (λ b. b && not (set.contains c.args.captures.now p)) (c.apart_from.ensures p
-    ∙ ap (λ b. b && not (set.contains c.args.known.now p)) (c.wide_candidates-wide.ensures.over pos a p)
+    ap (λ t. set.contains t p) c.difference-2.ensures
+    ∙ set.contains-difference nat_cmp_total _ c.args.captures.now p
+    ∙ ap (λ b. b && not (set.contains c.args.captures.now p)) (ap (λ t. set.contains t p) c.difference.ensures
+    ∙ set.contains-difference nat_cmp_total _ c.args.known.now p
+    ∙ ap (λ b. b && not (set.contains c.args.known.now p)) (c.wide_candidates.ensures.over pos a p)
     ∙ ap (λ b. is_wide_candidate here c.args.target p && not b) its)
     ∙ ap (λ b. (is_wide_candidate here c.args.target p && not (is_liberty here.size here.cells c.args.target p))
     && not b) (c.requires.captures pos a0 p)

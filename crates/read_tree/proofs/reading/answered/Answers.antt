@@ -3,16 +3,15 @@ use Rattle.std.proofs.Common.{◌≡◌, ◌∙◌, true, refl, ap, sym, subst, 
 use Rattle.std.proofs.lemmas.Bool.{eqb-true}
 use Rattle.go_rules.specs.Strings.{cell_at}
 use Rattle.go_rules.specs.Position.{BoardState, stone_of}
-use Rattle.go_base.specs.Facts.{Agrees, AddsIn, AddsIn-trans, AddsIn-mono, CellIs, same_size}
+use Rattle.go_base.specs.Facts.{AddsIn, AddsIn-trans, AddsIn-mono, CellIs, same_size}
 use Rattle.go_base.specs.Views.{alone}
 use Rattle.go_base.proofs.PointNeighbourhoods.{close_alone}
 use Rattle.go_rules.specs.Neighbourhood.{neighbourhood_of}
 use Rattle.read_rules.specs.declared.question.ReadingQuestion.{ReadingQuestion}
 use Rattle.read_rules.specs.Answer.{is_about, asked_on, first_node}
 use Rattle.read_rules.specs.ActiveArea.{first, InActiveArea, AddsNear}
-use Rattle.read_rules.proofs.AnswerLemmas.{about_stands}
+use Rattle.read_rules.proofs.AnswerLemmas.{about_stands, about_from, stone-colour}
 use Rattle.read_rules.proofs.AreaLemmas.{AddsNear-in, AddsNear-trans, area_target, target_on}
-use Rattle.read_tree.proofs.AskedQuestions.{about_from, own_colour}
 use Rattle.read_tree.proofs.reading.answered.Goals as goal
 
 -- the question is about the position shown
@@ -22,7 +21,7 @@ read-requires g c = record {
       ∙ ap (λ (p : BoardState). p.size) (sym c.asked-question.ensures.shown);
   on_board = rw c.asked-question.ensures.question c.requires.on_board;
   stone = rw (c.asked-question.ensures.shown, c.asked-question.ensures.question)
-      (own_colour (cell_at (g.L.Look.shows c.args.look).cells c.args.target) c.requires.stone);
+      (stone-colour (cell_at (g.L.Look.shows c.args.look).cells c.args.target) c.requires.stone);
   plies = rw c.asked-question.ensures.question c.args.depths.some_plies;
   few = rw c.asked-question.ensures.question c.args.depths.few_plies;
 }

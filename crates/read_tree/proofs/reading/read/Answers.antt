@@ -5,15 +5,14 @@ use Rattle.go_rules.specs.Strings.{cell_at}
 use Rattle.go_rules.specs.Position.{BoardState, stone_of}
 use Rattle.go_base.specs.Facts.{Agrees, AddsIn, AddsIn-trans, AddsIn-mono, CellIs, agrees_before, same_size}
 use Rattle.go_base.specs.Views.{alone}
+use Rattle.go_base.proofs.AddedFacts.{cell_near}
 use Rattle.go_base.proofs.PointNeighbourhoods.{close_alone}
 use Rattle.go_rules.specs.Neighbourhood.{neighbourhood_of}
 use Rattle.trial_board.specs.Trials.{after}
-use Rattle.read_rules.specs.declared.question.Answer.{Answer}
 use Rattle.read_rules.specs.Answer.{is_about, first_node, answer_of}
 use Rattle.read_rules.specs.ActiveArea.{first, InActiveArea, AddsNear}
-use Rattle.read_rules.proofs.AnswerLemmas.{about_stands}
+use Rattle.read_rules.proofs.AnswerLemmas.{about_stands, about_from}
 use Rattle.read_rules.proofs.AreaLemmas.{AddsNear-in, AddsNear-trans, area_target, target_on}
-use Rattle.read_tree.proofs.AskedQuestions.{about_from}
 use Rattle.read_tree.proofs.reading.read.Given.{Over}
 use Rattle.read_tree.proofs.reading.read.Goals as goal
 use Rattle.read_tree.proofs.reading.read.Goals.{After-finish}
@@ -64,7 +63,7 @@ returns-clause-near g c = λ pos a.
     (InActiveArea q (after pos t.moves)))
     c.new-board.ensures (c.read_on-answer.ensures.answers.near pos (at_end g d pos a)) (about g d pos a) in
     let inside = target_on pos.size q.size q.target (size g d pos a ∙ sym c.requires.size) c.requires.on_board in
-    let target = AddsNear-in (InActiveArea q pos) c.cell-stone.ensures.near
+    let target = AddsNear-in (InActiveArea q pos) (cell_near c.cell-stone.ensures.only)
     (λ p h. area_target q pos pos q.plies (first_node q 1)
     (first 1 (omega arith) (omega arith)) pos.size refl inside
     (about_stands q pos (about g d pos a)) p (eqb-true p q.target h)) in
@@ -80,7 +79,7 @@ returns-clause-too_many g c = λ h.
     let inside = target_on shown.size q.size q.target (sym c.requires.size) c.requires.on_board in
     let near : AddsIn (g.L.Look.seen c.args.look) (g.L.Look.seen c.cell-stone.new.self)
     (neighbourhood_of shown.size shown.cells (alone q.target)) =
-    AddsIn-mono c.cell-stone.ensures.near (λ p. close_alone shown.size shown.cells q.target p inside) in (
+    AddsIn-mono (cell_near c.cell-stone.ensures.only) (λ p. close_alone shown.size shown.cells q.target p inside) in (
       w.0,
       c.trials-trials.ensures ∙ w.1,
       subst (λ look. AddsIn (g.L.Look.seen c.args.look) (g.L.Look.seen look)
