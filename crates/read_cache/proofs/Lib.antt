@@ -6,3 +6,4 @@ pub mod MapEntries
 pub mod Sizes
 pub mod CacheSoundness
 pub mod StandingVariants
+pub mod KeepingLemmas

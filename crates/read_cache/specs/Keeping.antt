@@ -1,0 +1,67 @@
+-- How asking through a cache changes what is kept and what is counted: an answer was kept, or it was fresh, and then it
+-- is kept first or its keeping was refused.
+use Rattle.std.specs.Prelude.{◌≡◌, ℕ, ◌+◌, ◌-◌, ◌^◌, ◌≤◌, ◌⊎◌, Bool, None, min}
+use Rattle.go_rules.specs.Position.{BoardState}
+use Rattle.go_base.specs.Facts.{Agrees}
+use Rattle.go_base.specs.AmongFacts.{told}
+use Rattle.go_base.specs.declared.facts.Facts.{Facts}
+use Rattle.read_cache.specs.declared.variants.Variant.{Variant}
+use Rattle.read_cache.specs.Kept.{Kept, IsFound, IsMissing, kept_first, variants_of, no_questions}
+
+-- the greatest value of a count
+abbrev pub most_counted : ℕ
+most_counted = 2 ^ 64 - 1
+
+-- a count raised by n; it stops at the greatest value
+abbrev pub raised : ℕ → ℕ → ℕ
+raised count n = min (count + n) most_counted
+
+-- how many answers were fresh, how many of these were not kept for want of memory, and what is kept
+pub record Keeping (Q A : Type 0) : Type 0 where
+  pub fresh : ℕ
+  pub refused : ℕ
+  pub kept : Kept Q A
+
+-- nothing was asked, and of at most so many questions answers may be kept
+abbrev pub first_keeping : {Q A : Type 0} → ℕ → Keeping Q A
+first_keeping capacity = record { fresh = 0; refused = 0; kept = no_questions capacity }
+
+module _ {Q A : Type 0} (eq : Q → Q → Bool) (q : Q) where
+  -- the answer came from those that are kept: no count has changed
+  pub record WasKept (pos : BoardState) (answer : A) (old new : Keeping Q A) : Type 0 where
+    pub found : IsFound eq q pos old.kept new.kept answer
+    pub fresh : new.fresh ≡ old.fresh
+    pub refused : new.refused ≡ old.refused
+
+  -- the answer is now the first variant of the first kept question, with facts that hold on the position and on which
+  -- it rests
+  pub record IsKeptFirst (Rests : Q → Variant A → Type 0) (pos : BoardState) (answer : A) (old new : Keeping Q A)
+      : Type 0 where
+    pub facts : Facts
+    pub holds : Agrees (told facts) pos
+    pub rests : Rests q (record { facts = facts; answer = answer })
+    pub kept : new.kept ≡ kept_first eq q (record { facts = facts; answer = answer }) old.kept
+    pub refused : new.refused ≡ old.refused
+
+  -- there was no memory for the answer, whose question was not kept, and this was counted
+  pub record WasRefused (old new : Keeping Q A) : Type 0 where
+    pub not_kept : variants_of eq q old.kept ≡ None
+    pub kept : new.kept ≡ old.kept
+    pub refused : new.refused ≡ raised old.refused 1
+
+  -- the answer was fresh: no kept variant stands on the position, and it was counted, and kept or refused
+  pub record WasFresh (Rests : Q → Variant A → Type 0) (pos : BoardState) (answer : A) (old new : Keeping Q A)
+      : Type 0 where
+    pub missing : IsMissing eq q pos old.kept
+    pub fresh : new.fresh ≡ raised old.fresh 1
+    pub keeping : IsKeptFirst Rests pos answer old new ⊎ WasRefused old new
+
+  -- new is old after the question was asked once
+  abbrev pub WasAsked : (Q → Variant A → Type 0) → BoardState → A → Keeping Q A → Keeping Q A → Type 0
+  WasAsked Rests pos answer old new = WasFresh Rests pos answer old new ⊎ WasKept pos answer old new
+
+-- new is old after any number of questions: as many may be kept, and no count has fallen
+pub record Follows {Q A : Type 0} (old new : Keeping Q A) : Type 0 where
+  pub capacity : new.kept.1 ≡ old.kept.1
+  pub fresh : old.fresh ≤ new.fresh
+  pub refused : old.refused ≤ new.refused
