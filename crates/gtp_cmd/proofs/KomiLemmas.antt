@@ -7,7 +7,7 @@ use Rattle.gtp_cmd.specs.Words.{is_kept, kept}
 use Rattle.gtp_cmd.specs.Komi.{komi_room}
 use Rattle.gtp_cmd.specs.KomiTexts.{IsKomiText}
 use Rattle.gtp_cmd.specs.declared.komi.KomiText.TheInside.{Inside}
-use Rattle.gtp_cmd.proofs.NumberLemmas.{kept-cut}
+use Rattle.vertices.proofs.NumberLemmas.{kept-cut}
 
 -- one zero behind the text gives way to its next byte
 pub IsKomiText-push : (a : Inside) (b : ℕ) → IsKomiText a → a.len < komi_room

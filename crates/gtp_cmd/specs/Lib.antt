@@ -1,6 +1,4 @@
 pub mod Words
-pub mod RawWords
-pub mod Vertices
 pub mod Colours
 pub mod Komi
 pub mod KomiTexts
@@ -9,3 +7,4 @@ pub mod Rooms
 pub mod Commands
 pub mod CodeRows
 pub mod Within
+pub use Rattle.vertices.specs.Vertices

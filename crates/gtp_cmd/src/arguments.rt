@@ -1,17 +1,15 @@
 //! What the words after a command's name say: colours, vertices, moves and numbers.
 
-ghost use Rattle.std.specs.Prelude.{◌≡◌, Some};
+ghost use Rattle.std.specs.Prelude.{◌≡◌};
 ghost use Rattle.gtp_cmd.specs.Words.{kept, plain, words_of, number_of};
-ghost use Rattle.gtp_cmd.specs.RawWords.{capped};
+ghost use Rattle.vertices.specs.RawWords.{capped};
 ghost use Rattle.gtp_cmd.specs.Colours.{colour_of};
-ghost use Rattle.gtp_cmd.specs.Vertices.{row_number_of, point_of, vertex_of, target_of};
+ghost use Rattle.gtp_cmd.specs.Vertices.{vertex_of};
 ghost use Rattle.gtp_cmd.specs.Commands.{first_argument, size_of, move_of, number_between, depths_of};
 
-use crate::numbers::number;
-use crate::vertices::column_named;
-use crate::words::{byte_count, first_byte, next_word, spells_in_either_case};
 use go_base::size::MAX_SIZE;
 use go_base::{Colour, Point, Size};
+use vertices::{next_word, number, spells_in_either_case, target_named, vertex_named};
 
 /// The greatest number of plies that a reading may have.
 const MAX_PLIES: u8 = 200;
@@ -30,48 +28,6 @@ fn colour_named(word: &[u8]) -> Option<Colour>
     } else {
         None
     }
-}
-
-/// The number of a row that one or two digits write.
-fn row_number(digits: &[u8]) -> Option<u32>
-    ensures { result ≡ capped (row_number_of (kept digits.now)) }
-{
-    if byte_count(digits) > 2 {
-        return None;
-    }
-    number(digits)
-}
-
-/// The point in a column and in the row of this number, counted from below.
-fn point(size: Size, column: u8, number: u32) -> Option<Point>
-    ensures { result ≡ point_of size (Some column) (Some number) }
-{
-    let rows = size.get();
-    if number == 0 || number > u32::from(rows) {
-        return None;
-    }
-    size.point(rows - number as u8, column)
-}
-
-/// The point that a word names.
-fn vertex_named(word: &[u8], size: Size) -> Option<Point>
-    ensures { result ≡ vertex_of size (kept word.now) }
-{
-    let (letter, digits) = first_byte(word)?;
-    let column = column_named(letter)?;
-    let number = row_number(digits)?;
-    point(size, column, number)
-}
-
-/// Where a move goes by a word: the pass, which is no point, or a vertex.
-fn target_named(word: &[u8], size: Size) -> Option<Option<Point>>
-    ensures { result ≡ target_of size (kept word.now) }
-{
-    if spells_in_either_case(word, b"pass") {
-        return Some(None);
-    }
-    let at = vertex_named(word, size)?;
-    Some(Some(at))
 }
 
 /// The colour that the first word names.

@@ -11,9 +11,9 @@ ghost use Rattle.gtp_cmd.specs.Commands.{command_in, named, names_text, command_
 use crate::arguments::{colour, colour_and_target, depths, first_number, size_numbered, vertex};
 use crate::komi::KomiText;
 use crate::refusals::RefuseText;
-use crate::words::{byte_count, next_word, spells};
 use go_base::{Bytes, Colour, NoMemory, Point, Size};
 use std::alloc::Global;
+use vertices::{byte_count, next_word, spells};
 
 /// Which command a word names, in the order in which the commands are listed.
 #[derive(Clone, Copy, Debug, PartialEq, Eq)]

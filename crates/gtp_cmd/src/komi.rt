@@ -6,8 +6,8 @@ ghost use Rattle.std.specs.Char.{is_ascii_digit};
 ghost use Rattle.gtp_cmd.specs.Words.{kept, is_number};
 ghost use Rattle.gtp_cmd.specs.Komi.{point, komi_room, without_sign, is_decimal, is_komi, komi_of};
 
-use crate::bytes::is_kept;
 use std::marker::Model;
+use vertices::is_kept;
 
 /// How many bytes a komi may have.
 const MAX_KOMI: usize = 32;

@@ -6,22 +6,17 @@
 #![tactic(auto)]
 
 mod arguments;
-mod bytes;
 mod commands;
+mod ids;
 mod komi;
 pub mod laws;
-mod numbers;
 mod parser;
 mod refusals;
 mod replies;
-mod room;
-mod vertices;
-mod words;
 
 pub use commands::{Command, CommandName, Parsed, names_text};
 pub use komi::KomiText;
 pub use parser::parse;
 pub use refusals::RefuseText;
 pub use replies::{refusal, short, success};
-pub use room::Short;
-pub use vertices::{column_letter, vertex_text};
+pub use vertices::{Short, column_letter, vertex_text};

@@ -6,10 +6,10 @@ ghost use Rattle.gtp_cmd.specs.Commands.{said, parsed_of};
 ghost use Rattle.gtp_cmd.specs.Within.{SaysWithin};
 
 use crate::commands::{Command, Parsed, arguments, named};
-use crate::numbers::id;
+use crate::ids::id;
 use crate::refusals::RefuseText;
-use crate::words::{before_comment, next_word};
 use go_base::Size;
+use vertices::{before_comment, next_word};
 
 /// What a command's word and the text behind it say.
 fn called(id: Option<u32>, word: &[u8], text: &[u8], size: Size) -> Parsed
@@ -71,9 +71,9 @@ pub fn parse(line: &[u8], size: Size) -> Parsed
 mod tests {
     use super::*;
     use crate::komi::KomiText;
-    use crate::vertices::vertex_text;
     use go_base::Colour;
     use std::test::Fail;
+    use vertices::vertex_text;
 
     /// The refusal of a line.
     fn refused(id: Option<u32>, text: RefuseText) -> Parsed {

@@ -5,9 +5,9 @@ ghost use Rattle.gtp_cmd.specs.Replies.{id_text, success_text, refusal_text, tex
 ghost use Rattle.gtp_cmd.specs.Rooms.{result_room};
 
 use crate::refusals::RefuseText;
-use crate::room::Short;
 use go_base::{Bytes, NoMemory};
 use itoa::Buffer;
+use vertices::Short;
 
 /// The first byte of a reply, and the id.
 fn head(first: &[u8], id: Option<u32>) -> Short

@@ -6,9 +6,9 @@ ghost use Rattle.gtp_io.specs.Outside.{IsCounted};
 ghost use Rattle.run_notes.specs.Notes.{counts_line, notes_text, sent_line};
 ghost use Rattle.run_notes.specs.Putting.{IsNoted, PutsFront};
 
-use crate::pieces::{labelled, put_pieces, text};
-use gtp_cmd::Short;
+use crate::pieces::{labelled, put_pieces};
 use gtp_io::{Failed, Sink};
+use vertices::Short;
 
 /// The counts of a run.
 #[derive(Clone, Copy, Debug, PartialEq, Eq)]
@@ -43,7 +43,7 @@ fn put_counts<D: Sink>(notes: &mut D, counts: Counts) -> Result<(), Failed>
         labelled(b" fresh ", counts.fresh),
         labelled(b" trials ", counts.trials),
         labelled(b" refused ", counts.refused),
-        text(b"\n"),
+        Short::of(b"\n"),
     ];
     put_pieces(notes, &pieces)
 }
@@ -57,7 +57,7 @@ fn put_sent<D: Sink>(notes: &mut D, sent: Sent) -> Result<(), Failed>
     let pieces = [
         labelled(b"lines ", sent.lines),
         labelled(b" bytes ", sent.bytes),
-        text(b"\n"),
+        Short::of(b"\n"),
     ];
     put_pieces(notes, &pieces)
 }

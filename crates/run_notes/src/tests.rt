@@ -2,10 +2,10 @@
 ghost use Rattle.std.specs.Prelude.{◌<◌};
 
 use crate::{Counts, Sent, put_notes};
-use gtp_cmd::Short;
 use gtp_io::Page;
 use std::alloc::Global;
 use std::test::Fail;
+use vertices::Short;
 
 const COUNTS: Counts = Counts {
     readings: 2,
@@ -20,8 +20,7 @@ const SENT: Sent = Sent { lines: 3, bytes: 9 };
 fn noted(alloc: Global, most: usize, fails: u64) -> Result<Page, Fail>
     requires { 0 < most }
 {
-    let mut last = Short::new();
-    last.extend(b"input failed\n");
+    let last = Short::of(b"input failed\n");
     let mut page = Page::new(alloc, 200, most, vec![in alloc; fails]?)?;
     put_notes(&mut page, Some(COUNTS), Some(SENT), &[last]);
     Ok(page)

@@ -1,5 +1,5 @@
 //! Replies that wait, so that those of many lines go out in one call of the output.
-ghost use Rattle.std.specs.Prelude.{◌≡◌, ◌+◌, ◌<◌, ◌≤◌, ◌++◌, true, length, take, OnOk, IfErr, Option, List, ℕ};
+ghost use Rattle.std.specs.Prelude.{◌≡◌, ◌+◌, ◌<◌, ◌≤◌, true, length, OnOk, IfErr, Option, List, ℕ};
 ghost use Rattle.gtp_io.specs.Outside.{IsCounted};
 ghost use Rattle.run_notes.specs.declared.notes.Sent.{Sent};
 ghost use Rattle.session.specs.Tallies.{kept_sum};
@@ -10,6 +10,7 @@ ghost use Rattle.session.specs.Waiting.{MayStop, Sends, Stays};
 use gtp_io::Sink;
 use run_notes::{Counts, Sent};
 use std::marker::Model;
+use vertices::write_at;
 
 /// How many bytes may wait.
 const ROOM: usize = 4096;
@@ -96,14 +97,6 @@ fn cut_at(marks: &[ReplyMark], place: usize) -> (usize, Counts)
         }
     }
     (marks.len(), NO_MARK.counts)
-}
-
-/// Writes a text over the bytes from a place on.
-fn write_at(bytes: &mut [u8], place: usize, more: &[u8])
-    requires { place + length more.now ≤ length bytes.old }
-    ensures { take (place + length more.now) bytes.new ≡ take place bytes.old ++ more.now }
-{
-    bytes[place..place + more.len()].copy_from_slice(more);
 }
 
 /// Puts a reply behind no other, and counts it where it went out whole.

@@ -2,7 +2,7 @@
 use Rattle.std.proofs.Common.{◌≡◌, ◌≤◌, ◌<◌, ◌+◌, ◌-◌, ◌*◌, ◌/◌, ◌%◌, ◌^◌, ◌==◌, ℕ, zero, suc, Bool, true, false, cond}
 use Rattle.std.proofs.Common.{List, ◌++◌, length, refl, sym, ap, subst, ◌∙◌, arith, codes, length-append}
 use Rattle.std.proofs.lemmas.Fmt.{decimal_digit}
-use Rattle.gtp_cmd.specs.Vertices.{vertex_text}
+use Rattle.vertices.specs.Vertices.{vertex_text}
 use Rattle.workload.specs.GeneratedLines.{rows, number_of_line, point_of_number, colour_of_line, line_with, line_at}
 use Rattle.workload.specs.GeneratedLines.{lines_after, ended, text_of, generated_text}
 

@@ -2,7 +2,7 @@
 -- of numbers chooses the vertex of each line, and the place of the line in its sixteen chooses what it asks.
 use Rattle.std.specs.Prelude.{ℕ, ◌+◌, ◌*◌, ◌/◌, ◌%◌, ◌^◌, ◌==◌, zero, suc, List, [], ◌∷◌, ◌++◌, if◌then◌else◌, codes}
 use Rattle.std.specs.List.{flat_map}
-use Rattle.gtp_cmd.specs.Vertices.{vertex_text}
+use Rattle.vertices.specs.Vertices.{vertex_text}
 
 -- how many rows the board of the generated lines has
 abbrev pub rows : ℕ

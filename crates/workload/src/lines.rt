@@ -1,11 +1,11 @@
 //! The generated lines, one at a time.
 ghost use Rattle.std.specs.Prelude.{◌≡◌, ◌+◌, ◌*◌, ◌<◌, ◌≤◌, ◌^◌, ◌++◌, codes, length};
-ghost use Rattle.gtp_cmd.specs.Vertices.{vertex_text};
+ghost use Rattle.vertices.specs.Vertices.{vertex_text};
 ghost use Rattle.workload.specs.GeneratedLines.{colour_of_line, ended, line_with, next_number, opening_lines};
 ghost use Rattle.workload.specs.GeneratedLines.{rows, text_of};
 
 use go_base::Size;
-use gtp_cmd::{Short, vertex_text};
+use vertices::{Short, vertex_text};
 
 /// How many rows the board has.
 const ROWS: u8 = 9;
@@ -16,16 +16,6 @@ pub(crate) fn next_number(x: u32) -> u32
     ensures small { result < 2 ^ 31 }
 {
     ((u64::from(x) * 1_103_515_245 + 12_345) % 0x8000_0000) as u32
-}
-
-/// A short text of these bytes.
-fn text(bytes: &[u8]) -> Short
-    requires { length bytes.now ≤ 48 }
-    ensures { result ≡ bytes.now }
-{
-    let mut text = Short::new();
-    text.extend(bytes);
-    text
 }
 
 /// The size of the board.
@@ -73,11 +63,11 @@ fn bare_line(i: u32, x: u32) -> Short
 {
     let point = (x / 65_536 % 81) as u8;
     match i % 16 {
-        4 => text(b"undo"),
-        8 => with_vertex(text(b"attack "), point),
-        12 => with_vertex(text(b"defend "), point),
-        0 => with_colour(text(b"match_patterns "), i),
-        _ => with_vertex(with_blank(with_colour(text(b"play "), i)), point),
+        4 => Short::of(b"undo"),
+        8 => with_vertex(Short::of(b"attack "), point),
+        12 => with_vertex(Short::of(b"defend "), point),
+        0 => with_colour(Short::of(b"match_patterns "), i),
+        _ => with_vertex(with_blank(with_colour(Short::of(b"play "), i)), point),
     }
 }
 
@@ -95,5 +85,5 @@ pub(crate) fn line(i: u32, x: u32) -> Short
 pub(crate) fn opening() -> Short
     ensures { result ≡ text_of opening_lines }
 {
-    text(b"boardsize 9\ndepths 5 1\n")
+    Short::of(b"boardsize 9\ndepths 5 1\n")
 }

@@ -4,7 +4,7 @@ ghost use Rattle.workload.specs.GeneratedLines.{generated_text};
 ghost use Rattle.workload.specs.Remaining.{AreMade, left_from};
 
 use crate::lines::{line, next_number, opening};
-use gtp_cmd::Short;
+use vertices::Short;
 
 /// How many lines there are and how many were made, and what is left of the last of these. The lines that set the board
 /// up come before the first that is made.

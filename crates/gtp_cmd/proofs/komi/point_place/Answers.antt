@@ -1,6 +1,6 @@
 use Rattle.std.proofs.Common.{eqb, eq-eqb}
 use Rattle.gtp_cmd.specs.Komi.{point}
-use Rattle.gtp_cmd.proofs.WordLemmas.{found_first, found_none}
+use Rattle.vertices.proofs.WordLemmas.{found_first, found_none}
 use Rattle.gtp_cmd.proofs.komi.point_place.Goals as goal
 
 -- this is the first point

@@ -1,7 +1,0 @@
-use Rattle.std.proofs.Common.{◌≡◌, ℕ, ◌<◌, false, get_or, eqb}
-use Rattle.gtp_cmd.specs.Words.{hash}
-use Rattle.gtp_cmd.proofs.words.comment_start.Given as goal
-
--- no byte so far was the one sought
-abbrev pub invariant-loop-i : goal.invariant-loop-i
-invariant-loop-i l = (k : ℕ) → k < l.i → eqb (get_or l.line k 0) hash ≡ false

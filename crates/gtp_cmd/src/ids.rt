@@ -1,0 +1,17 @@
+//! Ids, which are numbers of digits alone.
+
+ghost use Rattle.std.specs.Prelude.{◌≡◌};
+ghost use Rattle.gtp_cmd.specs.Words.{kept, id_of};
+
+use vertices::number;
+
+/// The greatest number of an id.
+const MAX_ID: u32 = 2_147_483_647;
+
+/// The id that a word is.
+pub fn id(word: &[u8]) -> Option<u32>
+    ensures { result ≡ id_of (kept word.now) }
+{
+    let id = number(word)?;
+    if id > MAX_ID { None } else { Some(id) }
+}

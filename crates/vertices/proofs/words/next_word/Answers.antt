@@ -1,0 +1,10 @@
+use Rattle.std.proofs.Common.{arith}
+use Rattle.std.proofs.lemmas.Bool.Decides.{nat_tests}
+use Rattle.vertices.proofs.WordLemmas.{next_from}
+use Rattle.vertices.proofs.words.next_word.Goals as goal
+
+-- the front of what was not skipped is the first word
+pub returns : goal.returns
+returns c =
+    next_from c.args.text.now c.skipped.result c.word_len-len.result c.skipped.ensures.words c.skipped.ensures.word
+    (grind (arith, nat_tests)) c.word_len-len.ensures.first

@@ -1,0 +1,4 @@
+pub mod Words
+pub mod RawWords
+pub mod Vertices
+pub mod Rooms
