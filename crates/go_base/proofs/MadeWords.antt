@@ -1,5 +1,6 @@
 -- Words that are made word by word of two others.
-use Rattle.std.proofs.Common.{◌≡◌, ℕ, ◌+◌, ◌-◌, ◌^◌, ◌/◌, ◌%◌, ◌<◌, ◌≤◌, ◌&&◌, Bool, false, not, eqb, List, length, get_or, bit_and}
+use Rattle.std.proofs.Common.{◌≡◌, ℕ, ◌+◌, ◌-◌, ◌^◌, ◌/◌, ◌%◌, ◌<◌, ◌≤◌}
+use Rattle.std.proofs.Common.{◌&&◌, Bool, false, not, eqb, List, length, get_or, bit_and}
 use Rattle.std.proofs.Common.{min, zero, suc, refl, sym, ap, arith, inl, inr, ◌∙◌, get_or-set_same, get_or-set_other}
 use Rattle.std.proofs.Math.ListN.{set, get_or-eq_default, length-set}
 use Rattle.std.proofs.lemmas.Bool.{cases_eq, cases_lt}

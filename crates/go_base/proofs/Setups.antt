@@ -25,7 +25,8 @@ use Rattle.go_rules.proofs.Tests.{and-false}
 use Rattle.go_base.proofs.Marks.{no_members}
 use Rattle.go_base.specs.Flats.{KeepsRest}
 use Rattle.go_base.specs.Positions.{HoldsWith, padding, position_on}
-use Rattle.go_base.specs.Setups.{is_dead_at, has_dead_string, have_common_point, cell_among, cells_with, setup_of, AreAlive}
+use Rattle.go_base.specs.Setups.{is_dead_at, has_dead_string, have_common_point}
+use Rattle.go_base.specs.Setups.{cell_among, cells_with, setup_of, AreAlive}
 use Rattle.go_base.specs.declared.view.Flat.{Flat}
 use Rattle.go_base.proofs.SidesOfPoints.{square_small}
 
