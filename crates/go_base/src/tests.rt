@@ -312,6 +312,15 @@ fn bytes_and_sets_grow(rt: HostRuntime) -> Result<(), Fail> {
     assert_eq!(rt; points.has(63), false);
     assert_eq!(rt; points.first_from(0), Some(64));
     assert_eq!(rt; points.first_from(65), Some(624));
+    let mut others = PointSet::new();
+    others.add(64);
+    others.add(65);
+    let shared = points.intersection(&others);
+    assert_eq!(rt; shared.count(), 1);
+    assert_eq!(rt; shared.first_from(0), Some(64));
+    let left = points.difference(&others);
+    assert_eq!(rt; left.count(), 1);
+    assert_eq!(rt; left.first_from(0), Some(624));
     Ok(())
 }
 
