@@ -55,7 +55,8 @@ loop-side-preserved g c =
             let a0 = agrees_before w.lives_without.ensures.stays.grows a1 in
             let e = same_size (g.met.L.Look.sized c.loop-side.board.look) a0 ∙ ap (λ x. x.size) i.stays.shown in
             let on = subst (λ n. l < n * n) (sym e) c.requires in
-            let at = side_at pos.size l side w.in-Some.beside e c.size-size.ensures c.neighbour.ensures.value w.in-Some.is in
+            let at = side_at pos.size l side w.in-Some.beside e c.size-size.ensures
+            c.neighbour.ensures.value w.in-Some.is in
             let beside = neighbour_at-near pos.size l side w.in-Some.beside on at in
             let came = rw i.stays.moves at (w.lives_without.ensures.near pos a1) in
             rw w.board-is (AddsIn-trans (i.near pos a0) (AddsIn-mono came
@@ -64,7 +65,8 @@ loop-side-preserved g c =
             let a1 = rw w.board-is at a in
             let a0 = agrees_before w.lives_without.ensures.stays.grows a1 in
             let e = same_size (g.met.L.Look.sized c.loop-side.board.look) a0 ∙ ap (λ x. x.size) i.stays.shown in
-            let at = side_at pos.size l side w.in-Some.beside e c.size-size.ensures c.neighbour.ensures.value w.in-Some.is in
+            let at = side_at pos.size l side w.in-Some.beside e c.size-size.ensures
+            c.neighbour.ensures.value w.in-Some.is in
             let cells = (after pos c.args.board.now.moves).cells in
             let came = rw i.stays.moves at (w.lives_without.ensures.over pos a1
             w.if-not-lives_without.false) in

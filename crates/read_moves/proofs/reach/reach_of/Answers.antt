@@ -46,7 +46,8 @@ loop-side-preserved g c =
             let a0 = agrees_before w.reach_of_string.ensures.stays.grows a1 in
             let e = same_size (g.met.L.Look.sized c.loop-side.board.look) a0 ∙ ap (λ x. x.size) i.stays.shown in
             let on = subst (λ n. l < n * n) (sym e) c.requires in
-            let at = side_at pos.size l side w.in-Some.beside e c.size-size.ensures c.neighbour.ensures.value w.in-Some.is in
+            let at = side_at pos.size l side w.in-Some.beside e c.size-size.ensures
+            c.neighbour.ensures.value w.in-Some.is in
             let beside = neighbour_at-near pos.size l side w.in-Some.beside on at in
             let came = rw i.stays.moves at (w.reach_of_string.ensures.near pos a1) in
             rw w.board-is (AddsIn-trans (i.near pos a0) (AddsIn-mono came
@@ -56,7 +57,8 @@ loop-side-preserved g c =
             let a0 = agrees_before w.reach_of_string.ensures.stays.grows a1 in
             let e = same_size (g.met.L.Look.sized c.loop-side.board.look) a0 ∙ ap (λ y. y.size) i.stays.shown in
             let on = subst (λ n. l < n * n) (sym e) c.requires in
-            let at = side_at pos.size l side w.in-Some.beside e c.size-size.ensures c.neighbour.ensures.value w.in-Some.is in
+            let at = side_at pos.size l side w.in-Some.beside e c.size-size.ensures
+            c.neighbour.ensures.value w.in-Some.is in
             let cells = (after pos c.args.board.now.moves).cells in
             let one = w.reach_of_string.result in
             let came = rw i.stays.moves at (w.reach_of_string.ensures.over pos a1) in
