@@ -149,11 +149,13 @@ first_gives q pos code lo hi = elim (cases_eq code 1) [
   | inl e ↦ subst (λ c. IsFirstOf q pos q.plies (first_node q c) pos) (sym e) (one q.kind)
   | inr n1 ↦ elim (cases_eq code 2) [
     | inl e ↦ subst (λ c. IsFirstOf q pos q.plies (first_node q c) pos) (sym e) (two q.kind)
-    | inr n2 ↦ let e : code ≡ 3 = omega arith in subst (λ c. IsFirstOf q pos q.plies (first_node q c) pos) (sym e) (three q.kind)
+    | inr n2 ↦ let e : code ≡ 3 = omega arith in
+        subst (λ c. IsFirstOf q pos q.plies (first_node q c) pos) (sym e) (three q.kind)
   ]
 ]
   where
-    under_pair : (kind : Kind) (c a d : ℕ) → a + d ≤ 1 → first_node (asked_as q kind) c ≡ node_under (asked_as q kind) a d
+    under_pair : (kind : Kind) (c a d : ℕ) → a + d ≤ 1
+        → first_node (asked_as q kind) c ≡ node_under (asked_as q kind) a d
         → IsFirstOf (asked_as q kind) pos q.plies (first_node (asked_as q kind) c) pos
     under_pair kind c a d h e = record {
       plies = refl;
@@ -180,15 +182,19 @@ first_gives q pos code lo hi = elim (cases_eq code 1) [
 first_from : (q : ReadingQuestion) (pos : BoardState) (a d : ℕ) → a + d ≤ 1
     → IsNodeOf q pos q.plies (node_under q a d) pos
 first_from q pos a d h = elim (cases_eq a 1) [
-  | inl e ↦ let z : d ≡ 0 = omega (arith, e, h) in
-      subst (λ x. IsNodeOf q pos q.plies (node_under q x d) pos) (sym e) (subst (λ y. IsNodeOf q pos q.plies (node_under q 1 y) pos) (sym z) (attacker q.kind))
+  | inl e ↦ paired 1 0 e (omega (arith, e, h)) (attacker q.kind)
   | inr ne ↦ let o : a ≡ 0 = omega (arith, ne, h) in elim (cases_eq d 1) [
-    | inl e ↦ subst (λ x. IsNodeOf q pos q.plies (node_under q x d) pos) (sym o) (subst (λ y. IsNodeOf q pos q.plies (node_under q 0 y) pos) (sym e) (defender q.kind))
-    | inr nd ↦ let z : d ≡ 0 = omega (arith, nd, h) in
-        subst (λ x. IsNodeOf q pos q.plies (node_under q x d) pos) (sym o) (subst (λ y. IsNodeOf q pos q.plies (node_under q 0 y) pos) (sym z) (neither q.kind))
+    | inl e ↦ paired 0 1 o e (defender q.kind)
+    | inr nd ↦ paired 0 0 o (omega (arith, nd, h)) (neither q.kind)
   ]
 ]
   where
+    paired : (x y : ℕ) → a ≡ x → d ≡ y → IsNodeOf q pos q.plies (node_under q x y) pos
+        → IsNodeOf q pos q.plies (node_under q a d) pos
+    paired x y e f tree =
+        subst (λ k. IsNodeOf q pos q.plies (node_under q k d) pos) (sym e)
+        (subst (λ k. IsNodeOf q pos q.plies (node_under q x k) pos) (sym f) tree)
+
     attacker : (kind : Kind) → IsNodeOf (asked_as q kind) pos q.plies (node_under (asked_as q kind) 1 0) pos
     attacker Attack = first 1 (omega arith) (omega arith)
     attacker Defend = first 3 (omega arith) (omega arith)

@@ -16,7 +16,8 @@ use Rattle.go_rules.proofs.Tests.{same_tests}
 use Rattle.go_base.specs.Surroundings.{is_last_liberty_of_enemy}
 use Rattle.go_base.proofs.LastLiberties.{contains-liberty_points}
 use Rattle.go_base.proofs.Liberties.{len-liberty_points}
-use Rattle.read_rules.specs.Candidates.{attacker_of, is_empty_beside, leaves_only, is_backfilling, is_candidate, is_left}
+use Rattle.read_rules.specs.Candidates.{attacker_of, is_empty_beside, leaves_only, is_backfilling, is_candidate}
+use Rattle.read_rules.specs.Candidates.{is_left}
 use Rattle.read_rules.specs.Stages.{is_wide_candidate}
 
 -- a liberty, a neighbour with a wide ply, a last liberty, or a backfilling move with a wide ply: the two with a wide

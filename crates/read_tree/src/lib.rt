@@ -1,9 +1,9 @@
 //! The tactical reader: whether a string can be captured, and whether it can be saved, by a bounded game tree.
 //!
 //! `read` reads a question on a view of a position and hands the view back; what it looked at is then among its facts,
-//! and on every position that agrees with these facts the answer is the same. `attack` and `defend` make the question. Codes are 3, 2, 1 and 0: the side that is
-//! asked about has its way even if the other may ignore the ko ban once; if neither may; only if it may itself; not at
-//! all. Nothing takes memory.
+//! and on every position that agrees with these facts the answer is the same. `attack` and `defend` make the question
+//! from the stone at a point. Codes are 3, 2, 1 and 0: the side that is asked about has its way even if the other may
+//! ignore the ko ban once; if neither may; only if it may itself; not at all. Nothing takes memory.
 //!
 //! After GNU Go Manual, "Tactical reading"; the tree, its bounds and its ko allowances are this project's own.
 #![tactic(auto)]

@@ -1,11 +1,12 @@
 -- The points that the plays leave came, liberty by liberty.
 use Rattle.std.proofs.Common.{◌*◌, ◌<◌, ap, sym, subst, ◌∙◌}
 use Rattle.std.proofs.lemmas.Bool.{and_from}
-use Rattle.go_base.specs.Facts.{agrees_before, Grows-trans, AddsIn-trans, AddsIn-mono, same_size}
+use Rattle.go_base.specs.Facts.{agrees_before, AddsIn-trans, AddsIn-mono, same_size}
 use Rattle.go_rules.proofs.Counts.{any_below_from}
 use Rattle.trial_board.specs.Trials.{after}
 use Rattle.read_moves.specs.Steps.{is_left}
 use Rattle.read_moves.proofs.BackfillingLemmas.{LeftBelow-next, LeftBelow-all}
+use Rattle.read_moves.proofs.StaysLemmas.{Stays-trans}
 use Rattle.read_moves.proofs.moves.add_backfilling.Goals as goal
 
 -- what the play at the next point leaves came
@@ -15,11 +16,7 @@ loop-l-preserved g c =
     let l = c.in-Some.l in
     let first = c.in-Some.ensures.some in
     record {
-      stays = record {
-        moves = c.add_backfilling_at.ensures.stays.moves ∙ i.stays.moves;
-        shown = c.add_backfilling_at.ensures.stays.shown ∙ i.stays.shown;
-        grows = Grows-trans i.stays.grows c.add_backfilling_at.ensures.stays.grows;
-      };
+      stays = Stays-trans i.stays c.add_backfilling_at.ensures.stays;
       near = λ pos a.
           let a0 = agrees_before c.add_backfilling_at.ensures.stays.grows a in
           let e = same_size (g.met.L.Look.sized c.loop-l.board.look) a0 ∙ ap (λ x. x.size) i.stays.shown in

@@ -9,7 +9,7 @@ use Rattle.go_rules.specs.Strings.{cell_at}
 use Rattle.go_rules.proofs.Cells.{eq_is_same_cell, ne_false_same}
 use Rattle.go_rules.proofs.Paths.{same_cell-true, same_cell-from}
 use Rattle.go_rules.proofs.Sets.{contains-insert_nat}
-use Rattle.go_base.specs.Facts.{Agrees, AddsIn, agrees_before, Grows-trans, AddsIn-trans, AddsIn-mono, same_size}
+use Rattle.go_base.specs.Facts.{Agrees, AddsIn, agrees_before, AddsIn-trans, AddsIn-mono, same_size}
 use Rattle.go_base.proofs.PointNeighbourhoods.{close_again, close_alone}
 use Rattle.trial_board.specs.Overlays.{neighbourhood_twice}
 use Rattle.trial_board.specs.Trials.{after}
@@ -19,6 +19,7 @@ use Rattle.read_moves.specs.Reaches.{Reaches}
 use Rattle.read_moves.specs.declared.reach.Reach.{Reach}
 use Rattle.read_moves.proofs.ReachLemmas.{left_vacant, left_lives, unless_one, quiet_one}
 use Rattle.read_moves.proofs.moves.add_backfilling_at.Given.{Over}
+use Rattle.read_moves.proofs.StaysLemmas.{Stays-trans}
 use Rattle.read_moves.proofs.moves.add_backfilling_at.Goals as goal
 use Rattle.read_moves.proofs.moves.add_backfilling_at.Goals.{After-reach_of}
 
@@ -98,11 +99,7 @@ returns-in-Nothing g c =
     let first = c.cell.ensures.stays in
     let last = c.reach_of.ensures.stays in
     record {
-      stays = record {
-        moves = last.moves ∙ first.moves;
-        shown = last.shown ∙ first.shown;
-        grows = Grows-trans first.grows last.grows;
-      };
+      stays = Stays-trans first last;
       over = λ pos a p. or_none (set.contains c.args.found.now p) _
           (unless_one (here g d pos a) c.args.c c.args.l p c.reach_of.result (inside g d pos a)
           (c.cell.ensures.sound pos (before g d pos a)) (vacant g d pos a) c.in-Nothing.is (reached g d pos a));

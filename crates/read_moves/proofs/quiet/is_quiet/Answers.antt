@@ -1,12 +1,14 @@
 -- The enemy strings at the sides, one after another.
 use Rattle.std.proofs.Common.{◌≡◌, ◌*◌, ◌<◌, ap, sym, subst, arith, ◌∙◌, Some}
-use Rattle.go_base.specs.Facts.{agrees_before, Grows-trans, AddsIn-trans, AddsIn-mono, same_size}
+use Rattle.go_base.specs.Facts.{agrees_before, AddsIn-trans, AddsIn-mono, same_size}
 use Rattle.go_base.specs.Sides.{neighbour_at}
 use Rattle.go_base.proofs.SidesOfPoints.{neighbour_at-near}
 use Rattle.trial_board.specs.Trials.{after}
 use Rattle.read_moves.specs.Steps.{LivesWithout}
 use Rattle.read_moves.proofs.SideLemmas.{string_near}
 use Rattle.read_moves.proofs.LiveLemmas.{LiveAtSides-next, LiveAtSides-all}
+use Rattle.read_moves.proofs.StaysLemmas.{Stays-trans}
+use Rattle.read_moves.proofs.SideLemmas.{side_at}
 use Rattle.read_moves.proofs.quiet.is_quiet.Goals as goal
 use Rattle.read_moves.proofs.quiet.is_quiet.Goals.{in-Some+else-not-lives_without, in_default}
 
@@ -19,8 +21,7 @@ returns-then-not-lives_without-clause-dies g c = λ pos a f live.
     let a0 = agrees_before c.lives_without.ensures.stays.grows a in
     let e = same_size (g.met.L.Look.sized c.loop-side.board.look) a0 ∙ ap (λ x. x.size) i.stays.shown in
     let on = subst (λ n. l < n * n) (sym e) c.requires in
-    let at : neighbour_at pos.size l side ≡ Some c.in-Some.beside =
-    ap (λ n. neighbour_at n l side) (e ∙ sym c.size-size.ensures) ∙ sym c.neighbour.ensures.value ∙ c.in-Some.is in
+    let at = side_at pos.size l side c.in-Some.beside e c.size-size.ensures c.neighbour.ensures.value c.in-Some.is in
     let beside = neighbour_at-near pos.size l side c.in-Some.beside on at in
     (rw i.stays.moves at (c.lives_without.ensures.dies pos a c.if-not-lives_without.true))
     (live c.in-Some.beside beside.0 beside.1)
@@ -34,8 +35,7 @@ returns-then-not-lives_without-clause-near g c = λ pos a.
     let a0 = agrees_before c.lives_without.ensures.stays.grows a in
     let e = same_size (g.met.L.Look.sized c.loop-side.board.look) a0 ∙ ap (λ x. x.size) i.stays.shown in
     let on = subst (λ n. l < n * n) (sym e) c.requires in
-    let at : neighbour_at pos.size l side ≡ Some c.in-Some.beside =
-    ap (λ n. neighbour_at n l side) (e ∙ sym c.size-size.ensures) ∙ sym c.neighbour.ensures.value ∙ c.in-Some.is in
+    let at = side_at pos.size l side c.in-Some.beside e c.size-size.ensures c.neighbour.ensures.value c.in-Some.is in
     let beside = neighbour_at-near pos.size l side c.in-Some.beside on at in
     let came = rw i.stays.moves at (c.lives_without.ensures.near pos a) in
     AddsIn-trans (i.near pos a0) (AddsIn-mono came
@@ -49,19 +49,14 @@ loop-side-preserved g c =
     let i = c.loop-side.invariant in
     elim c.match-neighbour.branch [
       | in-Some+else-not-lives_without w ↦ record {
-        stays = rw w.board-is (record {
-          moves = w.lives_without.ensures.stays.moves ∙ i.stays.moves;
-          shown = w.lives_without.ensures.stays.shown ∙ i.stays.shown;
-          grows = Grows-trans i.stays.grows w.lives_without.ensures.stays.grows;
-        });
+        stays = rw w.board-is (Stays-trans i.stays w.lives_without.ensures.stays);
         near = λ pos a.
             let a1 = rw w.board-is at a in
             let a0 = agrees_before w.lives_without.ensures.stays.grows a1 in
             let e = same_size (g.met.L.Look.sized c.loop-side.board.look) a0 ∙ ap (λ x. x.size) i.stays.shown in
             let on = subst (λ n. l < n * n) (sym e) c.requires in
-            let at : neighbour_at pos.size l side ≡ Some w.in-Some.beside =
-            ap (λ n. neighbour_at n l side) (e ∙ sym c.size-size.ensures) ∙ sym c.neighbour.ensures.value
-            ∙ w.in-Some.is in
+            let at = side_at pos.size l side w.in-Some.beside e c.size-size.ensures
+            c.neighbour.ensures.value w.in-Some.is in
             let beside = neighbour_at-near pos.size l side w.in-Some.beside on at in
             let came = rw i.stays.moves at (w.lives_without.ensures.near pos a1) in
             rw w.board-is (AddsIn-trans (i.near pos a0) (AddsIn-mono came
@@ -70,9 +65,8 @@ loop-side-preserved g c =
             let a1 = rw w.board-is at a in
             let a0 = agrees_before w.lives_without.ensures.stays.grows a1 in
             let e = same_size (g.met.L.Look.sized c.loop-side.board.look) a0 ∙ ap (λ x. x.size) i.stays.shown in
-            let at : neighbour_at pos.size l side ≡ Some w.in-Some.beside =
-            ap (λ n. neighbour_at n l side) (e ∙ sym c.size-size.ensures) ∙ sym c.neighbour.ensures.value
-            ∙ w.in-Some.is in
+            let at = side_at pos.size l side w.in-Some.beside e c.size-size.ensures
+            c.neighbour.ensures.value w.in-Some.is in
             let cells = (after pos c.args.board.now.moves).cells in
             let came = rw i.stays.moves at (w.lives_without.ensures.over pos a1
             w.if-not-lives_without.false) in

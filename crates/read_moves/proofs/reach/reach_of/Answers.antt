@@ -1,6 +1,6 @@
 -- The empty sides are told first, then the strings at the sides, one after another.
-use Rattle.std.proofs.Common.{◌≡◌, ◌*◌, ◌<◌, ap, sym, subst, arith, ◌∙◌, Some}
-use Rattle.go_base.specs.Facts.{agrees_before, Grows-trans, AddsIn-trans, AddsIn-mono, same_size}
+use Rattle.std.proofs.Common.{◌*◌, ◌<◌, ap, sym, subst, arith, ◌∙◌}
+use Rattle.go_base.specs.Facts.{agrees_before, AddsIn-trans, AddsIn-mono, same_size}
 use Rattle.go_base.specs.Sides.{neighbour_at}
 use Rattle.go_base.proofs.SidesOfPoints.{neighbour_at-near}
 use Rattle.trial_board.specs.Trials.{after}
@@ -9,6 +9,8 @@ use Rattle.read_moves.specs.Reaches.{IsReached}
 use Rattle.read_moves.proofs.SideLemmas.{sides_near, string_near}
 use Rattle.read_moves.proofs.TellLemmas.{IsSoFar, IsLibertyAtSide, SoFar-none, SoFar-skip, SoFar-next, Tells-more}
 use Rattle.read_moves.proofs.TellLemmas.{string_told, so_far_reached, strings_told}
+use Rattle.read_moves.proofs.StaysLemmas.{Stays-trans}
+use Rattle.read_moves.proofs.SideLemmas.{side_at}
 use Rattle.read_moves.proofs.reach.reach_of.Goals as goal
 use Rattle.read_moves.proofs.reach.reach_of.Goals.{in-Some, in_default}
 
@@ -38,19 +40,14 @@ loop-side-preserved g c =
     let i = c.loop-side.invariant in
     elim c.match-neighbour.branch [
       | in-Some w ↦ record {
-        stays = rw w.board-is (record {
-          moves = w.reach_of_string.ensures.stays.moves ∙ i.stays.moves;
-          shown = w.reach_of_string.ensures.stays.shown ∙ i.stays.shown;
-          grows = Grows-trans i.stays.grows w.reach_of_string.ensures.stays.grows;
-        });
+        stays = rw w.board-is (Stays-trans i.stays w.reach_of_string.ensures.stays);
         near = λ pos a.
             let a1 = rw w.board-is at a in
             let a0 = agrees_before w.reach_of_string.ensures.stays.grows a1 in
             let e = same_size (g.met.L.Look.sized c.loop-side.board.look) a0 ∙ ap (λ x. x.size) i.stays.shown in
             let on = subst (λ n. l < n * n) (sym e) c.requires in
-            let at : neighbour_at pos.size l side ≡ Some w.in-Some.beside =
-            ap (λ n. neighbour_at n l side) (e ∙ sym c.size-size.ensures) ∙ sym c.neighbour.ensures.value
-            ∙ w.in-Some.is in
+            let at = side_at pos.size l side w.in-Some.beside e c.size-size.ensures
+            c.neighbour.ensures.value w.in-Some.is in
             let beside = neighbour_at-near pos.size l side w.in-Some.beside on at in
             let came = rw i.stays.moves at (w.reach_of_string.ensures.near pos a1) in
             rw w.board-is (AddsIn-trans (i.near pos a0) (AddsIn-mono came
@@ -60,9 +57,8 @@ loop-side-preserved g c =
             let a0 = agrees_before w.reach_of_string.ensures.stays.grows a1 in
             let e = same_size (g.met.L.Look.sized c.loop-side.board.look) a0 ∙ ap (λ y. y.size) i.stays.shown in
             let on = subst (λ n. l < n * n) (sym e) c.requires in
-            let at : neighbour_at pos.size l side ≡ Some w.in-Some.beside =
-            ap (λ n. neighbour_at n l side) (e ∙ sym c.size-size.ensures) ∙ sym c.neighbour.ensures.value
-            ∙ w.in-Some.is in
+            let at = side_at pos.size l side w.in-Some.beside e c.size-size.ensures
+            c.neighbour.ensures.value w.in-Some.is in
             let cells = (after pos c.args.board.now.moves).cells in
             let one = w.reach_of_string.result in
             let came = rw i.stays.moves at (w.reach_of_string.ensures.over pos a1) in

@@ -1,6 +1,6 @@
 -- The sides of l, one after another.
-use Rattle.std.proofs.Common.{◌≡◌, ◌*◌, ◌<◌, refl, ap, sym, subst, ◌∙◌, arith, Some}
-use Rattle.go_base.specs.Facts.{agrees_before, Grows-refl, Grows-trans, AddsIn-refl, AddsIn-trans, AddsIn-mono}
+use Rattle.std.proofs.Common.{◌*◌, ◌<◌, refl, ap, sym, subst, ◌∙◌, arith}
+use Rattle.go_base.specs.Facts.{agrees_before, Grows-refl, AddsIn-refl, AddsIn-trans, AddsIn-mono}
 use Rattle.go_base.specs.Facts.{same_size}
 use Rattle.go_base.specs.Sides.{neighbour_at}
 use Rattle.trial_board.specs.Trials.{after}
@@ -8,6 +8,8 @@ use Rattle.read_moves.specs.declared.reach.Reach.TheVariants.{Nothing}
 use Rattle.read_moves.proofs.BesideLemmas.{neighbours_of-side}
 use Rattle.read_moves.proofs.TellLemmas.{IsEmptySide, Nowhere, SoFar-none, SoFar-skip, SoFar-next, side_told}
 use Rattle.read_moves.proofs.TellLemmas.{sides_told}
+use Rattle.read_moves.proofs.StaysLemmas.{Stays-trans}
+use Rattle.read_moves.proofs.SideLemmas.{side_at}
 use Rattle.read_moves.proofs.reach.reach_of_sides.Goals as goal
 use Rattle.read_moves.proofs.reach.reach_of_sides.Goals.{in-Some, in_default}
 
@@ -19,19 +21,13 @@ loop-side-preserved g c =
     let i = c.loop-side.invariant in
     elim c.match-neighbour.branch [
       | in-Some w ↦ record {
-        stays = rw w.board-is (record {
-          moves = w.reach_of_side.ensures.stays.moves ∙ i.stays.moves;
-          shown = w.reach_of_side.ensures.stays.shown ∙ i.stays.shown;
-          grows = Grows-trans i.stays.grows w.reach_of_side.ensures.stays.grows;
-        });
+        stays = rw w.board-is (Stays-trans i.stays w.reach_of_side.ensures.stays);
         near = λ pos a.
             let a1 = rw w.board-is at a in
             let a0 = agrees_before w.reach_of_side.ensures.stays.grows a1 in
             let e = same_size (g.met.L.Look.sized c.loop-side.board.look) a0 ∙ ap (λ x. x.size) i.stays.shown in
             let on = subst (λ n. l < n * n) (sym e) c.requires in
-            let at : neighbour_at pos.size l side ≡ Some w.in-Some.q =
-            ap (λ n. neighbour_at n l side) (e ∙ sym c.size-size.ensures) ∙ sym c.neighbour.ensures.value
-            ∙ w.in-Some.is in
+            let at = side_at pos.size l side w.in-Some.q e c.size-size.ensures c.neighbour.ensures.value w.in-Some.is in
             rw w.board-is (AddsIn-trans (i.near pos a0)
             (AddsIn-mono w.reach_of_side.ensures.near (λ r h.
             neighbours_of-side pos.size l side w.in-Some.q r on at h)));
@@ -40,9 +36,7 @@ loop-side-preserved g c =
             let a0 = agrees_before w.reach_of_side.ensures.stays.grows a1 in
             let e = same_size (g.met.L.Look.sized c.loop-side.board.look) a0 ∙ ap (λ x. x.size) i.stays.shown in
             let on = subst (λ n. l < n * n) (sym e) c.requires in
-            let at : neighbour_at pos.size l side ≡ Some w.in-Some.q =
-            ap (λ n. neighbour_at n l side) (e ∙ sym c.size-size.ensures) ∙ sym c.neighbour.ensures.value
-            ∙ w.in-Some.is in
+            let at = side_at pos.size l side w.in-Some.q e c.size-size.ensures c.neighbour.ensures.value w.in-Some.is in
             let cells = (after pos c.args.board.now.moves).cells in
             let one = w.reach_of_side.result in
             let came = rw i.stays.moves at (w.reach_of_side.ensures.over pos a1) in

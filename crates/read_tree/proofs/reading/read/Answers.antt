@@ -31,14 +31,17 @@ module _ (g : Over) (c : After-finish g) (pos : BoardState)
 
   -- its size is that of the position shown
   size : pos.size ≡ (g.L.Look.shows c.args.look).size
-  size = same_size (g.met.L.Look.sized c.cell-stone.new.self) at_start ∙ ap (λ (p : BoardState). p.size) c.cell-stone.ensures.same
+  size =
+      same_size (g.met.L.Look.sized c.cell-stone.new.self) at_start
+      ∙ ap (λ (p : BoardState). p.size) c.cell-stone.ensures.same
 
   -- its target holds the stone that was seen there
   stone : cell_at pos.cells c.args.question.target ≡ stone_of c.args.question.colour
   stone =
       let q = c.args.question in
       let shown = subst (λ (p : BoardState). cell_at p.cells q.target ≡ c.cell-stone.result) c.cell-stone.ensures.same
-      ((g.met.L.Look.holds c.cell-stone.new.self).each (CellIs q.target c.cell-stone.result) c.cell-stone.ensures.told) in
+      ((g.met.L.Look.holds c.cell-stone.new.self).each (CellIs q.target c.cell-stone.result)
+      c.cell-stone.ensures.told) in
       at_start.each (CellIs q.target c.cell-stone.result) c.cell-stone.ensures.told ∙ sym shown ∙ c.requires.stone
 
   -- the question is about it
