@@ -4,6 +4,7 @@ pub mod Komi
 pub mod KomiTexts
 pub mod Replies
 pub mod Rooms
+pub mod Spans
 pub mod Commands
 pub mod CodeRows
 pub mod Within

@@ -1,7 +1,7 @@
 -- The words of a protocol line, and those that are ids, after the GTP version 2 draft.
 use Rattle.std.specs.Prelude.{ℕ, nat_le, List, Option, None, Some, if◌then◌else◌}
-pub use Rattle.vertices.specs.Words.{tab, line_feed, blank, hash, is_kept, kept, plain, cleaned, has_bytes, words_of}
-pub use Rattle.vertices.specs.Words.{is_number, number_of}
+pub use Rattle.vertices.specs.Words.{tab, line_feed, blank, hash, is_kept, kept, blank_for_tab, plain, cleaned}
+pub use Rattle.vertices.specs.Words.{has_bytes, words_of, is_number, number_of}
 
 -- the greatest number of an id
 abbrev pub most_id : ℕ

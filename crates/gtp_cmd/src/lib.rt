@@ -13,10 +13,12 @@ pub mod laws;
 mod parser;
 mod refusals;
 mod replies;
+mod spans;
 
 pub use commands::{Command, CommandName, Parsed, names_text};
 pub use komi::KomiText;
 pub use parser::parse;
 pub use refusals::RefuseText;
 pub use replies::{refusal, short, success};
+pub use spans::{Span, text};
 pub use vertices::{Short, column_letter, vertex_text};

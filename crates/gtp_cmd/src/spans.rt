@@ -1,0 +1,64 @@
+//! Parts of a line, told by where they begin and end.
+
+ghost use Rattle.std.specs.Prelude.{◌≡◌, ◌≤◌, [], length, IfOk};
+ghost use Rattle.gtp_cmd.specs.Words.{cleaned, blank_for_tab};
+ghost use Rattle.gtp_cmd.specs.Spans.{spanned};
+
+use go_base::{Bytes, NoMemory};
+use vertices::{before_comment, is_kept};
+
+/// The bytes of a line as it came, from one index up to but not with another. The span of some words runs from the
+/// first byte of the first to the last byte of the last, and that of no words has 0 for both.
+#[derive(Clone, Copy, Debug, PartialEq, Eq)]
+pub struct Span {
+    /// The index of the first byte.
+    pub from: u32,
+    /// The index behind the last byte.
+    pub to: u32,
+}
+
+/// A blank in place of a tab.
+fn blank_for_tab(b: u8) -> u8
+    ensures { result ≡ blank_for_tab b }
+{
+    if b == b'\t' { b' ' } else { b }
+}
+
+/// The bytes of a span of a line after cleaning, put at the end of an empty list: control bytes other than tab and line
+/// feed are dropped, a tab becomes a blank, and `#` and what follows it are dropped. Takes memory.
+pub fn text(line: &[u8], span: Span, mut out: Bytes) -> Result<Bytes, NoMemory>
+    requires empty { out ≡ [] }
+    requires order { span.from ≤ span.to }
+    requires inside { span.to ≤ length line.now }
+    ensures { IfOk result (λ text. text ≡ cleaned (spanned line.now span)) }
+{
+    let part = before_comment(&line[span.from as usize..span.to as usize]);
+    for b in part {
+        if is_kept(*b) {
+            out.push(blank_for_tab(*b))?;
+        }
+    }
+    Ok(out)
+}
+
+#[cfg(test)]
+mod tests {
+    use super::*;
+    use std::test::Fail;
+
+    #[test]
+    fn span_is_cleaned(rt: HostRuntime) -> Result<(), Fail> {
+        let line = b"check_proof attack D4 3 W\tD\x013 . # as read";
+        for (row, from, to, want) in [
+            ("some words", 24, 31, b"W D3 .".as_slice()),
+            ("a comment", 24, 41, b"W D3 . ".as_slice()),
+            ("no words", 0, 0, b"".as_slice()),
+        ] {
+            assert!(rt; from <= to);
+            assert!(rt; to as usize <= line.len());
+            let found = text(line, Span { from, to }, Bytes::new(rt.alloc()))?;
+            assert_eq!(rt; found.as_slice(), want, "{row}");
+        }
+        Ok(())
+    }
+}

@@ -1,0 +1,9 @@
+pub mod SoundLemmas
+pub mod CodeLemmas
+pub mod FoundLemmas
+pub mod ChildLemmas
+pub mod StepLemmas
+pub mod PrintLemmas
+pub mod FirstLemmas
+pub mod TextLemmas
+pub mod QuestionLemmas

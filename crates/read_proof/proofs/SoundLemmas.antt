@@ -1,0 +1,365 @@
+-- What is proved at a node is so: by the word, by the children, and by induction on the plies.
+use Rattle.std.proofs.Common.{◌≡◌, ◌∙◌, ℕ, zero, suc, ◌+◌, ◌*◌, ◌/◌, ◌<◌, ◌≤◌, Bool, true, false, ◌&&◌, ◌||◌, cond, ltb}
+use Rattle.std.proofs.Common.{eqb, List, [], ◌∷◌, ◌++◌, Option, Some, None, refl, sym, ap, subst, inl, inr}
+use Rattle.std.proofs.Common.{arith, add-one}
+use Rattle.std.specs.List.{filter_map, cons_option, filter, range_with_len, AllByRecursion}
+use Rattle.std.proofs.lemmas.Option.{option_and_then_some}
+use Rattle.std.proofs.lemmas.Bool.{cases_Bool, and_parts, or_cases, both_ways, eqb-true, eqb-false, ltb-true}
+use Rattle.std.proofs.lemmas.Bool.{not-true}
+use Rattle.go_rules.specs.Position.{BoardState}
+use Rattle.go_rules.specs.Strings.{liberties}
+use Rattle.read_rules.specs.declared.node.Node.{Node}
+use Rattle.read_rules.specs.declared.question.Spot.{Spot}
+use Rattle.read_rules.specs.declared.question.Spot.TheVariants.{At, Pass}
+use Rattle.read_rules.specs.Candidates.{is_candidate, candidates_of}
+use Rattle.read_rules.specs.GameTree.{is_captured, has_many_liberties, attacker_wins, child_of, mover_of}
+use Rattle.read_rules.specs.Rules.{IsChild, EachChildWins}
+use Rattle.read_rules.proofs.CandidateLaws.{candidate_on}
+use Rattle.read_rules.proofs.RuleLemmas.{attacker_gives, attacker_from, defender_gives, defender_from, child_gives}
+use Rattle.read_rules.proofs.RuleLemmas.{child_from, many_gives}
+use Rattle.read_rules.proofs.WinLemmas.{wins-captured, wins-no_plies}
+use Rattle.read_rules.specs.Bound.{outlasts}
+use Rattle.read_rules.proofs.LibertyLemmas.{bounded, to_attacker, to_defender, many_outlast, child_free, play_size}
+use Rattle.read_proof.specs.declared.token.Token.{Token}
+use Rattle.read_proof.specs.declared.token.Token.TheVariants.{Settled, Move, Each}
+use Rattle.read_proof.specs.Tokens.{Word, token_of}
+use Rattle.read_proof.specs.Proves.{has_too_many, is_settled, is_wanted, move_may_prove, each_may_prove, passed}
+use Rattle.read_proof.specs.Proves.{child_after}
+use Rattle.read_proof.specs.Proves.{pass_children, play_children, children_of, at_child, at_each, by_token, proves}
+
+-- a target with too many liberties for the plies outlasts them
+too_many_outlast : (n : ℕ) (node : Node) (pos : BoardState) → has_too_many n node pos ≡ true
+    → outlasts node.attacker_to_play n node.wide (liberties pos.size pos.cells node.target) ≡ true
+unfolding has_too_many
+too_many_outlast n node pos h =
+    let l = liberties pos.size pos.cells node.target in
+    let many = has_many_liberties pos node.target node.wide in
+    elim (cases_Bool node.attacker_to_play) [
+      | inl t ↦ ap (λ b. outlasts b n node.wide l) t
+          ∙ elim (or_cases _ _ (sym (ap (λ b. cond b (ltb ((n + 1) / 2) l || many) (ltb (n / 2) l)) t) ∙ h)) [
+            | inl more ↦ to_attacker n node.wide l (inl (ltb-true _ _ more))
+            | inr much ↦ many_outlast n node.wide pos node.target (many_gives pos node.target node.wide much)
+          ]
+      | inr f ↦ ap (λ b. outlasts b n node.wide l) f
+          ∙ to_defender n node.wide l (inl (ltb-true _ _
+          (sym (ap (λ b. cond b (ltb ((n + 1) / 2) l || many) (ltb (n / 2) l)) f) ∙ h)))
+    ]
+
+-- what is settled is so
+settled_sound : (n : ℕ) (won : Bool) (node : Node) (pos : BoardState) → node.target < pos.size * pos.size
+    → is_settled n won node pos ≡ true → attacker_wins n node pos ≡ won
+unfolding is_settled
+settled_sound n true node pos on h = wins-captured n node pos h
+settled_sound n false node pos on h =
+    let parts = and_parts _ _ h in
+    elim (or_cases (eqb n 0) (has_too_many n node pos) parts.1) [
+      | inl over ↦ wins-no_plies n node pos (not-true _ parts.0) (eqb-true n 0 over)
+      | inr many ↦ bounded n node pos on (too_many_outlast n node pos many)
+    ]
+
+-- the target of a node is on the board of its position
+abbrev pub IsOn : Node × BoardState → Type 0
+IsOn child = child.0.target < child.1.size * child.1.size
+
+-- the target stays on the board at a child after a play
+pub played_on_board : (node : Node) (pos : BoardState) (p : ℕ) (child : Node × BoardState)
+    → node.target < pos.size * pos.size
+    → child_of node pos p ≡ Some child → IsOn child
+played_on_board node pos p child on e =
+    let w = child_free node pos p child.0 child.1 (child_gives node pos p child.0 child.1 e) in
+    let size = play_size pos (mover_of node) p child.1 w.1 in
+    let target : node.target ≡ child.0.target = sym (ap (λ (m : Node). m.target) w.2) in
+    subst (λ t. t < child.1.size * child.1.size) target (subst (λ s. node.target < s * s) (sym size) on)
+
+-- The claim, with n plies left.
+module _ (n : ℕ) (won : Bool) where
+  -- what is proved with n plies left is so
+  abbrev pub IsSound : Type 0
+  IsSound = (node : Node) (pos : BoardState) (words left : List Word) → node.target < pos.size * pos.size
+      → proves n won node pos words ≡ Some left → attacker_wins n node pos ≡ won
+
+  -- the claim is so at the child
+  abbrev pub IsSo : Node × BoardState → Type 0
+  IsSo child = attacker_wins n child.0 child.1 ≡ won
+
+  -- what is proved at each of these children is so at each
+  each_sound : IsSound → (children : List (Node × BoardState)) (words left : List Word)
+      → AllByRecursion IsOn children
+      → at_each (proves n won) children words ≡ Some left → AllByRecursion IsSo children
+  each_sound sound [] words left on e = tt
+  each_sound sound (child ∷ more) words left on e =
+      option_and_then_some (at_each (proves n won) more) (proves n won child.0 child.1 words) left e
+      (λ between first rest.
+      (sound child.0 child.1 words between on.0 first, each_sound sound more between left on.1 rest))
+
+-- what holds of each child that a play gives holds of each child after the plays
+pub plays_from : (f : ℕ → Option (Node × BoardState)) (P : Node × BoardState → Type 0)
+    → ((p : ℕ) (child : Node × BoardState) → f p ≡ Some child → P child)
+    → (ps : List ℕ) → AllByRecursion P (filter_map f ps)
+plays_from f P h [] = tt
+plays_from f P h (p ∷ ps) = by (f p) refl (plays_from f P h ps)
+  where
+    by : (o : Option (Node × BoardState)) → f p ≡ o → AllByRecursion P (filter_map f ps)
+        → AllByRecursion P (cons_option o (filter_map f ps))
+    by None e rest = rest
+    by (Some child) e rest = (h p child e, rest)
+
+-- what holds of each child of a row holds of its first
+first_child : (P : Node × BoardState → Type 0) (o : Option (Node × BoardState)) (more : List (Node × BoardState))
+    (child : Node × BoardState) → AllByRecursion P (cons_option o more) → o ≡ Some child → P child
+first_child P None more child all e = absurd (let w = e in cc)
+first_child P (Some first) more child all e = let same : first ≡ child = cc in subst P same all.0
+
+-- and of those behind it
+other_children : (P : Node × BoardState → Type 0) (o : Option (Node × BoardState)) (more : List (Node × BoardState))
+    → AllByRecursion P (cons_option o more) → AllByRecursion P more
+other_children P None more all = all
+other_children P (Some first) more all = all.1
+
+-- what holds of each child after the plays holds of the child that one of them gives
+plays_give : (f : ℕ → Option (Node × BoardState)) (g : ℕ → Bool) (P : Node × BoardState → Type 0) (n a p : ℕ)
+    (child : Node × BoardState) → AllByRecursion P (filter_map f (filter g (range_with_len a n))) → a ≤ p → p < a + n
+    → g p ≡ true → f p ≡ Some child → P child
+plays_give f g P zero a p child all low high chosen e = absurd (omega arith)
+plays_give f g P (suc n) a p child all low high chosen e =
+    elim (cases_Bool (eqb a p)) [
+      | inl same ↦ at_first (g a) all (ap g (eqb-true a p same) ∙ chosen) (ap f (eqb-true a p same) ∙ e)
+      | inr other ↦ let ne = eqb-false a p other in
+          plays_give f g P n (a + 1) p child (behind (g a) all) (omega arith) (omega arith) chosen e
+    ]
+  where
+    at_first : (b : Bool)
+        → AllByRecursion P (filter_map f (cond b (a ∷ filter g (range_with_len (a + 1) n))
+        (filter g (range_with_len (a + 1) n)))) → b ≡ true → f a ≡ Some child → P child
+    at_first true all chosen is = first_child P (f a) _ child all is
+    at_first false all chosen is = absurd (let w = chosen in cc)
+
+    behind : (b : Bool)
+        → AllByRecursion P (filter_map f (cond b (a ∷ filter g (range_with_len (a + 1) n))
+        (filter g (range_with_len (a + 1) n))))
+        → AllByRecursion P (filter_map f (filter g (range_with_len (a + 1) n)))
+    behind true all = other_children P (f a) _ all
+    behind false all = all
+
+-- each child of the rows is one of a row
+pub both_rows : (P : Node × BoardState → Type 0) (xs ys : List (Node × BoardState)) → AllByRecursion P xs
+    → AllByRecursion P ys → AllByRecursion P (xs ++ ys)
+both_rows P [] ys first second = second
+both_rows P (x ∷ xs) ys first second = (first.0, both_rows P xs ys first.1 second)
+
+-- and the other way round
+each_row : (P : Node × BoardState → Type 0) (xs ys : List (Node × BoardState)) → AllByRecursion P (xs ++ ys)
+    → AllByRecursion P xs × AllByRecursion P ys
+each_row P [] ys all = (tt, all)
+each_row P (x ∷ xs) ys all = let rest = each_row P xs ys all.1 in ((all.0, rest.0), rest.1)
+
+-- the target of each child is on the board
+children_on_board : (node : Node) (pos : BoardState) → node.target < pos.size * pos.size
+    → AllByRecursion IsOn (children_of node pos)
+unfolding children_of
+children_on_board node pos on =
+    both_rows IsOn (pass_children node pos) (play_children node pos) (by node.attacker_to_play)
+    (plays_from (child_of node pos) IsOn (λ p child e. played_on_board node pos p child on e)
+    (candidates_of pos node.target node.wide))
+  where
+    by : (turn : Bool) → AllByRecursion IsOn (cond turn [] (passed node pos ∷ []))
+    by true = tt
+    by false = (on, tt)
+
+module _ (P : Node × BoardState → Type 0) (node : Node) (pos : BoardState)
+    (all : AllByRecursion P (children_of node pos)) where
+  -- what holds of each child holds of that after the defender's pass
+  pass_holds : node.attacker_to_play ≡ false → P (passed node pos)
+  unfolding children_of
+  pass_holds turn = by node.attacker_to_play turn (each_row P (pass_children node pos) (play_children node pos) all).0
+    where
+      by : (turn : Bool) → turn ≡ false → AllByRecursion P (cond turn [] (passed node pos ∷ [])) → P (passed node pos)
+      by true e row = absurd (let w = e in cc)
+      by false e row = row.0
+
+  -- and of that after each candidate that can be played
+  play_holds : (p : ℕ) (next : Node) (new : BoardState) → is_candidate pos node.target node.wide p ≡ true
+      → IsChild node pos p next new → P (next, new)
+  unfolding children_of
+  play_holds p next new candidate child =
+      let on = candidate_on pos node.target node.wide p candidate in
+      plays_give (child_of node pos) (is_candidate pos node.target node.wide) P (pos.size * pos.size) 0 p (next, new)
+      (each_row P (pass_children node pos) (play_children node pos) all).1 (omega arith) (omega arith) candidate
+      (child_from node pos p next new child)
+
+-- a child that is there under a test is there, and the test passes
+pub made_by : (test : Bool) (o : Option (Node × BoardState)) (child : Node × BoardState) → cond test o None ≡ Some child
+    → (test ≡ true) × (o ≡ Some child)
+made_by true o child e = (refl, e)
+made_by false o child e = absurd (let w = e in cc)
+
+-- a child after a pass is the defender's
+pub passed_by : (turn : Bool) (first child : Node × BoardState) → cond turn None (Some first) ≡ Some child
+    → (turn ≡ false) × (first ≡ child)
+passed_by true first child e = absurd (let w = e in cc)
+passed_by false first child e = let same : first ≡ child = cc in (refl, same)
+
+-- where the attacker wins at each child he wins at that after a move
+won_after : (n : ℕ) (node : Node) (pos : BoardState) (spot : Spot) (child : Node × BoardState)
+    → child_after node pos spot ≡ Some child → EachChildWins n node pos → attacker_wins n child.0 child.1 ≡ true
+unfolding child_after
+won_after n node pos (At p) child e all =
+    let made = made_by (is_candidate pos node.target node.wide p) (child_of node pos p) child e in
+    all.played p child.0 child.1 made.0 (child_gives node pos p child.0 child.1 made.1)
+won_after n node pos Pass child e all =
+    let same = passed_by node.attacker_to_play (passed node pos) child e in
+    subst (λ (c : Node × BoardState). attacker_wins n c.0 c.1 ≡ true) same.1 all.passed
+
+-- the target is on the board at the child after a move
+after_on_board : (node : Node) (pos : BoardState) (spot : Spot) (child : Node × BoardState)
+    → node.target < pos.size * pos.size → child_after node pos spot ≡ Some child → IsOn child
+unfolding child_after
+after_on_board node pos (At p) child on e =
+    played_on_board node pos p child on
+    (made_by (is_candidate pos node.target node.wide p) (child_of node pos p) child e).1
+after_on_board node pos Pass child on e =
+    subst IsOn (passed_by node.attacker_to_play (passed node pos) child e).1 on
+
+-- The claim at a node whose target stands, with one ply more than is left at its children.
+module _ (n : ℕ) (node : Node) (pos : BoardState) (stands : is_captured pos node.target ≡ false) where
+  -- the sum of the definitions is the next number
+  more : (b : Bool) → attacker_wins (n + 1) node pos ≡ b → attacker_wins (suc n) node pos ≡ b
+  more b h = sym (ap (λ m. attacker_wins m node pos) (add-one n)) ∙ h
+
+  -- and the other way round
+  less : (b : Bool) → attacker_wins (suc n) node pos ≡ b → attacker_wins (n + 1) node pos ≡ b
+  less b h = ap (λ m. attacker_wins m node pos) (add-one n) ∙ h
+
+  -- where each child has the claim that the side to play does not want, so has the node
+  each_decides : (won : Bool) → is_wanted won node ≡ false → AllByRecursion (IsSo n won) (children_of node pos)
+      → attacker_wins (suc n) node pos ≡ won
+  each_decides true movers all =
+      let turn = attackers_turn node.attacker_to_play movers in
+      more true (defender_from n node pos stands turn (record {
+        passed = pass_holds (IsSo n true) node pos all turn;
+        played = λ p next new candidate child. play_holds (IsSo n true) node pos all p next new candidate child;
+      }))
+    where
+      attackers_turn : (turn : Bool) → cond turn true false ≡ false → turn ≡ false
+      attackers_turn true e = absurd (let w = e in cc)
+      attackers_turn false e = refl
+  each_decides false movers all =
+      let turn = defenders_turn node.attacker_to_play movers in
+      elim (cases_Bool (attacker_wins (suc n) node pos)) [
+        | inr lost ↦ lost
+        | inl wins ↦
+            let child = (attacker_gives n node pos stands turn (less true wins)).1 in
+            absurd (both_ways (attacker_wins n child.next child.new)
+            (play_holds (IsSo n false) node pos all child.point child.next child.new child.candidate child.child)
+            child.wins)
+      ]
+    where
+      defenders_turn : (turn : Bool) → cond turn false true ≡ false → turn ≡ true
+      defenders_turn true e = refl
+      defenders_turn false e = absurd (let w = e in cc)
+
+  -- where the child after one of its moves has the claim that the side to play wants, so has the node
+  move_decides : (won : Bool) (spot : Spot) (child : Node × BoardState) → is_wanted won node ≡ true
+      → (node.attacker_to_play && has_many_liberties pos node.target node.wide) ≡ false
+      → child_after node pos spot ≡ Some child → IsSo n won child → attacker_wins (suc n) node pos ≡ won
+  unfolding child_after
+  move_decides true (At p) child movers few e so =
+      let turn = attackers_turn node.attacker_to_play movers in
+      let made = made_by (is_candidate pos node.target node.wide p) (child_of node pos p) child e in
+      more true (attacker_from n node pos stands turn (
+        sym (ap (λ b. b && has_many_liberties pos node.target node.wide) turn) ∙ few,
+        record {
+          point = p;
+          next = child.0;
+          new = child.1;
+          candidate = made.0;
+          child = child_gives node pos p child.0 child.1 made.1;
+          wins = so;
+        },
+      ))
+    where
+      attackers_turn : (turn : Bool) → cond turn true false ≡ true → turn ≡ true
+      attackers_turn true e = refl
+      attackers_turn false e = absurd (let w = e in cc)
+  move_decides true Pass child movers few e so =
+      absurd (no_turn node.attacker_to_play movers (passed_by node.attacker_to_play (passed node pos) child e).0)
+    where
+      no_turn : (turn : Bool) → cond turn true false ≡ true → turn ≡ false → ⊥
+      no_turn true m e = let w = e in cc
+      no_turn false m e = let w = m in cc
+  move_decides false spot child movers few e so =
+      let turn = defenders_turn node.attacker_to_play movers in
+      elim (cases_Bool (attacker_wins (suc n) node pos)) [
+        | inr lost ↦ lost
+        | inl wins ↦ absurd (both_ways (attacker_wins n child.0 child.1) so
+            (won_after n node pos spot child e (defender_gives n node pos stands turn (less true wins))))
+      ]
+    where
+      defenders_turn : (turn : Bool) → cond turn false true ≡ true → turn ≡ false
+      defenders_turn true e = absurd (let w = e in cc)
+      defenders_turn false e = refl
+
+-- what a proof begins with decides how it goes on
+begins : (P : Type 0) (settled : Bool) (move : Spot → List Word → Option (List Word))
+    (each : List Word → Option (List Word)) (token : Option Token) (rest left : List Word)
+    → by_token settled move each token rest ≡ Some left → (settled ≡ true → P)
+    → ((spot : Spot) → move spot rest ≡ Some left → P) → (each rest ≡ Some left → P) → P
+begins P settled move each None rest left e by_settled by_move by_each = absurd (let w = e in cc)
+begins P true move each (Some Settled) rest left e by_settled by_move by_each = by_settled refl
+begins P false move each (Some Settled) rest left e by_settled by_move by_each = absurd (let w = e in cc)
+begins P settled move each (Some (Move spot)) rest left e by_settled by_move by_each = by_move spot e
+begins P settled move each (Some Each) rest left e by_settled by_move by_each = by_each e
+
+-- what is there under a test is there, and the test passes
+there_by : (test : Bool) (o : Option (List Word)) (left : List Word) → cond test o None ≡ Some left
+    → (test ≡ true) × (o ≡ Some left)
+there_by true o left e = (refl, e)
+there_by false o left e = absurd (let w = e in cc)
+
+-- a proof at a child is that of a child that is there
+child_there : (prove : Node → BoardState → List Word → Option (List Word)) (o : Option (Node × BoardState))
+    (words left : List Word) → at_child prove o words ≡ Some left
+    → (child : Node × BoardState) × (o ≡ Some child) × (prove child.0 child.1 words ≡ Some left)
+child_there prove None words left e = absurd (let w = e in cc)
+child_there prove (Some child) words left e = (child, refl, e)
+
+-- a move that may prove the claim is of the side that wants it, the target stands, and the attacker may play at it
+may_move_parts : (won : Bool) (node : Node) (pos : BoardState) → move_may_prove won node pos ≡ true
+    → (is_wanted won node ≡ true) × (is_captured pos node.target ≡ false)
+    × ((node.attacker_to_play && has_many_liberties pos node.target node.wide) ≡ false)
+unfolding move_may_prove
+may_move_parts won node pos h =
+    let parts = and_parts _ _ h in
+    let first = and_parts _ _ parts.0 in
+    (first.0, not-true _ first.1, not-true _ parts.1)
+
+-- all moves that may prove the claim are of the side that does not want it, and the target stands
+may_each_parts : (won : Bool) (node : Node) (pos : BoardState) → each_may_prove won node pos ≡ true
+    → (is_wanted won node ≡ false) × (is_captured pos node.target ≡ false)
+unfolding each_may_prove
+may_each_parts won node pos h = let parts = and_parts _ _ h in (not-true _ parts.0, not-true _ parts.1)
+
+-- what is proved at a node by words is so
+pub proved_sound : (n : ℕ) (won : Bool) → IsSound n won
+unfolding proves
+proved_sound n won node pos [] left on e = absurd (let w = e in cc)
+proved_sound zero won node pos (word ∷ rest) left on e =
+    begins (attacker_wins zero node pos ≡ won) (is_settled zero won node pos) (λ spot left. None) (λ left. None)
+    (token_of pos.size word) rest left e (settled_sound zero won node pos on) (λ spot none. absurd (let w = none in cc))
+    (λ none. absurd (let w = none in cc))
+proved_sound (suc n) won node pos (word ∷ rest) left on e =
+    begins (attacker_wins (suc n) node pos ≡ won) (is_settled (suc n) won node pos)
+    (λ spot left. cond (move_may_prove won node pos) (at_child (proves n won) (child_after node pos spot) left) None)
+    (λ left. cond (each_may_prove won node pos) (at_each (proves n won) (children_of node pos) left) None)
+    (token_of pos.size word) rest left e (settled_sound (suc n) won node pos on)
+    (λ spot found.
+    let may = there_by (move_may_prove won node pos) _ left found in
+    let parts = may_move_parts won node pos may.0 in
+    let child = child_there (proves n won) (child_after node pos spot) rest left may.1 in
+    move_decides n node pos parts.1 won spot child.0 parts.0 parts.2 child.1
+    (proved_sound n won child.0.0 child.0.1 rest left (after_on_board node pos spot child.0 on child.1) child.2))
+    (λ found.
+    let may = there_by (each_may_prove won node pos) _ left found in
+    let parts = may_each_parts won node pos may.0 in
+    each_decides n node pos parts.1 won parts.0
+    (each_sound n won (proved_sound n won) (children_of node pos) rest left (children_on_board node pos on) may.1))

@@ -1,0 +1,4 @@
+pub mod Tokens
+pub mod Proves
+pub mod ProofOf
+pub mod FirstProof

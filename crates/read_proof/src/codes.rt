@@ -1,0 +1,82 @@
+//! What a proof of a code claims, under each code from 3 down, and the nodes at which it does.
+
+ghost use Rattle.std.specs.Prelude.{◌≡◌, ◌*◌, ◌<◌, ◌==◌, if◌then◌else◌};
+ghost use Rattle.read_rules.specs.Answer.{asked_on, first_node, colour_of};
+ghost use Rattle.read_proof.specs.ProofOf.{claim_under};
+
+use go_base::{Cell, Colour, Point, Position};
+use read_rules::{Depths, Kind, Node, ReadingQuestion};
+
+/// What a proof of the code claims of the attacker under the allowances of another code.
+pub(crate) fn claim_under(question: &ReadingQuestion, code: u8, more: u8) -> bool
+    ensures { result ≡ claim_under question.now code more }
+{
+    match question.kind {
+        Kind::Attack => more == code,
+        Kind::Defend => more != code,
+    }
+}
+
+/// How often a side may ignore the ko ban under a code: the side that is asked about once under code 1, and the other
+/// side once under code 3.
+fn allowance_under(code: u8, with_one: u8) -> u8
+    ensures { result ≡ (if code == with_one then 1 else 0) }
+{
+    if code == with_one { 1 } else { 0 }
+}
+
+/// The first node of the question under the allowances of a code.
+pub(crate) fn first_node(question: &ReadingQuestion, code: u8) -> Node
+    ensures { result ≡ first_node question.now code }
+{
+    let own = allowance_under(code, 1);
+    let other = allowance_under(code, 3);
+    match question.kind {
+        Kind::Attack => Node {
+            target: question.target,
+            defender: question.colour,
+            attacker_to_play: true,
+            wide: question.wide,
+            attacker_ko: own,
+            defender_ko: other,
+        },
+        Kind::Defend => Node {
+            target: question.target,
+            defender: question.colour,
+            attacker_to_play: false,
+            wide: question.wide,
+            attacker_ko: other,
+            defender_ko: own,
+        },
+    }
+}
+
+/// The colour of a stone.
+fn colour_of(cell: Cell) -> Colour
+    ensures { result ≡ colour_of cell }
+{
+    match cell {
+        Cell::White => Colour::White,
+        Cell::Black | Cell::Empty => Colour::Black,
+    }
+}
+
+/// The question that a call asks.
+pub(crate) fn question_on(
+    pos: &Position,
+    of: Kind,
+    target: Point,
+    depths: Depths,
+) -> ReadingQuestion
+    requires { target < pos.now.size * pos.now.size }
+    ensures { result ≡ asked_on pos.now of target depths.plies depths.wide }
+{
+    ReadingQuestion {
+        size: pos.size(),
+        kind: of,
+        target,
+        colour: colour_of(pos.cell(target)),
+        plies: depths.plies,
+        wide: depths.wide,
+    }
+}

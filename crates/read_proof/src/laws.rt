@@ -1,0 +1,36 @@
+//! What a proof shows, in the words of the game tree.
+
+ghost use Rattle.std.specs.Prelude.{◌≡◌, ℕ, suc, ◌*◌, ◌<◌, ◌≤◌, ◌++◌, true, false, Bool, List, Some};
+ghost use Rattle.go_rules.specs.Board.{IsSize};
+ghost use Rattle.go_rules.specs.Position.{BoardState};
+ghost use Rattle.read_rules.specs.declared.node.Node.{Node};
+ghost use Rattle.read_rules.specs.declared.question.ReadingQuestion.{ReadingQuestion};
+ghost use Rattle.read_rules.specs.GameTree.{attacker_wins};
+ghost use Rattle.read_rules.specs.Answer.{is_about, answer_of};
+ghost use Rattle.read_proof.specs.Tokens.{Word};
+ghost use Rattle.read_proof.specs.Proves.{proves, is_settled, is_wanted};
+ghost use Rattle.read_proof.specs.ProofOf.{IsProofOf};
+ghost use Rattle.read_proof.specs.FirstProof.{first_words, first_text, BeginsWithFirstMove};
+
+/// What is proved is so: where words prove at a node that the attacker wins, he wins there, and where they prove that
+/// he does not, he does not. A text that is a proof of a code is about the code of the game tree.
+pub fn proofs_are_sound()
+    ensures node { (n : ℕ) (won : Bool) (node : Node) (pos : BoardState) (words left : List Word)
+        → node.target < pos.size * pos.size → proves n won node pos words ≡ Some left
+        → attacker_wins n node pos ≡ won }
+    ensures code { (q : ReadingQuestion) (pos : BoardState) (code : ℕ) (text : List ℕ) → is_about q pos ≡ true
+        → q.target < pos.size * pos.size → code ≤ 3 → IsProofOf q pos code text → (answer_of q pos).code ≡ code }
+{}
+
+/// What is so has a proof: the first words of a claim that is so prove it, whatever stands behind them. Where the claim
+/// is not settled, and is what the side to play wants, they begin with the first move that leads to it. So each
+/// question about a position has a text that is a proof of its code: the first one.
+pub fn first_proofs_prove()
+    ensures node { (n : ℕ) (won : Bool) (node : Node) (pos : BoardState) (rest : List Word) → IsSize pos.size
+        → node.target < pos.size * pos.size → attacker_wins n node pos ≡ won
+        → proves n won node pos (first_words n won node pos ++ rest) ≡ Some rest }
+    ensures first { (n : ℕ) (won : Bool) (node : Node) (pos : BoardState) → attacker_wins (suc n) node pos ≡ won
+        → is_settled (suc n) won node pos ≡ false → is_wanted won node ≡ true → BeginsWithFirstMove n won node pos }
+    ensures text { (q : ReadingQuestion) (pos : BoardState) → is_about q pos ≡ true → IsSize pos.size
+        → q.target < pos.size * pos.size → IsProofOf q pos (answer_of q pos).code (first_text q pos) }
+{}

@@ -1,0 +1,25 @@
+//! A checker of proofs of readings: a proof says in one word a node why an attack or a defence has its code.
+//!
+//! The words of a proof are those of a protocol line. A claim about a node is that the attacker wins there, or that he
+//! does not. `.` proves it where it is settled, a move where the side to play has one that leads to it, and `*` where
+//! each move of that side leads to it. Where `check` is true, the code is that of the game tree. It plays on positions
+//! alone, takes no memory, and shares no code with the reader. `docs/PROOFS_OF_READINGS.md` explains a proof word by
+//! word.
+#![tactic(auto)]
+
+mod candidates;
+mod checker;
+mod children;
+mod codes;
+pub mod laws;
+mod settled;
+mod token;
+mod turns;
+mod walk;
+
+pub use checker::check;
+pub use read_rules::{Depths, Kind as ProofOf, Node, Spot};
+pub use token::Token;
+
+#[cfg(test)]
+mod tests;

@@ -1,0 +1,79 @@
+//! What may prove a claim at a node, by the target's liberties and by whose turn it is.
+
+ghost use Rattle.std.specs.Prelude.{◌≡◌, ◌*◌, ◌<◌};
+ghost use Rattle.read_rules.specs.GameTree.{is_captured, has_many_liberties};
+ghost use Rattle.read_proof.specs.Proves.{is_settled, has_too_many, is_wanted, move_may_prove, each_may_prove};
+
+use go_base::{Cell, Position};
+use read_rules::Node;
+
+/// Whether the target's point is empty.
+pub fn is_captured(pos: &Position, node: Node) -> bool
+    requires { node.target < pos.now.size * pos.now.size }
+    ensures { result ≡ is_captured pos.now node.target }
+{
+    pos.cell(node.target) == Cell::Empty
+}
+
+/// Whether the target has more liberties than the attacker may play at.
+#[tactic(auto, unfolding(read_rules::specs::GameTree::has_many_liberties))]
+pub fn has_many_liberties(pos: &Position, node: Node) -> bool
+    requires { node.target < pos.now.size * pos.now.size }
+    ensures { result ≡ has_many_liberties pos.now node.target node.wide }
+{
+    let liberties = pos.liberties(node.target);
+    liberties > 4 || (node.wide == 0 && liberties > 2)
+}
+
+/// Whether the target has more liberties than the attacker can fill with `plies` plies left, or than he may play at.
+#[tactic(auto, unfolding(crate::specs::Proves::has_too_many))]
+fn has_too_many(pos: &Position, node: Node, plies: u8) -> bool
+    requires { node.target < pos.now.size * pos.now.size }
+    ensures { result ≡ has_too_many plies node pos.now }
+{
+    let liberties = pos.liberties(node.target);
+    if node.attacker_to_play {
+        liberties > (u16::from(plies) + 1) / 2 || has_many_liberties(pos, node)
+    } else {
+        liberties > u16::from(plies) / 2
+    }
+}
+
+/// Whether the claim, that the attacker wins or that he does not, is settled with `plies` plies left.
+#[tactic(auto, unfolding(crate::specs::Proves::is_settled))]
+pub fn is_settled(pos: &Position, node: Node, plies: u8, won: bool) -> bool
+    requires { node.target < pos.now.size * pos.now.size }
+    ensures { result ≡ is_settled plies won node pos.now }
+{
+    if won {
+        return is_captured(pos, node);
+    }
+    !is_captured(pos, node) && (plies == 0 || has_too_many(pos, node, plies))
+}
+
+/// Whether the claim is what the side to play wants.
+pub fn is_wanted(node: Node, won: bool) -> bool
+    ensures { result ≡ is_wanted won node }
+{
+    if node.attacker_to_play { won } else { !won }
+}
+
+/// Whether one move may prove the claim.
+#[tactic(auto, unfolding(crate::specs::Proves::move_may_prove))]
+pub fn move_may_prove(pos: &Position, node: Node, won: bool) -> bool
+    requires { node.target < pos.now.size * pos.now.size }
+    ensures { result ≡ move_may_prove won node pos.now }
+{
+    is_wanted(node, won)
+        && !is_captured(pos, node)
+        && !(node.attacker_to_play && has_many_liberties(pos, node))
+}
+
+/// Whether all moves together may prove the claim.
+#[tactic(auto, unfolding(crate::specs::Proves::each_may_prove))]
+pub fn each_may_prove(pos: &Position, node: Node, won: bool) -> bool
+    requires { node.target < pos.now.size * pos.now.size }
+    ensures { result ≡ each_may_prove won node pos.now }
+{
+    !is_wanted(node, won) && !is_captured(pos, node)
+}
