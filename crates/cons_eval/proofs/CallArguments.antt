@@ -6,6 +6,7 @@ use Rattle.pat_types.specs.declared.expr.Arg.{Arg}
 use Rattle.pat_types.specs.declared.expr.Function.{Function}
 use Rattle.cons_eval.specs.declared.calls.Arguments.{Arguments}
 use Rattle.cons_eval.specs.Meanings.{Meanings, is_on_board, are_on_board}
+use Rattle.cons_eval.specs.Questions.{readings_by, call_readings}
 use Rattle.cons_eval.specs.Values.{only_point, both_points, two_points, arguments_of, value_by, call_value}
 use Rattle.cons_eval.proofs.Parts.{first_of, second_of}
 
@@ -49,3 +50,9 @@ pub call_by : (m : Meanings) (f : Function) (points : List (Option ℕ)) (how : 
     → call_value m f points ≡ value_by m f points how
 unfolding call_value
 call_by m f points how h = ap (value_by m f points) h
+
+-- how many readings a call asks for, by how its function takes the arguments
+pub call_readings_by : (m : Meanings) (f : Function) (points : List (Option ℕ)) (how : Arguments)
+    → arguments_of f ≡ how → call_readings m f points ≡ readings_by m f points how
+unfolding call_readings
+call_readings_by m f points how h = ap (readings_by m f points) h

@@ -6,3 +6,4 @@ pub mod Callers
 pub mod ExpressionValues
 pub mod Moves
 pub mod CallArguments
+pub mod ReadingNumbers

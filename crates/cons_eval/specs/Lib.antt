@@ -3,4 +3,5 @@ pub mod Functions
 pub mod Meanings
 pub mod Values
 pub mod Asking
+pub mod Questions
 pub mod Bounds

@@ -42,13 +42,15 @@ NoneLower [] (n ∷ new) = ⊥
 NoneLower (o ∷ old) [] = ⊥
 NoneLower (o ∷ old) (n ∷ new) = (o ≤ n) × NoneLower old new
 
--- what an expression is valued by, with numbers that no call changes and counts of which no call lowers any
+-- what an expression is valued by, with numbers that no call changes, how many readings were asked for, and counts of
+-- which no call lowers any
 pub record EnvView : Type 0 where
   pub meanings : Meanings
   pub fixed : List ℕ
+  pub asked : ℕ
   pub counts : List ℕ
 
--- a call may lead from the first view to the second: only counts have changed, and none is lower
+-- a call may lead from the first view to the second: only what was asked and counts have changed, and no count is lower
 pub record Stays (old new : EnvView) : Type 0 where
   pub meanings : new.meanings ≡ old.meanings
   pub fixed : new.fixed ≡ old.fixed

@@ -10,6 +10,8 @@ ghost use Rattle.cons_eval.specs.Values.{worth, only_point as only, two_points a
 ghost use Rattle.cons_eval.specs.Values.{points_value, play_value, call_value, if_there, moves_and_point};
 ghost use Rattle.cons_eval.specs.Values.{arguments_of as taken_by};
 ghost use Rattle.cons_eval.specs.Asking.{is_reading};
+ghost use Rattle.cons_eval.specs.Questions.{counted, readings_at as readings_there, many_there, point_readings};
+ghost use Rattle.cons_eval.specs.Questions.{pair_readings, play_readings, call_readings};
 
 use crate::env::Env;
 use crate::readings::{code_at, does_attack, does_defend, is_defended_against, is_safe_move};
@@ -55,6 +57,8 @@ fn of_point<E: Env>(env: &mut E, function: Function, a: Point) -> i64
     requires { a < (E.view env.old).meanings.position.size * (E.view env.old).meanings.position.size }
     ensures value { result ≡ point_value (E.view env.old).meanings function a }
     ensures small { IsWithin most result }
+    ensures asked { (E.view env.new).asked ≡ counted (point_readings (E.view env.old).meanings function a)
+        (E.view env.old).asked }
     ensures stays { Stays (E.view env.old) (E.view env.new) }
     ensures quiet { is_reading function ≡ false → (E.view env.new).counts ≡ (E.view env.old).counts }
 {
@@ -83,6 +87,8 @@ fn of_pair<E: Env>(env: &mut E, function: Function, a: Point, b: Point) -> i64
     requires b_on_board { b < (E.view env.old).meanings.position.size * (E.view env.old).meanings.position.size }
     ensures value { result ≡ pair_value (E.view env.old).meanings function (a, b) }
     ensures small { IsWithin most result }
+    ensures asked { (E.view env.new).asked ≡ counted (pair_readings (E.view env.old).meanings function (a, b))
+        (E.view env.old).asked }
     ensures stays { Stays (E.view env.old) (E.view env.new) }
     ensures quiet { is_reading function ≡ false → (E.view env.new).counts ≡ (E.view env.old).counts }
 {
@@ -162,6 +168,9 @@ fn code_after<E: Env>(env: &mut E, kind: Kind, first: Colour, moves: &[Arg], at:
         moves.now ≡ true }
     ensures value { result ≡ code_there (E.view env.old).meanings.code kind
         (moves_then (E.view env.old).meanings.position first (map (E.view env.old).meanings.point moves.now)) at }
+    ensures asked { (E.view env.new).asked ≡ counted (readings_there
+        (moves_then (E.view env.old).meanings.position first (map (E.view env.old).meanings.point moves.now)) at)
+        (E.view env.old).asked }
     ensures stays { Stays (E.view env.old) (E.view env.new) }
 {
     let position = env.position();
@@ -178,6 +187,8 @@ fn of_moves<E: Env>(env: &mut E, function: Function, moves: &[Arg], at: Point) -
     ensures value { result ≡ play_value (E.view env.old).meanings function
         (map (E.view env.old).meanings.point moves.now, at) }
     ensures small { IsWithin most result }
+    ensures asked { (E.view env.new).asked ≡ counted (play_readings (E.view env.old).meanings function
+        (map (E.view env.old).meanings.point moves.now, at)) (E.view env.old).asked }
     ensures stays { Stays (E.view env.old) (E.view env.new) }
     ensures quiet { is_reading function ≡ false → (E.view env.new).counts ≡ (E.view env.old).counts }
 {
@@ -199,6 +210,8 @@ fn of_play<E: Env>(env: &mut E, function: Function, args: &[Arg]) -> i64
     ensures value { result ≡ if_there (play_value (E.view env.old).meanings function)
         (moves_and_point (map (E.view env.old).meanings.point args.now)) }
     ensures small { IsWithin most result }
+    ensures asked { (E.view env.new).asked ≡ counted (many_there (play_readings (E.view env.old).meanings function)
+        (moves_and_point (map (E.view env.old).meanings.point args.now))) (E.view env.old).asked }
     ensures stays { Stays (E.view env.old) (E.view env.new) }
     ensures quiet { is_reading function ≡ false → (E.view env.new).counts ≡ (E.view env.old).counts }
 {
@@ -250,6 +263,8 @@ pub fn call<E: Env>(env: &mut E, function: Function, args: &[Arg]) -> i64
     ensures value { result ≡ call_value (E.view env.old).meanings function
         (map (E.view env.old).meanings.point args.now) }
     ensures small { IsWithin most result }
+    ensures asked { (E.view env.new).asked ≡ counted (call_readings (E.view env.old).meanings function
+        (map (E.view env.old).meanings.point args.now)) (E.view env.old).asked }
     ensures stays { Stays (E.view env.old) (E.view env.new) }
     ensures quiet { is_reading function ≡ false → (E.view env.new).counts ≡ (E.view env.old).counts }
 {

@@ -3,6 +3,7 @@
 ghost use Rattle.std.specs.Prelude.{◌≡◌, ◌*◌, ◌<◌, IsTrue, IsSome, None};
 ghost use Rattle.go_rules.specs.Strings.{cell_at, is_stone};
 ghost use Rattle.cons_eval.specs.Meanings.{EnvView, Stays};
+ghost use Rattle.cons_eval.specs.Questions.{one_more};
 
 use go_base::{Point, Position};
 use go_rules::Colour;
@@ -10,11 +11,13 @@ use pat_types::Arg;
 use read_rules::Kind;
 
 /// What an expression is valued by: a position, the friend, the point of each argument and the codes of readings.
-/// Each call answers by these, and none changes them.
+/// Each call answers by these, and none changes them. How many readings were asked for is counted, as far as a `u64`
+/// counts.
 pub trait Env {
     ghost use Rattle.pat_types.specs.declared.expr.Arg.TheVariants.{Star, Nowhere};
 
-    /// The meanings that its answers are by, numbers that no call changes, and counts of which no call lowers any.
+    /// The meanings that its answers are by, numbers that no call changes, how many readings were asked for, and
+    /// counts of which no call lowers any.
     ghost view: { Self → EnvView };
 
     /// The position before the pattern's move.
@@ -29,11 +32,12 @@ pub trait Env {
     fn point(&self, arg: Arg) -> Option<Point>
         ensures { result ≡ (view self.now).meanings.point arg };
 
-    /// The code of a reading of the string at a stone.
+    /// The code of a reading of the string at a stone. It counts as one that was asked for.
     fn code(&mut self, kind: Kind, on: &Position, target: Point) -> u8
         requires on_board { target < on.now.size * on.now.size }
         requires stone { IsTrue (is_stone (cell_at on.now.cells target)) }
         ensures value { result ≡ (view self.old).meanings.code kind on.now target }
+        ensures asked { (view self.new).asked ≡ one_more (view self.old).asked }
         ensures stays { Stays (view self.old) (view self.new) };
 
     /// A pass is no point.

@@ -5,6 +5,7 @@ ghost use Rattle.pat_types.specs.Labels.{leaf_count};
 ghost use Rattle.cons_eval.specs.Asking.{asks, needs_right as right_is_needed};
 ghost use Rattle.cons_eval.specs.Bounds.{IsConstraint, IsWithin, most, most_leaves};
 ghost use Rattle.cons_eval.specs.Meanings.{Stays, are_placed};
+ghost use Rattle.cons_eval.specs.Questions.{counted, readings_of};
 ghost use Rattle.cons_eval.specs.Values.{is_so, joined_value, value_of};
 
 use crate::calls::{call, worth_of};
@@ -61,7 +62,10 @@ pub fn eval<E: Env>(expr: &Expr, env: &mut E) -> i64
     ensures value { result ≡ value_of (E.view env.old).meanings expr.now }
     // It is as small as the number of leaves says.
     ensures small { IsWithin (leaf_count expr.now * most) result }
-    // Only counts have changed, and none is lower.
+    // It asks for exactly the readings that the definition says: a right side's only where it is needed.
+    ensures asked { (E.view env.new).asked
+        ≡ counted (readings_of (E.view env.old).meanings expr.now) (E.view env.old).asked }
+    // Only what was asked and counts have changed, and no count is lower.
     ensures stays { Stays (E.view env.old) (E.view env.new) }
     // Where no part that is needed may ask for a reading, the counts have not changed either.
     ensures quiet { asks (E.view env.old).meanings expr.now ≡ false

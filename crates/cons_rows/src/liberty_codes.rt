@@ -21,7 +21,7 @@ pub struct LibertyCodes {
     pub a: Point,
     /// The point of `B`.
     pub b: Point,
-    /// How often a code was asked for.
+    /// How often a code was asked for, as far as a `u64` counts.
     pub asked: u64,
     pub ghost star_on_board: { star < position.size * position.size },
     pub ghost a_on_board: { a < position.size * position.size },
@@ -49,7 +49,7 @@ impl LibertyCodes {
 }
 
 impl Env for LibertyCodes {
-    ghost use Rattle.std.specs.Prelude.{[], ◌∷◌, refl};
+    ghost use Rattle.std.specs.Prelude.{[], refl};
     ghost use Rattle.cons_rows.specs.LibertyCodes.{spot, code_by_liberties};
 
     ghost view = { λ t. record {
@@ -60,7 +60,8 @@ impl Env for LibertyCodes {
         code = code_by_liberties;
       };
       fixed = [];
-      counts = t.asked ∷ [];
+      asked = t.asked;
+      counts = [];
     } };
 
     ghost nowhere = { λ t. refl };

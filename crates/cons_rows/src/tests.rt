@@ -155,10 +155,17 @@ fn a_side_that_is_not_needed_asks_for_no_reading(rt: HostRuntime) -> Result<(), 
         ("1&&attack(A)", 1, 1),
         ("1||attack(A)", 1, 0),
         ("0||attack(A)", 1, 1),
+        ("attack(A)||attack(B)", 1, 1),
+        ("attack(B)||attack(A)", 1, 2),
+        ("attack(B)&&attack(A)", 0, 1),
+        ("attack(A)&&attack(B)", 0, 2),
         ("attack(A)+defend(A)", 3, 2),
         ("attack(*)", 0, 0),
+        ("does_attack(*,A)", 3, 0),
+        ("does_defend(*,A)", 3, 1),
+        ("does_attack(*,*)", 0, 0),
     ] {
-        let mut env = LibertyCodes::new(position, 7, 6, 0).ok_or("the points are on the board")?;
+        let mut env = LibertyCodes::new(position, 7, 6, 18).ok_or("the points are on the board")?;
         assert_eq!(rt; value(rt.alloc(), &mut env, text)?, want, "{text}");
         assert_eq!(rt; env.asked, asked, "{text}");
     }

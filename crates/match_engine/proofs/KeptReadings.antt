@@ -1,5 +1,5 @@
 -- A reading that was kept, and one that was fresh.
-use Rattle.std.proofs.Common.{◌≡◌, ◌≤◌, ◌∙◌, sym, subst, IfSome}
+use Rattle.std.proofs.Common.{◌≡◌, ℕ, ◌≤◌, IsTrue, ◌∙◌, sym, subst, IfSome}
 use Rattle.go_rules.specs.Position.{BoardState}
 use Rattle.go_base.specs.Facts.{Agrees}
 use Rattle.go_base.specs.AmongFacts.{told}
@@ -12,7 +12,7 @@ use Rattle.read_cache.specs.Kept.{IsFound, kept_first}
 use Rattle.read_cache.proofs.Each.{found_holds, HoldsOfEach-found, HoldsOfEach-kept}
 use Rattle.match_engine.specs.declared.keys.Key.{Key}
 use Rattle.match_engine.specs.Keys.{same_key, same_key-is}
-use Rattle.match_engine.specs.Readings.{KeptReadings, Rests, AllRest, Answers}
+use Rattle.match_engine.specs.Readings.{KeptReadings, Rests, AllRest, Answers, is_untried}
 
 module _ (key : Key) (pos : BoardState) (old new : KeptReadings) (answer : Answer) (rest : AllRest old)
     (found : IsFound same_key key pos old new answer) where
@@ -51,3 +51,9 @@ pub as_asked : (key : Key) (asked : ReadingQuestion) (variant : Variant Answer) 
     → Rests (record { question = asked }) variant → Rests key variant
 as_asked key asked variant is rests =
     subst (λ (q : ReadingQuestion). Rests (record { question = q }) variant) (sym is) rests
+
+-- a question whose target has too many liberties needs no play under every name of it
+pub untried_as_asked : (key : Key) (asked : ReadingQuestion) (pos : BoardState) (trials : ℕ) → key.question ≡ asked
+    → (IsTrue (is_untried asked pos) → trials ≡ 0) → IsTrue (is_untried key.question pos) → trials ≡ 0
+untried_as_asked key asked pos trials is none =
+    subst (λ (q : ReadingQuestion). IsTrue (is_untried q pos) → trials ≡ 0) (sym is) none

@@ -10,18 +10,20 @@ use Rattle.match_engine.specs.declared.asking.Asking.{Asking}
 use Rattle.match_engine.specs.Readings.{ReadingsView, codes_of}
 
 -- The meanings of the pattern at m under t, by the codes of the present readings. They stay those that are borrowed
--- under this name, at their depths and with as many questions that may be kept, and their counts may rise.
-abbrev pub asked : Pattern → BoardState → Colour → ℕ → ℕ → ℕ → ReadingsView → EnvView
-asked p board friend t m name r = record {
+-- under this name, at their depths and with as many questions that may be kept; they were asked so often, and their
+-- counts may rise.
+abbrev pub asked : Pattern → BoardState → Colour → ℕ → ℕ → ℕ → ReadingsView → ℕ → EnvView
+asked p board friend t m name r often = record {
   meanings = meanings_at (codes_of r) p board friend t m;
   fixed = name ∷ r.plies ∷ r.wide ∷ r.kept.1 ∷ [];
+  asked = often;
   counts = r.fresh ∷ r.trials ∷ r.refused ∷ [];
 }
 
 -- what is asked of a match, and by which readings
 abbrev pub view_of : Asking → EnvView
 view_of e =
-    asked e.pattern.now e.position.now e.friend e.transform e.star e.readings.ghost_name e.readings.now
+    asked e.pattern.now e.position.now e.friend e.transform e.star e.readings.ghost_name e.readings.now e.asked
 
 -- a pass has no point
 pub nowhere_none : (e : Asking) → (view_of e).meanings.point Nowhere ≡ None

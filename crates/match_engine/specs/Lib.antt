@@ -5,6 +5,7 @@ pub mod HelperCalls
 pub mod Readings
 pub mod Remembered
 pub mod Asked
+pub mod Unread
 pub use Rattle.match_rules.specs.Fits
 pub use Rattle.match_rules.specs.Match
 pub mod PointAnswers

@@ -1,11 +1,14 @@
 -- What contracts see of readings, and how calls change it.
-use Rattle.std.specs.Prelude.{◌≡◌, ℕ, ◌+◌, ◌-◌, ◌^◌, ◌≤◌, ◌⊎◌, IsTrue, [], Option, Some, None, IfSome, min}
+use Rattle.std.specs.Prelude.{◌≡◌, ℕ, Bool, ◌+◌, ◌-◌, ◌^◌, ◌≤◌, ◌⊎◌, IsTrue, [], Option, Some, None, IfSome, min}
 use Rattle.go_rules.specs.Position.{BoardState}
 use Rattle.go_base.specs.Facts.{Fact, Agrees}
 use Rattle.go_base.specs.AmongFacts.{told}
 use Rattle.go_base.specs.declared.facts.Facts.{Facts}
 use Rattle.read_rules.specs.declared.question.Answer.{Answer}
-use Rattle.read_rules.specs.Answer.{code_of, asked_on, answer_of}
+use Rattle.go_rules.specs.Strings.{liberties}
+use Rattle.read_rules.specs.declared.question.ReadingQuestion.{ReadingQuestion}
+use Rattle.read_rules.specs.Answer.{code_of, asked_on, answer_of, is_attack}
+use Rattle.read_tree.specs.Bound.{outlasts}
 use Rattle.read_rules.specs.ActiveArea.{InActiveArea, IsAboutOne}
 use Rattle.read_rules.specs.GoodMoves.{IsOnBoard}
 use Rattle.read_cache.specs.declared.variants.Variant.{Variant}
@@ -100,14 +103,19 @@ pub record WasRefused (key : Key) (old new : ReadingsView) : Type 0 where
   pub kept : new.kept ≡ old.kept
   pub refused : new.refused ≡ raised old.refused 1
 
+-- the target has too many liberties for the plies or the wide plies of the question, so no play is tried for it
+abbrev pub is_untried : ReadingQuestion → BoardState → Bool
+is_untried q pos = outlasts (is_attack q.kind) q.plies q.wide (liberties pos.size pos.cells q.target)
+
 -- the reading was fresh: no kept variant stands on the position, and it was counted, with its trial plays, and kept or
--- refused
+-- refused; where its target has too many liberties it made none
 pub record WasFresh (key : Key) (pos : BoardState) (answer : Answer) (old new : ReadingsView) : Type 0 where
   pub missing : IsMissing same_key key pos old.kept
   pub trials_of_last : ℕ
   pub last : new.last ≡ Some trials_of_last
   pub fresh : new.fresh ≡ raised old.fresh 1
   pub trials : new.trials ≡ raised old.trials trials_of_last
+  pub untried : IsTrue (is_untried key.question pos) → trials_of_last ≡ 0
   pub keeping : IsKeptFirst key pos answer old new ⊎ WasRefused key old new
 
 -- new is old after one reading at the same depths, which was kept or fresh

@@ -1,9 +1,11 @@
 //! Whether the classes and the constraint of a pattern allow a move. What costs nothing is asked first.
-ghost use Rattle.std.specs.Prelude.{◌≡◌, ◌*◌, ◌<◌, true};
+ghost use Rattle.std.specs.Prelude.{◌≡◌, ◌*◌, ◌<◌, true, false};
 ghost use Rattle.go_rules.specs.Position.{other};
 ghost use Rattle.match_rules.specs.Conditions.{has_class, is_safe, is_enemy_safe, is_allowed as is_allowed_by};
+ghost use Rattle.match_rules.specs.Conditions.{unsafe_class, enemy_class};
 ghost use Rattle.match_engine.specs.Readings.{Follows, codes_of};
 ghost use Rattle.match_engine.specs.Remembered.{Remembers};
+ghost use Rattle.match_engine.specs.Unread.{AsksNoReading};
 
 use crate::asking::is_constraint_true;
 use crate::plays::Plays;
@@ -39,6 +41,7 @@ fn is_safe(
     ensures value { result ≡ is_safe (codes_of readings.old) p.now position.now friend at }
     ensures remembers { Remembers (codes_of readings.old) position.now friend plays.new }
     ensures follows { Follows readings.old readings.new }
+    ensures unread { has_class p.now unsafe_class ≡ true → readings.new ≡ readings.old }
 {
     if has_class(p, UNSAFE_CLASS) {
         return true;
@@ -60,6 +63,7 @@ fn is_enemy_safe(
     ensures value { result ≡ is_enemy_safe (codes_of readings.old) p.now position.now friend at }
     ensures remembers { Remembers (codes_of readings.old) position.now (other friend) plays.new }
     ensures follows { Follows readings.old readings.new }
+    ensures unread { has_class p.now enemy_class ≡ false → readings.new ≡ readings.old }
 {
     if !has_class(p, ENEMY_CLASS) {
         return true;
@@ -84,6 +88,7 @@ pub fn is_allowed(
     ensures friend_plays { Remembers (codes_of readings.old) position.now friend friend_plays.new }
     ensures enemy_plays { Remembers (codes_of readings.old) position.now (other friend) enemy_plays.new }
     ensures follows { Follows readings.old readings.new }
+    ensures unread { AsksNoReading p.now → readings.new ≡ readings.old }
 {
     if !is_safe(p, position, friend, z.at, readings, friend_plays) {
         return false;

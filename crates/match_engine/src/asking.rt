@@ -1,5 +1,5 @@
 //! What the constraint of a pattern is valued by: the position before the move, the moved labels, and readings.
-ghost use Rattle.std.specs.Prelude.{◌≡◌, ◌*◌, ◌<◌, true, Some};
+ghost use Rattle.std.specs.Prelude.{◌≡◌, ◌*◌, ◌<◌, true, Some, None};
 ghost use Rattle.cons_eval.specs.Values.{is_so as is_so_value, value_of};
 ghost use Rattle.match_rules.specs.Conditions.{label_with as first_label, place_of_label, meanings_at};
 ghost use Rattle.match_rules.specs.Conditions.{is_constraint_true as is_true};
@@ -28,6 +28,8 @@ pub struct Asking<'a> {
     pub star: Point,
     /// The readings that it asks.
     pub readings: &'a mut Readings,
+    /// How often it asked them, as far as a `u64` counts.
+    pub asked: u64,
     ghost on_board: { star < position.now.size * position.now.size },
 }
 
@@ -90,6 +92,7 @@ impl<'a> Env for Asking<'a> {
     }
 
     fn code(&mut self, kind: Kind, on: &Position, target: Point) -> u8 {
+        self.asked = self.asked.saturating_add(1);
         self.readings.read(kind, on, target).code
     }
 }
@@ -116,6 +119,7 @@ fn is_so(
         transform: z.transform,
         star: z.at,
         readings,
+        asked: 0,
     };
     eval(constraint, &mut asking) != 0
 }
@@ -131,6 +135,7 @@ pub fn is_constraint_true(
     requires on_board { z.now.at < position.now.size * position.now.size }
     ensures value { result ≡ is_true (codes_of readings.old) p.now position.now friend z.now.transform z.now.at }
     ensures follows { Follows readings.old readings.new }
+    ensures unread { p.now.constraint ≡ None → readings.new ≡ readings.old }
 {
     match &p.constraint {
         Some(constraint) => is_so(p, constraint, position, friend, z, readings),

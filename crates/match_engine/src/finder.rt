@@ -18,6 +18,7 @@ ghost use Rattle.match_engine.specs.AutomatonMatches.{IsFoundThere};
 ghost use Rattle.match_engine.specs.PointAnswers.{Knows};
 ghost use Rattle.match_engine.specs.Readings.{Follows, codes_of};
 ghost use Rattle.match_engine.specs.Ranks.{rank_of as rank, match_with as match_with_rank};
+ghost use Rattle.match_engine.specs.Unread.{NoneAsksReading};
 ghost use Rattle.match_engine.specs.Found.{match_of as match_made, match_from};
 
 use crate::agreeing::keep_agreed;
@@ -143,6 +144,7 @@ fn keep_allowed(
         is_allowed_at (codes_of readings.old) position.now friend (slice_get patterns.now z.pattern) z)
         found.old.items }
     ensures follows { Follows readings.old readings.new }
+    ensures unneeded { NoneAsksReading patterns.now → readings.new ≡ readings.old }
 {
     let mut friend_plays = Plays::new();
     let mut enemy_plays = Plays::new();
@@ -168,10 +170,9 @@ fn keep_allowed(
 /// point.
 ///
 /// Diagrams are found by the automaton alone: none is compared with the board again. With the automaton of the patterns
-/// the list is exactly that of the matches. Legality is asked before a reading, class `s` before class `n` and both
-/// before the constraint, and each play is read once. Helpers are asked last: each once about a match that has all
-/// else, where every helper that the pattern names before it said yes. Takes all its memory before its first reading
-/// and its first call of a helper, and answers
+/// the list is exactly that of the matches. Patterns with class `s`, without class `n` and without a constraint ask for
+/// no reading. Helpers are asked last: each once about a match that has all else, where every helper that the pattern
+/// names before it said yes. Takes all its memory before its first reading and its first call of a helper, and answers
 /// `NoMemory` where there is none.
 ///
 /// After GNU Go Manual, "The Pattern Code" and "The DFA pattern matcher".
@@ -202,6 +203,8 @@ pub fn matches(
         (matches_of (codes_of readings.old) all_yes patterns.now position.now friend) position.now friend) }
     // The depths of the readings are as before, and no count has fallen.
     ensures follows { OnOk result (Follows readings.old readings.new) }
+    // Where each pattern has class s, but not class n, and no constraint, nothing was read.
+    ensures unneeded { NoneAsksReading patterns.now → readings.new ≡ readings.old }
     // Without memory nothing was read, and no helper was asked.
     ensures unread { OnErr result (readings.new ≡ readings.old) }
     ensures unasked { OnErr result (helpers.new ≡ helpers.old) }

@@ -1,5 +1,5 @@
-//! The plays of one colour on a position, each made and read once.
-ghost use Rattle.std.specs.Prelude.{◌≡◌, ◌*◌, ◌<◌, if◌then◌else◌};
+//! The plays of one colour on a position. What was asked before is remembered, and not read again.
+ghost use Rattle.std.specs.Prelude.{◌≡◌, ◌*◌, ◌<◌, true, if◌then◌else◌};
 ghost use Rattle.std.specs.FinSet as set;
 ghost use Rattle.go_rules.specs.Board.{largest_points};
 ghost use Rattle.cons_eval.specs.Functions.{is_safe_move};
@@ -72,6 +72,7 @@ impl Plays {
         ensures value { result ≡ is_safe_move (codes_of readings.old) position.now colour at }
         ensures remembers { Remembers (codes_of readings.old) position.now colour self.new }
         ensures follows { Follows readings.old readings.new }
+        ensures again { set.contains self.old.asked at ≡ true → readings.new ≡ readings.old }
     {
         let _ = position.size().points();
         if self.asked.has(at) {

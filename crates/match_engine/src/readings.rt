@@ -1,5 +1,5 @@
 //! Readings, counted and kept.
-ghost use Rattle.std.specs.Prelude.{◌≡◌, ◌≢◌, ◌*◌, ◌<◌, ◌≤◌, Some, None, IfOk, IfSome, IfNone};
+ghost use Rattle.std.specs.Prelude.{◌≡◌, ◌≢◌, ◌*◌, ◌<◌, ◌≤◌, IsTrue, Some, None, IfOk, IfSome, IfNone};
 ghost use Rattle.go_rules.specs.Strings.{cell_at};
 ghost use Rattle.go_base.specs.Facts.{Agrees};
 ghost use Rattle.go_base.specs.AmongFacts.{told};
@@ -8,7 +8,7 @@ ghost use Rattle.read_rules.specs.GoodMoves.{IsOnBoard};
 ghost use Rattle.match_engine.specs.Keys.{same_key};
 ghost use Rattle.read_cache.specs.Kept.{IsMissing};
 ghost use Rattle.match_engine.specs.Readings.{HasRead, WasFresh, WasKept, Follows, AllRest, Rests, Answers};
-ghost use Rattle.match_engine.specs.Readings.{first_readings, with_depths};
+ghost use Rattle.match_engine.specs.Readings.{first_readings, with_depths, is_untried};
 
 use crate::keys::{Key, key_of};
 use go_base::{Cell, Facts, NoMemory, Point, Position, Watch};
@@ -65,6 +65,8 @@ fn read_afresh(kind: Kind, position: &Position, target: Point, depths: Depths) -
     ensures holds { Agrees (told result.facts) position.now }
     ensures rests { Rests (record { question = asked_on position.now kind target depths.plies depths.wide })
         (record { facts = result.facts; answer = result.answer }) }
+    ensures untried { IsTrue (is_untried (asked_on position.now kind target depths.plies depths.wide) position.now)
+        → result.trials ≡ 0 }
 {
     let watch = Watch::new(position);
     let told = match kind {
@@ -108,7 +110,8 @@ impl Readings {
             position.now }
         ensures code { result.code ≤ 3 }
         ensures on_board { IfSome result.at (IsOnBoard position.now.size) }
-        // It was kept, and no count has changed, or it was fresh, and is counted and kept or refused.
+        // It was kept, and no count has changed, or it was fresh, and is counted, with as many trial plays as the last
+        // one made, and kept or refused. It made none where its target has too many liberties.
         ensures read { HasRead (record { question = asked_on position.now kind target self.old.plies self.old.wide })
             position.now result self.old self.new }
         // Each kept variant rests on its facts.

@@ -1,8 +1,9 @@
 -- The moves and the point behind them.
-use Rattle.std.proofs.Common.{◌≡◌, suc, ◌-◌, ◌∙◌, ap, sym, length, map, take, Option, w64, arith, ℕ}
+use Rattle.std.proofs.Common.{◌≡◌, suc, ◌-◌, ◌∙◌, ap, sym, length, map, take, List, Option, w64, arith, ℕ}
 use Rattle.std.proofs.lemmas.Int.{to_z-of_z}
 use Rattle.std.specs.Option.{option_map}
 use Rattle.pat_types.specs.declared.expr.Arg.TheVariants.{Label}
+use Rattle.cons_eval.specs.Questions.{many_there, play_readings, counted}
 use Rattle.cons_eval.specs.Values.{if_there, play_value}
 use Rattle.cons_eval.proofs.Moves.{none_last, last_point}
 use Rattle.cons_eval.proofs.calls.of_play.Goals as goal
@@ -33,6 +34,41 @@ returns-in-None-clause-value g c =
     let some = c.in-len1-up.len_at_least in
     let last : length c.args.args.now ≡ suc (length c.args.args.now - 1) = omega arith in
     sym (ap (if_there (play_value (g.E.Env.view c.args.env.now).meanings c.args.function))
+    (last_point point c.args.args.now (length c.args.args.now - 1) (Label 0) last
+    ∙ ap (λ (p : Option ℕ). option_map (λ p. (map point (take (length c.args.args.now - 1) c.args.args.now), p)) p)
+    (sym c.point.ensures ∙ c.in-None.is)))
+
+-- no arguments ask for no reading
+pub returns-in-empty-clause-asked : goal.returns-in-empty-clause-asked
+returns-in-empty-clause-asked g c =
+    let old = g.E.Env.view c.args.env.now in
+    sym (ap (λ (o : Option (List (Option ℕ) × ℕ)).
+    counted (many_there (play_readings old.meanings c.args.function) o) old.asked)
+    (none_last old.meanings.point c.args.args.now c.in-empty.len_below))
+
+-- with a point the function asks for its own
+pub returns-in-Some-clause-asked : goal.returns-in-Some-clause-asked
+returns-in-Some-clause-asked g c =
+    let old = g.E.Env.view c.args.env.now in
+    let point = old.meanings.point in
+    let some = c.in-len1-up.len_at_least in
+    let last : length c.args.args.now ≡ suc (length c.args.args.now - 1) = omega arith in
+    c.of_moves.ensures.asked
+    ∙ sym (ap (λ (o : Option (List (Option ℕ) × ℕ)).
+    counted (many_there (play_readings old.meanings c.args.function) o) old.asked)
+    (last_point point c.args.args.now (length c.args.args.now - 1) (Label 0) last
+    ∙ ap (λ (p : Option ℕ). option_map (λ p. (map point (take (length c.args.args.now - 1) c.args.args.now), p)) p)
+    (sym c.point.ensures ∙ c.in-Some.is)))
+
+-- without one it asks for none
+pub returns-in-None-clause-asked : goal.returns-in-None-clause-asked
+returns-in-None-clause-asked g c =
+    let old = g.E.Env.view c.args.env.now in
+    let point = old.meanings.point in
+    let some = c.in-len1-up.len_at_least in
+    let last : length c.args.args.now ≡ suc (length c.args.args.now - 1) = omega arith in
+    sym (ap (λ (o : Option (List (Option ℕ) × ℕ)).
+    counted (many_there (play_readings old.meanings c.args.function) o) old.asked)
     (last_point point c.args.args.now (length c.args.args.now - 1) (Label 0) last
     ∙ ap (λ (p : Option ℕ). option_map (λ p. (map point (take (length c.args.args.now - 1) c.args.args.now), p)) p)
     (sym c.point.ensures ∙ c.in-None.is)))

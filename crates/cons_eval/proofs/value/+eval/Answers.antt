@@ -1,5 +1,5 @@
 -- The value of an expression, from those of its parts.
-use Rattle.std.proofs.Common.{◌≡◌, ◌*◌, ◌∙◌, ap, sym, subst, Bool, false, true, not, ℤ, pos, ◌-ℤ◌, w64, of_z, to_z}
+use Rattle.std.proofs.Common.{◌≡◌, ℕ, ◌*◌, ◌∙◌, ap, sym, subst, Bool, false, true, not, ℤ, pos, ◌-ℤ◌, w64, of_z, to_z}
 use Rattle.std.proofs.Common.{arith}
 use Rattle.std.proofs.lemmas.Int.{to_z-of_z}
 use Rattle.pat_types.specs.Labels.{leaf_count}
@@ -7,12 +7,15 @@ use Rattle.cons_eval.specs.Bounds.{IsConstraint, IsWithin, most, most_leaves}
 use Rattle.cons_eval.specs.Meanings.{Meanings, are_placed}
 use Rattle.cons_eval.specs.Values.{worth, is_so, joined_value, value_of}
 use Rattle.cons_eval.specs.Asking.{needs_right, asks}
+use Rattle.cons_eval.specs.Questions.{counted, readings_of}
 use Rattle.cons_eval.proofs.CallCounts.{stays_same, stays_on}
 use Rattle.cons_eval.proofs.Parts.{IsPartOf, part_of_not, part_of_neg, left_part, right_part}
 use Rattle.cons_eval.proofs.ExpressionValues.{bits_within, all_small, opposite_fits, placed_call, num_value}
 use Rattle.cons_eval.proofs.ExpressionValues.{value_of_call, value_of_not, value_of_neg, value_of_sides, value_of_left}
 use Rattle.cons_eval.proofs.ExpressionValues.{test_small, num_small, call_small, neg_small, sides_small, asks_call}
 use Rattle.cons_eval.proofs.ExpressionValues.{asks_not, asks_neg, asks_left, asks_right}
+use Rattle.cons_eval.proofs.ReadingNumbers.{counted_on, readings_of_num, readings_of_call, readings_of_not}
+use Rattle.cons_eval.proofs.ReadingNumbers.{readings_of_neg, readings_of_sides, readings_of_left}
 use Rattle.cons_eval.proofs.value.+eval.Goals as goal
 
 -- the arguments are placed
@@ -258,3 +261,65 @@ returns-else-needs_right-clause-quiet g t c quiet =
     c.eval-left.ensures.quiet
     (asks_left (g.E.Env.view c.args.env.now).meanings c.args.expr.now c.deref-in-Bin.result.now c.in-Bin.op c.in-Bin.a
     c.in-Bin.b c.deref-in-Bin.ensures c.in-Bin.is quiet)
+
+-- a number asks for no reading
+pub returns-in-Num-clause-asked : goal.returns-in-Num-clause-asked
+returns-in-Num-clause-asked g t c =
+    let old = g.E.Env.view c.args.env.now in
+    ap (λ (n : ℕ). counted n old.asked) (readings_of_num old.meanings c.args.expr.now c.in-Num.n c.in-Num.is)
+
+-- a call asks for its own readings
+pub returns-in-Call-clause-asked : goal.returns-in-Call-clause-asked
+returns-in-Call-clause-asked g t c =
+    let old = g.E.Env.view c.args.env.now in
+    c.call.ensures.asked
+    ∙ ap (λ (n : ℕ). counted n old.asked)
+    (readings_of_call old.meanings c.args.expr.now c.in-Call.function c.in-Call.args c.as_slice.result.now
+    c.in-Call.is c.as_slice.ensures)
+
+-- a `!` asks for the readings behind it
+pub returns-in-Not-clause-asked : goal.returns-in-Not-clause-asked
+returns-in-Not-clause-asked g t c =
+    let old = g.E.Env.view c.args.env.now in
+    c.eval.ensures.asked
+    ∙ ap (λ (n : ℕ). counted n old.asked)
+    (readings_of_not old.meanings c.args.expr.now c.deref.result.now c.in-Not.e c.deref.ensures c.in-Not.is)
+
+-- a `-` asks for the readings behind it
+pub returns-in-Neg-clause-asked : goal.returns-in-Neg-clause-asked
+returns-in-Neg-clause-asked g t c =
+    let old = g.E.Env.view c.args.env.now in
+    c.eval-in-Neg.ensures.asked
+    ∙ ap (λ (n : ℕ). counted n old.asked)
+    (readings_of_neg old.meanings c.args.expr.now c.deref-in-Neg.result.now c.in-Neg.e c.deref-in-Neg.ensures
+    c.in-Neg.is)
+
+-- where the right side is needed, both sides ask for theirs
+pub returns-then-needs_right-clause-asked : goal.returns-then-needs_right-clause-asked
+returns-then-needs_right-clause-asked g t c =
+    let old = g.E.Env.view c.args.env.now in
+    let mid = g.E.Env.view c.eval-left.new.env in
+    let left = c.deref-in-Bin.result.now in
+    let right = c.deref-then-needs_right.result.now in
+    let same = to_z-of_z w64 c.eval-left.result (record { sfits = c.eval-left.type_inv }) in
+    let needed : needs_right c.in-Bin.op c.eval-left.result ≡ true =
+    ap (needs_right c.in-Bin.op) (sym same) ∙ (sym c.needs_right.ensures ∙ c.if-needs_right.true) in
+    c.eval-then-needs_right.ensures.asked
+    ∙ (ap (λ (m : Meanings). counted (readings_of m right) mid.asked) c.eval-left.ensures.stays.meanings
+    ∙ (ap (λ (n : ℕ). counted (readings_of old.meanings right) n) c.eval-left.ensures.asked
+    ∙ (counted_on (readings_of old.meanings left) (readings_of old.meanings right) old.asked
+    ∙ ap (λ (n : ℕ). counted n old.asked)
+    (readings_of_sides old.meanings c.args.expr.now left right c.in-Bin.op c.in-Bin.a c.in-Bin.b c.eval-left.result
+    c.deref-in-Bin.ensures c.deref-then-needs_right.ensures c.in-Bin.is c.eval-left.ensures.value needed))))
+
+-- where the left side decides, it alone asks
+pub returns-else-needs_right-clause-asked : goal.returns-else-needs_right-clause-asked
+returns-else-needs_right-clause-asked g t c =
+    let old = g.E.Env.view c.args.env.now in
+    let same = to_z-of_z w64 c.eval-left.result (record { sfits = c.eval-left.type_inv }) in
+    let needless : needs_right c.in-Bin.op c.eval-left.result ≡ false =
+    ap (needs_right c.in-Bin.op) (sym same) ∙ (sym c.needs_right.ensures ∙ c.if-needs_right.false) in
+    c.eval-left.ensures.asked
+    ∙ ap (λ (n : ℕ). counted n old.asked)
+    (readings_of_left old.meanings c.args.expr.now c.deref-in-Bin.result.now c.in-Bin.op c.in-Bin.a c.in-Bin.b
+    c.eval-left.result c.deref-in-Bin.ensures c.in-Bin.is c.eval-left.ensures.value needless)

@@ -35,3 +35,18 @@ returns-clause-value c =
     (ap (λ (code : Codes). is_enemy_safe code c.args.p.now c.args.position.now c.args.friend c.args.z.now.at)
     (sym (codes_stay c.args.readings.now c.is_safe.new.readings c.is_safe.ensures.follows))
     ∙ sym c.is_enemy_safe.ensures.value ∙ c.if-not-is_enemy_safe.false)
+
+-- the friend's stone need not be safe, so nothing is read
+pub returns-then-not-is_safe-clause-unread : goal.returns-then-not-is_safe-clause-unread
+returns-then-not-is_safe-clause-unread c = λ none. c.is_safe.ensures.unread none.need_not_be_safe
+
+-- nor is the enemy asked about
+pub returns-then-not-is_enemy_safe-clause-unread : goal.returns-then-not-is_enemy_safe-clause-unread
+returns-then-not-is_enemy_safe-clause-unread c = λ none.
+    c.is_enemy_safe.ensures.unread none.no_enemy_class ∙ c.is_safe.ensures.unread none.need_not_be_safe
+
+-- nor is there a constraint
+pub returns-clause-unread : goal.returns-clause-unread
+returns-clause-unread c = λ none.
+    c.is_constraint_true.ensures.unread none.no_constraint
+    ∙ (c.is_enemy_safe.ensures.unread none.no_enemy_class ∙ c.is_safe.ensures.unread none.need_not_be_safe)

@@ -49,4 +49,8 @@ matches-preserved c =
           c.is_allowed-allowed.new.friend_plays) same c.is_allowed-allowed.ensures.friend_plays;
       enemy_plays = subst (λ (code : Codes). Remembers code c.args.position.now
           (other c.args.friend) c.is_allowed-allowed.new.enemy_plays) same c.is_allowed-allowed.ensures.enemy_plays;
+      unread = λ none.
+          c.is_allowed-allowed.ensures.unread
+          (none c.index.result.now.pattern c.pattern_with-p.result.now c.pattern_with-p.ensures)
+          ∙ c.matches.invariant.unread none;
     }

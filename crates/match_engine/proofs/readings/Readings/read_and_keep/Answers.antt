@@ -3,7 +3,7 @@ use Rattle.read_rules.specs.Answer.{asked_on}
 use Rattle.read_cache.specs.Kept.{IsMissing}
 use Rattle.match_engine.specs.Keys.{same_key}
 use Rattle.match_engine.specs.Readings.{ReadingsView, AllRest, WasFresh}
-use Rattle.match_engine.proofs.KeptReadings.{AllRest-kept, as_asked}
+use Rattle.match_engine.proofs.KeptReadings.{AllRest-kept, as_asked, untried_as_asked}
 use Rattle.match_engine.proofs.readings.Readings.read_and_keep.Goals as goal
 use Rattle.match_engine.proofs.readings.Readings.read_and_keep.Goals.{in-Err, in_default}
 
@@ -27,6 +27,7 @@ returns-clause-fresh c =
     let asked = c.requires.key
     ∙ sym (ap (λ (r : ReadingsView). asked_on pos c.args.kind c.args.target r.plies r.wide) c.self.view_is) in
     let rests = as_asked key _ _ asked c.read_afresh-read.ensures.rests in
+    let untried = untried_as_asked key _ pos read.trials asked c.read_afresh-read.ensures.untried in
     let missing = subst (λ (r : ReadingsView). IsMissing same_key key pos r.kept)
     (sym c.self.view_is) c.requires.missing in
     let inside = c.self.inside in
@@ -48,6 +49,7 @@ returns-clause-fresh c =
             last = refl;
             fresh = c.saturating_add-self-inside.ensures;
             trials = c.saturating_add-self-inside-2.ensures;
+            untried = untried;
             keeping = inr (record {
               not_kept = w.in-Err.ensures.not_kept;
               kept = w.in-Err.ensures.refused;
@@ -61,6 +63,7 @@ returns-clause-fresh c =
             last = refl;
             fresh = c.saturating_add-self-inside.ensures;
             trials = c.saturating_add-self-inside-2.ensures;
+            untried = untried;
             keeping = inl (record {
               facts = read.facts;
               holds = c.read_afresh-read.ensures.holds;

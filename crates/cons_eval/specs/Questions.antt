@@ -1,0 +1,94 @@
+-- How many readings an expression asks for. A reading is asked for only where a stone stands, and a side of `&&` or
+-- `||` that is not needed asks for none.
+use Rattle.std.specs.Prelude.{ℕ, zero, suc, ◌+◌, ◌-◌, ◌^◌, min, if◌then◌else◌, List, map, Option, Some, None}
+use Rattle.go_rules.specs.declared.Colour.{Colour}
+use Rattle.go_rules.specs.Position.{BoardState, other}
+use Rattle.go_rules.specs.Strings.{cell_at, is_stone}
+use Rattle.go_rules.specs.Play.{play}
+use Rattle.pat_types.specs.declared.expr.Function.{Function}
+use Rattle.pat_types.specs.declared.expr.Function.TheVariants as function
+use Rattle.pat_types.specs.declared.expr.Expr.{Expr, Num, Call, Not', Neg', Bin'}
+use Rattle.cons_eval.specs.declared.calls.Arguments.{Arguments}
+use Rattle.cons_eval.specs.declared.calls.Arguments.TheVariants.{Point, Pair, Points, Play}
+use Rattle.cons_eval.specs.Asking.{needs_right}
+use Rattle.cons_eval.specs.Functions.{after_play, after_moves, colour_of, of_stone}
+use Rattle.cons_eval.specs.Meanings.{Meanings}
+use Rattle.cons_eval.specs.Values.{only_point, two_points, moves_and_point, arguments_of, value_of}
+
+-- one reading where a stone stands at p, and none where it is empty
+abbrev pub readings_at : BoardState → ℕ → ℕ
+readings_at pos p = if is_stone (cell_at pos.cells p) then 1 else 0
+
+-- one reading where a stone stands at b after c plays at a, and none where the play is illegal
+unfoldable pub readings_after : BoardState → Colour → ℕ → ℕ → ℕ
+readings_after pos c a b = after_play 0 (λ next. readings_at next b) (play pos c a)
+
+-- the reading of the other colour's stone at b after c plays at a; none where one of the two plays is illegal
+unfoldable pub readings_against : BoardState → Colour → ℕ → ℕ → ℕ
+readings_against pos c a b = after_play 0 (λ next. readings_after next (other c) b b) (play pos c a)
+
+-- how many readings a function of one point asks for
+abbrev pub point_readings : Meanings → Function → ℕ → ℕ
+point_readings m function.Attack a = readings_at m.position a
+point_readings m function.Defend a = readings_at m.position a
+point_readings m function.SafeXmove a = readings_after m.position (other m.friend) a a
+point_readings m function.SafeOmove a = readings_after m.position m.friend a a
+point_readings m _ a = 0
+
+-- the reading of the string at b after the other colour plays at a; none where b is empty or the play is illegal
+abbrev pub attack_readings : BoardState → ℕ → ℕ → ℕ
+attack_readings pos a b = of_stone 0 (λ c. readings_after pos (other c) a b) (colour_of (cell_at pos.cells b))
+
+-- the reading of the string at b after its colour plays at a; none where b is empty or the play is illegal
+abbrev pub defence_readings : BoardState → ℕ → ℕ → ℕ
+defence_readings pos a b = of_stone 0 (λ c. readings_after pos c a b) (colour_of (cell_at pos.cells b))
+
+-- how many readings a function of two points asks for
+abbrev pub pair_readings : Meanings → Function → ℕ × ℕ → ℕ
+pair_readings m function.DoesAttack ab = attack_readings m.position ab.0 ab.1
+pair_readings m function.DoesDefend ab = defence_readings m.position ab.0 ab.1
+pair_readings m function.OdefendAgainst ab = readings_against m.position m.friend ab.0 ab.1
+pair_readings m function.XdefendAgainst ab = readings_against m.position (other m.friend) ab.0 ab.1
+pair_readings m _ ab = 0
+
+-- how many readings a function of moves and a point asks for
+abbrev pub play_readings : Meanings → Function → List (Option ℕ) × ℕ → ℕ
+play_readings m function.OplayAttack play = readings_at (after_moves m.position m.friend play.0) play.1
+play_readings m function.OplayDefend play = readings_at (after_moves m.position m.friend play.0) play.1
+play_readings m function.XplayAttack play = readings_at (after_moves m.position (other m.friend) play.0) play.1
+play_readings m function.XplayDefend play = readings_at (after_moves m.position (other m.friend) play.0) play.1
+play_readings m _ play = 0
+
+-- how many there are at what is there, and none where nothing is
+abbrev pub many_there : {A : Type 0} → (A → ℕ) → Option A → ℕ
+many_there f None = 0
+many_there f (Some a) = f a
+
+-- how many readings a call asks for, by how the function takes its arguments
+abbrev pub readings_by : Meanings → Function → List (Option ℕ) → Arguments → ℕ
+readings_by m f points Point = many_there (point_readings m f) (only_point points)
+readings_by m f points Pair = many_there (pair_readings m f) (two_points points)
+readings_by m f points Points = 0
+readings_by m f points Play = many_there (play_readings m f) (moves_and_point points)
+
+-- how many readings a call asks for at the points of its arguments
+unfoldable pub call_readings : Meanings → Function → List (Option ℕ) → ℕ
+call_readings m f points = readings_by m f points (arguments_of f)
+
+-- how many readings an expression asks for: those of its calls, a right side's only where it is needed
+unfoldable pub readings_of : Meanings → Expr → ℕ
+readings_of m (Num n) = 0
+readings_of m (Call f args) = call_readings m f (map m.point args)
+readings_of m (Not' p e) = readings_of m e
+readings_of m (Neg' p e) = readings_of m e
+readings_of m (Bin' op p a q b) =
+    readings_of m a + (if needs_right op (value_of m a) then readings_of m b else 0)
+
+-- a count of questions after one more; it stands still at the end of what a u64 counts
+abbrev pub one_more : ℕ → ℕ
+one_more count = min (count + 1) (2 ^ 64 - 1)
+
+-- a count of questions after so many more
+abbrev pub counted : ℕ → ℕ → ℕ
+counted zero count = count
+counted (suc more) count = counted more (one_more count)
