@@ -8,7 +8,7 @@ use Rattle.read_rules.specs.declared.question.Answer.{Answer}
 use Rattle.go_rules.specs.Strings.{liberties}
 use Rattle.read_rules.specs.declared.question.ReadingQuestion.{ReadingQuestion}
 use Rattle.read_rules.specs.Answer.{code_of, asked_on, answer_of, is_attack}
-use Rattle.read_tree.specs.Bound.{outlasts}
+use Rattle.read_rules.specs.Bound.{outlasts}
 use Rattle.read_rules.specs.ActiveArea.{InActiveArea, IsAboutOne}
 use Rattle.read_rules.specs.GoodMoves.{IsOnBoard}
 use Rattle.read_cache.specs.declared.variants.Variant.{Variant}
