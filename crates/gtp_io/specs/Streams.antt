@@ -1,5 +1,5 @@
 -- What contracts see of the objects over the system's streams.
-use Rattle.std.specs.Prelude.{ℕ, List, Option, Result, take, MatchResult}
+use Rattle.std.specs.Prelude.{ℕ, Bool, List, Option, Result, take, MatchResult}
 use Rattle.std.specs.Io.KnownBytes.{Appends}
 
 -- a `StdSource`: its reader, how many bytes the last call gave, and how many calls failed
@@ -8,10 +8,11 @@ pub record SourceState (R : Type 0) : Type 0 where
   pub piece : ℕ
   pub faults : ℕ
 
--- a `StdSink`: its writer, and how many calls failed
+-- a `StdSink`: its writer, how many calls failed, and whether the last one did
 pub record SinkState (W : Type 0) : Type 0 where
   pub writer : W
   pub faults : ℕ
+  pub failed : Bool
 
 -- the writer got as many of the bytes as the call says that it took, and some front of them where the call failed
 abbrev pub PassesOn : {E : Type 0} → Option (List ℕ) → Option (List ℕ) → Result ℕ E → List ℕ → Type 0

@@ -1,7 +1,7 @@
 //! The line that a stream has come to, in a room that is made once.
 ghost use Rattle.std.specs.Prelude.{◌≡◌, ◌≢◌, ◌+◌, ◌≤◌, ◌<◌, true, false, Some, None, All, ◌==◌, [], ◌++◌, length};
 ghost use Rattle.std.specs.Prelude.{take, slice_index, vec_len, vec_capacity, IfOk, IsSome};
-ghost use Rattle.gtp_rules.specs.Lines.{Line, line_of, line_feed};
+ghost use Rattle.gtp_rules.specs.Lines.{Line, line_of, line_feed, longest_line};
 ghost use Rattle.gtp_lex.specs.Held.{longest_held};
 ghost use Rattle.gtp_lex.specs.LinesTaken.{taken_of, given_state};
 ghost use Rattle.gtp_lex.specs.Lines.{Feeds, no_line};
@@ -180,7 +180,8 @@ impl Lines {
     /// The bytes, without the line feed, of the line that the last `take` or `finish` gave.
     pub fn bytes(&self) -> &[u8]
         requires { IsSome self.now.given }
-        ensures { self.now.given ≡ Some result.now }
+        ensures given { self.now.given ≡ Some result.now }
+        ensures short { length result.now ≤ longest_line }
     {
         &self.bytes
     }

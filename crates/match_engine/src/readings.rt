@@ -126,6 +126,25 @@ impl Readings {
         }
     }
 
+    /// The answer to a question about a stone of the position, at the present depths, where a kept variant of the
+    /// question stands on the position. Else nothing changes.
+    pub fn find_kept(&mut self, kind: Kind, position: &Position, target: Point) -> Option<Answer>
+        requires on_board { target < position.now.size * position.now.size }
+        requires stone { cell_at position.now.cells target ≢ Cell.Empty }
+        ensures answer { IfSome result (λ answer. answer
+            ≡ answer_of (asked_on position.now kind target self.old.plies self.old.wide) position.now) }
+        ensures on_board { IfSome result (λ answer. IfSome answer.at (IsOnBoard position.now.size)) }
+        ensures read { IfSome result (λ answer. HasRead
+            (record { question = asked_on position.now kind target self.old.plies self.old.wide }) position.now answer
+            self.old self.new) }
+        ensures rest { AllRest self.new.kept }
+        ensures same { IfNone result (self.new ≡ self.old) }
+    {
+        let key = key_of(kind, position, target, self.depths);
+        let answer = self.find(&key, position)?;
+        Some(answer)
+    }
+
     /// The answer of a kept variant of the question that stands on the position.
     fn find(&mut self, key: &Key, position: &Position) -> Option<Answer>
         ensures found { IfSome result (λ answer. WasKept key.now position.now answer self.old self.new) }
