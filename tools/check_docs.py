@@ -2,9 +2,9 @@
 
 usage: python3 tools/check_docs.py [FILE ...]
 
-Without files these are README.md and docs/FORMATS.md, docs/USING.md and docs/LIBRARY.md, in this order. It runs at the
-top of a fresh clone: README's commands prove and build the program, and docs/USING.md says what has to stand beside
-the clone.
+Without files these are README.md and docs/FORMATS.md, docs/USING.md, docs/LIBRARY.md and docs/HELPERS.md, in this
+order, and the manual page docs/gopat.1, in which `man` may find nothing to warn of. It runs at the top of a fresh
+clone: README's commands prove and build the program, and docs/USING.md says what has to stand beside the clone.
 
 A command is a line `$ ..` of a block that is set off by three backticks; it goes on over lines that end in a
 backslash. The lines below it, up to the next command or the end of the block, are its standard output, where blank
@@ -21,7 +21,8 @@ import sys
 import tempfile
 from typing import Iterator, NamedTuple
 
-DOCUMENTS = ["README.md", "docs/FORMATS.md", "docs/USING.md", "docs/LIBRARY.md"]
+DOCUMENTS = ["README.md", "docs/FORMATS.md", "docs/USING.md", "docs/LIBRARY.md", "docs/HELPERS.md"]
+MANUAL_PAGE = "docs/gopat.1"
 GOPAT = "crates/gopat/out/gopat"
 KIND = re.compile(r"\| (\d+) \| [^|]+ \| `([^`]+)` \| `(line \d+ kind \d+)` \|.*")
 
@@ -91,6 +92,14 @@ def check_kinds(document: str) -> Iterator[str | None]:
         yield None if done.stderr == f"bad database: {note}\n" else f"{document}: kind {number}: {done.stderr}"
 
 
+def check_manual_page() -> Iterator[str | None]:
+    """None, or what `man` warns of in the manual page."""
+    done = subprocess.run(
+        ["man", "--warnings", "-E", "UTF-8", "-l", "-Tutf8", "-Z", MANUAL_PAGE], capture_output=True, text=True, check=False
+    )
+    yield None if done.returncode == 0 and not done.stderr else f"{MANUAL_PAGE}: {done.stderr}"
+
+
 def main(documents: list[str]):
     found: list[str | None] = []
     for document in documents:
@@ -100,6 +109,8 @@ def main(documents: list[str]):
             else:
                 print(f"{block.place}: not run: {block.not_run}")
         found += check_kinds(document)
+    if documents == DOCUMENTS:
+        found += check_manual_page()
     wrong = [one for one in found if one]
     print("\n".join([*wrong, f"{len(found)} commands, quotes and examples, {len(wrong)} of them differ"]))
     sys.exit(1 if wrong else 0)

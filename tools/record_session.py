@@ -1,7 +1,10 @@
-"""Prints protocol lines that go through a game record as a Go interface would: each move with the board after it, some
+"""Prints protocol lines that go through game records as a Go interface would: each move with the board after it, some
 moves taken back and played again, and at the end all of them.
 
-usage: python3 tools/record_session.py RECORD.sgf | gopat
+usage: python3 tools/record_session.py RECORD.sgf [RECORD.sgf ...] | gopat
+
+What of a record is no row of plays is told on standard error, with the record and the move, and the next record follows;
+the exit status is then 1.
 """
 
 import itertools
@@ -35,8 +38,22 @@ def back_and_forth(moves: list[sgf.Move], steps: int):
     yield from ["showboard", "captures black", "captures white"]
 
 
+def main(paths: list[str]) -> int:
+    """Prints the lines of all records, numbered through, and says how many records are no row of plays."""
+    numbers, refused = itertools.count(1), 0
+    for path in paths:
+        try:
+            record = sgf.read(path)
+        except sgf.NotPlayable as why:
+            print(why, file=sys.stderr)
+            refused += 1
+            continue
+        for line in lines(record):
+            print(next(numbers), line)
+    return refused
+
+
 if __name__ == "__main__":
-    if len(sys.argv) != 2:
+    if len(sys.argv) < 2:
         sys.exit(__doc__)
-    for number, line in zip(itertools.count(1), lines(sgf.read(sys.argv[1]))):
-        print(number, line)
+    sys.exit(1 if main(sys.argv[1:]) else 0)

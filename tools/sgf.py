@@ -27,7 +27,8 @@ class Record(NamedTuple):
 
 
 class NotPlayable(Exception):
-    """The record's main line is no row of plays, as where it takes stones off the board."""
+    """The record's main line is no row of plays, as where it takes stones off the board. The text says which record and
+    which of its stones."""
 
 
 def read(path: str) -> Record:
@@ -42,7 +43,7 @@ def read(path: str) -> Record:
             komi = values[0] or None
     for name, values in properties:
         if name == "AE":
-            raise NotPlayable(path)
+            raise NotPlayable(f"{path}: stones are taken off the board behind move {len(moves)}")
         if name in ("AB", "AW"):
             moves += [Move(name[1].lower(), vertex(point, size), True) for point in listed(values)]
         elif name in ("B", "W"):
