@@ -1,13 +1,21 @@
 -- Helpers keep all but their calls while they are asked, and so they say the same.
-use Rattle.std.proofs.Common.{◌≡◌, ℕ, zero, suc, Bool, true, false, cond, List, [], ◌∷◌, map, Option, Some, refl, sym}
-use Rattle.std.proofs.Common.{ap, ◌∙◌}
+use Rattle.std.proofs.Common.{◌≡◌, ⊎_elim, inl, inr, ◌⊎◌, ℕ, zero, suc, Bool, true, false, cond, List, [], ◌∷◌, map}
+use Rattle.std.proofs.Common.{Option, Some, refl, sym, ap, subst, ◌∙◌}
 use Rattle.std.specs.Prelude.{find}
 use Rattle.std.specs.List.{list_any}
 use Rattle.go_rules.specs.declared.Colour.{Colour}
 use Rattle.go_rules.specs.Position.{BoardState}
 use Rattle.helpers.specs.Asking.{HelperState, SlotState, has_name, slot_says, says_yes}
 use Rattle.helper_asking.specs.Rule.{asked_often, slot_asked_often, raised_from, raised}
-use Rattle.match_rules.specs.Conditions.{Advice}
+use Rattle.pat_types.specs.declared.pattern.Pattern.{Pattern}
+use Rattle.dfa_core.specs.Automata.{Row}
+use Rattle.match_rules.specs.Conditions.{Advice, all_yes}
+use Rattle.match_engine.specs.AutomatonMatches.{automaton_matches}
+use Rattle.match_engine.specs.HelperCalls.{after_matches}
+use Rattle.match_engine.specs.Readings.{ReadingsView, codes_at, codes_of}
+use Rattle.session.specs.Machine.{position_of}
+use Rattle.session.specs.SessionState.{SessionState, machine_of}
+use Rattle.session.specs.HelperCalls.{AreAsked}
 use Rattle.session.specs.Handed.{without_its_calls, without_calls}
 
 -- a helper without its calls
@@ -58,3 +66,25 @@ pub same_advice : (a b : List SlotState) → without_calls a ≡ without_calls b
 same_advice a b same = λ i name board at friend.
     (sym (says-quiet a name board at friend) ∙ ap (λ l. says_yes l name board at friend) same
     ∙ says-quiet b name board at friend) i
+
+-- helpers that were asked by these patterns, rows and readings on this board were asked by what a session keeps
+pub listing-is : (kept : SessionState) (friend : Colour) (patterns : List Pattern) (rows : List Row)
+    (board : BoardState) (readings : ReadingsView) (before after : List SlotState) (err lacks : Bool)
+    → patterns ≡ kept.patterns → rows ≡ kept.automaton → board ≡ position_of (machine_of kept)
+    → readings.plies ≡ kept.plies → readings.wide ≡ kept.wide → lacks ≡ err
+    → ((after ≡ after_matches before patterns (automaton_matches (codes_of readings) all_yes rows patterns board friend)
+    board friend) ⊎ ((err ≡ true) × (after ≡ before)))
+    → AreAsked kept friend lacks before after
+listing-is kept friend patterns rows board readings before after err lacks same_patterns same_rows same_board plies wide
+    memory asked =
+    let family : List Pattern → List Row → BoardState → ℕ → ℕ → Type 0 =
+    λ ps r b n k. after ≡ after_matches before ps (automaton_matches (codes_at n k) all_yes r ps b friend) b friend in
+    ⊎_elim
+    (λ (rose : family patterns rows board readings.plies readings.wide).
+    inl (subst (λ k. family kept.patterns kept.automaton (position_of (machine_of kept)) kept.plies k) wide
+    (subst (λ n. family kept.patterns kept.automaton (position_of (machine_of kept)) n readings.wide) plies
+    (subst (λ b. family kept.patterns kept.automaton b readings.plies readings.wide) same_board
+    (subst (λ r. family kept.patterns r board readings.plies readings.wide) same_rows
+    (subst (λ ps. family ps rows board readings.plies readings.wide) same_patterns rose))))))
+    (λ (none : (err ≡ true) × (after ≡ before)). inr (memory ∙ none.0, none.1))
+    asked

@@ -17,3 +17,4 @@ pub mod CommandQuestions
 pub mod CertainHits
 pub mod RunCounts
 pub mod WaitingReplies
+pub mod LineAnswers

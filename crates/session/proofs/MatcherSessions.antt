@@ -34,11 +34,12 @@ AreAmong-found code advice rows patterns board friend = λ z there.
 -- with the automaton of its patterns a session is plain before its first line
 pub plain-first : (advice : Advice) (patterns : List Pattern) (rows : List Row) (plies wide capacity : ℕ)
     → 8 ≤ capacity → IsAutomatonOf patterns rows
-    → IsPlainWith advice patterns plies wide (first_kept patterns rows plies wide capacity)
+    → IsPlainWith advice patterns plies wide capacity (first_kept patterns rows plies wide capacity)
     (matcher_with advice (first_kept patterns rows plies wide capacity))
 plain-first advice patterns rows plies wide capacity room accepts = record {
   machine = refl;
   counts = refl;
+  kept = refl;
   room = room;
   matches = λ i. record {
     patterns = patterns;
@@ -48,12 +49,12 @@ plain-first advice patterns rows plies wide capacity room accepts = record {
 }
 
 -- a session that is plain with some patterns served the lines as the plain machine does
-pub ServesLines-plain : (advice : Advice) (patterns : List Pattern) (plies wide : ℕ) (session : SessionState)
+pub ServesLines-plain : (advice : Advice) (patterns : List Pattern) (plies wide capacity : ℕ) (session : SessionState)
     (matcher : Matcher)
     (generate : Option ℕ) (before after : Streams) (end : End) (tally : Tally Machine)
-    → IsPlainWith advice patterns plies wide session matcher
+    → IsPlainWith advice patterns plies wide capacity session matcher
     → ServesLines generate (step matcher) (machine_of session) before after end tally
     → ServesLines generate (step (plain_matcher advice patterns)) (first_machine plies wide) before after end tally
-ServesLines-plain advice patterns plies wide session matcher generate before after end tally plain serves =
+ServesLines-plain advice patterns plies wide capacity session matcher generate before after end tally plain serves =
     subst (λ m. ServesLines generate (step (plain_matcher advice patterns)) m before after end tally) plain.machine
     (subst (λ k. ServesLines generate (step k) (machine_of session) before after end tally) plain.matches serves)

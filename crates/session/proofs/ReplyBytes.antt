@@ -18,7 +18,8 @@ use Rattle.session.specs.Machine.{Machine}
 use Rattle.run_notes.specs.declared.notes.Counts.{Counts}
 use Rattle.session.specs.Serving.{PutsPart, PutsReply, Replies, RepliesPart, RunsTo, progress_of}
 use Rattle.session.specs.Waiting.{WaitingState, holds_with, sent_with, progress_with, Stop, IsStop, CutsReply, MayStop}
-use Rattle.session.specs.Waiting.{MayCut, Sends}
+use Rattle.session.specs.Waiting.{MayCut, Sends, SendsReply}
+use Rattle.session.specs.Answered.{AnswersLine}
 use Rattle.session.proofs.ServeLemmas.{RunsTo-one, RunsPart-one}
 use Rattle.session.specs.Replies.{IsReplyTo, IsRefusal, IsSound, reply_bytes, reply_ends}
 use Rattle.session.specs.declared.reply.Reply.{Reply}
@@ -96,55 +97,103 @@ Replies-nothing matcher old new line w s answers readings read = record {
   };
 }
 
--- The session answered a line, and its reply came behind those that wait; session is what it kept, and now what it is.
-module _ (matcher : Matcher) (old new now : SessionState) (same : now ≡ new) (line : RawLine) (reply : Reply)
+-- The session answered a line, and its reply came behind those that wait.
+module _ (matcher : Matcher) (old new : SessionState) (line : RawLine) (reply : Reply)
     (answers : IsReplyTo (machine_of old) (step matcher (machine_of old) line) reply (machine_of new))
     (readings : new.counts.readings ≡ counted old.counts.readings (is_read_line (machine_of old) line))
     (read : ReadsAs (asks_of_line (machine_of old) line) old new)
     (w0 : Option (List ℕ)) (s0 : Sent) (b0 : WaitingState) where
   -- nothing came
-  pub turn-nothing : reply ≡ Nothing → RunsTo (step matcher) IsAfterLine (machine_of old) (line ∷ []) (machine_of now)
-      false (progress_with w0 old s0 b0) (progress_with w0 now s0 b0)
+  turn-nothing : reply ≡ Nothing → RunsTo (step matcher) IsAfterLine (machine_of old) (line ∷ []) (machine_of new)
+      false (progress_with w0 old s0 b0) (progress_with w0 new s0 b0)
   turn-nothing is =
-      subst (λ (k : SessionState). RunsTo (step matcher) IsAfterLine (machine_of old) (line ∷ []) (machine_of k) false
-      (progress_with w0 old s0 b0) (progress_with w0 k s0 b0)) (sym same)
-      (RunsTo-one Machine (step matcher) IsAfterLine (machine_of old) line (machine_of new) false
+      RunsTo-one Machine (step matcher) IsAfterLine (machine_of old) line (machine_of new) false
       (progress_with w0 old s0 b0) (progress_with w0 new s0 b0) (line ∷ []) refl
       (Replies-nothing matcher old new line (holds_with w0 b0) (sent_with s0 b0)
       (subst (λ r. IsReplyTo (machine_of old) (step matcher (machine_of old) line) r (machine_of new)) is answers)
-      readings read))
+      readings read)
 
   -- its bytes were sent
-  pub turn-whole : (w1 : Option (List ℕ)) (s1 : Sent) (b1 : WaitingState) (sent : List ℕ) (counts : Counts)
-      → sent ≡ reply_bytes reply → reply_count (reply_bytes reply) ≡ 1
-      → Sends w0 w1 s0 s1 b0 b1 sent counts
-      → RunsTo (step matcher) IsAfterLine (machine_of old) (line ∷ []) (machine_of now) (reply_ends reply)
-      (progress_with w0 old s0 b0) (progress_with w1 now s1 b1)
-  turn-whole w1 s1 b1 sent counts bytes some sends =
-      subst (λ (k : SessionState). RunsTo (step matcher) IsAfterLine (machine_of old) (line ∷ []) (machine_of k)
-      (reply_ends reply) (progress_with w0 old s0 b0) (progress_with w1 k s1 b1)) (sym same)
-      (RunsTo-one Machine (step matcher) IsAfterLine (machine_of old) line (machine_of new) (reply_ends reply)
+  turn-whole : (w1 : Option (List ℕ)) (s1 : Sent) (b1 : WaitingState) (counts : Counts)
+      → reply_count (reply_bytes reply) ≡ 1 → Sends w0 w1 s0 s1 b0 b1 (reply_bytes reply) counts
+      → RunsTo (step matcher) IsAfterLine (machine_of old) (line ∷ []) (machine_of new) (reply_ends reply)
+      (progress_with w0 old s0 b0) (progress_with w1 new s1 b1)
+  turn-whole w1 s1 b1 counts some sends =
+      RunsTo-one Machine (step matcher) IsAfterLine (machine_of old) line (machine_of new) (reply_ends reply)
       (progress_with w0 old s0 b0) (progress_with w1 new s1 b1) (line ∷ []) refl
       (Replies-whole matcher old new line reply answers readings read (holds_with w0 b0) (holds_with w1 b1)
-      (sent_with s0 b0) (sent_with s1 b1) sent bytes some sends.whole))
+      (sent_with s0 b0) (sent_with s1 b1) (reply_bytes reply) refl some sends.whole)
 
   -- the output may fail within it
-  pub turn-stop : (sent : List ℕ) (counts : Counts) (stop : Stop) → sent ≡ reply_bytes reply → counts ≡ now.counts
-      → MayStop w0 s0 b0 sent counts stop
+  pub turn-stop : (counts : Counts) (stop : Stop) → counts ≡ new.counts
+      → MayStop w0 s0 b0 (reply_bytes reply) counts stop
       → MayCut (step matcher) IsAfterLine (machine_of old) (line ∷ []) w0 old s0 b0 stop
-  turn-stop sent counts stop bytes noted may =
+  turn-stop counts stop noted may =
       let a = progress_with w0 old s0 b0 in
       ⊎_elim (λ (at : IsStop w0 s0 b0 stop). inl at)
-      (λ (cuts : CutsReply (holds_with w0 b0) (sent_with s0 b0) sent counts stop).
+      (λ (cuts : CutsReply (holds_with w0 b0) (sent_with s0 b0) (reply_bytes reply) counts stop).
       inr (record {
         kept = new;
-        same = cuts.same ∙ noted ∙ ap (λ (k : SessionState). k.counts) same;
+        same = cuts.same ∙ noted;
         runs = RunsPart-one Machine (step matcher) IsAfterLine (machine_of old) line a
             (progress_of stop.written new stop.sent) (line ∷ []) [] refl
             (Replies-part matcher old new line reply answers readings read (holds_with w0 b0) stop.written
-            (sent_with s0 b0) stop.sent sent bytes cuts.puts);
+            (sent_with s0 b0) stop.sent (reply_bytes reply) refl cuts.puts);
       }))
       may
+
+-- bytes that were sent are those of a reply that is not nothing
+pub sends-reply : (w0 w1 : Option (List ℕ)) (s0 s1 : Sent) (b0 b1 : WaitingState) (reply : Reply) (counts : Counts)
+    (sent : List ℕ) → (reply ≡ Nothing → ⊥) → sent ≡ reply_bytes reply → Sends w0 w1 s0 s1 b0 b1 sent counts
+    → SendsReply w0 w1 s0 s1 b0 b1 reply counts
+sends-reply w0 w1 s0 s1 b0 b1 Nothing counts sent some same sends = absurd (some refl)
+sends-reply w0 w1 s0 s1 b0 b1 (Short text quit) counts sent some same sends =
+    subst (λ l. Sends w0 w1 s0 s1 b0 b1 l counts) same sends
+sends-reply w0 w1 s0 s1 b0 b1 (Text bytes) counts sent some same sends =
+    subst (λ l. Sends w0 w1 s0 s1 b0 b1 l counts) same sends
+sends-reply w0 w1 s0 s1 b0 b1 (NoMemory id) counts sent some same sends =
+    subst (λ l. Sends w0 w1 s0 s1 b0 b1 l counts) same sends
+
+-- The reply to a line was sent.
+module _ (matcher : Matcher) (old new : SessionState) (line : RawLine) (w0 w1 : Option (List ℕ)) (s0 s1 : Sent)
+    (b0 b1 : WaitingState) (counts : Counts) where
+  -- its line was answered, with what was sent
+  pub turn-sent : (reply : Reply) → AnswersLine matcher old line reply new → SendsReply w0 w1 s0 s1 b0 b1 reply counts
+      → RunsTo (step matcher) IsAfterLine (machine_of old) (line ∷ []) (machine_of new) (reply_ends reply)
+      (progress_with w0 old s0 b0) (progress_with w1 new s1 b1)
+  turn-sent Nothing is (holds, sends, waits) =
+      let family : Option (List ℕ) → Sent → WaitingState → Type 0 =
+      λ w s b. RunsTo (step matcher) IsAfterLine (machine_of old) (line ∷ []) (machine_of new) false
+      (progress_with w0 old s0 b0) (progress_with w new s b) in
+      subst (λ w. family w s1 b1) (sym holds) (subst (λ s. family w0 s b1) (sym sends)
+      (subst (λ b. family w0 s0 b) (sym waits)
+      (turn-nothing matcher old new line Nothing is.reply is.readings is.read w0 s0 b0 refl)))
+  turn-sent (Short text quit) is sends =
+      turn-whole matcher old new line (Short text quit) is.reply is.readings is.read w0 s0 b0 w1 s1 b1 counts
+      (is.bytes (λ e. cc)) sends
+  turn-sent (Text bytes) is sends =
+      turn-whole matcher old new line (Text bytes) is.reply is.readings is.read w0 s0 b0 w1 s1 b1 counts
+      (is.bytes (λ e. cc)) sends
+  turn-sent (NoMemory id) is sends =
+      turn-whole matcher old new line (NoMemory id) is.reply is.readings is.read w0 s0 b0 w1 s1 b1 counts
+      (is.bytes (λ e. cc)) sends
+
+  -- where the output may fail after it
+  pub turn-stops : (reply : Reply) → AnswersLine matcher old line reply new → counts ≡ new.counts
+      → SendsReply w0 w1 s0 s1 b0 b1 reply counts → (stop : Stop) → IsStop w1 s1 b1 stop
+      → MayCut (step matcher) IsAfterLine (machine_of old) (line ∷ []) w0 old s0 b0 stop
+  turn-stops Nothing is noted (holds, sends, waits) stop at =
+      inl (subst (λ w. IsStop w s0 b0 stop) holds (subst (λ s. IsStop w1 s b0 stop) sends
+      (subst (λ b. IsStop w1 s1 b stop) waits at)))
+  turn-stops (Short text quit) is noted sends stop at =
+      turn-stop matcher old new line (Short text quit) is.reply is.readings is.read w0 s0 b0 counts stop noted
+      (sends.stops stop at)
+  turn-stops (Text bytes) is noted sends stop at =
+      turn-stop matcher old new line (Text bytes) is.reply is.readings is.read w0 s0 b0 counts stop noted
+      (sends.stops stop at)
+  turn-stops (NoMemory id) is noted sends stop at =
+      turn-stop matcher old new line (NoMemory id) is.reply is.readings is.read w0 s0 b0 counts stop noted
+      (sends.stops stop at)
 
 -- Where the step keeps its word, a reply that is a refusal leaves the machine as it was.
 reply-refused : {M : Type 0} (old : M) (given : Step M) (bytes : List ℕ) (new : M) (ends : Bool) → IsSound old given

@@ -10,6 +10,7 @@ use Rattle.gtp_rules.specs.Steps.{Step}
 use Rattle.gtp_lex.specs.Held.{lines_from, held_from, held_line, longer}
 use Rattle.gtp_lex.proofs.HeldLemmas.{lines_with_rest-lines_from}
 use Rattle.run_notes.specs.declared.notes.Counts.{Counts}
+use Rattle.match_engine.specs.Readings.{KeptReadings, nothing_kept}
 use Rattle.session.specs.Machine.{Machine}
 use Rattle.session.specs.SessionState.{SessionState, no_counts}
 use Rattle.session.specs.Counting.{counted, is_read_line, readings_in}
@@ -191,10 +192,12 @@ idle_along (turn ∷ turns) a b (mid, first, rest) idle =
     idle_along turns mid b rest (λ k d low. idle (suc k) d (omega (arith, low))) ∙ nothing.counts
 
 -- the counts of a session that has answered few lines since it had counted nothing
-pub counts_of : (first last : SessionState) (turns : List (Turn Machine)) → IsAlong IsAfterLine first turns last
+pub counts_of : (capacity : ℕ) (first last : SessionState) (turns : List (Turn Machine)) → IsAlong IsAfterLine first turns last
     → first.counts ≡ no_counts
-    → 8 ≤ first.readings.kept.1 → length turns ≤ most_taken + 1 → AreCountsOf turns last.counts
-counts_of first last turns along none room few =
+    → first.readings.kept ≡ nothing_kept capacity → 8 ≤ capacity → length turns ≤ most_taken + 1
+    → AreCountsOf capacity turns last.counts
+counts_of capacity first last turns along none kept room few =
+    let open_room = subst (λ (k : KeptReadings). 8 ≤ k.1) (sym kept) room in
     let readings = ap (λ (c : Counts). c.readings) none in
     let fresh = ap (λ (c : Counts). c.fresh) none in
     let small : first.counts.readings + length turns < 2 ^ 64 = omega (arith, readings, few) in
@@ -204,8 +207,16 @@ counts_of first last turns along none room few =
     record {
       readings = omega (arith, readings, all);
       fresh = (few_along turns first last along start).few;
-      hits = λ unrefused n hits. (let law = hits_are_kept first [] turns first last 0 n refl along room unrefused hits
+      hits = λ unrefused n hits. (let law = hits_are_kept first [] turns first last 0 n refl along open_room unrefused hits
           (omega (arith, readings, fresh)) small in omega (arith, law));
       untried = λ unfresh. (untried_along turns first last along unfresh).1 ∙ ap (λ (c : Counts). c.trials) none;
       idle = λ idle. idle_along turns first last along idle ∙ none;
+      rose = record {
+        first = first;
+        last = last;
+        uncounted = none;
+        kept = kept;
+        along = along;
+        same = refl;
+      };
     }

@@ -33,10 +33,10 @@ use Rattle.session.proofs.RunCounts.{counts_of, served-few}
 use Rattle.session.proofs.MatcherSessions.{ServesLines-plain}
 
 -- the counts of a session are told where they are asked for
-counts-told : (asked : Bool) (counts : Counts) (tally : Tally Machine) → AreCountsOf tally.turns counts
-    → AreCounts asked (cond asked (Some counts) None) tally
-counts-told true counts tally are = are
-counts-told false counts tally are = refl
+counts-told : (asked : Bool) (capacity : ℕ) (counts : Counts) (tally : Tally Machine)
+    → AreCountsOf capacity tally.turns counts → AreCounts asked capacity (cond asked (Some counts) None) tally
+counts-told true capacity counts tally are = are
+counts-told false capacity counts tally are = refl
 
 -- what was sent is told where lines were generated
 sent-told : {M : Type 0} (generate : Option ℕ) (sent : Sent) (tally : Tally M) → sent.lines ≡ kept_sum 0 tally.replies
@@ -60,18 +60,19 @@ came-served helpers contents options session matcher lines before after end coun
     let now = ends.kept in
     let lines = served-few (step matcher) options.generate
     (machine_of session) before after end counting.tally counting.serves in
-    let are = counts_of session now counting.tally.turns counting.advances.along opens.plain.counts opens.plain.room
-    lines in
+    let are = counts_of options.cache session now counting.tally.turns counting.advances.along opens.plain.counts
+    opens.plain.kept opens.plain.room lines in
     subst (CameBy helpers options contents before after told noted) (sym is) (record {
       patterns = opens.patterns;
       opened = opens.opened;
       tally = counting.tally;
-      serves = ServesLines-plain (says_yes helpers) opens.patterns options.depth options.branch session matcher
+      serves = ServesLines-plain (says_yes helpers) opens.patterns options.depth options.branch options.cache session
+          matcher
           options.generate before after end
           counting.tally opens.plain counting.serves;
-      counted = subst (λ o. AreCounts options.stats o counting.tally)
+      counted = subst (λ o. AreCounts options.stats options.cache o counting.tally)
           (sym (tells ∙ ap (λ (k : Counts). cond options.stats (Some k) None) ends.same))
-          (counts-told options.stats now.counts counting.tally are);
+          (counts-told options.stats options.cache now.counts counting.tally are);
       told = subst (λ o. IsSent options.generate o counting.tally) (sym notes)
           (sent-told options.generate sent counting.tally counting.advances.replies counting.advances.bytes);
     })

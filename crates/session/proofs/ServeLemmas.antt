@@ -3,6 +3,7 @@ use Rattle.std.proofs.Common.{◌≡◌, ◌≢◌, ⊎_elim, inl, inr, ℕ, ◌
 use Rattle.std.proofs.Common.{drop, Option, Some, None, Result, OnOk, IfErr, refl, sym, ap, subst, ◌∙◌, append_assoc}
 use Rattle.std.proofs.Common.{append-nil, take-append-drop, arith}
 use Rattle.std.proofs.lemmas.List.{take_rest, take_all}
+use Rattle.std.specs.Io.KnownBytes.{Appends, Keeps}
 use Rattle.gtp_rules.specs.Lines.{RawLine, Line, TooLong}
 use Rattle.gtp_rules.specs.Steps.{Step}
 use Rattle.gtp_lex.specs.Held.{lines_from, held_from, held_line}
@@ -144,6 +145,12 @@ module _ (goes : SessionState → Turn Machine → SessionState → Type 0) (now
       → CutsShort (answering.step now) goes from lines a stop → CutsShort (answering.step first) goes from lines a stop
   CutsShort-by from lines a stop cuts = subst (λ m. CutsShort (answering.step m) goes from lines a stop) same cuts
 
+-- bytes that are kept are followed by none
+kept-appends : (old new : Option (List ℕ)) → Keeps old new → Appends old new []
+kept-appends None new keeps = tt
+kept-appends (Some xs) None keeps = absurd keeps
+kept-appends (Some xs) (Some ys) keeps = keeps ∙ sym (append-nil xs)
+
 module _ (M : Type 0) (step : M → RawLine → Step M) (goes : SessionState → Turn M → SessionState → Type 0) where
   -- one line, answered whole
   pub RunsTo-one : (from : M) (line : RawLine) (to : M) (ends : Bool) (a b : Progress) (lines : List RawLine)
@@ -243,6 +250,41 @@ module _ (M : Type 0) (step : M → RawLine → Step M) (goes : SessionState →
   CutsShort-is : (from : M) (xs ys : List RawLine) (a : Progress) (stop : Stop) → xs ≡ ys
       → CutsShort step goes from ys a stop → CutsShort step goes from xs a stop
   CutsShort-is from xs ys a stop same cuts = subst (λ l. CutsShort step goes from l a stop) (sym same) cuts
+
+  -- all that waited was put, or some of it, and no line was answered
+  pub RunsTo-stays : (from : M) (w0 w1 : Option (List ℕ)) (kept : SessionState) (s0 s1 : Sent) (b0 b1 : WaitingState)
+      → Stays w0 w1 s0 s1 b0 b1
+      → RunsTo step goes from [] from false (progress_with w0 kept s0 b0) (progress_with w1 kept s1 b1)
+  RunsTo-stays from w0 w1 kept s0 s1 b0 b1 stays = record {
+    tally = no_tally;
+    run = IsTallied-nil M step from;
+    advances = record {
+      writes = kept-appends (holds_with w0 b0) (holds_with w1 b1) stays.holds;
+      along = refl;
+      replies = ap (λ (s : Sent). s.lines) stays.sends;
+      bytes = ap (λ (s : Sent). s.bytes) stays.sends;
+    };
+  }
+
+  -- lines were answered after it
+  pub RunsTo-after : (from to : M) (lines : List RawLine) (ended : Bool) (w0 w1 : Option (List ℕ))
+      (kept : SessionState) (s0 s1 : Sent) (b0 b1 : WaitingState) (c : Progress) → Stays w0 w1 s0 s1 b0 b1
+      → RunsTo step goes from lines to ended (progress_with w1 kept s1 b1) c
+      → RunsTo step goes from lines to ended (progress_with w0 kept s0 b0) c
+  RunsTo-after from to lines ended w0 w1 kept s0 s1 b0 b1 c stays runs =
+      RunsTo-append from from to [] lines ended (progress_with w0 kept s0 b0) (progress_with w1 kept s1 b1) c
+      (RunsTo-stays from w0 w1 kept s0 s1 b0 b1 stays) runs
+
+  -- and where the output may fail
+  pub MayCut-after : (from : M) (lines : List RawLine) (w0 w1 : Option (List ℕ)) (kept : SessionState) (s0 s1 : Sent)
+      (b0 b1 : WaitingState) (stop : Stop) → Stays w0 w1 s0 s1 b0 b1 → MayCut step goes from lines w1 kept s1 b1 stop
+      → MayCut step goes from lines w0 kept s0 b0 stop
+  MayCut-after from lines w0 w1 kept s0 s1 b0 b1 stop stays may =
+      ⊎_elim (λ (at : IsStop w1 s1 b1 stop). inl (stays.stops stop at))
+      (λ (cuts : CutsShort step goes from lines (progress_with w1 kept s1 b1) stop).
+      inr (CutsShort-after from from [] lines (progress_with w0 kept s0 b0) (progress_with w1 kept s1 b1) stop
+      (RunsTo-stays from w0 w1 kept s0 s1 b0 b1 stays) cuts))
+      may
 
   -- the same lines, where the output may fail
   pub MayCut-is : (from : M) (xs ys : List RawLine) (w : Option (List ℕ)) (kept : SessionState) (s : Sent)

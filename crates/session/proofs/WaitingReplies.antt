@@ -1,6 +1,6 @@
 -- Replies that wait: one more of them, and how they go out or break off.
 use Rattle.std.proofs.Common.{◌≡◌, ⊎_elim, inl, inr, ℕ, suc, ◌+◌, ◌-◌, ◌<◌, ◌≤◌, Bool, true, false, cond, nat_le, List}
-use Rattle.std.proofs.Common.{[], ◌∷◌, ◌++◌, length, take, drop, Option, Some, None, Result, Ok, Err, OnOk, IfErr}
+use Rattle.std.proofs.Common.{[], ◌∷◌, ◌++◌, length, take, drop, Option, Some, None, Result, Ok, Err, OnOk, IfOk, IfErr}
 use Rattle.std.proofs.Common.{IsErrAnd, refl, sym, ap, subst, ◌∙◌, append_assoc, append-nil, take-append-drop, take-add}
 use Rattle.std.proofs.Common.{length-append, le-leb, set, arith}
 use Rattle.std.specs.Io.KnownBytes.{Appends, Keeps, append_known}
@@ -14,7 +14,7 @@ use Rattle.session.specs.SessionState.{no_counts}
 use Rattle.session.specs.Tallies.{kept_sum}
 use Rattle.session.specs.Serving.{Puts, PutsFront, PutsPart, PutsReply}
 use Rattle.session.specs.Waiting.{WaitingState, none_wait, gone, counts_at, AreMarked, holds_with, sent_with, Stop}
-use Rattle.session.specs.Waiting.{IsStop, CutsReply, Stays, Sends}
+use Rattle.session.specs.Waiting.{IsStop, CutsReply, MayStop, Stays, Sends}
 use Rattle.session.specs.declared.outbox.ReplyMark.{ReplyMark}
 use Rattle.session.proofs.TallyLemmas.{kept_sum-twice}
 
@@ -23,11 +23,28 @@ pub on_ok_map : {T E P Q : Type 0} (result : Result T E) → (P → Q) → OnOk 
 on_ok_map (Ok x) words p = words p
 on_ok_map (Err e) words p = tt
 
+-- what holds of the value of a success follows from what does
+pub if_ok_map : {T E : Type 0} {P Q : T → Type 0} (result : Result T E) → ((x : T) → P x → Q x) → IfOk result P
+    → IfOk result Q
+if_ok_map (Ok x) words p = words x p
+if_ok_map (Err e) words p = tt
+
 -- what holds of an error follows from what does
 pub if_err_map : {T E : Type 0} {P Q : E → Type 0} (result : Result T E) → ((e : E) → P e → Q e) → IfErr result P
     → IfErr result Q
 if_err_map (Ok x) words p = tt
 if_err_map (Err e) words p = words e p
+
+-- what holds of the one value that a success may have holds of a success
+pub if_ok_is : {T E S : Type 0} (P : T → Type 0) (result : Result T E) (x : T) → IfOk result (λ y. y ≡ x)
+    → OnOk result S → (S → P x) → IfOk result P
+if_ok_is P (Ok y) x same s words = subst P (sym same) (words s)
+if_ok_is P (Err e) x same s words = tt
+
+-- the output may fail so within these bytes, or within equal ones
+pub may-stop-is : (w : Option (List ℕ)) (s : Sent) (b : WaitingState) (sent sent' : List ℕ) (counts : Counts)
+    (stop : Stop) → sent ≡ sent' → MayStop w s b sent counts stop → MayStop w s b sent' counts stop
+may-stop-is w s b sent sent' counts stop same may = subst (λ l. MayStop w s b l counts stop) same may
 
 -- what holds of an error holds where it is passed up
 pub passed_up : {T E : Type 0} (result : Result T E) (error : E) (P : E → Type 0) → IsErrAnd result (λ e. e ≡ error)

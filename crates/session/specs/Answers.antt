@@ -1,5 +1,5 @@
 -- What a session's own answer to a command is, by what the command does.
-use Rattle.std.specs.Prelude.{◌≡◌, ℕ, List}
+use Rattle.std.specs.Prelude.{◌≡◌, ℕ, Bool, true, false, List}
 use Rattle.session.specs.Machine.{Machine}
 use Rattle.session.specs.Effects.{Effect, Refused, Told, Grown, Ended}
 use Rattle.session.specs.declared.answer.Answer.{Answer}
@@ -27,3 +27,8 @@ IsAnswer old effect (answer.Grown text) new = (effect ≡ Grown text old) × (ne
 IsAnswer old effect answer.NoMemory new = Grows effect × (new ≡ old)
 IsAnswer old effect (answer.Refused text) new = (effect ≡ Refused text) × (new ≡ old)
 IsAnswer old effect answer.Ended new = (effect ≡ Ended) × (new ≡ old)
+
+-- the answer says that memory was not found
+abbrev pub lacks_memory : Answer → Bool
+lacks_memory answer.NoMemory = true
+lacks_memory _ = false

@@ -9,10 +9,11 @@ use Rattle.helpers.specs.Asking.{SlotState, says_yes}
 use Rattle.session.specs.Machine.{Machine, first_machine}
 use Rattle.session.specs.Matcher.{plain_matcher}
 use Rattle.session.specs.Answering.{step}
-use Rattle.session.specs.Turns.{Turn}
+use Rattle.session.specs.Turns.{Turn, IsAlong}
+use Rattle.match_engine.specs.Readings.{nothing_kept}
 use Rattle.session.specs.Counting.{readings_in}
-use Rattle.session.specs.Asking.{AskNothing}
-use Rattle.session.specs.SessionState.{no_counts}
+use Rattle.session.specs.Asking.{AskNothing, IsAfterLine}
+use Rattle.session.specs.SessionState.{SessionState, no_counts}
 use Rattle.session.specs.CertainHit.{HaveCertainHits}
 use Rattle.session.specs.Tallies.{Tally, kept_sum}
 use Rattle.session.specs.Ends.{Streams, Serves}
@@ -74,19 +75,31 @@ abbrev pub ServesLines : {M : Type 0} → Option ℕ → (M → RawLine → Step
 ServesLines None step first before after end tally = Serves step first before after end tally
 ServesLines (Some n) step first before after end tally = ServesGenerated n step first before after end tally
 
+-- A session that had counted and kept nothing, and may keep this many questions, counts this after the lines.
+pub record RoseAlong (capacity : ℕ) (turns : List (Turn Machine)) (counts : Counts) : Type 0 where
+  pub first : SessionState
+  pub last : SessionState
+  pub uncounted : first.counts ≡ no_counts
+  pub kept : first.readings.kept ≡ nothing_kept capacity
+  pub along : IsAlong IsAfterLine first turns last
+  pub same : counts ≡ last.counts
+
 -- The counts are those of these lines: each that asks for a reading and is answered with a code is counted, and no more
 -- are fresh. Where no keeping was refused, a certain hit is not fresh: n of them leave only the other readings to be.
--- Without a fresh reading no play was tried, and where no line asks for a reading or for matches nothing is counted.
-pub record AreCountsOf (turns : List (Turn Machine)) (counts : Counts) : Type 0 where
+-- Without a fresh reading no play was tried, and where no line asks for a reading or for matches nothing is counted. The
+-- counts rose line by line, as those of a session that may keep this many questions.
+pub record AreCountsOf (capacity : ℕ) (turns : List (Turn Machine)) (counts : Counts) : Type 0 where
   pub readings : counts.readings ≡ readings_in turns
   pub fresh : counts.fresh ≤ counts.readings
   pub hits : counts.refused ≡ 0 → (n : ℕ) → HaveCertainHits [] turns n → counts.fresh + n ≤ counts.readings
   pub untried : counts.fresh ≡ 0 → counts.trials ≡ 0
   pub idle : AskNothing turns → counts ≡ no_counts
+  pub rose : RoseAlong capacity turns counts
 
 -- the counts are told where they are asked for: those of the lines of the tally
-abbrev pub AreCounts : Bool → Option Counts → Tally Machine → Type 0
-AreCounts asked counts tally = MatchBool asked (IsSomeAnd counts (AreCountsOf tally.turns)) (counts ≡ None)
+abbrev pub AreCounts : Bool → ℕ → Option Counts → Tally Machine → Type 0
+AreCounts asked capacity counts tally =
+    MatchBool asked (IsSomeAnd counts (AreCountsOf capacity tally.turns)) (counts ≡ None)
 
 -- what was sent is told where lines are generated: the replies of the tally that went out whole, and its bytes
 abbrev pub IsSent : {M : Type 0} → Option ℕ → Option Sent → Tally M → Type 0
@@ -104,7 +117,7 @@ pub record IsServed (helpers : List SlotState) (options : Options) (contents : L
   pub tally : Tally Machine
   pub serves : ServesLines options.generate (step (plain_matcher (says_yes helpers) patterns))
       (first_machine options.depth options.branch) before after end tally
-  pub counted : AreCounts options.stats counts tally
+  pub counted : AreCounts options.stats options.cache counts tally
   pub told : IsSent options.generate sent tally
 
 -- nothing was taken, put or counted

@@ -27,3 +27,6 @@ pub mod Serving
 pub mod Sessions
 pub mod Handed
 pub mod Waiting
+pub mod Heard
+pub mod Answered
+pub mod HelperCalls

@@ -14,6 +14,7 @@ use Rattle.session.specs.Outcomes.{Phase, NotTaken, NotOpened, Served}
 use Rattle.session.specs.Ends.{Streams}
 use Rattle.session.specs.Headline.{ServesLines, IsServed, IsUntouched}
 use Rattle.session.specs.Turns.{Turn}
+use Rattle.match_engine.specs.Readings.{nothing_kept}
 use Rattle.session.specs.Tallies.{Tally, Progress, Advances}
 use Rattle.session.specs.Serving.{progress_of}
 use Rattle.gtp_rules.specs.Lines.{RawLine}
@@ -23,12 +24,14 @@ use Rattle.run_notes.specs.declared.notes.Counts.{Counts}
 use Rattle.run_notes.specs.declared.notes.Sent.{Sent}
 
 -- the session is the first machine with these plies and wide plies, its matcher finds the matches of these patterns as
--- the plain one does, by what the helpers say, it has counted nothing, and eight questions and more may be kept
-pub record IsPlainWith (advice : Advice) (patterns : List Pattern) (plies wide : ℕ) (session : SessionState)
+-- the plain one does, by what the helpers say, it has counted and kept nothing, and may keep this many questions, which
+-- are eight and more
+pub record IsPlainWith (advice : Advice) (patterns : List Pattern) (plies wide capacity : ℕ) (session : SessionState)
     (matcher : Matcher) : Type 0 where
   pub machine : machine_of session ≡ first_machine plies wide
   pub counts : session.counts ≡ no_counts
-  pub room : 8 ≤ session.readings.kept.1
+  pub kept : session.readings.kept ≡ nothing_kept capacity
+  pub room : 8 ≤ capacity
   pub matches : matcher ≡ plain_matcher advice patterns
 
 -- the files of the options were opened, in which the helpers may be named, the session is plain with their patterns,
@@ -38,7 +41,8 @@ pub record Opens (helpers : List SlotState) (contents : List ℕ → Option (Lis
     (matcher : Matcher) (lines : LinesState) : Type 0 where
   pub patterns : List Pattern
   pub opened : IsOpened (helper_names helpers) contents options.files options.states patterns
-  pub plain : IsPlainWith (says_yes helpers) patterns options.depth options.branch session matcher
+  pub plain : IsPlainWith (says_yes helpers) patterns options.depth options.branch options.cache session
+      matcher
   pub none : lines ≡ no_line
 
 -- how far a run with these options came: its files were not opened, or the lines were served

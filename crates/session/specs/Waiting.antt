@@ -9,7 +9,10 @@ use Rattle.session.specs.SessionState.{SessionState, no_counts}
 use Rattle.session.specs.Turns.{Turn}
 use Rattle.session.specs.Tallies.{Progress, kept_sum}
 use Rattle.session.specs.Serving.{PutsPart, PutsReply, RunsPart, progress_of}
+use Rattle.session.specs.Replies.{reply_bytes}
 use Rattle.session.specs.declared.outbox.ReplyMark.{ReplyMark}
+use Rattle.session.specs.declared.reply.Reply.{Reply}
+use Rattle.session.specs.declared.reply.Reply.TheVariants as reply
 
 -- the bytes of the replies that wait, in their order, and where each ends, with the counts after its line
 pub record WaitingState : Type 0 where
@@ -91,6 +94,12 @@ pub record Sends (w0 w1 : Option (List ℕ)) (s0 s1 : Sent) (b0 b1 : WaitingStat
     (counts : Counts) : Type 0 where
   pub whole : PutsReply (holds_with w0 b0) (holds_with w1 b1) (sent_with s0 b0) (sent_with s1 b1) reply
   pub stops : (stop : Stop) → IsStop w1 s1 b1 stop → MayStop w0 s0 b0 reply counts stop
+
+-- the reply to a line was sent so, and where there is none all is as it was
+abbrev pub SendsReply : Option (List ℕ) → Option (List ℕ) → Sent → Sent → WaitingState → WaitingState → Reply → Counts
+    → Type 0
+SendsReply w0 w1 s0 s1 b0 b1 reply.Nothing counts = (w1 ≡ w0) × (s1 ≡ s0) × (b1 ≡ b0)
+SendsReply w0 w1 s0 s1 b0 b1 answer counts = Sends w0 w1 s0 s1 b0 b1 (reply_bytes answer) counts
 
 -- how far a run is with what waits
 abbrev pub progress_with : Option (List ℕ) → SessionState → Sent → WaitingState → Progress

@@ -1,9 +1,10 @@
 //! What a session answers to a command, before the id of its line is known.
-ghost use Rattle.std.specs.Prelude.{◌≡◌, ◌≤◌, List, ℕ, length, decimal, IfOk};
+ghost use Rattle.std.specs.Prelude.{◌≡◌, ◌≤◌, true, List, ℕ, length, decimal, is_err, IfOk};
 ghost use Rattle.gtp_cmd.specs.Rooms.{result_room};
 ghost use Rattle.session.specs.Machine.{Machine};
 ghost use Rattle.session.specs.Effects.{Effect, Grown, replied};
-ghost use Rattle.session.specs.Answers.{IsAnswer};
+ghost use Rattle.session.specs.Answers.{IsAnswer, lacks_memory};
+ghost use Rattle.session.specs.HelperCalls as calls;
 ghost use Rattle.session.specs.Replies.{IsReply, reply_bytes};
 ghost use Rattle.session.specs.Tallies.{reply_count};
 
@@ -107,8 +108,9 @@ pub(crate) fn told_number(n: u32) -> Answer
 
 /// A success with a result that took memory, where it was found.
 pub(crate) fn grown(text: Result<Bytes, NoMemory>) -> Answer
-    ensures { (old : Machine) (told : List ℕ) → IfOk text (λ bytes. bytes ≡ told) → IsAnswer old
+    ensures answer { (old : Machine) (told : List ℕ) → IfOk text (λ bytes. bytes ≡ told) → IsAnswer old
         (Grown told old) result old }
+    ensures memory { lacks_memory result ≡ is_err text }
 {
     match text {
         Ok(text) => Answer::Grown(text),
@@ -122,6 +124,7 @@ impl Answer {
         ensures reply { (old new : Machine) (effect : Effect) → IsAnswer old effect self new
             → IsReply old (replied old id effect) result new }
         ensures bytes { reply_count (reply_bytes result) ≡ 1 }
+        ensures memory { lacks_memory self ≡ true → calls.lacks_memory result ≡ true }
     {
         match self {
             Answer::Told(text) => Reply::Short {

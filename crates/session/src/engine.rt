@@ -1,22 +1,24 @@
 //! What a session keeps beside its helpers: the plain machine, its patterns and its counts; and its answer to each
 //! line.
-ghost use Rattle.std.specs.Prelude.{◌≡◌, ◌≢◌, ◌≤◌, ◌↔◌, length, IfOk};
+ghost use Rattle.std.specs.Prelude.{◌≡◌, ◌≤◌, length, IfOk, IfErr, OnOk, OnErr};
 ghost use Rattle.gtp_lex.specs.Raw.{raw_line};
 ghost use Rattle.go_options.specs.Found.{AreInRange};
 ghost use Rattle.go_strings.specs.Games.{reached};
 ghost use Rattle.gtp_cmd.specs.Within.{IsWithin, SaysWithin};
 ghost use Rattle.session.specs.Machine.{position_of};
+ghost use Rattle.match_rules.specs.Conditions.{Advice};
 ghost use Rattle.helpers.specs.Asking.{says_yes};
 ghost use Rattle.helpers.specs.Slots.{states_of};
 ghost use Rattle.session.specs.Handed.{without_calls};
+ghost use Rattle.session.specs.HelperCalls.{AsksHelpers, lacks_memory};
+ghost use Rattle.session.specs.Heard.{heard, command_of, said_by, IsLeft};
+ghost use Rattle.session.specs.Answered.{AnswersParsed};
 ghost use Rattle.session.specs.SessionState.{machine_of, matcher_with, first_kept, NumbersPatterns};
-ghost use Rattle.session.specs.Answering.{step, parsed_step, effect_of, word_of};
+ghost use Rattle.session.specs.Answering.{effect_of, word_of};
 ghost use Rattle.session.specs.Answers.{IsAnswer};
-ghost use Rattle.session.specs.Tallies.{reply_count};
-ghost use Rattle.session.specs.Counting.{counted, is_read, is_parsed_read, is_read_line};
-ghost use Rattle.session.specs.Serving.{HasFewFresh};
-ghost use Rattle.session.specs.Asking.{ReadsAs, KeepsCounts, asks_of, asks_of_parsed, asks_of_line};
-ghost use Rattle.session.specs.Replies.{IsReplyTo, IsWithoutWords, IsRefusal, reply_bytes};
+ghost use Rattle.session.specs.Answers as answers;
+ghost use Rattle.session.specs.Counting.{counted, is_read};
+ghost use Rattle.session.specs.Asking.{ReadsAs, asks_of};
 
 mod board_commands;
 mod matching_commands;
@@ -24,6 +26,7 @@ mod reading_commands;
 
 use crate::answer::{Answer, grown, told};
 use crate::reply::Reply;
+use crate::slow::{Slow, Work};
 use dfa_core::Automaton;
 use dfa_match::Scanner;
 use go_base::{Bytes, NoMemory, Position, Size};
@@ -73,8 +76,6 @@ pub struct Engine {
     patterns: Vec<Pattern>,
     scanner: Scanner,
     counts: ReadingCounts,
-    // whether a line may have taken long since `took_long` was asked last
-    long: bool,
 }
 
 impl Model for Engine {
@@ -142,17 +143,7 @@ impl Engine {
             patterns,
             scanner,
             counts: NO_COUNTS,
-            long: false,
         })
-    }
-
-    /// Whether a line since the last call of this may have taken long: it was read afresh, or asked for matches.
-    pub(crate) fn took_long(&mut self) -> bool
-        ensures { self.new ≡ self.old }
-    {
-        let long = self.long;
-        self.long = false;
-        long
     }
 
     /// What the session counted: its lines that asked for a reading and were answered with a code, those of them that
@@ -168,101 +159,128 @@ impl Engine {
         }
     }
 
-    /// Answers one line, by the step of the machine that this is: for the matches of its patterns this takes
-    /// those by its automaton and what the helpers say. With the automaton of the patterns it is the plain machine.
-    ///
-    /// Nothing comes exactly for a line without words. NoMemory comes only in place of a growing reply. It leaves the
-    /// machine as it was, and so does a refused line; of the counts only that of refused keepings may have risen.
-    pub(crate) fn line(&mut self, helpers: &mut Helpers, raw: Raw<'_>) -> Reply
-        ensures reply { IsReplyTo (machine_of self.old)
-            (step (matcher_with (says_yes (states_of state helpers.old)) self.old) (machine_of self.old)
-            (raw_line raw.entry))
-            result (machine_of self.new) }
-        ensures nothing { result ≡ Reply.Nothing ↔ IsWithoutWords (raw_line raw.entry) }
-        ensures bytes { result ≢ Reply.Nothing → reply_count (reply_bytes result) ≡ 1 }
-        ensures patterns { self.new.patterns ≡ self.old.patterns }
-        ensures same { self.new.automaton ≡ self.old.automaton }
-
-        // A line that asks for a reading and is answered with a code is counted.
-        ensures readings { self.new.counts.readings ≡ counted self.old.counts.readings
-            (is_read_line (machine_of self.old) (raw_line raw.entry)) }
-
-        // It makes one reading, which is kept or fresh; a line that asks for matches may make any, and no other line
-        // makes one.
-        ensures read { ReadsAs (asks_of_line (machine_of self.old) (raw_line raw.entry)) self.old self.new }
-        ensures few_fresh { HasFewFresh self.old.counts → HasFewFresh self.new.counts }
-        ensures refused { IsRefusal (reply_bytes result) → (machine_of self.new ≡ machine_of self.old)
-            × KeepsCounts self.old self.new }
-        ensures helpers { without_calls (states_of state helpers.new) ≡ without_calls (states_of state helpers.old) }
+    /// What a line says: one that is too long is refused.
+    pub(crate) fn heard(&self, raw: Raw<'_>) -> Parsed
+        ensures said { result ≡ heard (machine_of self.now) (raw_line raw.entry) }
+        ensures within { SaysWithin self.now.size result }
     {
         match raw {
-            Raw::TooLong => Reply::refused(None, RefuseText::LineTooLong),
+            Raw::TooLong => Parsed::Refused {
+                id: None,
+                text: RefuseText::LineTooLong,
+            },
             Raw::Line(text) => {
                 let size = self.history.size();
-                self.answer(helpers, parse(text, size))
+                parse(text, size)
             }
         }
     }
 
-    /// Answers what a line says.
-    fn answer(&mut self, helpers: &mut Helpers, parsed: Parsed) -> Reply
-        requires { SaysWithin self.old.size parsed }
-        ensures reply { IsReplyTo (machine_of self.old)
-            (parsed_step (matcher_with (says_yes (states_of state helpers.old)) self.old) (machine_of self.old) parsed)
-            result (machine_of self.new) }
-        ensures nothing { result ≡ Reply.Nothing ↔ (parsed ≡ Parsed.Nothing) }
-        ensures bytes { result ≢ Reply.Nothing → reply_count (reply_bytes result) ≡ 1 }
-        ensures patterns { self.new.patterns ≡ self.old.patterns }
-        ensures same { self.new.automaton ≡ self.old.automaton }
-        ensures readings { self.new.counts.readings ≡ counted self.old.counts.readings
-            (is_parsed_read (machine_of self.old) parsed) }
-        ensures read { ReadsAs (asks_of_parsed (machine_of self.old) parsed) self.old self.new }
-        ensures helpers { without_calls (states_of state helpers.new) ≡ without_calls (states_of state helpers.old) }
+    /// Answers what a line says, by the step of the machine that this is, unless it may take long. Then nothing is done.
+    ///
+    /// NoMemory comes only in place of a growing reply. It leaves the machine as it was.
+    pub(crate) fn try_answer(&mut self, said: Parsed) -> Result<Reply, Slow>
+        requires { SaysWithin self.old.size said }
+        ensures answers { (advice : Advice) → IfOk result
+            (λ reply. AnswersParsed (matcher_with advice self.old) self.old said reply self.new) }
+        ensures left { IfErr result (λ slow. IsLeft self.old said slow self.new) }
     {
-        match parsed {
-            Parsed::Nothing => Reply::Nothing,
-            Parsed::Refused { id, text } => Reply::refused(id, text),
-            Parsed::Command { id, command } => self.obey(helpers, command).reply(self.alloc, id),
+        match said {
+            Parsed::Nothing => Ok(Reply::Nothing),
+            Parsed::Refused { id, text } => Ok(Reply::refused(id, text)),
+            Parsed::Command { id, command } => self.try_command(id, command),
         }
     }
 
-    /// Does what a command says.
-    fn obey(&mut self, helpers: &mut Helpers, command: Command) -> Answer
+    /// Answers a command behind an id, unless it may take long. Then nothing is done.
+    fn try_command(&mut self, id: Option<u32>, command: Command) -> Result<Reply, Slow>
         requires { IsWithin self.old.size command }
-        ensures answer { IsAnswer (machine_of self.old)
-            (effect_of (matcher_with (says_yes (states_of state helpers.old)) self.old) (machine_of self.old) command)
-            result (machine_of self.new) }
-        ensures patterns { self.new.patterns ≡ self.old.patterns }
-        ensures same { self.new.automaton ≡ self.old.automaton }
-        ensures readings { self.new.counts.readings ≡ counted self.old.counts.readings
-            (is_read (machine_of self.old) command) }
-        ensures read { ReadsAs (asks_of (machine_of self.old) command) self.old self.new }
+        ensures answers { (advice : Advice) → IfOk result (λ reply. AnswersParsed (matcher_with advice self.old)
+            self.old (Parsed.Command id command) reply self.new) }
+        ensures left { IfErr result (λ slow. IsLeft self.old (Parsed.Command id command) slow self.new) }
+    {
+        let answer = match self.obey(command) {
+            Ok(answer) => answer,
+            Err(work) => return Err(Slow { id, work }),
+        };
+        Ok(answer.reply(self.alloc, id))
+    }
+
+    /// Answers a line that may take long, by the step of the machine that this is: for the matches of its patterns this
+    /// takes those by its automaton and what the helpers say. With the automaton of the patterns it is the plain
+    /// machine.
+    ///
+    /// NoMemory comes only in place of a growing reply. It leaves the machine as it was.
+    pub(crate) fn finish(&mut self, helpers: &mut Helpers, slow: Slow) -> Reply
+        requires { SaysWithin self.old.size (said_by slow) }
+        ensures answers { AnswersParsed (matcher_with (says_yes (states_of state helpers.old)) self.old) self.old
+            (said_by slow) result self.new }
         ensures helpers { without_calls (states_of state helpers.new) ≡ without_calls (states_of state helpers.old) }
+        ensures calls { AsksHelpers self.old slow.work (lacks_memory result) (states_of state helpers.old)
+            (states_of state helpers.new) }
+    {
+        self.work_on(helpers, slow.work).reply(self.alloc, slow.id)
+    }
+
+    /// Does what may take long.
+    fn work_on(&mut self, helpers: &mut Helpers, work: Work) -> Answer
+        requires { IsWithin self.old.size (command_of work) }
+        ensures answer { IsAnswer (machine_of self.old)
+            (effect_of (matcher_with (says_yes (states_of state helpers.old)) self.old) (machine_of self.old)
+            (command_of work)) result (machine_of self.new) }
+        ensures patterns { self.new.patterns ≡ self.old.patterns }
+        ensures automaton { self.new.automaton ≡ self.old.automaton }
+        ensures readings { self.new.counts.readings ≡ counted self.old.counts.readings
+            (is_read (machine_of self.old) (command_of work)) }
+        ensures read { ReadsAs (asks_of (machine_of self.old) (command_of work)) self.old self.new }
+        ensures helpers { without_calls (states_of state helpers.new) ≡ without_calls (states_of state helpers.old) }
+        ensures calls { AsksHelpers self.old work (answers.lacks_memory result) (states_of state helpers.old)
+            (states_of state helpers.new) }
+    {
+        match work {
+            Work::Attack(p) => self.read(Kind::Attack, p),
+            Work::Defend(p) => self.read(Kind::Defend, p),
+            Work::Match(friend) => self.list_matches(helpers, friend),
+        }
+    }
+
+    /// Does what a command says, unless it may take long. Then nothing is done.
+    fn obey(&mut self, command: Command) -> Result<Answer, Work>
+        requires { IsWithin self.old.size command }
+        ensures answer { (advice : Advice) → IfOk result (λ answer. IsAnswer (machine_of self.old)
+            (effect_of (matcher_with advice self.old) (machine_of self.old) command) answer (machine_of self.new)) }
+        ensures patterns { OnOk result (self.new.patterns ≡ self.old.patterns) }
+        ensures automaton { OnOk result (self.new.automaton ≡ self.old.automaton) }
+        ensures readings { OnOk result (self.new.counts.readings ≡ counted self.old.counts.readings
+            (is_read (machine_of self.old) command)) }
+        ensures read { OnOk result (ReadsAs (asks_of (machine_of self.old) command) self.old self.new) }
+        ensures slow { IfErr result (λ work. command ≡ command_of work) }
+        ensures same { OnErr result (self.new ≡ self.old) }
     {
         match command {
-            Command::ProtocolVersion => told(b"2"),
-            Command::Name => told(b"gopat"),
-            Command::Version => told(b"1"),
-            Command::KnownCommand(known) => told(word(known)),
-            Command::ListCommands => grown(names_text(self.alloc)),
-            Command::Quit => Answer::Ended,
-            Command::BoardSize(size) => self.resize(size),
-            Command::ClearBoard => self.clear(),
-            Command::Komi(komi) => self.keep_komi(komi),
-            Command::GetKomi => told(self.komi.as_slice()),
-            Command::Play(colour, at) => self.play(Move { colour, at }),
-            Command::Undo => self.undo(),
-            Command::ShowBoard => self.show_board(),
-            Command::IsLegal(colour, at) => self.tell_legal(Move { colour, at }),
-            Command::AllLegal(colour) => self.list_legal(colour),
-            Command::CountLib(p) => self.count_liberties(p),
-            Command::FindLib(p) => self.find_liberties(p),
-            Command::Captures(colour) => self.count_captures(colour),
-            Command::Attack(p) => self.read(Kind::Attack, p),
-            Command::Defend(p) => self.read(Kind::Defend, p),
-            Command::Depths { plies, wide } => self.deepen(plies, wide),
-            Command::MatchPatterns(friend) => self.list_matches(helpers, friend),
-            Command::ListPatterns => self.list_patterns(),
+            Command::ProtocolVersion => Ok(told(b"2")),
+            Command::Name => Ok(told(b"gopat")),
+            Command::Version => Ok(told(b"1")),
+            Command::KnownCommand(known) => Ok(told(word(known))),
+            Command::ListCommands => Ok(grown(names_text(self.alloc))),
+            Command::Quit => Ok(Answer::Ended),
+            Command::BoardSize(size) => Ok(self.resize(size)),
+            Command::ClearBoard => Ok(self.clear()),
+            Command::Komi(komi) => Ok(self.keep_komi(komi)),
+            Command::GetKomi => Ok(told(self.komi.as_slice())),
+            Command::Play(colour, at) => Ok(self.play(Move { colour, at })),
+            Command::Undo => Ok(self.undo()),
+            Command::ShowBoard => Ok(self.show_board()),
+            Command::IsLegal(colour, at) => Ok(self.tell_legal(Move { colour, at })),
+            Command::AllLegal(colour) => Ok(self.list_legal(colour)),
+            Command::CountLib(p) => Ok(self.count_liberties(p)),
+            Command::FindLib(p) => Ok(self.find_liberties(p)),
+            Command::Captures(colour) => Ok(self.count_captures(colour)),
+            Command::Attack(p) => self.recall(Kind::Attack, p, Work::Attack(p)),
+            Command::Defend(p) => self.recall(Kind::Defend, p, Work::Defend(p)),
+            Command::Depths { plies, wide } => Ok(self.deepen(plies, wide)),
+            Command::MatchPatterns(friend) => Err(Work::Match(friend)),
+            Command::ListPatterns => Ok(self.list_patterns()),
         }
     }
 

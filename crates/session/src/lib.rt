@@ -19,6 +19,7 @@ mod readings;
 mod reply;
 mod serve;
 mod session;
+mod slow;
 mod top_call;
 mod vertices;
 
@@ -26,4 +27,5 @@ pub use self::session::Session;
 pub use engine::Engine;
 pub use outcome::{End, OpenError, Outcome, WordsError};
 pub use reply::Reply;
+pub use slow::{Slow, Work};
 pub use top_call::{run, run_words};

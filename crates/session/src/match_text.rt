@@ -1,8 +1,10 @@
 //! Matches as a growing text, one a line.
-ghost use Rattle.std.specs.Prelude.{◌≡◌, ◌*◌, ◌<◌, ◌≤◌, ◌++◌, length, slice_get, OnOk, IfOk};
+ghost use Rattle.std.specs.Prelude.{◌≡◌, ◌⊎◌, ◌*◌, ◌<◌, ◌≤◌, ◌++◌, true, length, slice_get, is_err, OnOk, IfOk};
 ghost use Rattle.helpers.specs.Asking.{says_yes};
 ghost use Rattle.helpers.specs.Slots.{states_of};
 ghost use Rattle.match_engine.specs.AutomatonMatches.{automaton_matches};
+ghost use Rattle.match_engine.specs.HelperCalls.{after_matches};
+ghost use Rattle.match_rules.specs.Conditions.{all_yes};
 ghost use Rattle.match_engine.specs.Readings.{codes_of};
 ghost use Rattle.session.specs.Handed.{without_calls};
 ghost use Rattle.session.specs.SessionState.{NumbersPatterns};
@@ -88,6 +90,10 @@ pub(crate) fn matches_text(
     ensures refused { readings.old.refused ≤ readings.new.refused }
     ensures capacity { readings.new.kept.1 ≡ readings.old.kept.1 }
     ensures helpers { without_calls (states_of state helpers.new) ≡ without_calls (states_of state helpers.old) }
+    ensures calls { (states_of state helpers.new ≡ after_matches (states_of state helpers.old) patterns.now
+        (automaton_matches (codes_of readings.old) all_yes scanner.now patterns.now position.now friend) position.now
+        friend)
+        ⊎ ((is_err result ≡ true) × (states_of state helpers.new ≡ states_of state helpers.old)) }
 {
     let found = matches(
         alloc, patterns, scanner, position, friend, readings, helpers,

@@ -96,7 +96,7 @@ fn session_with(
     requires few { length patterns.items ≤ most_patterns }
     requires ranges { AreInRange options.now }
     ensures ok { IfOk result (λ session. IsPlainWith (says_yes (states_of state helpers)) patterns.items
-        options.now.depth options.now.branch session.engine (matcher_of state session)) }
+        options.now.depth options.now.branch options.now.cache session.engine (matcher_of state session)) }
     ensures few { OnOk result (HasFewStates patterns.items options.now.states) }
     ensures err { IfErr result (RefusesStates patterns.items options.now.states) }
 {

@@ -1,5 +1,5 @@
 //! Replies that wait, so that those of many lines go out in one call of the output.
-ghost use Rattle.std.specs.Prelude.{◌≡◌, ◌+◌, ◌<◌, ◌≤◌, true, length, OnOk, IfErr, Option, List, ℕ};
+ghost use Rattle.std.specs.Prelude.{◌≡◌, ◌+◌, ◌<◌, ◌≤◌, true, length, OnOk, OnErr, IfErr, Option, List, ℕ};
 ghost use Rattle.gtp_io.specs.Outside.{IsCounted};
 ghost use Rattle.run_notes.specs.declared.notes.Sent.{Sent};
 ghost use Rattle.session.specs.Tallies.{kept_sum};
@@ -72,6 +72,7 @@ fn put_all<K: Sink>(output: &mut K, bytes: &[u8], sent: &mut Sent) -> Result<(),
     ensures part { IfErr result
         (λ n. PutsFront (K.written output.old) (K.written output.new) sent.old sent.new bytes.now n) }
     ensures cause { IsCounted (K.faults output.old) (K.faults output.new) result }
+    ensures last { OnErr result (K.failed output.new ≡ true) }
 {
     let mut done = 0;
     while done < bytes.len() {
@@ -110,6 +111,7 @@ fn put_directly<K: Sink>(
     ensures part { IfErr result (λ noted. CutsReply (K.written output.old) sent.old reply.now counts
         (record { written = K.written output.new; sent = sent.new; counts = noted })) }
     ensures cause { IsCounted (K.faults output.old) (K.faults output.new) result }
+    ensures last { OnErr result (K.failed output.new ≡ true) }
 {
     match put_all(output, reply, sent) {
         Ok(()) => {
@@ -165,6 +167,7 @@ impl Outbox {
         ensures part { IfErr result (λ noted. IsStop (K.written output.old) sent.old self.old
             (record { written = K.written output.new; sent = sent.new; counts = noted })) }
         ensures cause { IsCounted (K.faults output.old) (K.faults output.new) result }
+        ensures last { OnErr result (K.failed output.new ≡ true) }
     {
         match put_all(output, &self.bytes[..self.len], sent) {
             Ok(()) => {
@@ -196,6 +199,7 @@ impl Outbox {
         ensures part { IfErr result (λ noted. IsStop (K.written output.old) sent.old self.old
             (record { written = K.written output.new; sent = sent.new; counts = noted })) }
         ensures cause { IsCounted (K.faults output.old) (K.faults output.new) result }
+        ensures last { OnErr result (K.failed output.new ≡ true) }
     {
         if self.has_room(n) {
             return Ok(());
@@ -219,6 +223,7 @@ impl Outbox {
         ensures part { IfErr result (λ noted. MayStop (K.written output.old) sent.old self.old reply.now counts
             (record { written = K.written output.new; sent = sent.new; counts = noted })) }
         ensures cause { IsCounted (K.faults output.old) (K.faults output.new) result }
+        ensures last { OnErr result (K.failed output.new ≡ true) }
     {
         self.add(reply, counts);
         if now {
@@ -242,6 +247,7 @@ impl Outbox {
         ensures part { IfErr result (λ noted. MayStop (K.written output.old) sent.old self.old reply.now counts
             (record { written = K.written output.new; sent = sent.new; counts = noted })) }
         ensures cause { IsCounted (K.faults output.old) (K.faults output.new) result }
+        ensures last { OnErr result (K.failed output.new ≡ true) }
     {
         self.make_room(reply.len(), output, sent)?;
         if reply.len() <= ROOM {

@@ -1,5 +1,5 @@
 //! The loops of a run: the lines of a piece, and the pieces of a source.
-ghost use Rattle.std.specs.Prelude.{◌≡◌, ◌≤◌, ◌<◌, false, None, [], ◌∷◌, length, take, IfOk, IfErr, OnOk};
+ghost use Rattle.std.specs.Prelude.{◌≡◌, ◌≤◌, ◌<◌, true, false, None, [], ◌∷◌, length, take, IfOk, IfErr, OnOk, OnErr};
 ghost use Rattle.std.specs.Io.{ReadsAtMost};
 ghost use Rattle.std.specs.Io.KnownBytes.{ReadConsumes};
 ghost use Rattle.gtp_io.specs.Outside.{IsCounted, Gave};
@@ -14,7 +14,9 @@ ghost use Rattle.session.specs.Opened.{EndsCounting};
 ghost use Rattle.session.specs.SessionState.{machine_of};
 ghost use Rattle.session.specs.Sessions.{matcher_of, step_of};
 ghost use Rattle.session.specs.Serving.{progress_of, RunsTo};
-ghost use Rattle.session.specs.Waiting.{none_wait, progress_with, Stop, IsStop, MayCut, CutsShort};
+ghost use Rattle.session.specs.Replies.{reply_bytes, reply_ends};
+ghost use Rattle.session.specs.Waiting.{none_wait, progress_with, Stop, IsStop, MayStop, MayCut, CutsShort};
+ghost use Rattle.session.specs.Waiting.{SendsReply};
 
 use crate::outbox::Outbox;
 use crate::outcome::End;
@@ -31,7 +33,43 @@ const PIECE: usize = 4096;
 /// How many bytes are too many to take.
 const MOST_TAKEN: usize = 1 << 32;
 
-// Answers one line, and says whether it ends the session.
+// Sends the reply to a line behind those that wait, and says whether it ends the session. It is put at once with what
+// waits where `now` says so.
+fn send<K: Sink>(
+    reply: Reply,
+    counts: Counts,
+    now: bool,
+    outbox: &mut Outbox,
+    output: &mut K,
+    sent: &mut Sent,
+) -> Result<bool, Counts>
+    ensures ends { IfOk result (λ ends. ends ≡ reply_ends reply) }
+    ensures ok { OnOk result (SendsReply (K.written output.old) (K.written output.new) sent.old sent.new outbox.old
+        outbox.new reply counts) }
+    ensures part { IfErr result (λ noted. MayStop (K.written output.old) sent.old outbox.old (reply_bytes reply) counts
+        (record { written = K.written output.new; sent = sent.new; counts = noted })) }
+    ensures cause { IsCounted (K.faults output.old) (K.faults output.new) result }
+    ensures last { OnErr result (K.failed output.new ≡ true) }
+{
+    match reply {
+        Reply::Nothing => Ok(false),
+        Reply::Short { text, quit } => {
+            outbox.put(text.as_slice(), counts, now, output, sent)?;
+            Ok(quit)
+        }
+        Reply::Text { bytes } => {
+            outbox.put(bytes.as_slice(), counts, now, output, sent)?;
+            Ok(false)
+        }
+        Reply::NoMemory { id } => {
+            let text = refusal(id, RefuseText::OutOfMemory);
+            outbox.put(text.as_slice(), counts, now, output, sent)?;
+            Ok(false)
+        }
+    }
+}
+
+// Answers one line, and says whether it ends the session. What waits is put before a line that may take long.
 fn answer<K: Sink>(
     session: &mut Session,
     raw: Raw<'_>,
@@ -52,24 +90,14 @@ fn answer<K: Sink>(
         (record { written = K.written output.new; sent = sent.new; counts = noted })) }
     ensures same { matcher_of state session.new ≡ matcher_of state session.old }
     ensures cause { IsCounted (K.faults output.old) (K.faults output.new) result }
+    ensures last { OnErr result (K.failed output.new ≡ true) }
 {
-    let reply = session.line(raw);
-    let now = session.engine.took_long();
-    let counts = session.stats();
-    match reply {
-        Reply::Nothing => Ok(false),
-        Reply::Short { text, quit } => {
-            outbox.put(text.as_slice(), counts, now, output, sent)?;
-            Ok(quit)
-        }
-        Reply::Text { bytes } => {
-            outbox.put(bytes.as_slice(), counts, now, output, sent)?;
-            Ok(false)
-        }
-        Reply::NoMemory { id } => {
-            let text = refusal(id, RefuseText::OutOfMemory);
-            outbox.put(text.as_slice(), counts, now, output, sent)?;
-            Ok(false)
+    match session.try_line(raw) {
+        Ok(reply) => send(reply, session.stats(), false, outbox, output, sent),
+        Err(slow) => {
+            outbox.flush(output, sent)?;
+            let reply = session.finish(slow);
+            send(reply, session.stats(), true, outbox, output, sent)
         }
     }
 }
@@ -99,6 +127,7 @@ fn answer_taken<K: Sink>(
         (record { written = K.written output.new; sent = sent.new; counts = noted })) }
     ensures same { matcher_of state session.new ≡ matcher_of state session.old }
     ensures cause { IsCounted (K.faults output.old) (K.faults output.new) result }
+    ensures last { OnErr result (K.failed output.new ≡ true) }
 {
     match taken {
         Taken::Line => answer(session, Raw::Line(lines.bytes()), outbox, output, sent),
@@ -134,6 +163,7 @@ fn answer_next<K: Sink>(
         (record { written = K.written output.new; sent = sent.new; counts = noted })) }
     ensures same { matcher_of state session.new ≡ matcher_of state session.old }
     ensures cause { IsCounted (K.faults output.old) (K.faults output.new) result }
+    ensures last { OnErr result (K.failed output.new ≡ true) }
 {
     let count = lines.feed(rest);
     match lines.take() {
@@ -169,6 +199,7 @@ fn answer_piece<K: Sink>(
         (record { written = K.written output.new; sent = sent.new; counts = noted })) }
     ensures same { matcher_of state session.new ≡ matcher_of state session.old }
     ensures cause { IsCounted (K.faults output.old) (K.faults output.new) result }
+    ensures last { OnErr result (K.failed output.new ≡ true) }
 {
     let mut rest = piece;
     while !rest.is_empty() {
@@ -202,6 +233,7 @@ fn answer_rest<K: Sink>(
         (progress_of (K.written output.old) session.old.engine sent.old)
         (record { written = K.written output.new; sent = sent.new; counts = noted })) }
     ensures cause { IsCounted (K.faults output.old) (K.faults output.new) result }
+    ensures last { OnErr result (K.failed output.new ≡ true) }
 {
     match lines.finish() {
         Some(taken) => {
@@ -267,6 +299,7 @@ pub(crate) fn serve<S: Source, K: Sink>(
         (K.written output.new) sent.new }
     ensures input { IsCauseOf (result.end ≡ End.InputFault) (S.faults input.old) (S.faults input.new) }
     ensures output { IsCauseOf (result.end ≡ End.OutputFault) (K.faults output.old) (K.faults output.new) }
+    ensures last { result.end ≡ End.OutputFault → K.failed output.new ≡ true }
 {
     let mut outbox = Outbox::new();
     let mut buf = [0u8; PIECE];

@@ -1,20 +1,20 @@
 //! A session of the protocol: what it keeps, and the helpers that its patterns ask.
-ghost use Rattle.std.specs.Prelude.{⊤, ◌≡◌, ◌≢◌, ◌↔◌, IfOk};
+ghost use Rattle.std.specs.Prelude.{⊤, ◌≡◌, IfOk, IfErr};
+ghost use Rattle.gtp_rules.specs.Lines.{RawLine};
 ghost use Rattle.gtp_lex.specs.Raw.{raw_line};
+ghost use Rattle.gtp_cmd.specs.Within.{SaysWithin};
 ghost use Rattle.go_options.specs.Found.{AreInRange};
 ghost use Rattle.helpers.specs.Slots.{states_of};
 ghost use Rattle.session.specs.Handed.{without_calls};
+ghost use Rattle.session.specs.HelperCalls.{AsksHelpers, lacks_memory};
+ghost use Rattle.session.specs.Heard.{heard, said_by, IsLeft};
+ghost use Rattle.session.specs.Answered.{AnswersLine};
 ghost use Rattle.session.specs.SessionState.{machine_of, first_kept, NumbersPatterns};
 ghost use Rattle.session.specs.Sessions.{matcher_of};
-ghost use Rattle.session.specs.Answering.{step};
-ghost use Rattle.session.specs.Tallies.{reply_count};
-ghost use Rattle.session.specs.Counting.{counted, is_read_line};
-ghost use Rattle.session.specs.Serving.{HasFewFresh};
-ghost use Rattle.session.specs.Asking.{ReadsAs, KeepsCounts, asks_of_line};
-ghost use Rattle.session.specs.Replies.{IsReplyTo, IsWithoutWords, IsRefusal, reply_bytes};
 
 use crate::engine::Engine;
 use crate::reply::Reply;
+use crate::slow::Slow;
 use dfa_core::Automaton;
 use go_base::NoMemory;
 use go_options::Options;
@@ -62,41 +62,61 @@ impl Session {
         self.engine.stats()
     }
 
-    /// Answers one line, by the step of the machine that the session is: for the matches of its patterns this takes
-    /// those by its automaton, to which its helpers say yes. With the automaton of the patterns it is the plain
-    /// machine.
+    /// Answers one line, by the step of the machine that the session is, unless it may take long: a question that is
+    /// not kept, and a list of matches. Then nothing is done, and `finish` answers it.
     ///
     /// Nothing comes exactly for a line without words. NoMemory comes only in place of a growing reply. It leaves the
-    /// machine as it was, and so does a refused line; of the counts only that of refused keepings may have risen. The
-    /// empty condition says that the call makes no helper of its own.
-    pub fn line(&mut self, raw: Raw<'_>) -> Reply
-        requires { ⊤ }
-        ensures reply { IsReplyTo (machine_of self.old.engine)
-            (step (matcher_of state self.old) (machine_of self.old.engine) (raw_line raw.entry)) result
-            (machine_of self.new.engine) }
-        ensures nothing { result ≡ Reply.Nothing ↔ IsWithoutWords (raw_line raw.entry) }
-        ensures bytes { result ≢ Reply.Nothing → reply_count (reply_bytes result) ≡ 1 }
-        ensures patterns { self.new.engine.patterns ≡ self.old.engine.patterns }
-        ensures same { self.new.engine.automaton ≡ self.old.engine.automaton }
+    /// machine as it was, and so does a refused line; of the counts only that of refused keepings may have risen.
+    pub fn try_line(&mut self, raw: Raw<'_>) -> Result<Reply, Slow>
+        ensures answers { IfOk result (λ reply. AnswersLine (matcher_of state self.old) self.old.engine
+            (raw_line raw.entry) reply self.new.engine) }
+        ensures left { IfErr result (λ slow. IsLeft self.old.engine
+            (heard (machine_of self.old.engine) (raw_line raw.entry)) slow self.new.engine) }
 
-        // A line that asks for a reading and is answered with a code is counted.
-        ensures readings { self.new.engine.counts.readings ≡ counted self.old.engine.counts.readings
-            (is_read_line (machine_of self.old.engine) (raw_line raw.entry)) }
+        // No helper is asked.
+        ensures helpers { self.new.helpers ≡ self.old.helpers }
+        ensures matcher { matcher_of state self.new ≡ matcher_of state self.old }
+    {
+        let said = self.engine.heard(raw);
+        self.engine.try_answer(said)
+    }
 
-        // It makes one reading, which is kept or fresh; a line that asks for matches may make any, and no other line
-        // makes one.
-        ensures read { ReadsAs (asks_of_line (machine_of self.old.engine) (raw_line raw.entry)) self.old.engine
-            self.new.engine }
-        ensures few_fresh { HasFewFresh self.old.engine.counts → HasFewFresh self.new.engine.counts }
-        ensures refused { IsRefusal (reply_bytes result) → (machine_of self.new.engine ≡ machine_of self.old.engine)
-            × KeepsCounts self.old.engine self.new.engine }
+    /// Answers a line that may take long, by the step of the machine that the session is: for the matches of its
+    /// patterns this takes those by its automaton, to which its helpers say yes. With the automaton of the patterns it
+    /// is the plain machine.
+    ///
+    /// NoMemory comes only in place of a growing reply, and leaves the machine as it was. The empty condition says that
+    /// the call makes no helper of its own.
+    pub fn finish(&mut self, slow: Slow) -> Reply
+        requires own { ⊤ }
+        requires within { SaysWithin self.old.engine.size (said_by slow) }
+        // It answers each line that says this.
+        ensures answers { (line : RawLine) → heard (machine_of self.old.engine) line ≡ said_by slow
+            → AnswersLine (matcher_of state self.old) self.old.engine line result self.new.engine }
 
         // The helpers keep their number, their order, their names and meanings, and stay on or off. Their calls alone
-        // rise.
+        // rise, and these as the rule of asking says: for a list of matches.
+        ensures helpers { without_calls (states_of state self.new.helpers)
+            ≡ without_calls (states_of state self.old.helpers) }
+        ensures calls { AsksHelpers self.old.engine slow.work (lacks_memory result)
+            (states_of state self.old.helpers) (states_of state self.new.helpers) }
+        ensures matcher { matcher_of state self.new ≡ matcher_of state self.old }
+    {
+        self.engine.finish(&mut self.helpers, slow)
+    }
+
+    /// Answers one line, however long it takes: as `try_line` and, where that leaves it, `finish`.
+    pub fn line(&mut self, raw: Raw<'_>) -> Reply
+        requires { ⊤ }
+        ensures answers { AnswersLine (matcher_of state self.old) self.old.engine (raw_line raw.entry) result
+            self.new.engine }
         ensures helpers { without_calls (states_of state self.new.helpers)
             ≡ without_calls (states_of state self.old.helpers) }
         ensures matcher { matcher_of state self.new ≡ matcher_of state self.old }
     {
-        self.engine.line(&mut self.helpers, raw)
+        match self.try_line(raw) {
+            Ok(reply) => reply,
+            Err(slow) => self.finish(slow),
+        }
     }
 }

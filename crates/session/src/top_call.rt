@@ -1,5 +1,5 @@
 //! The top call of the program.
-ghost use Rattle.std.specs.Prelude.{◌≡◌, ◌↔◌, MatchOption, Option, None, Some, if◌then◌else◌, option_map, map};
+ghost use Rattle.std.specs.Prelude.{◌≡◌, ◌↔◌, MatchOption, Option, None, Some, true, if◌then◌else◌, option_map, map};
 ghost use Rattle.std.specs.Prelude.{string_bytes};
 ghost use Rattle.session.specs.Headline.{Came, IsCauseOf, MissedAfter, Runs, RunsHad, files_in};
 ghost use Rattle.session.specs.Opened.{CameBy, EndsCounting};
@@ -93,6 +93,7 @@ fn serve_lines<S: Source, K: Sink>(
         (K.written output.new) sent.new }
     ensures input { IsCauseOf (result.end ≡ End.InputFault) (S.faults input.old) (S.faults input.new) }
     ensures output { IsCauseOf (result.end ≡ End.OutputFault) (K.faults output.old) (K.faults output.new) }
+    ensures last { result.end ≡ End.OutputFault → K.failed output.new ≡ true }
 {
     let Opened { session, lines } = opened;
     match generate {
@@ -131,6 +132,7 @@ fn run_options<L: Loader, S: Source, K: Sink>(
     ensures same { L.contents files.new ≡ L.contents files.old }
     ensures input { IsCauseOf (result.outcome ≡ Outcome.InputFault) (S.faults input.old) (S.faults input.new) }
     ensures output { IsCauseOf (result.outcome ≡ Outcome.OutputFault) (K.faults output.old) (K.faults output.new) }
+    ensures last { result.outcome ≡ Outcome.OutputFault → K.failed output.new ≡ true }
 {
     let mut opened = match open(alloc, options, files, helpers) {
         Ok(opened) => opened,
@@ -171,6 +173,7 @@ fn run_helped<L: Loader, S: Source, K: Sink>(
     ensures same { L.contents files.new ≡ L.contents files.old }
     ensures input { IsCauseOf (result.outcome ≡ Outcome.InputFault) (S.faults input.old) (S.faults input.new) }
     ensures output { IsCauseOf (result.outcome ≡ Outcome.OutputFault) (K.faults output.old) (K.faults output.new) }
+    ensures last { result.outcome ≡ Outcome.OutputFault → K.failed output.new ≡ true }
 {
     match Helpers::new(alloc, helpers) {
         Ok(helpers) => run_options(alloc, options, files, input, output, helpers),
@@ -208,6 +211,7 @@ fn run_unnoted<L: Loader, S: Source, K: Sink>(
     ensures same { L.contents files.new ≡ L.contents files.old }
     ensures input { IsCauseOf (result.outcome ≡ Outcome.InputFault) (S.faults input.old) (S.faults input.new) }
     ensures output { IsCauseOf (result.outcome ≡ Outcome.OutputFault) (K.faults output.old) (K.faults output.new) }
+    ensures last { result.outcome ≡ Outcome.OutputFault → K.failed output.new ≡ true }
 {
     match read_options(alloc, words) {
         Ok(options) => run_helped(alloc, &options, files, input, output, helpers),
@@ -233,8 +237,8 @@ fn put_ran<D: Sink>(notes: &mut D, ran: Ran)
 /// automaton of at most the options' states, and memory is sought, before the first line is read; the first file that
 /// fails, the first fault of the joined files, or a further state ends the run there. Where lines are to be generated
 /// the input is not called, and these lines go through the same loop. Replies of one read wait for each other, up to
-/// some thousand bytes, but not for more than one long reading, and no read is made before every line that has ended is
-/// answered and every reply is out. Nothing more is read or answered after the first failure of the
+/// some thousand bytes, but none waits while a line is answered that may take long, and no read is made before every
+/// line that has ended is answered and every reply is out. Nothing more is read or answered after the first failure of the
 /// input or the output, after a line that ends the session, and after 2^32 bytes. The notes get the counts and what
 /// was sent, where these are asked for, and how the run ended; a failure of the notes changes no outcome.
 pub fn run<L: Loader, S: Source, K: Sink, D: Sink>(
@@ -276,6 +280,8 @@ pub fn run<L: Loader, S: Source, K: Sink, D: Sink>(
           notes_faults = D.faults notes.new;
         })
         result }
+    // A fault of the output was its last call.
+    ensures last { result ≡ Outcome.OutputFault → K.failed output.new ≡ true }
 {
     let ran = run_unnoted(alloc, words, files, input, output, helpers);
     put_ran(notes, ran);
@@ -320,6 +326,8 @@ pub fn run_words<L: Loader, S: Source, K: Sink, D: Sink>(
           notes_faults = D.faults notes.new;
         })
         result }
+    // A fault of the output was its last call.
+    ensures last { result ≡ Outcome.OutputFault → K.failed output.new ≡ true }
 {
     match words {
         Ok(words) => run(alloc, &words, files, input, output, notes, helpers),

@@ -7,7 +7,8 @@ ghost use Rattle.session.specs.SessionState.{machine_of, matcher_with};
 ghost use Rattle.session.specs.Effects.{Grown};
 ghost use Rattle.session.specs.MatchingCommands.{matches_listed};
 ghost use Rattle.session.specs.PatternTexts.{patterns_text};
-ghost use Rattle.session.specs.Answers.{IsAnswer};
+ghost use Rattle.session.specs.Answers.{IsAnswer, lacks_memory};
+ghost use Rattle.session.specs.HelperCalls.{AreAsked};
 ghost use Rattle.session.specs.Asking.{ReadsMany};
 
 use crate::answer::{Answer, grown};
@@ -27,8 +28,9 @@ impl Engine {
         ensures same { self.new.automaton ≡ self.old.automaton }
         ensures read { ReadsMany self.old self.new }
         ensures helpers { without_calls (states_of state helpers.new) ≡ without_calls (states_of state helpers.old) }
+        ensures calls { AreAsked self.old friend (lacks_memory result) (states_of state helpers.old)
+            (states_of state helpers.new) }
     {
-        self.long = true;
         let position = self.position();
         grown(matches_text(
             self.alloc,

@@ -1,5 +1,5 @@
 //! The commands that read whether a string can be captured.
-ghost use Rattle.std.specs.Prelude.{◌≡◌, ◌*◌, ◌<◌, true, is_some};
+ghost use Rattle.std.specs.Prelude.{◌≡◌, ◌*◌, ◌<◌, true, is_some, IfOk, IfErr, OnOk, OnErr};
 ghost use Rattle.session.specs.SessionState.{machine_of};
 ghost use Rattle.session.specs.ReadingCommands.{read, deepened};
 ghost use Rattle.gtp_cmd.specs.Within.{AreDepths};
@@ -11,6 +11,7 @@ use crate::answer::{Answer, told, told_text};
 use crate::engine::Engine;
 use crate::engine::board_commands::has_stone;
 use crate::readings::answer_text;
+use crate::slow::Work;
 use go_base::Point;
 use gtp_cmd::RefuseText;
 use read_moves::Depths;
@@ -32,10 +33,10 @@ impl Engine {
         if let Some(trials) = tried {
             self.counts.fresh = self.counts.fresh.saturating_add(1);
             self.counts.trials = self.counts.trials.saturating_add(trials);
-            self.long = true;
         }
     }
 
+    /// Answers a question about the string of p by a reading, kept or fresh, where a stone stands there.
     pub(crate) fn read(&mut self, kind: Kind, p: Point) -> Answer
         requires { p < self.old.size * self.old.size }
         ensures answer { IsAnswer (machine_of self.old) (read (machine_of self.old) kind p) result
@@ -54,6 +55,31 @@ impl Engine {
         let tried = self.readings.last();
         self.count_reading(tried);
         told_text(answer_text(position.size(), answer))
+    }
+
+    /// Answers the same question, which this work is, unless it has to be read afresh. Then nothing is done.
+    pub(crate) fn recall(&mut self, kind: Kind, p: Point, work: Work) -> Result<Answer, Work>
+        requires { p < self.old.size * self.old.size }
+        ensures answer { IfOk result (λ answer. IsAnswer (machine_of self.old) (read (machine_of self.old) kind p)
+            answer (machine_of self.new)) }
+        ensures patterns { OnOk result (self.new.patterns ≡ self.old.patterns) }
+        ensures automaton { OnOk result (self.new.automaton ≡ self.old.automaton) }
+        ensures readings { OnOk result (self.new.counts.readings ≡ counted self.old.counts.readings
+            (has_stone (machine_of self.old) p)) }
+        ensures read { OnOk result (ReadsAs (asks_at (machine_of self.old) kind p) self.old self.new) }
+        ensures slow { IfErr result (λ left. left ≡ work) }
+        ensures same { OnErr result (self.new ≡ self.old) }
+    {
+        if !has_stone(self.board(), p) {
+            return Ok(Answer::Refused(RefuseText::VertexEmpty));
+        }
+        let position = self.position();
+        let Some(answer) = self.readings.find_kept(kind, &position, p) else {
+            return Err(work);
+        };
+        let tried = self.readings.last();
+        self.count_reading(tried);
+        Ok(told_text(answer_text(position.size(), answer)))
     }
 
     pub(crate) fn deepen(&mut self, plies: u8, wide: u8) -> Answer

@@ -1,5 +1,6 @@
 -- The matches that were found are among the patterns and on the board.
-use Rattle.std.proofs.Common.{sym, ap, subst, ◌∙◌}
+use Rattle.std.proofs.Common.{is_err, inl, inr, sym, ap, subst, ◌∙◌}
+use Rattle.std.proofs.lemmas.Result.{err_from_is_err_and}
 use Rattle.helpers.specs.Asking.{says_yes}
 use Rattle.helpers.specs.Slots.{states_of}
 use Rattle.session.specs.Handed.{without_calls}
@@ -24,3 +25,15 @@ list_text-requires g c =
 -- the helpers were asked, and keep the rest
 pub returns-clause-helpers : goal.returns-clause-helpers
 returns-clause-helpers g c = ap without_calls c.in_ok-found.ensures.calls ∙ raised-quiet _ _
+
+-- they were asked as the rule says
+pub returns-clause-calls : goal.returns-clause-calls
+returns-clause-calls g c = inl c.in_ok-found.ensures.calls
+
+-- without memory for what was found none was asked
+pub returns-in_err-found-clause-calls : goal.returns-in_err-found-clause-calls
+returns-in_err-found-clause-calls g c =
+    inr (
+      ap is_err (err_from_is_err_and c.from_residual.result c.from_residual.ensures.1).1,
+      ap (states_of (λ z. (goal.Helper-dyn g z).state z.1)) c.in_err-found.ensures.unasked,
+    )

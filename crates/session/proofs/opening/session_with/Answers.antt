@@ -22,10 +22,11 @@ returns-clause-ok g c =
     let accepts = subst (λ ps. IsAutomatonOf ps rows) c.as_slice.ensures.value c.in_ok-automaton.ensures.accepts in
     let plies = c.args.options.now.depth in
     let wide = c.args.options.now.branch in
+    let capacity = c.args.options.now.cache in
     let advice = says_yes (states_of (λ z. (goal.Helper-dyn g z).state z.1) c.args.helpers) in
     let session = c.in_ok-new.field-0 in
-    subst (λ h. IsPlainWith advice patterns plies wide session.engine
+    subst (λ h. IsPlainWith advice patterns plies wide capacity session.engine
     (matcher_with (says_yes (states_of (λ z. (goal.Helper-dyn g z).state z.1) h)) session.engine))
     (sym c.in_ok-new.ensures.helpers)
-    (subst (λ k. IsPlainWith advice patterns plies wide k (matcher_with advice k)) (sym c.in_ok-new.ensures.engine)
-    (plain-first advice patterns rows plies wide c.args.options.now.cache c.requires.ranges.cache.0 accepts))
+    (subst (λ k. IsPlainWith advice patterns plies wide capacity k (matcher_with advice k)) (sym c.in_ok-new.ensures.engine)
+    (plain-first advice patterns rows plies wide capacity c.requires.ranges.cache.0 accepts))

@@ -1,111 +1,95 @@
 -- The reply is one that the machine may give, and it is out or waits, or a reply broke off.
-use Rattle.std.proofs.Common.{◌∙◌, refl}
+use Rattle.std.proofs.Common.{ap, inl, ◌∙◌}
 use Rattle.gtp_lex.specs.Raw.{raw_line}
-use Rattle.session.specs.declared.reply.Reply.TheVariants.{Nothing, Short, Text, NoMemory}
-use Rattle.session.proofs.ReplyBytes.{turn-nothing, turn-whole, turn-stop}
-use Rattle.session.proofs.WaitingReplies.{passed_up}
+use Rattle.session.specs.Asking.{IsAfterLine}
+use Rattle.session.specs.Heard.{heard}
+use Rattle.session.specs.Machine.{Machine}
+use Rattle.session.specs.SessionState.{SessionState, machine_of}
+use Rattle.session.specs.Sessions.{matcher_of}
+use Rattle.session.proofs.LineAnswers.{answers-from}
+use Rattle.session.proofs.ReplyBytes.{turn-sent, turn-stops, turn-stop}
+use Rattle.session.proofs.ServeLemmas.{RunsTo-after, MayCut-after}
+use Rattle.session.proofs.WaitingReplies.{on_ok_map, if_ok_is, if_err_map, passed_up}
 use Rattle.session.proofs.serve.answer.Goals as goal
 
--- a line without words
-pub returns-in-Nothing-clause-ok : goal.returns-in-Nothing-clause-ok
-returns-in-Nothing-clause-ok g c =
-    turn-nothing _ c.args.session.now.engine c.line-reply.new.self.engine c.took_long-now.new.self
-    c.took_long-now.ensures (raw_line c.args.raw) Nothing c.in-Nothing.ensures.reply
-    c.in-Nothing.ensures.readings c.in-Nothing.ensures.read (g.K.Sink.written c.args.output.now) c.args.sent.now
-    c.args.outbox.now refl
+-- a line that was answered at once
+pub returns-in-Ok-clause-ok : goal.returns-in-Ok-clause-ok
+returns-in-Ok-clause-ok g c =
+    if_ok_is _ c.send.result _ c.send.ensures.ends c.send.ensures.ok
+    (λ sends. turn-sent _ c.args.session.now.engine c.try_line.new.self.engine (raw_line c.args.raw) _ _ _ _ _ _
+    c.stats.result c.in-Ok.reply c.in-Ok.ensures.answers sends)
 
--- a short reply broke off, or one before it
-pub returns-in_err-put-in-Short-clause-part : goal.returns-in_err-put-in-Short-clause-part
-returns-in_err-put-in-Short-clause-part g c =
-    passed_up c.from_residual.result c.in_err-put-in-Short.field-0.0 _ c.from_residual.ensures.1
-    (turn-stop _ c.args.session.now.engine c.line-reply.new.self.engine c.took_long-now.new.self
-    c.took_long-now.ensures (raw_line c.args.raw) (Short c.in-Short.text c.in-Short.quit) c.in-Short.ensures.reply
-    c.in-Short.ensures.readings c.in-Short.ensures.read (g.K.Sink.written c.args.output.now) c.args.sent.now
-    c.args.outbox.now c.as_slice.result.now
-    c.stats-counts.result _ c.as_slice.ensures c.stats-counts.ensures c.in_err-put-in-Short.ensures.part)
+-- the output may fail after it
+pub returns-in-Ok-clause-stops : goal.returns-in-Ok-clause-stops
+returns-in-Ok-clause-stops g c =
+    on_ok_map c.send.result
+    (λ sends stop at. turn-stops _ c.args.session.now.engine c.try_line.new.self.engine (raw_line c.args.raw)
+    _ _ _ _ _ _ c.stats.result c.in-Ok.reply c.in-Ok.ensures.answers c.stats.ensures sends stop at)
+    c.send.ensures.ok
 
--- a short reply is out or waits
-pub returns-in_ok-put-in-Short-clause-ok : goal.returns-in_ok-put-in-Short-clause-ok
-returns-in_ok-put-in-Short-clause-ok g c =
-    turn-whole _ c.args.session.now.engine c.line-reply.new.self.engine c.took_long-now.new.self
-    c.took_long-now.ensures (raw_line c.args.raw) (Short c.in-Short.text c.in-Short.quit) c.in-Short.ensures.reply
-    c.in-Short.ensures.readings c.in-Short.ensures.read (g.K.Sink.written c.args.output.now) c.args.sent.now
-    c.args.outbox.now
-    (g.K.Sink.written c.put.new.output) c.put.new.sent c.put.new.self c.as_slice.result.now c.stats-counts.result
-    c.as_slice.ensures (c.in-Short.ensures.bytes (λ e. cc)) c.in_ok-put-in-Short.ensures.ok
+-- the output failed within its reply, or before it
+pub returns-in-Ok-clause-part : goal.returns-in-Ok-clause-part
+returns-in-Ok-clause-part g c =
+    let is = c.in-Ok.ensures.answers in
+    if_err_map c.send.result
+    (λ noted may. turn-stop _ c.args.session.now.engine c.try_line.new.self.engine (raw_line c.args.raw) c.in-Ok.reply
+    is.reply is.readings is.read _ _ _ c.stats.result _ c.stats.ensures may)
+    c.send.ensures.part
 
--- the output may fail within a short reply
-pub returns-in_ok-put-in-Short-clause-stops : goal.returns-in_ok-put-in-Short-clause-stops
-returns-in_ok-put-in-Short-clause-stops g c = λ stop at.
-    turn-stop _ c.args.session.now.engine c.line-reply.new.self.engine c.took_long-now.new.self
-    c.took_long-now.ensures (raw_line c.args.raw) (Short c.in-Short.text c.in-Short.quit) c.in-Short.ensures.reply
-    c.in-Short.ensures.readings c.in-Short.ensures.read (g.K.Sink.written c.args.output.now) c.args.sent.now
-    c.args.outbox.now c.as_slice.result.now
-    c.stats-counts.result stop c.as_slice.ensures c.stats-counts.ensures
-    (c.in_ok-put-in-Short.ensures.ok.stops stop at)
+-- what waited broke off, and the line was not answered
+pub returns-in_err-flush-in-Err-clause-part : goal.returns-in_err-flush-in-Err-clause-part
+returns-in_err-flush-in-Err-clause-part g c =
+    passed_up c.from_residual.result c.in_err-flush-in-Err.field-0.0 _ c.from_residual.ensures.1
+    (inl c.in_err-flush-in-Err.ensures.part)
 
--- a reply that took memory broke off, or one before it
-pub returns-in_err-put-in-Text-clause-part : goal.returns-in_err-put-in-Text-clause-part
-returns-in_err-put-in-Text-clause-part g c =
-    passed_up c.from_residual-in_err-put-in-Text.result c.in_err-put-in-Text.field-0.0 _
-    c.from_residual-in_err-put-in-Text.ensures.1
-    (turn-stop _ c.args.session.now.engine c.line-reply.new.self.engine c.took_long-now.new.self
-    c.took_long-now.ensures (raw_line c.args.raw) (Text c.in-Text.bytes) c.in-Text.ensures.reply
-    c.in-Text.ensures.readings c.in-Text.ensures.read (g.K.Sink.written c.args.output.now) c.args.sent.now
-    c.args.outbox.now c.as_slice-in-Text.result.now
-    c.stats-counts.result _ c.as_slice-in-Text.ensures c.stats-counts.ensures c.in_err-put-in-Text.ensures.part)
+-- the points that a line names are on the board
+pub finish-reply-requires-clause-within : goal.finish-reply-requires-clause-within
+finish-reply-requires-clause-within g c = c.in-Err.ensures.left.within
 
--- a reply that took memory is out or waits
-pub returns-in_ok-put-in-Text-clause-ok : goal.returns-in_ok-put-in-Text-clause-ok
-returns-in_ok-put-in-Text-clause-ok g c =
-    turn-whole _ c.args.session.now.engine c.line-reply.new.self.engine c.took_long-now.new.self
-    c.took_long-now.ensures (raw_line c.args.raw) (Text c.in-Text.bytes) c.in-Text.ensures.reply
-    c.in-Text.ensures.readings c.in-Text.ensures.read (g.K.Sink.written c.args.output.now) c.args.sent.now
-    c.args.outbox.now
-    (g.K.Sink.written c.put-in-Text.new.output) c.put-in-Text.new.sent c.put-in-Text.new.self
-    c.as_slice-in-Text.result.now c.stats-counts.result
-    c.as_slice-in-Text.ensures (c.in-Text.ensures.bytes (λ e. cc)) c.in_ok-put-in-Text.ensures.ok
+-- a line that was left was answered after what waited
+pub returns-in_ok-flush-in-Err-clause-ok : goal.returns-in_ok-flush-in-Err-clause-ok
+returns-in_ok-flush-in-Err-clause-ok g c =
+    let left = c.in-Err.ensures.left in
+    let line = raw_line c.args.raw in
+    let is = answers-from (matcher_of (λ z. (goal.Helper-dyn g z).state z.1) c.args.session.now) _
+    c.args.session.now.engine c.try_line.new.self.engine line c.finish-reply.result c.finish-reply.new.self.engine
+    c.try_line.ensures.matcher left.same (c.finish-reply.ensures.answers line
+    (ap (λ (k : SessionState). heard (machine_of k) line) left.same ∙ left.says)) in
+    if_ok_is _ c.send-in-Err.result _ c.send-in-Err.ensures.ends c.send-in-Err.ensures.ok
+    (λ sends. RunsTo-after Machine _ IsAfterLine _ _ _ _ _ _ _ _ _ _ _ _ c.in_ok-flush-in-Err.ensures.ok
+    (turn-sent _ c.args.session.now.engine c.finish-reply.new.self.engine line _ _ _ _ _ _ c.stats-in-Err.result
+    c.finish-reply.result is sends))
 
--- the output may fail within a reply that took memory
-pub returns-in_ok-put-in-Text-clause-stops : goal.returns-in_ok-put-in-Text-clause-stops
-returns-in_ok-put-in-Text-clause-stops g c = λ stop at.
-    turn-stop _ c.args.session.now.engine c.line-reply.new.self.engine c.took_long-now.new.self
-    c.took_long-now.ensures (raw_line c.args.raw) (Text c.in-Text.bytes) c.in-Text.ensures.reply
-    c.in-Text.ensures.readings c.in-Text.ensures.read (g.K.Sink.written c.args.output.now) c.args.sent.now
-    c.args.outbox.now c.as_slice-in-Text.result.now
-    c.stats-counts.result stop c.as_slice-in-Text.ensures c.stats-counts.ensures
-    (c.in_ok-put-in-Text.ensures.ok.stops stop at)
+-- the output may fail after it
+pub returns-in_ok-flush-in-Err-clause-stops : goal.returns-in_ok-flush-in-Err-clause-stops
+returns-in_ok-flush-in-Err-clause-stops g c =
+    let left = c.in-Err.ensures.left in
+    let line = raw_line c.args.raw in
+    let is = answers-from (matcher_of (λ z. (goal.Helper-dyn g z).state z.1) c.args.session.now) _
+    c.args.session.now.engine c.try_line.new.self.engine line c.finish-reply.result c.finish-reply.new.self.engine
+    c.try_line.ensures.matcher left.same (c.finish-reply.ensures.answers line
+    (ap (λ (k : SessionState). heard (machine_of k) line) left.same ∙ left.says)) in
+    on_ok_map c.send-in-Err.result
+    (λ sends stop at. MayCut-after Machine _ IsAfterLine _ _ _ _ _ _ _ _ _ stop c.in_ok-flush-in-Err.ensures.ok
+    (turn-stops _ c.args.session.now.engine c.finish-reply.new.self.engine line _ _ _ _ _ _ c.stats-in-Err.result
+    c.finish-reply.result is c.stats-in-Err.ensures sends stop at))
+    c.send-in-Err.ensures.ok
 
--- the refusal in place of a growing reply broke off, or one before it
-pub returns-in_err-put-in-NoMemory-clause-part : goal.returns-in_err-put-in-NoMemory-clause-part
-returns-in_err-put-in-NoMemory-clause-part g c =
-    passed_up c.from_residual-in_err-put-in-NoMemory.result c.in_err-put-in-NoMemory.field-0.0 _
-    c.from_residual-in_err-put-in-NoMemory.ensures.1
-    (turn-stop _ c.args.session.now.engine c.line-reply.new.self.engine c.took_long-now.new.self
-    c.took_long-now.ensures (raw_line c.args.raw) (NoMemory c.in-NoMemory.id) c.in-NoMemory.ensures.reply
-    c.in-NoMemory.ensures.readings c.in-NoMemory.ensures.read (g.K.Sink.written c.args.output.now) c.args.sent.now
-    c.args.outbox.now c.as_slice-in-NoMemory.result.now
-    c.stats-counts.result _ (c.as_slice-in-NoMemory.ensures ∙ c.refusal-text.ensures) c.stats-counts.ensures
-    c.in_err-put-in-NoMemory.ensures.part)
+-- the output failed within its reply
+pub returns-in_ok-flush-in-Err-clause-part : goal.returns-in_ok-flush-in-Err-clause-part
+returns-in_ok-flush-in-Err-clause-part g c =
+    let left = c.in-Err.ensures.left in
+    let line = raw_line c.args.raw in
+    let is = answers-from (matcher_of (λ z. (goal.Helper-dyn g z).state z.1) c.args.session.now) _
+    c.args.session.now.engine c.try_line.new.self.engine line c.finish-reply.result c.finish-reply.new.self.engine
+    c.try_line.ensures.matcher left.same (c.finish-reply.ensures.answers line
+    (ap (λ (k : SessionState). heard (machine_of k) line) left.same ∙ left.says)) in
+    if_err_map c.send-in-Err.result
+    (λ noted may. MayCut-after Machine _ IsAfterLine _ _ _ _ _ _ _ _ _ _ c.in_ok-flush-in-Err.ensures.ok
+    (turn-stop _ c.args.session.now.engine c.finish-reply.new.self.engine line c.finish-reply.result
+    is.reply is.readings is.read _ _ _ c.stats-in-Err.result _ c.stats-in-Err.ensures may))
+    c.send-in-Err.ensures.part
 
--- the refusal in place of a growing reply is out or waits
-pub returns-in_ok-put-in-NoMemory-clause-ok : goal.returns-in_ok-put-in-NoMemory-clause-ok
-returns-in_ok-put-in-NoMemory-clause-ok g c =
-    turn-whole _ c.args.session.now.engine c.line-reply.new.self.engine c.took_long-now.new.self
-    c.took_long-now.ensures (raw_line c.args.raw) (NoMemory c.in-NoMemory.id) c.in-NoMemory.ensures.reply
-    c.in-NoMemory.ensures.readings c.in-NoMemory.ensures.read (g.K.Sink.written c.args.output.now) c.args.sent.now
-    c.args.outbox.now
-    (g.K.Sink.written c.put-in-NoMemory.new.output) c.put-in-NoMemory.new.sent c.put-in-NoMemory.new.self
-    c.as_slice-in-NoMemory.result.now c.stats-counts.result
-    (c.as_slice-in-NoMemory.ensures ∙ c.refusal-text.ensures) (c.in-NoMemory.ensures.bytes (λ e. cc))
-    c.in_ok-put-in-NoMemory.ensures.ok
-
--- the output may fail within the refusal in place of a growing reply
-pub returns-in_ok-put-in-NoMemory-clause-stops : goal.returns-in_ok-put-in-NoMemory-clause-stops
-returns-in_ok-put-in-NoMemory-clause-stops g c = λ stop at.
-    turn-stop _ c.args.session.now.engine c.line-reply.new.self.engine c.took_long-now.new.self
-    c.took_long-now.ensures (raw_line c.args.raw) (NoMemory c.in-NoMemory.id) c.in-NoMemory.ensures.reply
-    c.in-NoMemory.ensures.readings c.in-NoMemory.ensures.read (g.K.Sink.written c.args.output.now) c.args.sent.now
-    c.args.outbox.now c.as_slice-in-NoMemory.result.now
-    c.stats-counts.result stop (c.as_slice-in-NoMemory.ensures ∙ c.refusal-text.ensures) c.stats-counts.ensures
-    (c.in_ok-put-in-NoMemory.ensures.ok.stops stop at)
+-- the matcher stays
+pub returns-in_ok-flush-in-Err-clause-same : goal.returns-in_ok-flush-in-Err-clause-same
+returns-in_ok-flush-in-Err-clause-same g c = c.finish-reply.ensures.matcher ∙ c.try_line.ensures.matcher
