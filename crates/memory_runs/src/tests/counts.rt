@@ -21,6 +21,64 @@ fn readings_are_counted(rt: HostRuntime) -> Result<(), Fail> {
     Ok(())
 }
 
+/// Questions about the black stone of a position, and the note of the counts.
+///
+/// ```text
+/// . . O . .
+/// . O X O .     Black's stone at D4 has its last liberty at D3.
+/// . . . . .
+/// ```
+///
+/// Without a wide ply the attacker tries D3 alone. With one he tries C3 before it, in reading order: black then gets out
+/// at D3, to more liberties than the last ply can fill, which is seen without a play.
+const COUNTED_PLAYS: [(&str, &[u8]); 3] = [
+    (
+        "depths 1 0\nattack D4\n",
+        b"readings 1 fresh 1 trials 1 refused 0\n",
+    ),
+    (
+        "depths 3 2\nattack D4\n",
+        b"readings 1 fresh 1 trials 2 refused 0\n",
+    ),
+    (
+        "depths 3 2\nattack D4\nattack D4\ndepths 1 0\nattack D4\n",
+        b"readings 3 fresh 2 trials 3 refused 0\n",
+    ),
+];
+
+#[test]
+fn plays_of_fresh_readings_are_counted(rt: HostRuntime) -> Result<(), Fail> {
+    for (questions, notes) in COUNTED_PLAYS {
+        let mut input = Vec::new(rt.alloc());
+        input.extend_from_slice(b"boardsize 9\nplay b D4\nplay w C4\nplay w E4\nplay w D5\n")?;
+        input.extend_from_slice(questions.as_bytes())?;
+        let ran = go_with(&rt, rt.alloc(), &["--stats"], &[], &input, WHOLE)?;
+        assert_eq!(rt; ran.notes.bytes(), notes, "{questions}");
+    }
+    Ok(())
+}
+
+/// How many questions may be kept, and how the note of the counts begins after nine questions and the first once more.
+const KEPT_QUESTIONS: [(&str, &[u8]); 2] = [
+    ("8", b"readings 10 fresh 10 "),
+    ("9", b"readings 10 fresh 9 "),
+];
+
+// Nine stones that stand apart, each asked about once; the question used longest ago makes room for the ninth.
+#[test]
+fn as_many_questions_are_kept_as_the_option_says(rt: HostRuntime) -> Result<(), Fail> {
+    let input =
+        b"play b D4\nplay b D10\nplay b D16\nplay b K4\nplay b K10\nplay b K16\nplay b Q4\nplay b Q10\n\
+        play b Q16\nattack D4\nattack D10\nattack D16\nattack K4\nattack K10\nattack K16\nattack Q4\n\
+        attack Q10\nattack Q16\nattack D4\n";
+    for (most, counts) in KEPT_QUESTIONS {
+        let options = ["--depth", "3", "--branch", "2", "--cache", most, "--stats"];
+        let ran = go_with(&rt, rt.alloc(), &options, &[], input, WHOLE)?;
+        assert!(rt; ran.notes.bytes().starts_with(counts), "{most} questions");
+    }
+    Ok(())
+}
+
 /// What was asked, the lines, the replies, and how the note of the counts begins.
 const KEPT_READINGS: [(&str, &[u8], &[u8], &[u8]); 4] = [
     (

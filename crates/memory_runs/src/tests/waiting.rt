@@ -77,29 +77,53 @@ const PATTERN: &[File<'static>] = &[File {
 }];
 
 /// Lines that come together, the call of the output that fails, and what is out then.
-const CALLS_OF_THE_OUTPUT: [(&str, &[u8], u64, &[u8]); 6] = [
+const CALLS_OF_THE_OUTPUT: [(&str, &[u8], u64, &[u8]); 10] = [
     (
-        "a fresh reading's reply goes out at once, with those before it",
+        "what waits goes out before a fresh reading of an attack",
         b"name\nplay b D4\nattack D4\nname\n",
         2,
-        b"= gopat\n\n=\n\n= 0\n\n",
+        b"= gopat\n\n=\n\n",
     ),
     (
-        "they are the first call",
+        "and before one of a defence",
+        b"name\nplay b D4\ndefend D4\nname\n",
+        2,
+        b"= gopat\n\n=\n\n",
+    ),
+    (
+        "it is the first call",
         b"name\nplay b D4\nattack D4\nname\n",
         1,
         b"",
     ),
     (
-        "a kept reading's reply waits",
-        b"play b D4\nattack D4\nattack D4\nname\n",
+        "a fresh reading's reply goes out at once",
+        b"name\nplay b D4\nattack D4\nname\n",
         3,
-        b"=\n\n= 0\n\n= 0\n\n= gopat\n\n",
+        b"= gopat\n\n=\n\n= 0\n\n",
+    ),
+    (
+        "no call is made where nothing waits",
+        b"play b D4\nattack D4\ndefend D4\nname\n",
+        3,
+        b"=\n\n= 0\n\n",
+    ),
+    (
+        "a kept reading's reply waits with quick ones",
+        b"play b D4\nattack D4\nname\nattack D4\nname\n",
+        4,
+        b"=\n\n= 0\n\n= gopat\n\n= 0\n\n= gopat\n\n",
+    ),
+    (
+        "what waits goes out before matches are sought",
+        b"boardsize 2\nplay b A1\nmatch_patterns b\nname\n",
+        2,
+        b"=\n\n=\n\n",
     ),
     (
         "matches go out at once",
         b"boardsize 2\nplay b A1\nmatch_patterns b\nname\n",
-        2,
+        3,
         b"=\n\n=\n\n= P 0 B1\nP 3 A2\nP 5 A2\nP 6 B1\n\n",
     ),
     (
@@ -118,7 +142,7 @@ const CALLS_OF_THE_OUTPUT: [(&str, &[u8], u64, &[u8]); 6] = [
 
 // A call that is not made cannot fail, so the failing call shows how the replies were put together.
 #[test]
-fn replies_go_out_after_what_takes_long(rt: HostRuntime) -> Result<(), Fail> {
+fn no_reply_waits_for_what_takes_long(rt: HostRuntime) -> Result<(), Fail> {
     for (what, input, call, output) in CALLS_OF_THE_OUTPUT {
         let way = Way {
             sink_fails: call,
