@@ -58,7 +58,7 @@ module _ (s : ℕ) (cells : List Cell) where
   step_from S q p on h (beyond y w p_on near) = close_next s cells S y p p_on (whole_with S q y on h w) near
 
   -- the neighbourhood of the string of t, taken n times
-  abbrev closed : ℕ → ℕ → ℕ → Bool
+  abbrev pub closed : ℕ → ℕ → ℕ → Bool
   closed t zero = is_in_string s cells t
   closed t (suc n) = neighbourhood_of s cells (closed t n)
 
@@ -68,13 +68,13 @@ module _ (s : ℕ) (cells : List Cell) where
   closed_on t (suc n) p on h = neighbourhood_of-on_board s cells (closed t n) p h
 
   -- its points are n steps from the string
-  steps_give : (t n p : ℕ) → closed t n p ≡ true → IsReachedIn s cells t n p
+  pub steps_give : (t n p : ℕ) → closed t n p ≡ true → IsReachedIn s cells t n p
   steps_give t zero p h = at_string (IsInString-from_test s cells t p h)
   steps_give t (suc n) p h =
       let found = step_gives (closed t n) p h in one_more (steps_give t n found.0 found.1) found.2
 
   -- what is n steps from the string is one of its points
-  steps_from : (t : ℕ) → t < s * s → {n p : ℕ} → IsReachedIn s cells t n p → closed t n p ≡ true
+  pub steps_from : (t : ℕ) → t < s * s → {n p : ℕ} → IsReachedIn s cells t n p → closed t n p ≡ true
   steps_from t on {p = p} (at_string i) = is_is_in_string-from_fact s cells t p on i
   steps_from t on (one_more {n} {q} {p} r step) =
       let before = steps_from t on r in step_from (closed t n) q p (closed_on t n q on before) before step

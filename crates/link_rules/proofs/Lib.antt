@@ -1,0 +1,6 @@
+mod AreaWords
+mod ExchangeLemmas
+pub mod MoveLemmas
+pub mod TreeLemmas
+pub mod LinkageLemmas
+pub mod LinkAreaLemmas
