@@ -83,7 +83,8 @@ some_move-exchanged test other link own pos same =
     (leads_same test other (play pos (mover_of link own) p) (same p)))
 
 -- a play leaves a board of the same size
-pub size_after : (pos : BoardState) (c : Colour) (p : ℕ) (new : BoardState) → play pos c p ≡ Ok new → new.size ≡ pos.size
+pub size_after : (pos : BoardState) (c : Colour) (p : ℕ) (new : BoardState) → play pos c p ≡ Ok new → new.size ≡
+    pos.size
 size_after pos c p new e =
     subst (λ (r : Result BoardState Illegal). (led_to pos r).size ≡ pos.size) e (play_size pos c p)
 

@@ -68,7 +68,8 @@ connects-own n link pos h apart = rw (h, apart) refl
 -- the fifth rule: at the other colour's turn neither its pass nor a move of its parts them
 pub connects-other : (n : ℕ) (link : Link) (pos : BoardState) → both_stand link pos ≡ true
     → is_one_string link pos ≡ false → can_connect (suc n) link false pos
-    ≡ (can_connect n link true (pass pos) && not (some_move_to (λ new. not (can_connect n link true new)) link false pos))
+    ≡ (can_connect n link true (pass pos) && not (some_move_to (λ new. not (can_connect n link true new)) link
+    false pos))
 unfolding can_connect
 connects-other n link pos h apart = rw (h, apart) refl
 

@@ -1,5 +1,6 @@
 -- The answer at the first node.
-use Rattle.std.proofs.Common.{◌≡◌, ◌≢◌, ◌∙◌, ◌↔◌, ℕ, ◌-◌, ◌*◌, ◌<◌, ◌&&◌, Bool, true, false, not, cond, Option, Some, None}
+use Rattle.std.proofs.Common.{◌≡◌, ◌≢◌, ◌∙◌, ◌↔◌, ℕ, ◌-◌, ◌*◌, ◌<◌}
+use Rattle.std.proofs.Common.{◌&&◌, Bool, true, false, not, cond, Option, Some, None}
 use Rattle.std.proofs.Common.{is_some, IfSome, refl, sym, ap}
 use Rattle.std.specs.Prelude.{IsNone}
 use Rattle.std.proofs.lemmas.Bool.{both_ways, and_from, and_parts, eq-eqb}

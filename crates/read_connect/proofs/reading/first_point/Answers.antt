@@ -41,7 +41,8 @@ all g c pos a p =
     all_moves c.args.link pos.size (after pos c.args.board.now.moves) c.args.of_a.now c.args.of_b.now
     (size-after pos c.args.board.now.moves) (c.requires.liberties.a_liberties pos a0)
     (c.requires.liberties.b_liberties pos a0) c.intersection-moves.result c.crossing.result c.captures_of.result
-    c.join.new.self c.join-2.new.self (in_both c.args.of_a.now c.args.of_b.now c.intersection-moves.result c.intersection-moves.ensures)
+    c.join.new.self c.join-2.new.self (in_both c.args.of_a.now c.args.of_b.now c.intersection-moves.result
+    c.intersection-moves.ensures)
     (λ x. c.crossing.ensures x
     ∙ ap (λ n. reaches_among n c.args.of_a.now c.args.of_b.now x || reaches_among n c.args.of_b.now c.args.of_a.now x)
     sized) (c.captures_of.ensures.over pos a) c.join.ensures c.join-2.ensures p

@@ -376,7 +376,8 @@ can_connect-returns-clause-near g t c = λ pos a q root child.
     (AddsNear-in (InConnectionArea q root) c.both_stand.ensures.near
     (near_end (InConnectionArea q root) link child.a child.b))
     (AddsNear-trans
-    (AddsNear-in (InConnectionArea q root) (rw c.both_stand.ensures.stays.moves at (c.string-stones.ensures.near pos a2))
+    (AddsNear-in (InConnectionArea q root) (rw c.both_stand.ensures.stays.moves at (c.string-stones.ensures.near
+    pos a2))
     (near_a_once link q root here c.args.plies c.args.own child.node pos.size size a_on b_on stand))
     (AddsNear-trans
     (AddsNear-in (InConnectionArea q root) (rw before at (c.liberties-of_b.ensures.near pos a3))
@@ -472,7 +473,8 @@ some_move-some_of-requires g t c κs within =
     let on : (p : ℕ) → set.contains c.intersection-tried.result p ≡ true → p < shown.size * shown.size =
     λ p h. liberty_inside shown.size (after shown c.args.board.now.moves).cells c.args.link.a p c.args.of_a.now
     (c.requires.liberties.a_liberties shown (g.met.L.Look.holds c.args.board.now.look))
-    (and_parts _ _ (sym (in_both c.args.of_a.now c.args.of_b.now c.intersection-tried.result c.intersection-tried.ensures p) ∙ h)).0 in
+    (and_parts _ _ (sym (in_both c.args.of_a.now c.args.of_b.now c.intersection-tried.result
+    c.intersection-tried.ensures p) ∙ h)).0 in
     search rules
 
 -- the liberties of both strings are on the board
@@ -529,7 +531,8 @@ some_move-some_of-requires-3 g t c κs within =
     λ p h. subst (λ (pos : BoardState). p < pos.size * pos.size) (sym stays.shown)
     (capture_inside shown.size (after shown c.args.board.now.moves).cells link p
     (sym (rw before.moves at (c.captures_of.ensures.over shown agrees p))
-    ∙ (and_parts _ _ (sym (in_first_alone c.captures_of.result c.join.new.self c.difference-captures.result c.difference-captures.ensures p) ∙ h)).0)) in
+    ∙ (and_parts _ _ (sym (in_first_alone c.captures_of.result c.join.new.self c.difference-captures.result
+    c.difference-captures.ensures p) ∙ h)).0)) in
     search rules
 
 -- a liberty of both is looked at near
@@ -540,7 +543,8 @@ some_move-returns-then-some_of-clause-near g t c = λ pos a q root node.
     c.some_of.ensures.near pos a q root node
     (λ p h. shared_is_move c.args.link pos.size here c.args.of_a.now c.args.of_b.now
     (size-after pos c.args.board.now.moves) (c.requires.liberties.a_liberties pos a0)
-    (c.requires.liberties.b_liberties pos a0) p (sym (in_both c.args.of_a.now c.args.of_b.now c.intersection-tried.result c.intersection-tried.ensures p) ∙ h))
+    (c.requires.liberties.b_liberties pos a0) p (sym (in_both c.args.of_a.now c.args.of_b.now
+    c.intersection-tried.result c.intersection-tried.ensures p) ∙ h))
 
 -- one that reaches across serves
 pub some_move-returns-then-some_of-2-clause-over : goal.some_move-returns-then-some_of-2-clause-over
@@ -595,11 +599,13 @@ some_move-returns-clause-over g t c = λ pos a.
     ∙ sym (same_size (g.met.L.Look.sized c.args.board.now.look) a0) in
     last_stage link pos.size here c.args.of_a.now c.args.of_b.now size (c.requires.liberties.a_liberties pos a0)
     (c.requires.liberties.b_liberties pos a0) c.intersection-tried.result c.crossing-crossing.result c.join.new.self
-    c.captures_of.result c.difference-captures.result (in_both c.args.of_a.now c.args.of_b.now c.intersection-tried.result c.intersection-tried.ensures)
+    c.captures_of.result c.difference-captures.result (in_both c.args.of_a.now c.args.of_b.now
+    c.intersection-tried.result c.intersection-tried.ensures)
     (λ p. c.crossing-crossing.ensures p
     ∙ ap (λ n. reaches_among n c.args.of_a.now c.args.of_b.now p || reaches_among n c.args.of_b.now c.args.of_a.now p)
     sized)
-    (λ p. rw before.moves at (c.captures_of.ensures.over pos a3 p)) c.join.ensures (in_first_alone c.captures_of.result c.join.new.self c.difference-captures.result c.difference-captures.ensures)
+    (λ p. rw before.moves at (c.captures_of.ensures.over pos a3 p)) c.join.ensures (in_first_alone
+    c.captures_of.result c.join.new.self c.difference-captures.result c.difference-captures.ensures)
     (attains c.args.plies link c.args.own here) c.some_of.result c.some_of-2.result c.some_of-3.result
     (c.some_of.ensures.over pos a1) c.if-some_of.false
     (rw c.some_of.ensures.stays.moves at (c.some_of-2.ensures.over pos a2)) c.if-some_of-2.false
@@ -638,4 +644,5 @@ some_move-returns-clause-near g t c = λ pos a q root node.
     ((rw all.moves at (c.some_of-3.ensures.near pos a q root)) node
     (λ p h. capture_is_move link pos.size here c.args.of_a.now c.args.of_b.now size a_is b_is p
     (sym (rw before.moves at (c.captures_of.ensures.over pos a3 p))
-    ∙ (and_parts _ _ (sym (in_first_alone c.captures_of.result c.join.new.self c.difference-captures.result c.difference-captures.ensures p) ∙ h)).0)))))
+    ∙ (and_parts _ _ (sym (in_first_alone c.captures_of.result c.join.new.self c.difference-captures.result
+    c.difference-captures.ensures p) ∙ h)).0)))))
