@@ -1,0 +1,6 @@
+pub mod AreaInWords
+pub mod ConnectingMoves
+pub mod Connection
+pub mod Linkages
+pub mod ConnectionArea
+pub mod InWords

@@ -1,0 +1,5 @@
+pub mod StandLemmas
+pub mod StageLemmas
+pub mod TurnLemmas
+pub mod WalkLemmas
+pub mod ReadingLemmas

@@ -1,0 +1,147 @@
+-- The first node is read by the rules of its turn.
+use Rattle.std.proofs.Common.{◌≡◌, ◌∙◌, ◌-◌, ◌*◌, ◌<◌, suc, IfSome, ap, sym, subst, arith, length}
+use Rattle.std.proofs.lemmas.Bool.{and_parts}
+use Rattle.go_rules.specs.Position.{BoardState}
+use Rattle.go_rules.specs.Strings.{liberty_points}
+use Rattle.go_base.specs.Facts.{Agrees, agrees_before, same_size}
+use Rattle.go_base.proofs.SidesOfPoints.{square_small}
+use Rattle.trial_board.specs.Trials.{after}
+use Rattle.trial_board.proofs.AfterLemmas.{size-after}
+use Rattle.read_rules.specs.GoodMoves.{IsOnBoard}
+use Rattle.read_rules.proofs.AreaLemmas.{AddsNear-in, AddsNear-trans}
+use Rattle.link_rules.specs.Connection.{is_one_string}
+use Rattle.link_rules.specs.ConnectionArea.{IsUndecided, InConnectionArea}
+use Rattle.link_rules.specs.Linkages.{link_of, is_connect}
+use Rattle.read_connect.specs.Walk.{IsNodeFor}
+use Rattle.read_connect.proofs.StageLemmas.{one_by}
+use Rattle.read_connect.proofs.WalkLemmas.{near_a_once, near_b_once, point_on}
+use Rattle.read_connect.proofs.ReadingLemmas.{one_told, apart_told, told_none, one_none, one_on}
+use Rattle.read_connect.proofs.reading.first_node.Given.{Over}
+use Rattle.read_connect.proofs.reading.first_node.Goals as goal
+use Rattle.read_connect.proofs.reading.first_node.Goals.{After-has}
+
+-- the second point is one of the largest board
+pub has-requires : goal.has-requires
+has-requires g c = omega (
+  arith,
+  c.requires.on_board.b,
+  square_small _ (g.met.L.Look.holds c.args.board.now.look).sound.size_at_most,
+)
+
+-- whether the two are one string, on each position that agrees with what was seen of the first
+one : (g : Over) (c : After-has g) (pos : BoardState) → Agrees (g.L.Look.seen c.string-stones.new.self.look) pos
+    → is_one_string (link_of c.args.question.now) (after pos c.args.board.now.moves) ≡ c.has.result
+one g c pos a =
+    let a0 = agrees_before c.string-stones.ensures.stays.grows a in
+    let link = link_of c.args.question.now in
+    let b_on = point_on pos.size (g.L.Look.shows c.args.board.now.look).size link.b
+    (same_size (g.met.L.Look.sized c.args.board.now.look) a0) c.requires.on_board.b in
+    sym (c.has.ensures ∙ one_by link pos.size (after pos c.args.board.now.moves) c.string-stones.result.stones
+    (size-after pos c.args.board.now.moves) b_on (c.string-stones.ensures.over pos a).0)
+
+-- the answer about one string
+pub returns-then-has : goal.returns-then-has
+returns-then-has g c = record {
+  stays = c.string-stones.ensures.stays;
+  none = rw c.one_string.ensures (one_none c.is_connect-own.result);
+  on_board = rw c.one_string.ensures
+      (one_on (g.L.Look.shows c.args.board.now.look).size c.is_connect-own.result);
+  over = λ pos a.
+      let a0 = agrees_before c.string-stones.ensures.stays.grows a in
+      c.one_string.ensures ∙ one_told c.args.question.now (after pos c.args.board.now.moves) c.is_connect-own.result
+      c.is_connect-own.ensures (c.requires.about pos a0)
+      (one g (goal.at.returns-then-has g c).After-has pos a ∙ c.if-has.true);
+  near = λ pos a q root node.
+      let a0 = agrees_before c.string-stones.ensures.stays.grows a in
+      let link = link_of c.args.question.now in
+      let same = same_size (g.met.L.Look.sized c.args.board.now.look) a0 in
+      let s = (g.L.Look.shows c.args.board.now.look).size in
+      AddsNear-in (InConnectionArea q root) (c.string-stones.ensures.near pos a)
+      (near_a_once link q root (after pos c.args.board.now.moves) c.args.question.now.plies
+      (is_connect c.args.question.now.kind) node pos.size (size-after pos c.args.board.now.moves)
+      (point_on pos.size s link.a same c.requires.on_board.a) (point_on pos.size s link.b same c.requires.on_board.b)
+      (and_parts _ _ (c.requires.about pos a0)).1);
+}
+
+-- the second point is on the board
+pub liberties-of_b-requires : goal.liberties-of_b-requires
+liberties-of_b-requires g c = subst (λ (pos : BoardState). c.args.question.now.b < pos.size * pos.size)
+    (sym c.string-stones.ensures.stays.shown) c.requires.on_board.b
+
+-- the first node is undecided, and these are the liberties
+pub first_move-at-requires : goal.first_move-at-requires
+first_move-at-requires g c =
+    let link = link_of c.args.question.now in
+    let shown = c.liberties-of_b.ensures.stays.shown ∙ c.string-stones.ensures.stays.shown in
+    let moves = c.liberties-of_b.ensures.stays.moves ∙ c.string-stones.ensures.stays.moves in
+    record {
+      ready = record {
+        room = omega (arith, c.requires.room, c.requires.plies, ap length moves);
+        on_board = record {
+          a = subst (λ (pos : BoardState). link.a < pos.size * pos.size) (sym shown) c.requires.on_board.a;
+          b = subst (λ (pos : BoardState). link.b < pos.size * pos.size) (sym shown) c.requires.on_board.b;
+        };
+        undecided = λ pos a.
+            let a1 = agrees_before c.liberties-of_b.ensures.stays.grows a in
+            let a0 = agrees_before c.string-stones.ensures.stays.grows a1 in
+            subst (λ ms. IsUndecided link (after pos ms)) (sym moves) (record {
+              stand = (and_parts _ _ (c.requires.about pos a0)).1;
+              apart = one g (goal.at.first_move-at-requires g c).After-has pos a1 ∙ c.if-has.false;
+            });
+      };
+      liberties = record {
+        a_liberties = λ pos a.
+            (c.string-stones.ensures.over pos (agrees_before c.liberties-of_b.ensures.stays.grows a)).1
+            ∙ ap (λ ms. liberty_points pos.size (after pos ms).cells link.a) (sym moves);
+        b_liberties = λ pos a. c.liberties-of_b.ensures.over pos a
+            ∙ ap (λ ms. liberty_points pos.size (after pos ms).cells link.b) (sym c.liberties-of_b.ensures.stays.moves);
+      };
+    }
+
+-- the answer about strings that are apart
+pub returns-clause-over : goal.returns-clause-over
+returns-clause-over g c = λ pos a.
+    let a2 = agrees_before c.first_move-at.ensures.stays.grows a in
+    let a1 = agrees_before c.liberties-of_b.ensures.stays.grows a2 in
+    let a0 = agrees_before c.string-stones.ensures.stays.grows a1 in
+    let moves = c.liberties-of_b.ensures.stays.moves ∙ c.string-stones.ensures.stays.moves in
+    apart_told c.args.question.now (after pos c.args.board.now.moves) c.is_connect-own.result c.first_move-at.result
+    c.is_some.result c.is_connect-own.ensures (omega (arith, c.requires.plies)) (c.requires.about pos a0)
+    (one g (goal.at.returns-clause-over g c).After-has pos a1 ∙ c.if-has.false)
+    (rw moves at (c.first_move-at.ensures.over pos a)) c.is_some.ensures
+
+-- no move is there where the answer is no
+pub returns-clause-none : goal.returns-clause-none
+returns-clause-none g c = told_none c.first_move-at.result c.is_some.result c.is_some.ensures
+
+-- the move is on the board
+pub returns-clause-on_board : goal.returns-clause-on_board
+returns-clause-on_board g c = subst (λ (pos : BoardState). IfSome c.first_move-at.result (IsOnBoard pos.size))
+    (c.liberties-of_b.ensures.stays.shown ∙ c.string-stones.ensures.stays.shown) c.first_move-at.ensures.on_board
+
+-- both strings and what follows are looked at near
+pub returns-clause-near : goal.returns-clause-near
+returns-clause-near g c = λ pos a q root node.
+    let a2 = agrees_before c.first_move-at.ensures.stays.grows a in
+    let a1 = agrees_before c.liberties-of_b.ensures.stays.grows a2 in
+    let a0 = agrees_before c.string-stones.ensures.stays.grows a1 in
+    let link = link_of c.args.question.now in
+    let here = after pos c.args.board.now.moves in
+    let n = c.args.question.now.plies in
+    let own = is_connect c.args.question.now.kind in
+    let same = same_size (g.met.L.Look.sized c.args.board.now.look) a0 in
+    let s = (g.L.Look.shows c.args.board.now.look).size in
+    let size = size-after pos c.args.board.now.moves in
+    let a_on = point_on pos.size s link.a same c.requires.on_board.a in
+    let b_on = point_on pos.size s link.b same c.requires.on_board.b in
+    let stand = (and_parts _ _ (c.requires.about pos a0)).1 in
+    let moves = c.liberties-of_b.ensures.stays.moves ∙ c.string-stones.ensures.stays.moves in
+    let more : n ≡ suc (n - 1) = omega (arith, c.requires.plies) in
+    AddsNear-trans (AddsNear-in (InConnectionArea q root) (c.string-stones.ensures.near pos a1)
+    (near_a_once link q root here n own node pos.size size a_on b_on stand))
+    (AddsNear-trans (AddsNear-in (InConnectionArea q root)
+    (rw c.string-stones.ensures.stays.moves at (c.liberties-of_b.ensures.near pos a2))
+    (near_b_once link q root here n own node pos.size size a_on b_on stand))
+    ((rw moves at (c.first_move-at.ensures.near pos a q root))
+    (subst (λ k. IsNodeFor link q root k c.is_connect-own.result here) more
+    (subst (λ o. IsNodeFor link q root n o here) (sym c.is_connect-own.ensures) node))))

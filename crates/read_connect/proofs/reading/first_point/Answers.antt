@@ -1,0 +1,157 @@
+-- The moves in reading order, each read to its end.
+use Rattle.std.proofs.Common.{◌≡◌, ◌∙◌, ◌*◌, ◌<◌, ◌||◌, ℕ, suc, sym, ap, subst}
+use Rattle.std.specs.FinSet as set
+use Rattle.go_base.specs.Facts.{Agrees, agrees_before, Grows-refl, Grows-trans, same_size}
+use Rattle.go_rules.specs.Position.{BoardState}
+use Rattle.trial_board.specs.Trials.{after}
+use Rattle.trial_board.proofs.AfterLemmas.{size-after}
+use Rattle.read_rules.proofs.AreaLemmas.{AddsNear-in, AddsNear-trans}
+use Rattle.link_rules.specs.ConnectingMoves.{is_connecting_move}
+use Rattle.link_rules.specs.ConnectionArea.{InConnectionArea}
+use Rattle.link_rules.proofs.MoveLemmas.{move_on}
+use Rattle.read_connect.specs.Stages.{attains, reaches_among}
+use Rattle.read_connect.proofs.StageLemmas.{in_both}
+use Rattle.read_connect.proofs.StageLemmas.{all_moves, liberty_inside}
+use Rattle.read_connect.proofs.TurnLemmas.{first_hit, first_none}
+use Rattle.read_connect.proofs.WalkLemmas.{none_first, none_next, none_left, before_hit, near_surround, point_on}
+use Rattle.read_connect.proofs.WalkLemmas.{ready_still}
+use Rattle.read_connect.proofs.reading.first_point.Given.{Over}
+use Rattle.read_connect.proofs.reading.first_point.Goals as goal
+use Rattle.read_connect.proofs.reading.first_point.Goals.{After-join-2}
+
+-- the liberties of both strings are on the board
+pub crossing-requires : goal.crossing-requires
+crossing-requires g c =
+    let shown = g.L.Look.shows c.args.board.now.look in
+    let holds = g.met.L.Look.holds c.args.board.now.look in
+    let here = after shown c.args.board.now.moves in
+    record {
+      a_on = λ p h. subst (λ n. p < n * n) (sym c.size.ensures) (liberty_inside shown.size here.cells c.args.link.a p
+          c.args.of_a.now (c.requires.liberties.a_liberties shown holds) h);
+      b_on = λ p h. subst (λ n. p < n * n) (sym c.size.ensures) (liberty_inside shown.size here.cells c.args.link.b p
+          c.args.of_b.now (c.requires.liberties.b_liberties shown holds) h);
+    }
+
+-- the set has the connecting moves, on each position that agrees with what was seen of the captures
+all : (g : Over) (c : After-join-2 g) (pos : BoardState) → Agrees (g.L.Look.seen c.captures_of.new.board.look) pos
+    → (p : ℕ) → set.contains c.join-2.new.self p ≡ is_connecting_move c.args.link (after pos c.args.board.now.moves) p
+all g c pos a p =
+    let a0 = agrees_before c.captures_of.ensures.stays.grows a in
+    let sized = c.size.ensures ∙ sym (same_size (g.met.L.Look.sized c.args.board.now.look) a0) in
+    all_moves c.args.link pos.size (after pos c.args.board.now.moves) c.args.of_a.now c.args.of_b.now
+    (size-after pos c.args.board.now.moves) (c.requires.liberties.a_liberties pos a0)
+    (c.requires.liberties.b_liberties pos a0) c.intersection-moves.result c.crossing.result c.captures_of.result
+    c.join.new.self c.join-2.new.self (in_both c.args.of_a.now c.args.of_b.now c.intersection-moves.result
+    c.intersection-moves.ensures)
+    (λ x. c.crossing.ensures x
+    ∙ ap (λ n. reaches_among n c.args.of_a.now c.args.of_b.now x || reaches_among n c.args.of_b.now c.args.of_a.now x)
+    sized) (c.captures_of.ensures.over pos a) c.join.ensures c.join-2.ensures p
+
+-- the captures are looked for near, and no move was tried
+pub loop-p-init : goal.loop-p-init
+loop-p-init g c = record {
+  stays = c.captures_of.ensures.stays;
+  grows = Grows-refl _;
+  near = λ pos a q root node.
+      let a0 = agrees_before c.captures_of.ensures.stays.grows a in
+      let link = c.args.link in
+      let same = same_size (g.met.L.Look.sized c.args.board.now.look) a0 in
+      let here = after pos c.args.board.now.moves in
+      AddsNear-in (InConnectionArea q root) (c.captures_of.ensures.near pos a)
+      (near_surround link q root here (suc c.args.plies) c.args.own node pos.size
+      (size-after pos c.args.board.now.moves)
+      (point_on pos.size (g.L.Look.shows c.args.board.now.look).size link.a same c.requires.ready.on_board.a)
+      (point_on pos.size (g.L.Look.shows c.args.board.now.look).size link.b same c.requires.ready.on_board.b)
+      (c.requires.ready.undecided pos a0).stand);
+  none = λ pos a. none_first _ _;
+}
+
+-- the next move is on the board
+pub attains-requires : goal.attains-requires
+attains-requires g c =
+    let i = c.loop-p.invariant in
+    let shown = g.L.Look.shows c.args.board.now.look in
+    let same = c.captures_of.ensures.stays.shown in
+    let agrees = subst (Agrees (g.L.Look.seen c.captures_of.new.board.look)) same
+    (g.met.L.Look.holds c.captures_of.new.board.look) in
+    let on = subst (λ n. c.in-Some.p < n * n) (size-after shown c.args.board.now.moves)
+    (move_on c.args.link (after shown c.args.board.now.moves) c.in-Some.p
+    (sym (all g (goal.at.attains-requires g c).After-join-2 shown agrees c.in-Some.p) ∙ c.in-Some.ensures.some.2)) in
+    record {
+      ready = ready_still g.L.Look.shows g.L.Look.seen c.args.board.now c.loop-p.board c.args.link c.args.plies i.stays
+          c.requires.ready;
+      on_board = subst (λ (pos : BoardState). c.in-Some.p < pos.size * pos.size) (sym i.stays.shown) on;
+    }
+
+-- one more move failed
+pub loop-p-preserved : goal.loop-p-preserved
+loop-p-preserved g c =
+    let i = c.loop-p.invariant in
+    let first = c.in-Some.ensures.some in
+    let later = c.attains.ensures.stays in
+    record {
+      stays = record {
+        moves = later.moves ∙ i.stays.moves;
+        shown = later.shown ∙ i.stays.shown;
+        grows = Grows-trans i.stays.grows later.grows;
+      };
+      grows = Grows-trans i.grows later.grows;
+      near = λ pos a q root node.
+          let a1 = agrees_before later.grows a in
+          let a0 = agrees_before i.grows a1 in
+          AddsNear-trans (i.near pos a1 q root node)
+          ((rw i.stays.moves at (c.attains.ensures.near pos a q root)) node
+          (sym (all g (goal.at.loop-p-preserved g c).After-join-2 pos a0 c.in-Some.p) ∙ first.2));
+      none = λ pos a.
+          none_next (set.contains c.join-2.new.self)
+          (attains c.args.plies c.args.link c.args.own (after pos c.args.board.now.moves)) c.loop-p.next c.in-Some.p
+          (i.none pos (agrees_before later.grows a)) first.3
+          (sym (rw i.stays.moves at (c.attains.ensures.over pos a)) ∙ c.if-attains.false);
+    }
+
+-- the first that serves
+pub returns-then-attains-clause-over : goal.returns-then-attains-clause-over
+returns-then-attains-clause-over g c = λ pos a.
+    let i = c.loop-p.invariant in
+    let first = c.in-Some.ensures.some in
+    let a1 = agrees_before c.attains.ensures.stays.grows a in
+    let a0 = agrees_before i.grows a1 in
+    let here = after pos c.args.board.now.moves in
+    let test = attains c.args.plies c.args.link c.args.own here in
+    first_hit c.args.plies c.args.link c.args.own here (set.contains c.join-2.new.self)
+    (all g (goal.at.returns-then-attains-clause-over g c).After-join-2 pos a0) c.in-Some.p first.2
+    (sym (rw i.stays.moves at (c.attains.ensures.over pos a)) ∙ c.if-attains.true)
+    (before_hit (set.contains c.join-2.new.self) test c.loop-p.next c.in-Some.p (i.none pos a1) first.3)
+
+-- it is on the board
+pub returns-then-attains-clause-on_board : goal.returns-then-attains-clause-on_board
+returns-then-attains-clause-on_board g c =
+    let shown = g.L.Look.shows c.args.board.now.look in
+    let agrees = subst (Agrees (g.L.Look.seen c.captures_of.new.board.look)) c.captures_of.ensures.stays.shown
+    (g.met.L.Look.holds c.captures_of.new.board.look) in
+    subst (λ n. c.in-Some.p < n * n) (size-after shown c.args.board.now.moves)
+    (move_on c.args.link (after shown c.args.board.now.moves) c.in-Some.p
+    (sym (all g (goal.at.returns-then-attains-clause-on_board g c).After-join-2 shown agrees c.in-Some.p)
+    ∙ c.in-Some.ensures.some.2))
+
+-- it and those before it look near
+pub returns-then-attains-clause-near : goal.returns-then-attains-clause-near
+returns-then-attains-clause-near g c = λ pos a q root node.
+    let i = c.loop-p.invariant in
+    let a1 = agrees_before c.attains.ensures.stays.grows a in
+    let a0 = agrees_before i.grows a1 in
+    AddsNear-trans (i.near pos a1 q root node)
+    ((rw i.stays.moves at (c.attains.ensures.near pos a q root)) node
+    (sym (all g (goal.at.returns-then-attains-clause-near g c).After-join-2 pos a0 c.in-Some.p)
+    ∙ c.in-Some.ensures.some.2))
+
+-- none serves
+pub returns-clause-over : goal.returns-clause-over
+returns-clause-over g c = λ pos a.
+    let i = c.loop-p.invariant in
+    let a0 = agrees_before i.grows a in
+    let here = after pos c.args.board.now.moves in
+    first_none c.args.plies c.args.link c.args.own here (set.contains c.join-2.new.self)
+    (all g (goal.at.returns-clause-over g c).After-join-2 pos a0)
+    (none_left (set.contains c.join-2.new.self) (attains c.args.plies c.args.link c.args.own here) c.loop-p.next
+    (i.none pos a) c.in_default.ensures.none)

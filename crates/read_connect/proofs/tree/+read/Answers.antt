@@ -1,0 +1,648 @@
+-- The walk over the tree answers what the tree says, over every position that agrees with what was seen.
+use Rattle.std.proofs.Common.{arith, ◌||◌, ◌≡◌, ◌∙◌, ◌+◌, ◌-◌, ◌*◌, ◌<◌, ◌≤◌, ℕ, suc, inl, true, false, not}
+use Rattle.std.proofs.Common.{length, ap, sym, subst, refl, rules}
+use Rattle.std.proofs.lemmas.Bool.{and_parts}
+use Rattle.std.specs.FinSet as set
+use Rattle.go_rules.specs.Position.{BoardState}
+use Rattle.go_rules.specs.Play.{pass}
+use Rattle.go_base.specs.Facts.{Agrees, agrees_before, Grows-refl, Grows-trans, same_size}
+use Rattle.go_base.proofs.SidesOfPoints.{square_small}
+use Rattle.trial_board.specs.Trials.{after}
+use Rattle.trial_board.proofs.AfterLemmas.{size-after}
+use Rattle.read_rules.proofs.AreaLemmas.{AddsNear-in, AddsNear-trans}
+use Rattle.link_rules.specs.ConnectingMoves.{is_connecting_move}
+use Rattle.link_rules.specs.Connection.{can_connect, has_way, leads_to, mover_of}
+use Rattle.link_rules.specs.ConnectionArea.{InConnectionArea}
+use Rattle.link_rules.proofs.TreeLemmas.{connects-gone, connects-joined, connects-no_plies}
+use Rattle.read_connect.specs.Stages.{attains}
+use Rattle.link_rules.specs.ConnectionArea.{IsUndecided}
+use Rattle.go_rules.specs.Strings.{liberty_points}
+use Rattle.read_connect.specs.Stages.{reaches_among}
+use Rattle.read_connect.specs.Walk.{AreOnBoard, AreLiberties, IsReady, IsNodeFor, IsChildFor}
+use Rattle.read_connect.proofs.StageLemmas.{in_both, in_first_alone}
+use Rattle.read_connect.proofs.StageLemmas.{one_by, liberty_inside, shared_is_move, crossing_is_move, capture_is_move}
+use Rattle.read_connect.proofs.StageLemmas.{crossing_inside, capture_inside, crossing_sized, last_stage}
+use Rattle.read_connect.proofs.WalkLemmas.{none_first, none_next, none_left, tells_none, tells_hit, tells_more}
+use Rattle.read_connect.proofs.WalkLemmas.{near_a, near_b, near_a_once, near_b_once, near_surround}
+use Rattle.read_connect.proofs.WalkLemmas.{near_play, near_end, point_on, done_legal, refused_leads, one_more_move}
+use Rattle.read_connect.proofs.TurnLemmas.{own_by, parted_by, other_by}
+use Rattle.read_connect.proofs.WalkLemmas.{stays_on, ready_still, liberties_still, child_node, pass_node}
+use Rattle.read_connect.proofs.tree.+read.Goals as goal
+
+-- a play that is made and taken back: the side has its way where the tree says so of the position after it
+pub attains-returns-in-Done-clause-over : goal.attains-returns-in-Done-clause-over
+attains-returns-in-Done-clause-over g t c = λ pos a.
+    let a2 = rw c.back.ensures.moves at a in
+    let a1 = agrees_before c.can_connect-joined.ensures.stays.grows a2 in
+    let here = after pos c.args.board.now.moves in
+    let new = after pos c.play.new.self.moves in
+    let link = c.args.link in
+    let own = c.args.own in
+    let legal = done_legal here (mover_of link own) c.args.p new
+    (rw (c.in-Done.is, c.mover.ensures) at (c.play.ensures.over pos a1)) in
+    c.has_way.ensures ∙ ap (has_way own) (c.can_connect-joined.ensures.over pos a2)
+    ∙ sym (ap (leads_to (λ x. has_way own (can_connect c.args.plies link (not own) x))) legal)
+
+-- the play looks near its move, and what is read after it near a child
+pub attains-returns-in-Done-clause-near : goal.attains-returns-in-Done-clause-near
+attains-returns-in-Done-clause-near g t c = λ pos a q root node moved.
+    let a2 = rw c.back.ensures.moves at a in
+    let a1 = agrees_before c.can_connect-joined.ensures.stays.grows a2 in
+    let a0 = agrees_before c.play.ensures.grows a1 in
+    let here = after pos c.args.board.now.moves in
+    let new = after pos c.play.new.self.moves in
+    let link = c.args.link in
+    let own = c.args.own in
+    let n = c.args.plies in
+    let size = size-after pos c.args.board.now.moves in
+    let same = same_size (g.met.L.Look.sized c.args.board.now.look) a0 in
+    let a_on = point_on pos.size (g.L.Look.shows c.args.board.now.look).size link.a same c.requires.ready.on_board.a in
+    let b_on = point_on pos.size (g.L.Look.shows c.args.board.now.look).size link.b same c.requires.ready.on_board.b in
+    let und = c.requires.ready.undecided pos a0 in
+    let legal = done_legal here (mover_of link own) c.args.p new
+    (rw (c.in-Done.is, c.mover.ensures) at (c.play.ensures.over pos a1)) in
+    let child : IsChildFor link q root n (not own) new = record {
+      node = child_node link q root here new n own c.args.p node und moved legal;
+      a = near_a link q root here (suc n) own node pos.size size a_on b_on und.stand;
+      b = near_b link q root here (suc n) own node pos.size size a_on b_on und.stand;
+    } in
+    rw c.back.ensures.moves (AddsNear-trans
+    (AddsNear-in (InConnectionArea q root) (c.play.ensures.near pos a1)
+    (λ x h. near_play link q root here (suc n) own node pos.size size a_on b_on und.stand c.args.p x moved h))
+    (c.can_connect-joined.ensures.near pos a2 q root child))
+
+-- a refused play leads nowhere
+pub attains-returns-in_default-clause-over : goal.attains-returns-in_default-clause-over
+attains-returns-in_default-clause-over g t c = λ pos a.
+    let link = c.args.link in
+    let own = c.args.own in
+    sym (refused_leads (λ x. has_way own (can_connect c.args.plies link (not own) x)) (after pos c.args.board.now.moves)
+    (mover_of link own) c.args.p c.play.result (after pos c.play.new.self.moves)
+    (rw c.mover.ensures at (c.play.ensures.over pos a)) c.in_default.not-Done)
+
+-- and looks near its move
+pub attains-returns-in_default-clause-near : goal.attains-returns-in_default-clause-near
+attains-returns-in_default-clause-near g t c = λ pos a q root node moved.
+    let a0 = agrees_before c.play.ensures.grows a in
+    let link = c.args.link in
+    let here = after pos c.args.board.now.moves in
+    let size = size-after pos c.args.board.now.moves in
+    let same = same_size (g.met.L.Look.sized c.args.board.now.look) a0 in
+    let a_on = point_on pos.size (g.L.Look.shows c.args.board.now.look).size link.a same c.requires.ready.on_board.a in
+    let b_on = point_on pos.size (g.L.Look.shows c.args.board.now.look).size link.b same c.requires.ready.on_board.b in
+    let und = c.requires.ready.undecided pos a0 in
+    AddsNear-in (InConnectionArea q root) (c.play.ensures.near pos a)
+    (λ x h. near_play link q root here (suc c.args.plies) c.args.own node pos.size size a_on b_on und.stand c.args.p x
+    moved h)
+
+-- the pass parts the strings where they cannot be joined after it
+pub pass_parts-returns-clause-over : goal.pass_parts-returns-clause-over
+pass_parts-returns-clause-over g t c = λ pos a.
+    let a2 = rw c.back.ensures.moves at a in
+    ap not (rw c.pass.ensures at (c.can_connect-joined.ensures.over pos a2))
+
+-- what is read after it is read at a child
+pub pass_parts-returns-clause-near : goal.pass_parts-returns-clause-near
+pass_parts-returns-clause-near g t c = λ pos a q root node.
+    let a2 = rw c.back.ensures.moves at a in
+    let a0 = rw c.pass.ensures at (agrees_before c.can_connect-joined.ensures.stays.grows a2) in
+    let link = c.args.link in
+    let n = c.args.plies in
+    let here = after pos c.args.board.now.moves in
+    let size = size-after pos c.args.board.now.moves in
+    let same = same_size (g.met.L.Look.sized c.args.board.now.look) a0 in
+    let a_on = point_on pos.size (g.L.Look.shows c.args.board.now.look).size link.a same c.requires.on_board.a in
+    let b_on = point_on pos.size (g.L.Look.shows c.args.board.now.look).size link.b same c.requires.on_board.b in
+    let und = c.requires.undecided pos a0 in
+    let child : IsChildFor link q root n true (pass here) = record {
+      node = pass_node link q root here n node und;
+      a = near_a link q root here (suc n) false node pos.size size a_on b_on und.stand;
+      b = near_b link q root here (suc n) false node pos.size size a_on b_on und.stand;
+    } in
+    rw c.back.ensures.moves ((rw c.pass.ensures at (c.can_connect-joined.ensures.near pos a2 q root)) child)
+
+-- nothing was tried
+pub some_of-loop-p-init : goal.some_of-loop-p-init
+some_of-loop-p-init g t c = record {
+  stays = record { moves = refl; shown = refl; grows = Grows-refl _ };
+  near = λ pos a q root node its. record { added = λ fact h. inl h };
+  none = λ pos a. none_first _ _;
+}
+
+-- one more point failed
+pub some_of-loop-p-preserved : goal.some_of-loop-p-preserved
+some_of-loop-p-preserved g t c =
+    let i = c.loop-p.invariant in
+    let first = c.in-Some.ensures.some in
+    let later = c.attains.ensures.stays in
+    record {
+      stays = record {
+        moves = later.moves ∙ i.stays.moves;
+        shown = later.shown ∙ i.stays.shown;
+        grows = Grows-trans i.stays.grows later.grows;
+      };
+      near = λ pos a q root node its.
+          let a0 = agrees_before later.grows a in
+          AddsNear-trans (i.near pos a0 q root node its)
+          ((rw i.stays.moves at (c.attains.ensures.near pos a q root)) node (its c.in-Some.p first.2));
+      none = λ pos a.
+          let a0 = agrees_before later.grows a in
+          none_next (set.contains c.args.points.now)
+          (attains c.args.plies c.args.link c.args.own (after pos c.args.board.now.moves)) c.loop-p.next c.in-Some.p
+          (i.none pos a0) first.3
+          (sym (rw i.stays.moves at (c.attains.ensures.over pos a)) ∙ c.if-attains.false);
+    }
+
+-- a point serves
+pub some_of-returns-then-attains-clause-over : goal.some_of-returns-then-attains-clause-over
+some_of-returns-then-attains-clause-over g t c = λ pos a.
+    tells_hit (set.contains c.args.points.now)
+    (attains c.args.plies c.args.link c.args.own (after pos c.args.board.now.moves)) true refl c.in-Some.p
+    c.in-Some.ensures.some.2
+    (sym (rw c.loop-p.invariant.stays.moves at (c.attains.ensures.over pos a)) ∙ c.if-attains.true)
+
+-- its play and those before it look near
+pub some_of-returns-then-attains-clause-near : goal.some_of-returns-then-attains-clause-near
+some_of-returns-then-attains-clause-near g t c = λ pos a q root node its.
+    let i = c.loop-p.invariant in
+    let a0 = agrees_before c.attains.ensures.stays.grows a in
+    AddsNear-trans (i.near pos a0 q root node its)
+    ((rw i.stays.moves at (c.attains.ensures.near pos a q root)) node (its c.in-Some.p c.in-Some.ensures.some.2))
+
+-- no point serves
+pub some_of-returns-clause-over : goal.some_of-returns-clause-over
+some_of-returns-clause-over g t c = λ pos a.
+    let points = set.contains c.args.points.now in
+    let test = attains c.args.plies c.args.link c.args.own (after pos c.args.board.now.moves) in
+    tells_none points test false refl
+    (none_left points test c.loop-p.next (c.loop-p.invariant.none pos a) c.in_default.ensures.none)
+
+-- a string is gone
+pub can_connect-returns-then-not-both_stand-clause-over : goal.can_connect-returns-then-not-both_stand-clause-over
+can_connect-returns-then-not-both_stand-clause-over g t c = λ pos a.
+    sym (connects-gone c.args.plies c.args.link c.args.own (after pos c.args.board.now.moves)
+    (sym (c.both_stand.ensures.over pos a) ∙ c.if-not-both_stand.true))
+
+-- the two points are in the area
+pub can_connect-returns-then-not-both_stand-clause-near : goal.can_connect-returns-then-not-both_stand-clause-near
+can_connect-returns-then-not-both_stand-clause-near g t c = λ pos a q root child.
+    AddsNear-in (InConnectionArea q root) c.both_stand.ensures.near
+    (near_end (InConnectionArea q root) c.args.link child.a child.b)
+
+-- the two are one string
+pub can_connect-returns-then-has-clause-over : goal.can_connect-returns-then-has-clause-over
+can_connect-returns-then-has-clause-over g t c = λ pos a.
+    let a0 = agrees_before c.string-stones.ensures.stays.grows a in
+    let here = after pos c.args.board.now.moves in
+    let link = c.args.link in
+    let b_on = point_on pos.size (g.L.Look.shows c.args.board.now.look).size link.b
+    (same_size (g.met.L.Look.sized c.args.board.now.look) (agrees_before c.both_stand.ensures.stays.grows a0))
+    c.requires.on_board.b in
+    let found = rw c.both_stand.ensures.stays.moves at (c.string-stones.ensures.over pos a) in
+    sym (connects-joined c.args.plies link c.args.own here
+    (sym (c.both_stand.ensures.over pos a0) ∙ c.if-not-both_stand.false)
+    (sym (one_by link pos.size here c.string-stones.result.stones (size-after pos c.args.board.now.moves) b_on found.0)
+    ∙ sym c.has.ensures ∙ c.if-has.true))
+
+-- the first string was looked at
+pub can_connect-returns-then-has-clause-near : goal.can_connect-returns-then-has-clause-near
+can_connect-returns-then-has-clause-near g t c = λ pos a q root child.
+    let a0 = agrees_before c.string-stones.ensures.stays.grows a in
+    let link = c.args.link in
+    let here = after pos c.args.board.now.moves in
+    let size = size-after pos c.args.board.now.moves in
+    let same = same_size (g.met.L.Look.sized c.args.board.now.look)
+    (agrees_before c.both_stand.ensures.stays.grows a0) in
+    let a_on = point_on pos.size (g.L.Look.shows c.args.board.now.look).size link.a same c.requires.on_board.a in
+    let b_on = point_on pos.size (g.L.Look.shows c.args.board.now.look).size link.b same c.requires.on_board.b in
+    let stand = sym (c.both_stand.ensures.over pos a0) ∙ c.if-not-both_stand.false in
+    AddsNear-trans
+    (AddsNear-in (InConnectionArea q root) c.both_stand.ensures.near
+    (near_end (InConnectionArea q root) link child.a child.b))
+    (AddsNear-in (InConnectionArea q root) (rw c.both_stand.ensures.stays.moves at (c.string-stones.ensures.near pos a))
+    (near_a_once link q root here c.args.plies c.args.own child.node pos.size size a_on b_on stand))
+
+-- no ply is left
+pub can_connect-returns-then-plies-eq0-clause-over : goal.can_connect-returns-then-plies-eq0-clause-over
+can_connect-returns-then-plies-eq0-clause-over g t c = λ pos a.
+    let a0 = agrees_before c.string-stones.ensures.stays.grows a in
+    let here = after pos c.args.board.now.moves in
+    let link = c.args.link in
+    let b_on = point_on pos.size (g.L.Look.shows c.args.board.now.look).size link.b
+    (same_size (g.met.L.Look.sized c.args.board.now.look) (agrees_before c.both_stand.ensures.stays.grows a0))
+    c.requires.on_board.b in
+    let found = rw c.both_stand.ensures.stays.moves at (c.string-stones.ensures.over pos a) in
+    sym (ap (λ n. can_connect n link c.args.own here) c.if-plies-eq0.true
+    ∙ connects-no_plies link c.args.own here
+    (sym (one_by link pos.size here c.string-stones.result.stones (size-after pos c.args.board.now.moves) b_on found.0)
+    ∙ sym c.has.ensures ∙ c.if-has.false))
+
+-- the first string was looked at
+pub can_connect-returns-then-plies-eq0-clause-near : goal.can_connect-returns-then-plies-eq0-clause-near
+can_connect-returns-then-plies-eq0-clause-near g t c = λ pos a q root child.
+    let a0 = agrees_before c.string-stones.ensures.stays.grows a in
+    let link = c.args.link in
+    let here = after pos c.args.board.now.moves in
+    let size = size-after pos c.args.board.now.moves in
+    let same = same_size (g.met.L.Look.sized c.args.board.now.look)
+    (agrees_before c.both_stand.ensures.stays.grows a0) in
+    let a_on = point_on pos.size (g.L.Look.shows c.args.board.now.look).size link.a same c.requires.on_board.a in
+    let b_on = point_on pos.size (g.L.Look.shows c.args.board.now.look).size link.b same c.requires.on_board.b in
+    let stand = sym (c.both_stand.ensures.over pos a0) ∙ c.if-not-both_stand.false in
+    AddsNear-trans
+    (AddsNear-in (InConnectionArea q root) c.both_stand.ensures.near
+    (near_end (InConnectionArea q root) link child.a child.b))
+    (AddsNear-in (InConnectionArea q root) (rw c.both_stand.ensures.stays.moves at (c.string-stones.ensures.near pos a))
+    (near_a_once link q root here c.args.plies c.args.own child.node pos.size size a_on b_on stand))
+
+-- their own colour is to play
+pub goes_on-returns-then-own-clause-over : goal.goes_on-returns-then-own-clause-over
+goes_on-returns-then-own-clause-over g t c = λ pos a.
+    let a0 = agrees_before c.some_move.ensures.stays.grows a in
+    let here = after pos c.args.board.now.moves in
+    own_by c.args.plies c.args.link c.args.own here c.some_move.result c.if-own.true
+    (c.requires.ready.undecided pos a0) (c.some_move.ensures.over pos a)
+
+-- the other colour's pass parts them
+pub goes_on-returns-then-pass_parts-clause-over : goal.goes_on-returns-then-pass_parts-clause-over
+goes_on-returns-then-pass_parts-clause-over g t c = λ pos a.
+    let a0 = agrees_before c.pass_parts.ensures.stays.grows a in
+    let here = after pos c.args.board.now.moves in
+    parted_by c.args.plies c.args.link c.args.own here c.if-own.false (c.requires.ready.undecided pos a0)
+    (sym (c.pass_parts.ensures.over pos a) ∙ c.if-pass_parts.true)
+
+-- or one of its moves does, or none
+pub goes_on-returns-clause-over : goal.goes_on-returns-clause-over
+goes_on-returns-clause-over g t c = λ pos a.
+    let a1 = agrees_before c.some_move-2.ensures.stays.grows a in
+    let a0 = agrees_before c.pass_parts.ensures.stays.grows a1 in
+    let here = after pos c.args.board.now.moves in
+    other_by c.args.plies c.args.link c.args.own here c.some_move-2.result c.if-own.false
+    (c.requires.ready.undecided pos a0) (sym (c.pass_parts.ensures.over pos a1) ∙ c.if-pass_parts.false)
+    (rw c.pass_parts.ensures.stays.moves at (c.some_move-2.ensures.over pos a))
+
+-- a liberty of both serves
+pub some_move-returns-then-some_of-clause-over : goal.some_move-returns-then-some_of-clause-over
+some_move-returns-then-some_of-clause-over g t c = λ pos a.
+    let a0 = agrees_before c.some_of.ensures.stays.grows a in
+    let here = after pos c.args.board.now.moves in
+    let link = c.args.link in
+    let size = size-after pos c.args.board.now.moves in
+    tells_more (set.contains c.intersection-tried.result) (is_connecting_move link here)
+    (attains c.args.plies link c.args.own here) c.some_of.result true
+    (c.some_of.ensures.over pos a) c.if-some_of.true refl
+    (λ p h. shared_is_move link pos.size here c.args.of_a.now c.args.of_b.now size
+    (c.requires.liberties.a_liberties pos a0) (c.requires.liberties.b_liberties pos a0) p
+    (sym (in_both c.args.of_a.now c.args.of_b.now c.intersection-tried.result c.intersection-tried.ensures p) ∙ h))
+
+-- the first point is on the board
+pub can_connect-string-stones-requires : goal.can_connect-string-stones-requires
+can_connect-string-stones-requires g t c = subst (λ (pos : BoardState). c.args.link.a < pos.size * pos.size)
+    (sym c.both_stand.ensures.stays.shown) c.requires.on_board.a
+
+-- and the second is one of the largest board
+pub can_connect-has-requires : goal.can_connect-has-requires
+can_connect-has-requires g t c = omega (
+  arith,
+  c.requires.on_board.b,
+  square_small _ (g.met.L.Look.holds c.args.board.now.look).sound.size_at_most,
+)
+
+-- it is on this board
+pub can_connect-liberties-of_b-requires : goal.can_connect-liberties-of_b-requires
+can_connect-liberties-of_b-requires g t c = subst (λ (pos : BoardState). c.args.link.b < pos.size * pos.size)
+    (sym (c.string-stones.ensures.stays.shown ∙ c.both_stand.ensures.stays.shown)) c.requires.on_board.b
+
+-- both stand, they are apart, and these are their liberties
+pub can_connect-goes_on-requires : goal.can_connect-goes_on-requires
+can_connect-goes_on-requires g t c κs within =
+    let link = c.args.link in
+    let shown = c.liberties-of_b.ensures.stays.shown ∙ c.string-stones.ensures.stays.shown
+    ∙ c.both_stand.ensures.stays.shown in
+    let moves = c.liberties-of_b.ensures.stays.moves ∙ c.string-stones.ensures.stays.moves
+    ∙ c.both_stand.ensures.stays.moves in
+    let board = c.liberties-of_b.new.self in
+    let ready : IsReady g.L.Look.shows g.L.Look.seen board link (c.args.plies - 1) =
+    record {
+      room = omega (arith, c.requires.room, c.if-plies-eq0.false, ap length moves);
+      on_board = record {
+        a = subst (λ (pos : BoardState). link.a < pos.size * pos.size) (sym shown) c.requires.on_board.a;
+        b = subst (λ (pos : BoardState). link.b < pos.size * pos.size) (sym shown) c.requires.on_board.b;
+      };
+      undecided = λ pos a.
+          let a2 = agrees_before c.liberties-of_b.ensures.stays.grows a in
+          let a1 = agrees_before c.string-stones.ensures.stays.grows a2 in
+          let a0 = agrees_before c.both_stand.ensures.stays.grows a1 in
+          let here = after pos c.args.board.now.moves in
+          let b_on = point_on pos.size (g.L.Look.shows c.args.board.now.look).size link.b
+          (same_size (g.met.L.Look.sized c.args.board.now.look) a0) c.requires.on_board.b in
+          let found = rw c.both_stand.ensures.stays.moves at (c.string-stones.ensures.over pos a2) in
+          subst (λ ms. IsUndecided link (after pos ms)) (sym moves) (record {
+            stand = sym (c.both_stand.ensures.over pos a1) ∙ c.if-not-both_stand.false;
+            apart = sym (one_by link pos.size here c.string-stones.result.stones
+                (size-after pos c.args.board.now.moves) b_on found.0)
+                ∙ sym c.has.ensures ∙ c.if-has.false;
+          });
+    } in
+    let found : AreLiberties g.L.Look.seen board link c.string-stones.result.liberties c.liberties-of_b.result =
+    record {
+      a_liberties = λ pos a.
+          let a2 = agrees_before c.liberties-of_b.ensures.stays.grows a in
+          (c.string-stones.ensures.over pos a2).1
+          ∙ ap (λ ms. liberty_points pos.size (after pos ms).cells link.a)
+          (sym (c.liberties-of_b.ensures.stays.moves ∙ c.string-stones.ensures.stays.moves));
+      b_liberties = λ pos a. c.liberties-of_b.ensures.over pos a
+          ∙ ap (λ ms. liberty_points pos.size (after pos ms).cells link.b) (sym c.liberties-of_b.ensures.stays.moves);
+    } in
+    search rules
+
+-- the strings and what follows are looked at near
+pub can_connect-returns-clause-near : goal.can_connect-returns-clause-near
+can_connect-returns-clause-near g t c = λ pos a q root child.
+    let a3 = agrees_before c.goes_on.ensures.stays.grows a in
+    let a2 = agrees_before c.liberties-of_b.ensures.stays.grows a3 in
+    let a1 = agrees_before c.string-stones.ensures.stays.grows a2 in
+    let a0 = agrees_before c.both_stand.ensures.stays.grows a1 in
+    let link = c.args.link in
+    let here = after pos c.args.board.now.moves in
+    let size = size-after pos c.args.board.now.moves in
+    let same = same_size (g.met.L.Look.sized c.args.board.now.look) a0 in
+    let a_on = point_on pos.size (g.L.Look.shows c.args.board.now.look).size link.a same c.requires.on_board.a in
+    let b_on = point_on pos.size (g.L.Look.shows c.args.board.now.look).size link.b same c.requires.on_board.b in
+    let stand = sym (c.both_stand.ensures.over pos a1) ∙ c.if-not-both_stand.false in
+    let before = c.string-stones.ensures.stays.moves ∙ c.both_stand.ensures.stays.moves in
+    let more : c.args.plies ≡ suc (c.args.plies - 1) = omega (arith, c.if-plies-eq0.false) in
+    AddsNear-trans
+    (AddsNear-in (InConnectionArea q root) c.both_stand.ensures.near
+    (near_end (InConnectionArea q root) link child.a child.b))
+    (AddsNear-trans
+    (AddsNear-in (InConnectionArea q root) (rw c.both_stand.ensures.stays.moves at (c.string-stones.ensures.near
+    pos a2))
+    (near_a_once link q root here c.args.plies c.args.own child.node pos.size size a_on b_on stand))
+    (AddsNear-trans
+    (AddsNear-in (InConnectionArea q root) (rw before at (c.liberties-of_b.ensures.near pos a3))
+    (near_b_once link q root here c.args.plies c.args.own child.node pos.size size a_on b_on stand))
+    ((rw (c.liberties-of_b.ensures.stays.moves ∙ before) at (c.goes_on.ensures.near pos a q root))
+    (subst (λ n. IsNodeFor link q root n c.args.own here) more child.node))))
+
+-- and told by the tree
+pub can_connect-returns-clause-over : goal.can_connect-returns-clause-over
+can_connect-returns-clause-over g t c = λ pos a.
+    let more : c.args.plies ≡ suc (c.args.plies - 1) = omega (arith, c.if-plies-eq0.false) in
+    let moves = c.liberties-of_b.ensures.stays.moves ∙ c.string-stones.ensures.stays.moves
+    ∙ c.both_stand.ensures.stays.moves in
+    rw moves at (c.goes_on.ensures.over pos a)
+    ∙ ap (λ n. can_connect n c.args.link c.args.own (after pos c.args.board.now.moves)) (sym more)
+
+-- one more move stands
+pub attains-can_connect-joined-requires : goal.attains-can_connect-joined-requires
+attains-can_connect-joined-requires g t c κs within =
+    let link = c.args.link in
+    let longer = one_more_move c.mover.result c.args.p c.play.result c.args.board.now.moves c.play.new.self.moves
+    c.play.ensures.moves c.in-Done.is in
+    let room : length c.play.new.self.moves + c.args.plies ≤ 200 = omega (arith, longer, c.requires.ready.room) in
+    let on : AreOnBoard g.L.Look.shows c.play.new.self link =
+    record {
+      a = subst (λ (pos : BoardState). link.a < pos.size * pos.size) (sym c.play.ensures.shown)
+          c.requires.ready.on_board.a;
+      b = subst (λ (pos : BoardState). link.b < pos.size * pos.size) (sym c.play.ensures.shown)
+          c.requires.ready.on_board.b;
+    } in
+    search rules
+
+-- the pass stands
+pub pass_parts-can_connect-joined-requires : goal.pass_parts-can_connect-joined-requires
+pass_parts-can_connect-joined-requires g t c κs within =
+    let link = c.args.link in
+    let same = c.pass.ensures in
+    let room : length c.pass.new.self.moves + c.args.plies ≤ 200 =
+    rw same (omega (arith, c.requires.room)) in
+    let on : AreOnBoard g.L.Look.shows c.pass.new.self link =
+    rw same (record { a = c.requires.on_board.a; b = c.requires.on_board.b }) in
+    search rules
+
+-- the loop keeps what is asked of a node
+pub some_of-attains-requires : goal.some_of-attains-requires
+some_of-attains-requires g t c κs within =
+    let link = c.args.link in
+    let i = c.loop-p.invariant in
+    let ready : IsReady g.L.Look.shows g.L.Look.seen c.loop-p.board link c.args.plies =
+    ready_still g.L.Look.shows g.L.Look.seen c.args.board.now c.loop-p.board link c.args.plies i.stays c.requires.ready
+    in
+    let on : c.in-Some.p < (g.L.Look.shows c.loop-p.board.look).size * (g.L.Look.shows c.loop-p.board.look).size =
+    subst (λ (pos : BoardState). c.in-Some.p < pos.size * pos.size) (sym i.stays.shown)
+    (c.requires.on_board c.in-Some.p c.in-Some.ensures.some.2) in
+    search rules
+
+-- the pass was taken back
+pub goes_on-some_move-requires-2 : goal.goes_on-some_move-requires-2
+goes_on-some_move-requires-2 g t c κs within =
+    let link = c.args.link in
+    let stays = c.pass_parts.ensures.stays in
+    let ready : IsReady g.L.Look.shows g.L.Look.seen c.pass_parts.new.board link c.args.plies =
+    ready_still g.L.Look.shows g.L.Look.seen c.args.board.now c.pass_parts.new.board link c.args.plies stays
+    c.requires.ready in
+    let found : AreLiberties g.L.Look.seen c.pass_parts.new.board link c.args.of_a.now c.args.of_b.now =
+    liberties_still g.L.Look.shows g.L.Look.seen c.args.board.now c.pass_parts.new.board link c.args.of_a.now
+    c.args.of_b.now stays c.requires.liberties in
+    search rules
+
+-- their own moves look near
+pub goes_on-returns-then-own-clause-near : goal.goes_on-returns-then-own-clause-near
+goes_on-returns-then-own-clause-near g t c = λ pos a q root node. c.some_move.ensures.near pos a q root node
+
+-- and so does the pass
+pub goes_on-returns-then-pass_parts-clause-near : goal.goes_on-returns-then-pass_parts-clause-near
+goes_on-returns-then-pass_parts-clause-near g t c = λ pos a q root node. c.pass_parts.ensures.near pos a q root
+    (subst (λ o. IsNodeFor c.args.link q root (suc c.args.plies) o (after pos c.args.board.now.moves)) c.if-own.false
+    node)
+
+-- and the moves after it
+pub goes_on-returns-clause-near : goal.goes_on-returns-clause-near
+goes_on-returns-clause-near g t c = λ pos a q root node.
+    let a1 = agrees_before c.some_move-2.ensures.stays.grows a in
+    AddsNear-trans (c.pass_parts.ensures.near pos a1 q root
+    (subst (λ o. IsNodeFor c.args.link q root (suc c.args.plies) o (after pos c.args.board.now.moves)) c.if-own.false
+    node))
+    ((rw c.pass_parts.ensures.stays.moves at (c.some_move-2.ensures.near pos a q root)) node)
+
+-- a liberty of both is on the board
+pub some_move-some_of-requires : goal.some_move-some_of-requires
+some_move-some_of-requires g t c κs within =
+    let shown = g.L.Look.shows c.args.board.now.look in
+    let on : (p : ℕ) → set.contains c.intersection-tried.result p ≡ true → p < shown.size * shown.size =
+    λ p h. liberty_inside shown.size (after shown c.args.board.now.moves).cells c.args.link.a p c.args.of_a.now
+    (c.requires.liberties.a_liberties shown (g.met.L.Look.holds c.args.board.now.look))
+    (and_parts _ _ (sym (in_both c.args.of_a.now c.args.of_b.now c.intersection-tried.result
+    c.intersection-tried.ensures p) ∙ h)).0 in
+    search rules
+
+-- the liberties of both strings are on the board
+pub some_move-crossing-crossing-requires : goal.some_move-crossing-crossing-requires
+some_move-crossing-crossing-requires g t c =
+    let shown = g.L.Look.shows c.args.board.now.look in
+    let holds = g.met.L.Look.holds c.args.board.now.look in
+    let here = after shown c.args.board.now.moves in
+    let same = c.size.ensures ∙ ap (λ (pos : BoardState). pos.size) c.some_of.ensures.stays.shown in
+    record {
+      a_on = λ p h. subst (λ n. p < n * n) (sym same) (liberty_inside shown.size here.cells c.args.link.a p
+          c.args.of_a.now (c.requires.liberties.a_liberties shown holds) h);
+      b_on = λ p h. subst (λ n. p < n * n) (sym same) (liberty_inside shown.size here.cells c.args.link.b p
+          c.args.of_b.now (c.requires.liberties.b_liberties shown holds) h);
+    }
+
+-- so are those that reach across
+pub some_move-some_of-requires-2 : goal.some_move-some_of-requires-2
+some_move-some_of-requires-2 g t c κs within =
+    let shown = g.L.Look.shows c.args.board.now.look in
+    let holds = g.met.L.Look.holds c.args.board.now.look in
+    let here = after shown c.args.board.now.moves in
+    let board = c.some_of.new.board in
+    let stays = c.some_of.ensures.stays in
+    let ready : IsReady g.L.Look.shows g.L.Look.seen board c.args.link c.args.plies =
+    ready_still g.L.Look.shows g.L.Look.seen c.args.board.now board c.args.link c.args.plies stays c.requires.ready in
+    let on : (p : ℕ) → set.contains c.crossing-crossing.result p ≡ true
+    → p < (g.L.Look.shows board.look).size * (g.L.Look.shows board.look).size =
+    λ p h. subst (λ (pos : BoardState). p < pos.size * pos.size) (sym stays.shown)
+    (crossing_inside shown.size here.cells c.args.link c.args.of_a.now c.args.of_b.now
+    (c.requires.liberties.a_liberties shown holds) (c.requires.liberties.b_liberties shown holds) c.size.result p
+    (sym (c.crossing-crossing.ensures p) ∙ h)) in
+    search rules
+
+-- both points are still on the board
+pub some_move-captures_of-requires : goal.some_move-captures_of-requires
+some_move-captures_of-requires g t c =
+    (ready_still g.L.Look.shows g.L.Look.seen c.args.board.now c.some_of-2.new.board c.args.link c.args.plies
+    (stays_on c.some_of.ensures.stays c.some_of-2.ensures.stays) c.requires.ready).on_board
+
+-- a capture is on the board
+pub some_move-some_of-requires-3 : goal.some_move-some_of-requires-3
+some_move-some_of-requires-3 g t c κs within =
+    let shown = g.L.Look.shows c.args.board.now.look in
+    let link = c.args.link in
+    let board = c.captures_of.new.board in
+    let before = stays_on c.some_of.ensures.stays c.some_of-2.ensures.stays in
+    let stays = stays_on before c.captures_of.ensures.stays in
+    let ready : IsReady g.L.Look.shows g.L.Look.seen board link c.args.plies =
+    ready_still g.L.Look.shows g.L.Look.seen c.args.board.now board link c.args.plies stays c.requires.ready in
+    let agrees = subst (Agrees (g.L.Look.seen board.look)) stays.shown (g.met.L.Look.holds board.look) in
+    let on : (p : ℕ) → set.contains c.difference-captures.result p ≡ true
+    → p < (g.L.Look.shows board.look).size * (g.L.Look.shows board.look).size =
+    λ p h. subst (λ (pos : BoardState). p < pos.size * pos.size) (sym stays.shown)
+    (capture_inside shown.size (after shown c.args.board.now.moves).cells link p
+    (sym (rw before.moves at (c.captures_of.ensures.over shown agrees p))
+    ∙ (and_parts _ _ (sym (in_first_alone c.captures_of.result c.join.new.self c.difference-captures.result
+    c.difference-captures.ensures p) ∙ h)).0)) in
+    search rules
+
+-- a liberty of both is looked at near
+pub some_move-returns-then-some_of-clause-near : goal.some_move-returns-then-some_of-clause-near
+some_move-returns-then-some_of-clause-near g t c = λ pos a q root node.
+    let a0 = agrees_before c.some_of.ensures.stays.grows a in
+    let here = after pos c.args.board.now.moves in
+    c.some_of.ensures.near pos a q root node
+    (λ p h. shared_is_move c.args.link pos.size here c.args.of_a.now c.args.of_b.now
+    (size-after pos c.args.board.now.moves) (c.requires.liberties.a_liberties pos a0)
+    (c.requires.liberties.b_liberties pos a0) p (sym (in_both c.args.of_a.now c.args.of_b.now
+    c.intersection-tried.result c.intersection-tried.ensures p) ∙ h))
+
+-- one that reaches across serves
+pub some_move-returns-then-some_of-2-clause-over : goal.some_move-returns-then-some_of-2-clause-over
+some_move-returns-then-some_of-2-clause-over g t c = λ pos a.
+    let a1 = agrees_before c.some_of-2.ensures.stays.grows a in
+    let a0 = agrees_before c.some_of.ensures.stays.grows a1 in
+    let here = after pos c.args.board.now.moves in
+    let link = c.args.link in
+    let sized = c.size.ensures ∙ ap (λ (x : BoardState). x.size) c.some_of.ensures.stays.shown
+    ∙ sym (same_size (g.met.L.Look.sized c.args.board.now.look) a0) in
+    tells_more (set.contains c.crossing-crossing.result) (is_connecting_move link here)
+    (attains c.args.plies link c.args.own here) c.some_of-2.result true
+    (rw c.some_of.ensures.stays.moves at (c.some_of-2.ensures.over pos a)) c.if-some_of-2.true refl
+    (λ p h. crossing_is_move link pos.size here c.args.of_a.now c.args.of_b.now (size-after pos c.args.board.now.moves)
+    (c.requires.liberties.a_liberties pos a0) (c.requires.liberties.b_liberties pos a0) p
+    (crossing_sized c.size.result pos.size c.args.of_a.now c.args.of_b.now p sized
+    (sym (c.crossing-crossing.ensures p) ∙ h)))
+
+-- and is looked at near
+pub some_move-returns-then-some_of-2-clause-near : goal.some_move-returns-then-some_of-2-clause-near
+some_move-returns-then-some_of-2-clause-near g t c = λ pos a q root node.
+    let a1 = agrees_before c.some_of-2.ensures.stays.grows a in
+    let a0 = agrees_before c.some_of.ensures.stays.grows a1 in
+    let here = after pos c.args.board.now.moves in
+    let link = c.args.link in
+    let size = size-after pos c.args.board.now.moves in
+    let a_is = c.requires.liberties.a_liberties pos a0 in
+    let b_is = c.requires.liberties.b_liberties pos a0 in
+    let sized = c.size.ensures ∙ ap (λ (x : BoardState). x.size) c.some_of.ensures.stays.shown
+    ∙ sym (same_size (g.met.L.Look.sized c.args.board.now.look) a0) in
+    AddsNear-trans (c.some_of.ensures.near pos a1 q root node
+    (λ p h. shared_is_move link pos.size here c.args.of_a.now c.args.of_b.now size a_is b_is p
+    (sym (in_both c.args.of_a.now c.args.of_b.now c.intersection-tried.result c.intersection-tried.ensures p) ∙ h)))
+    ((rw c.some_of.ensures.stays.moves at (c.some_of-2.ensures.near pos a q root)) node
+    (λ p h. crossing_is_move link pos.size here c.args.of_a.now c.args.of_b.now size a_is b_is p
+    (crossing_sized c.size.result pos.size c.args.of_a.now c.args.of_b.now p sized
+    (sym (c.crossing-crossing.ensures p) ∙ h))))
+
+-- the captures are the last stage
+pub some_move-returns-clause-over : goal.some_move-returns-clause-over
+some_move-returns-clause-over g t c = λ pos a.
+    let a3 = agrees_before c.some_of-3.ensures.stays.grows a in
+    let a2 = agrees_before c.captures_of.ensures.stays.grows a3 in
+    let a1 = agrees_before c.some_of-2.ensures.stays.grows a2 in
+    let a0 = agrees_before c.some_of.ensures.stays.grows a1 in
+    let here = after pos c.args.board.now.moves in
+    let link = c.args.link in
+    let size = size-after pos c.args.board.now.moves in
+    let before = stays_on c.some_of.ensures.stays c.some_of-2.ensures.stays in
+    let all = stays_on before c.captures_of.ensures.stays in
+    let sized = c.size.ensures ∙ ap (λ (x : BoardState). x.size) c.some_of.ensures.stays.shown
+    ∙ sym (same_size (g.met.L.Look.sized c.args.board.now.look) a0) in
+    last_stage link pos.size here c.args.of_a.now c.args.of_b.now size (c.requires.liberties.a_liberties pos a0)
+    (c.requires.liberties.b_liberties pos a0) c.intersection-tried.result c.crossing-crossing.result c.join.new.self
+    c.captures_of.result c.difference-captures.result (in_both c.args.of_a.now c.args.of_b.now
+    c.intersection-tried.result c.intersection-tried.ensures)
+    (λ p. c.crossing-crossing.ensures p
+    ∙ ap (λ n. reaches_among n c.args.of_a.now c.args.of_b.now p || reaches_among n c.args.of_b.now c.args.of_a.now p)
+    sized)
+    (λ p. rw before.moves at (c.captures_of.ensures.over pos a3 p)) c.join.ensures (in_first_alone
+    c.captures_of.result c.join.new.self c.difference-captures.result c.difference-captures.ensures)
+    (attains c.args.plies link c.args.own here) c.some_of.result c.some_of-2.result c.some_of-3.result
+    (c.some_of.ensures.over pos a1) c.if-some_of.false
+    (rw c.some_of.ensures.stays.moves at (c.some_of-2.ensures.over pos a2)) c.if-some_of-2.false
+    (rw all.moves at (c.some_of-3.ensures.over pos a))
+
+-- and all three are looked at near
+pub some_move-returns-clause-near : goal.some_move-returns-clause-near
+some_move-returns-clause-near g t c = λ pos a q root node.
+    let a3 = agrees_before c.some_of-3.ensures.stays.grows a in
+    let a2 = agrees_before c.captures_of.ensures.stays.grows a3 in
+    let a1 = agrees_before c.some_of-2.ensures.stays.grows a2 in
+    let a0 = agrees_before c.some_of.ensures.stays.grows a1 in
+    let here = after pos c.args.board.now.moves in
+    let link = c.args.link in
+    let n = c.args.plies in
+    let size = size-after pos c.args.board.now.moves in
+    let same = same_size (g.met.L.Look.sized c.args.board.now.look) a0 in
+    let a_on = point_on pos.size (g.L.Look.shows c.args.board.now.look).size link.a same c.requires.ready.on_board.a in
+    let b_on = point_on pos.size (g.L.Look.shows c.args.board.now.look).size link.b same c.requires.ready.on_board.b in
+    let und = c.requires.ready.undecided pos a0 in
+    let before = stays_on c.some_of.ensures.stays c.some_of-2.ensures.stays in
+    let all = stays_on before c.captures_of.ensures.stays in
+    let a_is = c.requires.liberties.a_liberties pos a0 in
+    let b_is = c.requires.liberties.b_liberties pos a0 in
+    let sized = c.size.ensures ∙ ap (λ (x : BoardState). x.size) c.some_of.ensures.stays.shown ∙ sym same in
+    AddsNear-trans (c.some_of.ensures.near pos a1 q root node
+    (λ p h. shared_is_move link pos.size here c.args.of_a.now c.args.of_b.now size a_is b_is p
+    (sym (in_both c.args.of_a.now c.args.of_b.now c.intersection-tried.result c.intersection-tried.ensures p) ∙ h)))
+    (AddsNear-trans ((rw c.some_of.ensures.stays.moves at (c.some_of-2.ensures.near pos a2 q root)) node
+    (λ p h. crossing_is_move link pos.size here c.args.of_a.now c.args.of_b.now size a_is b_is p
+    (crossing_sized c.size.result pos.size c.args.of_a.now c.args.of_b.now p sized
+    (sym (c.crossing-crossing.ensures p) ∙ h))))
+    (AddsNear-trans
+    (AddsNear-in (InConnectionArea q root) (rw before.moves at (c.captures_of.ensures.near pos a3))
+    (near_surround link q root here (suc n) c.args.own node pos.size size a_on b_on und.stand))
+    ((rw all.moves at (c.some_of-3.ensures.near pos a q root)) node
+    (λ p h. capture_is_move link pos.size here c.args.of_a.now c.args.of_b.now size a_is b_is p
+    (sym (rw before.moves at (c.captures_of.ensures.over pos a3 p))
+    ∙ (and_parts _ _ (sym (in_first_alone c.captures_of.result c.join.new.self c.difference-captures.result
+    c.difference-captures.ensures p) ∙ h)).0)))))

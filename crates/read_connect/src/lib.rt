@@ -1,0 +1,22 @@
+//! The reader of connections: whether two strings of one colour can be joined, and whether they can be kept apart, by a
+//! bounded tree.
+//!
+//! `connect` and `disconnect` read a view of a position and hand it back; what they looked at is then among its facts,
+//! and on every position that agrees with these facts the answer is the same. A ban is never dropped. Nothing takes
+//! memory.
+//!
+//! The tree is this project's own: GNU Go reads connections by trees of another kind.
+#![tactic(auto)]
+
+mod moves;
+pub mod reading;
+mod sets;
+pub mod told;
+mod tree;
+
+pub use link_rules::{Link, LinkKind, LinkQuestion, LinkSpot, Linkage};
+pub use reading::{connect, disconnect, read};
+pub use told::LinkTold;
+
+#[cfg(test)]
+mod tests;
