@@ -1,0 +1,7 @@
+pub mod Sizes
+pub mod TokenLemmas
+pub mod Walks
+pub mod Fills
+pub mod Stones
+pub mod GameSteps
+pub mod Leads

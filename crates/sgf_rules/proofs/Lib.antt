@@ -1,0 +1,12 @@
+pub mod SpelledWalks
+pub mod SpelledLines
+pub mod WalkedTrees
+pub mod CutTokens
+pub mod WrittenValues
+pub mod WrittenTokens
+pub mod WrittenTexts
+pub mod FirstTrees
+pub mod MainLines
+pub mod ReadBack
+pub mod SetPoints
+pub mod FaultKinds

@@ -1,0 +1,204 @@
+-- The token at the front of a text is the one that its bytes write.
+use Rattle.std.proofs.Common.{◌≡◌, ℕ, suc, ◌+◌, ◌<◌, ◌≤◌, Bool, true, false, List, [], ◌∷◌, ◌++◌, length}
+use Rattle.std.proofs.Common.{take, refl, sym, ap, subst, ◌∙◌, arith, inl, inr, ◌⊎◌, nat_lt, append_assoc}
+use Rattle.std.proofs.Common.{length-append}
+use Rattle.std.proofs.Math.Seq.{take-append_seam, take-append-add, drop-append_seam, drop-append-add}
+use Rattle.std.proofs.lemmas.Bool.{cases_Bool, cases_eq, and_parts, lt-ltb, ltb-true}
+use Rattle.std.proofs.lemmas.Bool.Decides.{nat_tests}
+use Rattle.std.specs.List.{list_all, list_any, prefix_len}
+use Rattle.sgf_rules.specs.Tokens.{is_blank, is_capital, is_letter}
+use Rattle.sgf_rules.specs.Bytes.{left_bracket, right_bracket}
+use Rattle.sgf_rules.specs.Tokens.{value_len, said}
+use Rattle.sgf_rules.specs.Tokens.{Token, Open, Close, Semicolon, Name, Value, Stray, letters_token, letters_at}
+use Rattle.sgf_rules.specs.Tokens.{value_at, token_at, tokens_of}
+use Rattle.sgf_rules.specs.Written.{Says, IsName, IsBracketed, Writes}
+use Rattle.sgf_rules.proofs.CutTokens.{token_step, open_at, close_at, semicolon_at}
+use Rattle.sgf_rules.proofs.CutTokens.{bracket_at, letter_at, stray_at}
+use Rattle.sgf_rules.proofs.WrittenValues.{value_ends, value_said, value_begins}
+
+-- a letter comes late among the bytes
+letter_late : (b : ℕ) → is_letter b ≡ true → 65 ≤ b
+letter_late b e = grind (arith, nat_tests)
+
+-- a byte that comes so late is no blank
+late_no_blank : (b : ℕ) → 65 ≤ b → is_blank b ≡ false
+late_no_blank b h = grind (arith, nat_tests)
+
+-- a blank is no letter
+pub blank_no_letter : (b : ℕ) → is_blank b ≡ true → is_letter b ≡ false
+blank_no_letter b e = grind (arith, nat_tests)
+
+-- `[` is no letter
+no_letter : is_letter left_bracket ≡ false
+no_letter = refl
+
+-- a letter is another byte than one that is no letter
+letter_other : (b k : ℕ) → is_letter b ≡ true → is_letter k ≡ false → b ≡ k → ⊥
+letter_other b k e f h = absurd (cc (ap is_letter h))
+
+-- the text begins with a letter
+abbrev pub begins_with_letter : List ℕ → Bool
+begins_with_letter [] = false
+begins_with_letter (b ∷ bs) = is_letter b
+
+-- letters that no letter follows are the letters at the front
+letters_counted : (letters rest : List ℕ) → list_all is_letter letters ≡ true → begins_with_letter rest ≡ false
+    → prefix_len is_letter (letters ++ rest) ≡ length letters
+letters_counted [] [] e f = refl
+letters_counted [] (b ∷ bs) e f = rw f refl
+letters_counted (b ∷ ls) rest e f =
+    let parts = and_parts (is_letter b) (list_all is_letter ls) e in
+    let more = letters_counted ls rest parts.1 f in
+    rw parts.0 (omega arith)
+
+-- the letters at the front are letters
+letters_front : (bs : List ℕ) → list_all is_letter (take (prefix_len is_letter bs) bs) ≡ true
+letters_front [] = refl
+letters_front (b ∷ bs) = elim (cases_Bool (is_letter b)) [
+  | inl e ↦
+      let one : 1 + prefix_len is_letter bs ≡ suc (prefix_len is_letter bs) = omega arith in
+      rw (e, one, e) (letters_front bs)
+  | inr e ↦ rw e refl
+]
+
+-- the token of letters with a capital is their name
+letters_named : (name letters : List ℕ) → IsName name letters → letters_token letters ≡ Name name
+letters_named name letters h = rw h.some_capital (ap (λ n. Name n) (sym h.capitals))
+
+-- a name that no letter follows is the first token
+name_first : (name letters rest : List ℕ) → IsName name letters → begins_with_letter rest ≡ false
+    → tokens_of (letters ++ rest) ≡ Name name ∷ tokens_of rest
+name_first name [] rest h f = absurd (cc (h.some_capital))
+name_first name (b ∷ ls) rest h f =
+    let parts = and_parts (is_letter b) (list_all is_letter ls) h.letters_alone in
+    let many = letters_counted ls rest parts.1 f in
+    let other = λ (k : ℕ) (no : is_letter k ≡ false). letter_other b k parts.0 no in
+    token_step b (ls ++ rest) (Name name) (length ls) (late_no_blank b (letter_late b parts.0))
+    (letter_at b (ls ++ rest) (other 40 refl) (other 41 refl) (other 59 refl) (other 91 refl) parts.0
+    ∙ (ap (λ (n : ℕ). (letters_token (b ∷ take n (ls ++ rest)), n)) many
+    ∙ (ap (λ (xs : List ℕ). (letters_token (b ∷ xs), length ls)) (take-append_seam ls rest)
+    ∙ ap (λ (t : Token). (t, length ls)) (letters_named name (b ∷ ls) h))))
+    ∙ ap (λ (bs : List ℕ). Name name ∷ tokens_of bs) (drop-append_seam ls rest)
+
+-- the value that bytes say stands before the `]` behind them
+value_shown : (inner value rest : List ℕ) → Says inner value
+    → value_at (inner ++ right_bracket ∷ rest) ≡ (Value value, length inner + 1)
+value_shown inner value rest s =
+    let long = length-append inner (right_bracket ∷ rest) in
+    let less : length inner < length (inner ++ right_bracket ∷ rest) = omega arith in
+    rw (value_ends s rest, lt-ltb (length inner) (length (inner ++ right_bracket ∷ rest)) less)
+    (ap (λ (xs : List ℕ). (Value (said false xs), length inner + 1)) (take-append_seam inner (right_bracket ∷ rest))
+    ∙ ap (λ (v : List ℕ). (Value v, length inner + 1)) (value_said s))
+
+-- a value is the first token
+value_first : (value bytes rest : List ℕ) → IsBracketed value bytes
+    → tokens_of (bytes ++ rest) ≡ Value value ∷ tokens_of rest
+value_first value bytes rest h =
+    ap (λ (bs : List ℕ). tokens_of (bs ++ rest)) h.brackets
+    ∙ (ap (λ (bs : List ℕ). tokens_of (left_bracket ∷ bs)) (append_assoc h.inner (right_bracket ∷ []) rest)
+    ∙ (token_step left_bracket (h.inner ++ right_bracket ∷ rest) (Value value) (length h.inner + 1) refl
+    (bracket_at left_bracket (h.inner ++ right_bracket ∷ rest) refl ∙ value_shown h.inner value rest h.says)
+    ∙ ap (λ (bs : List ℕ). Value value ∷ tokens_of bs) (drop-append-add h.inner (right_bracket ∷ rest) 1)))
+
+-- what follows a token lets it end
+abbrev pub Ends : Token → List ℕ → Type 0
+Ends Open rest = Unit {0}
+Ends Close rest = Unit {0}
+Ends Semicolon rest = Unit {0}
+Ends (Name name) rest = begins_with_letter rest ≡ false
+Ends (Value value) rest = Unit {0}
+Ends Stray rest = Unit {0}
+
+-- the token that the front of a text writes is the text's first
+pub token_read : (t : Token) (piece rest : List ℕ) → Writes piece t → Ends t rest
+    → tokens_of (piece ++ rest) ≡ t ∷ tokens_of rest
+token_read Open piece rest e ends =
+    ap (λ bs. tokens_of (bs ++ rest)) e ∙ token_step 40 rest Open 0 refl (open_at 40 rest refl)
+token_read Close piece rest e ends =
+    ap (λ bs. tokens_of (bs ++ rest)) e ∙ token_step 41 rest Close 0 refl (close_at 41 rest refl)
+token_read Semicolon piece rest e ends =
+    ap (λ bs. tokens_of (bs ++ rest)) e ∙ token_step 59 rest Semicolon 0 refl (semicolon_at 59 rest refl)
+token_read (Name name) piece rest h ends = name_first name piece rest h ends
+token_read (Value value) piece rest h ends = value_first value piece rest h
+token_read Stray piece rest h ends = absurd h
+
+-- the token is a stray one
+abbrev pub is_stray : Token → Bool
+is_stray Stray = true
+is_stray Open = false
+is_stray Close = false
+is_stray Semicolon = false
+is_stray (Name name) = false
+is_stray (Value value) = false
+
+-- letters with a capital write their name
+letters_written : (b : ℕ) (bs : List ℕ) → is_letter b ≡ true → is_stray (letters_at b bs).0 ≡ false
+    → Writes (b ∷ take (letters_at b bs).1 bs) (letters_at b bs).0
+letters_written b bs e h = by_capital (cases_Bool (list_any is_capital letters))
+  where
+    letters : List ℕ
+    letters = b ∷ take (prefix_len is_letter bs) bs
+
+    by_capital : (list_any is_capital letters ≡ true) ⊎ (list_any is_capital letters ≡ false)
+        → Writes letters (letters_token letters)
+    by_capital (inl some) = rw some (record {
+      letters_alone = rw e (letters_front bs);
+      some_capital = some;
+      capitals = refl;
+    })
+    by_capital (inr none) =
+        let stray : is_stray (letters_token letters) ≡ true = rw none refl in absurd (cc (stray, h))
+
+-- brackets and the bytes that say a value write it
+value_written : (bs : List ℕ) → is_stray (value_at bs).0 ≡ false
+    → Writes (left_bracket ∷ take (value_at bs).1 bs) (value_at bs).0
+value_written bs h = by_end (cases_Bool (nat_lt (value_len false bs) (length bs)))
+  where
+    by_end : (nat_lt (value_len false bs) (length bs) ≡ true) ⊎ (nat_lt (value_len false bs) (length bs) ≡ false)
+        → Writes (left_bracket ∷ take (value_at bs).1 bs) (value_at bs).0
+    by_end (inl ended) =
+        let v = value_begins bs (ltb-true (value_len false bs) (length bs) ended) in
+        let shown : value_at bs ≡ (Value v.value, length v.inner + 1) =
+        ap value_at v.parts ∙ value_shown v.inner v.value v.rest v.says in
+        let front : take (length v.inner + 1) bs ≡ v.inner ++ right_bracket ∷ [] =
+        ap (take (length v.inner + 1)) v.parts ∙ take-append-add v.inner (right_bracket ∷ v.rest) 1 in
+        subst (λ (x : Token × ℕ). Writes (left_bracket ∷ take x.1 bs) x.0) (sym shown) (record {
+          inner = v.inner;
+          brackets = ap (λ (xs : List ℕ). left_bracket ∷ xs) front;
+          says = v.says;
+        })
+    by_end (inr open_end) =
+        let stray : is_stray (value_at bs).0 ≡ true = rw open_end refl in absurd (cc (stray, h))
+
+-- what the bytes from one on begin with is written by those that belong to it
+written_as : (b : ℕ) (bs : List ℕ) (x : Token × ℕ) → token_at b bs ≡ x → Writes (b ∷ take x.1 bs) x.0
+    → Writes (b ∷ take (token_at b bs).1 bs) (token_at b bs).0
+written_as b bs x e w = subst (λ (x : Token × ℕ). Writes (b ∷ take x.1 bs) x.0) (sym e) w
+
+-- a byte is one of the four signs, a letter, or none of them
+pub token_written : (b : ℕ) (bs : List ℕ) → is_stray (token_at b bs).0 ≡ false
+    → Writes (b ∷ take (token_at b bs).1 bs) (token_at b bs).0
+token_written b bs h = elim (cases_eq b 40) [
+  | inl e ↦ written_as b bs (Open, 0) (open_at b bs e) (ap (λ (x : ℕ). x ∷ []) e)
+  | inr o ↦ elim (cases_eq b 41) [
+    | inl e ↦ written_as b bs (Close, 0) (close_at b bs e) (ap (λ (x : ℕ). x ∷ []) e)
+    | inr c ↦ elim (cases_eq b 59) [
+      | inl e ↦ written_as b bs (Semicolon, 0) (semicolon_at b bs e) (ap (λ (x : ℕ). x ∷ []) e)
+      | inr s ↦ elim (cases_eq b 91) [
+        | inl e ↦
+            let at = bracket_at b bs e in
+            written_as b bs (value_at bs) at
+            (subst (λ (x : ℕ). Writes (x ∷ take (value_at bs).1 bs) (value_at bs).0) (sym e)
+            (value_written bs (sym (ap (λ (x : Token × ℕ). is_stray x.0) at) ∙ h)))
+        | inr v ↦ elim (cases_Bool (is_letter b)) [
+          | inl e ↦
+              let at = letter_at b bs o c s v e in
+              written_as b bs (letters_at b bs) at
+              (letters_written b bs e (sym (ap (λ (x : Token × ℕ). is_stray x.0) at) ∙ h))
+          | inr e ↦
+              let stray = ap (λ (x : Token × ℕ). is_stray x.0) (stray_at b bs o c s v e) in absurd (cc (stray, h))
+        ]
+      ]
+    ]
+  ]
+]

@@ -1,0 +1,9 @@
+pub mod Kinds
+pub mod Bytes
+pub mod Tokens
+pub mod Trees
+pub mod Written
+pub mod MainLine
+pub mod Uses
+pub mod Points
+pub mod Game
