@@ -2,9 +2,9 @@
 
 usage: python3 tools/check_docs.py [FILE ...]
 
-Without files these are README.md and docs/FORMATS.md, docs/USING.md and docs/LIBRARY.md, in this order. It runs at the
-top of a fresh clone: README's commands prove and build the program, and docs/USING.md says what has to stand beside
-the clone.
+Without files these are README.md and docs/FORMATS.md, docs/USING.md, docs/AUTHORS.md and docs/LIBRARY.md, in this
+order. It runs at the top of a fresh clone: README's commands prove and build the program, docs/USING.md says what has
+to stand beside the clone, and docs/AUTHORS.md wants the checker that `rt run` makes in crates/pattern_check.
 
 A command is a line `$ ..` of a block that is set off by three backticks; it goes on over lines that end in a
 backslash. The lines below it, up to the next command or the end of the block, are its standard output, where blank
@@ -21,7 +21,7 @@ import sys
 import tempfile
 from typing import Iterator, NamedTuple
 
-DOCUMENTS = ["README.md", "docs/FORMATS.md", "docs/USING.md", "docs/LIBRARY.md"]
+DOCUMENTS = ["README.md", "docs/FORMATS.md", "docs/USING.md", "docs/AUTHORS.md", "docs/LIBRARY.md"]
 GOPAT = "crates/gopat/out/gopat"
 KIND = re.compile(r"\| (\d+) \| [^|]+ \| `([^`]+)` \| `(line \d+ kind \d+)` \|.*")
 
