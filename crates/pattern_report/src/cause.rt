@@ -166,7 +166,7 @@ impl Cause<'_> {
             Cause::NameByte(byte) => write!(f, "'{}' may not stand in a name", ShownByte(*byte)),
             Cause::NoRow => f.write_str("no row of letters stands above the colon line"),
             Cause::Width { points, first } => {
-                write!(f, "the line has {points} points, and the first has {first}")
+                write!(f, "the line is {points} wide, and the first {first}")
             }
             Cause::Letter(byte) => write!(
                 f,
@@ -227,7 +227,7 @@ impl Cause<'_> {
             ),
             Cause::ConstraintEnds(lines) => write!(
                 f,
-                "the diagram has {lines} lines, and a constraint diagram has no line more"
+                "a constraint diagram has as many lines as its diagram, here {lines}"
             ),
             Cause::NoSemicolon => {
                 f.write_str("no line of a constraint diagram; is it an expression without its ';'?")
@@ -235,7 +235,7 @@ impl Cause<'_> {
             Cause::ConstraintWidth { bytes, diagram } => {
                 write!(
                     f,
-                    "the line has {bytes} bytes, and its line of the diagram has {diagram}"
+                    "the line is {bytes} wide, and its line of the diagram {diagram}"
                 )
             }
             Cause::NoLabel { byte, diagram } => write!(
@@ -256,7 +256,7 @@ impl Cause<'_> {
             }
             Cause::ConstraintShort { lines, diagram } => write!(
                 f,
-                "the constraint diagram has {lines} lines, and the diagram has {diagram}"
+                "the constraint diagram stops after {lines} of {diagram} lines"
             ),
             _ => self.said(f),
         }
@@ -318,13 +318,13 @@ impl Cause<'_> {
                 if least == most {
                     write!(
                         f,
-                        "{} takes {least} arguments, and has {arguments}",
+                        "the number of arguments of {} is {least}, and here {arguments}",
                         Shown(name)
                     )
                 } else {
                     write!(
                         f,
-                        "{} takes {least} to {most} arguments, and has {arguments}",
+                        "the number of arguments of {} is {least} to {most}, and here {arguments}",
                         Shown(name)
                     )
                 }

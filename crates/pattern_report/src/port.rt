@@ -11,7 +11,7 @@ use std::alloc::Global;
 use std::fmt::{self, Display, Formatter, Write};
 
 /// The letters of GNU Go's diagrams that gopat's do not have.
-const LETTERS: &[u8] = b",a!QY";
+const LETTERS: &[u8] = b",a!QY@";
 
 /// The functions of GNU Go's constraints that gopat's do not have.
 const FUNCTIONS: &[&[u8]] = &[
@@ -171,8 +171,8 @@ impl Display for Port<'_> {
                 Shown(name)
             ),
             Port::DoesAttack => f.write_str(
-                "does_attack is 0 in GNU Go where the target is lost anyway, and looks at its best defence too; here it \
-                 is 3 less the defend code behind the play",
+                "does_attack is 0 in GNU Go where the target is lost anyway, and looks at its best defence too; here \
+                 it is 3 less the defend code behind the play",
             ),
             Port::Ko => f.write_str(
                 "ko of a stone is 1 in GNU Go where the stone can be retaken; here it is 0",

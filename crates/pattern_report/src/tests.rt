@@ -92,7 +92,7 @@ fn each_fault_of_a_line_has_its_cause(rt: HostRuntime) -> Result<(), Fail> {
         ),
         (
             b"Pattern A\n|O*\n|O\n:8,s\n",
-            "3 3:1 kind 5: the line has 1 points, and the first has 2\n",
+            "3 3:1 kind 5: the line is 1 wide, and the first 2\n",
         ),
         (
             b"Pattern A\n  O!*\n:8,s\n",
@@ -163,7 +163,7 @@ fn each_fault_of_a_line_has_its_cause(rt: HostRuntime) -> Result<(), Fail> {
         ),
         (
             b"Pattern A\nO*\n:8,s\nA*\nB*\n",
-            "5 5:1 kind 14: the diagram has 1 lines, and a constraint diagram has no line more\n",
+            "5 5:1 kind 14: a constraint diagram has as many lines as its diagram, here 1\n",
         ),
         (
             b"Pattern A\nO*\n:8,s\nA*\nlib(A)>1\n",
@@ -171,7 +171,7 @@ fn each_fault_of_a_line_has_its_cause(rt: HostRuntime) -> Result<(), Fail> {
         ),
         (
             b"Pattern A\nO*\n:8,s\nA*?\n",
-            "4 4:1 kind 14: the line has 3 bytes, and its line of the diagram has 2\n",
+            "4 4:1 kind 14: the line is 3 wide, and its line of the diagram 2\n",
         ),
         (
             b"Pattern A\nO*\n:8,s\nX*\n",
@@ -191,7 +191,7 @@ fn each_fault_of_a_line_has_its_cause(rt: HostRuntime) -> Result<(), Fail> {
         ),
         (
             b"Pattern A\nO*\nOX\n:8,s\nA*\n;1\n",
-            "6 5:1 kind 14: the constraint diagram has 1 lines, and the diagram has 2\n",
+            "6 5:1 kind 14: the constraint diagram stops after 1 of 2 lines\n",
         ),
     ];
     for (text, want) in rows {
@@ -258,11 +258,11 @@ fn each_fault_of_an_expression_has_its_cause(rt: HostRuntime) -> Result<(), Fail
         ),
         (
             "lib(A)+lib(A,A)",
-            "5:9 kind 15: lib takes 1 arguments, and has 2",
+            "5:9 kind 15: the number of arguments of lib is 1, and here 2",
         ),
         (
             "xplay_attack(A)",
-            "5:2 kind 15: xplay_attack takes 2 to 9 arguments, and has 1",
+            "5:2 kind 15: the number of arguments of xplay_attack is 2 to 9, and here 1",
         ),
         (
             "oplay_attack(?,?)",
