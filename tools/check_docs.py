@@ -2,9 +2,10 @@
 
 usage: python3 tools/check_docs.py [FILE ...]
 
-Without files these are README.md and docs/FORMATS.md, docs/USING.md, docs/LIBRARY.md and docs/HELPERS.md, in this
-order, and the manual page docs/gopat.1, in which `man` may find nothing to warn of. It runs at the top of a fresh
-clone: README's commands prove and build the program, and docs/USING.md says what has to stand beside the clone.
+Without files these are README.md and docs/FORMATS.md, docs/USING.md, docs/AUTHORS.md, docs/LIBRARY.md and
+docs/HELPERS.md, in this order, and the manual page docs/gopat.1, in which `man` may find nothing to warn of. It runs at
+the top of a fresh clone: README's commands prove and build the program, docs/USING.md says what has to stand beside the
+clone, and docs/AUTHORS.md wants the checker that `rt run` makes in crates/pattern_check.
 
 A command is a line `$ ..` of a block that is set off by three backticks; it goes on over lines that end in a
 backslash. The lines below it, up to the next command or the end of the block, are its standard output, where blank
@@ -21,7 +22,7 @@ import sys
 import tempfile
 from typing import Iterator, NamedTuple
 
-DOCUMENTS = ["README.md", "docs/FORMATS.md", "docs/USING.md", "docs/LIBRARY.md", "docs/HELPERS.md"]
+DOCUMENTS = ["README.md", "docs/FORMATS.md", "docs/USING.md", "docs/AUTHORS.md", "docs/LIBRARY.md", "docs/HELPERS.md"]
 MANUAL_PAGE = "docs/gopat.1"
 GOPAT = "crates/gopat/out/gopat"
 KIND = re.compile(r"\| (\d+) \| [^|]+ \| `([^`]+)` \| `(line \d+ kind \d+)` \|.*")

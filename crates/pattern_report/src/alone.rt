@@ -1,0 +1,88 @@
+//! Entries that match only where another matches at the same point.
+
+use go_base::{Cell, Colour};
+use pat_types::{Drawn, Letter, Mark, Pattern, drawn_in, letter_fits, mark_count};
+
+/// The offset of a cell from the star, turned and mirrored by one of the eight transformations.
+fn turned(by: u8, down: i16, right: i16) -> (i16, i16) {
+    match by {
+        0 => (down, right),
+        1 => (right, down.wrapping_neg()),
+        2 => (down.wrapping_neg(), right.wrapping_neg()),
+        3 => (right.wrapping_neg(), down),
+        4 => (down, right.wrapping_neg()),
+        5 => (right.wrapping_neg(), down.wrapping_neg()),
+        6 => (down.wrapping_neg(), right),
+        _ => (right, down),
+    }
+}
+
+/// Whether a letter admits a cell only where another admits it.
+fn letter_implies(letter: Letter, other: Letter) -> bool {
+    for cell in [Cell::Empty, Cell::Black, Cell::White] {
+        if letter_fits(letter, cell, Colour::Black) && !letter_fits(other, cell, Colour::Black) {
+            return false;
+        }
+    }
+    true
+}
+
+/// Whether what is drawn in a cell holds only where what another pattern draws there holds.
+fn cell_implies(drawn: Drawn, other: Drawn) -> bool {
+    match (drawn, other) {
+        (_, Drawn::Nothing) => true,
+        (Drawn::OffBoard, Drawn::OffBoard) => true,
+        (Drawn::Shows(letter), Drawn::Shows(other)) => letter_implies(letter, other),
+        _ => false,
+    }
+}
+
+/// Whether a diagram fits only where another, turned in this way, fits with its star at the same point.
+fn diagram_implies(pattern: &Pattern, other: &Pattern, by: u8) -> bool {
+    let (star_row, star_column) = (other.star.0 as i16, other.star.1 as i16);
+    let (down, right) = (pattern.star.0 as i16, pattern.star.1 as i16);
+    for row in -1..=other.rows as i16 {
+        for column in -1..=other.cols as i16 {
+            let wanted = drawn_in(other, row, column);
+            if wanted == Drawn::Nothing {
+                continue;
+            }
+            let (r, c) = turned(
+                by,
+                row.wrapping_sub(star_row),
+                column.wrapping_sub(star_column),
+            );
+            let drawn = drawn_in(pattern, r.wrapping_add(down), c.wrapping_add(right));
+            if !cell_implies(drawn, wanted) {
+                return false;
+            }
+        }
+    }
+    true
+}
+
+/// Whether a pattern has a class letter.
+fn has_class(pattern: &Pattern, letter: u8) -> bool {
+    pattern.classes.as_slice().contains(&letter)
+}
+
+/// Whether a pattern asks nothing that another does not ask too, but for its diagram.
+fn asks_no_more(other: &Pattern, pattern: &Pattern) -> bool {
+    let asks_helper = other.items.as_slice().iter().any(|item| item.text.is_none()
+        && item.name.as_slice() != b"NULL".as_slice());
+    let is_safe = has_class(other, b's') || !has_class(pattern, b's');
+    let is_open = !has_class(other, b'n') || has_class(pattern, b'n');
+    other.constraint.is_none() && !asks_helper && is_safe && is_open
+}
+
+/// Whether a pattern matches only where another matches at the same point. Where this is not seen it may still be so.
+pub(crate) fn never_alone(pattern: &Pattern, other: &Pattern) -> bool {
+    if !asks_no_more(other, pattern) {
+        return false;
+    }
+    if other.mark != Mark::Eight {
+        let tried = mark_count(pattern.mark) <= mark_count(other.mark);
+        return tried && diagram_implies(pattern, other, 0);
+    }
+    (0..8u8).any(|by| diagram_implies(pattern, other, by))
+}

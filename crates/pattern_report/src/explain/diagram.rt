@@ -1,0 +1,140 @@
+//! Faults of a diagram.
+
+use super::{Seen, of_role, seen_at};
+use crate::cause::Cause;
+use crate::written::{Role, Written};
+use pat_types::NoMemory;
+use std::alloc::Global;
+
+/// The most bytes of a line, and the most lines.
+const MOST: usize = 25;
+
+/// Whether a byte is a letter of a diagram.
+pub(crate) fn is_letter(byte: u8) -> bool {
+    matches!(byte, b'O' | b'X' | b'o' | b'x' | b'.' | b'?' | b'*')
+}
+
+/// Whether a word seems to be an edge line.
+fn is_edge(word: &[u8]) -> bool {
+    word.contains(&b'-')
+}
+
+/// How many points a word has, without what is drawn beside them.
+fn points(word: &[u8]) -> usize {
+    word.iter()
+        .filter(|byte| **byte != b'|' && **byte != b'+')
+        .count()
+}
+
+/// The first byte of a word that makes it no row, where it is no edge line either.
+fn first_wrong(word: &[u8]) -> Option<usize> {
+    let last = word.len().saturating_sub(1);
+    for (at, byte) in word.iter().enumerate() {
+        let is_side = *byte == b'|' && (at == 0 || at == last);
+        if !is_letter(*byte) && !is_side {
+            return Some(at);
+        }
+    }
+    None
+}
+
+/// The cause of a byte that makes a line no row. A letter below a star may be a label.
+fn wrong_byte<'a>(above: &[Written<'a>], byte: u8) -> Cause<'a> {
+    if byte == b'|' || byte == b'+' || byte == b'-' {
+        return Cause::EdgeWithin(byte);
+    }
+    if byte.is_ascii_alphabetic() && above.iter().any(|line| line.word().contains(&b'*')) {
+        return Cause::LabelInDiagram(byte);
+    }
+    Cause::Letter(byte)
+}
+
+/// The cause of a line that is neither an edge line nor a row.
+fn no_line<'a>(above: &[Written<'a>], line: &Written<'a>) -> Seen<'a> {
+    let word = line.word();
+    let at = first_wrong(word).unwrap_or(0);
+    match word.get(at) {
+        Some(byte) if !matches!(word, [b'-' | b'+', ..]) && first_wrong(word).is_some() => {
+            seen_at(line, at, wrong_byte(above, *byte))
+        }
+        _ => seen_at(line, 0, Cause::NoLine),
+    }
+}
+
+/// The cause of an edge that is out of its place.
+fn edge_place<'a>(above: &[Written<'a>], line: &Written<'a>) -> Seen<'a> {
+    let has_row = above.iter().any(|other| !is_edge(other.word()));
+    let ends = match above.last() {
+        Some(last) => is_edge(last.word()),
+        None => false,
+    };
+    let cause = if has_row && ends {
+        Cause::BelowEdge
+    } else if !has_row && is_edge(line.word()) {
+        Cause::EdgeBetween
+    } else {
+        Cause::Sides
+    };
+    seen_at(line, 0, cause)
+}
+
+/// How many stars the lines have.
+fn stars(lines: &[Written<'_>]) -> usize {
+    let mut count: usize = 0;
+    for line in lines {
+        let here = line.word().iter().filter(|byte| **byte == b'*').count();
+        count = count.saturating_add(here);
+    }
+    count
+}
+
+/// The cause of a line that makes the diagram too large.
+fn too_large<'a>(line: &Written<'a>) -> Seen<'a> {
+    let bytes = line.word().len();
+    if bytes > MOST {
+        seen_at(line, MOST, Cause::LongLine(bytes))
+    } else {
+        seen_at(line, 0, Cause::ManyLines)
+    }
+}
+
+/// The cause of a line of another width.
+fn width<'a>(above: &[Written<'a>], line: &Written<'a>) -> Seen<'a> {
+    let first = match above.first() {
+        Some(first) => points(first.word()),
+        None => 0,
+    };
+    let points = points(line.word());
+    seen_at(line, 0, Cause::Width { points, first })
+}
+
+/// The cause of a fault of the diagram at one of its lines, or at the colon line below it.
+pub(crate) fn drawn<'a>(
+    alloc: Global,
+    lines: &[Written<'a>],
+    line: &Written<'a>,
+    kind: u8,
+) -> Result<Option<Seen<'a>>, NoMemory> {
+    let mut above = of_role(alloc, lines, Role::Diagram)?;
+    above.retain(|other| other.number < line.number);
+    let above = above.as_slice();
+    Ok(match kind {
+        5 => Some(width(above, line)),
+        6 => Some(no_line(above, line)),
+        7 => Some(seen_at(line, 0, Cause::Stars(stars(above)))),
+        8 => Some(edge_place(above, line)),
+        9 => Some(too_large(line)),
+        _ => None,
+    })
+}
+
+/// The cause of an entry without a colon line. It is seen at the last line of the diagram.
+pub(crate) fn endless<'a>(lines: &[Written<'a>]) -> Option<Seen<'a>> {
+    let mut last = None;
+    for line in lines {
+        if line.role == Role::Head || line.role == Role::Diagram {
+            last = Some(seen_at(line, 0, Cause::NoColonLine));
+        }
+    }
+    last
+}

@@ -1,0 +1,289 @@
+//! Faults of an expression.
+
+use super::constraint::is_label;
+use super::{Seen, of_role, seen_at};
+use crate::cause::Cause;
+use crate::tokens::{Sort, Token, tokens};
+use crate::written::{Role, Written};
+use cons_parse::{ConsError, parse};
+use pat_types::NoMemory;
+use std::alloc::Global;
+
+/// The most digits of a number.
+const MOST_DIGITS: usize = 6;
+
+/// More arguments than any function takes.
+const MANY_ARGUMENTS: usize = 12;
+
+/// What is wanted next in an expression that is read from the left.
+#[derive(Clone, Copy, PartialEq, Eq)]
+enum Wanted {
+    /// A number, a call, a sign or a parenthesis.
+    Operand,
+    /// An operator, a closing parenthesis or the end.
+    Operator,
+    /// The parenthesis behind a function's name.
+    Arguments,
+    /// The first argument, or the end of the arguments.
+    FirstArgument,
+    /// An argument.
+    Argument,
+    /// A comma or the end of the arguments.
+    Comma,
+}
+
+/// What is seen at a word.
+fn at_word<'a>(word: &Token<'a>, cause: Cause<'a>) -> Seen<'a> {
+    Seen {
+        place: word.place,
+        cause,
+    }
+}
+
+/// What is wanted behind a word, or the cause why the word may not stand where this is wanted.
+fn next<'a>(wanted: Wanted, word: &Token<'a>, open: usize) -> Result<Wanted, Cause<'a>> {
+    match (wanted, word.sort) {
+        (_, Sort::Bad) => Err(Cause::ExpressionByte(word.bytes.first().copied().unwrap_or(0))),
+        (_, Sort::Number) if word.bytes.len() > MOST_DIGITS => Err(Cause::LongNumber),
+        (Wanted::Operand, Sort::Number) => Ok(Wanted::Operator),
+        (Wanted::Operand, Sort::Name) => Ok(Wanted::Arguments),
+        (Wanted::Operand, Sort::Not | Sort::Minus | Sort::Open) => Ok(Wanted::Operand),
+        (Wanted::Operand, _) => Err(Cause::NoOperand(word.bytes)),
+        (Wanted::Operator, Sort::Operator | Sort::Minus) => Ok(Wanted::Operand),
+        (Wanted::Operator, Sort::Close) if open == 0 => Err(Cause::Unopened),
+        (Wanted::Operator, Sort::Close) => Ok(Wanted::Operator),
+        (Wanted::Operator, _) => Err(Cause::NoOperator(word.bytes)),
+        (Wanted::Arguments, Sort::Open) => Ok(Wanted::FirstArgument),
+        (Wanted::Arguments, _) => Err(Cause::NoArguments(word.bytes)),
+        (Wanted::FirstArgument, Sort::Close) => Ok(Wanted::Operator),
+        (Wanted::FirstArgument | Wanted::Argument, Sort::Sign) => Ok(Wanted::Comma),
+        (Wanted::FirstArgument | Wanted::Argument, Sort::Name) if word.bytes.len() == 1 => {
+            Ok(Wanted::Comma)
+        }
+        (Wanted::FirstArgument | Wanted::Argument, _) => Err(Cause::NoArgument(word.bytes)),
+        (Wanted::Comma, Sort::Comma) => Ok(Wanted::Argument),
+        (Wanted::Comma, Sort::Close) => Ok(Wanted::Operator),
+        (Wanted::Comma, _) => Err(Cause::NoComma(word.bytes)),
+    }
+}
+
+/// The cause of an expression that ends where this is wanted and so many parentheses are open.
+fn at_end<'a>(wanted: Wanted, open: usize, last: &Token<'a>) -> Option<Seen<'a>> {
+    let cause = match wanted {
+        Wanted::Operand => Cause::EndsEarly,
+        Wanted::Operator if open == 0 => return None,
+        Wanted::Arguments => Cause::NoArguments(last.bytes),
+        _ => Cause::Unclosed,
+    };
+    Some(at_word(last, cause))
+}
+
+/// The first word that makes the expression none, or what is seen of its end.
+fn unspelled<'a>(words: &[Token<'a>]) -> Option<Seen<'a>> {
+    let mut wanted = Wanted::Operand;
+    let mut open: usize = 0;
+    let mut before = *words.first()?;
+    for word in words {
+        let after = match next(wanted, word, open) {
+            Ok(after) => after,
+            Err(Cause::NoArguments(_)) => {
+                return Some(at_word(&before, Cause::NoArguments(before.bytes)));
+            }
+            Err(cause) => return Some(at_word(word, cause)),
+        };
+        match (wanted, word.sort) {
+            (Wanted::Operand, Sort::Open) => open = open.saturating_add(1),
+            (Wanted::Operator, Sort::Close) => open = open.saturating_sub(1),
+            _ => {}
+        }
+        before = *word;
+        wanted = after;
+    }
+    at_end(wanted, open, &before)
+}
+
+/// Whether the word of this index is the name of a call.
+fn is_called(words: &[Token<'_>], at: usize) -> bool {
+    match (words.get(at), words.get(at.saturating_add(1))) {
+        (Some(word), Some(next)) => word.sort == Sort::Name && next.sort == Sort::Open,
+        _ => false,
+    }
+}
+
+/// The arguments of the call whose name has this index, with their commas.
+fn arguments<'a>(
+    alloc: Global,
+    words: &[Token<'a>],
+    name: usize,
+) -> Result<Vec<Token<'a>>, NoMemory> {
+    let mut given = Vec::new(alloc);
+    for (at, word) in words.iter().enumerate() {
+        if at <= name.saturating_add(1) {
+            continue;
+        }
+        if word.sort == Sort::Close {
+            break;
+        }
+        given.push(*word)?;
+    }
+    Ok(given)
+}
+
+/// Whether a call of this name with so many stars as arguments is one.
+fn takes(alloc: Global, name: &[u8], count: usize) -> Result<bool, NoMemory> {
+    let mut text = Vec::new(alloc);
+    text.extend_from_slice(name)?;
+    text.push(b'(')?;
+    for at in 0..count {
+        if at > 0 {
+            text.push(b',')?;
+        }
+        text.push(b'*')?;
+    }
+    text.push(b')')?;
+    match parse(alloc, text.as_slice(), &[]) {
+        Ok(_) => Ok(true),
+        Err(ConsError::NoMemory) => Err(NoMemory),
+        Err(_) => Ok(false),
+    }
+}
+
+/// The least and the greatest number of arguments that a function takes, where there is one of this name.
+fn arity(alloc: Global, name: &[u8]) -> Result<Option<(usize, usize)>, NoMemory> {
+    let mut found: Option<(usize, usize)> = None;
+    for count in 0..MANY_ARGUMENTS {
+        if takes(alloc, name, count)? {
+            found = match found {
+                Some((least, _)) => Some((least, count)),
+                None => Some((count, count)),
+            };
+        }
+    }
+    Ok(found)
+}
+
+/// The cause of a call that is at fault.
+fn miscalled<'a>(
+    alloc: Global,
+    name: &Token<'a>,
+    given: &[Token<'a>],
+    wrong: ConsError,
+) -> Result<Option<Seen<'a>>, NoMemory> {
+    let count = given.iter().filter(|word| word.sort != Sort::Comma).count();
+    let cause = match (arity(alloc, name.bytes)?, wrong) {
+        (None, ConsError::UnknownFunction) => Cause::Function(name.bytes),
+        (Some((least, most)), ConsError::Arity) if count < least || most < count => Cause::Arity {
+            name: name.bytes,
+            arguments: count,
+            least,
+            most,
+        },
+        (Some(_), ConsError::Arity) => return Ok(stray_pass(name, given)),
+        _ => return Ok(None),
+    };
+    Ok(Some(at_word(name, cause)))
+}
+
+/// The first pass among the arguments of a call that takes none there.
+fn stray_pass<'a>(name: &Token<'a>, given: &[Token<'a>]) -> Option<Seen<'a>> {
+    let moves = name.bytes.starts_with(b"oplay_".as_slice())
+        || name.bytes.starts_with(b"xplay_".as_slice());
+    let last = given.len().saturating_sub(1);
+    for (at, word) in given.iter().enumerate() {
+        if word.bytes == b"?".as_slice() && (!moves || at == last) {
+            return Some(at_word(word, Cause::Pass(name.bytes)));
+        }
+    }
+    None
+}
+
+/// Whether one of the constraint lines has this label.
+fn has_label(constraint: &[Written<'_>], label: u8) -> bool {
+    is_label(label) && constraint.iter().any(|line| line.word().contains(&label))
+}
+
+/// The first argument of these that is a letter and no label.
+fn unlabelled<'a>(constraint: &[Written<'a>], given: &[Token<'a>]) -> Option<Seen<'a>> {
+    for word in given {
+        if word.sort != Sort::Name {
+            continue;
+        }
+        let letter = word.bytes.first().copied().unwrap_or(0);
+        if !has_label(constraint, letter) {
+            return Some(at_word(word, Cause::Label(letter)));
+        }
+    }
+    None
+}
+
+/// The first call with a fault of this sort.
+fn first_call<'a>(
+    alloc: Global,
+    words: &[Token<'a>],
+    constraint: &[Written<'a>],
+    wrong: ConsError,
+) -> Result<Option<Seen<'a>>, NoMemory> {
+    for (at, word) in words.iter().enumerate() {
+        if !is_called(words, at) {
+            continue;
+        }
+        let given = arguments(alloc, words, at)?;
+        let found = match wrong {
+            ConsError::UnknownLabel => unlabelled(constraint, given.as_slice()),
+            _ => miscalled(alloc, word, given.as_slice(), wrong)?,
+        };
+        if found.is_some() {
+            return Ok(found);
+        }
+    }
+    Ok(None)
+}
+
+/// The text of an expression: what stands behind the `;` of its lines, joined by blanks.
+fn joined(alloc: Global, lines: &[Written<'_>]) -> Result<Vec<u8>, NoMemory> {
+    let mut text = Vec::new(alloc);
+    for line in lines {
+        if !text.is_empty() {
+            text.push(b' ')?;
+        }
+        text.extend_from_slice(line.bytes.get(1..).unwrap_or(&[]))?;
+    }
+    Ok(text)
+}
+
+/// The cause of an expression that is not in the grammar.
+fn no_expression<'a>(text: &[u8], first: &Written<'a>, words: &[Token<'a>]) -> Option<Seen<'a>> {
+    if text.len() > 4096 {
+        return Some(seen_at(first, 0, Cause::LongExpression));
+    }
+    if words.is_empty() {
+        return Some(seen_at(first, 0, Cause::EndsEarly));
+    }
+    unspelled(words)
+}
+
+/// The cause of a fault of the expression of an entry with these lines.
+pub(crate) fn said<'a>(
+    alloc: Global,
+    lines: &[Written<'a>],
+    kind: u8,
+) -> Result<Option<Seen<'a>>, NoMemory> {
+    let own = of_role(alloc, lines, Role::Expression)?;
+    let constraint = of_role(alloc, lines, Role::Constraint)?;
+    let words = tokens(alloc, lines)?;
+    let text = joined(alloc, own.as_slice())?;
+    let Some(first) = own.first() else {
+        return Ok(None);
+    };
+    if kind == 16 {
+        let wrong = ConsError::UnknownLabel;
+        return first_call(alloc, words.as_slice(), constraint.as_slice(), wrong);
+    }
+    match parse(alloc, text.as_slice(), &[]) {
+        Err(ConsError::NoMemory) => Err(NoMemory),
+        Err(ConsError::Syntax) => Ok(no_expression(text.as_slice(), first, words.as_slice())),
+        Err(ConsError::TooDeep) => Ok(Some(seen_at(first, 0, Cause::Deep))),
+        Err(wrong) => first_call(alloc, words.as_slice(), constraint.as_slice(), wrong),
+        Ok(_) => Ok(None),
+    }
+}

@@ -1,0 +1,37 @@
+//! Faults of a Pattern line, and of lines that may not stand where they stand.
+
+use super::{Seen, seen_at};
+use crate::cause::Cause;
+use crate::written::{Role, Written};
+
+/// What some editors write before the first line of a text.
+const BYTE_ORDER_MARK: &[u8] = b"\xef\xbb\xbf";
+
+/// The cause of a line that may not stand where it stands.
+pub(crate) fn stray<'a>(line: &Written<'a>) -> Seen<'a> {
+    let cause = match (line.role, line.bytes.first()) {
+        (Role::Front, _) if line.number == 1 && line.whole.starts_with(BYTE_ORDER_MARK) => {
+            Cause::ByteOrderMark
+        }
+        (Role::Front, _) => Cause::BeforeEntries,
+        (_, Some(b':')) => Cause::SecondColonLine,
+        (_, Some(b';')) => Cause::LateExpression,
+        _ => Cause::AfterEntry,
+    };
+    seen_at(line, 0, cause)
+}
+
+/// The cause of a Pattern line without a name.
+pub(crate) fn name<'a>(line: &Written<'a>) -> Option<Seen<'a>> {
+    let name = line.name();
+    let before = line.bytes.len().saturating_sub(line.behind_word().len());
+    if name.is_empty() {
+        return Some(seen_at(line, line.bytes.len(), Cause::NoName));
+    }
+    if name.len() > 80 {
+        return Some(seen_at(line, before, Cause::LongName(name.len())));
+    }
+    let at = name.iter().position(|byte| !byte.is_ascii_graphic())?;
+    let byte = *name.get(at)?;
+    Some(seen_at(line, before.saturating_add(at), Cause::NameByte(byte)))
+}

@@ -1,0 +1,62 @@
+//! A text, cut at its Pattern lines.
+
+use db_lex::{is_blank, trim, word_len};
+use pat_types::NoMemory;
+use std::alloc::Global;
+
+/// The lines from one Pattern line up to the next, or those before the first.
+#[derive(Clone, Copy)]
+pub struct Part<'a> {
+    /// The number of its first line in the text, counted from 1.
+    pub number: u64,
+    /// Its lines.
+    pub bytes: &'a [u8],
+}
+
+/// Whether a byte ends a line.
+pub(crate) fn is_feed(byte: &u8) -> bool {
+    *byte == b'\n'
+}
+
+/// Whether a byte is one that no line may have.
+pub(crate) fn is_bad(byte: &u8) -> bool {
+    matches!(*byte, 0..=8 | 11 | 14..=31 | 127)
+}
+
+/// Whether a byte is none that counts as a blank.
+pub(crate) fn is_no_blank(byte: &u8) -> bool {
+    !is_blank(*byte)
+}
+
+/// Whether a line is a Pattern line. A line with a byte that no line may have is none.
+pub(crate) fn is_pattern_line(line: &[u8]) -> bool {
+    let bytes = trim(line);
+    &bytes[..word_len(bytes)] == b"Pattern".as_slice() && !line.iter().any(is_bad)
+}
+
+/// The parts of a text in order. The first holds what stands before the first Pattern line, and may be empty; each
+/// other one begins with a Pattern line.
+pub fn parts(alloc: Global, text: &[u8]) -> Result<Vec<Part<'_>>, NoMemory> {
+    let mut all = Vec::new(alloc);
+    let mut number: u64 = 1;
+    let mut begins: usize = 0;
+    let mut at: usize = 0;
+    let mut line_number: u64 = 1;
+    for line in text.split(is_feed) {
+        if is_pattern_line(line) {
+            all.push(Part {
+                number,
+                bytes: text.get(begins..at).unwrap_or(&[]),
+            })?;
+            number = line_number;
+            begins = at;
+        }
+        line_number = line_number.saturating_add(1);
+        at = at.saturating_add(line.len()).saturating_add(1);
+    }
+    all.push(Part {
+        number,
+        bytes: text.get(begins..).unwrap_or(&[]),
+    })?;
+    Ok(all)
+}

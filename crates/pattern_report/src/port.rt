@@ -1,0 +1,241 @@
+//! What an entry of GNU Go's has that gopat does not have, and where a value differs.
+
+use crate::cause::Cause;
+use crate::fault::Place;
+use crate::part::Part;
+use crate::shown::{Shown, ShownByte};
+use crate::tokens::{Sort, tokens};
+use crate::written::lines_in;
+use pat_types::NoMemory;
+use std::alloc::Global;
+use std::fmt::{self, Display, Formatter, Write};
+
+/// The letters of GNU Go's diagrams that gopat's do not have.
+const LETTERS: &[u8] = b",a!QY@";
+
+/// The functions of GNU Go's constraints that gopat's do not have.
+const FUNCTIONS: &[&[u8]] = &[
+    b"lib2",
+    b"lib3",
+    b"lib4",
+    b"alive",
+    b"unknown",
+    b"critical",
+    b"dead",
+    b"status",
+    b"defend_against_atari",
+    b"weakness",
+    b"weak",
+    b"x_suicide",
+    b"o_suicide",
+    b"x_alive_somewhere",
+    b"o_alive_somewhere",
+    b"xmoyo_opposite",
+    b"omoyo_opposite",
+    b"xmoyo",
+    b"omoyo",
+    b"xarea",
+    b"oarea",
+    b"xterri",
+    b"oterri",
+    b"genus",
+    b"approx_xlib",
+    b"approx_olib",
+    b"xcut",
+    b"ocut",
+    b"edge_double_sente",
+    b"xplay_defend_both",
+    b"oplay_defend_both",
+    b"xplay_attack_either",
+    b"oplay_attack_either",
+    b"xplay_break_through",
+    b"oplay_break_through",
+    b"oplay_connect",
+    b"xplay_connect",
+    b"oplay_disconnect",
+    b"xplay_disconnect",
+    b"oplay_lib",
+    b"xplay_lib",
+    b"seki_helper",
+    b"threaten_to_save",
+    b"threaten_to_capture",
+    b"prevent_attack_threat",
+    b"eye",
+    b"proper_eye",
+    b"marginal_eye",
+    b"halfeye",
+    b"max_eye_value",
+    b"owl_topological_eye",
+    b"obvious_false_oeye",
+    b"obvious_false_xeye",
+    b"antisuji",
+    b"add_connect_move",
+    b"add_cut_move",
+    b"test_attack_either_move",
+    b"add_defend_both_move",
+    b"same_dragon",
+    b"same_string",
+    b"dragonsize",
+    b"wormsize",
+    b"effective_size",
+    b"vital_chain",
+    b"potential_cutstone",
+    b"amalgamate_most_valuable_helper",
+    b"amalgamate",
+    b"owl_escape_value",
+    b"owl_goal_dragon",
+    b"owl_eyespace",
+    b"owl_big_eyespace",
+    b"owl_mineye",
+    b"owl_maxeye",
+    b"owl_proper_eye",
+    b"owl_eye_size",
+    b"owl_lunch",
+    b"owl_strong_dragon",
+    b"has_aji",
+    b"finish_ko_helper",
+    b"squeeze_ko_helper",
+    b"backfill_helper",
+    b"connect_and_cut_helper2",
+    b"connect_and_cut_helper",
+    b"owl_threatens",
+    b"replace",
+    b"backfill_replace",
+    b"non_oterritory",
+    b"non_xterritory",
+    b"remaining_handicap_stones",
+    b"total_handicap_stones",
+    b"o_captures_something",
+    b"x_captures_something",
+    b"false_eye_territory",
+    b"false_eye",
+    b"o_visible_along_edge",
+    b"x_visible_along_edge",
+    b"is_surrounded",
+    b"does_surround",
+    b"surround_map",
+    b"oracle_threatens",
+    b"value",
+    b"adjacent_to_stone_in_atari",
+    b"adjacent_to_defendable_stone_in_atari",
+    b"good_attack_threat",
+    b"known_safe_move",
+    b"break_mirror_helper",
+];
+
+/// What is told to an author who brings entries of GNU Go's.
+#[derive(Clone, Copy)]
+pub enum Port<'a> {
+    /// A letter of GNU Go's own.
+    Letter(u8),
+    /// A function of GNU Go's own.
+    Function(&'a [u8]),
+    /// A word of GNU Go's in a comparison, as DEAD.
+    Word(&'a [u8]),
+    /// A function in C that the entry names.
+    Helper(&'a [u8]),
+    /// The attack of a target that the moves before have taken.
+    TakenTarget(&'a [u8]),
+    /// A play that attacks.
+    DoesAttack,
+    /// A ko at a stone.
+    Ko,
+}
+
+impl Display for Port<'_> {
+    fn fmt<W: Write>(&self, f: &mut Formatter<W>) -> fmt::Result {
+        match self {
+            Port::Letter(letter) => write!(
+                f,
+                "GNU Go has the letter '{}' in diagrams; gopat has not",
+                ShownByte(*letter)
+            ),
+            Port::Function(name) => write!(
+                f,
+                "GNU Go has the function {}; gopat has not",
+                Shown(name)
+            ),
+            Port::Word(word) => write!(
+                f,
+                "GNU Go compares with words such as {}; gopat has numbers alone",
+                Shown(word)
+            ),
+            Port::Helper(name) => write!(
+                f,
+                "GNU Go calls its function {} here; a helper of this name can be handed to gopat's library",
+                Shown(name)
+            ),
+            Port::TakenTarget(name) => write!(
+                f,
+                "where the moves take the last argument, {} is 3 in GNU Go and 0 here",
+                Shown(name)
+            ),
+            Port::DoesAttack => f.write_str(
+                "does_attack is 0 in GNU Go where the target is lost anyway, and looks at its best defence too; here \
+                 it is 3 less the defend code behind the play",
+            ),
+            Port::Ko => f.write_str(
+                "ko of a stone is 1 in GNU Go where the stone can be retaken; here it is 0",
+            ),
+        }
+    }
+}
+
+/// A note on an entry that gopat takes.
+#[derive(Clone, Copy)]
+pub struct PortNote<'a> {
+    /// Where it is seen.
+    pub place: Place<'a>,
+    /// What is told.
+    pub port: Port<'a>,
+}
+
+/// Whether a name is one of these.
+fn is_among(name: &[u8], names: &[&[u8]]) -> bool {
+    for other in names {
+        if *other == name {
+            return true;
+        }
+    }
+    false
+}
+
+/// What of GNU Go's own a cause comes from, where it does.
+pub fn port_of<'a>(cause: &Cause<'a>) -> Option<Port<'a>> {
+    match cause {
+        Cause::Letter(letter) | Cause::LabelInDiagram(letter) if LETTERS.contains(letter) => {
+            Some(Port::Letter(*letter))
+        }
+        Cause::Function(name) if is_among(name, FUNCTIONS) => Some(Port::Function(name)),
+        Cause::NoArguments(word) if word.len() > 1 => Some(Port::Word(word)),
+        Cause::Helper(name) => Some(Port::Helper(name)),
+        _ => None,
+    }
+}
+
+/// What a function of this name values otherwise than GNU Go's.
+fn differing<'a>(name: &'a [u8]) -> Option<Port<'a>> {
+    match name {
+        b"oplay_attack" | b"xplay_attack" => Some(Port::TakenTarget(name)),
+        b"does_attack" => Some(Port::DoesAttack),
+        b"ko" => Some(Port::Ko),
+        _ => None,
+    }
+}
+
+/// The functions in the expression of an entry whose value differs from GNU Go's.
+pub fn port_notes<'a>(alloc: Global, part: Part<'a>) -> Result<Vec<PortNote<'a>>, NoMemory> {
+    let mut all = Vec::new(alloc);
+    let lines = lines_in(alloc, part)?;
+    for word in &tokens(alloc, lines.as_slice())? {
+        if word.sort == Sort::Name
+            && let Some(port) = differing(word.bytes)
+        {
+            all.push(PortNote {
+                place: word.place,
+                port,
+            })?;
+        }
+    }
+    Ok(all)
+}

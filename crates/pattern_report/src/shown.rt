@@ -1,0 +1,31 @@
+//! Bytes of a text as they are shown in a message.
+
+use std::fmt::{self, Display, Formatter, Write};
+
+/// Bytes of a text, in which each that is no letter, digit, sign or blank of ASCII is shown by its number.
+#[derive(Clone, Copy)]
+pub struct Shown<'a>(pub &'a [u8]);
+
+/// A byte of a text, shown in the same way.
+#[derive(Clone, Copy)]
+pub struct ShownByte(pub u8);
+
+impl Display for ShownByte {
+    fn fmt<W: Write>(&self, f: &mut Formatter<W>) -> fmt::Result {
+        let byte = self.0;
+        if byte == b' ' || byte.is_ascii_graphic() {
+            write!(f, "{}", char::from(byte))
+        } else {
+            write!(f, "\\x{byte:02x}")
+        }
+    }
+}
+
+impl Display for Shown<'_> {
+    fn fmt<W: Write>(&self, f: &mut Formatter<W>) -> fmt::Result {
+        for byte in self.0 {
+            write!(f, "{}", ShownByte(*byte))?;
+        }
+        Ok(())
+    }
+}

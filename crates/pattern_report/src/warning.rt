@@ -1,0 +1,310 @@
+//! What an author may not have meant, though it is no fault.
+
+use crate::alone::never_alone;
+use crate::caution::Caution;
+use crate::explain::is_letter;
+use crate::fault::Place;
+use crate::part::{Part, is_feed};
+use crate::report::Report;
+use crate::tokens::{Sort, tokens};
+use crate::written::{Role, Written, head_of, lines_in, name_in};
+use db_lex::is_blank;
+use pat_types::{NoMemory, Pattern};
+use std::alloc::Global;
+
+/// A warning.
+#[derive(Clone, Copy)]
+pub struct Warning<'a> {
+    /// The name of its entry, or nothing.
+    pub entry: &'a [u8],
+    /// Where it is seen.
+    pub place: Place<'a>,
+    /// What is told.
+    pub caution: Caution<'a>,
+}
+
+/// The letters by which the matcher and GNU Go sort patterns.
+const CLASSES: &[u8] = b"sOoXxDCcnBAbeEadIJjtTUWFNY";
+
+/// The word that begins an entry, in small letters.
+const PATTERN: &[u8] = b"pattern";
+
+/// The warning that is told at this byte of a line.
+fn warning_at<'a>(
+    entry: &'a [u8],
+    line: &Written<'a>,
+    at: usize,
+    caution: Caution<'a>,
+) -> Warning<'a> {
+    Warning {
+        entry,
+        place: line.place(at),
+        caution,
+    }
+}
+
+/// How many bytes at the front of both are the same letters, whatever their case.
+fn same_front(word: &[u8], other: &[u8]) -> usize {
+    word.iter()
+        .zip(other)
+        .take_while(|(a, b)| a.eq_ignore_ascii_case(b))
+        .count()
+}
+
+/// How many bytes at the end of both are the same letters, whatever their case.
+fn same_end(word: &[u8], other: &[u8]) -> usize {
+    word.iter()
+        .rev()
+        .zip(other.iter().rev())
+        .take_while(|(a, b)| a.eq_ignore_ascii_case(b))
+        .count()
+}
+
+/// Whether a word is `Pattern` but for the case, or but for a letter or two next to each other.
+fn is_near_pattern(word: &[u8]) -> bool {
+    let alike = same_front(word, PATTERN).saturating_add(same_end(word, PATTERN));
+    6 <= word.len() && word.len() <= 8 && alike >= 5
+}
+
+/// What is told of a line before the first entry.
+fn of_front<'a>(line: &Written<'a>) -> Option<Warning<'a>> {
+    if is_near_pattern(line.word()) {
+        return Some(warning_at(&[], line, 0, Caution::NearPattern(line.word())));
+    }
+    None
+}
+
+/// What is told of a row.
+fn of_row<'a>(entry: &'a [u8], line: &Written<'a>) -> Option<Warning<'a>> {
+    let rest = line.behind_word();
+    let drawn = rest.iter().all(|byte| is_letter(*byte)
+        || is_blank(*byte)
+        || matches!(*byte, b'|' | b'+' | b'-'));
+    if rest.is_empty() || !drawn {
+        return None;
+    }
+    let at = line.bytes.len().saturating_sub(rest.len());
+    Some(warning_at(entry, line, at, Caution::BehindRow(rest)))
+}
+
+/// The letter in the other case.
+fn other_case(letter: u8) -> u8 {
+    if letter.is_ascii_lowercase() {
+        letter.to_ascii_uppercase()
+    } else {
+        letter.to_ascii_lowercase()
+    }
+}
+
+/// What is told of the class letters of a colon line.
+fn of_classes<'a>(entry: &'a [u8], line: &Written<'a>) -> Option<Warning<'a>> {
+    let from = line.bytes.iter().position(|byte| *byte == b',')?;
+    for (at, letter) in line.bytes.iter().enumerate() {
+        if at <= from {
+            continue;
+        }
+        if *letter == b',' {
+            return None;
+        }
+        let other = other_case(*letter);
+        if !CLASSES.contains(letter) && CLASSES.contains(&other) {
+            let letter = *letter;
+            return Some(warning_at(entry, line, at, Caution::ClassCase { letter, other }));
+        }
+    }
+    None
+}
+
+/// What is told of a line.
+fn of_line<'a>(entry: &'a [u8], line: &Written<'a>) -> Option<Warning<'a>> {
+    match line.role {
+        Role::Front => of_front(line),
+        Role::Diagram | Role::Constraint => of_row(entry, line),
+        Role::Colon => of_classes(entry, line),
+        _ => None,
+    }
+}
+
+/// Puts what is told of the lines of a part.
+fn push_lines<'a>(
+    alloc: Global,
+    all: &mut Vec<Warning<'a>>,
+    part: Part<'a>,
+) -> Result<(), NoMemory> {
+    let lines = lines_in(alloc, part)?;
+    let name = name_in(lines.as_slice());
+    for line in &lines {
+        if let Some(warning) = of_line(name, line) {
+            all.push(warning)?;
+        }
+    }
+    Ok(())
+}
+
+/// The first place of a label in a constraint diagram.
+fn label_place<'a>(lines: &[Written<'a>], label: u8) -> Option<Place<'a>> {
+    for line in lines {
+        if line.role != Role::Constraint {
+            continue;
+        }
+        if let Some(at) = line.word().iter().position(|byte| *byte == label) {
+            return Some(line.place(at));
+        }
+    }
+    None
+}
+
+/// Puts the labels of an entry that its expression does not name.
+fn push_labels<'a>(
+    alloc: Global,
+    all: &mut Vec<Warning<'a>>,
+    part: Part<'a>,
+    pattern: &Pattern,
+) -> Result<(), NoMemory> {
+    if pattern.labels.as_slice().is_empty() {
+        return Ok(());
+    }
+    let lines = lines_in(alloc, part)?;
+    let words = tokens(alloc, lines.as_slice())?;
+    for label in pattern.labels.as_slice() {
+        let named = words.iter().any(|word| word.sort == Sort::Name
+            && word.bytes.len() == 1
+            && word.bytes.contains(&label.letter));
+        if named {
+            continue;
+        }
+        if let Some(place) = label_place(lines.as_slice(), label.letter) {
+            all.push(Warning {
+                entry: name_in(lines.as_slice()),
+                place,
+                caution: Caution::UnusedLabel(label.letter),
+            })?;
+        }
+    }
+    Ok(())
+}
+
+/// The name and the line of an entry.
+#[derive(Clone, Copy, PartialEq, Eq, PartialOrd, Ord)]
+struct Named<'a> {
+    name: &'a [u8],
+    line: u64,
+}
+
+/// Puts the entries that have the name of one above.
+fn push_names<'a>(
+    alloc: Global,
+    all: &mut Vec<Warning<'a>>,
+    parts: &[Part<'a>],
+) -> Result<(), NoMemory> {
+    let mut named: Vec<Named> = Vec::new(alloc);
+    for part in parts {
+        if let Some(head) = head_of(part) {
+            named.push(Named {
+                name: head.name(),
+                line: head.number,
+            })?;
+        }
+    }
+    named.sort_unstable();
+    for part in parts {
+        let Some(head) = head_of(part) else {
+            continue;
+        };
+        let first = named.partition_point(|other| other.name < head.name());
+        if let Some(other) = named.get(first)
+            && other.name == head.name()
+            && other.line < head.number
+            && !other.name.is_empty()
+        {
+            let caution = Caution::SameName { line: other.line };
+            all.push(warning_at(head.name(), &head, 0, caution))?;
+        }
+    }
+    Ok(())
+}
+
+/// The first of some entries but this one without which it never matches. Of two that match at the same points the
+/// later one is told.
+fn other_of(patterns: &[Pattern], at: usize) -> Option<usize> {
+    let pattern = patterns.get(at)?;
+    for (place, other) in patterns.iter().enumerate() {
+        if place != at
+            && never_alone(pattern, other)
+            && (place < at || !never_alone(other, pattern))
+        {
+            return Some(place);
+        }
+    }
+    None
+}
+
+/// Puts the entries that never match alone.
+fn push_never_alone<'a>(all: &mut Vec<Warning<'a>>, report: &Report<'a>) -> Result<(), NoMemory> {
+    for (at, part) in report.entries.iter().enumerate() {
+        let Some(place) = other_of(report.patterns.as_slice(), at) else {
+            continue;
+        };
+        if let (Some(head), Some(other)) = (head_of(part), report.entries.get(place)) {
+            let caution = Caution::NeverAlone { line: other.number };
+            all.push(warning_at(head.name(), &head, 0, caution))?;
+        }
+    }
+    Ok(())
+}
+
+/// Puts the first line whose end differs from that of the first line.
+fn push_ends<'a>(all: &mut Vec<Warning<'a>>, text: &'a [u8]) -> Result<(), NoMemory> {
+    let mut first = None;
+    let mut number: u64 = 1;
+    for line in text.split_inclusive(is_feed) {
+        let has_return = line.ends_with(b"\r\n".as_slice());
+        let is_first = *first.get_or_insert(has_return) == has_return;
+        if !is_first && line.ends_with(b"\n".as_slice()) {
+            all.push(Warning {
+                entry: &[],
+                place: Place {
+                    line: number,
+                    column: 1,
+                    text: &[],
+                },
+                caution: Caution::LineEnds,
+            })?;
+            return Ok(());
+        }
+        number = number.saturating_add(1);
+    }
+    Ok(())
+}
+
+/// All warnings of a text, whose parts and report these are, in the order of their lines.
+pub fn warnings<'a>(
+    alloc: Global,
+    text: &'a [u8],
+    parts: &[Part<'a>],
+    report: &Report<'a>,
+) -> Result<Vec<Warning<'a>>, NoMemory> {
+    let mut all = Vec::new(alloc);
+    for part in parts {
+        push_lines(alloc, &mut all, *part)?;
+    }
+    for (part, pattern) in report.entries.iter().zip(report.patterns.iter()) {
+        push_labels(alloc, &mut all, *part, pattern)?;
+    }
+    push_names(alloc, &mut all, parts)?;
+    push_never_alone(&mut all, report)?;
+    push_ends(&mut all, text)?;
+    if parts.len() < 2 {
+        all.push(Warning {
+            entry: &[],
+            place: Place {
+                line: 1,
+                column: 1,
+                text: &[],
+            },
+            caution: Caution::NoEntry,
+        })?;
+    }
+    all.sort_by_key(|warning| warning.place.line)?;
+    Ok(all)
+}
