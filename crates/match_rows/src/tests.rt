@@ -3,6 +3,8 @@ mod automata;
 mod conditions;
 mod diagrams;
 mod openings;
+mod readings;
+mod sizes;
 
 use db_read::{DbError, read};
 use dfa_join::{JoinError, compile};
@@ -80,22 +82,27 @@ fn with_stones(side: u8, stones: &[Point]) -> Result<Position, Fail> {
     with_both(side, stones, &[])
 }
 
-/// The matches of a list of patterns for a friend, by the automaton of another list, read three plies deep, two of them
-/// wide. The other list may not be longer.
-fn matches_in(
+/// New readings, three plies deep, two of them wide.
+fn new_readings(rt: &HostRuntime) -> Result<Readings, Fail> {
+    let depths = Depths::new(3, 2).ok_or("the depths are in range")?;
+    Ok(Readings::new(rt.alloc(), depths, 4096)?)
+}
+
+/// The matches of a list of patterns for a friend, by the automaton of another list and by these readings. The other
+/// list may not be longer.
+fn matches_reading(
     rt: &HostRuntime,
     patterns: &[Pattern],
     others: &[Pattern],
     position: &Position,
     friend: Colour,
+    readings: &mut Readings,
 ) -> Result<Vec<Match>, Fail> {
     if others.len() > patterns.len() || others.len() > 4096 {
         return Err("the other list is no longer")?;
     }
     let automaton = compile(rt.alloc(), others, MOST_ROWS)?;
     let scanner = Scanner::new(rt.alloc(), automaton)?;
-    let depths = Depths::new(3, 2).ok_or("the depths are in range")?;
-    let mut readings = Readings::new(rt.alloc(), depths, 4096)?;
     let mut helpers = Helpers::new(rt.alloc(), Vec::new(rt.alloc()))?;
     Ok(matches(
         rt.alloc(),
@@ -103,9 +110,21 @@ fn matches_in(
         &scanner,
         position,
         friend,
-        &mut readings,
+        readings,
         &mut helpers,
     )?)
+}
+
+/// The matches of a list of patterns for a friend, by the automaton of another list and by new readings.
+fn matches_in(
+    rt: &HostRuntime,
+    patterns: &[Pattern],
+    others: &[Pattern],
+    position: &Position,
+    friend: Colour,
+) -> Result<Vec<Match>, Fail> {
+    let mut readings = new_readings(rt)?;
+    matches_reading(rt, patterns, others, position, friend, &mut readings)
 }
 
 /// What these matches are, in their order.

@@ -1,5 +1,8 @@
 //! What a match needs beside its diagram: legal moves, safe stones, a true constraint, and helpers that say yes.
-use super::{Found, MOST_ROWS, found_of, told, with_both, with_stones};
+use super::{
+    Found, MOST_ROWS, found_of, matches_reading, new_readings, patterns_of, told, with_both,
+    with_stones,
+};
 use db_read::read;
 use dfa_join::compile;
 use dfa_match::Scanner;
@@ -31,16 +34,28 @@ struct Case {
     white: &'static [Point],
     /// The moves of the matches for black.
     want: &'static [Point],
+    /// How many readings are made for them.
+    readings: u64,
 }
 
-/// The moves of the matches for black.
-fn moves_found(rt: &HostRuntime, case: &Case) -> Result<Vec<Point>, Fail> {
+/// The moves of the matches for black, and how many readings were made for them.
+fn moves_found(rt: &HostRuntime, case: &Case) -> Result<(Vec<Point>, u64), Fail> {
     let position = with_both(9, case.black, case.white)?;
+    let patterns = patterns_of(rt, case.text)?;
+    let mut readings = new_readings(rt)?;
+    let found = matches_reading(
+        rt,
+        &patterns,
+        &patterns,
+        &position,
+        Colour::Black,
+        &mut readings,
+    )?;
     let mut moves = Vec::new(rt.alloc());
-    for (_, _, at) in &found_of(rt, case.text, &position, Colour::Black)? {
-        moves.push(*at)?;
+    for z in &found {
+        moves.push(z.at)?;
     }
-    Ok(moves)
+    Ok((moves, readings.fresh()))
 }
 
 #[test]
@@ -52,6 +67,7 @@ fn safety_class_skips_the_reading(rt: HostRuntime) -> Result<(), Fail> {
             black: &[],
             white: &[47, 49, 39],
             want: &[],
+            readings: 1,
         },
         Case {
             what: "is no matter with class s",
@@ -59,6 +75,7 @@ fn safety_class_skips_the_reading(rt: HostRuntime) -> Result<(), Fail> {
             black: &[],
             white: &[47, 49, 39],
             want: &[48],
+            readings: 0,
         },
         Case {
             what: "whatever letter comes before it",
@@ -66,11 +83,14 @@ fn safety_class_skips_the_reading(rt: HostRuntime) -> Result<(), Fail> {
             black: &[],
             white: &[47, 49, 39],
             want: &[48],
+            readings: 0,
         },
     ];
     for case in &cases {
         let what = case.what;
-        assert_eq!(rt; moves_found(&rt, case)?.as_slice(), case.want, "{what}");
+        let (moves, readings) = moves_found(&rt, case)?;
+        assert_eq!(rt; moves.as_slice(), case.want, "{what}");
+        assert_eq!(rt; readings, case.readings, "readings for {what}");
     }
     Ok(())
 }
@@ -84,6 +104,7 @@ fn class_n_asks_for_a_safe_stone_of_the_enemy(rt: HostRuntime) -> Result<(), Fai
             black: &[40],
             white: &[],
             want: &[41],
+            readings: 1,
         },
         Case {
             what: "one that can be captured",
@@ -91,6 +112,7 @@ fn class_n_asks_for_a_safe_stone_of_the_enemy(rt: HostRuntime) -> Result<(), Fai
             black: &[73],
             white: &[],
             want: &[],
+            readings: 1,
         },
         Case {
             what: "one that may not be played",
@@ -98,6 +120,7 @@ fn class_n_asks_for_a_safe_stone_of_the_enemy(rt: HostRuntime) -> Result<(), Fai
             black: &[73, 63],
             white: &[],
             want: &[],
+            readings: 0,
         },
         Case {
             what: "and none that is asked for",
@@ -105,11 +128,14 @@ fn class_n_asks_for_a_safe_stone_of_the_enemy(rt: HostRuntime) -> Result<(), Fai
             black: &[73, 63],
             white: &[],
             want: &[72],
+            readings: 0,
         },
     ];
     for case in &cases {
         let what = case.what;
-        assert_eq!(rt; moves_found(&rt, case)?.as_slice(), case.want, "{what}");
+        let (moves, readings) = moves_found(&rt, case)?;
+        assert_eq!(rt; moves.as_slice(), case.want, "{what}");
+        assert_eq!(rt; readings, case.readings, "readings for {what}");
     }
     Ok(())
 }
@@ -123,6 +149,7 @@ fn false_constraint_refuses_a_match(rt: HostRuntime) -> Result<(), Fail> {
             black: &[40],
             white: &[],
             want: &[41],
+            readings: 0,
         },
         Case {
             what: "one that is false",
@@ -130,6 +157,7 @@ fn false_constraint_refuses_a_match(rt: HostRuntime) -> Result<(), Fail> {
             black: &[36],
             white: &[],
             want: &[],
+            readings: 0,
         },
         Case {
             what: "labels that are moved",
@@ -137,11 +165,14 @@ fn false_constraint_refuses_a_match(rt: HostRuntime) -> Result<(), Fail> {
             black: &[0],
             white: &[18],
             want: &[9, 9],
+            readings: 0,
         },
     ];
     for case in &cases {
         let what = case.what;
-        assert_eq!(rt; moves_found(&rt, case)?.as_slice(), case.want, "{what}");
+        let (moves, readings) = moves_found(&rt, case)?;
+        assert_eq!(rt; moves.as_slice(), case.want, "{what}");
+        assert_eq!(rt; readings, case.readings, "readings for {what}");
     }
     Ok(())
 }

@@ -1,6 +1,6 @@
 use Rattle.std.proofs.Common.{arith, subst, Contains}
 use Rattle.dfa_core.specs.Automata.{accepted}
-use Rattle.match_rows.proofs.tests.matches_in.Goals as goal
+use Rattle.match_rows.proofs.tests.matches_reading.Goals as goal
 
 -- the other list is no longer, and its automaton accepts numbers of it alone
 pub matches-requires : goal.matches-requires
