@@ -3,7 +3,7 @@ ghost use Rattle.std.specs.Prelude.{◌≡◌, ◌<◌, ◌++◌, ◌∷◌, [],
 ghost use Rattle.std.specs.List.{flat_map, range_with_len};
 ghost use Rattle.session.specs.BoardText.{mark_of, row_number_text, cell_text, row_text, letter_text, board_text};
 
-use crate::vertices::{push_letter, push_number};
+use crate::point_lists::{push_letter, push_number};
 use go_base::{Bytes, Cell, NoMemory, Position, Size};
 use std::alloc::Global;
 

@@ -15,13 +15,13 @@ mod opening;
 mod outbox;
 mod outcome;
 mod pattern_text;
+mod point_lists;
 mod readings;
 mod reply;
 mod serve;
 mod session;
 mod slow;
 mod top_call;
-mod vertices;
 
 pub use self::session::Session;
 pub use engine::Engine;

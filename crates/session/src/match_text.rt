@@ -11,7 +11,7 @@ ghost use Rattle.session.specs.SessionState.{NumbersPatterns};
 ghost use Rattle.session.specs.MatchTexts.{name_of, match_text, matches_text, AreAmong, SameDepths};
 ghost use Rattle.session.specs.PatternTexts.{feed_after};
 
-use crate::vertices::{push_number, push_vertex};
+use crate::point_lists::{push_number, push_vertex};
 use dfa_match::Scanner;
 use go_base::{Bytes, Colour, NoMemory, Position, Size};
 use helpers::Helpers;

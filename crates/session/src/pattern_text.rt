@@ -3,7 +3,7 @@ ghost use Rattle.std.specs.Prelude.{◌≡◌, ◌++◌, OnOk, IfOk};
 ghost use Rattle.session.specs.PatternTexts.{mark_text, classes_text, name_text, pattern_text, patterns_text};
 ghost use Rattle.session.specs.PatternTexts.{feed_after};
 
-use crate::vertices::push_number;
+use crate::point_lists::push_number;
 use go_base::{Bytes, NoMemory};
 use pat_types::{Mark, Pattern};
 use std::alloc::Global;

@@ -14,7 +14,7 @@ ghost use Rattle.session.specs.Answers.{IsAnswer};
 use crate::answer::{Answer, grown, told, told_number};
 use crate::board_text::board_text;
 use crate::engine::Engine;
-use crate::vertices::{legal_text, liberties_text};
+use crate::point_lists::{legal_text, liberties_text};
 use go_base::{Cell, Colour, Point, Size};
 use go_history::{HistoryError, Move};
 use go_strings::StringBoard;

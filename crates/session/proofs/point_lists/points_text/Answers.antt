@@ -2,8 +2,8 @@
 use Rattle.std.proofs.Common.{◌∙◌, sym}
 use Rattle.std.specs.FinSet as set
 use Rattle.session.proofs.Texts.{vertices-passes, vertices-fails}
-use Rattle.session.proofs.vertices.points_text.Goals as goal
-use Rattle.session.proofs.vertices.points_text.Goals.{then-has+in_ok-push_next, else-has}
+use Rattle.session.proofs.point_lists.points_text.Goals as goal
+use Rattle.session.proofs.point_lists.points_text.Goals.{then-has+in_ok-push_next, else-has}
 
 -- the vertices so far are those of the set's points up to this one, in reading order
 pub loop-p-preserved : goal.loop-p-preserved
