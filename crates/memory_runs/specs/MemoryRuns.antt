@@ -6,12 +6,12 @@ use Rattle.go_options.specs.CommandLine.{is_taken}
 use Rattle.go_options.specs.declared.options.Options.{Options}
 use Rattle.workload.specs.GeneratedLines.{generated_text}
 use Rattle.pat_types.specs.declared.pattern.Pattern.{Pattern}
-use Rattle.session.specs.Answering.{step}
-use Rattle.session.specs.Machine.{first_machine}
-use Rattle.session.specs.Matcher.{plain_matcher}
+use Rattle.machine_rules.specs.Step.{step}
+use Rattle.machine_rules.specs.Machine.{first_machine}
+use Rattle.machine_rules.specs.Matcher.{plain_matcher}
 use Rattle.helpers.specs.Asking.{SlotState, says_yes}
-use Rattle.session.specs.Handed.{helper_names}
-use Rattle.session.specs.Opening.{IsOpened}
+use Rattle.engine.specs.Handed.{helper_names}
+use Rattle.session.specs.PatternFiles.{IsOpened}
 use Rattle.session.specs.Outcomes.{Phase, NotTaken, NotOpened, Served}
 use Rattle.session.specs.Ends.{IsRight}
 use Rattle.session.specs.Headline.{GiveOptions, IsUnopened}

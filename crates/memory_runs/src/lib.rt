@@ -6,7 +6,7 @@
 
 ghost use Rattle.std.specs.Prelude.{◌≢◌, map, string_bytes};
 ghost use Rattle.gtp_io.specs.Loading.{named};
-ghost use Rattle.session.specs.Handed.{handed};
+ghost use Rattle.engine.specs.Handed.{handed};
 ghost use Rattle.session.specs.Outcomes.{phase_of};
 ghost use Rattle.memory_runs.specs.MemoryRuns.{ComesTo};
 

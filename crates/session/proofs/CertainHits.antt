@@ -11,14 +11,15 @@ use Rattle.match_engine.specs.declared.keys.Key.{Key}
 use Rattle.match_engine.specs.Readings.{KeptReadings}
 use Rattle.match_engine.proofs.RepeatedQuestions.{IsAtHand, IsAtHand-first, IsAtHand-later, IsAtHand-kept}
 use Rattle.match_engine.proofs.RepeatedQuestions.{HasRead-capacity, HasRead-refused}
-use Rattle.session.specs.Machine.{Machine, position_of}
-use Rattle.session.specs.SessionState.{SessionState, machine_of}
-use Rattle.session.specs.Counting.{counted, is_read_line}
-use Rattle.session.specs.Asking.{Asks, Nothing, One, Many, ReadsAs, ReadsOnce, IsAfterLine, asks_of_line}
-use Rattle.session.specs.Turns.{Turn, IsAlong}
-use Rattle.session.specs.CertainHit.{IsCertainHit, HaveCertainHits, board_at, is_reading, is_matching, named_in}
-use Rattle.session.specs.CertainHit.{reading_lines, matching_lines}
-use Rattle.session.proofs.CommandQuestions.{Fits, Fits-line, is_read_line-one}
+use Rattle.machine_rules.specs.Machine.{Machine, position_of}
+use Rattle.engine.specs.SessionState.{SessionState, machine_of}
+use Rattle.machine_rules.specs.Counting.{counted, is_read_line}
+use Rattle.machine_rules.specs.Questions.{Asks, Nothing, One, Many, asks_of_line}
+use Rattle.engine.specs.AfterLine.{ReadsAs, ReadsOnce, IsAfterLine}
+use Rattle.machine_rules.specs.Turns.{Turn, IsAlong}
+use Rattle.machine_rules.specs.CertainHit.{IsCertainHit, HaveCertainHits, board_at, is_reading, is_matching, named_in}
+use Rattle.machine_rules.specs.CertainHit.{reading_lines, matching_lines}
+use Rattle.machine_rules.proofs.CommandQuestions.{Fits, Fits-line, is_read_line-one}
 use Rattle.session.proofs.TallyLemmas.{IsAlong-append, IsAlong-split}
 
 -- how many questions may be kept

@@ -22,7 +22,7 @@ use Rattle.db_rules.specs.Kinds.{first_of}
 use Rattle.db_rules.specs.Faults.{or_else, at_line, pattern_fault, own_fault, table_fault, closing_fault, found}
 use Rattle.db_rules.specs.Faults.{first_fault, end_number, entries}
 use Rattle.db_rules.proofs.Walk.{walk, first_fault-walk}
-use Rattle.session.specs.Opening.{most_patterns}
+use Rattle.session.specs.PatternFiles.{most_patterns}
 
 -- there are few blocks
 abbrev Few : SoFar → Type 0

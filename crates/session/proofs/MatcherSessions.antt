@@ -1,35 +1,19 @@
 -- Sessions that find matches by an automaton, and the plain machine.
 use Rattle.std.proofs.Common.{ℕ, ◌≤◌, List, Option, refl, subst}
-use Rattle.std.proofs.lemmas.Option.{slice_get_within}
-use Rattle.go_rules.specs.declared.Colour.{Colour}
-use Rattle.go_rules.specs.Position.{BoardState}
 use Rattle.pat_types.specs.declared.pattern.Pattern.{Pattern}
 use Rattle.dfa_core.specs.Automata.{Row}
 use Rattle.dfa_core.specs.States.{IsAutomatonOf}
-use Rattle.match_engine.specs.AutomatonMatches.{automaton_matches, is_automaton_match}
-use Rattle.match_rules.proofs.Orders.{by-has}
 use Rattle.match_engine.proofs.Patterns.{same_by_automaton}
-use Rattle.session.specs.Machine.{Machine, first_machine, position_of}
+use Rattle.machine_rules.specs.Machine.{Machine, first_machine, position_of}
 use Rattle.match_rules.specs.Conditions.{Advice}
-use Rattle.session.specs.Matcher.{Matcher, plain_matcher, codes_of}
-use Rattle.cons_eval.specs.Readings.{Codes}
-use Rattle.session.specs.Answering.{step}
+use Rattle.machine_rules.specs.Matcher.{Matcher, plain_matcher, codes_of}
+use Rattle.machine_rules.specs.Step.{step}
 use Rattle.session.specs.Tallies.{Tally}
-use Rattle.session.specs.SessionState.{SessionState, machine_of, matcher_with, first_kept}
-use Rattle.session.specs.Opened.{IsPlainWith}
+use Rattle.engine.specs.SessionState.{SessionState, machine_of, matcher_with, first_kept}
+use Rattle.session.specs.FirstSession.{IsPlainWith}
 use Rattle.session.specs.Ends.{Streams}
 use Rattle.session.specs.Headline.{ServesLines}
 use Rattle.session.specs.declared.outcome.End.{End}
-use Rattle.session.specs.MatchTexts.{AreAmong}
-
--- the matches by an automaton are among the patterns and on the board
-pub AreAmong-found : (code : Codes) (advice : Advice) (rows : List Row) (patterns : List Pattern) (board : BoardState)
-    (friend : Colour)
-    → AreAmong patterns board.size (automaton_matches code advice rows patterns board friend)
-unfolding automaton_matches
-AreAmong-found code advice rows patterns board friend = λ z there.
-    let by = by-has (is_automaton_match code advice rows board friend) patterns board.size z there in
-    (slice_get_within patterns z.pattern by.pattern by.number, by.at)
 
 -- with the automaton of its patterns a session is plain before its first line
 pub plain-first : (advice : Advice) (patterns : List Pattern) (rows : List Row) (plies wide capacity : ℕ)

@@ -1,37 +1,31 @@
 -- A reply as it is put on the output.
-use Rattle.std.proofs.Common.{◌≡◌, ⊎_elim, ℕ, Bool, false, List, [], ◌∷◌, length, Option, refl, sym, ap, subst, ◌∙◌}
+use Rattle.engine.proofs.RefusedLines.{MayGive-reply}
+use Rattle.std.proofs.Common.{◌≡◌, ⊎_elim, ℕ, false, List, [], ◌∷◌, length, Option, refl, sym, ap, subst, ◌∙◌}
 use Rattle.std.proofs.Common.{inl, inr}
 use Rattle.std.specs.Io.KnownBytes.{Appends}
 use Rattle.gtp_rules.specs.Lines.{RawLine}
-use Rattle.gtp_rules.specs.Steps.{Step}
-use Rattle.gtp_rules.specs.Transcript.{MayGive, Answers}
+use Rattle.gtp_rules.specs.Transcript.{Answers}
 use Rattle.std.proofs.KnownBytes.{Appends-nil}
 use Rattle.run_notes.specs.declared.notes.Sent.{Sent}
-use Rattle.session.specs.Answering.{step}
-use Rattle.session.specs.Matcher.{Matcher}
-use Rattle.session.specs.SessionState.{SessionState, machine_of}
-use Rattle.session.specs.Counting.{counted, is_read_line}
-use Rattle.session.specs.Asking.{ReadsAs, IsAfterLine, asks_of_line}
-use Rattle.session.specs.Turns.{IsAlong}
-use Rattle.session.specs.Tallies.{kept_sum, one_turn, reply_count}
-use Rattle.session.specs.Machine.{Machine}
+use Rattle.machine_rules.specs.Step.{step}
+use Rattle.machine_rules.specs.Matcher.{Matcher}
+use Rattle.engine.specs.SessionState.{SessionState, machine_of}
+use Rattle.machine_rules.specs.Counting.{counted, is_read_line}
+use Rattle.engine.specs.AfterLine.{ReadsAs, IsAfterLine}
+use Rattle.machine_rules.specs.Questions.{asks_of_line}
+use Rattle.machine_rules.specs.Turns.{IsAlong}
+use Rattle.session.specs.Tallies.{kept_sum, one_turn}
+use Rattle.engine.specs.Replies.{reply_count}
+use Rattle.machine_rules.specs.Machine.{Machine}
 use Rattle.run_notes.specs.declared.notes.Counts.{Counts}
 use Rattle.session.specs.Serving.{PutsPart, PutsReply, Replies, RepliesPart, RunsTo, progress_of}
 use Rattle.session.specs.Waiting.{WaitingState, holds_with, sent_with, progress_with, Stop, IsStop, CutsReply, MayStop}
 use Rattle.session.specs.Waiting.{MayCut, Sends, SendsReply}
-use Rattle.session.specs.Answered.{AnswersLine}
+use Rattle.engine.specs.AnsweredLines.{AnswersLine}
 use Rattle.session.proofs.ServeLemmas.{RunsTo-one, RunsPart-one}
-use Rattle.session.specs.Replies.{IsReplyTo, IsRefusal, IsSound, reply_bytes, reply_ends}
-use Rattle.session.specs.declared.reply.Reply.{Reply}
-use Rattle.session.specs.declared.reply.Reply.TheVariants.{Nothing, Short, Text, NoMemory}
-
--- the machine may give the bytes of a reply
-pub MayGive-reply : {M : Type 0} (old : M) (given : Step M) (reply : Reply) (new : M) → IsReplyTo old given reply new
-    → MayGive old given (reply_bytes reply) new (reply_ends reply)
-MayGive-reply old given Nothing new is = inl (is.0, is.2, is.1)
-MayGive-reply old given (Short text quit) new is = inl (is.0, is.2, is.1)
-MayGive-reply old given (Text bytes) new is = inl (is.0, is.2, is.1)
-MayGive-reply old given (NoMemory id) new is = inr (is.0, is.1, is.2, refl)
+use Rattle.engine.specs.Replies.{IsReplyTo, reply_bytes, reply_ends}
+use Rattle.engine.specs.declared.reply.Reply.{Reply}
+use Rattle.engine.specs.declared.reply.Reply.TheVariants.{Nothing, Short, Text, NoMemory}
 
 -- The session answered a line with a reply of some bytes.
 module _ (matcher : Matcher) (old new : SessionState) (line : RawLine) (reply : Reply)
@@ -194,18 +188,3 @@ module _ (matcher : Matcher) (old new : SessionState) (line : RawLine) (w0 w1 : 
   turn-stops (NoMemory id) is noted sends stop at =
       turn-stop matcher old new line (NoMemory id) is.reply is.readings is.read w0 s0 b0 counts stop noted
       (sends.stops stop at)
-
--- Where the step keeps its word, a reply that is a refusal leaves the machine as it was.
-reply-refused : {M : Type 0} (old : M) (given : Step M) (bytes : List ℕ) (new : M) (ends : Bool) → IsSound old given
-    → MayGive old given bytes new ends
-    → IsRefusal bytes → new ≡ old
-reply-refused old given bytes new ends sound (inl may) refusal = may.1 ∙ sound.refused
-    (refusal.0, sym may.0 ∙ refusal.1)
-reply-refused old given bytes new ends sound (inr may) refusal = may.2
-
--- the same of a reply to a line
-pub IsReplyTo-refused : {M : Type 0} (old : M) (given : Step M) (reply : Reply) (new : M) → IsSound old given
-    → IsReplyTo old given reply new
-    → IsRefusal (reply_bytes reply) → new ≡ old
-IsReplyTo-refused old given reply new sound is = reply-refused old given (reply_bytes reply) new
-    (reply_ends reply) sound (MayGive-reply old given reply new is)

@@ -11,19 +11,21 @@ use Rattle.gtp_lex.specs.Held.{lines_from, held_from, held_line, longer}
 use Rattle.gtp_lex.proofs.HeldLemmas.{lines_with_rest-lines_from}
 use Rattle.run_notes.specs.declared.notes.Counts.{Counts}
 use Rattle.match_engine.specs.Readings.{KeptReadings, nothing_kept}
-use Rattle.session.specs.Machine.{Machine}
-use Rattle.session.specs.SessionState.{SessionState, no_counts}
-use Rattle.session.specs.Counting.{counted, is_read_line, readings_in}
-use Rattle.session.specs.Asking.{Asks, Nothing, One, Many, ReadsAs, ReadsNothing, IsAfterLine, AskNothing}
-use Rattle.session.specs.Asking.{asks_of_line, after_trials}
-use Rattle.session.specs.Serving.{HasFewFresh}
-use Rattle.session.specs.Turns.{Turn, IsAlong}
+use Rattle.machine_rules.specs.Machine.{Machine}
+use Rattle.engine.specs.SessionState.{SessionState, no_counts}
+use Rattle.machine_rules.specs.Counting.{counted, is_read_line, readings_in}
+use Rattle.machine_rules.specs.Questions.{Asks, Nothing, One, Many, AskNothing}
+use Rattle.engine.specs.AfterLine.{ReadsAs, ReadsNothing, IsAfterLine}
+use Rattle.machine_rules.specs.Questions.{asks_of_line}
+use Rattle.engine.specs.AfterLine.{after_trials}
+use Rattle.engine.specs.AfterLine.{HasFewFresh}
+use Rattle.machine_rules.specs.Turns.{Turn, IsAlong}
 use Rattle.session.specs.Tallies.{Tally, IsTallied, BreaksOff, one_turn}
 use Rattle.session.specs.Ends.{Streams, Serves, AreTallied, IsRight, most_taken}
 use Rattle.session.specs.Headline.{ServesLines, AreCountsOf}
 use Rattle.session.specs.declared.outcome.End.{End}
 use Rattle.session.specs.declared.outcome.End.TheVariants.{Done, InputFault, OutputFault, InputTooLong}
-use Rattle.session.proofs.LineCounts.{few_fresh-line}
+use Rattle.engine.proofs.LineCounts.{few_fresh-line}
 use Rattle.session.proofs.CertainHits.{hits_are_kept}
 
 -- How many lines a run answers.

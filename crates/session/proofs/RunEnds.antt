@@ -11,12 +11,12 @@ use Rattle.gtp_rules.proofs.Runs.{Cut-front}
 use Rattle.gtp_lex.specs.Held.{lines_from, held_from, held_line}
 use Rattle.gtp_lex.proofs.HeldLemmas.{lines_from-append, held_from-append, lines_of-lines_from}
 use Rattle.gtp_lex.proofs.HeldLemmas.{lines_with_rest-lines_from}
-use Rattle.session.specs.SessionState.{SessionState}
-use Rattle.session.specs.Turns.{Turn}
+use Rattle.engine.specs.SessionState.{SessionState}
+use Rattle.machine_rules.specs.Turns.{Turn}
 use Rattle.session.specs.Tallies.{Tally, Progress, Advances, IsTallied, together}
 use Rattle.session.specs.Serving.{RunsTo, RunsPart}
 use Rattle.session.specs.Ends.{most_taken, Streams, earlier}
-use Rattle.session.specs.Opened.{ServesCounting}
+use Rattle.session.specs.FirstSession.{ServesCounting}
 use Rattle.session.proofs.TallyLemmas.{Advances-trans, IsTallied-append, IsTallied-run}
 use Rattle.session.proofs.TallyLemmas.{BreaksOff-after, BreaksOff-more, BreaksOff-is, BreaksOff-cut}
 use Rattle.session.specs.declared.outcome.End.TheVariants.{Done, InputFault, OutputFault, InputTooLong}

@@ -7,21 +7,21 @@ use Rattle.gtp_lex.specs.Lines.{LinesState}
 use Rattle.go_options.specs.declared.options.Options.{Options}
 use Rattle.run_notes.specs.declared.notes.Counts.{Counts}
 use Rattle.run_notes.specs.declared.notes.Sent.{Sent}
-use Rattle.session.specs.Machine.{Machine}
-use Rattle.session.specs.Turns.{Turn}
-use Rattle.session.specs.Asking.{IsAfterLine}
+use Rattle.machine_rules.specs.Machine.{Machine}
+use Rattle.machine_rules.specs.Turns.{Turn}
+use Rattle.engine.specs.AfterLine.{IsAfterLine}
 use Rattle.session.specs.Tallies.{Tally, Progress, kept_sum}
 use Rattle.gtp_rules.specs.Lines.{RawLine}
 use Rattle.gtp_rules.specs.Steps.{Step}
 use Rattle.workload.specs.GeneratedLines.{generated_text}
 use Rattle.workload.proofs.LengthLemmas.{generated_length}
 use Rattle.helpers.specs.Asking.{SlotState, says_yes}
-use Rattle.session.specs.Answering.{step}
-use Rattle.session.specs.Handed.{helper_names}
-use Rattle.session.specs.Matcher.{Matcher}
-use Rattle.session.specs.SessionState.{SessionState, machine_of}
-use Rattle.session.specs.Opening.{IsRefused, MissedIn}
-use Rattle.session.specs.Opened.{Opens, CameBy, ServesCounting, EndsCounting}
+use Rattle.machine_rules.specs.Step.{step}
+use Rattle.engine.specs.Handed.{helper_names}
+use Rattle.machine_rules.specs.Matcher.{Matcher}
+use Rattle.engine.specs.SessionState.{SessionState, machine_of}
+use Rattle.session.specs.PatternFiles.{IsRefused, MissedIn}
+use Rattle.session.specs.FirstSession.{Opens, CameBy, ServesCounting, EndsCounting}
 use Rattle.session.specs.Outcomes.{Phase, NotOpened, Served}
 use Rattle.session.specs.Ends.{Streams, IsRight, most_taken}
 use Rattle.session.specs.Headline.{AreCounts, AreCountsOf, IsSent, IsCauseOf, MissedAfter}

@@ -14,11 +14,11 @@ use Rattle.gtp_lex.specs.declared.lines.Taken.TheVariants as taken
 use Rattle.gtp_lex.proofs.HeldLemmas.{lines_from-append, held_from-append}
 use Rattle.run_notes.specs.declared.notes.Counts.{Counts}
 use Rattle.run_notes.specs.declared.notes.Sent.{Sent}
-use Rattle.session.specs.Machine.{Machine}
-use Rattle.session.specs.Matcher.{Matcher}
-use Rattle.session.specs.Answering as answering
-use Rattle.session.specs.SessionState.{SessionState}
-use Rattle.session.specs.Turns.{Turn}
+use Rattle.machine_rules.specs.Machine.{Machine}
+use Rattle.machine_rules.specs.Matcher.{Matcher}
+use Rattle.machine_rules.specs.Step as answering
+use Rattle.engine.specs.SessionState.{SessionState}
+use Rattle.machine_rules.specs.Turns.{Turn}
 use Rattle.session.specs.Tallies.{Progress, IsTallied, tally_of, cut_tally, no_tally, together}
 use Rattle.session.specs.Serving.{Replies, RepliesPart, RunsTo, RunsPart, progress_of}
 use Rattle.session.specs.Waiting.{WaitingState, none_wait, holds_with, Stop, IsStop, MayCut, CutsShort, Stays}

@@ -8,8 +8,8 @@ use Rattle.std.proofs.Common.{◌++◌, length, refl, sym, ap, subst, ◌∙◌,
 use Rattle.gtp_rules.specs.Lines.{RawLine}
 use Rattle.gtp_rules.specs.Steps.{Step}
 use Rattle.gtp_rules.specs.Transcript.{Answers, IsRun, Cut}
-use Rattle.session.specs.SessionState.{SessionState}
-use Rattle.session.specs.Turns.{Turn, IsAlong}
+use Rattle.engine.specs.SessionState.{SessionState}
+use Rattle.machine_rules.specs.Turns.{Turn, IsAlong}
 use Rattle.session.specs.Tallies.{Tally, no_tally, together, tally_of, cut_tally, kept_sum, Progress, Advances}
 use Rattle.session.specs.Tallies.{IsTallied, BreaksOff}
 

@@ -10,7 +10,7 @@ use Rattle.std.proofs.lemmas.List.{take_more_set, take_rest, take-append-le, len
 use Rattle.std.proofs.Math.Seq.{take-append-add}
 use Rattle.run_notes.specs.declared.notes.Counts.{Counts}
 use Rattle.run_notes.specs.declared.notes.Sent.{Sent}
-use Rattle.session.specs.SessionState.{no_counts}
+use Rattle.engine.specs.SessionState.{no_counts}
 use Rattle.session.specs.Tallies.{kept_sum}
 use Rattle.session.specs.Serving.{Puts, PutsFront, PutsPart, PutsReply}
 use Rattle.session.specs.Waiting.{WaitingState, none_wait, gone, counts_at, AreMarked, holds_with, sent_with, Stop}
@@ -22,18 +22,6 @@ use Rattle.session.proofs.TallyLemmas.{kept_sum-twice}
 pub on_ok_map : {T E P Q : Type 0} (result : Result T E) → (P → Q) → OnOk result P → OnOk result Q
 on_ok_map (Ok x) words p = words p
 on_ok_map (Err e) words p = tt
-
--- what holds of the value of a success follows from what does
-pub if_ok_map : {T E : Type 0} {P Q : T → Type 0} (result : Result T E) → ((x : T) → P x → Q x) → IfOk result P
-    → IfOk result Q
-if_ok_map (Ok x) words p = words x p
-if_ok_map (Err e) words p = tt
-
--- what holds of an error follows from what does
-pub if_err_map : {T E : Type 0} {P Q : E → Type 0} (result : Result T E) → ((e : E) → P e → Q e) → IfErr result P
-    → IfErr result Q
-if_err_map (Ok x) words p = tt
-if_err_map (Err e) words p = words e p
 
 -- what holds of the one value that a success may have holds of a success
 pub if_ok_is : {T E S : Type 0} (P : T → Type 0) (result : Result T E) (x : T) → IfOk result (λ y. y ≡ x)

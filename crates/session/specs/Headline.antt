@@ -6,19 +6,20 @@ use Rattle.gtp_rules.specs.Lines.{RawLine}
 use Rattle.gtp_rules.specs.Steps.{Step}
 use Rattle.pat_types.specs.declared.pattern.Pattern.{Pattern}
 use Rattle.helpers.specs.Asking.{SlotState, says_yes}
-use Rattle.session.specs.Machine.{Machine, first_machine}
-use Rattle.session.specs.Matcher.{plain_matcher}
-use Rattle.session.specs.Answering.{step}
-use Rattle.session.specs.Turns.{Turn, IsAlong}
+use Rattle.machine_rules.specs.Machine.{Machine, first_machine}
+use Rattle.machine_rules.specs.Matcher.{plain_matcher}
+use Rattle.machine_rules.specs.Step.{step}
+use Rattle.machine_rules.specs.Turns.{Turn, IsAlong}
 use Rattle.match_engine.specs.Readings.{nothing_kept}
-use Rattle.session.specs.Counting.{readings_in}
-use Rattle.session.specs.Asking.{AskNothing, IsAfterLine}
-use Rattle.session.specs.SessionState.{SessionState, no_counts}
-use Rattle.session.specs.CertainHit.{HaveCertainHits}
+use Rattle.machine_rules.specs.Counting.{readings_in}
+use Rattle.machine_rules.specs.Questions.{AskNothing}
+use Rattle.engine.specs.AfterLine.{IsAfterLine}
+use Rattle.engine.specs.SessionState.{SessionState, no_counts}
+use Rattle.machine_rules.specs.CertainHit.{HaveCertainHits}
 use Rattle.session.specs.Tallies.{Tally, kept_sum}
 use Rattle.session.specs.Ends.{Streams, Serves}
-use Rattle.session.specs.Opening.{IsOpened, IsRefused, MissedIn}
-use Rattle.session.specs.Handed.{helper_names}
+use Rattle.session.specs.PatternFiles.{IsOpened, IsRefused, MissedIn}
+use Rattle.engine.specs.Handed.{helper_names}
 use Rattle.session.specs.Notes.{note_of}
 use Rattle.go_options.specs.CommandLine.{is_taken, rows_in}
 use Rattle.go_options.specs.Found.{AreFound, words_in}

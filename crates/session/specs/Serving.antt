@@ -1,20 +1,14 @@
 -- What the loops of a run say of the lines that they answer, of the bytes that they put and of what they count, by any
 -- machine M, any step, and any relation that says how what is kept goes on with a line.
-use Rattle.std.specs.Prelude.{◌≡◌, ℕ, ◌^◌, ◌<◌, ◌≤◌, Bool, List, ◌++◌, length, take, Option}
+use Rattle.std.specs.Prelude.{◌≡◌, ℕ, ◌<◌, Bool, List, ◌++◌, length, take, Option}
 use Rattle.std.specs.Io.KnownBytes.{Appends}
 use Rattle.gtp_rules.specs.Lines.{RawLine}
 use Rattle.gtp_rules.specs.Steps.{Step}
 use Rattle.gtp_rules.specs.Transcript.{Answers}
-use Rattle.run_notes.specs.declared.notes.Counts.{Counts}
 use Rattle.run_notes.specs.declared.notes.Sent.{Sent}
-use Rattle.session.specs.SessionState.{SessionState}
-use Rattle.session.specs.Turns.{Turn}
+use Rattle.engine.specs.SessionState.{SessionState}
+use Rattle.machine_rules.specs.Turns.{Turn}
 use Rattle.session.specs.Tallies.{Tally, Progress, Advances, IsTallied, BreaksOff, tally_of, cut_tally, kept_sum}
-
--- no more readings were made afresh than were counted, which a u64 counts
-pub record HasFewFresh (counts : Counts) : Type 0 where
-  pub few : counts.fresh ≤ counts.readings
-  pub small : counts.readings < 2 ^ 64
 
 -- how far a run is: what its output holds, what its session keeps, and what was sent
 abbrev pub progress_of : Option (List ℕ) → SessionState → Sent → Progress

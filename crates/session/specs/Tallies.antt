@@ -1,14 +1,15 @@
 -- What a run counts of the lines that it answers, by any machine M and any step: each line was answered, as in a
 -- transcript, and is tallied with its reply. A count in ℕ is exact; the program's counts stand still at the greatest
 -- value of a u64.
+use Rattle.engine.specs.Replies.{reply_count}
 use Rattle.std.specs.Prelude.{◌≡◌, ℕ, zero, suc, ◌+◌, ◌-◌, ◌^◌, ◌<◌, min, Bool, true, false, MatchBool, List, [], ◌∷◌}
 use Rattle.std.specs.Prelude.{◌++◌, length, Option}
 use Rattle.std.specs.Io.KnownBytes.{Appends}
 use Rattle.gtp_rules.specs.Lines.{RawLine}
 use Rattle.gtp_rules.specs.Steps.{Step}
 use Rattle.gtp_rules.specs.Transcript.{Answers}
-use Rattle.session.specs.SessionState.{SessionState}
-use Rattle.session.specs.Turns.{Turn, IsAlong}
+use Rattle.engine.specs.SessionState.{SessionState}
+use Rattle.machine_rules.specs.Turns.{Turn, IsAlong}
 
 -- the bytes that were put, how many replies they are, and the lines that were answered, each with its machine
 pub record Tally (M : Type 0) : Type 0 where
@@ -23,11 +24,6 @@ no_tally = record { out = []; replies = 0; turns = [] }
 -- one tally and then another
 abbrev pub together : {M : Type 0} → Tally M → Tally M → Tally M
 together a b = record { out = a.out ++ b.out; replies = a.replies + b.replies; turns = a.turns ++ b.turns }
-
--- 1 for a reply that has bytes
-abbrev pub reply_count : List ℕ → ℕ
-reply_count [] = 0
-reply_count (b ∷ bs) = 1
 
 -- a line that comes to a machine, as the only one
 abbrev pub one_turn : {M : Type 0} → M → RawLine → List (Turn M)

@@ -5,14 +5,14 @@ use Rattle.run_notes.specs.declared.notes.Counts.{Counts}
 use Rattle.run_notes.specs.declared.notes.Sent.{Sent}
 use Rattle.gtp_rules.specs.Lines.{RawLine}
 use Rattle.gtp_rules.specs.Steps.{Step}
-use Rattle.session.specs.SessionState.{SessionState, no_counts}
-use Rattle.session.specs.Turns.{Turn}
+use Rattle.engine.specs.SessionState.{SessionState, no_counts}
+use Rattle.machine_rules.specs.Turns.{Turn}
 use Rattle.session.specs.Tallies.{Progress, kept_sum}
 use Rattle.session.specs.Serving.{PutsPart, PutsReply, RunsPart, progress_of}
-use Rattle.session.specs.Replies.{reply_bytes}
+use Rattle.engine.specs.Replies.{reply_bytes}
 use Rattle.session.specs.declared.outbox.ReplyMark.{ReplyMark}
-use Rattle.session.specs.declared.reply.Reply.{Reply}
-use Rattle.session.specs.declared.reply.Reply.TheVariants as reply
+use Rattle.engine.specs.declared.reply.Reply.{Reply}
+use Rattle.engine.specs.declared.reply.Reply.TheVariants as reply
 
 -- the bytes of the replies that wait, in their order, and where each ends, with the counts after its line
 pub record WaitingState : Type 0 where

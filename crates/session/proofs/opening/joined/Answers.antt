@@ -1,7 +1,7 @@
 -- One file more.
 use Rattle.std.proofs.Common.{ℕ, List, Option, ap, subst, ◌∙◌, arith}
 use Rattle.std.specs.String.{string_bytes}
-use Rattle.session.specs.Opening.{Adds}
+use Rattle.session.specs.PatternFiles.{Adds}
 use Rattle.session.proofs.OpeningLemmas.{IsJoined-next}
 use Rattle.session.proofs.opening.joined.Goals as goal
 

@@ -1,6 +1,6 @@
 use Rattle.std.proofs.Common.{◌≡◌, take, map}
 use Rattle.std.specs.String.{string_bytes}
-use Rattle.session.specs.Opening.{IsJoined}
+use Rattle.session.specs.PatternFiles.{IsJoined}
 use Rattle.session.proofs.opening.joined.Given as goal
 
 -- the files so far were joined, and none was missed

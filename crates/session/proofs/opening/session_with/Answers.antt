@@ -3,8 +3,8 @@ use Rattle.std.proofs.Common.{sym, subst}
 use Rattle.dfa_core.specs.States.{IsAutomatonOf}
 use Rattle.helpers.specs.Asking.{says_yes}
 use Rattle.helpers.specs.Slots.{states_of}
-use Rattle.session.specs.SessionState.{NumbersPatterns, matcher_with}
-use Rattle.session.specs.Opened.{IsPlainWith}
+use Rattle.engine.specs.SessionState.{NumbersPatterns, matcher_with}
+use Rattle.session.specs.FirstSession.{IsPlainWith}
 use Rattle.session.proofs.MatcherSessions.{plain-first}
 use Rattle.session.proofs.opening.session_with.Goals as goal
 

@@ -1,6 +1,6 @@
 -- The contents were loaded, and the line feed that they need was put.
 use Rattle.std.proofs.Common.{◌≡◌, ◌++◌, length, drop, ap, ◌∙◌, arith}
-use Rattle.session.specs.Opening.{added_feed}
+use Rattle.session.specs.PatternFiles.{added_feed}
 use Rattle.session.proofs.OpeningLemmas.{Adds-loaded}
 use Rattle.session.proofs.opening.with_file.Goals as goal
 

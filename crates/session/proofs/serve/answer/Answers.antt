@@ -1,15 +1,16 @@
 -- The reply is one that the machine may give, and it is out or waits, or a reply broke off.
 use Rattle.std.proofs.Common.{ap, inl, ◌∙◌}
 use Rattle.gtp_lex.specs.Raw.{raw_line}
-use Rattle.session.specs.Asking.{IsAfterLine}
-use Rattle.session.specs.Heard.{heard}
-use Rattle.session.specs.Machine.{Machine}
-use Rattle.session.specs.SessionState.{SessionState, machine_of}
-use Rattle.session.specs.Sessions.{matcher_of}
-use Rattle.session.proofs.LineAnswers.{answers-from}
+use Rattle.engine.specs.AfterLine.{IsAfterLine}
+use Rattle.machine_rules.specs.Step.{heard}
+use Rattle.machine_rules.specs.Machine.{Machine}
+use Rattle.engine.specs.SessionState.{SessionState, machine_of}
+use Rattle.engine.specs.SessionSteps.{matcher_of}
+use Rattle.engine.proofs.LineAnswers.{answers-from}
 use Rattle.session.proofs.ReplyBytes.{turn-sent, turn-stops, turn-stop}
 use Rattle.session.proofs.ServeLemmas.{RunsTo-after, MayCut-after}
-use Rattle.session.proofs.WaitingReplies.{on_ok_map, if_ok_is, if_err_map, passed_up}
+use Rattle.session.proofs.WaitingReplies.{on_ok_map, if_ok_is, passed_up}
+use Rattle.engine.proofs.LineAnswers.{if_err_map}
 use Rattle.session.proofs.serve.answer.Goals as goal
 
 -- a line that was answered at once

@@ -1,8 +1,8 @@
 use Rattle.std.proofs.Common.{◌≡◌, length, false}
 use Rattle.gtp_lex.specs.Held.{lines_from, held_from}
-use Rattle.session.specs.Asking.{IsAfterLine}
-use Rattle.session.specs.SessionState.{machine_of}
-use Rattle.session.specs.Sessions.{matcher_of, step_of}
+use Rattle.engine.specs.AfterLine.{IsAfterLine}
+use Rattle.engine.specs.SessionState.{machine_of}
+use Rattle.engine.specs.SessionSteps.{matcher_of, step_of}
 use Rattle.session.specs.Serving.{progress_of}
 use Rattle.session.proofs.ServeLemmas.{PieceSoFar}
 use Rattle.session.proofs.serve.answer_piece.Given as goal

@@ -1,7 +1,7 @@
 use Rattle.std.proofs.Common.{◌≡◌, length, false}
-use Rattle.session.specs.Asking.{IsAfterLine}
-use Rattle.session.specs.SessionState.{machine_of}
-use Rattle.session.specs.Sessions.{matcher_of, step_of}
+use Rattle.engine.specs.AfterLine.{IsAfterLine}
+use Rattle.engine.specs.SessionState.{machine_of}
+use Rattle.engine.specs.SessionSteps.{matcher_of, step_of}
 use Rattle.session.specs.Serving.{progress_of}
 use Rattle.session.specs.Waiting.{none_wait}
 use Rattle.session.proofs.RunEnds.{Served}

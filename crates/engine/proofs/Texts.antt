@@ -1,0 +1,99 @@
+-- Texts that grow by one number of a range after another.
+use Rattle.std.proofs.Common.{◌≡◌, ℕ, zero, suc, ◌+◌, Bool, true, false, cond, List, [], ◌∷◌, ◌++◌, map, filter, refl}
+use Rattle.std.proofs.Common.{sym, ap, ◌∙◌, append_assoc, append-nil, arith, ◌-◌, slice_index, decimal}
+use Rattle.std.proofs.lemmas.List.{map-append}
+use Rattle.std.proofs.lemmas.List.Elements.{filter-append}
+use Rattle.std.specs.List.{flat_map, join_with_byte, range_with_len}
+use Rattle.std.proofs.lemmas.Grind.{flat_map-append}
+use Rattle.gtp_cmd.specs.Words.{blank}
+use Rattle.go_rules.specs.Board.{row_of, column_of}
+use Rattle.gtp_cmd.specs.Vertices.{vertex_text, column_letters}
+use Rattle.machine_rules.specs.PointLists.{vertices_text, blank_after}
+
+-- one number more
+range-next : (a n : ℕ) → range_with_len a (suc n) ≡ range_with_len a n ++ (a + n) ∷ []
+range-next a zero = ap (λ k. k ∷ []) (omega arith)
+range-next a (suc n) =
+    ap (λ l. a ∷ l) (range-next (a + 1) n)
+    ∙ ap (λ k. a ∷ (range_with_len (a + 1) n ++ k ∷ [])) (omega arith)
+
+-- the first n numbers, and the next one
+pub range_with_len-next : (n : ℕ) → range_with_len 0 (n + 1) ≡ range_with_len 0 n ++ n ∷ []
+range_with_len-next n =
+    let one_more : n + 1 ≡ suc n = omega arith in
+    ap (range_with_len 0) one_more ∙ range-next 0 n ∙ ap (λ k. range_with_len 0 n ++ k ∷ []) (omega arith)
+
+-- what stands for the next number is put behind what stands for those before it
+pub flat_map-next : {A : Type 0} (f : ℕ → List A) (n : ℕ) → flat_map f (range_with_len 0 (n + 1)) ≡ flat_map f
+    (range_with_len 0 n) ++ f n
+flat_map-next f n =
+    ap (flat_map f) (range_with_len-next n) ∙ flat_map-append f (range_with_len 0 n) (n ∷ []) ∙ ap
+    (λ l. flat_map f (range_with_len 0 n) ++ l) (append-nil (f n))
+
+-- a text grows by what stands for the next number
+pub text-next : (f : ℕ → List ℕ) (first text new : List ℕ) (n : ℕ) → text ≡ first ++ flat_map f (range_with_len 0 n)
+    → new ≡ text ++ f n
+    → new ≡ first ++ flat_map f (range_with_len 0 (n + 1))
+text-next f first text new n so_far grows =
+    grows ∙ ap (λ t. t ++ f n) so_far ∙ append_assoc first (flat_map f (range_with_len 0 n)) (f n) ∙ ap
+    (λ t. first ++ t) (sym (flat_map-next f n))
+
+-- two pieces that are put one after the other
+pub put_twice : (text mid new a b : List ℕ) → mid ≡ text ++ a → new ≡ mid ++ b → new ≡ text ++ (a ++ b)
+put_twice text mid new a b first second = second ∙ ap (λ t. t ++ b) first ∙ append_assoc text a b
+
+-- Lists of vertices.
+
+-- a list is joined with one text more
+pub join_with_byte-next : (b : ℕ) (text : List ℕ) (texts : List (List ℕ)) (new : List ℕ) → join_with_byte b
+    ((text ∷ texts) ++ new ∷ []) ≡ join_with_byte b (text ∷ texts) ++ b ∷ new
+join_with_byte-next b text [] new = refl
+join_with_byte-next b text (next ∷ texts) new =
+    ap (λ t. text ++ b ∷ t) (join_with_byte-next b next texts new) ∙ sym
+    (append_assoc text (b ∷ join_with_byte b (next ∷ texts)) (b ∷ new))
+
+-- texts that are joined begin with the first of them
+pub starts_with_text : (b c : ℕ) (cs : List ℕ) (texts : List (List ℕ)) → (more : List ℕ)
+    × (join_with_byte b ((c ∷ cs) ∷ texts) ≡ c ∷ more)
+starts_with_text b c cs [] = (cs, refl)
+starts_with_text b c cs (next ∷ texts) = (cs ++ b ∷ join_with_byte b (next ∷ texts), refl)
+
+-- vertices and one more
+pub vertices_text-next : (s : ℕ) (points : List ℕ) (p : ℕ)
+    → vertices_text s (points ++ p ∷ []) ≡ vertices_text s points ++ blank_after (vertices_text s points)
+    ++ vertex_text s p
+vertices_text-next s [] p = refl
+vertices_text-next s (q ∷ points) p =
+    let text = vertices_text s (q ∷ points) in
+    let vertex = vertex_text s p in
+    let starts = starts_with_text blank (slice_index column_letters (column_of s q)) (decimal (s - row_of s q))
+    (map (vertex_text s) points) in
+    ap (join_with_byte blank) (map-append (vertex_text s) (q ∷ points) (p ∷ []))
+    ∙ join_with_byte-next blank (vertex_text s q) (map (vertex_text s) points) vertex
+    ∙ sym (append_assoc text (blank ∷ []) vertex)
+    ∙ ap (λ b. (text ++ b) ++ vertex) (sym (ap blank_after starts.1))
+
+-- The points below n that pass a test, and the point n.
+module _ (s n : ℕ) (test : ℕ → Bool) (text : List ℕ)
+    (so_far : text ≡ vertices_text s (filter test (range_with_len 0 n))) where
+  -- the points below n + 1 that pass
+  filter-next : filter test (range_with_len 0 (n + 1)) ≡ filter test (range_with_len 0 n) ++ cond (test n) (n ∷ []) []
+  filter-next = ap (filter test) (range_with_len-next n) ∙ filter-append test (range_with_len 0 n) (n ∷ [])
+
+  -- n passes, and its vertex was put
+  pub vertices-passes : (new : List ℕ) → test n ≡ true → new ≡ (text ++ blank_after text) ++ vertex_text s n → new
+      ≡ vertices_text s (filter test (range_with_len 0 (n + 1)))
+  vertices-passes new passes put =
+      put ∙ ap (λ t. (t ++ blank_after t) ++ vertex_text s n) so_far
+      ∙ sym (vertices_text-next s (filter test (range_with_len 0 n)) n)
+      ∙ ap (vertices_text s) (sym (filter-next ∙ ap
+      (λ b. filter test (range_with_len 0 n) ++ cond b (n ∷ []) []) passes))
+
+  -- n does not pass, and nothing was put
+  pub vertices-fails : (new : List ℕ) → test n ≡ false → new ≡ text → new ≡ vertices_text s
+      (filter test (range_with_len 0 (n + 1)))
+  vertices-fails new fails same =
+      same ∙ so_far
+      ∙ ap (vertices_text s) (sym (filter-next ∙ ap
+      (λ b. filter test (range_with_len 0 n) ++ cond b (n ∷ []) []) fails ∙ append-nil
+      (filter test (range_with_len 0 n))))

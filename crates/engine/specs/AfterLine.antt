@@ -1,0 +1,71 @@
+-- What a session has read and counted after a line.
+use Rattle.machine_rules.specs.Questions.{Asks, Nothing, One, Many, asks_of_line}
+use Rattle.std.specs.Prelude.{◌≡◌, ℕ, ◌+◌, ◌-◌, ◌^◌, ◌≤◌, min, Option, Some, None}
+use Rattle.std.specs.Option.{is_some}
+use Rattle.go_rules.specs.Position.{IsPosition}
+use Rattle.match_engine.specs.declared.keys.Key.{Key}
+use Rattle.match_engine.specs.Readings.{HasRead, AllRest}
+use Rattle.machine_rules.specs.Machine.{Machine, position_of}
+use Rattle.engine.specs.SessionState.{SessionState, machine_of}
+use Rattle.machine_rules.specs.Counting.{counted, is_read_line}
+use Rattle.machine_rules.specs.Turns.{Turn}
+use Rattle.read_rules.specs.declared.question.Answer.{Answer}
+use Rattle.std.specs.Prelude.{◌<◌}
+use Rattle.run_notes.specs.declared.notes.Counts.{Counts}
+
+-- what is counted of the readings of lines is as before
+pub record KeepsCounts (old new : SessionState) : Type 0 where
+  pub readings : new.counts.readings ≡ old.counts.readings
+  pub fresh : new.counts.fresh ≡ old.counts.fresh
+  pub trials : new.counts.trials ≡ old.counts.trials
+  pub refused : old.counts.refused ≤ new.counts.refused
+
+-- a count after the trial plays of a reading, where it was fresh; it stands still at the greatest value of a u64
+abbrev pub after_trials : ℕ → Option ℕ → ℕ
+after_trials count None = count
+after_trials count (Some n) = min (count + n) (2 ^ 64 - 1)
+
+-- the session counts as many refused keepings as its readings
+abbrev pub CountsRefused : SessionState → Type 0
+CountsRefused session = session.counts.refused ≡ session.readings.refused
+
+-- One call of the readings was made, for this question. It counts as fresh, with its trial plays, exactly where the
+-- readings say so. The board is a position, and each kept answer rests on its facts.
+pub record ReadsOnce (key : Key) (old new : SessionState) : Type 0 where
+  pub answer : Answer
+  pub read : HasRead key (position_of (machine_of old)) answer old.readings new.readings
+  pub board : IsPosition (position_of (machine_of old))
+  pub rest : AllRest new.readings.kept
+  pub refused_before : CountsRefused old
+  pub refused : CountsRefused new
+  pub fresh : new.counts.fresh ≡ counted old.counts.fresh (is_some new.readings.last)
+  pub trials : new.counts.trials ≡ after_trials old.counts.trials new.readings.last
+
+-- Any number of readings was made for patterns, none of which counts as that of a line. As many questions may be kept
+-- as before.
+pub record ReadsMany (old new : SessionState) : Type 0 where
+  pub counts : KeepsCounts old new
+  pub capacity : new.readings.kept.1 ≡ old.readings.kept.1
+
+-- no reading was made, and what is kept stays
+pub record ReadsNothing (old new : SessionState) : Type 0 where
+  pub counts : new.counts ≡ old.counts
+  pub kept : new.readings.kept ≡ old.readings.kept
+
+-- new is old after the readings that were asked for
+abbrev pub ReadsAs : Asks → SessionState → SessionState → Type 0
+ReadsAs Nothing old new = ReadsNothing old new
+ReadsAs (One key) old new = ReadsOnce key old new
+ReadsAs Many old new = ReadsMany old new
+
+-- A session that keeps old keeps new after a line that came to its machine: the line is counted where it asks for a
+-- reading and is answered with a code, and what it asks was read.
+pub record IsAfterLine (old : SessionState) (turn : Turn Machine) (new : SessionState) : Type 0 where
+  pub machine : turn.machine ≡ machine_of old
+  pub readings : new.counts.readings ≡ counted old.counts.readings (is_read_line turn.machine turn.line)
+  pub read : ReadsAs (asks_of_line turn.machine turn.line) old new
+
+-- no more readings were made afresh than were counted, which a u64 counts
+pub record HasFewFresh (counts : Counts) : Type 0 where
+  pub few : counts.fresh ≤ counts.readings
+  pub small : counts.readings < 2 ^ 64

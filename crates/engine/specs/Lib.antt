@@ -1,0 +1,9 @@
+pub mod AfterLine
+pub mod AnsweredLines
+pub mod CommandAnswers
+pub mod Handed
+pub mod HelperCalls
+pub mod Replies
+pub mod SessionState
+pub mod SessionSteps
+pub mod SlowLines

@@ -1,0 +1,61 @@
+-- What a session keeps beside its helpers: the machine that it is, and how it finds matches.
+use Rattle.std.specs.Prelude.{ℕ, ◌<◌, List, [], length, codes, Contains}
+use Rattle.go_rules.specs.declared.Move.{Move}
+use Rattle.pat_types.specs.declared.pattern.Pattern.{Pattern}
+use Rattle.dfa_core.specs.Automata.{Row, accepted}
+use Rattle.dfa_core.specs.Words.{Word}
+use Rattle.match_rules.specs.Conditions.{Advice}
+use Rattle.run_notes.specs.declared.notes.Counts.{Counts}
+use Rattle.match_engine.specs.Readings.{ReadingsView, first_readings}
+use Rattle.machine_rules.specs.Machine.{Machine, first_size}
+use Rattle.machine_rules.specs.Matcher.{Matcher, automaton_matcher}
+
+-- settings and moves, the patterns, the automaton by which their matches are found, what was counted, and the readings
+-- with those that are kept
+pub record SessionState : Type 0 where
+  pub size : ℕ
+  pub moves : List Move
+  pub komi : List ℕ
+  pub plies : ℕ
+  pub wide : ℕ
+  pub patterns : List Pattern
+  pub automaton : List Row
+  pub counts : Counts
+  pub readings : ReadingsView
+
+-- the machine that a session is
+abbrev pub machine_of : SessionState → Machine
+machine_of kept = record {
+  size = kept.size;
+  moves = kept.moves;
+  komi = kept.komi;
+  plies = kept.plies;
+  wide = kept.wide;
+}
+
+-- how matches are found: by the automaton, and by what helpers say
+abbrev pub matcher_with : Advice → SessionState → Matcher
+matcher_with advice kept = automaton_matcher advice kept.patterns kept.automaton
+
+-- nothing was counted
+abbrev pub no_counts : Counts
+no_counts = record { readings = 0; fresh = 0; trials = 0; refused = 0 }
+
+-- what a session with these patterns, this automaton and readings of this many plies and wide plies keeps before the
+-- first line, where so many questions may be kept
+abbrev pub first_kept : List Pattern → List Row → ℕ → ℕ → ℕ → SessionState
+first_kept patterns automaton plies wide capacity = record {
+  size = first_size;
+  moves = [];
+  komi = codes "0.0";
+  plies = plies;
+  wide = wide;
+  patterns = patterns;
+  automaton = automaton;
+  counts = no_counts;
+  readings = first_readings plies wide capacity;
+}
+
+-- each number that the automaton accepts is the place of one of the patterns
+abbrev pub NumbersPatterns : List Row → List Pattern → Type 0
+NumbersPatterns automaton patterns = (w : Word) (n : ℕ) → Contains (accepted automaton w) n → n < length patterns

@@ -1,0 +1,27 @@
+-- What a line says to a machine, and what one says that may take long.
+use Rattle.std.specs.Prelude.{◌≡◌}
+use Rattle.gtp_cmd.specs.Within.{SaysWithin}
+use Rattle.gtp_cmd.specs.declared.commands.Command.{Command}
+use Rattle.gtp_cmd.specs.declared.commands.Command.TheVariants as command
+use Rattle.gtp_cmd.specs.declared.commands.Parsed.{Parsed}
+use Rattle.gtp_cmd.specs.declared.commands.Parsed.TheVariants as parsed
+use Rattle.engine.specs.SessionState.{SessionState}
+use Rattle.engine.specs.declared.slow.Slow.{Slow}
+use Rattle.engine.specs.declared.slow.Work.{Work}
+use Rattle.engine.specs.declared.slow.Work.TheVariants as work
+
+-- the command that asks this
+abbrev pub command_of : Work → Command
+command_of (work.Attack p) = command.Attack p
+command_of (work.Defend p) = command.Defend p
+command_of (work.Match friend) = command.MatchPatterns friend
+
+-- what a line says that may take long
+abbrev pub said_by : Slow → Parsed
+said_by slow = parsed.Command slow.id (command_of slow.work)
+
+-- A line was left for later: nothing was done, and this is what it says.
+pub record IsLeft (old : SessionState) (said : Parsed) (slow : Slow) (new : SessionState) : Type 0 where
+  pub same : new ≡ old
+  pub says : said ≡ said_by slow
+  pub within : SaysWithin new.size (said_by slow)

@@ -1,0 +1,304 @@
+//! What a session keeps beside its helpers: the plain machine, its patterns and its counts; and its answer to each
+//! line.
+ghost use Rattle.std.specs.Prelude.{◌≡◌, ◌≤◌, length, IfOk, IfErr, OnOk, OnErr};
+ghost use Rattle.gtp_lex.specs.Raw.{raw_line};
+ghost use Rattle.go_options.specs.Found.{AreInRange};
+ghost use Rattle.go_strings.specs.Games.{reached};
+ghost use Rattle.gtp_cmd.specs.Within.{IsWithin, SaysWithin};
+ghost use Rattle.machine_rules.specs.Machine.{position_of};
+ghost use Rattle.match_rules.specs.Conditions.{Advice};
+ghost use Rattle.helpers.specs.Asking.{says_yes};
+ghost use Rattle.helpers.specs.Slots.{states_of};
+ghost use Rattle.engine.specs.Handed.{without_calls};
+ghost use Rattle.engine.specs.HelperCalls.{AsksHelpers, lacks_memory};
+ghost use Rattle.machine_rules.specs.Step.{heard};
+ghost use Rattle.engine.specs.SlowLines.{command_of, said_by, IsLeft};
+ghost use Rattle.engine.specs.AnsweredLines.{AnswersParsed};
+ghost use Rattle.engine.specs.SessionState.{machine_of, matcher_with, first_kept, NumbersPatterns};
+ghost use Rattle.machine_rules.specs.Step.{effect_of, word_of};
+ghost use Rattle.engine.specs.CommandAnswers.{IsAnswer};
+ghost use Rattle.engine.specs.CommandAnswers as answers;
+ghost use Rattle.machine_rules.specs.Counting.{counted, is_read};
+ghost use Rattle.engine.specs.AfterLine.{ReadsAs};
+ghost use Rattle.machine_rules.specs.Questions.{asks_of};
+
+mod board_commands;
+mod matching_commands;
+mod reading_commands;
+
+use crate::answer::{Answer, grown, told};
+use crate::reply::Reply;
+use crate::slow::{Slow, Work};
+use dfa_core::Automaton;
+use dfa_match::Scanner;
+use go_base::{Bytes, NoMemory, Position, Size};
+use go_history::{History, Move};
+use go_options::Options;
+use go_strings::StringBoard;
+use gtp_cmd::{Command, KomiText, Parsed, RefuseText, names_text, parse};
+use gtp_lex::Raw;
+use helpers::Helpers;
+use match_engine::Readings;
+use pat_types::Pattern;
+use read_moves::Depths;
+use read_tree::Kind;
+use run_notes::Counts;
+use std::alloc::Global;
+use std::marker::Model;
+
+/// What is counted of the lines that ask for a reading and are answered with a code.
+#[derive(Clone, Copy)]
+pub(crate) struct ReadingCounts {
+    /// How many there were.
+    pub(crate) readings: u64,
+    /// How many of them were read afresh.
+    pub(crate) fresh: u64,
+    /// How many trial plays these made.
+    pub(crate) trials: u64,
+}
+
+/// Nothing was counted.
+const NO_COUNTS: ReadingCounts = ReadingCounts {
+    readings: 0,
+    fresh: 0,
+    trials: 0,
+};
+
+/// The size of the board before the first line that says one.
+const FIRST_SIZE: u8 = 19;
+
+/// What a session keeps beside its helpers, seen by contracts as `SessionState`; `machine_of` is the machine that
+/// this is.
+#[derive(Drop)]
+pub struct Engine {
+    alloc: Global,
+    history: History,
+    komi: KomiText,
+    readings: Readings,
+    patterns: Vec<Pattern>,
+    scanner: Scanner,
+    counts: ReadingCounts,
+}
+
+impl Model for Engine {
+    ghost use Rattle.engine.specs.SessionState.{SessionState, NumbersPatterns};
+    ghost use Rattle.pat_types.specs.contracts.expr.Expr as expr;
+    ghost use Rattle.std.specs.Coded.{codes};
+
+    ghost Value = { SessionState };
+
+    ghost coded = { Prim.hlevel (codes, expr.the_row.coded) };
+
+    ghost view = { λ s. record {
+      size = s.history.size;
+      moves = s.history.moves;
+      komi = s.komi;
+      plies = s.readings.plies;
+      wide = s.readings.wide;
+      patterns = s.patterns.items;
+      automaton = s.scanner;
+      counts = record {
+        readings = s.counts.readings;
+        fresh = s.counts.fresh;
+        trials = s.counts.trials;
+        refused = s.readings.refused;
+      };
+      readings = s.readings;
+    } };
+
+    ghost invariant = { λ s. NumbersPatterns s.scanner s.patterns.items };
+}
+
+/// `true` or `false`.
+fn word(known: bool) -> &'static [u8]
+    ensures text { result.now ≡ word_of known }
+    ensures short { length result.now ≤ 5 }
+{
+    if known { b"true" } else { b"false" }
+}
+
+impl Engine {
+    /// What is kept before the first line: these patterns, whose matches are found by this automaton, a board of 19 by
+    /// 19, no moves, the komi 0.0, readings as deep as the options say, nothing counted. Takes memory.
+    pub(crate) fn new(
+        alloc: Global,
+        patterns: Vec<Pattern>,
+        automaton: Automaton,
+        options: &Options,
+    ) -> Result<Engine, NoMemory>
+        requires numbers { NumbersPatterns automaton patterns.items }
+        requires ranges { AreInRange options.now }
+        ensures { IfOk result (λ engine. engine
+            ≡ first_kept patterns.items automaton options.now.depth options.now.branch options.now.cache) }
+    {
+        let size = Size::new(FIRST_SIZE).unwrap();
+        let scanner = Scanner::new(alloc, automaton)?;
+        Ok(Engine {
+            alloc,
+            history: History::new(alloc, size)?,
+            komi: KomiText::zero(),
+            readings: Readings::new(
+                alloc,
+                Depths::new(options.depth, options.branch).unwrap(),
+                options.cache,
+            )?,
+            patterns,
+            scanner,
+            counts: NO_COUNTS,
+        })
+    }
+
+    /// What the session counted: its lines that asked for a reading and were answered with a code, those of them that
+    /// were read afresh, the moves that these tried, and the readings that could not be kept for want of memory.
+    pub(crate) fn stats(&self) -> Counts
+        ensures { result ≡ self.now.counts }
+    {
+        Counts {
+            readings: self.counts.readings,
+            fresh: self.counts.fresh,
+            trials: self.counts.trials,
+            refused: self.readings.refused(),
+        }
+    }
+
+    /// What a line says: one that is too long is refused.
+    pub(crate) fn heard(&self, raw: Raw<'_>) -> Parsed
+        ensures said { result ≡ heard (machine_of self.now) (raw_line raw.entry) }
+        ensures within { SaysWithin self.now.size result }
+    {
+        match raw {
+            Raw::TooLong => Parsed::Refused {
+                id: None,
+                text: RefuseText::LineTooLong,
+            },
+            Raw::Line(text) => {
+                let size = self.history.size();
+                parse(text, size)
+            }
+        }
+    }
+
+    /// Answers what a line says, by the step of the machine that this is, unless it may take long. Then nothing is done.
+    ///
+    /// NoMemory comes only in place of a growing reply. It leaves the machine as it was.
+    pub(crate) fn try_answer(&mut self, said: Parsed) -> Result<Reply, Slow>
+        requires { SaysWithin self.old.size said }
+        ensures answers { (advice : Advice) → IfOk result
+            (λ reply. AnswersParsed (matcher_with advice self.old) self.old said reply self.new) }
+        ensures left { IfErr result (λ slow. IsLeft self.old said slow self.new) }
+    {
+        match said {
+            Parsed::Nothing => Ok(Reply::Nothing),
+            Parsed::Refused { id, text } => Ok(Reply::refused(id, text)),
+            Parsed::Command { id, command } => self.try_command(id, command),
+        }
+    }
+
+    /// Answers a command behind an id, unless it may take long. Then nothing is done.
+    fn try_command(&mut self, id: Option<u32>, command: Command) -> Result<Reply, Slow>
+        requires { IsWithin self.old.size command }
+        ensures answers { (advice : Advice) → IfOk result (λ reply. AnswersParsed (matcher_with advice self.old)
+            self.old (Parsed.Command id command) reply self.new) }
+        ensures left { IfErr result (λ slow. IsLeft self.old (Parsed.Command id command) slow self.new) }
+    {
+        let answer = match self.obey(command) {
+            Ok(answer) => answer,
+            Err(work) => return Err(Slow { id, work }),
+        };
+        Ok(answer.reply(self.alloc, id))
+    }
+
+    /// Answers a line that may take long, by the step of the machine that this is: for the matches of its patterns this
+    /// takes those by its automaton and what the helpers say. With the automaton of the patterns it is the plain
+    /// machine.
+    ///
+    /// NoMemory comes only in place of a growing reply. It leaves the machine as it was.
+    pub(crate) fn finish(&mut self, helpers: &mut Helpers, slow: Slow) -> Reply
+        requires { SaysWithin self.old.size (said_by slow) }
+        ensures answers { AnswersParsed (matcher_with (says_yes (states_of state helpers.old)) self.old) self.old
+            (said_by slow) result self.new }
+        ensures helpers { without_calls (states_of state helpers.new) ≡ without_calls (states_of state helpers.old) }
+        ensures calls { AsksHelpers self.old slow.work (lacks_memory result) (states_of state helpers.old)
+            (states_of state helpers.new) }
+    {
+        self.work_on(helpers, slow.work).reply(self.alloc, slow.id)
+    }
+
+    /// Does what may take long.
+    fn work_on(&mut self, helpers: &mut Helpers, work: Work) -> Answer
+        requires { IsWithin self.old.size (command_of work) }
+        ensures answer { IsAnswer (machine_of self.old)
+            (effect_of (matcher_with (says_yes (states_of state helpers.old)) self.old) (machine_of self.old)
+            (command_of work)) result (machine_of self.new) }
+        ensures patterns { self.new.patterns ≡ self.old.patterns }
+        ensures automaton { self.new.automaton ≡ self.old.automaton }
+        ensures readings { self.new.counts.readings ≡ counted self.old.counts.readings
+            (is_read (machine_of self.old) (command_of work)) }
+        ensures read { ReadsAs (asks_of (machine_of self.old) (command_of work)) self.old self.new }
+        ensures helpers { without_calls (states_of state helpers.new) ≡ without_calls (states_of state helpers.old) }
+        ensures calls { AsksHelpers self.old work (answers.lacks_memory result) (states_of state helpers.old)
+            (states_of state helpers.new) }
+    {
+        match work {
+            Work::Attack(p) => self.read(Kind::Attack, p),
+            Work::Defend(p) => self.read(Kind::Defend, p),
+            Work::Match(friend) => self.list_matches(helpers, friend),
+        }
+    }
+
+    /// Does what a command says, unless it may take long. Then nothing is done.
+    fn obey(&mut self, command: Command) -> Result<Answer, Work>
+        requires { IsWithin self.old.size command }
+        ensures answer { (advice : Advice) → IfOk result (λ answer. IsAnswer (machine_of self.old)
+            (effect_of (matcher_with advice self.old) (machine_of self.old) command) answer (machine_of self.new)) }
+        ensures patterns { OnOk result (self.new.patterns ≡ self.old.patterns) }
+        ensures automaton { OnOk result (self.new.automaton ≡ self.old.automaton) }
+        ensures readings { OnOk result (self.new.counts.readings ≡ counted self.old.counts.readings
+            (is_read (machine_of self.old) command)) }
+        ensures read { OnOk result (ReadsAs (asks_of (machine_of self.old) command) self.old self.new) }
+        ensures slow { IfErr result (λ work. command ≡ command_of work) }
+        ensures same { OnErr result (self.new ≡ self.old) }
+    {
+        match command {
+            Command::ProtocolVersion => Ok(told(b"2")),
+            Command::Name => Ok(told(b"gopat")),
+            Command::Version => Ok(told(b"1")),
+            Command::KnownCommand(known) => Ok(told(word(known))),
+            Command::ListCommands => Ok(grown(names_text(self.alloc))),
+            Command::Quit => Ok(Answer::Ended),
+            Command::BoardSize(size) => Ok(self.resize(size)),
+            Command::ClearBoard => Ok(self.clear()),
+            Command::Komi(komi) => Ok(self.keep_komi(komi)),
+            Command::GetKomi => Ok(told(self.komi.as_slice())),
+            Command::Play(colour, at) => Ok(self.play(Move { colour, at })),
+            Command::Undo => Ok(self.undo()),
+            Command::ShowBoard => Ok(self.show_board()),
+            Command::IsLegal(colour, at) => Ok(self.tell_legal(Move { colour, at })),
+            Command::AllLegal(colour) => Ok(self.list_legal(colour)),
+            Command::CountLib(p) => Ok(self.count_liberties(p)),
+            Command::FindLib(p) => Ok(self.find_liberties(p)),
+            Command::Captures(colour) => Ok(self.count_captures(colour)),
+            Command::Attack(p) => self.recall(Kind::Attack, p, Work::Attack(p)),
+            Command::Defend(p) => self.recall(Kind::Defend, p, Work::Defend(p)),
+            Command::Depths { plies, wide } => Ok(self.deepen(plies, wide)),
+            Command::MatchPatterns(friend) => Err(Work::Match(friend)),
+            Command::ListPatterns => Ok(self.list_patterns()),
+        }
+    }
+
+    /// The position after the moves.
+    fn position(&self) -> Position
+        ensures value { result ≡ position_of (machine_of self.now) }
+        ensures size { (position_of (machine_of self.now)).size ≡ self.now.size }
+    {
+        self.history.position()
+    }
+
+    /// The board after the moves, which tells strings, liberties and legal points without a search.
+    fn board(&self) -> &StringBoard
+        ensures value { reached result.now ≡ position_of (machine_of self.now) }
+        ensures size { (position_of (machine_of self.now)).size ≡ self.now.size }
+    {
+        self.history.board()
+    }
+}

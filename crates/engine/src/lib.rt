@@ -1,0 +1,22 @@
+//! A session of the protocol: what it keeps, and its answer to one line.
+//!
+//! A session is a plain machine (`machine_rules`) that keeps its strings, its readings and its automaton beside the
+//! settings and moves. `Session::line` gives exactly the machine's reply, and the machine after it; a line that may
+//! take long can be left for later. Its rooms answer the commands: for the board, for readings, and for matches.
+#![tactic(auto)]
+
+mod answer;
+mod board_text;
+mod engine;
+mod match_text;
+mod pattern_text;
+mod point_lists;
+mod readings;
+mod reply;
+mod session;
+mod slow;
+
+pub use self::engine::Engine;
+pub use self::session::Session;
+pub use reply::Reply;
+pub use slow::{Slow, Work};

@@ -1,0 +1,80 @@
+//! Points as vertices, in a growing text.
+ghost use Rattle.std.specs.Prelude.{◌≡◌, ◌-◌, ◌*◌, ◌<◌, ◌++◌, ◌∷◌, [], OnOk, IfOk, decimal, slice_index};
+ghost use Rattle.go_strings.specs.Games.{reached};
+ghost use Rattle.gtp_cmd.specs.Vertices.{vertex_text, column_letters};
+ghost use Rattle.machine_rules.specs.PointLists.{in_reading_order, legal_list, liberty_list, vertices_text, blank_after};
+
+use go_base::{Bytes, Colour, NoMemory, Point, PointSet, Size};
+use go_strings::StringBoard;
+use gtp_cmd::{column_letter, vertex_text};
+use itoa::Buffer;
+use std::alloc::Global;
+
+/// Puts the letter of a column.
+pub(crate) fn push_letter(out: &mut Bytes, column: u8) -> Result<(), NoMemory>
+    requires { column < 25 }
+    ensures { OnOk result (out.new ≡ out.old ++ slice_index column_letters column ∷ []) }
+{
+    out.push(column_letter(column))
+}
+
+/// Puts a number in decimal.
+pub(crate) fn push_number(out: &mut Bytes, n: u8) -> Result<(), NoMemory>
+    ensures { OnOk result (out.new ≡ out.old ++ decimal n) }
+{
+    let mut buffer = Buffer::new();
+    out.extend(buffer.format(n).as_bytes())
+}
+
+/// Puts the vertex of a point.
+pub(crate) fn push_vertex(out: &mut Bytes, size: Size, p: Point) -> Result<(), NoMemory>
+    requires { p < size * size }
+    ensures { OnOk result (out.new ≡ out.old ++ vertex_text size p) }
+{
+    out.extend(vertex_text(size, p).as_slice())
+}
+
+/// Puts the vertex of a point of a list, behind a blank where it is not the first.
+fn push_next(out: &mut Bytes, size: Size, p: Point) -> Result<(), NoMemory>
+    requires { p < size * size }
+    ensures { OnOk result (out.new ≡ out.old ++ blank_after out.old ++ vertex_text size p) }
+{
+    if !out.as_slice().is_empty() {
+        out.push(b' ')?;
+    }
+    push_vertex(out, size, p)
+}
+
+/// The points of a set as vertices in reading order.
+fn points_text(alloc: Global, size: Size, points: &PointSet) -> Result<Bytes, NoMemory>
+    ensures { IfOk result (λ text. text ≡ vertices_text size (in_reading_order size points.now)) }
+{
+    let mut text = Bytes::new(alloc);
+    for p in 0..size.points() {
+        if points.has(p) {
+            push_next(&mut text, size, p)?;
+        }
+    }
+    Ok(text)
+}
+
+/// The points where a colour may play, as vertices in reading order.
+pub(crate) fn legal_text(alloc: Global, board: &StringBoard, c: Colour) -> Result<Bytes, NoMemory>
+    ensures { IfOk result
+        (λ text. text ≡ vertices_text (reached board.now).size (legal_list (reached board.now) c)) }
+{
+    points_text(alloc, board.size(), &board.legal_points(c))
+}
+
+/// The liberties of the string of p, as vertices in reading order.
+pub(crate) fn liberties_text(
+    alloc: Global,
+    board: &StringBoard,
+    p: Point,
+) -> Result<Bytes, NoMemory>
+    requires { p < (reached board.now).size * (reached board.now).size }
+    ensures { IfOk result
+        (λ text. text ≡ vertices_text (reached board.now).size (liberty_list (reached board.now) p)) }
+{
+    points_text(alloc, board.size(), &board.liberty_points(p))
+}

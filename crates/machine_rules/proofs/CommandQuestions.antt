@@ -1,0 +1,151 @@
+-- What a line asks of the readings, by the command that it names.
+use Rattle.std.proofs.Common.{◌≡◌, ℕ, Bool, true, false, cond, List, [], ◌∷◌, Option, Some, None, refl, sym, ap, ◌∙◌}
+use Rattle.std.specs.Option.{option_map}
+use Rattle.gtp_rules.specs.Lines.{RawLine, Line, TooLong}
+use Rattle.gtp_cmd.specs.Words.{cleaned, words_of, id_of}
+use Rattle.gtp_cmd.specs.Vertices.{vertex_of}
+use Rattle.gtp_cmd.specs.Colours.{colour_of}
+use Rattle.gtp_cmd.specs.Komi.{komi_of}
+use Rattle.gtp_cmd.specs.Words.{number_of}
+use Rattle.gtp_cmd.specs.Commands.{named, asked, called, said, said_with, parsed_words, parsed_of, command_of}
+use Rattle.gtp_cmd.specs.Commands.{first_argument, known_of, size_of, move_of, depths_of}
+use Rattle.gtp_cmd.specs.declared.commands.CommandName.{CommandName}
+use Rattle.gtp_cmd.specs.declared.commands.CommandName.TheVariants as name
+use Rattle.gtp_cmd.specs.declared.commands.Command.{Command}
+use Rattle.gtp_cmd.specs.declared.commands.Command.TheVariants as command
+use Rattle.gtp_cmd.specs.declared.commands.Parsed.{Parsed}
+use Rattle.gtp_cmd.specs.declared.commands.Parsed.TheVariants as parsed
+use Rattle.read_rules.specs.declared.question.Kind.TheVariants.{Attack, Defend}
+use Rattle.match_engine.specs.declared.keys.Key.{Key}
+use Rattle.machine_rules.specs.Machine.{Machine}
+use Rattle.machine_rules.specs.Counting.{has_stone, is_read, is_parsed_read, is_read_line}
+use Rattle.machine_rules.specs.Questions.{Asks, Nothing, One, Many, key_at, asks_of, asks_of_parsed, asks_of_line}
+use Rattle.machine_rules.specs.CertainHit.{first_named, named_after, named_by, named_in, is_reading, is_matching}
+
+-- what asks one question is an `attack` or `defend`, and what asks many is a `match_patterns`
+abbrev pub Fits : Asks → Option CommandName → Type 0
+Fits Nothing n = Unit {0}
+Fits (One key) n = is_reading n ≡ true
+Fits Many n = is_matching n ≡ true
+
+-- what asks one question
+abbrev is_one : Asks → Bool
+is_one Nothing = false
+is_one (One key) = true
+is_one Many = false
+
+module _ (machine : Machine) where
+  -- a question where a stone stands
+  fits_where : (stone : Bool) (key : Key) (n : Option CommandName) → is_reading n ≡ true
+      → Fits (cond stone (One key) Nothing) n
+  fits_where true key n reads = reads
+  fits_where false key n reads = tt
+
+  -- a command with an argument, or its refusal
+  fits_asked : {X : Type 0} (c : X → Command) (n : Option CommandName) → ((x : X) → Fits (asks_of machine (c x)) n)
+      → (id : Option ℕ)
+      (argument : Option X) → Fits (asks_of_parsed machine (asked id (option_map c argument))) n
+  fits_asked c n each id None = tt
+  fits_asked c n each id (Some x) = each x
+
+  -- a command with its words
+  fits_command : (n : CommandName) (id : Option ℕ) (s : ℕ) (words : List (List ℕ))
+      → Fits (asks_of_parsed machine (asked id (command_of n s words))) (Some n)
+  fits_command name.ProtocolVersion id s words = tt
+  fits_command name.Name id s words = tt
+  fits_command name.Version id s words = tt
+  fits_command name.KnownCommand id s words = fits_asked command.KnownCommand (Some name.KnownCommand) (λ _. tt) id
+      (known_of words)
+  fits_command name.ListCommands id s words = tt
+  fits_command name.Quit id s words = tt
+  fits_command name.BoardSize id s words =
+      fits_asked (λ n. command.BoardSize (size_of n)) (Some name.BoardSize) (λ _. tt) id
+      (first_argument number_of words)
+  fits_command name.ClearBoard id s words = tt
+  fits_command name.Komi id s words = fits_asked command.Komi (Some name.Komi) (λ _. tt) id
+      (first_argument komi_of words)
+  fits_command name.GetKomi id s words = tt
+  fits_command name.Play id s words = fits_asked (λ m. command.Play m.0 m.1) (Some name.Play) (λ _. tt) id
+      (move_of s words)
+  fits_command name.Undo id s words = tt
+  fits_command name.ShowBoard id s words = tt
+  fits_command name.IsLegal id s words = fits_asked (λ m. command.IsLegal m.0 m.1) (Some name.IsLegal) (λ _. tt) id
+      (move_of s words)
+  fits_command name.AllLegal id s words = fits_asked command.AllLegal (Some name.AllLegal) (λ _. tt) id
+      (first_argument colour_of words)
+  fits_command name.CountLib id s words = fits_asked command.CountLib (Some name.CountLib) (λ _. tt) id
+      (first_argument (vertex_of s) words)
+  fits_command name.FindLib id s words = fits_asked command.FindLib (Some name.FindLib) (λ _. tt) id
+      (first_argument (vertex_of s) words)
+  fits_command name.Captures id s words = fits_asked command.Captures (Some name.Captures) (λ _. tt) id
+      (first_argument colour_of words)
+  fits_command name.Attack id s words =
+      fits_asked command.Attack (Some name.Attack)
+      (λ p. fits_where (has_stone machine p) (key_at machine Attack p) (Some name.Attack) refl) id
+      (first_argument (vertex_of s) words)
+  fits_command name.Defend id s words =
+      fits_asked command.Defend (Some name.Defend)
+      (λ p. fits_where (has_stone machine p) (key_at machine Defend p) (Some name.Defend) refl) id
+      (first_argument (vertex_of s) words)
+  fits_command name.Depths id s words = fits_asked (λ d. command.Depths d.0 d.1) (Some name.Depths) (λ _. tt) id
+      (depths_of words)
+  fits_command name.MatchPatterns id s words =
+      fits_asked command.MatchPatterns (Some name.MatchPatterns) (λ _. refl) id (first_argument colour_of words)
+  fits_command name.ListPatterns id s words = tt
+
+  -- a name with its words
+  fits_called : (id : Option ℕ) (s : ℕ) (n : Option CommandName) (words : List (List ℕ))
+      → Fits (asks_of_parsed machine (called id s n words)) n
+  fits_called id s None words = tt
+  fits_called id s (Some n) words = fits_command n id s words
+
+  -- the words behind an id
+  fits_said : (id : Option ℕ) (s : ℕ) (words : List (List ℕ))
+      → Fits (asks_of_parsed machine (said id s words)) (first_named words)
+  fits_said id s [] = tt
+  fits_said id s (word ∷ words) = fits_called id s (named word) words
+
+  -- words of which the first may be an id
+  fits_with : (id : Option ℕ) (s : ℕ) (first : List ℕ) (more : List (List ℕ))
+      → Fits (asks_of_parsed machine (said_with id s first more)) (named_after id first more)
+  fits_with None s first more = fits_called None s (named first) more
+  fits_with (Some id) s first more = fits_said (Some id) s more
+
+  -- the words of a line
+  fits_words : (s : ℕ) (words : List (List ℕ)) → Fits (asks_of_parsed machine (parsed_words s words)) (named_by words)
+  fits_words s [] = tt
+  fits_words s (first ∷ more) = fits_with (id_of first) s first more
+
+  -- a line
+  pub Fits-line : (line : RawLine) → Fits (asks_of_line machine line) (named_in line)
+  unfolding asks_of_line named_in parsed_of
+  Fits-line TooLong = tt
+  Fits-line (Line text) = fits_words machine.size (words_of (cleaned text))
+
+  -- where a stone stands one question is asked
+  one_where : (stone : Bool) (key : Key) → is_one (cond stone (One key) Nothing) ≡ stone
+  one_where true key = refl
+  one_where false key = refl
+
+  -- a command asks one question exactly where it is a reading that is answered with a code
+  one_command : (c : Command) → is_one (asks_of machine c) ≡ is_read machine c
+  one_command (command.Attack p) = one_where (has_stone machine p) (key_at machine Attack p)
+  one_command (command.Defend p) = one_where (has_stone machine p) (key_at machine Defend p)
+  one_command (command.MatchPatterns friend) = refl
+  one_command _ = refl
+
+  -- so does what a line says
+  one_parsed : (p : Parsed) → is_one (asks_of_parsed machine p) ≡ is_parsed_read machine p
+  one_parsed (parsed.Command id c) = one_command c
+  one_parsed _ = refl
+
+  -- and the line
+  pub one-line : (line : RawLine) → is_one (asks_of_line machine line) ≡ is_read_line machine line
+  unfolding asks_of_line is_read_line
+  one-line TooLong = refl
+  one-line (Line text) = one_parsed (parsed_of text machine.size)
+
+-- a line that asks one question is answered with a code
+pub is_read_line-one : (machine : Machine) (line : RawLine) (key : Key) → asks_of_line machine line ≡ One key
+    → is_read_line machine line ≡ true
+is_read_line-one machine line key asks = sym (one-line machine line) ∙ ap is_one asks

@@ -1,0 +1,3 @@
+pub mod CommandQuestions
+pub mod Soundness
+pub mod WordLines

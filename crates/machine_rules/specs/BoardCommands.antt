@@ -1,0 +1,73 @@
+-- What the commands do that set up a board, play on it and tell of it.
+use Rattle.std.specs.Prelude.{ℕ, ◌-◌, ◌==◌, Bool, List, [], ◌∷◌, ◌++◌, length, take, Option, None, Some, is_ok}
+use Rattle.std.specs.Prelude.{if◌then◌else◌, codes, decimal}
+use Rattle.go_rules.specs.declared.Colour.{Colour}
+use Rattle.go_rules.specs.declared.Move.{Move}
+use Rattle.go_rules.specs.Strings.{cell_at, is_stone, liberties}
+use Rattle.go_rules.specs.Replay.{moved, captures}
+use Rattle.go_history.specs.Games.{most_moves}
+use Rattle.gtp_cmd.specs.declared.refusals.RefuseText.TheVariants.{UnacceptableSize, IllegalMove, HistoryFull}
+use Rattle.gtp_cmd.specs.declared.refusals.RefuseText.TheVariants.{CannotUndo, VertexEmpty}
+use Rattle.machine_rules.specs.Machine.{Machine, position_of}
+use Rattle.machine_rules.specs.Effects.{Effect, Refused, Told, Grown}
+use Rattle.machine_rules.specs.BoardText.{board_text}
+use Rattle.machine_rules.specs.PointLists.{legal_list, liberty_list, vertices_text}
+
+-- a new size empties the list of moves, also where it is the present one
+abbrev pub resized : Machine → Option ℕ → Effect
+resized old None = Refused UnacceptableSize
+resized old (Some size) = Told [] (record old { size = size; moves = [] })
+
+-- the list of moves is emptied
+abbrev pub cleared : Machine → Effect
+cleared old = Told [] (record old { moves = [] })
+
+-- the text of the komi is kept
+abbrev pub komi_kept : Machine → List ℕ → Effect
+komi_kept old komi = Told [] (record old { komi = komi })
+
+-- a move is added to the list where it is legal and the list is not full
+abbrev pub played : Machine → Move → Effect
+played old move =
+    if is_ok (moved (position_of old) move)
+    then (if length old.moves == most_moves then Refused HistoryFull else Grown []
+    (record old { moves = old.moves ++ move ∷ [] }))
+    else Refused IllegalMove
+
+-- the last move is taken from the list
+abbrev pub taken_back : Machine → List Move → Effect
+taken_back old [] = Refused CannotUndo
+taken_back old (move ∷ moves) = Told [] (record old { moves = take (length old.moves - 1) old.moves })
+
+-- the board is shown
+abbrev pub shown : Machine → Effect
+shown old = Grown (board_text (position_of old)) old
+
+-- `1` or `0`
+abbrev pub digit_of : Bool → List ℕ
+digit_of holds = if holds then codes "1" else codes "0"
+
+-- whether the rules allow the move
+abbrev pub allowed : Machine → Move → Effect
+allowed old move = Told (digit_of (is_ok (moved (position_of old) move))) old
+
+-- the points where the colour may play
+abbrev pub all_allowed : Machine → Colour → Effect
+all_allowed old c = Grown (vertices_text old.size (legal_list (position_of old) c)) old
+
+-- what is told of the string of a point, where a stone stands there
+abbrev pub of_stone : Machine → ℕ → Effect → Effect
+of_stone old p told = if is_stone (cell_at (position_of old).cells p) then told else Refused VertexEmpty
+
+-- how many liberties the string of a point has
+abbrev pub liberties_counted : Machine → ℕ → Effect
+liberties_counted old p = of_stone old p
+    (Told (decimal (liberties (position_of old).size (position_of old).cells p)) old)
+
+-- the liberties of the string of a point
+abbrev pub liberties_found : Machine → ℕ → Effect
+liberties_found old p = of_stone old p (Grown (vertices_text old.size (liberty_list (position_of old) p)) old)
+
+-- how many stones the moves of a colour took
+abbrev pub captures_counted : Machine → Colour → Effect
+captures_counted old c = Told (decimal (captures old.size c old.moves)) old

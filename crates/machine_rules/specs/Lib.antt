@@ -1,0 +1,16 @@
+pub mod BoardCommands
+pub mod BoardText
+pub mod CertainHit
+pub mod Counting
+pub mod Effects
+pub mod Machine
+pub mod MatchTexts
+pub mod Matcher
+pub mod MatchingCommands
+pub mod PatternTexts
+pub mod PointLists
+pub mod Questions
+pub mod ReadingCommands
+pub mod Soundness
+pub mod Step
+pub mod Turns

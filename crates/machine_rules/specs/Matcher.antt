@@ -1,0 +1,36 @@
+-- How a session finds matches. No line changes it, so it is no part of the machine, and the step of a line is given it.
+use Rattle.std.specs.Prelude.{List}
+use Rattle.go_rules.specs.declared.Colour.{Colour}
+use Rattle.pat_types.specs.declared.pattern.Pattern.{Pattern}
+use Rattle.dfa_core.specs.Automata.{Row}
+use Rattle.match_rules.specs.declared.found.Match.{Match}
+use Rattle.match_rules.specs.Conditions.{Advice}
+use Rattle.match_rules.specs.Match.{matches_of}
+use Rattle.match_engine.specs.AutomatonMatches.{automaton_matches}
+use Rattle.cons_eval.specs.Readings.{Codes}
+use Rattle.match_engine.specs.Readings.{codes_at}
+use Rattle.machine_rules.specs.Machine.{Machine, position_of}
+
+-- patterns, and their matches on the position of a machine for a friend
+pub record Matcher : Type 0 where
+  pub patterns : List Pattern
+  pub matches : Machine → Colour → List Match
+
+-- the codes of readings as deep as the machine reads, each read afresh
+abbrev pub codes_of : Machine → Codes
+codes_of machine = codes_at machine.plies machine.wide
+
+-- the plain matcher of these patterns: it compares each of their diagrams with the board, reads afresh what their
+-- classes and constraints ask, and asks the helpers that they name
+abbrev pub plain_matcher : Advice → List Pattern → Matcher
+plain_matcher advice patterns = record {
+  patterns = patterns;
+  matches = λ machine friend. matches_of (codes_of machine) advice patterns (position_of machine) friend;
+}
+
+-- the matcher of these patterns by an automaton, which need not be theirs
+abbrev pub automaton_matcher : Advice → List Pattern → List Row → Matcher
+automaton_matcher advice patterns rows = record {
+  patterns = patterns;
+  matches = λ machine friend. automaton_matches (codes_of machine) advice rows patterns (position_of machine) friend;
+}

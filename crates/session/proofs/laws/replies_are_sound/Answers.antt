@@ -1,7 +1,0 @@
--- Each step keeps its word.
-use Rattle.session.proofs.Soundness.{step-sound}
-use Rattle.session.proofs.laws.replies_are_sound.Goals as goal
-
--- a refused line keeps the machine, and a reply that grows or ends the session is a success
-pub returns : goal.returns
-returns c = step-sound
