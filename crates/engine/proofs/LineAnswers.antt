@@ -36,7 +36,6 @@ use Rattle.engine.proofs.RefusedLines.{IsReplyTo-refused}
 use Rattle.machine_rules.proofs.Soundness.{step-sound}
 use Rattle.engine.proofs.RefusedLines.{read-not_refused}
 use Rattle.machine_rules.proofs.WordLines.{parsed_of-none, none-parsed_of}
-use Rattle.std.proofs.Common.{◌-◌}
 
 -- the step of a line is that of what it says
 step-heard : (matcher : Matcher) (m : Machine) (line : RawLine)
@@ -60,7 +59,7 @@ asks-heard m (Line text) = refl
 -- a line that says nothing is one without words
 nothing-heard : (m : Machine) (line : RawLine) → (heard m line ≡ parsed.Nothing) ↔ IsWithoutWords line
 nothing-heard m TooLong = ((λ e. cc), (λ none. absurd none))
-nothing-heard m (Line text) = (parsed_of-none text m.size, none-parsed_of text m.size)
+nothing-heard m (Line text) = (parsed_of-none text m.base.size, none-parsed_of text m.base.size)
 
 -- what says the same as a line answers it
 pub answers-line : (matcher : Matcher) (old : SessionState) (line : RawLine) (said : Parsed) (answer : Reply)
@@ -150,15 +149,15 @@ answers-command matcher old id command answer new is bytes patterns automaton re
 
 -- a command that may take long leaves its line
 pub left-command : (old new : SessionState) (said : Parsed) (id : Option ℕ) (command : Command) (work : Work)
-    → said ≡ parsed.Command id command → command ≡ command_of work → new ≡ old → SaysWithin old.size said
+    → said ≡ parsed.Command id command → command ≡ command_of work → new ≡ old → SaysWithin old.base.size said
     → IsLeft old said (record { id = id; work = work }) new
 left-command old new said id command work is asks same within =
     let says : said ≡ said_by (record { id = id; work = work }) = is ∙ ap (parsed.Command id) asks in
     record {
       same = same;
       says = says;
-      within = subst (λ p. SaysWithin new.size p) says
-          (subst (λ (k : SessionState). SaysWithin k.size said) (sym same) within);
+      within = subst (λ p. SaysWithin new.base.size p) says
+          (subst (λ (k : SessionState). SaysWithin k.base.size said) (sym same) within);
     }
 
 -- a line that says the same was left

@@ -103,7 +103,7 @@ pub counts_kept-line : (machine : Machine) (line : RawLine) (old new : SessionSt
 unfolding asks_of_line is_read_line
 counts_kept-line machine TooLong old new read never = nothing-kept old new read
 counts_kept-line machine (Line text) old new read never =
-    counts_kept-parsed old new machine (parsed_of text machine.size) read never
+    counts_kept-parsed old new machine (parsed_of text machine.base.size) read never
 
 -- after any line, too long or not, still no more readings are fresh than the session counted
 pub few_fresh-line : (machine : Machine) (line : RawLine) (old new : SessionState)
@@ -112,7 +112,7 @@ pub few_fresh-line : (machine : Machine) (line : RawLine) (old new : SessionStat
 unfolding asks_of_line is_read_line
 few_fresh-line machine TooLong old new readings read few = few-kept old new (nothing-kept old new read) few
 few_fresh-line machine (Line text) old new readings read few =
-    few_fresh-parsed old new machine (parsed_of text machine.size) readings read few
+    few_fresh-parsed old new machine (parsed_of text machine.base.size) readings read few
 
 -- one call of the readings was made on the board of a session
 module _ (old new : SessionState) (kind : Kind) (p : ℕ) (pos : BoardState) (answer : Answer)

@@ -16,7 +16,7 @@ use Rattle.engine.specs.declared.answer.Answer.TheVariants as answer
 
 -- the machine of a game, with the settings of another machine
 abbrev pub with_game : Game → Machine → Machine
-with_game game kept = record kept { size = game.size; moves = game.moves }
+with_game game kept = record kept { base = game.base; moves = game.moves }
 
 -- a result that is none of the errors
 ok_unless : {T E : Type 0} (r : Result T E) → ((e : E) → r ≡ Err e → ⊥) → IsOk r
@@ -39,7 +39,7 @@ module _ (game : Game) (kept : Machine) (m : Move) where
 
   -- the machine with the move
   abbrev with_move : Machine
-  with_move = with_game (record { size = game.size; moves = game.moves ++ m ∷ [] }) kept
+  with_move = with_game (record { base = game.base; moves = game.moves ++ m ∷ [] }) kept
 
   -- the move is legal, and the list is not full
   played-legal : IsOk (moved (position_of old) m) → (length game.moves ≡ most_moves → ⊥) → played old m
@@ -65,7 +65,7 @@ module _ (game : Game) (kept : Machine) (m : Move) where
   -- the answer says what the game answered, and new is the game after it
   module _ (new : Game) (said : Answer) where
     -- the move was added
-    pub move_added : new ≡ record { size = game.size; moves = game.moves ++ m ∷ [] } → IsOk
+    pub move_added : new ≡ record { base = game.base; moves = game.moves ++ m ∷ [] } → IsOk
         (moved (position_of old) m) → length game.moves < most_moves
         → said ≡ answer.Told [] → IsAnswer old (played old m) said (with_game new kept)
     move_added added legal room says =

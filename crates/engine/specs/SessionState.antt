@@ -1,6 +1,8 @@
 -- What a session keeps beside its helpers: the machine that it is, and how it finds matches.
 use Rattle.std.specs.Prelude.{ℕ, ◌<◌, List, [], length, codes, Contains}
 use Rattle.go_rules.specs.declared.Move.{Move}
+use Rattle.go_rules.specs.Position.{BoardState}
+use Rattle.go_rules.specs.Replay.{empty_board}
 use Rattle.pat_types.specs.declared.pattern.Pattern.{Pattern}
 use Rattle.dfa_core.specs.Automata.{Row, accepted}
 use Rattle.dfa_core.specs.Words.{Word}
@@ -10,10 +12,10 @@ use Rattle.match_engine.specs.Readings.{ReadingsView, first_readings}
 use Rattle.machine_rules.specs.Machine.{Machine, first_size}
 use Rattle.machine_rules.specs.Matcher.{Matcher, automaton_matcher}
 
--- settings and moves, the patterns, the automaton by which their matches are found, what was counted, and the readings
--- with those that are kept
+-- settings, the position from which the moves are played, the moves, the patterns, the automaton by which their matches
+-- are found, what was counted, and the readings with those that are kept
 pub record SessionState : Type 0 where
-  pub size : ℕ
+  pub base : BoardState
   pub moves : List Move
   pub komi : List ℕ
   pub plies : ℕ
@@ -26,7 +28,7 @@ pub record SessionState : Type 0 where
 -- the machine that a session is
 abbrev pub machine_of : SessionState → Machine
 machine_of kept = record {
-  size = kept.size;
+  base = kept.base;
   moves = kept.moves;
   komi = kept.komi;
   plies = kept.plies;
@@ -45,7 +47,7 @@ no_counts = record { readings = 0; fresh = 0; trials = 0; refused = 0 }
 -- first line, where so many questions may be kept
 abbrev pub first_kept : List Pattern → List Row → ℕ → ℕ → ℕ → SessionState
 first_kept patterns automaton plies wide capacity = record {
-  size = first_size;
+  base = empty_board first_size;
   moves = [];
   komi = codes "0.0";
   plies = plies;

@@ -24,4 +24,4 @@ said_by slow = parsed.Command slow.id (command_of slow.work)
 pub record IsLeft (old : SessionState) (said : Parsed) (slow : Slow) (new : SessionState) : Type 0 where
   pub same : new ≡ old
   pub says : said ≡ said_by slow
-  pub within : SaysWithin new.size (said_by slow)
+  pub within : SaysWithin new.base.size (said_by slow)

@@ -90,7 +90,7 @@ impl Model for Engine {
     ghost coded = { Prim.hlevel (codes, expr.the_row.coded) };
 
     ghost view = { λ s. record {
-      size = s.history.size;
+      base = s.history.base;
       moves = s.history.moves;
       komi = s.komi;
       plies = s.readings.plies;
@@ -164,7 +164,7 @@ impl Engine {
     /// What a line says: one that is too long is refused.
     pub(crate) fn heard(&self, raw: Raw<'_>) -> Parsed
         ensures said { result ≡ heard (machine_of self.now) (raw_line raw.entry) }
-        ensures within { SaysWithin self.now.size result }
+        ensures within { SaysWithin self.now.base.size result }
     {
         match raw {
             Raw::TooLong => Parsed::Refused {
@@ -182,7 +182,7 @@ impl Engine {
     ///
     /// NoMemory comes only in place of a growing reply. It leaves the machine as it was.
     pub(crate) fn try_answer(&mut self, said: Parsed) -> Result<Reply, Slow>
-        requires { SaysWithin self.old.size said }
+        requires { SaysWithin self.old.base.size said }
         ensures answers { (advice : Advice) → IfOk result
             (λ reply. AnswersParsed (matcher_with advice self.old) self.old said reply self.new) }
         ensures left { IfErr result (λ slow. IsLeft self.old said slow self.new) }
@@ -196,7 +196,7 @@ impl Engine {
 
     /// Answers a command behind an id, unless it may take long. Then nothing is done.
     fn try_command(&mut self, id: Option<u32>, command: Command) -> Result<Reply, Slow>
-        requires { IsWithin self.old.size command }
+        requires { IsWithin self.old.base.size command }
         ensures answers { (advice : Advice) → IfOk result (λ reply. AnswersParsed (matcher_with advice self.old)
             self.old (Parsed.Command id command) reply self.new) }
         ensures left { IfErr result (λ slow. IsLeft self.old (Parsed.Command id command) slow self.new) }
@@ -214,7 +214,7 @@ impl Engine {
     ///
     /// NoMemory comes only in place of a growing reply. It leaves the machine as it was.
     pub(crate) fn finish(&mut self, helpers: &mut Helpers, slow: Slow) -> Reply
-        requires { SaysWithin self.old.size (said_by slow) }
+        requires { SaysWithin self.old.base.size (said_by slow) }
         ensures answers { AnswersParsed (matcher_with (says_yes (states_of state helpers.old)) self.old) self.old
             (said_by slow) result self.new }
         ensures helpers { without_calls (states_of state helpers.new) ≡ without_calls (states_of state helpers.old) }
@@ -226,7 +226,7 @@ impl Engine {
 
     /// Does what may take long.
     fn work_on(&mut self, helpers: &mut Helpers, work: Work) -> Answer
-        requires { IsWithin self.old.size (command_of work) }
+        requires { IsWithin self.old.base.size (command_of work) }
         ensures answer { IsAnswer (machine_of self.old)
             (effect_of (matcher_with (says_yes (states_of state helpers.old)) self.old) (machine_of self.old)
             (command_of work)) result (machine_of self.new) }
@@ -248,7 +248,7 @@ impl Engine {
 
     /// Does what a command says, unless it may take long. Then nothing is done.
     fn obey(&mut self, command: Command) -> Result<Answer, Work>
-        requires { IsWithin self.old.size command }
+        requires { IsWithin self.old.base.size command }
         ensures answer { (advice : Advice) → IfOk result (λ answer. IsAnswer (machine_of self.old)
             (effect_of (matcher_with advice self.old) (machine_of self.old) command) answer (machine_of self.new)) }
         ensures patterns { OnOk result (self.new.patterns ≡ self.old.patterns) }
@@ -289,7 +289,7 @@ impl Engine {
     /// The position after the moves.
     fn position(&self) -> Position
         ensures value { result ≡ position_of (machine_of self.now) }
-        ensures size { (position_of (machine_of self.now)).size ≡ self.now.size }
+        ensures size { (position_of (machine_of self.now)).size ≡ self.now.base.size }
     {
         self.history.position()
     }
@@ -297,7 +297,7 @@ impl Engine {
     /// The board after the moves, which tells strings, liberties and legal points without a search.
     fn board(&self) -> &StringBoard
         ensures value { reached result.now ≡ position_of (machine_of self.now) }
-        ensures size { (position_of (machine_of self.now)).size ≡ self.now.size }
+        ensures size { (position_of (machine_of self.now)).size ≡ self.now.base.size }
     {
         self.history.board()
     }

@@ -92,7 +92,7 @@ impl Session {
     /// the call makes no helper of its own.
     pub fn finish(&mut self, slow: Slow) -> Reply
         requires own { ⊤ }
-        requires within { SaysWithin self.old.engine.size (said_by slow) }
+        requires within { SaysWithin self.old.engine.base.size (said_by slow) }
         // It answers each line that says this.
         ensures answers { (line : RawLine) → heard (machine_of self.old.engine) line ≡ said_by slow
             → AnswersLine (matcher_of state self.old) self.old.engine line result self.new.engine }

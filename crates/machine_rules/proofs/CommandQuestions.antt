@@ -120,7 +120,7 @@ module _ (machine : Machine) where
   pub Fits-line : (line : RawLine) → Fits (asks_of_line machine line) (named_in line)
   unfolding asks_of_line named_in parsed_of
   Fits-line TooLong = tt
-  Fits-line (Line text) = fits_words machine.size (words_of (cleaned text))
+  Fits-line (Line text) = fits_words machine.base.size (words_of (cleaned text))
 
   -- where a stone stands one question is asked
   one_where : (stone : Bool) (key : Key) → is_one (cond stone (One key) Nothing) ≡ stone
@@ -143,7 +143,7 @@ module _ (machine : Machine) where
   pub one-line : (line : RawLine) → is_one (asks_of_line machine line) ≡ is_read_line machine line
   unfolding asks_of_line is_read_line
   one-line TooLong = refl
-  one-line (Line text) = one_parsed (parsed_of text machine.size)
+  one-line (Line text) = one_parsed (parsed_of text machine.base.size)
 
 -- a line that asks one question is answered with a code
 pub is_read_line-one : (machine : Machine) (line : RawLine) (key : Key) → asks_of_line machine line ≡ One key

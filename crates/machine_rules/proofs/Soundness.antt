@@ -61,16 +61,16 @@ parsed_step-sound matcher old (parsed.Command id c) = replied-sound old id (effe
 pub step-sound : (matcher : Matcher) (old : Machine) (line : RawLine) → IsSound old (step matcher old line)
 unfolding step
 step-sound matcher old TooLong = replied-sound old None (Refused LineTooLong)
-step-sound matcher old (Line text) = parsed_step-sound matcher old (parsed_of text old.size)
+step-sound matcher old (Line text) = parsed_step-sound matcher old (parsed_of text old.base.size)
 
 -- a reading that is answered with a code tells something, and its reply does not grow
 read-effect : (matcher : Matcher) (old : Machine) (c : Command) → is_read old c ≡ true
     → (text : List ℕ) × (effect_of matcher old c ≡ Told text old)
 read-effect matcher old (command.Attack p) stone =
-    let text = answer_text old.size (reading_of old Attack p) in
+    let text = answer_text old.base.size (reading_of old Attack p) in
     (text, ap (λ b. cond b (Told text old) (Refused VertexEmpty)) stone)
 read-effect matcher old (command.Defend p) stone =
-    let text = answer_text old.size (reading_of old Defend p) in
+    let text = answer_text old.base.size (reading_of old Defend p) in
     (text, ap (λ b. cond b (Told text old) (Refused VertexEmpty)) stone)
 read-effect matcher old _ none = absurd (let same : false ≡ true = none in cc)
 
@@ -86,4 +86,4 @@ pub read-line : (matcher : Matcher) (old : Machine) (line : RawLine) → is_read
     → (id : Option ℕ) × (text : List ℕ) × (step matcher old line ≡ replied old id (Told text old))
 unfolding step is_read_line
 read-line matcher old TooLong none = absurd (let same : false ≡ true = none in cc)
-read-line matcher old (Line text) reads = read-parsed matcher old (parsed_of text old.size) reads
+read-line matcher old (Line text) reads = read-parsed matcher old (parsed_of text old.base.size) reads

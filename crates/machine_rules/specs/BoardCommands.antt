@@ -4,7 +4,7 @@ use Rattle.std.specs.Prelude.{if◌then◌else◌, codes, decimal}
 use Rattle.go_rules.specs.declared.Colour.{Colour}
 use Rattle.go_rules.specs.declared.Move.{Move}
 use Rattle.go_rules.specs.Strings.{cell_at, is_stone, liberties}
-use Rattle.go_rules.specs.Replay.{moved, captures}
+use Rattle.go_rules.specs.Replay.{empty_board, moved, captures_from}
 use Rattle.go_history.specs.Games.{most_moves}
 use Rattle.gtp_cmd.specs.declared.refusals.RefuseText.TheVariants.{UnacceptableSize, IllegalMove, HistoryFull}
 use Rattle.gtp_cmd.specs.declared.refusals.RefuseText.TheVariants.{CannotUndo, VertexEmpty}
@@ -13,14 +13,14 @@ use Rattle.machine_rules.specs.Effects.{Effect, Refused, Told, Grown}
 use Rattle.machine_rules.specs.BoardText.{board_text}
 use Rattle.machine_rules.specs.PointLists.{legal_list, liberty_list, vertices_text}
 
--- a new size empties the list of moves, also where it is the present one
+-- a new size begins again from the empty board of that size, also where it is the present one
 abbrev pub resized : Machine → Option ℕ → Effect
 resized old None = Refused UnacceptableSize
-resized old (Some size) = Told [] (record old { size = size; moves = [] })
+resized old (Some size) = Told [] (record old { base = empty_board size; moves = [] })
 
--- the list of moves is emptied
+-- the list of moves is emptied, and the moves are played from the empty board, whose size stays
 abbrev pub cleared : Machine → Effect
-cleared old = Told [] (record old { moves = [] })
+cleared old = Told [] (record old { base = empty_board old.base.size; moves = [] })
 
 -- the text of the komi is kept
 abbrev pub komi_kept : Machine → List ℕ → Effect
@@ -53,7 +53,7 @@ allowed old move = Told (digit_of (is_ok (moved (position_of old) move))) old
 
 -- the points where the colour may play
 abbrev pub all_allowed : Machine → Colour → Effect
-all_allowed old c = Grown (vertices_text old.size (legal_list (position_of old) c)) old
+all_allowed old c = Grown (vertices_text old.base.size (legal_list (position_of old) c)) old
 
 -- what is told of the string of a point, where a stone stands there
 abbrev pub of_stone : Machine → ℕ → Effect → Effect
@@ -66,8 +66,8 @@ liberties_counted old p = of_stone old p
 
 -- the liberties of the string of a point
 abbrev pub liberties_found : Machine → ℕ → Effect
-liberties_found old p = of_stone old p (Grown (vertices_text old.size (liberty_list (position_of old) p)) old)
+liberties_found old p = of_stone old p (Grown (vertices_text old.base.size (liberty_list (position_of old) p)) old)
 
--- how many stones the moves of a colour took
+-- how many stones the moves of a colour took, played from the base
 abbrev pub captures_counted : Machine → Colour → Effect
-captures_counted old c = Told (decimal (captures old.size c old.moves)) old
+captures_counted old c = Told (decimal (captures_from old.base c old.moves)) old

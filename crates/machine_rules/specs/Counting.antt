@@ -28,7 +28,7 @@ is_parsed_read machine _ = false
 -- the same of a line
 unfoldable pub is_read_line : Machine → RawLine → Bool
 is_read_line machine TooLong = false
-is_read_line machine (Line text) = is_parsed_read machine (parsed_of text machine.size)
+is_read_line machine (Line text) = is_parsed_read machine (parsed_of text machine.base.size)
 
 -- how many of the lines ask for a reading and are answered with a code
 abbrev pub readings_in : List (Turn Machine) → ℕ

@@ -1,13 +1,13 @@
--- The plain machine: the settings and the moves of a session.
+-- The plain machine: the settings of a session, the position from which its moves are played, and the moves.
 use Rattle.std.specs.Prelude.{ℕ, List, [], codes}
 use Rattle.go_rules.specs.declared.Move.{Move}
 use Rattle.go_rules.specs.Position.{BoardState}
-use Rattle.go_rules.specs.Replay.{replay}
+use Rattle.go_rules.specs.Replay.{empty_board, replay_from}
 
--- settings and moves
+-- settings, a first position and moves from it
 pub record Machine : Type 0 where
-  -- the size of the board
-  pub size : ℕ
+  -- the position from which the moves are played
+  pub base : BoardState
   -- the moves played so far, the first one first
   pub moves : List Move
   -- the text of the komi
@@ -21,10 +21,16 @@ pub record Machine : Type 0 where
 abbrev pub first_size : ℕ
 first_size = 19
 
--- the machine before the first line, whose readings have this many plies and wide plies
+-- the machine before the first line, whose readings have this many plies and wide plies: its board is empty
 abbrev pub first_machine : ℕ → ℕ → Machine
-first_machine plies wide = record { size = first_size; moves = []; komi = codes "0.0"; plies = plies; wide = wide }
+first_machine plies wide = record {
+  base = empty_board first_size;
+  moves = [];
+  komi = codes "0.0";
+  plies = plies;
+  wide = wide;
+}
 
--- the position of the machine: its moves are played from the empty board
+-- the position of the machine: its moves are played from its base
 abbrev pub position_of : Machine → BoardState
-position_of machine = replay machine.size machine.moves
+position_of machine = replay_from machine.base machine.moves

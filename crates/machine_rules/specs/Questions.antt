@@ -46,7 +46,7 @@ asks_of_parsed machine _ = Nothing
 -- what a line asks of them
 unfoldable pub asks_of_line : Machine → RawLine → Asks
 asks_of_line machine TooLong = Nothing
-asks_of_line machine (Line text) = asks_of_parsed machine (parsed_of text machine.size)
+asks_of_line machine (Line text) = asks_of_parsed machine (parsed_of text machine.base.size)
 
 -- no line asks for a reading or for matches
 abbrev pub AskNothing : List (Turn Machine) → Type 0

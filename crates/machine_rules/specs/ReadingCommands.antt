@@ -32,7 +32,7 @@ reading_of machine kind p = answer_of (asked_on (position_of machine) kind p mac
 
 -- the answer to a question about the string of a point is told
 abbrev pub read : Machine → Kind → ℕ → Effect
-read old kind p = of_stone old p (Told (answer_text old.size (reading_of old kind p)) old)
+read old kind p = of_stone old p (Told (answer_text old.base.size (reading_of old kind p)) old)
 
 -- readings go this deep from now on
 abbrev pub deepened : Machine → ℕ → ℕ → Effect

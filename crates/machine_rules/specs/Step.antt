@@ -63,9 +63,9 @@ parsed_step matcher old (parsed.Command id command) = replied old id (effect_of 
 -- the answer to a line
 unfoldable pub step : Matcher → Machine → RawLine → Step Machine
 step matcher old TooLong = replied old None (Refused LineTooLong)
-step matcher old (Line text) = parsed_step matcher old (parsed_of text old.size)
+step matcher old (Line text) = parsed_step matcher old (parsed_of text old.base.size)
 
 -- what a line says to a machine: one that is too long is refused
 abbrev pub heard : Machine → RawLine → Parsed
 heard machine TooLong = parsed.Refused None LineTooLong
-heard machine (Line text) = parsed_of text machine.size
+heard machine (Line text) = parsed_of text machine.base.size

@@ -79,7 +79,7 @@ impl Engine {
     }
 
     pub(crate) fn play(&mut self, m: Move) -> Answer
-        requires { IfSome m.at (λ p. p < self.old.size * self.old.size) }
+        requires { IfSome m.at (λ p. p < self.old.base.size * self.old.base.size) }
         ensures answer { IsAnswer (machine_of self.old) (played (machine_of self.old) m) result (machine_of self.new) }
         ensures patterns { self.new.patterns ≡ self.old.patterns }
         ensures same { self.new.automaton ≡ self.old.automaton }
@@ -110,7 +110,7 @@ impl Engine {
 
     /// Whether the rules allow the move.
     fn is_legal(&self, m: Move) -> bool
-        requires { IfSome m.at (λ p. p < self.now.size * self.now.size) }
+        requires { IfSome m.at (λ p. p < self.now.base.size * self.now.base.size) }
         ensures { result ≡ is_ok (moved (position_of (machine_of self.now)) m) }
     {
         match m.at {
@@ -120,7 +120,7 @@ impl Engine {
     }
 
     pub(crate) fn tell_legal(&self, m: Move) -> Answer
-        requires { IfSome m.at (λ p. p < self.now.size * self.now.size) }
+        requires { IfSome m.at (λ p. p < self.now.base.size * self.now.base.size) }
         ensures { IsAnswer (machine_of self.now) (allowed (machine_of self.now) m) result (machine_of self.now) }
     {
         told(digit(self.is_legal(m)))
@@ -140,7 +140,7 @@ impl Engine {
     }
 
     pub(crate) fn count_liberties(&self, p: Point) -> Answer
-        requires { p < self.now.size * self.now.size }
+        requires { p < self.now.base.size * self.now.base.size }
         ensures { IsAnswer (machine_of self.now) (liberties_counted (machine_of self.now) p) result
             (machine_of self.now) }
     {
@@ -152,7 +152,7 @@ impl Engine {
     }
 
     pub(crate) fn find_liberties(&self, p: Point) -> Answer
-        requires { p < self.now.size * self.now.size }
+        requires { p < self.now.base.size * self.now.base.size }
         ensures { IsAnswer (machine_of self.now) (liberties_found (machine_of self.now) p) result
             (machine_of self.now) }
     {

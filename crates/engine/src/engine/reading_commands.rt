@@ -39,7 +39,7 @@ impl Engine {
 
     /// Answers a question about the string of p by a reading, kept or fresh, where a stone stands there.
     pub(crate) fn read(&mut self, kind: Kind, p: Point) -> Answer
-        requires { p < self.old.size * self.old.size }
+        requires { p < self.old.base.size * self.old.base.size }
         ensures answer { IsAnswer (machine_of self.old) (read (machine_of self.old) kind p) result
             (machine_of self.new) }
         ensures patterns { self.new.patterns ≡ self.old.patterns }
@@ -60,7 +60,7 @@ impl Engine {
 
     /// Answers the same question, which this work is, unless it has to be read afresh. Then nothing is done.
     pub(crate) fn recall(&mut self, kind: Kind, p: Point, work: Work) -> Result<Answer, Work>
-        requires { p < self.old.size * self.old.size }
+        requires { p < self.old.base.size * self.old.base.size }
         ensures answer { IfOk result (λ answer. IsAnswer (machine_of self.old) (read (machine_of self.old) kind p)
             answer (machine_of self.new)) }
         ensures patterns { OnOk result (self.new.patterns ≡ self.old.patterns) }

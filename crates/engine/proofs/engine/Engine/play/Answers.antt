@@ -12,7 +12,7 @@ pub returns-clause-answer : goal.returns-clause-answer
 returns-clause-answer c =
     let game = c.self.inside.history in
     let kept = machine_of (record {
-      size = game.size;
+      base = game.base;
       moves = game.moves;
       komi = c.self.inside.komi;
       plies = c.self.inside.readings.plies;
