@@ -1,8 +1,9 @@
 pub mod AmongMatches
-pub mod HelperMeanings
+pub mod CommandReplies
 pub mod LineAnswers
 pub mod LineCounts
 pub mod LineTexts
+pub mod ListedMatches
 pub mod MoveAnswers
 pub mod RefusedLines
 pub mod Texts

@@ -1,54 +1,37 @@
 -- A line is answered as what it says.
-use Rattle.std.proofs.Common.{◌≡◌, ◌↔◌, ⊎_elim, inl, inr, ℕ, Bool, true, false, List, Option, Result, Ok, Err, IfOk}
-use Rattle.std.proofs.Common.{IfErr, refl, sym, ap, subst, ◌∙◌}
+use Rattle.std.proofs.Common.{◌≡◌, ◌↔◌, inl, ℕ, Bool, List, [], ◌∷◌, ◌++◌, Option, Result, Ok, Err, IfOk, IfErr}
+use Rattle.std.proofs.Common.{refl, sym, ap, subst, ◌∙◌, append-nil}
 use Rattle.gtp_rules.specs.Lines.{RawLine, Line, TooLong}
-use Rattle.gtp_rules.specs.Steps.{Step}
+use Rattle.gtp_rules.specs.Transcript.{MayGive, Answers}
 use Rattle.gtp_cmd.specs.Replies.{refusal_text}
 use Rattle.gtp_cmd.specs.Within.{SaysWithin}
 use Rattle.gtp_cmd.specs.declared.commands.Command.{Command}
 use Rattle.gtp_cmd.specs.declared.commands.Parsed.{Parsed}
 use Rattle.gtp_cmd.specs.declared.commands.Parsed.TheVariants as parsed
 use Rattle.gtp_cmd.specs.declared.refusals.RefuseText.{RefuseText}
-use Rattle.machine_rules.specs.Machine.{Machine}
-use Rattle.helpers.specs.Asking.{SlotState}
-use Rattle.match_rules.specs.Conditions.{Advice}
-use Rattle.engine.specs.HelperCalls.{after_listing, AsksHelpers}
-use Rattle.machine_rules.specs.Matcher.{Matcher, automaton_matcher}
-use Rattle.engine.specs.SessionState.{SessionState, machine_of, matcher_with}
-use Rattle.machine_rules.specs.Step.{step, parsed_step, effect_of}
-use Rattle.machine_rules.specs.Effects.{replied}
 use Rattle.machine_rules.specs.Counting.{counted, is_read, is_parsed_read, is_read_line}
-use Rattle.engine.specs.AfterLine.{ReadsAs}
+use Rattle.machine_rules.specs.Effects.{replied}
+use Rattle.machine_rules.specs.Files.{Contents}
+use Rattle.machine_rules.specs.Heard.{heard, bytes_in}
+use Rattle.machine_rules.specs.Loads.{parsed_load, load_in, missed_by, IsFileOf}
+use Rattle.machine_rules.specs.Machine.{Machine}
 use Rattle.machine_rules.specs.Questions.{asks_of, asks_of_parsed, asks_of_line}
-use Rattle.machine_rules.specs.Step.{heard}
-use Rattle.engine.specs.SlowLines.{command_of, said_by, IsLeft}
-use Rattle.engine.specs.AnsweredLines.{AnswersParsed, AnswersLine}
-use Rattle.engine.specs.Replies.{IsReply, IsReplyTo, reply_bytes}
 use Rattle.machine_rules.specs.Soundness.{IsWithoutWords}
-use Rattle.engine.specs.Replies.{reply_count}
+use Rattle.machine_rules.specs.Step.{Input, step, step_on, parsed_step, effect_of}
+use Rattle.machine_rules.proofs.Soundness.{step-sound, read-heard}
+use Rattle.machine_rules.proofs.WordLines.{parsed_of-none, none-parsed_of}
+use Rattle.engine.specs.AfterLine.{ReadsAs}
+use Rattle.engine.specs.AnsweredLines.{AnswersParsed, AnswersLine}
+use Rattle.engine.specs.Kept.{Kept, machine_of}
+use Rattle.engine.specs.Replies.{reply_bytes, reply_ends, reply_count}
+use Rattle.engine.specs.SessionState.{SessionState, matcher_of}
+use Rattle.engine.specs.SlowLines.{command_of, said_by, IsLeft}
 use Rattle.engine.specs.declared.reply.Reply.{Reply}
 use Rattle.engine.specs.declared.reply.Reply.TheVariants as reply
 use Rattle.engine.specs.declared.slow.Slow.{Slow}
 use Rattle.engine.specs.declared.slow.Work.{Work}
-use Rattle.engine.specs.declared.slow.Work.TheVariants as work
 use Rattle.engine.proofs.LineCounts.{counts_kept-line, few_fresh-line}
-use Rattle.engine.proofs.RefusedLines.{IsReplyTo-refused}
-use Rattle.machine_rules.proofs.Soundness.{step-sound}
-use Rattle.engine.proofs.RefusedLines.{read-not_refused}
-use Rattle.machine_rules.proofs.WordLines.{parsed_of-none, none-parsed_of}
-
--- the step of a line is that of what it says
-step-heard : (matcher : Matcher) (m : Machine) (line : RawLine)
-    → step matcher m line ≡ parsed_step matcher m (heard m line)
-unfolding step
-step-heard matcher m TooLong = refl
-step-heard matcher m (Line text) = refl
-
--- a line is counted as what it says
-read-heard : (m : Machine) (line : RawLine) → is_read_line m line ≡ is_parsed_read m (heard m line)
-unfolding is_read_line
-read-heard m TooLong = refl
-read-heard m (Line text) = refl
+use Rattle.engine.proofs.RefusedLines.{read-not_refused, refused-same}
 
 -- a line asks what it says
 asks-heard : (m : Machine) (line : RawLine) → asks_of_line m line ≡ asks_of_parsed m (heard m line)
@@ -61,136 +44,141 @@ nothing-heard : (m : Machine) (line : RawLine) → (heard m line ≡ parsed.Noth
 nothing-heard m TooLong = ((λ e. cc), (λ none. absurd none))
 nothing-heard m (Line text) = (parsed_of-none text m.base.size, none-parsed_of text m.base.size)
 
+-- What a line says was answered, on a text that is the contents of the file that it loads.
+module _ (contents : Contents) (old : Kept) (line : RawLine) (answer : Reply) (new : Kept) (file : List ℕ)
+    (of : IsFileOf contents (parsed_load (bytes_in line) (heard (machine_of old) line)) file)
+    (is : AnswersParsed old (record { line = bytes_in line; file = file }) (heard (machine_of old) line) answer new) where
+  -- the step gives the reply
+  line-reply : Answers (step (matcher_of old.engine) contents) (machine_of old) line (reply_bytes answer)
+      (machine_of new) (reply_ends answer)
+  unfolding step_on load_in
+  line-reply = (step_on (matcher_of old.engine) (machine_of old) file line, (file, of, refl), is.reply)
+
+  -- the name that was missed is that of the line
+  line-missed : new.missed ≡ old.missed ++ missed_by (load_in (machine_of old) line) (reply_bytes answer)
+  unfolding load_in
+  line-missed = is.missed
+
+  -- it is counted as what it says
+  line-readings : new.engine.counts.readings
+      ≡ counted old.engine.counts.readings (is_read_line (machine_of old) line)
+  line-readings = subst (λ b. new.engine.counts.readings ≡ counted old.engine.counts.readings b)
+      (sym (read-heard (machine_of old) line)) is.readings
+
+  -- and asks what it says
+  line-read : ReadsAs (asks_of_line (machine_of old) line) old.engine new.engine
+  line-read = subst (λ a. ReadsAs a old.engine new.engine) (sym (asks-heard (machine_of old) line)) is.read
+
+  -- the line was answered
+  heard-answers : AnswersLine contents old line answer new
+  heard-answers =
+      let nothing = nothing-heard (machine_of old) line in
+      record {
+        reply = line-reply;
+        nothing = ((λ none. nothing.0 (is.nothing.0 none)), (λ none. is.nothing.1 (nothing.1 none)));
+        bytes = is.bytes;
+        patterns = is.patterns;
+        automaton = is.automaton;
+        readings = line-readings;
+        read = line-read;
+        missed = line-missed;
+        few_fresh = few_fresh-line (machine_of old) line old.engine new.engine line-readings line-read;
+        refused = λ refusal. (
+          refused-same (machine_of old) line-reply.0 (reply_bytes answer) (machine_of new) (reply_ends answer)
+              (step-sound (matcher_of old.engine) contents (machine_of old) line line-reply.0 line-reply.1)
+              line-reply.2 refusal,
+          counts_kept-line (machine_of old) line old.engine new.engine line-read
+              (read-not_refused (matcher_of old.engine) contents (machine_of old) line (reply_bytes answer)
+              (machine_of new) (reply_ends answer) line-reply refusal),
+        );
+      }
+
 -- what says the same as a line answers it
-pub answers-line : (matcher : Matcher) (old : SessionState) (line : RawLine) (said : Parsed) (answer : Reply)
-    (new : SessionState) → heard (machine_of old) line ≡ said → AnswersParsed matcher old said answer new
-    → AnswersLine matcher old line answer new
-answers-line matcher old line said answer new same is =
-    let m = machine_of old in
-    let reply = subst (λ s. IsReplyTo m s answer (machine_of new))
-    (ap (parsed_step matcher m) (sym same) ∙ sym (step-heard matcher m line)) is.reply in
-    let readings = subst (λ b. new.counts.readings ≡ counted old.counts.readings b)
-    (ap (is_parsed_read m) (sym same) ∙ sym (read-heard m line)) is.readings in
-    let read = subst (λ a. ReadsAs a old new) (ap (asks_of_parsed m) (sym same) ∙ sym (asks-heard m line)) is.read in
-    let nothing = nothing-heard m line in
-    record {
-      reply = reply;
-      nothing = (
-        (λ none. nothing.0 (same ∙ is.nothing.0 none)),
-        (λ none. is.nothing.1 (sym same ∙ nothing.1 none)),
-      );
-      bytes = is.bytes;
-      patterns = is.patterns;
-      automaton = is.automaton;
-      readings = readings;
-      read = read;
-      few_fresh = few_fresh-line m line old new readings read;
-      refused = λ refusal. (
-        IsReplyTo-refused m (step matcher m line) answer (machine_of new) (step-sound matcher m line) reply refusal,
-        counts_kept-line m line old new read
-            (read-not_refused m matcher line answer (machine_of new) reply refusal),
-      );
-    }
+pub answers-line : (contents : Contents) (old : Kept) (line : RawLine) (said : Parsed) (answer : Reply) (new : Kept)
+    (file : List ℕ) → heard (machine_of old) line ≡ said → IsFileOf contents (parsed_load (bytes_in line) said) file
+    → AnswersParsed old (record { line = bytes_in line; file = file }) said answer new
+    → AnswersLine contents old line answer new
+answers-line contents old line said answer new file same of is =
+    heard-answers contents old line answer new file
+    (subst (λ p. IsFileOf contents (parsed_load (bytes_in line) p) file) (sym same) of)
+    (subst (λ p. AnswersParsed old (record { line = bytes_in line; file = file }) p answer new) (sym same) is)
 
 -- nothing is answered to nothing
-pub answers-nothing : (matcher : Matcher) (old : SessionState) → AnswersParsed matcher old parsed.Nothing reply.Nothing old
-answers-nothing matcher old = record {
-  reply = (refl, refl, refl);
+pub answers-nothing : (old : Kept) (input : Input) → AnswersParsed old input parsed.Nothing reply.Nothing old
+answers-nothing old input = record {
+  reply = inl (refl, refl, refl);
   nothing = ((λ _. refl), (λ _. refl));
   bytes = λ some. absurd (some refl);
   patterns = refl;
   automaton = refl;
   readings = refl;
   read = record { counts = refl; kept = refl };
+  missed = sym (append-nil old.missed);
 }
 
 -- a line that is refused as it is read is answered so
-pub answers-refused : (matcher : Matcher) (old : SessionState) (id : Option ℕ) (text : RefuseText)
-    → AnswersParsed matcher old (parsed.Refused id text) (reply.Short (refusal_text id text) false) old
-answers-refused matcher old id text = record {
-  reply = (refl, refl, refl);
+pub answers-refused : (old : Kept) (input : Input) (id : Option ℕ) (text : RefuseText)
+    → AnswersParsed old input (parsed.Refused id text) (reply.Short (refusal_text id text) false) old
+answers-refused old input id text = record {
+  reply = inl (refl, refl, refl);
   nothing = ((λ e. cc), (λ e. cc));
   bytes = λ _. refl;
   patterns = refl;
   automaton = refl;
   readings = refl;
   read = record { counts = refl; kept = refl };
+  missed = sym (append-nil old.missed);
 }
 
--- a reply to a command is one to a line, and not nothing
-reply-there : {M : Type 0} (old : M) (given : Step M) (answer : Reply) (new : M) → IsReply old given answer new
-    → IsReplyTo old given answer new × (answer ≡ reply.Nothing → ⊥)
-reply-there old given reply.Nothing new is = absurd is
-reply-there old given (reply.Short text quit) new is = (is, (λ e. cc))
-reply-there old given (reply.Text bytes) new is = (is, (λ e. cc))
-reply-there old given (reply.NoMemory id) new is = (is, (λ e. cc))
+-- a reply that has bytes is not nothing
+some-reply : (answer : Reply) → reply_count (reply_bytes answer) ≡ 1 → answer ≡ reply.Nothing → ⊥
+some-reply reply.Nothing one none = cc
+some-reply (reply.Short text quit) one none = cc
+some-reply (reply.Text bytes) one none = cc
+some-reply (reply.NoMemory id) one none = cc
 
 -- the reply to a command answers the line that says it
-pub answers-command : (matcher : Matcher) (old : SessionState) (id : Option ℕ) (command : Command) (answer : Reply)
-    (new : SessionState)
-    → IsReply (machine_of old) (replied (machine_of old) id (effect_of matcher (machine_of old) command)) answer
-    (machine_of new)
-    → reply_count (reply_bytes answer) ≡ 1 → new.patterns ≡ old.patterns → new.automaton ≡ old.automaton
-    → new.counts.readings ≡ counted old.counts.readings (is_read (machine_of old) command)
-    → ReadsAs (asks_of (machine_of old) command) old new
-    → AnswersParsed matcher old (parsed.Command id command) answer new
-answers-command matcher old id command answer new is bytes patterns automaton readings read =
-    let there = reply-there (machine_of old)
-    (replied (machine_of old) id (effect_of matcher (machine_of old) command)) answer (machine_of new) is in
-    record {
-      reply = there.0;
-      nothing = ((λ none. absurd (there.1 none)), (λ e. cc));
-      bytes = λ _. bytes;
-      patterns = patterns;
-      automaton = automaton;
-      readings = readings;
-      read = read;
-    }
+pub answers-command : (old : Kept) (input : Input) (id : Option ℕ) (command : Command) (answer : Reply) (new : Kept)
+    → MayGive (replied id (effect_of (matcher_of old.engine) (machine_of old) input command)) (reply_bytes answer)
+    (machine_of new) (reply_ends answer)
+    → reply_count (reply_bytes answer) ≡ 1 → new.engine.patterns ≡ old.engine.patterns
+    → new.engine.automaton ≡ old.engine.automaton
+    → new.engine.counts.readings ≡ counted old.engine.counts.readings (is_read (machine_of old) command)
+    → ReadsAs (asks_of (machine_of old) command) old.engine new.engine
+    → new.missed ≡ old.missed ++ missed_by (parsed_load input.line (parsed.Command id command)) (reply_bytes answer)
+    → AnswersParsed old input (parsed.Command id command) answer new
+answers-command old input id command answer new is bytes patterns automaton readings read missed = record {
+  reply = is;
+  nothing = ((λ none. absurd (some-reply answer bytes none)), (λ e. cc));
+  bytes = λ _. bytes;
+  patterns = patterns;
+  automaton = automaton;
+  readings = readings;
+  read = read;
+  missed = missed;
+}
 
 -- a command that may take long leaves its line
-pub left-command : (old new : SessionState) (said : Parsed) (id : Option ℕ) (command : Command) (work : Work)
-    → said ≡ parsed.Command id command → command ≡ command_of work → new ≡ old → SaysWithin old.base.size said
-    → IsLeft old said (record { id = id; work = work }) new
+pub left-command : (old new : Kept) (said : Parsed) (id : Option ℕ) (command : Command) (work : Work)
+    → said ≡ parsed.Command id command → command ≡ command_of work → new ≡ old
+    → SaysWithin old.engine.base.size said → IsLeft old said (record { id = id; work = work }) new
 left-command old new said id command work is asks same within =
     let says : said ≡ said_by (record { id = id; work = work }) = is ∙ ap (parsed.Command id) asks in
     record {
       same = same;
       says = says;
-      within = subst (λ p. SaysWithin new.base.size p) says
-          (subst (λ (k : SessionState). SaysWithin k.base.size said) (sym same) within);
+      within = subst (λ p. SaysWithin new.engine.base.size p) says
+          (subst (λ (k : Kept). SaysWithin k.engine.base.size said) (sym same) within);
     }
 
 -- a line that says the same was left
-pub left-line : (old new : SessionState) (line said : Parsed) (slow : Slow) → said ≡ line → IsLeft old said slow new
+pub left-line : (old new : Kept) (line said : Parsed) (slow : Slow) → said ≡ line → IsLeft old said slow new
     → IsLeft old line slow new
 left-line old new line said slow same left = record {
   same = left.same;
   says = sym same ∙ left.says;
   within = left.within;
 }
-
--- whether a line was answered or left, the matcher stays
-pub same-matcher : (advice : Advice) (old new : SessionState) (said : Parsed) (result : Result Reply Slow)
-    → IfOk result (λ answer. AnswersParsed (matcher_with advice old) old said answer new)
-    → IfErr result (λ slow. IsLeft old said slow new) → matcher_with advice new ≡ matcher_with advice old
-same-matcher advice old new said (Ok answer) is left = λ i. automaton_matcher advice (is.patterns i) (is.automaton i)
-same-matcher advice old new said (Err slow) is left = ap (matcher_with advice) left.same
-
--- a line was answered by an equal matcher, from an equal session
-pub answers-from : (m m' : Matcher) (old old' : SessionState) (line : RawLine) (answer : Reply) (new : SessionState)
-    → m' ≡ m → old' ≡ old → AnswersLine m' old' line answer new → AnswersLine m old line answer new
-answers-from m m' old old' line answer new matcher same is =
-    subst (λ k. AnswersLine k old line answer new) matcher (subst (λ k. AnswersLine m' k line answer new) same is)
-
--- where a reply lacks memory as its answer does, the helpers were asked so
-pub calls-reply : (kept : SessionState) (work : Work) (lacks lacks' : Bool) (before after : List SlotState)
-    → (lacks ≡ true → lacks' ≡ true) → AsksHelpers kept work lacks before after
-    → AsksHelpers kept work lacks' before after
-calls-reply kept (work.Attack p) lacks lacks' before after memory asks = asks
-calls-reply kept (work.Defend p) lacks lacks' before after memory asks = asks
-calls-reply kept (work.Match friend) lacks lacks' before after memory asks =
-    ⊎_elim (λ (asked : after ≡ after_listing kept friend before). inl asked)
-    (λ (none : (lacks ≡ true) × (after ≡ before)). inr (memory none.0, none.1)) asks
 
 -- what holds of the value of a success follows from what does
 pub if_ok_map : {T E : Type 0} {P Q : T → Type 0} (result : Result T E) → ((x : T) → P x → Q x) → IfOk result P

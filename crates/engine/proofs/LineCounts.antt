@@ -15,8 +15,8 @@ use Rattle.read_rules.specs.declared.question.Kind.TheVariants.{Attack, Defend}
 use Rattle.run_notes.specs.declared.notes.Counts.{Counts}
 use Rattle.match_engine.specs.declared.keys.Key.{Key}
 use Rattle.match_engine.specs.Readings.{ReadingsView, HasRead, AllRest}
-use Rattle.machine_rules.specs.Machine.{Machine, position_of}
-use Rattle.engine.specs.SessionState.{SessionState, machine_of}
+use Rattle.machine_rules.specs.Machine.{Machine}
+use Rattle.engine.specs.SessionState.{SessionState, board_of, machine_alone}
 use Rattle.machine_rules.specs.Counting.{counted, has_stone, is_read, is_parsed_read, is_read_line}
 use Rattle.machine_rules.specs.Questions.{Nothing, One, key_at}
 use Rattle.engine.specs.AfterLine.{ReadsAs, ReadsNothing, KeepsCounts, CountsRefused, after_trials}
@@ -117,17 +117,17 @@ few_fresh-line machine (Line text) old new readings read few =
 -- one call of the readings was made on the board of a session
 module _ (old new : SessionState) (kind : Kind) (p : ℕ) (pos : BoardState) (answer : Answer)
     (before after : ReadingsView)
-    (board : pos ≡ position_of (machine_of old)) (was : before ≡ old.readings) (plies : before.plies ≡ old.plies)
+    (board : pos ≡ board_of old) (was : before ≡ old.readings) (plies : before.plies ≡ old.plies)
     (wide : before.wide ≡ old.wide) (is : new.readings ≡ after) where
   -- it was about the string of the point, on this board
   read_here : HasRead (record { question = asked_on pos kind p before.plies before.wide }) pos answer before after
-      → HasRead (key_at (machine_of old) kind p) (position_of (machine_of old)) answer old.readings new.readings
+      → HasRead (key_at (machine_alone old) kind p) (board_of old) answer old.readings new.readings
   read_here has =
       let family : ReadingsView → ReadingsView → BoardState → ℕ → ℕ → Type 0 =
       λ r s b n k. HasRead (record { question = asked_on b kind p n k }) b answer r s in
-      subst (λ r. family r new.readings (position_of (machine_of old)) old.plies old.wide) was
-      (subst (λ k. family before new.readings (position_of (machine_of old)) old.plies k) wide
-      (subst (λ n. family before new.readings (position_of (machine_of old)) n before.wide) plies
+      subst (λ r. family r new.readings (board_of old) old.plies old.wide) was
+      (subst (λ k. family before new.readings (board_of old) old.plies k) wide
+      (subst (λ n. family before new.readings (board_of old) n before.wide) plies
       (subst (λ b. family before new.readings b before.plies before.wide) board
       (subst (λ s. family before s pos before.plies before.wide) (sym is) has))))
 
@@ -136,10 +136,10 @@ module _ (old new : SessionState) (kind : Kind) (p : ℕ) (pos : BoardState) (an
       (record { question = asked_on pos kind p before.plies before.wide }) pos answer before after
       → IsPosition pos → AllRest after.kept → CountsRefused old → CountsRefused new
       → new.counts.fresh ≡ counted old.counts.fresh (is_some new.readings.last)
-      → new.counts.trials ≡ after_trials old.counts.trials new.readings.last → has_stone (machine_of old) p ≡ true
-      → ReadsAs (asks_at (machine_of old) kind p) old new
+      → new.counts.trials ≡ after_trials old.counts.trials new.readings.last → has_stone (machine_alone old) p ≡ true
+      → ReadsAs (asks_at (machine_alone old) kind p) old new
   ReadsAs-once has sound rest earlier later fresh trials stone =
-      let family : Bool → Type 0 = λ b. ReadsAs (cond b (One (key_at (machine_of old) kind p)) Nothing) old new in
+      let family : Bool → Type 0 = λ b. ReadsAs (cond b (One (key_at (machine_alone old) kind p)) Nothing) old new in
       subst family (sym stone) (record {
         answer = answer;
         read = read_here has;

@@ -1,14 +1,15 @@
 -- The answers to a move.
 use Rattle.std.proofs.Common.{◌≡◌, ℕ, ◌<◌, true, false, cond, eqb, [], ◌∷◌, ◌++◌, length, Result, Ok, Err, IsOk, is_ok}
-use Rattle.std.proofs.Common.{refl, sym, ap, subst, ◌∙◌, arith}
+use Rattle.std.proofs.Common.{inl, refl, sym, ap, subst, ◌∙◌, arith}
 use Rattle.std.proofs.lemmas.Bool.Decides.{nat_tests}
 use Rattle.go_rules.specs.declared.Illegal.{Illegal}
 use Rattle.go_rules.specs.declared.Move.{Move}
 use Rattle.go_rules.specs.Replay.{moved}
 use Rattle.go_history.specs.Games.{Game, most_moves}
+use Rattle.gtp_cmd.specs.declared.refusals.RefuseText.{RefuseText}
 use Rattle.gtp_cmd.specs.declared.refusals.RefuseText.TheVariants.{IllegalMove, HistoryFull}
 use Rattle.machine_rules.specs.Machine.{Machine, position_of}
-use Rattle.machine_rules.specs.Effects.{Refused, Grown}
+use Rattle.machine_rules.specs.Effects.{refused, grown}
 use Rattle.machine_rules.specs.BoardCommands.{played}
 use Rattle.engine.specs.CommandAnswers.{IsAnswer}
 use Rattle.engine.specs.declared.answer.Answer.{Answer}
@@ -43,59 +44,61 @@ module _ (game : Game) (kept : Machine) (m : Move) where
 
   -- the move is legal, and the list is not full
   played-legal : IsOk (moved (position_of old) m) → (length game.moves ≡ most_moves → ⊥) → played old m
-      ≡ Grown [] with_move
+      ≡ grown old [] with_move
   played-legal legal room =
-      ap (λ t. cond t (cond (eqb (length game.moves) most_moves) (Refused HistoryFull) (Grown [] with_move))
-      (Refused IllegalMove)) legal
-      ∙ ap (λ t. cond t (Refused HistoryFull) (Grown [] with_move)) (not_equal (length game.moves) most_moves room)
+      ap (λ t. cond t (cond (eqb (length game.moves) most_moves) (refused old HistoryFull) (grown old [] with_move))
+      (refused old IllegalMove)) legal
+      ∙ ap (λ t. cond t (refused old HistoryFull) (grown old [] with_move)) (not_equal (length game.moves) most_moves room)
 
   -- the move is legal, and the list is full
-  played-full : IsOk (moved (position_of old) m) → length game.moves ≡ most_moves → played old m ≡ Refused HistoryFull
+  played-full : IsOk (moved (position_of old) m) → length game.moves ≡ most_moves → played old m ≡ refused old HistoryFull
   played-full legal full =
-      ap (λ t. cond t (cond (eqb (length game.moves) most_moves) (Refused HistoryFull) (Grown [] with_move))
-      (Refused IllegalMove)) legal
-      ∙ ap (λ t. cond t (Refused HistoryFull) (Grown [] with_move)) (equal (length game.moves) most_moves full)
+      ap (λ t. cond t (cond (eqb (length game.moves) most_moves) (refused old HistoryFull) (grown old [] with_move))
+      (refused old IllegalMove)) legal
+      ∙ ap (λ t. cond t (refused old HistoryFull) (grown old [] with_move)) (equal (length game.moves) most_moves full)
 
   -- the move is illegal
-  played-illegal : (e : Illegal) → moved (position_of old) m ≡ Err e → played old m ≡ Refused IllegalMove
+  played-illegal : (e : Illegal) → moved (position_of old) m ≡ Err e → played old m ≡ refused old IllegalMove
   played-illegal e forbidden =
-      ap (λ r. cond (is_ok r) (cond (eqb (length game.moves) most_moves) (Refused HistoryFull) (Grown [] with_move))
-      (Refused IllegalMove)) forbidden
+      ap (λ r. cond (is_ok r) (cond (eqb (length game.moves) most_moves) (refused old HistoryFull) (grown old [] with_move))
+      (refused old IllegalMove)) forbidden
 
   -- the answer says what the game answered, and new is the game after it
   module _ (new : Game) (said : Answer) where
     -- the move was added
     pub move_added : new ≡ record { base = game.base; moves = game.moves ++ m ∷ [] } → IsOk
         (moved (position_of old) m) → length game.moves < most_moves
-        → said ≡ answer.Told [] → IsAnswer old (played old m) said (with_game new kept)
+        → said ≡ answer.Told [] → IsAnswer (played old m) said (with_game new kept)
     move_added added legal room says =
-        subst (λ effect. IsAnswer old effect said (with_game new kept)) (sym (played-legal legal (λ full. omega arith)))
-        (subst (λ a. IsAnswer old (Grown [] with_move) a (with_game new kept)) (sym says)
-        (refl, ap (λ g. with_game g kept) added))
+        subst (λ effect. IsAnswer effect said (with_game new kept)) (sym (played-legal legal (λ full. omega arith)))
+        (subst (λ a. IsAnswer (grown old [] with_move) a (with_game new kept)) (sym says)
+        (record { allowed = refl; told = refl; next = ap (λ g. with_game g kept) added; goes_on = refl }))
 
-    -- the move was refused as illegal
+    -- the move was refused with this text
+    refused_so : (text : RefuseText) → new ≡ game → played old m ≡ refused old text → said ≡ answer.Refused text
+        → IsAnswer (played old m) said (with_game new kept)
+    refused_so text same is says =
+        subst (λ effect. IsAnswer effect said (with_game new kept)) (sym is)
+        (subst (λ a. IsAnswer (refused old text) a (with_game new kept)) (sym says)
+        (inl (refl, ap (λ g. with_game g kept) same, refl)))
+
+    -- it was refused as illegal
     pub move_illegal : (e : Illegal) → new ≡ game → moved (position_of old) m ≡ Err e → said
-        ≡ answer.Refused IllegalMove
-        → IsAnswer old (played old m) said (with_game new kept)
-    move_illegal e same forbidden says =
-        subst (λ a. IsAnswer old (played old m) a (with_game new kept)) (sym says)
-        (played-illegal e forbidden, ap (λ g. with_game g kept) same)
+        ≡ answer.Refused IllegalMove → IsAnswer (played old m) said (with_game new kept)
+    move_illegal e same forbidden says = refused_so IllegalMove same (played-illegal e forbidden) says
 
-    -- the move was refused since the list is full
+    -- it was refused since the list is full
     pub move_past_full : new ≡ game → IsOk (moved (position_of old) m) → length game.moves ≡ most_moves → said
-        ≡ answer.Refused HistoryFull
-        → IsAnswer old (played old m) said (with_game new kept)
-    move_past_full same legal full says =
-        subst (λ a. IsAnswer old (played old m) a (with_game new kept)) (sym says)
-        (played-full legal full, ap (λ g. with_game g kept) same)
+        ≡ answer.Refused HistoryFull → IsAnswer (played old m) said (with_game new kept)
+    move_past_full same legal full says = refused_so HistoryFull same (played-full legal full) says
 
     -- there was no memory for the move
     pub move_without_memory : new ≡ game → ((e : Illegal) → moved (position_of old) m ≡ Err e → ⊥)
         → ((IsOk (moved (position_of old) m) × (length game.moves ≡ most_moves)) → ⊥) → said ≡ answer.NoMemory
-        → IsAnswer old (played old m) said (with_game new kept)
+        → IsAnswer (played old m) said (with_game new kept)
     move_without_memory same legal room says =
         let ok = ok_unless (moved (position_of old) m) legal in
-        subst (λ effect. IsAnswer old effect said (with_game new kept))
+        subst (λ effect. IsAnswer effect said (with_game new kept))
         (sym (played-legal ok (λ full. room (ok, full))))
-        (subst (λ a. IsAnswer old (Grown [] with_move) a (with_game new kept)) (sym says)
-        (tt, ap (λ g. with_game g kept) same))
+        (subst (λ a. IsAnswer (grown old [] with_move) a (with_game new kept)) (sym says)
+        (inl (refl, ap (λ g. with_game g kept) same)))

@@ -1,12 +1,14 @@
 -- What a session has read and counted after a line.
 use Rattle.machine_rules.specs.Questions.{Asks, Nothing, One, Many, asks_of_line}
-use Rattle.std.specs.Prelude.{◌≡◌, ℕ, ◌+◌, ◌-◌, ◌^◌, ◌≤◌, min, Option, Some, None}
+use Rattle.std.specs.Prelude.{◌≡◌, ℕ, ◌+◌, ◌-◌, ◌^◌, ◌≤◌, ◌++◌, min, Option, Some, None}
 use Rattle.std.specs.Option.{is_some}
 use Rattle.go_rules.specs.Position.{IsPosition}
 use Rattle.match_engine.specs.declared.keys.Key.{Key}
 use Rattle.match_engine.specs.Readings.{HasRead, AllRest}
-use Rattle.machine_rules.specs.Machine.{Machine, position_of}
-use Rattle.engine.specs.SessionState.{SessionState, machine_of}
+use Rattle.machine_rules.specs.Machine.{Machine}
+use Rattle.engine.specs.SessionState.{SessionState, board_of}
+use Rattle.engine.specs.Kept.{Kept, machine_of}
+use Rattle.machine_rules.specs.Loads.{missed_in}
 use Rattle.machine_rules.specs.Counting.{counted, is_read_line}
 use Rattle.machine_rules.specs.Turns.{Turn}
 use Rattle.read_rules.specs.declared.question.Answer.{Answer}
@@ -33,8 +35,8 @@ CountsRefused session = session.counts.refused ≡ session.readings.refused
 -- readings say so. The board is a position, and each kept answer rests on its facts.
 pub record ReadsOnce (key : Key) (old new : SessionState) : Type 0 where
   pub answer : Answer
-  pub read : HasRead key (position_of (machine_of old)) answer old.readings new.readings
-  pub board : IsPosition (position_of (machine_of old))
+  pub read : HasRead key (board_of old) answer old.readings new.readings
+  pub board : IsPosition (board_of old)
   pub rest : AllRest new.readings.kept
   pub refused_before : CountsRefused old
   pub refused : CountsRefused new
@@ -59,11 +61,13 @@ ReadsAs (One key) old new = ReadsOnce key old new
 ReadsAs Many old new = ReadsMany old new
 
 -- A session that keeps old keeps new after a line that came to its machine: the line is counted where it asks for a
--- reading and is answered with a code, and what it asks was read.
-pub record IsAfterLine (old : SessionState) (turn : Turn Machine) (new : SessionState) : Type 0 where
+-- reading and is answered with a code, what it asks was read, and the file that it could not load is told as missed.
+pub record IsAfterLine (old : Kept) (turn : Turn Machine) (new : Kept) : Type 0 where
   pub machine : turn.machine ≡ machine_of old
-  pub readings : new.counts.readings ≡ counted old.counts.readings (is_read_line turn.machine turn.line)
-  pub read : ReadsAs (asks_of_line turn.machine turn.line) old new
+  pub readings : new.engine.counts.readings
+      ≡ counted old.engine.counts.readings (is_read_line turn.machine turn.line)
+  pub read : ReadsAs (asks_of_line turn.machine turn.line) old.engine new.engine
+  pub missed : new.missed ≡ old.missed ++ missed_in turn
 
 -- no more readings were made afresh than were counted, which a u64 counts
 pub record HasFewFresh (counts : Counts) : Type 0 where

@@ -2,7 +2,7 @@ pub mod AfterLine
 pub mod AnsweredLines
 pub mod CommandAnswers
 pub mod Handed
-pub mod HelperCalls
+pub mod Kept
 pub mod Replies
 pub mod SessionState
 pub mod SessionSteps

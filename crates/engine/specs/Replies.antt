@@ -1,6 +1,5 @@
 -- What a session's reply is.
-use Rattle.std.specs.Prelude.{◌≡◌, ℕ, Bool, true, false, List, [], ◌∷◌}
-use Rattle.gtp_rules.specs.Steps.{Step}
+use Rattle.std.specs.Prelude.{ℕ, Bool, false, List, [], ◌∷◌}
 use Rattle.gtp_cmd.specs.Replies.{refusal_text}
 use Rattle.gtp_cmd.specs.declared.refusals.RefuseText.TheVariants.{OutOfMemory}
 use Rattle.engine.specs.declared.reply.Reply.{Reply}
@@ -19,22 +18,6 @@ reply_ends reply.Nothing = false
 reply_ends (reply.Short text quit) = quit
 reply_ends (reply.Text bytes) = false
 reply_ends (reply.NoMemory id) = false
-
--- The reply is what the step gave, and the machine is new after it; want of memory stands only in place of a growing
--- reply, and then the machine is as before. The reply has bytes.
-abbrev pub IsReply : {M : Type 0} → M → Step M → Reply → M → Type 0
-IsReply old given reply.Nothing new = ⊥
-IsReply old given (reply.Short text quit) new = (text ≡ given.reply) × (quit ≡ given.ends) × (new ≡ given.next)
-IsReply old given (reply.Text bytes) new = (bytes ≡ given.reply) × (false ≡ given.ends) × (new ≡ given.next)
-IsReply old given (reply.NoMemory id) new = (given.grows ≡ true)
-    × (refusal_text id OutOfMemory ≡ given.out_of_memory) × (new ≡ old)
-
--- the reply to a line, which is none where the step gave no reply
-abbrev pub IsReplyTo : {M : Type 0} → M → Step M → Reply → M → Type 0
-IsReplyTo old given reply.Nothing new = ([] ≡ given.reply) × (false ≡ given.ends) × (new ≡ given.next)
-IsReplyTo old given (reply.Short text quit) new = IsReply old given (reply.Short text quit) new
-IsReplyTo old given (reply.Text bytes) new = IsReply old given (reply.Text bytes) new
-IsReplyTo old given (reply.NoMemory id) new = IsReply old given (reply.NoMemory id) new
 
 -- 1 for a reply that has bytes
 abbrev pub reply_count : List ℕ → ℕ

@@ -2,13 +2,13 @@
 use Rattle.std.specs.Prelude.{ℕ, ◌<◌, List, [], length, codes, Contains}
 use Rattle.go_rules.specs.declared.Move.{Move}
 use Rattle.go_rules.specs.Position.{BoardState}
-use Rattle.go_rules.specs.Replay.{empty_board}
+use Rattle.go_rules.specs.Replay.{empty_board, replay_from}
 use Rattle.pat_types.specs.declared.pattern.Pattern.{Pattern}
 use Rattle.dfa_core.specs.Automata.{Row, accepted}
 use Rattle.dfa_core.specs.Words.{Word}
-use Rattle.match_rules.specs.Conditions.{Advice}
 use Rattle.run_notes.specs.declared.notes.Counts.{Counts}
 use Rattle.match_engine.specs.Readings.{ReadingsView, first_readings}
+use Rattle.helpers.specs.Asking.{SlotState}
 use Rattle.machine_rules.specs.Machine.{Machine, first_size}
 use Rattle.machine_rules.specs.Matcher.{Matcher, automaton_matcher}
 
@@ -25,19 +25,28 @@ pub record SessionState : Type 0 where
   pub counts : Counts
   pub readings : ReadingsView
 
--- the machine that a session is
-abbrev pub machine_of : SessionState → Machine
-machine_of kept = record {
+-- the machine that a session with these helpers is
+abbrev pub machine_with : List SlotState → SessionState → Machine
+machine_with helpers kept = record {
   base = kept.base;
   moves = kept.moves;
   komi = kept.komi;
   plies = kept.plies;
   wide = kept.wide;
+  helpers = helpers;
 }
 
--- how matches are found: by the automaton, and by what helpers say
-abbrev pub matcher_with : Advice → SessionState → Matcher
-matcher_with advice kept = automaton_matcher advice kept.patterns kept.automaton
+-- the machine, of whose helpers nothing is said
+abbrev pub machine_alone : SessionState → Machine
+machine_alone kept = machine_with [] kept
+
+-- the position of the game
+abbrev pub board_of : SessionState → BoardState
+board_of kept = replay_from kept.base kept.moves
+
+-- how matches are found: by the automaton
+abbrev pub matcher_of : SessionState → Matcher
+matcher_of kept = automaton_matcher kept.patterns kept.automaton
 
 -- nothing was counted
 abbrev pub no_counts : Counts

@@ -1,19 +1,25 @@
--- How a session finds matches and answers lines, by what it keeps and by its helpers.
+-- What a session keeps with its helpers, and how it answers lines.
+use Rattle.std.specs.Prelude.{ℕ, List}
 use Rattle.gtp_rules.specs.Lines.{RawLine}
 use Rattle.gtp_rules.specs.Steps.{Step}
-use Rattle.helpers.specs.Asking.{HelperState, says_yes}
+use Rattle.helpers.specs.Asking.{HelperState}
 use Rattle.helpers.specs.Slots.{states_of}
 use Rattle.machine_rules.specs.Machine.{Machine}
-use Rattle.machine_rules.specs.Matcher.{Matcher}
+use Rattle.machine_rules.specs.Files.{Contents}
 use Rattle.machine_rules.specs.Step.{step}
-use Rattle.engine.specs.SessionState.{matcher_with}
+use Rattle.engine.specs.SessionState.{machine_with, matcher_of}
+use Rattle.engine.specs.Kept.{Kept}
 use Rattle.engine.specs.declared.session.Session.{Session}
 
--- how a session finds matches: by its automaton and its helpers
-abbrev pub matcher_of : {V : Type 0} {F : V → Type 0} → ((i : V) × F i → HelperState) → Session V F → Matcher
-matcher_of state session = matcher_with (says_yes (states_of state session.helpers)) session.engine
+-- all that a line may change, where these names were missed
+abbrev pub kept_of : {V : Type 0} {F : V → Type 0} → ((i : V) × F i → HelperState) → Session V F → List (List ℕ) → Kept
+kept_of state session missed =
+    record { engine = session.engine; helpers = states_of state session.helpers; missed = missed }
 
--- the step by which a session answers a line
-abbrev pub step_of : {V : Type 0} {F : V → Type 0} → ((i : V) × F i → HelperState) → Session V F → Machine → RawLine
-    → Step Machine
-step_of state session machine line = step (matcher_of state session) machine line
+-- the machine that a session is
+abbrev pub machine_now : {V : Type 0} {F : V → Type 0} → ((i : V) × F i → HelperState) → Session V F → Machine
+machine_now state session = machine_with (states_of state session.helpers) session.engine
+
+-- the step by which a session answers a line, where files have these contents
+abbrev pub step_of : {V : Type 0} {F : V → Type 0} → Session V F → Contents → Machine → RawLine → Step Machine → Type 0
+step_of session contents machine line given = step (matcher_of session.engine) contents machine line given

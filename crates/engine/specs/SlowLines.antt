@@ -1,11 +1,11 @@
--- What a line says to a machine, and what one says that may take long.
+-- What one says that may take long.
 use Rattle.std.specs.Prelude.{◌≡◌}
 use Rattle.gtp_cmd.specs.Within.{SaysWithin}
 use Rattle.gtp_cmd.specs.declared.commands.Command.{Command}
 use Rattle.gtp_cmd.specs.declared.commands.Command.TheVariants as command
 use Rattle.gtp_cmd.specs.declared.commands.Parsed.{Parsed}
 use Rattle.gtp_cmd.specs.declared.commands.Parsed.TheVariants as parsed
-use Rattle.engine.specs.SessionState.{SessionState}
+use Rattle.engine.specs.Kept.{Kept, machine_of}
 use Rattle.engine.specs.declared.slow.Slow.{Slow}
 use Rattle.engine.specs.declared.slow.Work.{Work}
 use Rattle.engine.specs.declared.slow.Work.TheVariants as work
@@ -21,7 +21,7 @@ abbrev pub said_by : Slow → Parsed
 said_by slow = parsed.Command slow.id (command_of slow.work)
 
 -- A line was left for later: nothing was done, and this is what it says.
-pub record IsLeft (old : SessionState) (said : Parsed) (slow : Slow) (new : SessionState) : Type 0 where
+pub record IsLeft (old : Kept) (said : Parsed) (slow : Slow) (new : Kept) : Type 0 where
   pub same : new ≡ old
   pub says : said ≡ said_by slow
-  pub within : SaysWithin new.base.size (said_by slow)
+  pub within : SaysWithin new.engine.base.size (said_by slow)

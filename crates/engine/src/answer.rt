@@ -1,12 +1,12 @@
 //! What a session answers to a command, before the id of its line is known.
-ghost use Rattle.std.specs.Prelude.{◌≡◌, ◌≤◌, true, List, ℕ, length, decimal, is_err, IfOk};
+ghost use Rattle.std.specs.Prelude.{◌≡◌, ◌≤◌, List, ℕ, length, decimal, IfOk};
 ghost use Rattle.gtp_cmd.specs.Rooms.{result_room};
 ghost use Rattle.machine_rules.specs.Machine.{Machine};
-ghost use Rattle.machine_rules.specs.Effects.{Effect, Grown, replied};
-ghost use Rattle.engine.specs.CommandAnswers.{IsAnswer, lacks_memory};
-ghost use Rattle.engine.specs.HelperCalls as calls;
-ghost use Rattle.engine.specs.Replies.{IsReply, reply_bytes};
-ghost use Rattle.engine.specs.Replies.{reply_count};
+ghost use Rattle.gtp_rules.specs.Transcript.{MayGive};
+ghost use Rattle.gtp_cmd.specs.declared.refusals.RefuseText.TheVariants.{OutOfMemory};
+ghost use Rattle.machine_rules.specs.Effects.{Effect, IsExcused, grown, replied};
+ghost use Rattle.engine.specs.CommandAnswers.{Succeeds, IsAnswer};
+ghost use Rattle.engine.specs.Replies.{reply_bytes, reply_ends, reply_count};
 
 use crate::reply::Reply;
 use go_base::{Bytes, NoMemory};
@@ -73,11 +73,11 @@ impl Brief {
 pub(crate) enum Answer {
     /// A success with a short result.
     Told(Brief),
-    /// A success that keeps the machine, with a result that took memory.
+    /// A success with a result that took memory, in a growing reply.
     Grown(Bytes),
-    /// There was no memory for a growing success, and the machine is kept.
+    /// There was no memory for a growing reply.
     NoMemory,
-    /// A refusal, which keeps the machine.
+    /// A refusal.
     Refused(RefuseText),
     /// The success that ends the session.
     Ended,
@@ -108,9 +108,11 @@ pub(crate) fn told_number(n: u32) -> Answer
 
 /// A success with a result that took memory, where it was found.
 pub(crate) fn grown(text: Result<Bytes, NoMemory>) -> Answer
-    ensures answer { (old : Machine) (told : List ℕ) → IfOk text (λ bytes. bytes ≡ told) → IsAnswer old
-        (Grown told old) result old }
-    ensures memory { lacks_memory result ≡ is_err text }
+    ensures answer { (old : Machine) (told : List ℕ) → IfOk text (λ bytes. bytes ≡ told)
+        → IsAnswer (grown old told old) result old }
+    // The same where the machine changes, whether there is memory or not.
+    ensures changes { (effect : Effect) (new : Machine) → IfOk text (λ bytes. Succeeds effect bytes new)
+        → IsExcused effect.excuses OutOfMemory new → IsAnswer effect result new }
 {
     match text {
         Ok(text) => Answer::Grown(text),
@@ -121,10 +123,9 @@ pub(crate) fn grown(text: Result<Bytes, NoMemory>) -> Answer
 impl Answer {
     /// The reply that this answer is behind an id. Takes memory for a result that did.
     pub(crate) fn reply(self, alloc: Global, id: Option<u32>) -> Reply
-        ensures reply { (old new : Machine) (effect : Effect) → IsAnswer old effect self new
-            → IsReply old (replied old id effect) result new }
+        ensures reply { (effect : Effect) (new : Machine) → IsAnswer effect self new
+            → MayGive (replied id effect) (reply_bytes result) new (reply_ends result) }
         ensures bytes { reply_count (reply_bytes result) ≡ 1 }
-        ensures memory { lacks_memory self ≡ true → calls.lacks_memory result ≡ true }
     {
         match self {
             Answer::Told(text) => Reply::Short {

@@ -1,26 +1,24 @@
 //! What a session keeps beside its helpers: the plain machine, its patterns and its counts; and its answer to each
 //! line.
-ghost use Rattle.std.specs.Prelude.{◌≡◌, ◌≤◌, length, IfOk, IfErr, OnOk, OnErr};
+ghost use Rattle.std.specs.Prelude.{◌≡◌, ◌≤◌, ℕ, List, None, length, IfOk, IfErr, OnOk, OnErr};
 ghost use Rattle.gtp_lex.specs.Raw.{raw_line};
 ghost use Rattle.go_options.specs.Found.{AreInRange};
 ghost use Rattle.go_strings.specs.Games.{reached};
 ghost use Rattle.gtp_cmd.specs.Within.{IsWithin, SaysWithin};
-ghost use Rattle.machine_rules.specs.Machine.{position_of};
-ghost use Rattle.match_rules.specs.Conditions.{Advice};
-ghost use Rattle.helpers.specs.Asking.{says_yes};
+ghost use Rattle.helpers.specs.Asking.{SlotState};
 ghost use Rattle.helpers.specs.Slots.{states_of};
-ghost use Rattle.engine.specs.Handed.{without_calls};
-ghost use Rattle.engine.specs.HelperCalls.{AsksHelpers, lacks_memory};
-ghost use Rattle.machine_rules.specs.Step.{heard};
-ghost use Rattle.engine.specs.SlowLines.{command_of, said_by, IsLeft};
-ghost use Rattle.engine.specs.AnsweredLines.{AnswersParsed};
-ghost use Rattle.engine.specs.SessionState.{machine_of, matcher_with, first_kept, NumbersPatterns};
-ghost use Rattle.machine_rules.specs.Step.{effect_of, word_of};
-ghost use Rattle.engine.specs.CommandAnswers.{IsAnswer};
-ghost use Rattle.engine.specs.CommandAnswers as answers;
 ghost use Rattle.machine_rules.specs.Counting.{counted, is_read};
-ghost use Rattle.engine.specs.AfterLine.{ReadsAs};
+ghost use Rattle.machine_rules.specs.Heard.{heard};
+ghost use Rattle.machine_rules.specs.Loads.{load_of, parsed_load, IsFileOf};
 ghost use Rattle.machine_rules.specs.Questions.{asks_of};
+ghost use Rattle.machine_rules.specs.Step.{effect_of, word_of};
+ghost use Rattle.engine.specs.AfterLine.{ReadsAs};
+ghost use Rattle.engine.specs.AnsweredLines.{AnswersParsed};
+ghost use Rattle.engine.specs.CommandAnswers.{IsAnswer};
+ghost use Rattle.engine.specs.Kept.{kept_with};
+ghost use Rattle.engine.specs.SessionState.{board_of, machine_with, machine_alone, matcher_of, first_kept};
+ghost use Rattle.engine.specs.SessionState.{NumbersPatterns};
+ghost use Rattle.engine.specs.SlowLines.{command_of, said_by, IsLeft};
 
 mod board_commands;
 mod matching_commands;
@@ -36,6 +34,7 @@ use go_history::{History, Move};
 use go_options::Options;
 use go_strings::StringBoard;
 use gtp_cmd::{Command, KomiText, Parsed, RefuseText, names_text, parse};
+use gtp_io::Loader;
 use gtp_lex::Raw;
 use helpers::Helpers;
 use match_engine::Readings;
@@ -163,7 +162,7 @@ impl Engine {
 
     /// What a line says: one that is too long is refused.
     pub(crate) fn heard(&self, raw: Raw<'_>) -> Parsed
-        ensures said { result ≡ heard (machine_of self.now) (raw_line raw.entry) }
+        ensures said { (helpers : List SlotState) → result ≡ heard (machine_with helpers self.now) (raw_line raw.entry) }
         ensures within { SaysWithin self.now.base.size result }
     {
         match raw {
@@ -181,27 +180,44 @@ impl Engine {
     /// Answers what a line says, by the step of the machine that this is, unless it may take long. Then nothing is done.
     ///
     /// NoMemory comes only in place of a growing reply. It leaves the machine as it was.
-    pub(crate) fn try_answer(&mut self, said: Parsed) -> Result<Reply, Slow>
+    pub(crate) fn try_answer(
+        &mut self,
+        helpers: &mut Helpers,
+        line: &[u8],
+        said: Parsed,
+    ) -> Result<Reply, Slow>
         requires { SaysWithin self.old.base.size said }
-        ensures answers { (advice : Advice) → IfOk result
-            (λ reply. AnswersParsed (matcher_with advice self.old) self.old said reply self.new) }
-        ensures left { IfErr result (λ slow. IsLeft self.old said slow self.new) }
+        ensures answers { (missed : List (List ℕ)) (file : List ℕ) → IfOk result (λ reply. AnswersParsed
+            (kept_with (states_of state helpers.old) missed self.old) (record { line = line.now; file = file }) said
+            reply (kept_with (states_of state helpers.new) missed self.new)) }
+        ensures left { (missed : List (List ℕ)) → IfErr result (λ slow. IsLeft
+            (kept_with (states_of state helpers.old) missed self.old) said slow
+            (kept_with (states_of state helpers.new) missed self.new)) }
     {
         match said {
             Parsed::Nothing => Ok(Reply::Nothing),
             Parsed::Refused { id, text } => Ok(Reply::refused(id, text)),
-            Parsed::Command { id, command } => self.try_command(id, command),
+            Parsed::Command { id, command } => self.try_command(helpers, line, id, command),
         }
     }
 
     /// Answers a command behind an id, unless it may take long. Then nothing is done.
-    fn try_command(&mut self, id: Option<u32>, command: Command) -> Result<Reply, Slow>
+    fn try_command(
+        &mut self,
+        helpers: &mut Helpers,
+        line: &[u8],
+        id: Option<u32>,
+        command: Command,
+    ) -> Result<Reply, Slow>
         requires { IsWithin self.old.base.size command }
-        ensures answers { (advice : Advice) → IfOk result (λ reply. AnswersParsed (matcher_with advice self.old)
-            self.old (Parsed.Command id command) reply self.new) }
-        ensures left { IfErr result (λ slow. IsLeft self.old (Parsed.Command id command) slow self.new) }
+        ensures answers { (missed : List (List ℕ)) (file : List ℕ) → IfOk result (λ reply. AnswersParsed
+            (kept_with (states_of state helpers.old) missed self.old) (record { line = line.now; file = file })
+            (Parsed.Command id command) reply (kept_with (states_of state helpers.new) missed self.new)) }
+        ensures left { (missed : List (List ℕ)) → IfErr result (λ slow. IsLeft
+            (kept_with (states_of state helpers.old) missed self.old) (Parsed.Command id command) slow
+            (kept_with (states_of state helpers.new) missed self.new)) }
     {
-        let answer = match self.obey(command) {
+        let answer = match self.obey(helpers, line, command) {
             Ok(answer) => answer,
             Err(work) => return Err(Slow { id, work }),
         };
@@ -212,32 +228,45 @@ impl Engine {
     /// takes those by its automaton and what the helpers say. With the automaton of the patterns it is the plain
     /// machine.
     ///
-    /// NoMemory comes only in place of a growing reply. It leaves the machine as it was.
-    pub(crate) fn finish(&mut self, helpers: &mut Helpers, slow: Slow) -> Reply
+    /// NoMemory comes only in place of a growing reply. It leaves the machine as it was, but for the calls of helpers.
+    pub(crate) fn finish<L: Loader>(
+        &mut self,
+        helpers: &mut Helpers,
+        slow: Slow,
+        line: &[u8],
+        files: &mut L,
+    ) -> Reply
         requires { SaysWithin self.old.base.size (said_by slow) }
-        ensures answers { AnswersParsed (matcher_with (says_yes (states_of state helpers.old)) self.old) self.old
-            (said_by slow) result self.new }
-        ensures helpers { without_calls (states_of state helpers.new) ≡ without_calls (states_of state helpers.old) }
-        ensures calls { AsksHelpers self.old slow.work (lacks_memory result) (states_of state helpers.old)
-            (states_of state helpers.new) }
+        ensures answers { (file : List ℕ)
+            × IsFileOf (L.contents files.old) (parsed_load line.now (said_by slow)) file
+            × AnswersParsed (kept_with (states_of state helpers.old) (L.missed files.old) self.old)
+            (record { line = line.now; file = file }) (said_by slow) result
+            (kept_with (states_of state helpers.new) (L.missed files.new) self.new) }
+        ensures same { L.contents files.new ≡ L.contents files.old }
     {
-        self.work_on(helpers, slow.work).reply(self.alloc, slow.id)
+        self.work_on(helpers, slow.work, line, files).reply(self.alloc, slow.id)
     }
 
     /// Does what may take long.
-    fn work_on(&mut self, helpers: &mut Helpers, work: Work) -> Answer
+    fn work_on<L: Loader>(
+        &mut self,
+        helpers: &mut Helpers,
+        work: Work,
+        line: &[u8],
+        files: &mut L,
+    ) -> Answer
         requires { IsWithin self.old.base.size (command_of work) }
-        ensures answer { IsAnswer (machine_of self.old)
-            (effect_of (matcher_with (says_yes (states_of state helpers.old)) self.old) (machine_of self.old)
-            (command_of work)) result (machine_of self.new) }
+        ensures answer { (file : List ℕ) × IsFileOf (L.contents files.old) (load_of line.now None (command_of work)) file
+            × IsAnswer (effect_of (matcher_of self.old) (machine_with (states_of state helpers.old) self.old)
+            (record { line = line.now; file = file }) (command_of work)) result
+            (machine_with (states_of state helpers.new) self.new) }
+        ensures missed { L.missed files.new ≡ L.missed files.old }
+        ensures same { L.contents files.new ≡ L.contents files.old }
         ensures patterns { self.new.patterns ≡ self.old.patterns }
         ensures automaton { self.new.automaton ≡ self.old.automaton }
         ensures readings { self.new.counts.readings ≡ counted self.old.counts.readings
-            (is_read (machine_of self.old) (command_of work)) }
-        ensures read { ReadsAs (asks_of (machine_of self.old) (command_of work)) self.old self.new }
-        ensures helpers { without_calls (states_of state helpers.new) ≡ without_calls (states_of state helpers.old) }
-        ensures calls { AsksHelpers self.old work (answers.lacks_memory result) (states_of state helpers.old)
-            (states_of state helpers.new) }
+            (is_read (machine_alone self.old) (command_of work)) }
+        ensures read { ReadsAs (asks_of (machine_alone self.old) (command_of work)) self.old self.new }
     {
         match work {
             Work::Attack(p) => self.read(Kind::Attack, p),
@@ -247,17 +276,25 @@ impl Engine {
     }
 
     /// Does what a command says, unless it may take long. Then nothing is done.
-    fn obey(&mut self, command: Command) -> Result<Answer, Work>
+    fn obey(
+        &mut self,
+        helpers: &mut Helpers,
+        line: &[u8],
+        command: Command,
+    ) -> Result<Answer, Work>
         requires { IsWithin self.old.base.size command }
-        ensures answer { (advice : Advice) → IfOk result (λ answer. IsAnswer (machine_of self.old)
-            (effect_of (matcher_with advice self.old) (machine_of self.old) command) answer (machine_of self.new)) }
+        ensures answer { (file : List ℕ) → IfOk result (λ answer. IsAnswer
+            (effect_of (matcher_of self.old) (machine_with (states_of state helpers.old) self.old)
+            (record { line = line.now; file = file }) command) answer
+            (machine_with (states_of state helpers.new) self.new)) }
         ensures patterns { OnOk result (self.new.patterns ≡ self.old.patterns) }
         ensures automaton { OnOk result (self.new.automaton ≡ self.old.automaton) }
         ensures readings { OnOk result (self.new.counts.readings ≡ counted self.old.counts.readings
-            (is_read (machine_of self.old) command)) }
-        ensures read { OnOk result (ReadsAs (asks_of (machine_of self.old) command) self.old self.new) }
+            (is_read (machine_alone self.old) command)) }
+        ensures read { OnOk result (ReadsAs (asks_of (machine_alone self.old) command) self.old self.new) }
         ensures slow { IfErr result (λ work. command ≡ command_of work) }
         ensures same { OnErr result (self.new ≡ self.old) }
+        ensures helpers { OnErr result (helpers.new ≡ helpers.old) }
     {
         match command {
             Command::ProtocolVersion => Ok(told(b"2")),
@@ -288,16 +325,16 @@ impl Engine {
 
     /// The position after the moves.
     fn position(&self) -> Position
-        ensures value { result ≡ position_of (machine_of self.now) }
-        ensures size { (position_of (machine_of self.now)).size ≡ self.now.base.size }
+        ensures value { result ≡ board_of self.now }
+        ensures size { (board_of self.now).size ≡ self.now.base.size }
     {
         self.history.position()
     }
 
     /// The board after the moves, which tells strings, liberties and legal points without a search.
     fn board(&self) -> &StringBoard
-        ensures value { reached result.now ≡ position_of (machine_of self.now) }
-        ensures size { (position_of (machine_of self.now)).size ≡ self.now.base.size }
+        ensures value { reached result.now ≡ board_of self.now }
+        ensures size { (board_of self.now).size ≡ self.now.base.size }
     {
         self.history.board()
     }

@@ -6,7 +6,6 @@ ghost use Rattle.match_engine.specs.AutomatonMatches.{automaton_matches};
 ghost use Rattle.match_engine.specs.HelperCalls.{after_matches};
 ghost use Rattle.match_rules.specs.Conditions.{all_yes};
 ghost use Rattle.match_engine.specs.Readings.{codes_of};
-ghost use Rattle.engine.specs.Handed.{without_calls};
 ghost use Rattle.engine.specs.SessionState.{NumbersPatterns};
 ghost use Rattle.machine_rules.specs.MatchTexts.{name_of, match_text, matches_text, AreAmong, SameDepths};
 ghost use Rattle.machine_rules.specs.PatternTexts.{feed_after};
@@ -89,7 +88,6 @@ pub(crate) fn matches_text(
     ensures depths { SameDepths readings.old readings.new }
     ensures refused { readings.old.refused ≤ readings.new.refused }
     ensures capacity { readings.new.kept.1 ≡ readings.old.kept.1 }
-    ensures helpers { without_calls (states_of state helpers.new) ≡ without_calls (states_of state helpers.old) }
     ensures calls { (states_of state helpers.new ≡ after_matches (states_of state helpers.old) patterns.now
         (automaton_matches (codes_of readings.old) all_yes scanner.now patterns.now position.now friend) position.now
         friend)

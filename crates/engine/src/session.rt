@@ -1,17 +1,14 @@
 //! A session of the protocol: what it keeps, and the helpers that its patterns ask.
-ghost use Rattle.std.specs.Prelude.{⊤, ◌≡◌, IfOk, IfErr};
-ghost use Rattle.gtp_rules.specs.Lines.{RawLine};
+ghost use Rattle.std.specs.Prelude.{⊤, ◌≡◌, ℕ, List, IfOk, IfErr};
 ghost use Rattle.gtp_lex.specs.Raw.{raw_line};
 ghost use Rattle.gtp_cmd.specs.Within.{SaysWithin};
 ghost use Rattle.go_options.specs.Found.{AreInRange};
-ghost use Rattle.helpers.specs.Slots.{states_of};
-ghost use Rattle.engine.specs.Handed.{without_calls};
-ghost use Rattle.engine.specs.HelperCalls.{AsksHelpers, lacks_memory};
-ghost use Rattle.machine_rules.specs.Step.{heard};
+ghost use Rattle.machine_rules.specs.Files.{Contents};
+ghost use Rattle.machine_rules.specs.Heard.{heard, bytes_in};
 ghost use Rattle.engine.specs.SlowLines.{said_by, IsLeft};
 ghost use Rattle.engine.specs.AnsweredLines.{AnswersLine};
-ghost use Rattle.engine.specs.SessionState.{machine_of, first_kept, NumbersPatterns};
-ghost use Rattle.engine.specs.SessionSteps.{matcher_of};
+ghost use Rattle.engine.specs.SessionState.{first_kept, matcher_of, NumbersPatterns};
+ghost use Rattle.engine.specs.SessionSteps.{machine_now, kept_of};
 
 use crate::engine::Engine;
 use crate::reply::Reply;
@@ -19,11 +16,22 @@ use crate::slow::Slow;
 use dfa_core::Automaton;
 use go_base::NoMemory;
 use go_options::Options;
+use gtp_io::Loader;
 use gtp_lex::Raw;
 use helpers::Helpers;
 use pat_types::Pattern;
 use run_notes::Counts;
 use std::alloc::Global;
+
+/// The bytes of a line; of one that is too long none count.
+fn bytes_of(raw: Raw<'_>) -> &[u8]
+    ensures { result.now ≡ bytes_in (raw_line raw.entry) }
+{
+    match raw {
+        Raw::Line(text) => text,
+        Raw::TooLong => b"",
+    }
+}
 
 /// A session of the protocol.
 #[derive(Drop)]
@@ -71,55 +79,49 @@ impl Session {
     /// empty condition says that the call makes no helper of its own.
     pub fn try_line(&mut self, raw: Raw<'_>) -> Result<Reply, Slow>
         requires own { ⊤ }
-        ensures answers { IfOk result (λ reply. AnswersLine (matcher_of state self.old) self.old.engine
-            (raw_line raw.entry) reply self.new.engine) }
-        ensures left { IfErr result (λ slow. IsLeft self.old.engine
-            (heard (machine_of self.old.engine) (raw_line raw.entry)) slow self.new.engine) }
-
-        // No helper is asked.
-        ensures helpers { self.new.helpers ≡ self.old.helpers }
-        ensures matcher { matcher_of state self.new ≡ matcher_of state self.old }
+        // No file is loaded: whatever files hold, and whichever were missed, this answers the line.
+        ensures answers { (contents : Contents) (missed : List (List ℕ)) → IfOk result (λ reply. AnswersLine contents
+            (kept_of state self.old missed) (raw_line raw.entry) reply (kept_of state self.new missed)) }
+        ensures left { (missed : List (List ℕ)) → IfErr result (λ slow. IsLeft (kept_of state self.old missed)
+            (heard (machine_now state self.old) (raw_line raw.entry)) slow
+            (kept_of state self.new missed)) }
+        ensures matcher { matcher_of self.new.engine ≡ matcher_of self.old.engine }
     {
         let said = self.engine.heard(raw);
-        self.engine.try_answer(said)
+        self.engine.try_answer(&mut self.helpers, bytes_of(raw), said)
     }
 
-    /// Answers a line that may take long, by the step of the machine that the session is: for the matches of its
-    /// patterns this takes those by its automaton, to which its helpers say yes. With the automaton of the patterns it
-    /// is the plain machine.
+    /// Answers a line that was left, which may take long, by the step of the machine that the session is: for the
+    /// matches of its patterns this takes those by its automaton, to which its helpers say yes. With the automaton of
+    /// the patterns it is the plain machine.
     ///
-    /// NoMemory comes only in place of a growing reply, and leaves the machine as it was. The empty condition says that
-    /// the call makes no helper of its own.
-    pub fn finish(&mut self, slow: Slow) -> Reply
+    /// NoMemory comes only in place of a growing reply, and leaves the machine as it was, but for the calls of helpers.
+    /// The empty condition says that the call makes no helper of its own.
+    pub fn finish<L: Loader>(&mut self, slow: Slow, raw: Raw<'_>, files: &mut L) -> Reply
         requires own { ⊤ }
         requires within { SaysWithin self.old.engine.base.size (said_by slow) }
-        // It answers each line that says this.
-        ensures answers { (line : RawLine) → heard (machine_of self.old.engine) line ≡ said_by slow
-            → AnswersLine (matcher_of state self.old) self.old.engine line result self.new.engine }
-
-        // The helpers keep their number, their order, their names and meanings, and stay on or off. Their calls alone
-        // rise, and these as the rule of asking says: for a list of matches.
-        ensures helpers { without_calls (states_of state self.new.helpers)
-            ≡ without_calls (states_of state self.old.helpers) }
-        ensures calls { AsksHelpers self.old.engine slow.work (lacks_memory result)
-            (states_of state self.old.helpers) (states_of state self.new.helpers) }
-        ensures matcher { matcher_of state self.new ≡ matcher_of state self.old }
+        requires says { heard (machine_now state self.old) (raw_line raw.entry)
+            ≡ said_by slow }
+        ensures answers { AnswersLine (L.contents files.old) (kept_of state self.old (L.missed files.old))
+            (raw_line raw.entry) result (kept_of state self.new (L.missed files.new)) }
+        ensures same { L.contents files.new ≡ L.contents files.old }
+        ensures matcher { matcher_of self.new.engine ≡ matcher_of self.old.engine }
     {
-        self.engine.finish(&mut self.helpers, slow)
+        self.engine.finish(&mut self.helpers, slow, bytes_of(raw), files)
     }
 
-    /// Answers one line, however long it takes: as `try_line` and, where that leaves it, `finish`.
-    pub fn line(&mut self, raw: Raw<'_>) -> Reply
+    /// Answers one line, however long it takes: as `try_line` and, where that leaves it, `finish`. A file that it names
+    /// is loaded from `files`.
+    pub fn line<L: Loader>(&mut self, raw: Raw<'_>, files: &mut L) -> Reply
         requires { ⊤ }
-        ensures answers { AnswersLine (matcher_of state self.old) self.old.engine (raw_line raw.entry) result
-            self.new.engine }
-        ensures helpers { without_calls (states_of state self.new.helpers)
-            ≡ without_calls (states_of state self.old.helpers) }
-        ensures matcher { matcher_of state self.new ≡ matcher_of state self.old }
+        ensures answers { AnswersLine (L.contents files.old) (kept_of state self.old (L.missed files.old))
+            (raw_line raw.entry) result (kept_of state self.new (L.missed files.new)) }
+        ensures same { L.contents files.new ≡ L.contents files.old }
+        ensures matcher { matcher_of self.new.engine ≡ matcher_of self.old.engine }
     {
         match self.try_line(raw) {
             Ok(reply) => reply,
-            Err(slow) => self.finish(slow),
+            Err(slow) => self.finish(slow, raw, files),
         }
     }
 }

@@ -3,9 +3,9 @@ use Rattle.std.proofs.Common.{◌≡◌, ℕ, ◌<◌, Bool, true, false, List, 
 use Rattle.std.proofs.Common.{◌∙◌, append_assoc, append-nil, inl, arith, length-append}
 use Rattle.gtp_rules.specs.Lines.{RawLine}
 use Rattle.gtp_rules.specs.Steps.{Step}
-use Rattle.gtp_rules.specs.Transcript.{Answers, IsRun, IsTranscript, Cut}
+use Rattle.gtp_rules.specs.Transcript.{Answers, IsTotal, IsRun, IsTranscript, Cut}
 
-module _ (M : Type 0) (step : M → RawLine → Step M) where
+module _ (M : Type 0) (step : M → RawLine → Step M → Type 0) where
   -- no lines are answered by nothing
   pub IsRun-nil : (m : M) → IsRun step m [] [] m false
   IsRun-nil m = (refl, refl, refl)
@@ -83,41 +83,42 @@ module _ (M : Type 0) (step : M → RawLine → Step M) where
   }
 
   -- where the lines behind a line have a transcript, those with it have one
-  total-step : (old : M) (line : RawLine) (lines : List RawLine) (ends : Bool) → (step old line).ends ≡ ends
-      → (out : List ℕ) × IsTranscript step (step old line).next lines out
+  total-step : (old : M) (line : RawLine) (lines : List RawLine) (given : Step M) → step old line given
+      → (ends : Bool) → given.ends ≡ ends → (out : List ℕ) × IsTranscript step given.next lines out
       → (out : List ℕ) × IsTranscript step old (line ∷ lines) out
-  total-step old line lines true e rest = (
-    (step old line).reply,
+  total-step old line lines given gives true e rest = (
+    given.reply,
     (
-      (step old line).next,
+      given.next,
       true,
       (
-        (step old line).reply,
+        given.reply,
         [],
-        (step old line).next,
+        given.next,
         true,
-        inl (refl, refl, sym e),
-        sym (append-nil (step old line).reply),
+        (given, gives, inl (refl, refl, sym e)),
+        sym (append-nil given.reply),
         (refl, refl, refl),
       ),
     ),
   )
-  total-step old line lines false e (out, (last, ended, run)) = (
-    (step old line).reply ++ out,
-    (last, ended, ((step old line).reply, out, (step old line).next, false, inl (refl, refl, sym e), refl, run)),
+  total-step old line lines given gives false e (out, (last, ended, run)) = (
+    given.reply ++ out,
+    (last, ended, (given.reply, out, given.next, false, (given, gives, inl (refl, refl, sym e)), refl, run)),
   )
 
-  -- each list of lines has a transcript
-  IsRun-total : (old : M) (lines : List RawLine) → (out : List ℕ) × IsTranscript step old lines out
-  IsRun-total old [] = ([], (old, false, (refl, refl, refl)))
-  IsRun-total old (line ∷ lines) =
-      total-step old line lines (step old line).ends refl (IsRun-total (step old line).next lines)
+  -- each list of lines has a transcript, where something is given for each line
+  IsRun-total : IsTotal step → (old : M) (lines : List RawLine) → (out : List ℕ) × IsTranscript step old lines out
+  IsRun-total total old [] = ([], (old, false, (refl, refl, refl)))
+  IsRun-total total old (line ∷ lines) =
+      let g = total old line in
+      total-step old line lines g.0 g.1 g.0.ends refl (IsRun-total total g.0.next lines)
 
   -- the line and those after it, from its reply on
-  goes-on : (mid next : M) (line : RawLine) (after : List RawLine) (part missing : List ℕ) (ends : Bool)
+  goes-on : IsTotal step → (mid next : M) (line : RawLine) (after : List RawLine) (part missing : List ℕ) (ends : Bool)
       → 0 < length missing → Answers step mid line (part ++ missing) next ends
       → (more : List ℕ) × (0 < length more) × IsTranscript step mid (line ∷ after) (part ++ more)
-  goes-on mid next line after part missing true proper answers = (
+  goes-on total mid next line after part missing true proper answers = (
     missing,
     proper,
     (
@@ -126,18 +127,18 @@ module _ (M : Type 0) (step : M → RawLine → Step M) where
       (part ++ missing, [], next, true, answers, sym (append-nil (part ++ missing)), (refl, refl, refl)),
     ),
   )
-  goes-on mid next line after part missing false proper answers =
-      let t = IsRun-total next after in (
+  goes-on total mid next line after part missing false proper answers =
+      let t = IsRun-total total next after in (
         missing ++ t.0,
         (let a = length-append missing t.0 in omega (arith, a)),
         (t.1.0, t.1.1, (part ++ missing, t.0, next, false, answers, sym (append_assoc part missing t.0), t.1.2)),
       )
 
   -- what broke off is a proper front of a transcript
-  pub Cut-front : (first : M) (lines : List RawLine) (put : List ℕ) → Cut step first lines put
+  pub Cut-front : IsTotal step → (first : M) (lines : List RawLine) (put : List ℕ) → Cut step first lines put
       → (more : List ℕ) × (0 < length more) × IsTranscript step first lines (put ++ more)
-  Cut-front first lines put cut =
-      let g = goes-on cut.mid cut.next cut.line cut.after cut.part cut.missing cut.ends cut.proper cut.reply in
+  Cut-front total first lines put cut =
+      let g = goes-on total cut.mid cut.next cut.line cut.after cut.part cut.missing cut.ends cut.proper cut.reply in
       let run = IsRun-append first cut.before (cut.line ∷ cut.after) cut.whole
       (cut.part ++ g.0) cut.mid g.2.0 g.2.1 cut.answered g.2.2 in
       let same : put ++ g.0 ≡ cut.whole ++ (cut.part ++ g.0) = ap (λ l. l ++ g.0) cut.out

@@ -1,3 +1,4 @@
 pub mod CommandQuestions
+pub mod QuietHelpers
 pub mod Soundness
 pub mod WordLines

@@ -1,20 +1,36 @@
--- What every step keeps: a refused line keeps the machine, a growing reply is a success whose refusal stands beside
--- it, and only a success ends the session.
-use Rattle.std.proofs.Common.{◌≡◌, ℕ, true, false, cond, List, [], ◌∷◌, Option, None, get_or, arith, refl, sym}
-use Rattle.std.proofs.Common.{ap, ◌∙◌}
+-- What every step keeps: a refused line keeps the machine, what may stand in place of a reply is a refusal that keeps it
+-- but for the calls of helpers, and only a success ends the session.
+use Rattle.std.proofs.Common.{◌≡◌, ℕ, Bool, true, false, cond, List, [], ◌∷◌, map, Option, None, Some, get_or, arith}
+use Rattle.std.proofs.Common.{refl, sym, ap, subst, ◌∙◌}
 use Rattle.gtp_rules.specs.Lines.{RawLine, Line, TooLong}
-use Rattle.gtp_cmd.specs.Commands.{parsed_of}
-use Rattle.gtp_cmd.specs.Replies.{success_text}
+use Rattle.gtp_rules.specs.Steps.{Step}
+use Rattle.gtp_rules.specs.Transcript.{IsTotal}
+use Rattle.go_rules.specs.declared.Colour.{Colour}
+use Rattle.go_rules.specs.declared.Move.{Move}
+use Rattle.go_rules.specs.Strings.{cell_at, is_stone}
+use Rattle.go_rules.specs.Replay.{moved}
+use Rattle.gtp_cmd.specs.Replies.{success_text, refusal_text}
 use Rattle.gtp_cmd.specs.declared.commands.Parsed.{Parsed}
 use Rattle.gtp_cmd.specs.declared.commands.Parsed.TheVariants as parsed
-use Rattle.gtp_cmd.specs.declared.refusals.RefuseText.TheVariants.{LineTooLong, VertexEmpty}
-use Rattle.machine_rules.specs.Machine.{Machine}
+use Rattle.gtp_cmd.specs.declared.refusals.RefuseText.{RefuseText}
+use Rattle.gtp_cmd.specs.declared.refusals.RefuseText.TheVariants.{VertexEmpty}
+use Rattle.helper_totals.specs.Totals.{asks_over}
+use Rattle.match_rules.specs.Conditions.{all_yes}
+use Rattle.match_engine.specs.HelperCalls.{plays_of}
+use Rattle.machine_rules.specs.Machine.{Machine, position_of}
 use Rattle.machine_rules.specs.Matcher.{Matcher}
-use Rattle.machine_rules.specs.Effects.{Effect, Refused, Told, Grown, Ended, replied}
-use Rattle.machine_rules.specs.Step.{effect_of, parsed_step, step}
+use Rattle.machine_rules.specs.Calls.{AreSameButCalls, without_calls}
+use Rattle.machine_rules.specs.Effects.{Excuse, Effect, refused, told, growing, ended, fallback, replied}
+use Rattle.machine_rules.specs.Files.{Contents, IsContents}
+use Rattle.machine_rules.specs.Heard.{heard, bytes_in}
+use Rattle.machine_rules.specs.Loads.{Load, load_in, IsFileOf}
+use Rattle.machine_rules.specs.BoardCommands.{resized, played, taken_back, of_stone}
+use Rattle.machine_rules.specs.MatchingCommands.{after_asking, advised}
+use Rattle.machine_rules.specs.Step.{Input, effect_of, parsed_step, step_on, step}
 use Rattle.machine_rules.specs.Counting.{is_read, is_parsed_read, is_read_line}
 use Rattle.machine_rules.specs.ReadingCommands.{answer_text, reading_of}
-use Rattle.machine_rules.specs.Soundness.{IsRefusal, IsSound}
+use Rattle.machine_rules.specs.Soundness.{IsRefusal, IsSuccess, AreExcuses, IsSound}
+use Rattle.machine_rules.proofs.QuietHelpers.{raised-quiet}
 use Rattle.gtp_cmd.specs.declared.commands.Command.{Command}
 use Rattle.gtp_cmd.specs.declared.commands.Command.TheVariants as command
 use Rattle.read_rules.specs.declared.question.Kind.TheVariants.{Attack, Defend}
@@ -24,66 +40,221 @@ pub success_apart : (bytes more : List ℕ) → bytes ≡ 61 ∷ more → IsRefu
 success_apart bytes more success refusal = let same : 61 ≡ 63 = ap (λ l. get_or l 0 0)
     (sym success ∙ refusal.1) in omega (arith, same)
 
+-- each of these excuses leaves the machine as it was, but for the calls of helpers
+abbrev KeepMachine : Machine → List Excuse → Type 0
+KeepMachine old [] = Unit {0}
+KeepMachine old (excuse ∷ excuses) = AreSameButCalls old excuse.next × KeepMachine old excuses
+
+-- What a command does keeps the machine where it is refused or ends the session, and so do its excuses, but for the
+-- calls of helpers.
+record IsKind (old : Machine) (effect : Effect) : Type 0 where
+  refused : (text : RefuseText) → effect.refusal ≡ Some text → effect.next ≡ old
+  excuses : KeepMachine old effect.excuses
+  ended : effect.ends ≡ true → (effect.refusal ≡ None) × (effect.next ≡ old)
+
+module _ (old : Machine) where
+  -- a refusal
+  refused-kind : (text : RefuseText) → IsKind old (refused old text)
+  refused-kind text = record {
+    refused = λ _ _. refl;
+    excuses = tt;
+    ended = λ ends. absurd (let same : false ≡ true = ends in cc);
+  }
+
+  -- a success
+  told-kind : (result : List ℕ) (next : Machine) → IsKind old (told result next)
+  told-kind result next = record {
+    refused = λ text none. absurd (let same : None ≡ Some text = none in cc);
+    excuses = tt;
+    ended = λ ends. absurd (let same : false ≡ true = ends in cc);
+  }
+
+  -- a growing reply
+  growing-kind : (effect : Effect) (next : Machine) → AreSameButCalls old next → IsKind old effect
+      → IsKind old (growing next effect)
+  growing-kind effect next same kind =
+      record { refused = kind.refused; excuses = (same, kind.excuses); ended = kind.ended }
+
+  -- one of two
+  cond-kind : (b : Bool) (x y : Effect) → IsKind old x → IsKind old y → IsKind old (cond b x y)
+  cond-kind true x y first second = first
+  cond-kind false x y first second = second
+
+  -- a growing success
+  grown-kind : (result : List ℕ) (next : Machine) → IsKind old (growing old (told result next))
+  grown-kind result next = growing-kind (told result next) old refl (told-kind result next)
+
+  -- what is told of a stone
+  stone-kind : (p : ℕ) (effect : Effect) → IsKind old effect → IsKind old (of_stone old p effect)
+  stone-kind p effect kind =
+      cond-kind (is_stone (cell_at (position_of old).cells p)) effect (refused old VertexEmpty) kind
+      (refused-kind VertexEmpty)
+
+  -- a new size
+  resized-kind : (size : Option ℕ) → IsKind old (resized old size)
+  resized-kind None = refused-kind _
+  resized-kind (Some n) = told-kind [] _
+
+  -- a move taken back
+  taken_back-kind : (moves : List Move) → IsKind old (taken_back old moves)
+  taken_back-kind [] = refused-kind _
+  taken_back-kind (move ∷ moves) = told-kind [] _
+
+  -- a move
+  played-kind : (move : Move) → IsKind old (played old move)
+  played-kind move =
+      cond-kind _ _ _ (cond-kind _ _ _ (refused-kind _) (grown-kind [] _)) (refused-kind _)
+
+  module _ (matcher : Matcher) where
+    -- the machine after its helpers were asked is the same but for their calls
+    asking-same : (friend : Colour) → AreSameButCalls old (after_asking matcher old friend)
+    asking-same friend =
+        let plays = plays_of matcher.patterns (matcher.matches all_yes old friend) in
+        ap (λ helpers. record old { helpers = helpers })
+        (raised-quiet (asks_over old.helpers plays (position_of old) friend) old.helpers)
+
+    -- what helpers were asked for
+    advised-kind : (friend : Colour) (result : List ℕ) (next : Machine)
+        → IsKind old (advised old (after_asking matcher old friend) result next)
+    advised-kind friend result next =
+        growing-kind (growing (after_asking matcher old friend) (told result next)) old refl
+        (growing-kind (told result next) (after_asking matcher old friend) (asking-same friend)
+        (told-kind result next))
+
+    -- each command
+    effect-kind : (input : Input) (c : Command) → IsKind old (effect_of matcher old input c)
+    effect-kind input command.ProtocolVersion = told-kind _ old
+    effect-kind input command.Name = told-kind _ old
+    effect-kind input command.Version = told-kind _ old
+    effect-kind input (command.KnownCommand known) = told-kind _ old
+    effect-kind input command.ListCommands = grown-kind _ old
+    effect-kind input command.Quit = record {
+      refused = λ text none. absurd (let same : None ≡ Some text = none in cc);
+      excuses = tt;
+      ended = λ _. (refl, refl);
+    }
+    effect-kind input (command.BoardSize size) = resized-kind size
+    effect-kind input command.ClearBoard = told-kind [] _
+    effect-kind input (command.Komi komi) = told-kind [] _
+    effect-kind input command.GetKomi = told-kind _ old
+    effect-kind input (command.Play c at) = played-kind _
+    effect-kind input command.Undo = taken_back-kind old.moves
+    effect-kind input command.ShowBoard = grown-kind _ old
+    effect-kind input (command.IsLegal c at) = told-kind _ old
+    effect-kind input (command.AllLegal c) = grown-kind _ old
+    effect-kind input (command.CountLib p) = stone-kind p _ (told-kind _ old)
+    effect-kind input (command.FindLib p) = stone-kind p _ (grown-kind _ old)
+    effect-kind input (command.Captures c) = told-kind _ old
+    effect-kind input (command.Attack p) = stone-kind p _ (told-kind _ old)
+    effect-kind input (command.Defend p) = stone-kind p _ (told-kind _ old)
+    effect-kind input (command.Depths plies wide) = told-kind [] _
+    effect-kind input (command.MatchPatterns friend) = advised-kind friend _ _
+    effect-kind input command.ListPatterns = grown-kind _ old
+
+-- the excuses behind an id are refusals that keep the machine so
+excuses-told : (old : Machine) (id : Option ℕ) (excuses : List Excuse) → KeepMachine old excuses
+    → AreExcuses old (map (fallback id) excuses)
+excuses-told old id [] kept = tt
+excuses-told old id (excuse ∷ excuses) kept = ((_, refl), kept.0, excuses-told old id excuses kept.1)
+
+-- a refusal behind an id keeps the machine
+refusal-kept : (old : Machine) (id : Option ℕ) (refusal : Option RefuseText) (effect : Effect) → IsKind old effect
+    → effect.refusal ≡ refusal → IsRefusal (replied id effect).reply → effect.next ≡ old
+refusal-kept old id None effect kind is reply =
+    absurd (success_apart (success_text id effect.result) _ refl
+    (subst (λ r. IsRefusal (replied id (record effect { refusal = r })).reply) is reply))
+refusal-kept old id (Some text) effect kind is reply = kind.refused text is
+
 -- the reply to a command, by what it does
-replied-sound : (old : Machine) (id : Option ℕ) (effect : Effect) → IsSound old (replied old id effect)
-replied-sound old id (Refused text) = record {
-  refused = λ _. refl;
-  growing = λ grows. absurd (let same : false ≡ true = grows in cc);
-  ended = λ ends. absurd (let same : false ≡ true = ends in cc);
-}
-replied-sound old id (Told text next) = record {
-  refused = λ refusal. absurd (success_apart (success_text id text) _ refl refusal);
-  growing = λ grows. absurd (let same : false ≡ true = grows in cc);
-  ended = λ ends. absurd (let same : false ≡ true = ends in cc);
-}
-replied-sound old id (Grown text next) = record {
-  refused = λ refusal. absurd (success_apart (success_text id text) _ refl refusal);
-  growing = λ _. ((_, refl), (_, refl));
-  ended = λ ends. absurd (let same : false ≡ true = ends in cc);
-}
-replied-sound old id Ended = record {
-  refused = λ refusal. absurd (success_apart (success_text id []) _ refl refusal);
-  growing = λ grows. absurd (let same : false ≡ true = grows in cc);
-  ended = λ _. ((_, refl), refl);
+replied-sound : (old : Machine) (id : Option ℕ) (effect : Effect) → IsKind old effect
+    → IsSound old (replied id effect)
+replied-sound old id effect kind = record {
+  refused = refusal-kept old id effect.refusal effect kind refl;
+  excuses = excuses-told old id effect.excuses kind.excuses;
+  ended = λ ends. (
+    subst (λ r. IsSuccess (replied id (record effect { refusal = r })).reply)
+        (sym (kind.ended ends).0) (_, refl),
+    (kind.ended ends).1,
+  );
 }
 
 -- the answer to what a line says
-parsed_step-sound : (matcher : Matcher) (old : Machine) (p : Parsed) → IsSound old (parsed_step matcher old p)
-parsed_step-sound matcher old parsed.Nothing = record {
+parsed_step-sound : (matcher : Matcher) (old : Machine) (input : Input) (p : Parsed)
+    → IsSound old (parsed_step matcher old input p)
+parsed_step-sound matcher old input parsed.Nothing = record {
   refused = λ _. refl;
-  growing = λ grows. absurd (let same : false ≡ true = grows in cc);
+  excuses = tt;
   ended = λ ends. absurd (let same : false ≡ true = ends in cc);
 }
-parsed_step-sound matcher old (parsed.Refused id text) = replied-sound old id (Refused text)
-parsed_step-sound matcher old (parsed.Command id c) = replied-sound old id (effect_of matcher old c)
+parsed_step-sound matcher old input (parsed.Refused id text) =
+    replied-sound old id (refused old text) (refused-kind old text)
+parsed_step-sound matcher old input (parsed.Command id c) =
+    replied-sound old id (effect_of matcher old input c) (effect-kind old matcher input c)
 
--- every line
-pub step-sound : (matcher : Matcher) (old : Machine) (line : RawLine) → IsSound old (step matcher old line)
-unfolding step
-step-sound matcher old TooLong = replied-sound old None (Refused LineTooLong)
-step-sound matcher old (Line text) = parsed_step-sound matcher old (parsed_of text old.base.size)
+-- the answer to a line on a text
+step_on-sound : (matcher : Matcher) (old : Machine) (file : List ℕ) (line : RawLine)
+    → IsSound old (step_on matcher old file line)
+unfolding step_on
+step_on-sound matcher old file line =
+    parsed_step-sound matcher old (record { line = bytes_in line; file = file }) (heard old line)
 
--- a reading that is answered with a code tells something, and its reply does not grow
-read-effect : (matcher : Matcher) (old : Machine) (c : Command) → is_read old c ≡ true
-    → (text : List ℕ) × (effect_of matcher old c ≡ Told text old)
-read-effect matcher old (command.Attack p) stone =
+-- every step
+pub step-sound : (matcher : Matcher) (contents : Contents) (old : Machine) (line : RawLine) (given : Step Machine)
+    → step matcher contents old line given → IsSound old given
+step-sound matcher contents old line given (file, of, is) =
+    subst (IsSound old) (sym is) (step_on-sound matcher old file line)
+
+-- a text that a file may have whose contents are these, where they are told
+some_text : (told : Option (List ℕ)) → (file : List ℕ) × IsContents told file
+some_text None = ([], tt)
+some_text (Some text) = (text, refl)
+
+-- a text for what is loaded, if anything is
+some_file : (contents : Contents) (load : Option Load) → (file : List ℕ) × IsFileOf contents load file
+some_file contents None = ([], tt)
+some_file contents (Some load) = some_text (contents load.name)
+
+-- something is given for each line
+pub step-total : (matcher : Matcher) (contents : Contents) → IsTotal (step matcher contents)
+step-total matcher contents old line =
+    let file = some_file contents (load_in old line) in
+    (step_on matcher old file.0 line, (file.0, file.1, refl))
+
+-- a reading that is answered with a code tells something, which has no excuse
+read-effect : (matcher : Matcher) (old : Machine) (input : Input) (c : Command) → is_read old c ≡ true
+    → (text : List ℕ) × (effect_of matcher old input c ≡ told text old)
+read-effect matcher old input (command.Attack p) stone =
     let text = answer_text old.base.size (reading_of old Attack p) in
-    (text, ap (λ b. cond b (Told text old) (Refused VertexEmpty)) stone)
-read-effect matcher old (command.Defend p) stone =
+    (text, ap (λ b. cond b (told text old) (refused old VertexEmpty)) stone)
+read-effect matcher old input (command.Defend p) stone =
     let text = answer_text old.base.size (reading_of old Defend p) in
-    (text, ap (λ b. cond b (Told text old) (Refused VertexEmpty)) stone)
-read-effect matcher old _ none = absurd (let same : false ≡ true = none in cc)
+    (text, ap (λ b. cond b (told text old) (refused old VertexEmpty)) stone)
+read-effect matcher old input _ none = absurd (let same : false ≡ true = none in cc)
 
 -- so does what a line says that asks for it
-read-parsed : (matcher : Matcher) (old : Machine) (p : Parsed) → is_parsed_read old p ≡ true
-    → (id : Option ℕ) × (text : List ℕ) × (parsed_step matcher old p ≡ replied old id (Told text old))
-read-parsed matcher old (parsed.Command id c) reads =
-    let told = read-effect matcher old c reads in (id, told.0, ap (replied old id) told.1)
-read-parsed matcher old _ none = absurd (let same : false ≡ true = none in cc)
+read-parsed : (matcher : Matcher) (old : Machine) (input : Input) (p : Parsed) → is_parsed_read old p ≡ true
+    → (id : Option ℕ) × (text : List ℕ) × (parsed_step matcher old input p ≡ replied id (told text old))
+read-parsed matcher old input (parsed.Command id c) reads =
+    let said = read-effect matcher old input c reads in (id, said.0, ap (replied id) said.1)
+read-parsed matcher old input _ none = absurd (let same : false ≡ true = none in cc)
+
+-- a line is counted as what it says
+pub read-heard : (m : Machine) (line : RawLine) → is_read_line m line ≡ is_parsed_read m (heard m line)
+unfolding is_read_line
+read-heard m TooLong = refl
+read-heard m (Line text) = refl
+
+-- the line on a text
+read-line_on : (matcher : Matcher) (old : Machine) (file : List ℕ) (line : RawLine) → is_read_line old line ≡ true
+    → (id : Option ℕ) × (text : List ℕ) × (step_on matcher old file line ≡ replied id (told text old))
+unfolding step_on
+read-line_on matcher old file line reads =
+    read-parsed matcher old (record { line = bytes_in line; file = file }) (heard old line)
+    (sym (read-heard old line) ∙ reads)
 
 -- and the line
-pub read-line : (matcher : Matcher) (old : Machine) (line : RawLine) → is_read_line old line ≡ true
-    → (id : Option ℕ) × (text : List ℕ) × (step matcher old line ≡ replied old id (Told text old))
-unfolding step is_read_line
-read-line matcher old TooLong none = absurd (let same : false ≡ true = none in cc)
-read-line matcher old (Line text) reads = read-parsed matcher old (parsed_of text old.base.size) reads
+pub read-line : (matcher : Matcher) (contents : Contents) (old : Machine) (line : RawLine) (given : Step Machine)
+    → step matcher contents old line given → is_read_line old line ≡ true
+    → (id : Option ℕ) × (text : List ℕ) × (given ≡ replied id (told text old))
+read-line matcher contents old line given (file, of, is) reads =
+    let said = read-line_on matcher old file line reads in (said.0, said.1, is ∙ said.2)

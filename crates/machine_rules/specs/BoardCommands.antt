@@ -9,39 +9,39 @@ use Rattle.go_history.specs.Games.{most_moves}
 use Rattle.gtp_cmd.specs.declared.refusals.RefuseText.TheVariants.{UnacceptableSize, IllegalMove, HistoryFull}
 use Rattle.gtp_cmd.specs.declared.refusals.RefuseText.TheVariants.{CannotUndo, VertexEmpty}
 use Rattle.machine_rules.specs.Machine.{Machine, position_of}
-use Rattle.machine_rules.specs.Effects.{Effect, Refused, Told, Grown}
+use Rattle.machine_rules.specs.Effects.{Effect, refused, told, grown}
 use Rattle.machine_rules.specs.BoardText.{board_text}
 use Rattle.machine_rules.specs.PointLists.{legal_list, liberty_list, vertices_text}
 
 -- a new size begins again from the empty board of that size, also where it is the present one
 abbrev pub resized : Machine → Option ℕ → Effect
-resized old None = Refused UnacceptableSize
-resized old (Some size) = Told [] (record old { base = empty_board size; moves = [] })
+resized old None = refused old UnacceptableSize
+resized old (Some size) = told [] (record old { base = empty_board size; moves = [] })
 
 -- the list of moves is emptied, and the moves are played from the empty board, whose size stays
 abbrev pub cleared : Machine → Effect
-cleared old = Told [] (record old { base = empty_board old.base.size; moves = [] })
+cleared old = told [] (record old { base = empty_board old.base.size; moves = [] })
 
 -- the text of the komi is kept
 abbrev pub komi_kept : Machine → List ℕ → Effect
-komi_kept old komi = Told [] (record old { komi = komi })
+komi_kept old komi = told [] (record old { komi = komi })
 
 -- a move is added to the list where it is legal and the list is not full
 abbrev pub played : Machine → Move → Effect
 played old move =
     if is_ok (moved (position_of old) move)
-    then (if length old.moves == most_moves then Refused HistoryFull else Grown []
+    then (if length old.moves == most_moves then refused old HistoryFull else grown old []
     (record old { moves = old.moves ++ move ∷ [] }))
-    else Refused IllegalMove
+    else refused old IllegalMove
 
 -- the last move is taken from the list
 abbrev pub taken_back : Machine → List Move → Effect
-taken_back old [] = Refused CannotUndo
-taken_back old (move ∷ moves) = Told [] (record old { moves = take (length old.moves - 1) old.moves })
+taken_back old [] = refused old CannotUndo
+taken_back old (move ∷ moves) = told [] (record old { moves = take (length old.moves - 1) old.moves })
 
 -- the board is shown
 abbrev pub shown : Machine → Effect
-shown old = Grown (board_text (position_of old)) old
+shown old = grown old (board_text (position_of old)) old
 
 -- `1` or `0`
 abbrev pub digit_of : Bool → List ℕ
@@ -49,25 +49,25 @@ digit_of holds = if holds then codes "1" else codes "0"
 
 -- whether the rules allow the move
 abbrev pub allowed : Machine → Move → Effect
-allowed old move = Told (digit_of (is_ok (moved (position_of old) move))) old
+allowed old move = told (digit_of (is_ok (moved (position_of old) move))) old
 
 -- the points where the colour may play
 abbrev pub all_allowed : Machine → Colour → Effect
-all_allowed old c = Grown (vertices_text old.base.size (legal_list (position_of old) c)) old
+all_allowed old c = grown old (vertices_text old.base.size (legal_list (position_of old) c)) old
 
 -- what is told of the string of a point, where a stone stands there
 abbrev pub of_stone : Machine → ℕ → Effect → Effect
-of_stone old p told = if is_stone (cell_at (position_of old).cells p) then told else Refused VertexEmpty
+of_stone old p effect = if is_stone (cell_at (position_of old).cells p) then effect else refused old VertexEmpty
 
 -- how many liberties the string of a point has
 abbrev pub liberties_counted : Machine → ℕ → Effect
 liberties_counted old p = of_stone old p
-    (Told (decimal (liberties (position_of old).size (position_of old).cells p)) old)
+    (told (decimal (liberties (position_of old).size (position_of old).cells p)) old)
 
 -- the liberties of the string of a point
 abbrev pub liberties_found : Machine → ℕ → Effect
-liberties_found old p = of_stone old p (Grown (vertices_text old.base.size (liberty_list (position_of old) p)) old)
+liberties_found old p = of_stone old p (grown old (vertices_text old.base.size (liberty_list (position_of old) p)) old)
 
 -- how many stones the moves of a colour took, played from the base
 abbrev pub captures_counted : Machine → Colour → Effect
-captures_counted old c = Told (decimal (captures_from old.base c old.moves)) old
+captures_counted old c = told (decimal (captures_from old.base c old.moves)) old

@@ -1,34 +1,73 @@
 -- What a command does and tells, and the reply that this is behind the id of its line.
-use Rattle.std.specs.Prelude.{ℕ, true, false, List, [], Option}
-use Rattle.gtp_rules.specs.Steps.{Step}
+use Rattle.std.specs.Prelude.{◌≡◌, ◌⊎◌, ℕ, Bool, true, false, List, [], ◌∷◌, map, Option, None, Some}
+use Rattle.gtp_rules.specs.Steps.{Fallback, Step}
 use Rattle.gtp_cmd.specs.Replies.{success_text, refusal_text}
 use Rattle.gtp_cmd.specs.declared.refusals.RefuseText.{RefuseText}
 use Rattle.gtp_cmd.specs.declared.refusals.RefuseText.TheVariants.{OutOfMemory}
 use Rattle.machine_rules.specs.Machine.{Machine}
 
--- what a command does
-pub data Effect : Type 0 where
-  -- it is refused, and the machine stays
-  Refused : RefuseText → Effect
-  -- it succeeds with this result, and the machine is this one after it
-  Told : List ℕ → Machine → Effect
-  -- the same, where the reply is a growing one
-  Grown : List ℕ → Machine → Effect
-  -- it succeeds and ends the session, and the machine stays
-  Ended : Effect
+-- a refusal that may stand in place of a reply, and the machine after it
+pub record Excuse : Type 0 where
+  pub refusal : RefuseText
+  pub next : Machine
+
+-- what a command does and tells
+pub record Effect : Type 0 where
+  -- why it is refused; none where it succeeds
+  pub refusal : Option RefuseText
+  -- the result of a success
+  pub result : List ℕ
+  -- what may stand in place of the reply
+  pub excuses : List Excuse
+  -- the machine after it
+  pub next : Machine
+  -- it ends the session
+  pub ends : Bool
+
+-- the command is refused, and the machine stays
+abbrev pub refused : Machine → RefuseText → Effect
+refused old text = record { refusal = Some text; result = []; excuses = []; next = old; ends = false }
+
+-- it succeeds with this result, and the machine is next after it
+abbrev pub told : List ℕ → Machine → Effect
+told result next = record { refusal = None; result = result; excuses = []; next = next; ends = false }
+
+-- it succeeds and ends the session, and the machine stays
+abbrev pub ended : Machine → Effect
+ended old = record { refusal = None; result = []; excuses = []; next = old; ends = true }
+
+-- there was no memory, and the machine is this one
+abbrev pub out_of_memory : Machine → Excuse
+out_of_memory next = record { refusal = OutOfMemory; next = next }
+
+-- the reply is a growing one: where there is no memory for it, the line counts as not sent
+abbrev pub growing : Machine → Effect → Effect
+growing old effect = record effect { excuses = out_of_memory old ∷ effect.excuses }
+
+-- it succeeds with this result in a growing reply, and the machine is next after it
+abbrev pub grown : Machine → List ℕ → Machine → Effect
+grown old result next = growing old (told result next)
+
+-- the text of a reply behind an id: that of the refusal, and where there is none that of the result
+abbrev pub reply_text : Option ℕ → Option RefuseText → List ℕ → List ℕ
+reply_text id None result = success_text id result
+reply_text id (Some refusal) result = refusal_text id refusal
+
+-- an excuse behind an id
+abbrev pub fallback : Option ℕ → Excuse → Fallback Machine
+fallback id excuse = record { reply = refusal_text id excuse.refusal; next = excuse.next }
 
 -- the reply to a command with this effect, and the machine after it
-abbrev pub replied : Machine → Option ℕ → Effect → Step Machine
-replied old id (Refused text) =
-    record { reply = refusal_text id text; grows = false; out_of_memory = []; next = old; ends = false }
-replied old id (Told text next) =
-    record { reply = success_text id text; grows = false; out_of_memory = []; next = next; ends = false }
-replied old id (Grown text next) = record {
-  reply = success_text id text;
-  grows = true;
-  out_of_memory = refusal_text id OutOfMemory;
-  next = next;
-  ends = false;
+abbrev pub replied : Option ℕ → Effect → Step Machine
+replied id effect = record {
+  reply = reply_text id effect.refusal effect.result;
+  fallbacks = map (fallback id) effect.excuses;
+  next = effect.next;
+  ends = effect.ends;
 }
-replied old id Ended =
-    record { reply = success_text id []; grows = false; out_of_memory = []; next = old; ends = true }
+
+-- one of these excuses was told, and the machine is new after it
+abbrev pub IsExcused : List Excuse → RefuseText → Machine → Type 0
+IsExcused [] refusal new = ⊥
+IsExcused (excuse ∷ excuses) refusal new = ((refusal ≡ excuse.refusal) × (new ≡ excuse.next))
+    ⊎ IsExcused excuses refusal new

@@ -1,8 +1,12 @@
 pub mod BoardCommands
 pub mod BoardText
+pub mod Calls
 pub mod CertainHit
 pub mod Counting
 pub mod Effects
+pub mod Files
+pub mod Heard
+pub mod Loads
 pub mod Machine
 pub mod MatchTexts
 pub mod Matcher

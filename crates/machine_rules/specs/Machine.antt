@@ -1,10 +1,12 @@
--- The plain machine: the settings of a session, the position from which its moves are played, and the moves.
+-- The plain machine: the settings of a session, the position from which its moves are played, the moves, and the
+-- helpers.
 use Rattle.std.specs.Prelude.{ℕ, List, [], codes}
 use Rattle.go_rules.specs.declared.Move.{Move}
 use Rattle.go_rules.specs.Position.{BoardState}
 use Rattle.go_rules.specs.Replay.{empty_board, replay_from}
+use Rattle.helpers.specs.Asking.{SlotState}
 
--- settings, a first position and moves from it
+-- settings, a first position and moves from it, and helpers
 pub record Machine : Type 0 where
   -- the position from which the moves are played
   pub base : BoardState
@@ -16,19 +18,23 @@ pub record Machine : Type 0 where
   pub plies : ℕ
   -- in how many of the first plies more is tried than the liberties of the strings
   pub wide : ℕ
+  -- the helpers, each with its name and its meaning, on or off, and how often it was asked
+  pub helpers : List SlotState
 
 -- the size of the board before the first line that says one
 abbrev pub first_size : ℕ
 first_size = 19
 
--- the machine before the first line, whose readings have this many plies and wide plies: its board is empty
-abbrev pub first_machine : ℕ → ℕ → Machine
-first_machine plies wide = record {
+-- the machine before the first line, with these helpers, whose readings have this many plies and wide plies: its board
+-- is empty
+abbrev pub first_machine : List SlotState → ℕ → ℕ → Machine
+first_machine helpers plies wide = record {
   base = empty_board first_size;
   moves = [];
   komi = codes "0.0";
   plies = plies;
   wide = wide;
+  helpers = helpers;
 }
 
 -- the position of the machine: its moves are played from its base

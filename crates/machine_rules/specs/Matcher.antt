@@ -11,10 +11,10 @@ use Rattle.cons_eval.specs.Readings.{Codes}
 use Rattle.match_engine.specs.Readings.{codes_at}
 use Rattle.machine_rules.specs.Machine.{Machine, position_of}
 
--- patterns, and their matches on the position of a machine for a friend
+-- patterns, and their matches on the position of a machine for a friend, by what helpers say
 pub record Matcher : Type 0 where
   pub patterns : List Pattern
-  pub matches : Machine → Colour → List Match
+  pub matches : Advice → Machine → Colour → List Match
 
 -- the codes of readings as deep as the machine reads, each read afresh
 abbrev pub codes_of : Machine → Codes
@@ -22,15 +22,16 @@ codes_of machine = codes_at machine.plies machine.wide
 
 -- the plain matcher of these patterns: it compares each of their diagrams with the board, reads afresh what their
 -- classes and constraints ask, and asks the helpers that they name
-abbrev pub plain_matcher : Advice → List Pattern → Matcher
-plain_matcher advice patterns = record {
+abbrev pub plain_matcher : List Pattern → Matcher
+plain_matcher patterns = record {
   patterns = patterns;
-  matches = λ machine friend. matches_of (codes_of machine) advice patterns (position_of machine) friend;
+  matches = λ advice machine friend. matches_of (codes_of machine) advice patterns (position_of machine) friend;
 }
 
 -- the matcher of these patterns by an automaton, which need not be theirs
-abbrev pub automaton_matcher : Advice → List Pattern → List Row → Matcher
-automaton_matcher advice patterns rows = record {
+abbrev pub automaton_matcher : List Pattern → List Row → Matcher
+automaton_matcher patterns rows = record {
   patterns = patterns;
-  matches = λ machine friend. automaton_matches (codes_of machine) advice rows patterns (position_of machine) friend;
+  matches = λ advice machine friend.
+      automaton_matches (codes_of machine) advice rows patterns (position_of machine) friend;
 }

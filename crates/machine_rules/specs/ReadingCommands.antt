@@ -8,7 +8,7 @@ use Rattle.read_rules.specs.Answer.{answer_of, asked_on}
 use Rattle.gtp_cmd.specs.Words.{blank}
 use Rattle.gtp_cmd.specs.Vertices.{vertex_text}
 use Rattle.machine_rules.specs.Machine.{Machine, position_of}
-use Rattle.machine_rules.specs.Effects.{Effect, Told}
+use Rattle.machine_rules.specs.Effects.{Effect, told}
 use Rattle.machine_rules.specs.BoardCommands.{of_stone}
 
 -- a move of a board of size s as it is printed; a pass is `PASS`
@@ -32,8 +32,8 @@ reading_of machine kind p = answer_of (asked_on (position_of machine) kind p mac
 
 -- the answer to a question about the string of a point is told
 abbrev pub read : Machine → Kind → ℕ → Effect
-read old kind p = of_stone old p (Told (answer_text old.base.size (reading_of old kind p)) old)
+read old kind p = of_stone old p (told (answer_text old.base.size (reading_of old kind p)) old)
 
 -- readings go this deep from now on
 abbrev pub deepened : Machine → ℕ → ℕ → Effect
-deepened old plies wide = Told [] (record old { plies = plies; wide = wide })
+deepened old plies wide = told [] (record old { plies = plies; wide = wide })

@@ -1,8 +1,10 @@
--- What every step of a machine keeps.
+-- What every step of the machine keeps.
 use Rattle.std.specs.Prelude.{◌≡◌, ℕ, true, List, [], ◌∷◌}
 use Rattle.gtp_rules.specs.Lines.{RawLine, Line, TooLong}
-use Rattle.gtp_rules.specs.Steps.{Step}
+use Rattle.gtp_rules.specs.Steps.{Fallback, Step}
 use Rattle.gtp_cmd.specs.Words.{words_of, cleaned}
+use Rattle.machine_rules.specs.Machine.{Machine}
+use Rattle.machine_rules.specs.Calls.{AreSameButCalls}
 
 -- the line has no words, and is not too long
 abbrev pub IsWithoutWords : RawLine → Type 0
@@ -25,9 +27,14 @@ IsSuccess bytes = (more : List ℕ) × (bytes ≡ equals_sign ∷ more)
 abbrev pub IsRefusal : List ℕ → Type 0
 IsRefusal bytes = (more : List ℕ) × (bytes ≡ question_mark ∷ more)
 
--- The step keeps its word: a refused line keeps the machine, a growing reply is a success with a refusal beside it,
--- and a line that ends the session is a success that keeps the machine.
-pub record IsSound {M : Type 0} (old : M) (given : Step M) : Type 0 where
+-- each of these answers is a refusal, and leaves the machine as it was but for the calls of helpers
+abbrev pub AreExcuses : Machine → List (Fallback Machine) → Type 0
+AreExcuses old [] = Unit {0}
+AreExcuses old (answer ∷ answers) = IsRefusal answer.reply × AreSameButCalls old answer.next × AreExcuses old answers
+
+-- The step keeps its word: a refused line keeps the machine, what may stand in place of a reply is a refusal that keeps
+-- it but for the calls of helpers, and a line that ends the session is a success that keeps the machine.
+pub record IsSound (old : Machine) (given : Step Machine) : Type 0 where
   pub refused : IsRefusal given.reply → given.next ≡ old
-  pub growing : given.grows ≡ true → IsSuccess given.reply × IsRefusal given.out_of_memory
+  pub excuses : AreExcuses old given.fallbacks
   pub ended : given.ends ≡ true → IsSuccess given.reply × (given.next ≡ old)

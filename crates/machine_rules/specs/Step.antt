@@ -1,18 +1,20 @@
--- What the machine gives for a line: the reply, whether it is a growing one, and the machine after it. A refused line
--- keeps the machine, and so does every line whose reply tells something.
-use Rattle.std.specs.Prelude.{ℕ, Bool, false, List, [], None, if◌then◌else◌, codes}
-use Rattle.gtp_rules.specs.Lines.{RawLine, Line, TooLong}
+-- What the machine gives for a line: the reply, what may stand in its place, and the machine after it. A refused line
+-- keeps the machine, and so does every line whose reply tells something, but for the calls of helpers.
+use Rattle.std.specs.Prelude.{◌≡◌, ℕ, Bool, false, List, [], None, if◌then◌else◌, codes}
+use Rattle.gtp_rules.specs.Lines.{RawLine}
 use Rattle.gtp_rules.specs.Steps.{Step}
-use Rattle.gtp_cmd.specs.Commands.{parsed_of, names_text}
+use Rattle.gtp_cmd.specs.Commands.{names_text}
 use Rattle.gtp_cmd.specs.declared.commands.Command.{Command}
 use Rattle.gtp_cmd.specs.declared.commands.Command.TheVariants as command
 use Rattle.gtp_cmd.specs.declared.commands.Parsed.{Parsed}
 use Rattle.gtp_cmd.specs.declared.commands.Parsed.TheVariants as parsed
-use Rattle.gtp_cmd.specs.declared.refusals.RefuseText.TheVariants.{LineTooLong}
 use Rattle.read_rules.specs.declared.question.Kind.TheVariants.{Attack, Defend}
+use Rattle.machine_rules.specs.Heard.{heard, bytes_in}
 use Rattle.machine_rules.specs.Machine.{Machine}
 use Rattle.machine_rules.specs.Matcher.{Matcher}
-use Rattle.machine_rules.specs.Effects.{Effect, Refused, Told, Grown, Ended, replied}
+use Rattle.machine_rules.specs.Effects.{Effect, refused, told, grown, ended, replied}
+use Rattle.machine_rules.specs.Files.{Contents}
+use Rattle.machine_rules.specs.Loads.{load_in, IsFileOf}
 use Rattle.machine_rules.specs.BoardCommands.{resized, cleared, komi_kept, played, taken_back, shown, allowed, all_allowed}
 use Rattle.machine_rules.specs.BoardCommands.{liberties_counted, liberties_found, captures_counted}
 use Rattle.machine_rules.specs.ReadingCommands.{read, deepened}
@@ -22,50 +24,49 @@ use Rattle.machine_rules.specs.MatchingCommands.{matches_listed, patterns_listed
 abbrev pub word_of : Bool → List ℕ
 word_of known = if known then codes "true" else codes "false"
 
+-- what stands behind the words of a line: its bytes, and the text of the file that it loads
+pub record Input : Type 0 where
+  pub line : List ℕ
+  pub file : List ℕ
+
 -- what a command does to the machine, and what it tells
-abbrev pub effect_of : Matcher → Machine → Command → Effect
-effect_of matcher old command.ProtocolVersion = Told (codes "2") old
-effect_of matcher old command.Name = Told (codes "gopat") old
-effect_of matcher old command.Version = Told (codes "1") old
-effect_of matcher old (command.KnownCommand known) = Told (word_of known) old
-effect_of matcher old command.ListCommands = Grown names_text old
-effect_of matcher old command.Quit = Ended
-effect_of matcher old (command.BoardSize size) = resized old size
-effect_of matcher old command.ClearBoard = cleared old
-effect_of matcher old (command.Komi komi) = komi_kept old komi
-effect_of matcher old command.GetKomi = Told old.komi old
-effect_of matcher old (command.Play c at) = played old (record { colour = c; at = at })
-effect_of matcher old command.Undo = taken_back old old.moves
-effect_of matcher old command.ShowBoard = shown old
-effect_of matcher old (command.IsLegal c at) = allowed old (record { colour = c; at = at })
-effect_of matcher old (command.AllLegal c) = all_allowed old c
-effect_of matcher old (command.CountLib p) = liberties_counted old p
-effect_of matcher old (command.FindLib p) = liberties_found old p
-effect_of matcher old (command.Captures c) = captures_counted old c
-effect_of matcher old (command.Attack p) = read old Attack p
-effect_of matcher old (command.Defend p) = read old Defend p
-effect_of matcher old (command.Depths plies wide) = deepened old plies wide
-effect_of matcher old (command.MatchPatterns friend) = matches_listed matcher old friend
-effect_of matcher old command.ListPatterns = patterns_listed matcher old
+abbrev pub effect_of : Matcher → Machine → Input → Command → Effect
+effect_of matcher old input command.ProtocolVersion = told (codes "2") old
+effect_of matcher old input command.Name = told (codes "gopat") old
+effect_of matcher old input command.Version = told (codes "1") old
+effect_of matcher old input (command.KnownCommand known) = told (word_of known) old
+effect_of matcher old input command.ListCommands = grown old names_text old
+effect_of matcher old input command.Quit = ended old
+effect_of matcher old input (command.BoardSize size) = resized old size
+effect_of matcher old input command.ClearBoard = cleared old
+effect_of matcher old input (command.Komi komi) = komi_kept old komi
+effect_of matcher old input command.GetKomi = told old.komi old
+effect_of matcher old input (command.Play c at) = played old (record { colour = c; at = at })
+effect_of matcher old input command.Undo = taken_back old old.moves
+effect_of matcher old input command.ShowBoard = shown old
+effect_of matcher old input (command.IsLegal c at) = allowed old (record { colour = c; at = at })
+effect_of matcher old input (command.AllLegal c) = all_allowed old c
+effect_of matcher old input (command.CountLib p) = liberties_counted old p
+effect_of matcher old input (command.FindLib p) = liberties_found old p
+effect_of matcher old input (command.Captures c) = captures_counted old c
+effect_of matcher old input (command.Attack p) = read old Attack p
+effect_of matcher old input (command.Defend p) = read old Defend p
+effect_of matcher old input (command.Depths plies wide) = deepened old plies wide
+effect_of matcher old input (command.MatchPatterns friend) = matches_listed matcher old friend
+effect_of matcher old input command.ListPatterns = patterns_listed matcher old
 
 -- the answer to what a line says
-abbrev pub parsed_step : Matcher → Machine → Parsed → Step Machine
-parsed_step matcher old parsed.Nothing = record {
-  reply = [];
-  grows = false;
-  out_of_memory = [];
-  next = old;
-  ends = false;
-}
-parsed_step matcher old (parsed.Refused id text) = replied old id (Refused text)
-parsed_step matcher old (parsed.Command id command) = replied old id (effect_of matcher old command)
+abbrev pub parsed_step : Matcher → Machine → Input → Parsed → Step Machine
+parsed_step matcher old input parsed.Nothing =
+    record { reply = []; fallbacks = []; next = old; ends = false }
+parsed_step matcher old input (parsed.Refused id text) = replied id (refused old text)
+parsed_step matcher old input (parsed.Command id command) = replied id (effect_of matcher old input command)
 
--- the answer to a line
-unfoldable pub step : Matcher → Machine → RawLine → Step Machine
-step matcher old TooLong = replied old None (Refused LineTooLong)
-step matcher old (Line text) = parsed_step matcher old (parsed_of text old.base.size)
+-- the answer to a line that loads this text, or to one that loads none
+unfoldable pub step_on : Matcher → Machine → List ℕ → RawLine → Step Machine
+step_on matcher old file line = parsed_step matcher old (record { line = bytes_in line; file = file }) (heard old line)
 
--- what a line says to a machine: one that is too long is refused
-abbrev pub heard : Machine → RawLine → Parsed
-heard machine TooLong = parsed.Refused None LineTooLong
-heard machine (Line text) = parsed_of text machine.base.size
+-- the answer to a line: that on a text which is the contents of the file that it loads
+abbrev pub step : Matcher → Contents → Machine → RawLine → Step Machine → Type 0
+step matcher contents old line given =
+    (file : List ℕ) × IsFileOf contents (load_in old line) file × (given ≡ step_on matcher old file line)

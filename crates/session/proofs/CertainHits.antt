@@ -12,7 +12,8 @@ use Rattle.match_engine.specs.Readings.{KeptReadings}
 use Rattle.match_engine.proofs.RepeatedQuestions.{IsAtHand, IsAtHand-first, IsAtHand-later, IsAtHand-kept}
 use Rattle.match_engine.proofs.RepeatedQuestions.{HasRead-capacity, HasRead-refused}
 use Rattle.machine_rules.specs.Machine.{Machine, position_of}
-use Rattle.engine.specs.SessionState.{SessionState, machine_of}
+use Rattle.engine.specs.SessionState.{SessionState, board_of}
+use Rattle.engine.specs.Kept.{Kept, machine_of}
 use Rattle.machine_rules.specs.Counting.{counted, is_read_line}
 use Rattle.machine_rules.specs.Questions.{Asks, Nothing, One, Many, asks_of_line}
 use Rattle.engine.specs.AfterLine.{ReadsAs, ReadsOnce, IsAfterLine}
@@ -41,7 +42,7 @@ module _ (old new : SessionState) where
   unrefused Nothing read none = sym (ap (λ (c : Counts). c.refused) read.counts) ∙ none
   unrefused (One key) read none =
       read.refused_before ∙ HasRead-refused key
-      (position_of (machine_of old)) read.answer old.readings new.readings read.read
+      (board_of old) read.answer old.readings new.readings read.read
       (sym read.refused ∙ none)
   unrefused Many read none = let fewer = read.counts.refused in omega (arith, fewer, none)
 
@@ -49,7 +50,7 @@ module _ (old new : SessionState) where
   same_room : (asks : Asks) → ReadsAs asks old new → room_of new ≡ room_of old
   same_room Nothing read = ap (λ (k : KeptReadings). k.1) read.kept
   same_room (One key) read =
-      HasRead-capacity key (position_of (machine_of old)) read.answer old.readings new.readings read.read
+      HasRead-capacity key (board_of old) read.answer old.readings new.readings read.read
   same_room Many read = read.capacity
 
   -- a line that is no `match_patterns` moves what is at hand back by one place at most, and only an `attack` or
@@ -65,26 +66,26 @@ module _ (old new : SessionState) where
       let one : one_if (is_reading name) ≡ 1 = ap one_if fits in (
         suc n,
         omega (arith, one),
-        IsAtHand-later key pos n other (position_of (machine_of old)) read.answer old.readings new.readings read.read
+        IsAtHand-later key pos n other (board_of old) read.answer old.readings new.readings read.read
             (sym read.refused ∙ none) (omega (arith, one, few)) room hand,
       )
   still_at_hand key pos n Many name read fits apart none few room hand =
       absurd (let both : true ≡ false = sym fits ∙ apart in cc)
 
 -- where no refused keeping is counted after some lines, none was before them
-unrefused_along : (turns : List (Turn Machine)) (a b : SessionState) → IsAlong IsAfterLine a turns b
-    → b.counts.refused ≡ 0
-    → a.counts.refused ≡ 0
-unrefused_along [] a b along none = subst (λ (k : SessionState). k.counts.refused ≡ 0) along none
+unrefused_along : (turns : List (Turn Machine)) (a b : Kept) → IsAlong IsAfterLine a turns b
+    → b.engine.counts.refused ≡ 0
+    → a.engine.counts.refused ≡ 0
+unrefused_along [] a b along none = subst (λ (k : Kept). k.engine.counts.refused ≡ 0) along none
 unrefused_along (turn ∷ turns) a b (mid, first, rest) none =
-    unrefused a mid (asks_of_line turn.machine turn.line) first.read (unrefused_along turns mid b rest none)
+    unrefused a.engine mid.engine (asks_of_line turn.machine turn.line) first.read (unrefused_along turns mid b rest none)
 
 -- as many questions may be kept after some lines as before them
-same_room_along : (turns : List (Turn Machine)) (a b : SessionState) → IsAlong IsAfterLine a turns b
-    → room_of b ≡ room_of a
-same_room_along [] a b along = ap room_of along
+same_room_along : (turns : List (Turn Machine)) (a b : Kept) → IsAlong IsAfterLine a turns b
+    → room_of b.engine ≡ room_of a.engine
+same_room_along [] a b along = ap (λ (k : Kept). room_of k.engine) along
 same_room_along (turn ∷ turns) a b (mid, first, rest) =
-    same_room_along turns mid b rest ∙ same_room a mid (asks_of_line turn.machine turn.line) first.read
+    same_room_along turns mid b rest ∙ same_room a.engine mid.engine (asks_of_line turn.machine turn.line) first.read
 
 -- a line names no `match_patterns`, and so do those after it
 matching_lines-cons : (turn : Turn Machine) (turns : List (Turn Machine)) → matching_lines (turn ∷ turns) ≡ 0
@@ -99,82 +100,82 @@ reading_lines-cons : (turn : Turn Machine) (turns : List (Turn Machine))
 reading_lines-cons turn turns = sum_by-cons (λ (t : Turn Machine). cond (is_reading (named_in t.line)) 1 0) turn turns
 
 -- so what is at hand stays so along few `attack` and `defend` lines and no `match_patterns` line
-at_hand_along : (key : Key) (pos : BoardState) (turns : List (Turn Machine)) (n : ℕ) (a b : SessionState)
+at_hand_along : (key : Key) (pos : BoardState) (turns : List (Turn Machine)) (n : ℕ) (a b : Kept)
     → IsAlong IsAfterLine a turns b
-    → b.counts.refused ≡ 0 → 8 ≤ room_of a → matching_lines turns ≡ 0 → n + reading_lines turns ≤ 4
-    → IsAtHand key pos n a.readings.kept
-    → (m : ℕ) × IsAtHand key pos m b.readings.kept
+    → b.engine.counts.refused ≡ 0 → 8 ≤ room_of a.engine → matching_lines turns ≡ 0 → n + reading_lines turns ≤ 4
+    → IsAtHand key pos n a.engine.readings.kept
+    → (m : ℕ) × IsAtHand key pos m b.engine.readings.kept
 at_hand_along key pos [] n a b along none room apart few hand =
-    (n, subst (λ (k : SessionState). IsAtHand key pos n k.readings.kept) (sym along) hand)
+    (n, subst (λ (k : Kept). IsAtHand key pos n k.engine.readings.kept) (sym along) hand)
 at_hand_along key pos (turn ∷ turns) n a b (mid, first, rest) none room apart few hand =
     let here = matching_lines-cons turn turns apart in
     let count = reading_lines-cons turn turns in
     let asks = asks_of_line turn.machine turn.line in
-    let later = still_at_hand a mid key pos n asks (named_in turn.line) first.read
+    let later = still_at_hand a.engine mid.engine key pos n asks (named_in turn.line) first.read
     (Fits-line turn.machine turn.line) here.0
     (unrefused_along turns mid b rest none) (omega (arith, few, count)) room hand in
-    at_hand_along key pos turns later.0 mid b rest none (omega (arith, room, same_room a mid asks first.read)) here.1
+    at_hand_along key pos turns later.0 mid b rest none (omega (arith, room, same_room a.engine mid.engine asks first.read)) here.1
     (omega (arith, few, count, later.1)) later.2
 
 -- what is asked of two machines that are one
-module _ (k0 k new : SessionState) (before : List (Turn Machine)) (now : Turn Machine)
+module _ (k0 k new : Kept) (before : List (Turn Machine)) (now : Turn Machine)
     (along : IsAlong IsAfterLine k0 before k)
-    (line : IsAfterLine k now new) (none : new.counts.refused ≡ 0) (room : 8 ≤ room_of k0) where
+    (line : IsAfterLine k now new) (none : new.engine.counts.refused ≡ 0) (room : 8 ≤ room_of k0.engine) where
   -- a certain hit is not fresh
-  pub hit_is_kept : IsCertainHit before now → new.counts.fresh ≡ k.counts.fresh
+  pub hit_is_kept : IsCertainHit before now → new.engine.counts.fresh ≡ k.engine.counts.fresh
   hit_is_kept hit =
       let key : Key = record { question = hit.question } in
       let parts = IsAlong-split IsAfterLine k0 k hit.first (hit.earlier ∷ hit.between)
       (subst (λ ts. IsAlong IsAfterLine k0 ts k) hit.place along) in
       let a = parts.0 in
       let b = parts.2.0 in
-      let read : ReadsOnce key a b = subst (λ asks. ReadsAs asks a b) hit.asked parts.2.1.read in
-      let again : ReadsOnce key k new = subst (λ asks. ReadsAs asks k new) hit.again line.read in
-      let unrefused_now : k.counts.refused ≡ 0 = unrefused k new (asks_of_line now.machine now.line) line.read none in
-      let unrefused_then : b.counts.refused ≡ 0 = unrefused_along hit.between b k parts.2.2 unrefused_now in
-      let there = position_of (machine_of a) in
-      let hand = IsAtHand-first key there read.answer a.readings b.readings read.read read.rest
+      let read : ReadsOnce key a.engine b.engine = subst (λ asks. ReadsAs asks a.engine b.engine) hit.asked parts.2.1.read in
+      let again : ReadsOnce key k.engine new.engine = subst (λ asks. ReadsAs asks k.engine new.engine) hit.again line.read in
+      let unrefused_now : k.engine.counts.refused ≡ 0 = unrefused k.engine new.engine (asks_of_line now.machine now.line) line.read none in
+      let unrefused_then : b.engine.counts.refused ≡ 0 = unrefused_along hit.between b k parts.2.2 unrefused_now in
+      let there = board_of a.engine in
+      let hand = IsAtHand-first key there read.answer a.engine.readings b.engine.readings read.read read.rest
       (sym read.refused ∙ unrefused_then) in
-      let rooms : 8 ≤ room_of b =
-      (let same = same_room a b (One key) read in let earlier = same_room_along hit.first k0 a parts.1 in
+      let rooms : 8 ≤ room_of b.engine =
+      (let same = same_room a.engine b.engine (One key) read in let earlier = same_room_along hit.first k0 a parts.1 in
       omega (arith, room, same, earlier)) in
       let few = hit.few in
       let kept = at_hand_along key there hit.between 1 b k parts.2.2 unrefused_now rooms hit.no_matching
       (omega (arith, few)) hand in
-      let moved : AgreeOn (InActiveArea hit.question there) there (position_of (machine_of k)) =
+      let moved : AgreeOn (InActiveArea hit.question there) there (board_of k.engine) =
       subst (λ (m : Machine). AgreeOn (InActiveArea hit.question (position_of m)) (position_of m)
-      (position_of (machine_of k))) parts.2.1.machine
+      (board_of k.engine)) parts.2.1.machine
       (subst (λ (m : Machine). AgreeOn (InActiveArea hit.question (board_at hit.earlier)) (board_at hit.earlier)
       (position_of m)) line.machine hit.agree) in
       let last = IsAtHand-kept key there kept.0
-      (position_of (machine_of k)) again.answer k.readings new.readings kept.1 again.board moved again.read in
-      again.fresh ∙ ap (λ (o : Option ℕ). counted k.counts.fresh (is_some o)) last
+      (board_of k.engine) again.answer k.engine.readings new.engine.readings kept.1 again.board moved again.read in
+      again.fresh ∙ ap (λ (o : Option ℕ). counted k.engine.counts.fresh (is_some o)) last
 
   -- and is counted
-  pub hit_is_counted : IsCertainHit before now → new.counts.readings ≡ counted k.counts.readings true
+  pub hit_is_counted : IsCertainHit before now → new.engine.counts.readings ≡ counted k.engine.counts.readings true
   hit_is_counted hit =
-      line.readings ∙ ap (counted k.counts.readings)
+      line.readings ∙ ap (counted k.engine.counts.readings)
       (is_read_line-one now.machine now.line (record { question = hit.question }) hit.again)
 
 -- A line that is counted may be fresh; no other is.
-module _ (old new : SessionState) (m : ℕ) where
+module _ (old new : Kept) (m : ℕ) where
   -- by what is asked
-  gap_by : (asks : Asks) (counts : Bool) → ((key : Key) → asks ≡ One key → counts ≡ true) → ReadsAs asks old new
-      → new.counts.readings ≡ counted old.counts.readings counts → old.counts.readings + 1 < 2 ^ 64
-      → old.counts.fresh + m ≤ old.counts.readings → (new.counts.fresh + m ≤ new.counts.readings)
-      × (new.counts.readings ≤ old.counts.readings + 1)
+  gap_by : (asks : Asks) (counts : Bool) → ((key : Key) → asks ≡ One key → counts ≡ true) → ReadsAs asks old.engine new.engine
+      → new.engine.counts.readings ≡ counted old.engine.counts.readings counts → old.engine.counts.readings + 1 < 2 ^ 64
+      → old.engine.counts.fresh + m ≤ old.engine.counts.readings → (new.engine.counts.fresh + m ≤ new.engine.counts.readings)
+      × (new.engine.counts.readings ≤ old.engine.counts.readings + 1)
   gap_by Nothing counts one read readings small gap =
       let fresh = ap (λ (c : Counts). c.fresh) read.counts in
       let same = ap (λ (c : Counts). c.readings) read.counts in
       (omega (arith, fresh, same, gap), omega (arith, same))
   gap_by (One key) counts one read readings small gap =
-      let more : new.counts.readings ≡ old.counts.readings + 1 =
-      (let is = readings ∙ ap (counted old.counts.readings) (one key refl) in omega (arith, is, small)) in
-      let fresher = fresher_by (is_some new.readings.last) read.fresh in
+      let more : new.engine.counts.readings ≡ old.engine.counts.readings + 1 =
+      (let is = readings ∙ ap (counted old.engine.counts.readings) (one key refl) in omega (arith, is, small)) in
+      let fresher = fresher_by (is_some new.engine.readings.last) read.fresh in
       (omega (arith, more, fresher, gap), omega (arith, more))
     where
-      fresher_by : (fresh : Bool) → new.counts.fresh ≡ counted old.counts.fresh fresh
-          → new.counts.fresh ≤ old.counts.fresh + 1
+      fresher_by : (fresh : Bool) → new.engine.counts.fresh ≡ counted old.engine.counts.fresh fresh
+          → new.engine.counts.fresh ≤ old.engine.counts.fresh + 1
       fresher_by true is = omega (arith, is)
       fresher_by false is = omega (arith, is)
   gap_by Many counts one read readings small gap =
@@ -183,23 +184,23 @@ module _ (old new : SessionState) (m : ℕ) where
       (omega (arith, fresh, same, gap), omega (arith, same))
 
   -- after a line as many readings are not fresh as before it
-  gap_after : (turn : Turn Machine) → IsAfterLine old turn new → old.counts.readings + 1 < 2 ^ 64
-      → old.counts.fresh + m ≤ old.counts.readings → (new.counts.fresh + m ≤ new.counts.readings)
-      × (new.counts.readings ≤ old.counts.readings + 1)
+  gap_after : (turn : Turn Machine) → IsAfterLine old turn new → old.engine.counts.readings + 1 < 2 ^ 64
+      → old.engine.counts.fresh + m ≤ old.engine.counts.readings → (new.engine.counts.fresh + m ≤ new.engine.counts.readings)
+      × (new.engine.counts.readings ≤ old.engine.counts.readings + 1)
   gap_after turn line small gap =
       gap_by (asks_of_line turn.machine turn.line) (is_read_line turn.machine turn.line)
       (is_read_line-one turn.machine turn.line) line.read
       line.readings small gap
 
 -- n certain hits among the lines leave n readings more that are not fresh
-pub hits_are_kept : (k0 : SessionState) (before turns : List (Turn Machine)) (k b : SessionState) (m n : ℕ)
+pub hits_are_kept : (k0 : Kept) (before turns : List (Turn Machine)) (k b : Kept) (m n : ℕ)
     → IsAlong IsAfterLine k0 before k
-    → IsAlong IsAfterLine k turns b → 8 ≤ room_of k0 → b.counts.refused ≡ 0 → HaveCertainHits before turns n
-    → k.counts.fresh + m ≤ k.counts.readings → k.counts.readings + length turns < 2 ^ 64
-    → b.counts.fresh + (m + n) ≤ b.counts.readings
+    → IsAlong IsAfterLine k turns b → 8 ≤ room_of k0.engine → b.engine.counts.refused ≡ 0 → HaveCertainHits before turns n
+    → k.engine.counts.fresh + m ≤ k.engine.counts.readings → k.engine.counts.readings + length turns < 2 ^ 64
+    → b.engine.counts.fresh + (m + n) ≤ b.engine.counts.readings
 hits_are_kept k0 before [] k b m n earlier along room none hits gap small =
-    let fresh = ap (λ (s : SessionState). s.counts.fresh) along in
-    let readings = ap (λ (s : SessionState). s.counts.readings) along in
+    let fresh = ap (λ (s : Kept). s.engine.counts.fresh) along in
+    let readings = ap (λ (s : Kept). s.engine.counts.readings) along in
     omega (arith, fresh, readings, hits, gap)
 hits_are_kept k0 before (turn ∷ turns) k b m n earlier (mid, first, rest) room none (inl later) gap small =
     let next = gap_after k mid m turn first (omega (arith, small)) gap in

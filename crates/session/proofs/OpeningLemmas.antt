@@ -5,7 +5,9 @@ use Rattle.std.proofs.Math.Seq.{drop-append_seam}
 use Rattle.std.proofs.lemmas.List.{map-append, take_more}
 use Rattle.std.proofs.lemmas.List.Concat.{flat_map-append}
 use Rattle.gtp_io.specs.Loading.{IsLoaded}
-use Rattle.session.specs.PatternFiles.{added_feed, ended, joined_text, IsContents, AreContents, IsJoined, Adds, MissedBy}
+use Rattle.machine_rules.specs.Files.{IsContents}
+use Rattle.session.specs.PatternFiles.{added_feed, ended, joined_text, AreContents, IsJoined, Adds, MissedBy}
+use Rattle.machine_rules.specs.Files.{IsContents}
 use Rattle.session.specs.PatternFiles.{MissedIn, IsDatabase, RefusesStates, IsRefused, unloaded, unread}
 use Rattle.db_read.specs.Reading.{BlamesAt}
 use Rattle.db_read.specs.declared.error.DbError.{DbError}

@@ -12,7 +12,8 @@ use Rattle.gtp_lex.proofs.HeldLemmas.{lines_with_rest-lines_from}
 use Rattle.run_notes.specs.declared.notes.Counts.{Counts}
 use Rattle.match_engine.specs.Readings.{KeptReadings, nothing_kept}
 use Rattle.machine_rules.specs.Machine.{Machine}
-use Rattle.engine.specs.SessionState.{SessionState, no_counts}
+use Rattle.engine.specs.Kept.{Kept}
+use Rattle.engine.specs.SessionState.{no_counts}
 use Rattle.machine_rules.specs.Counting.{counted, is_read_line, readings_in}
 use Rattle.machine_rules.specs.Questions.{Asks, Nothing, One, Many, AskNothing}
 use Rattle.engine.specs.AfterLine.{ReadsAs, ReadsNothing, IsAfterLine}
@@ -64,7 +65,7 @@ ended-few bytes =
     let all = lines-few bytes in
     omega (arith, both, all)
 
-module _ {M : Type 0} (step : M → RawLine → Step M) where
+module _ {M : Type 0} (step : M → RawLine → Step M → Type 0) where
   -- no more lines are tallied than there are
   turns-few : (old : M) (lines : List RawLine) (tally : Tally M) (new : M) (ended : Bool)
       → IsTallied step old lines tally new ended
@@ -73,12 +74,12 @@ module _ {M : Type 0} (step : M → RawLine → Step M) where
   turns-few old (x ∷ xs) tally new ended (first, rest, mid, true, answers, joined, h) =
       let none = ap (λ (t : Tally M). length t.turns) h.0 in
       let all = ap (λ (t : Tally M). length t.turns) joined in
-      let both = length-append (one_turn old x) rest.turns in
+      let both = length-append (one_turn old x first) rest.turns in
       omega (arith, none, all, both)
   turns-few old (x ∷ xs) tally new ended (first, rest, mid, false, answers, joined, h) =
       let later = turns-few mid xs rest new ended h in
       let all = ap (λ (t : Tally M). length t.turns) joined in
-      let both = length-append (one_turn old x) rest.turns in
+      let both = length-append (one_turn old x first) rest.turns in
       omega (arith, later, all, both)
 
   -- nor where a reply broke off
@@ -87,7 +88,7 @@ module _ {M : Type 0} (step : M → RawLine → Step M) where
   cut-few first lines tally cut =
       let before = turns-few first cut.before cut.whole cut.mid false cut.answered in
       let all = ap (λ (t : Tally M). length t.turns) cut.tallied in
-      let both = length-append cut.whole.turns (one_turn cut.mid cut.line) in
+      let both = length-append cut.whole.turns (one_turn cut.mid cut.line (cut.part ++ cut.missing)) in
       let lens = ap length cut.place ∙ length-append cut.before (cut.line ∷ cut.after) in
       omega (arith, before, all, both, lens)
 
@@ -139,72 +140,72 @@ module _ {M : Type 0} (step : M → RawLine → Step M) where
 -- What was counted.
 
 -- the readings of the lines are counted
-readings_along : (turns : List (Turn Machine)) (a b : SessionState) → IsAlong IsAfterLine a turns b
-    → a.counts.readings + length turns < 2 ^ 64
-    → b.counts.readings ≡ a.counts.readings + readings_in turns
-readings_along [] a b along small = let same = ap (λ (k : SessionState). k.counts.readings) along in omega (arith, same)
+readings_along : (turns : List (Turn Machine)) (a b : Kept) → IsAlong IsAfterLine a turns b
+    → a.engine.counts.readings + length turns < 2 ^ 64
+    → b.engine.counts.readings ≡ a.engine.counts.readings + readings_in turns
+readings_along [] a b along small = let same = ap (λ (k : Kept). k.engine.counts.readings) along in omega (arith, same)
 readings_along (turn ∷ turns) a b (mid, first, rest) small =
     let counts = sum_by-cons (λ (t : Turn Machine). cond (is_read_line t.machine t.line) 1 0) turn turns in
     let here = by (is_read_line turn.machine turn.line) first.readings in
     let later = readings_along turns mid b rest (omega (arith, small, here.1)) in
     omega (arith, counts, here.0, later)
   where
-    by : (reads : Bool) → mid.counts.readings ≡ counted a.counts.readings reads
-        → (mid.counts.readings ≡ a.counts.readings + cond reads 1 0) × (mid.counts.readings ≤ a.counts.readings + 1)
+    by : (reads : Bool) → mid.engine.counts.readings ≡ counted a.engine.counts.readings reads
+        → (mid.engine.counts.readings ≡ a.engine.counts.readings + cond reads 1 0) × (mid.engine.counts.readings ≤ a.engine.counts.readings + 1)
     by true is = (omega (arith, is, small), omega (arith, is))
     by false is = (omega (arith, is), omega (arith, is))
 
 -- no more are fresh than were counted
-few_along : (turns : List (Turn Machine)) (a b : SessionState) → IsAlong IsAfterLine a turns b → HasFewFresh a.counts
-    → HasFewFresh b.counts
-few_along [] a b along few = subst (λ (k : SessionState). HasFewFresh k.counts) (sym along) few
+few_along : (turns : List (Turn Machine)) (a b : Kept) → IsAlong IsAfterLine a turns b → HasFewFresh a.engine.counts
+    → HasFewFresh b.engine.counts
+few_along [] a b along few = subst (λ (k : Kept). HasFewFresh k.engine.counts) (sym along) few
 few_along (turn ∷ turns) a b (mid, first, rest) few =
-    few_along turns mid b rest (few_fresh-line turn.machine turn.line a mid first.readings first.read few)
+    few_along turns mid b rest (few_fresh-line turn.machine turn.line a.engine mid.engine first.readings first.read few)
 
 -- where no reading was fresh, none was before, and no more plays were tried than before
-module _ (turn : Turn Machine) (a b : SessionState) (unfresh : b.counts.fresh ≡ 0) where
-  untried_by : (asks : Asks) → ReadsAs asks a b → (a.counts.fresh ≡ 0) × (b.counts.trials ≡ a.counts.trials)
+module _ (turn : Turn Machine) (a b : Kept) (unfresh : b.engine.counts.fresh ≡ 0) where
+  untried_by : (asks : Asks) → ReadsAs asks a.engine b.engine → (a.engine.counts.fresh ≡ 0) × (b.engine.counts.trials ≡ a.engine.counts.trials)
   untried_by Nothing read =
       (ap (λ (c : Counts). c.fresh) (sym read.counts) ∙ unfresh, ap (λ (c : Counts). c.trials) read.counts)
-  untried_by (One key) read = by b.readings.last read.fresh read.trials
+  untried_by (One key) read = by b.engine.readings.last read.fresh read.trials
     where
-      by : (last : Option ℕ) → b.counts.fresh ≡ counted a.counts.fresh (is_some last)
-          → b.counts.trials ≡ after_trials a.counts.trials last
-          → (a.counts.fresh ≡ 0) × (b.counts.trials ≡ a.counts.trials)
+      by : (last : Option ℕ) → b.engine.counts.fresh ≡ counted a.engine.counts.fresh (is_some last)
+          → b.engine.counts.trials ≡ after_trials a.engine.counts.trials last
+          → (a.engine.counts.fresh ≡ 0) × (b.engine.counts.trials ≡ a.engine.counts.trials)
       by None fresh trials = (sym fresh ∙ unfresh, trials)
       by (Some n) fresh trials = absurd (omega (arith, fresh, unfresh))
   untried_by Many read = (sym read.counts.fresh ∙ unfresh, read.counts.trials)
 
 -- the same along lines
-untried_along : (turns : List (Turn Machine)) (a b : SessionState) → IsAlong IsAfterLine a turns b
-    → b.counts.fresh ≡ 0 → (a.counts.fresh ≡ 0) × (b.counts.trials ≡ a.counts.trials)
+untried_along : (turns : List (Turn Machine)) (a b : Kept) → IsAlong IsAfterLine a turns b
+    → b.engine.counts.fresh ≡ 0 → (a.engine.counts.fresh ≡ 0) × (b.engine.counts.trials ≡ a.engine.counts.trials)
 untried_along [] a b along unfresh =
-    (ap (λ (k : SessionState). k.counts.fresh) (sym along) ∙ unfresh, ap (λ (k : SessionState). k.counts.trials) along)
+    (ap (λ (k : Kept). k.engine.counts.fresh) (sym along) ∙ unfresh, ap (λ (k : Kept). k.engine.counts.trials) along)
 untried_along (turn ∷ turns) a b (mid, first, rest) unfresh =
     let later = untried_along turns mid b rest unfresh in
     let here = untried_by turn a mid later.0 (asks_of_line turn.machine turn.line) first.read in
     (here.0, later.1 ∙ here.1)
 
 -- where no line asks for anything, all is counted that was
-idle_along : (turns : List (Turn Machine)) (a b : SessionState) → IsAlong IsAfterLine a turns b → AskNothing turns
-    → b.counts ≡ a.counts
-idle_along [] a b along idle = ap (λ (k : SessionState). k.counts) along
+idle_along : (turns : List (Turn Machine)) (a b : Kept) → IsAlong IsAfterLine a turns b → AskNothing turns
+    → b.engine.counts ≡ a.engine.counts
+idle_along [] a b along idle = ap (λ (k : Kept). k.engine.counts) along
 idle_along (turn ∷ turns) a b (mid, first, rest) idle =
-    let nothing : ReadsNothing a mid = subst (λ asks. ReadsAs asks a mid) (idle 0 turn (omega arith)) first.read in
+    let nothing : ReadsNothing a.engine mid.engine = subst (λ asks. ReadsAs asks a.engine mid.engine) (idle 0 turn (omega arith)) first.read in
     idle_along turns mid b rest (λ k d low. idle (suc k) d (omega (arith, low))) ∙ nothing.counts
 
 -- the counts of a session that has answered few lines since it had counted nothing
-pub counts_of : (capacity : ℕ) (first last : SessionState) (turns : List (Turn Machine)) → IsAlong IsAfterLine first turns last
-    → first.counts ≡ no_counts
-    → first.readings.kept ≡ nothing_kept capacity → 8 ≤ capacity → length turns ≤ most_taken + 1
-    → AreCountsOf capacity turns last.counts
+pub counts_of : (capacity : ℕ) (first last : Kept) (turns : List (Turn Machine)) → IsAlong IsAfterLine first turns last
+    → first.engine.counts ≡ no_counts
+    → first.engine.readings.kept ≡ nothing_kept capacity → 8 ≤ capacity → length turns ≤ most_taken + 1
+    → AreCountsOf capacity turns last.engine.counts
 counts_of capacity first last turns along none kept room few =
     let open_room = subst (λ (k : KeptReadings). 8 ≤ k.1) (sym kept) room in
     let readings = ap (λ (c : Counts). c.readings) none in
     let fresh = ap (λ (c : Counts). c.fresh) none in
-    let small : first.counts.readings + length turns < 2 ^ 64 = omega (arith, readings, few) in
+    let small : first.engine.counts.readings + length turns < 2 ^ 64 = omega (arith, readings, few) in
     let all = readings_along turns first last along small in
-    let start : HasFewFresh first.counts =
+    let start : HasFewFresh first.engine.counts =
     record { few = omega (arith, readings, fresh); small = omega (arith, readings) } in
     record {
       readings = omega (arith, readings, all);

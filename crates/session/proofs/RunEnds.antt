@@ -6,12 +6,12 @@ use Rattle.std.proofs.KnownBytes.{Consumes-trans, Consumes-kept}
 use Rattle.std.proofs.lemmas.List.{take_at, take_all, length-take-le}
 use Rattle.gtp_rules.specs.Lines.{RawLine, Line, lines_of, lines_with_rest, rest_of, rest_line}
 use Rattle.gtp_rules.specs.Steps.{Step}
-use Rattle.gtp_rules.specs.Transcript.{GoesOn}
+use Rattle.gtp_rules.specs.Transcript.{GoesOn, IsTotal}
 use Rattle.gtp_rules.proofs.Runs.{Cut-front}
 use Rattle.gtp_lex.specs.Held.{lines_from, held_from, held_line}
 use Rattle.gtp_lex.proofs.HeldLemmas.{lines_from-append, held_from-append, lines_of-lines_from}
 use Rattle.gtp_lex.proofs.HeldLemmas.{lines_with_rest-lines_from}
-use Rattle.engine.specs.SessionState.{SessionState}
+use Rattle.engine.specs.Kept.{Kept}
 use Rattle.machine_rules.specs.Turns.{Turn}
 use Rattle.session.specs.Tallies.{Tally, Progress, Advances, IsTallied, together}
 use Rattle.session.specs.Serving.{RunsTo, RunsPart}
@@ -23,7 +23,7 @@ use Rattle.session.specs.declared.outcome.End.TheVariants.{Done, InputFault, Out
 
 -- some bytes were taken and some put, each line that ended was answered, the rest is held, and room bytes may still
 -- be taken
-pub record Served {M : Type 0} (step : M → RawLine → Step M) (goes : SessionState → Turn M → SessionState → Type 0)
+pub record Served {M : Type 0} (step : M → RawLine → Step M → Type 0) (goes : Kept → Turn M → Kept → Type 0)
     (first now : M)
     (left_old left_new : Option (List ℕ)) (old new : Progress) (held : RawLine) (room : ℕ) : Type 0 where
   pub taken : List ℕ
@@ -35,7 +35,7 @@ pub record Served {M : Type 0} (step : M → RawLine → Step M) (goes : Session
   pub few : length taken + room ≡ most_taken
 
 -- what was answered of the lines from the front was answered of the lines of the bytes
-tallied_lines : {M : Type 0} (step : M → RawLine → Step M) (taken : List ℕ) (first now : M)
+tallied_lines : {M : Type 0} (step : M → RawLine → Step M → Type 0) (taken : List ℕ) (first now : M)
     (tally : Tally M) (ended : Bool) → IsTallied step first (lines_from (Line []) taken) tally now ended
     → IsTallied step first (lines_of taken) tally now ended
 tallied_lines step taken first now tally ended run =
@@ -55,7 +55,7 @@ earlier-append taken part piece len =
     ∙ take_at taken part (length taken) refl
 
 -- The source gave a piece, its lines were answered, and none ended the session.
-pub served_more : (M : Type 0) (step : M → RawLine → Step M) (goes : SessionState → Turn M → SessionState → Type 0)
+pub served_more : (M : Type 0) (step : M → RawLine → Step M → Type 0) (goes : Kept → Turn M → Kept → Type 0)
     (first now : M)
     (l0 l1 : Option (List ℕ)) (p0 p1 : Progress) (held : RawLine) (room : ℕ)
     → Served step goes first now l0 l1 p0 p1 held room → (l2 : Option (List ℕ)) (p2 : Progress) (part : List ℕ)
@@ -76,7 +76,7 @@ served_more M step goes first now l0 l1 p0 p1 held room s l2 p2 part reads n new
   few = let few = s.few in let both = length-append s.taken part in omega (arith, few, both);
 }
 
-module _ (M : Type 0) (step : M → RawLine → Step M) (goes : SessionState → Turn M → SessionState → Type 0)
+module _ (M : Type 0) (step : M → RawLine → Step M → Type 0) (goes : Kept → Turn M → Kept → Type 0)
     (first now : M)
     (before : Streams)
     (l1 : Option (List ℕ)) (p0 p1 : Progress) (held : RawLine) (room : ℕ)
@@ -171,9 +171,9 @@ module _ (M : Type 0) (step : M → RawLine → Step M) (goes : SessionState →
         }
 
     -- the reply to the rest broke off
-    pub served_cut_end : RunsPart step goes now (held_line held) p1 p2
+    pub served_cut_end : IsTotal step → RunsPart step goes now (held_line held) p1 p2
         → ServesCounting None step goes first before after OutputFault p0 p2
-    served_cut_end runs =
+    served_cut_end total runs =
         let tally = together s.tally runs.tally in
         let both = Advances-trans goes p0 p1 p2 s.tally runs.tally s.advances runs.advances in
         let off = BreaksOff-is M step first _ _ tally with_held
@@ -190,7 +190,7 @@ module _ (M : Type 0) (step : M → RawLine → Step M) (goes : SessionState →
             writes = put_since after p2 tally holds both;
             right = record {
               few = let few = s.few in omega arith;
-              front = Cut-front M step first _ _ broken;
+              front = Cut-front M step total first _ _ broken;
               cut = broken;
               in_last =
                   subst (λ t. length (lines_of t) ≤ length (lines_from (Line []) s.taken ++ runs.cut.before))
@@ -245,10 +245,10 @@ module _ (M : Type 0) (step : M → RawLine → Step M) (goes : SessionState →
         }
 
     -- the reply to one of its lines broke off
-    pub served_cut : length part ≡ after.piece → after.piece ≤ room → RunsPart step goes now
+    pub served_cut : IsTotal step → length part ≡ after.piece → after.piece ≤ room → RunsPart step goes now
         (lines_from held part) p1 p2
         → ServesCounting None step goes first before after OutputFault p0 p2
-    served_cut len within runs =
+    served_cut total len within runs =
         let tally = together s.tally runs.tally in
         let both = Advances-trans goes p0 p1 p2 s.tally runs.tally s.advances runs.advances in
         let answered_lines = lines_from (Line []) s.taken in
@@ -267,7 +267,7 @@ module _ (M : Type 0) (step : M → RawLine → Step M) (goes : SessionState →
             writes = put_since after p2 tally holds both;
             right = record {
               few = let few = s.few in let lens = length-append s.taken part in omega (arith, few, lens);
-              front = Cut-front M step first _ _ broken;
+              front = Cut-front M step total first _ _ broken;
               cut = broken;
               in_last =
                   subst (λ t. length (lines_of t) ≤ length (answered_lines ++ runs.cut.before))

@@ -1,25 +1,28 @@
 -- How a run of a command line came to its end, by how it read its options, opened its files and served its lines.
 use Rattle.std.proofs.Common.{◌≡◌, ◌≢◌, ℕ, ◌+◌, Bool, true, false, cond, List, ◌++◌, length, Option, Some, None, refl}
-use Rattle.std.proofs.Common.{sym, ap, subst, ◌∙◌, ◌≤◌, ◌<◌, arith}
+use Rattle.std.proofs.Common.{[], ◌∷◌, sym, ap, subst, ◌∙◌, ◌≤◌, ◌<◌, arith, append_assoc, append-nil}
 use Rattle.std.proofs.lemmas.List.{length-append}
 use Rattle.std.specs.Prelude.{option_map}
+use Rattle.std.specs.List.{flat_map}
 use Rattle.gtp_lex.specs.Lines.{LinesState}
 use Rattle.go_options.specs.declared.options.Options.{Options}
 use Rattle.run_notes.specs.declared.notes.Counts.{Counts}
 use Rattle.run_notes.specs.declared.notes.Sent.{Sent}
 use Rattle.machine_rules.specs.Machine.{Machine}
-use Rattle.machine_rules.specs.Turns.{Turn}
+use Rattle.machine_rules.specs.Files.{Contents}
+use Rattle.machine_rules.specs.Loads.{missed_in}
+use Rattle.machine_rules.specs.Turns.{Turn, IsAlong}
 use Rattle.engine.specs.AfterLine.{IsAfterLine}
 use Rattle.session.specs.Tallies.{Tally, Progress, kept_sum}
 use Rattle.gtp_rules.specs.Lines.{RawLine}
 use Rattle.gtp_rules.specs.Steps.{Step}
 use Rattle.workload.specs.GeneratedLines.{generated_text}
 use Rattle.workload.proofs.LengthLemmas.{generated_length}
-use Rattle.helpers.specs.Asking.{SlotState, says_yes}
+use Rattle.helpers.specs.Asking.{SlotState}
 use Rattle.machine_rules.specs.Step.{step}
 use Rattle.engine.specs.Handed.{helper_names}
-use Rattle.machine_rules.specs.Matcher.{Matcher}
-use Rattle.engine.specs.SessionState.{SessionState, machine_of}
+use Rattle.engine.specs.Kept.{Kept, kept_with}
+use Rattle.engine.specs.SessionState.{SessionState, machine_with, matcher_of}
 use Rattle.session.specs.PatternFiles.{IsRefused, MissedIn}
 use Rattle.session.specs.FirstSession.{Opens, CameBy, ServesCounting, EndsCounting}
 use Rattle.session.specs.Outcomes.{Phase, NotOpened, Served}
@@ -44,35 +47,44 @@ sent-told : {M : Type 0} (generate : Option ℕ) (sent : Sent) (tally : Tally M)
 sent-told None sent tally lines bytes = refl
 sent-told (Some n) sent tally lines bytes = (lines, bytes)
 
+-- the names missed along lines are those of the lines, in their order
+missed_along : (turns : List (Turn Machine)) (old new : Kept) → IsAlong IsAfterLine old turns new
+    → new.missed ≡ old.missed ++ flat_map missed_in turns
+missed_along [] old new along = ap (λ (k : Kept). k.missed) along ∙ sym (append-nil old.missed)
+missed_along (turn ∷ turns) old new (mid, first, rest) =
+    missed_along turns mid new rest ∙ ap (λ l. l ++ flat_map missed_in turns) first.missed
+    ∙ append_assoc old.missed (missed_in turn) (flat_map missed_in turns)
+
 -- the files were opened, and the session served the lines
-pub came-served : (helpers : List SlotState) (contents : List ℕ → Option (List ℕ)) (options : Options)
-    (session : SessionState) (matcher : Matcher) (lines : LinesState)
+pub came-served : (helpers slots : List SlotState) (contents : Contents) (options : Options)
+    (session : SessionState) (lines : LinesState) (missed now : List (List ℕ))
     (before after : Streams) (end : End) (counts : Counts) (w0 w1 : Option (List ℕ)) (sent : Sent)
     (told : Option Counts) (noted : Option Sent)
-    (phase : Phase) → Opens helpers contents options session matcher lines
-    → EndsCounting options.generate (step matcher) IsAfterLine (machine_of session) before after end counts
-    (progress_of w0 session (record { lines = 0; bytes = 0 })) w1 sent
+    (phase : Phase) → Opens helpers contents options session slots lines
+    → EndsCounting options.generate (step (matcher_of session) contents) IsAfterLine (machine_with slots session) before
+    after end counts now
+    (progress_of w0 (kept_with slots missed session) (record { lines = 0; bytes = 0 })) w1 sent
     → told ≡ cond options.stats (Some counts) None → noted ≡ option_map (λ _. sent) options.generate
-    → phase ≡ Served end → CameBy helpers options contents before after told noted phase
-came-served helpers contents options session matcher lines before after end counts w0 w1 sent told noted phase opens
-    ends tells notes is =
+    → phase ≡ Served end → CameBy helpers options contents missed now before after told noted phase
+came-served helpers slots contents options session lines missed now before after end counts w0 w1 sent told noted phase
+    opens ends tells notes is =
     let counting = ends.serves in
-    let now = ends.kept in
-    let lines = served-few (step matcher) options.generate
-    (machine_of session) before after end counting.tally counting.serves in
-    let are = counts_of options.cache session now counting.tally.turns counting.advances.along opens.plain.counts
-    opens.plain.kept opens.plain.room lines in
-    subst (CameBy helpers options contents before after told noted) (sym is) (record {
+    let kept = ends.kept in
+    let lines = served-few (step (matcher_of session) contents) options.generate
+    (machine_with slots session) before after end counting.tally counting.serves in
+    let are = counts_of options.cache (kept_with slots missed session) kept counting.tally.turns counting.advances.along
+    opens.plain.counts opens.plain.kept opens.plain.room lines in
+    subst (CameBy helpers options contents missed now before after told noted) (sym is) (record {
       patterns = opens.patterns;
       opened = opens.opened;
       tally = counting.tally;
-      serves = ServesLines-plain (says_yes helpers) opens.patterns options.depth options.branch options.cache session
-          matcher
-          options.generate before after end
-          counting.tally opens.plain counting.serves;
+      serves = ServesLines-plain opens.patterns options.depth options.branch options.cache session slots helpers contents
+          options.generate before after end counting.tally opens.plain opens.same counting.serves;
+      names = ends.names
+          ∙ missed_along counting.tally.turns (kept_with slots missed session) kept counting.advances.along;
       counted = subst (λ o. AreCounts options.stats options.cache o counting.tally)
           (sym (tells ∙ ap (λ (k : Counts). cond options.stats (Some k) None) ends.same))
-          (counts-told options.stats options.cache now.counts counting.tally are);
+          (counts-told options.stats options.cache kept.engine.counts counting.tally are);
       told = subst (λ o. IsSent options.generate o counting.tally) (sym notes)
           (sent-told options.generate sent counting.tally counting.advances.replies counting.advances.bytes);
     })
@@ -86,7 +98,7 @@ uncaused fault count cause = record {
 }
 
 -- a run that took a part of so many generated lines did not take as many bytes as the longest input has
-not_too_long : {M : Type 0} (step : M → RawLine → Step M) (first : M) (left : Option (List ℕ))
+not_too_long : {M : Type 0} (step : M → RawLine → Step M → Type 0) (first : M) (left : Option (List ℕ))
     (text rest taken put : List ℕ) (piece n : ℕ) (end : End) → n ≤ 100000 → text ≡ generated_text n
     → text ≡ taken ++ rest → IsRight step first left taken put piece end → end ≢ InputTooLong
 not_too_long step first left text rest taken put piece n end few is reads right too_long =
@@ -96,8 +108,8 @@ not_too_long step first left text rest taken put piece n end few is reads right 
     omega (arith, taken_all, short, parts)
 
 -- generated lines were served in place of the source
-serves-generated : {M : Type 0} (n : ℕ) (step : M → RawLine → Step M)
-    (goes : SessionState → Turn M → SessionState → Type 0)
+serves-generated : {M : Type 0} (n : ℕ) (step : M → RawLine → Step M → Type 0)
+    (goes : Kept → Turn M → Kept → Type 0)
     (first : M)
     (left : Option (List ℕ)) (piece faults : ℕ) (w0 w1 : Option (List ℕ)) (c0 c1 f0 f1 p : ℕ) (text rest : List ℕ)
     (last : ℕ)
@@ -148,24 +160,25 @@ serves-generated n step goes first left piece faults w0 w1 c0 c1 f0 f1 p text re
     })
 
 -- the same, with the counts that are noted
-pub ends-generated : {M : Type 0} (n : ℕ) (step : M → RawLine → Step M)
-    (goes : SessionState → Turn M → SessionState → Type 0)
+pub ends-generated : {M : Type 0} (n : ℕ) (step : M → RawLine → Step M → Type 0)
+    (goes : Kept → Turn M → Kept → Type 0)
     (first : M)
     (left : Option (List ℕ)) (piece faults : ℕ) (w0 w1 : Option (List ℕ)) (c0 c1 f0 f1 p : ℕ) (text rest : List ℕ)
     (last : ℕ)
-    (end : End) (counts : Counts) (old : Progress) (written : Option (List ℕ)) (sent : Sent) (generate : Option ℕ)
-    → generate ≡ Some n → n ≤ 100000 → text ≡ generated_text n → EndsCounting None step goes first
+    (end : End) (counts : Counts) (missed : List (List ℕ)) (old : Progress) (written : Option (List ℕ)) (sent : Sent)
+    (generate : Option ℕ) → generate ≡ Some n → n ≤ 100000 → text ≡ generated_text n → EndsCounting None step goes first
     (record { left = Some text; piece = p; input_faults = f0; written = w0; output_faults = c0 })
-    (record { left = Some rest; piece = last; input_faults = f1; written = w1; output_faults = c1 }) end counts old
+    (record { left = Some rest; piece = last; input_faults = f1; written = w1; output_faults = c1 }) end counts missed old
     written sent
     → EndsCounting generate step goes first
     (record { left = left; piece = piece; input_faults = faults; written = w0; output_faults = c0 })
-    (record { left = left; piece = piece; input_faults = faults; written = w1; output_faults = c1 }) end counts old
+    (record { left = left; piece = piece; input_faults = faults; written = w1; output_faults = c1 }) end counts missed old
     written sent
-ends-generated n step goes first left piece faults w0 w1 c0 c1 f0 f1 p text rest last end counts old written sent
+ends-generated n step goes first left piece faults w0 w1 c0 c1 f0 f1 p text rest last end counts missed old written sent
     generate some few is ends = record {
       kept = ends.kept;
       same = ends.same;
+      names = ends.names;
       serves = serves-generated n step goes first left piece faults w0 w1 c0 c1 f0 f1 p text rest last end old
           (progress_of written ends.kept sent) generate some few is ends.serves;
     }
@@ -173,13 +186,12 @@ ends-generated n step goes first left piece faults w0 w1 c0 c1 f0 f1 p text rest
 -- the files were not opened
 module _ (options : Options) (error : OpenError) (phase : Phase) (is : phase ≡ NotOpened error) where
   -- nothing was taken, put or counted, and the error says why
-  pub came-unopened : (helpers : List SlotState) (contents : List ℕ
-      → Option (List ℕ)) (before : Streams) (counts : Option Counts)
-      (sent : Option Sent)
+  pub came-unopened : (helpers : List SlotState) (contents : Contents) (missed now : List (List ℕ)) (before : Streams)
+      (counts : Option Counts) (sent : Option Sent)
       → IsRefused (helper_names helpers) contents options.files options.states error → counts ≡ None → sent ≡ None
-      → CameBy helpers options contents before before counts sent phase
-  came-unopened helpers contents before counts sent refused uncounted unsent =
-      subst (CameBy helpers options contents before before counts sent) (sym is)
+      → CameBy helpers options contents missed now before before counts sent phase
+  came-unopened helpers contents missed now before counts sent refused uncounted unsent =
+      subst (CameBy helpers options contents missed now before before counts sent) (sym is)
       (refused, record { streams = refl; uncounted = uncounted; unsent = unsent })
 
   -- the names missed are as the error says

@@ -15,9 +15,10 @@ use Rattle.gtp_lex.proofs.HeldLemmas.{lines_from-append, held_from-append}
 use Rattle.run_notes.specs.declared.notes.Counts.{Counts}
 use Rattle.run_notes.specs.declared.notes.Sent.{Sent}
 use Rattle.machine_rules.specs.Machine.{Machine}
+use Rattle.machine_rules.specs.Files.{Contents}
 use Rattle.machine_rules.specs.Matcher.{Matcher}
 use Rattle.machine_rules.specs.Step as answering
-use Rattle.engine.specs.SessionState.{SessionState}
+use Rattle.engine.specs.Kept.{Kept}
 use Rattle.machine_rules.specs.Turns.{Turn}
 use Rattle.session.specs.Tallies.{Progress, IsTallied, tally_of, cut_tally, no_tally, together}
 use Rattle.session.specs.Serving.{Replies, RepliesPart, RunsTo, RunsPart, progress_of}
@@ -125,25 +126,33 @@ held_from-take held held' rest n after =
     ap (held_from held) (sym (take-append-drop n rest)) ∙ held_from-append held (take n rest) (drop n rest)
     ∙ ap (λ k. held_from k (drop n rest)) (sym after) ∙ ap (held_from held') (sym (take_rest rest n))
 
--- Two sessions that find matches in one way answer by one step.
-module _ (goes : SessionState → Turn Machine → SessionState → Type 0) (now first : Matcher) (same : now ≡ first) where
+-- Two sessions that find matches in one way answer by one step, where files have the same contents.
+module _ (goes : Kept → Turn Machine → Kept → Type 0) (now first : Matcher) (same : now ≡ first) (here there : Contents)
+    (holds : here ≡ there) where
   -- lines that were answered whole
   pub RunsTo-by : (from : Machine) (lines : List RawLine) (to : Machine) (ended : Bool) (a b : Progress)
-      → RunsTo (answering.step now) goes from lines to ended a b → RunsTo
-      (answering.step first) goes from lines to ended a b
-  RunsTo-by from lines to ended a b runs = subst (λ m. RunsTo (answering.step m) goes from lines to ended a b) same runs
+      → RunsTo (answering.step now here) goes from lines to ended a b
+      → RunsTo (answering.step first there) goes from lines to ended a b
+  RunsTo-by from lines to ended a b runs =
+      subst (λ c. RunsTo (answering.step first c) goes from lines to ended a b) holds
+      (subst (λ m. RunsTo (answering.step m here) goes from lines to ended a b) same runs)
 
   -- lines where the output failed
-  pub MayCut-by : (from : Machine) (lines : List RawLine) (w : Option (List ℕ)) (kept : SessionState) (s : Sent)
-      (b : WaitingState) (stop : Stop) → MayCut (answering.step now) goes from lines w kept s b stop
-      → MayCut (answering.step first) goes from lines w kept s b stop
-  MayCut-by from lines w kept s b stop may = subst (λ m. MayCut (answering.step m) goes from lines w kept s b stop)
-      same may
+  pub MayCut-by : (from : Machine) (lines : List RawLine) (w : Option (List ℕ)) (kept : Kept) (s : Sent)
+      (b : WaitingState) (stop : Stop) (missed : List (List ℕ))
+      → MayCut (answering.step now here) goes from lines w kept s b stop missed
+      → MayCut (answering.step first there) goes from lines w kept s b stop missed
+  MayCut-by from lines w kept s b stop missed may =
+      subst (λ c. MayCut (answering.step first c) goes from lines w kept s b stop missed) holds
+      (subst (λ m. MayCut (answering.step m here) goes from lines w kept s b stop missed) same may)
 
   -- lines where it did
-  pub CutsShort-by : (from : Machine) (lines : List RawLine) (a : Progress) (stop : Stop)
-      → CutsShort (answering.step now) goes from lines a stop → CutsShort (answering.step first) goes from lines a stop
-  CutsShort-by from lines a stop cuts = subst (λ m. CutsShort (answering.step m) goes from lines a stop) same cuts
+  pub CutsShort-by : (from : Machine) (lines : List RawLine) (a : Progress) (stop : Stop) (missed : List (List ℕ))
+      → CutsShort (answering.step now here) goes from lines a stop missed
+      → CutsShort (answering.step first there) goes from lines a stop missed
+  CutsShort-by from lines a stop missed cuts =
+      subst (λ c. CutsShort (answering.step first c) goes from lines a stop missed) holds
+      (subst (λ m. CutsShort (answering.step m here) goes from lines a stop missed) same cuts)
 
 -- bytes that are kept are followed by none
 kept-appends : (old new : Option (List ℕ)) → Keeps old new → Appends old new []
@@ -151,7 +160,7 @@ kept-appends None new keeps = tt
 kept-appends (Some xs) None keeps = absurd keeps
 kept-appends (Some xs) (Some ys) keeps = keeps ∙ sym (append-nil xs)
 
-module _ (M : Type 0) (step : M → RawLine → Step M) (goes : SessionState → Turn M → SessionState → Type 0) where
+module _ (M : Type 0) (step : M → RawLine → Step M → Type 0) (goes : Kept → Turn M → Kept → Type 0) where
   -- one line, answered whole
   pub RunsTo-one : (from : M) (line : RawLine) (to : M) (ends : Bool) (a b : Progress) (lines : List RawLine)
       → lines ≡ line ∷ []
@@ -173,7 +182,7 @@ module _ (M : Type 0) (step : M → RawLine → Step M) (goes : SessionState →
       → RepliesPart step goes from line a b → RunsPart step goes from lines a b
   RunsPart-one from line a b lines more first replies = record {
     tally = cut_tally from line replies.part;
-    cut = BreaksOff-is M step from lines (line ∷ more) (cut_tally from line replies.part) first
+    cut = BreaksOff-is M step from lines (line ∷ more) (cut_tally from line replies.part replies.missing) first
         (BreaksOff-one M step from line more replies.part replies.missing replies.next replies.ends replies.answers
         replies.proper);
     advances = replies.advances;
@@ -229,30 +238,35 @@ module _ (M : Type 0) (step : M → RawLine → Step M) (goes : SessionState →
 
   -- lines that broke off, after lines answered whole
   CutsShort-after : (from mid : M) (xs ys : List RawLine) (a b : Progress) (stop : Stop)
-      → RunsTo step goes from xs mid false a b → CutsShort step goes mid ys b stop
-      → CutsShort step goes from (xs ++ ys) a stop
-  CutsShort-after from mid xs ys a b stop earlier cuts = record {
+      (missed : List (List ℕ)) → RunsTo step goes from xs mid false a b → CutsShort step goes mid ys b stop missed
+      → CutsShort step goes from (xs ++ ys) a stop missed
+  CutsShort-after from mid xs ys a b stop missed earlier cuts = record {
     kept = cuts.kept;
     same = cuts.same;
+    names = cuts.names;
     runs = RunsPart-after from mid xs ys a b (progress_of stop.written cuts.kept stop.sent) earlier cuts.runs;
   }
 
   -- lines that broke off, before other lines
-  CutsShort-more : (from : M) (xs ys : List RawLine) (a : Progress) (stop : Stop) → CutsShort step goes from xs a stop
-      → CutsShort step goes from (xs ++ ys) a stop
-  CutsShort-more from xs ys a stop cuts = record {
+  CutsShort-more : (from : M) (xs ys : List RawLine) (a : Progress) (stop : Stop)
+      (missed : List (List ℕ)) → CutsShort step goes from xs a stop missed
+      → CutsShort step goes from (xs ++ ys) a stop missed
+  CutsShort-more from xs ys a stop missed cuts = record {
     kept = cuts.kept;
     same = cuts.same;
+    names = cuts.names;
     runs = RunsPart-more from xs ys a (progress_of stop.written cuts.kept stop.sent) cuts.runs;
   }
 
   -- the same lines
-  CutsShort-is : (from : M) (xs ys : List RawLine) (a : Progress) (stop : Stop) → xs ≡ ys
-      → CutsShort step goes from ys a stop → CutsShort step goes from xs a stop
-  CutsShort-is from xs ys a stop same cuts = subst (λ l. CutsShort step goes from l a stop) (sym same) cuts
+  CutsShort-is : (from : M) (xs ys : List RawLine) (a : Progress) (stop : Stop)
+      (missed : List (List ℕ)) → xs ≡ ys → CutsShort step goes from ys a stop missed
+      → CutsShort step goes from xs a stop missed
+  CutsShort-is from xs ys a stop missed same cuts =
+      subst (λ l. CutsShort step goes from l a stop missed) (sym same) cuts
 
   -- all that waited was put, or some of it, and no line was answered
-  pub RunsTo-stays : (from : M) (w0 w1 : Option (List ℕ)) (kept : SessionState) (s0 s1 : Sent) (b0 b1 : WaitingState)
+  pub RunsTo-stays : (from : M) (w0 w1 : Option (List ℕ)) (kept : Kept) (s0 s1 : Sent) (b0 b1 : WaitingState)
       → Stays w0 w1 s0 s1 b0 b1
       → RunsTo step goes from [] from false (progress_with w0 kept s0 b0) (progress_with w1 kept s1 b1)
   RunsTo-stays from w0 w1 kept s0 s1 b0 b1 stays = record {
@@ -268,7 +282,7 @@ module _ (M : Type 0) (step : M → RawLine → Step M) (goes : SessionState →
 
   -- lines were answered after it
   pub RunsTo-after : (from to : M) (lines : List RawLine) (ended : Bool) (w0 w1 : Option (List ℕ))
-      (kept : SessionState) (s0 s1 : Sent) (b0 b1 : WaitingState) (c : Progress) → Stays w0 w1 s0 s1 b0 b1
+      (kept : Kept) (s0 s1 : Sent) (b0 b1 : WaitingState) (c : Progress) → Stays w0 w1 s0 s1 b0 b1
       → RunsTo step goes from lines to ended (progress_with w1 kept s1 b1) c
       → RunsTo step goes from lines to ended (progress_with w0 kept s0 b0) c
   RunsTo-after from to lines ended w0 w1 kept s0 s1 b0 b1 c stays runs =
@@ -276,41 +290,42 @@ module _ (M : Type 0) (step : M → RawLine → Step M) (goes : SessionState →
       (RunsTo-stays from w0 w1 kept s0 s1 b0 b1 stays) runs
 
   -- and where the output may fail
-  pub MayCut-after : (from : M) (lines : List RawLine) (w0 w1 : Option (List ℕ)) (kept : SessionState) (s0 s1 : Sent)
-      (b0 b1 : WaitingState) (stop : Stop) → Stays w0 w1 s0 s1 b0 b1 → MayCut step goes from lines w1 kept s1 b1 stop
-      → MayCut step goes from lines w0 kept s0 b0 stop
-  MayCut-after from lines w0 w1 kept s0 s1 b0 b1 stop stays may =
-      ⊎_elim (λ (at : IsStop w1 s1 b1 stop). inl (stays.stops stop at))
-      (λ (cuts : CutsShort step goes from lines (progress_with w1 kept s1 b1) stop).
-      inr (CutsShort-after from from [] lines (progress_with w0 kept s0 b0) (progress_with w1 kept s1 b1) stop
+  pub MayCut-after : (from : M) (lines : List RawLine) (w0 w1 : Option (List ℕ)) (kept : Kept) (s0 s1 : Sent)
+      (b0 b1 : WaitingState) (stop : Stop) (missed : List (List ℕ)) → Stays w0 w1 s0 s1 b0 b1
+      → MayCut step goes from lines w1 kept s1 b1 stop missed → MayCut step goes from lines w0 kept s0 b0 stop missed
+  MayCut-after from lines w0 w1 kept s0 s1 b0 b1 stop missed stays may =
+      ⊎_elim (λ (at : IsStop w1 s1 b1 stop × (missed ≡ kept.missed)). inl (stays.stops stop at.0, at.1))
+      (λ (cuts : CutsShort step goes from lines (progress_with w1 kept s1 b1) stop missed).
+      inr (CutsShort-after from from [] lines (progress_with w0 kept s0 b0) (progress_with w1 kept s1 b1) stop missed
       (RunsTo-stays from w0 w1 kept s0 s1 b0 b1 stays) cuts))
       may
 
   -- the same lines, where the output may fail
-  pub MayCut-is : (from : M) (xs ys : List RawLine) (w : Option (List ℕ)) (kept : SessionState) (s : Sent)
+  pub MayCut-is : (from : M) (xs ys : List RawLine) (w : Option (List ℕ)) (kept : Kept) (s : Sent)
       (b : WaitingState)
-      (stop : Stop) → xs ≡ ys → MayCut step goes from ys w kept s b stop → MayCut step goes from xs w kept s b stop
-  MayCut-is from xs ys w kept s b stop same may =
-      subst (λ l. MayCut step goes from l w kept s b stop) (sym same) may
+      (stop : Stop) (missed : List (List ℕ)) → xs ≡ ys → MayCut step goes from ys w kept s b stop missed
+      → MayCut step goes from xs w kept s b stop missed
+  MayCut-is from xs ys w kept s b stop missed same may =
+      subst (λ l. MayCut step goes from l w kept s b stop missed) (sym same) may
 
   -- the line that was taken may break off, so the lines of the rest may
-  pub taken_part : (from : M) (held line : RawLine) (rest : List ℕ) (n : ℕ) (w : Option (List ℕ)) (kept : SessionState)
-      (s : Sent) (b : WaitingState) (stop : Stop)
+  pub taken_part : (from : M) (held line : RawLine) (rest : List ℕ) (n : ℕ) (w : Option (List ℕ)) (kept : Kept)
+      (s : Sent) (b : WaitingState) (stop : Stop) (missed : List (List ℕ))
       → lines_from held (take n rest) ≡ line ∷ [] → held_from held (take n rest) ≡ Line []
-      → MayCut step goes from (line ∷ []) w kept s b stop
-      → MayCut step goes from (lines_from held rest) w kept s b stop
-  taken_part from held line rest n w kept s b stop one none may =
+      → MayCut step goes from (line ∷ []) w kept s b stop missed
+      → MayCut step goes from (lines_from held rest) w kept s b stop missed
+  taken_part from held line rest n w kept s b stop missed one none may =
       let more = lines_from (Line []) (take (length rest - n) (drop n rest)) in
       let a = progress_with w kept s b in
-      ⊎_elim (λ (at : IsStop w s b stop). inl at)
-      (λ (cuts : CutsShort step goes from (line ∷ []) a stop).
-      inr (CutsShort-is from (lines_from held rest) ((line ∷ []) ++ more) a stop
+      ⊎_elim (λ (at : IsStop w s b stop × (missed ≡ kept.missed)). inl at)
+      (λ (cuts : CutsShort step goes from (line ∷ []) a stop missed).
+      inr (CutsShort-is from (lines_from held rest) ((line ∷ []) ++ more) a stop missed
       (lines_from-take held (Line []) rest n (sym none) ∙ ap (λ l. l ++ more) one)
-      (CutsShort-more from (line ∷ []) more a stop cuts))) may
+      (CutsShort-more from (line ∷ []) more a stop missed cuts))) may
 
   -- all that waits is put, and what was answered is out
   flushed : (from to : M) (lines : List RawLine) (ended : Bool) (a : Progress) (w0 w1 : Option (List ℕ))
-      (kept : SessionState)
+      (kept : Kept)
       (s0 s1 : Sent) (b : WaitingState) → RunsTo step goes from lines to ended a (progress_with w0 kept s0 b)
       → Stays w0 w1 s0 s1 b none_wait → RunsTo step goes from lines to ended a (progress_of w1 kept s1)
   flushed from to lines ended a w0 w1 kept s0 s1 b runs stays = record {
@@ -325,18 +340,18 @@ module _ (M : Type 0) (step : M → RawLine → Step M) (goes : SessionState →
   }
 
 -- Some lines were answered, their replies are out or wait, and the output may fail within those that wait.
-pub record PieceSoFar {M : Type 0} (step : M → RawLine → Step M)
-    (goes : SessionState → Turn M → SessionState → Type 0) (from to : M)
-    (all left : List RawLine) (old : Progress) (w : Option (List ℕ)) (kept : SessionState) (s : Sent)
+pub record PieceSoFar {M : Type 0} (step : M → RawLine → Step M → Type 0)
+    (goes : Kept → Turn M → Kept → Type 0) (from to : M)
+    (all left : List RawLine) (old : Progress) (w : Option (List ℕ)) (kept : Kept) (s : Sent)
     (b : WaitingState) : Type 0 where
   pub lines : List RawLine
   pub whole : all ≡ lines ++ left
   pub runs : RunsTo step goes from lines to false old (progress_with w kept s b)
-  pub stops : (stop : Stop) → IsStop w s b stop → CutsShort step goes from lines old stop
+  pub stops : (stop : Stop) → IsStop w s b stop → CutsShort step goes from lines old stop kept.missed
 
-module _ (M : Type 0) (step : M → RawLine → Step M) (goes : SessionState → Turn M → SessionState → Type 0) where
+module _ (M : Type 0) (step : M → RawLine → Step M → Type 0) (goes : Kept → Turn M → Kept → Type 0) where
   -- nothing was answered, and no reply waits
-  start_runs : (from : M) (w : Option (List ℕ)) (kept : SessionState) (s : Sent) (b : WaitingState) → b ≡ none_wait
+  start_runs : (from : M) (w : Option (List ℕ)) (kept : Kept) (s : Sent) (b : WaitingState) → b ≡ none_wait
       → RunsTo step goes from [] from false (progress_of w kept s) (progress_with w kept s b)
   start_runs from w kept s b none =
       subst (λ (b : WaitingState). RunsTo step goes from [] from false (progress_of w kept s)
@@ -347,7 +362,7 @@ module _ (M : Type 0) (step : M → RawLine → Step M) (goes : SessionState →
       })
 
   -- none was answered, and no reply waits
-  pub piece_start : (from : M) (all : List RawLine) (w : Option (List ℕ)) (kept : SessionState) (s : Sent)
+  pub piece_start : (from : M) (all : List RawLine) (w : Option (List ℕ)) (kept : Kept) (s : Sent)
       (b : WaitingState)
       → b ≡ none_wait → PieceSoFar step goes from from all all (progress_of w kept s) w kept s b
   piece_start from all w kept s b none =
@@ -363,17 +378,20 @@ module _ (M : Type 0) (step : M → RawLine → Step M) (goes : SessionState →
         stops = λ stop at. absurd (let within = at.within in omega (arith, within));
       })
 
-  module _ (from mid : M) (all left : List RawLine) (old : Progress) (w : Option (List ℕ)) (kept : SessionState)
+  module _ (from mid : M) (all left : List RawLine) (old : Progress) (w : Option (List ℕ)) (kept : Kept)
       (s : Sent)
       (b : WaitingState) (so_far : PieceSoFar step goes from mid all left old w kept s b) where
     -- a reply broke off
-    pub piece_cut : (stop : Stop) → MayCut step goes mid left w kept s b stop → CutsShort step goes from all old stop
-    piece_cut stop may =
-        CutsShort-is M step goes from all (so_far.lines ++ left) old stop so_far.whole
-        (⊎_elim (λ (at : IsStop w s b stop).
-        CutsShort-more M step goes from so_far.lines left old stop (so_far.stops stop at))
-        (λ (cuts : CutsShort step goes mid left (progress_with w kept s b) stop).
-        CutsShort-after M step goes from mid so_far.lines left old (progress_with w kept s b) stop so_far.runs cuts)
+    pub piece_cut : (stop : Stop) (missed : List (List ℕ)) → MayCut step goes mid left w kept s b stop missed
+        → CutsShort step goes from all old stop missed
+    piece_cut stop missed may =
+        CutsShort-is M step goes from all (so_far.lines ++ left) old stop missed so_far.whole
+        (⊎_elim (λ (at : IsStop w s b stop × (missed ≡ kept.missed)).
+        CutsShort-more M step goes from so_far.lines left old stop missed
+        (subst (CutsShort step goes from so_far.lines old stop) (sym at.1) (so_far.stops stop at.0)))
+        (λ (cuts : CutsShort step goes mid left (progress_with w kept s b) stop missed).
+        CutsShort-after M step goes from mid so_far.lines left old (progress_with w kept s b) stop missed so_far.runs
+        cuts)
         may)
 
     -- the lines were answered, and what waited was put
@@ -386,20 +404,23 @@ module _ (M : Type 0) (step : M → RawLine → Step M) (goes : SessionState →
 
     -- More lines were answered.
     module _ (next more : List RawLine) (parts : left ≡ next ++ more) (to : M) (ended : Bool) (w' : Option (List ℕ))
-        (kept' : SessionState) (s' : Sent) (b' : WaitingState)
+        (kept' : Kept) (s' : Sent) (b' : WaitingState)
         (later : RunsTo step goes mid next to ended (progress_with w kept s b) (progress_with w' kept' s' b'))
-        (stops : (stop : Stop) → IsStop w' s' b' stop → MayCut step goes mid next w kept s b stop) where
+        (stops : (stop : Stop) → IsStop w' s' b' stop → MayCut step goes mid next w kept s b stop kept'.missed) where
       -- the lines so far, and what is left
       joined : all ≡ (so_far.lines ++ next) ++ more
       joined = so_far.whole ∙ ap (λ l. so_far.lines ++ l) parts ∙ sym (append_assoc so_far.lines next more)
 
       -- where the output may fail
-      stops-so-far : (stop : Stop) → IsStop w' s' b' stop → CutsShort step goes from (so_far.lines ++ next) old stop
+      stops-so-far : (stop : Stop) → IsStop w' s' b' stop
+          → CutsShort step goes from (so_far.lines ++ next) old stop kept'.missed
       stops-so-far stop at =
-          ⊎_elim (λ (before : IsStop w s b stop).
-          CutsShort-more M step goes from so_far.lines next old stop (so_far.stops stop before))
-          (λ (cuts : CutsShort step goes mid next (progress_with w kept s b) stop).
-          CutsShort-after M step goes from mid so_far.lines next old (progress_with w kept s b) stop so_far.runs cuts)
+          ⊎_elim (λ (before : IsStop w s b stop × (kept'.missed ≡ kept.missed)).
+          CutsShort-more M step goes from so_far.lines next old stop kept'.missed
+          (subst (CutsShort step goes from so_far.lines old stop) (sym before.1) (so_far.stops stop before.0)))
+          (λ (cuts : CutsShort step goes mid next (progress_with w kept s b) stop kept'.missed).
+          CutsShort-after M step goes from mid so_far.lines next old (progress_with w kept s b) stop kept'.missed
+          so_far.runs cuts)
           (stops stop at)
 
       -- one of them ended the session, and what waited was put
@@ -416,10 +437,10 @@ module _ (M : Type 0) (step : M → RawLine → Step M) (goes : SessionState →
           stays
 
       -- what waited was put in part
-      pub piece_stop : (stop : Stop) → IsStop w' s' b' stop → CutsShort step goes from all old stop
+      pub piece_stop : (stop : Stop) → IsStop w' s' b' stop → CutsShort step goes from all old stop kept'.missed
       piece_stop stop at =
-          CutsShort-is M step goes from all ((so_far.lines ++ next) ++ more) old stop joined
-          (CutsShort-more M step goes from (so_far.lines ++ next) more old stop (stops-so-far stop at))
+          CutsShort-is M step goes from all ((so_far.lines ++ next) ++ more) old stop kept'.missed joined
+          (CutsShort-more M step goes from (so_far.lines ++ next) more old stop kept'.missed (stops-so-far stop at))
 
       -- none of them ended the session
       pub piece_more : ended ≡ false → PieceSoFar step goes from to all more old w' kept' s' b'
@@ -435,17 +456,17 @@ module _ (M : Type 0) (step : M → RawLine → Step M) (goes : SessionState →
           }
 
   -- No reply waited, and one line was answered.
-  module _ (from : M) (all lines : List RawLine) (same : all ≡ lines) (w0 : Option (List ℕ)) (kept0 : SessionState)
+  module _ (from : M) (all lines : List RawLine) (same : all ≡ lines) (w0 : Option (List ℕ)) (kept0 : Kept)
       (s0 : Sent) (b0 : WaitingState) (none : b0 ≡ none_wait) where
     -- where the output may fail
-    pub rest_cut : (stop : Stop) → MayCut step goes from lines w0 kept0 s0 b0 stop
-        → CutsShort step goes from all (progress_of w0 kept0 s0) stop
-    rest_cut stop may =
+    pub rest_cut : (stop : Stop) (missed : List (List ℕ)) → MayCut step goes from lines w0 kept0 s0 b0 stop missed
+        → CutsShort step goes from all (progress_of w0 kept0 s0) stop missed
+    rest_cut stop missed may =
         piece_cut from from all all (progress_of w0 kept0 s0) w0 kept0 s0 b0 (piece_start from all w0 kept0 s0 b0 none)
-        stop (MayCut-is M step goes from all lines w0 kept0 s0 b0 stop same may)
+        stop missed (MayCut-is M step goes from all lines w0 kept0 s0 b0 stop missed same may)
 
     -- what waited is out
-    pub rest_done : (to : M) (ended : Bool) (w1 w2 : Option (List ℕ)) (kept1 : SessionState) (s1 s2 : Sent)
+    pub rest_done : (to : M) (ended : Bool) (w1 w2 : Option (List ℕ)) (kept1 : Kept) (s1 s2 : Sent)
         (b1 : WaitingState)
         → RunsTo step goes from lines to ended (progress_with w0 kept0 s0 b0) (progress_with w1 kept1 s1 b1)
         → Stays w1 w2 s1 s2 b1 none_wait
@@ -461,22 +482,22 @@ module _ (M : Type 0) (step : M → RawLine → Step M) (goes : SessionState →
 
   -- One line was answered.
   module _ {T E : Type 0} (from : M) (held line : RawLine) (same : held ≡ line) (w0 w1 : Option (List ℕ))
-      (kept0 : SessionState) (s0 s1 : Sent) (b0 b1 : WaitingState) (result : Result T E) where
+      (kept0 : Kept) (s0 s1 : Sent) (b0 b1 : WaitingState) (missed : List (List ℕ)) (result : Result T E) where
     -- where the output may fail after it
     pub stops-line : OnOk result ((stop : Stop) → IsStop w1 s1 b1 stop
-        → MayCut step goes from (line ∷ []) w0 kept0 s0 b0 stop)
-        → OnOk result ((stop : Stop) → IsStop w1 s1 b1 stop → MayCut step goes from (held ∷ []) w0 kept0 s0 b0 stop)
+        → MayCut step goes from (line ∷ []) w0 kept0 s0 b0 stop missed)
+        → OnOk result ((stop : Stop) → IsStop w1 s1 b1 stop → MayCut step goes from (held ∷ []) w0 kept0 s0 b0 stop missed)
     stops-line stops = subst (λ (l : RawLine). OnOk result ((stop : Stop) → IsStop w1 s1 b1 stop
-        → MayCut step goes from (l ∷ []) w0 kept0 s0 b0 stop)) (sym same) stops
+        → MayCut step goes from (l ∷ []) w0 kept0 s0 b0 stop missed)) (sym same) stops
 
   -- where the output failed within it
   pub part-line : {T : Type 0} (from : M) (held line : RawLine) → held ≡ line
-      → (w0 w1 : Option (List ℕ)) (kept0 : SessionState)
-      (s0 s1 : Sent) (b0 : WaitingState) (result : Result T Counts) → IfErr result
+      → (w0 w1 : Option (List ℕ)) (kept0 : Kept)
+      (s0 s1 : Sent) (b0 : WaitingState) (missed : List (List ℕ)) (result : Result T Counts) → IfErr result
       (λ noted. MayCut step goes from (line ∷ []) w0 kept0 s0 b0
-      (record { written = w1; sent = s1; counts = noted }))
+      (record { written = w1; sent = s1; counts = noted }) missed)
       → IfErr result (λ noted. MayCut step goes from (held ∷ []) w0 kept0 s0 b0
-      (record { written = w1; sent = s1; counts = noted }))
-  part-line from held line same w0 w1 kept0 s0 s1 b0 result part =
+      (record { written = w1; sent = s1; counts = noted }) missed)
+  part-line from held line same w0 w1 kept0 s0 s1 b0 missed result part =
       subst (λ (l : RawLine). IfErr result (λ noted. MayCut step goes from (l ∷ []) w0 kept0 s0 b0
-      (record { written = w1; sent = s1; counts = noted }))) (sym same) part
+      (record { written = w1; sent = s1; counts = noted }) missed)) (sym same) part

@@ -8,7 +8,7 @@ use Rattle.std.proofs.Common.{◌++◌, length, refl, sym, ap, subst, ◌∙◌,
 use Rattle.gtp_rules.specs.Lines.{RawLine}
 use Rattle.gtp_rules.specs.Steps.{Step}
 use Rattle.gtp_rules.specs.Transcript.{Answers, IsRun, Cut}
-use Rattle.engine.specs.SessionState.{SessionState}
+use Rattle.engine.specs.Kept.{Kept}
 use Rattle.machine_rules.specs.Turns.{Turn, IsAlong}
 use Rattle.session.specs.Tallies.{Tally, no_tally, together, tally_of, cut_tally, kept_sum, Progress, Advances}
 use Rattle.session.specs.Tallies.{IsTallied, BreaksOff}
@@ -76,12 +76,12 @@ IsAlong-split goes a c (x ∷ xs) ys (mid, first, rest) =
     let parts = IsAlong-split goes mid c xs ys rest in (parts.0, (mid, first, parts.1), parts.2)
 
 -- nothing was put
-pub Advances-none : {M : Type 0} (goes : SessionState → Turn M → SessionState → Type 0) (a : Progress)
+pub Advances-none : {M : Type 0} (goes : Kept → Turn M → Kept → Type 0) (a : Progress)
     → Advances goes a a no_tally
 Advances-none goes a = record { writes = Appends-nil a.written; along = refl; replies = refl; bytes = refl }
 
 -- one tally was put and then another
-pub Advances-trans : {M : Type 0} (goes : SessionState → Turn M → SessionState → Type 0) (a b c : Progress)
+pub Advances-trans : {M : Type 0} (goes : Kept → Turn M → Kept → Type 0) (a b c : Progress)
     (s t : Tally M)
     → Advances goes a b s → Advances goes b c t → Advances goes a c (together s t)
 Advances-trans goes a b c s t earlier later = record {
@@ -94,7 +94,7 @@ Advances-trans goes a b c s t earlier later = record {
       ∙ ap (kept_sum a.bytes) (sym (length-append s.out t.out));
 }
 
-module _ (M : Type 0) (step : M → RawLine → Step M) where
+module _ (M : Type 0) (step : M → RawLine → Step M → Type 0) where
   -- no line
   pub IsTallied-nil : (m : M) → IsTallied step m [] no_tally m false
   IsTallied-nil m = (refl, refl, refl)
@@ -157,7 +157,7 @@ module _ (M : Type 0) (step : M → RawLine → Step M) where
   abbrev pub BreaksOff-one : (from : M) (line : RawLine) (more : List RawLine) (part missing : List ℕ) (next : M)
       (ends : Bool)
       → Answers step from line (part ++ missing) next ends → 0 < length missing
-      → BreaksOff step from (line ∷ more) (cut_tally from line part)
+      → BreaksOff step from (line ∷ more) (cut_tally from line part missing)
   BreaksOff-one from line more part missing next ends answers proper = record {
     before = [];
     line = line;
@@ -172,7 +172,7 @@ module _ (M : Type 0) (step : M → RawLine → Step M) where
     answered = IsTallied-nil from;
     reply = answers;
     proper = proper;
-    tallied = sym (none-together (cut_tally from line part));
+    tallied = sym (none-together (cut_tally from line part missing));
   }
 
   -- a line broke off in the later lines, after the earlier ones were answered

@@ -17,6 +17,17 @@ pub record Streams : Type 0 where
   pub written : Option (List ℕ)
   pub output_faults : ℕ
 
+-- the streams, where the source has these bytes left, gave this many last and failed this often, and the output holds
+-- these bytes and failed this often
+abbrev pub streams : Option (List ℕ) → ℕ → ℕ → Option (List ℕ) → ℕ → Streams
+streams left piece input_faults written output_faults = record {
+  left = left;
+  piece = piece;
+  input_faults = input_faults;
+  written = written;
+  output_faults = output_faults;
+}
+
 -- how many bytes are too many to take
 abbrev pub most_taken : ℕ
 most_taken = 2 ^ 32
@@ -30,7 +41,7 @@ abbrev pub earlier : List ℕ → ℕ → List ℕ
 earlier taken piece = take (length taken - piece) taken
 
 -- The input was read to its end, and every line of it was answered. No line that has its line feed ended the session.
-pub record IsReadToEnd {M : Type 0} (step : M → RawLine → Step M) (first : M) (left : Option (List ℕ))
+pub record IsReadToEnd {M : Type 0} (step : M → RawLine → Step M → Type 0) (first : M) (left : Option (List ℕ))
     (taken put : List ℕ) (piece : ℕ) : Type 0 where
   pub at_end : IsAtEnd left
   pub last : piece ≡ 0
@@ -39,7 +50,7 @@ pub record IsReadToEnd {M : Type 0} (step : M → RawLine → Step M) (first : M
   pub none_ended : (front : List ℕ) × IsFront front put × GoesOn step first (lines_of taken) front
 
 -- A line that has its line feed ended the session, and it ends among the bytes of the last piece.
-pub record IsEnded {M : Type 0} (step : M → RawLine → Step M) (first : M) (taken put : List ℕ)
+pub record IsEnded {M : Type 0} (step : M → RawLine → Step M → Type 0) (first : M) (taken put : List ℕ)
     (piece : ℕ) : Type 0 where
   pub few : length taken ≤ most_taken
   pub ended : (last : M) × IsRun step first (lines_of taken) put last true
@@ -47,7 +58,7 @@ pub record IsEnded {M : Type 0} (step : M → RawLine → Step M) (first : M) (t
 
 -- The output broke off within a reply. Its line ends among the bytes of the last piece, or it is the rest after the
 -- last line feed of an input that was read to its end.
-pub record IsCutOff {M : Type 0} (step : M → RawLine → Step M) (first : M) (left : Option (List ℕ))
+pub record IsCutOff {M : Type 0} (step : M → RawLine → Step M → Type 0) (first : M) (left : Option (List ℕ))
     (taken put : List ℕ) (piece : ℕ) : Type 0 where
   pub few : length taken ≤ most_taken
   -- what was put is a proper front of a transcript
@@ -58,7 +69,7 @@ pub record IsCutOff {M : Type 0} (step : M → RawLine → Step M) (first : M) (
   pub has_feed : (length cut.before < length (lines_of taken)) ⊎ (IsAtEnd left × (piece ≡ 0))
 
 -- by its end, what a run took and put; left is what the source has left, and piece how many bytes it gave last
-abbrev pub IsRight : {M : Type 0} → (M → RawLine → Step M) → M → Option (List ℕ) → List ℕ → List ℕ → ℕ → End → Type 0
+abbrev pub IsRight : {M : Type 0} → (M → RawLine → Step M → Type 0) → M → Option (List ℕ) → List ℕ → List ℕ → ℕ → End → Type 0
 IsRight step first left taken put piece Done = IsReadToEnd step first left taken put piece
     ⊎ IsEnded step first taken put piece
 IsRight step first left taken put piece InputFault = GoesOn step first (lines_of taken) put
@@ -68,7 +79,7 @@ IsRight step first left taken put piece InputTooLong = GoesOn step first (lines_
 IsRight step first left taken put piece OutputFault = IsCutOff step first left taken put piece
 
 -- by its end, which lines were answered, with their tally
-abbrev pub AreTallied : {M : Type 0} → (M → RawLine → Step M) → M → List ℕ → Tally M → End → Type 0
+abbrev pub AreTallied : {M : Type 0} → (M → RawLine → Step M → Type 0) → M → List ℕ → Tally M → End → Type 0
 AreTallied {M} step first taken tally Done =
     ((last : M) × (ended : Bool) × IsTallied step first (lines_with_rest taken) tally last ended)
     ⊎ ((last : M) × IsTallied step first (lines_of taken) tally last true)
@@ -80,7 +91,7 @@ AreTallied step first taken tally OutputFault = BreaksOff step first (lines_with
 
 -- A run took some bytes from the source and put those of its tally on the output, as its end says. Where the source
 -- tells what it has left and the output what it holds, these are those bytes.
-pub record Serves {M : Type 0} (step : M → RawLine → Step M) (first : M) (before after : Streams) (end : End)
+pub record Serves {M : Type 0} (step : M → RawLine → Step M → Type 0) (first : M) (before after : Streams) (end : End)
     (tally : Tally M) : Type 0 where
   pub taken : List ℕ
   pub reads : Consumes before.left after.left taken

@@ -4,11 +4,12 @@ use Rattle.pat_types.specs.declared.pattern.Pattern.{Pattern}
 use Rattle.gtp_lex.specs.Lines.{LinesState, no_line}
 use Rattle.go_options.specs.declared.options.Options.{Options}
 use Rattle.machine_rules.specs.Machine.{first_machine}
-use Rattle.helpers.specs.Asking.{SlotState, says_yes}
-use Rattle.match_rules.specs.Conditions.{Advice}
+use Rattle.helpers.specs.Asking.{SlotState}
+use Rattle.machine_rules.specs.Files.{Contents}
 use Rattle.engine.specs.Handed.{helper_names}
-use Rattle.machine_rules.specs.Matcher.{Matcher, plain_matcher}
-use Rattle.engine.specs.SessionState.{SessionState, machine_of, no_counts}
+use Rattle.machine_rules.specs.Matcher.{plain_matcher}
+use Rattle.engine.specs.Kept.{Kept}
+use Rattle.engine.specs.SessionState.{SessionState, machine_with, matcher_of, no_counts}
 use Rattle.session.specs.PatternFiles.{IsOpened, IsRefused}
 use Rattle.session.specs.Outcomes.{Phase, NotTaken, NotOpened, Served}
 use Rattle.session.specs.Ends.{Streams}
@@ -23,50 +24,49 @@ use Rattle.session.specs.declared.outcome.End.{End}
 use Rattle.run_notes.specs.declared.notes.Counts.{Counts}
 use Rattle.run_notes.specs.declared.notes.Sent.{Sent}
 
--- the session is the first machine with these plies and wide plies, its matcher finds the matches of these patterns as
--- the plain one does, by what the helpers say, it has counted and kept nothing, and may keep this many questions, which
--- are eight and more
-pub record IsPlainWith (advice : Advice) (patterns : List Pattern) (plies wide capacity : ℕ) (session : SessionState)
-    (matcher : Matcher) : Type 0 where
-  pub machine : machine_of session ≡ first_machine plies wide
+-- the session is the first machine with these helpers, plies and wide plies, its matcher finds the matches of these
+-- patterns as the plain one does, it has counted and kept nothing, and may keep this many questions, which are eight and
+-- more
+pub record IsPlainWith (patterns : List Pattern) (plies wide capacity : ℕ) (session : SessionState) : Type 0 where
+  pub machine : (helpers : List SlotState) → machine_with helpers session ≡ first_machine helpers plies wide
   pub counts : session.counts ≡ no_counts
   pub kept : session.readings.kept ≡ nothing_kept capacity
   pub room : 8 ≤ capacity
-  pub matches : matcher ≡ plain_matcher advice patterns
+  pub matches : matcher_of session ≡ plain_matcher patterns
 
--- the files of the options were opened, in which the helpers may be named, the session is plain with their patterns,
--- and no line has come
-pub record Opens (helpers : List SlotState) (contents : List ℕ → Option (List ℕ)) (options : Options)
-    (session : SessionState)
-    (matcher : Matcher) (lines : LinesState) : Type 0 where
+-- the files of the options were opened, in which the helpers may be named, the session is plain with their patterns and
+-- has these helpers, and no line has come
+pub record Opens (helpers : List SlotState) (contents : Contents) (options : Options) (session : SessionState)
+    (slots : List SlotState) (lines : LinesState) : Type 0 where
   pub patterns : List Pattern
   pub opened : IsOpened (helper_names helpers) contents options.files options.states patterns
-  pub plain : IsPlainWith (says_yes helpers) patterns options.depth options.branch options.cache session
-      matcher
+  pub plain : IsPlainWith patterns options.depth options.branch options.cache session
+  pub same : slots ≡ helpers
   pub none : lines ≡ no_line
 
 -- how far a run with these options came: its files were not opened, or the lines were served
-abbrev pub CameBy : List SlotState → Options → (List ℕ → Option (List ℕ)) → Streams → Streams → Option Counts
-    → Option Sent → Phase
-    → Type 0
-CameBy helpers options contents before after counts sent NotTaken = ⊥
-CameBy helpers options contents before after counts sent (NotOpened error) =
+abbrev pub CameBy : List SlotState → Options → Contents → List (List ℕ) → List (List ℕ) → Streams → Streams
+    → Option Counts → Option Sent → Phase → Type 0
+CameBy helpers options contents missed now before after counts sent NotTaken = ⊥
+CameBy helpers options contents missed now before after counts sent (NotOpened error) =
     IsRefused (helper_names helpers) contents options.files options.states error × IsUntouched before after counts sent
-CameBy helpers options contents before after counts sent (Served end) =
-    IsServed helpers options contents before after end counts sent
+CameBy helpers options contents missed now before after counts sent (Served end) =
+    IsServed helpers options contents missed now before after end counts sent
 
 -- the lines were served with a tally, by which the counts rose, and along which what is kept went on
-pub record ServesCounting {M : Type 0} (generate : Option ℕ) (step : M → RawLine → Step M)
-    (goes : SessionState → Turn M → SessionState → Type 0) (first : M) (before after : Streams) (end : End)
+pub record ServesCounting {M : Type 0} (generate : Option ℕ) (step : M → RawLine → Step M → Type 0)
+    (goes : Kept → Turn M → Kept → Type 0) (first : M) (before after : Streams) (end : End)
     (old new : Progress) : Type 0 where
   pub tally : Tally M
   pub serves : ServesLines generate step first before after end tally
   pub advances : Advances goes old new tally
 
--- the lines were served so, and these counts are those of what is kept then
-pub record EndsCounting {M : Type 0} (generate : Option ℕ) (step : M → RawLine → Step M)
-    (goes : SessionState → Turn M → SessionState → Type 0) (first : M) (before after : Streams) (end : End)
-    (counts : Counts) (old : Progress) (written : Option (List ℕ)) (sent : Sent) : Type 0 where
-  pub kept : SessionState
-  pub same : counts ≡ kept.counts
+-- the lines were served so, and these counts and names missed are those of what is kept then
+pub record EndsCounting {M : Type 0} (generate : Option ℕ) (step : M → RawLine → Step M → Type 0)
+    (goes : Kept → Turn M → Kept → Type 0) (first : M) (before after : Streams) (end : End)
+    (counts : Counts) (missed : List (List ℕ)) (old : Progress) (written : Option (List ℕ))
+    (sent : Sent) : Type 0 where
+  pub kept : Kept
+  pub same : counts ≡ kept.engine.counts
+  pub names : missed ≡ kept.missed
   pub serves : ServesCounting generate step goes first before after end old (progress_of written kept sent)

@@ -1,11 +1,14 @@
 -- The claim of `run`: by its outcome, what its files are, what it took from its source, put on its output and noted.
-use Rattle.std.specs.Prelude.{◌≡◌, ◌≢◌, ◌⊎◌, ℕ, ◌+◌, ◌<◌, ◌≤◌, Bool, true, false, MatchBool, List, [], length, Option}
+use Rattle.std.specs.Prelude.{◌≡◌, ◌≢◌, ◌⊎◌, ℕ, ◌+◌, ◌<◌, ◌≤◌, Bool, true, false, MatchBool, List, [], ◌++◌, length, Option}
 use Rattle.std.specs.Prelude.{Some, None, IsSomeAnd, MatchOption, Result, Ok, Err, codes}
+use Rattle.std.specs.List.{flat_map}
 use Rattle.gtp_io.specs.Outside.{Rose}
 use Rattle.gtp_rules.specs.Lines.{RawLine}
 use Rattle.gtp_rules.specs.Steps.{Step}
 use Rattle.pat_types.specs.declared.pattern.Pattern.{Pattern}
-use Rattle.helpers.specs.Asking.{SlotState, says_yes}
+use Rattle.helpers.specs.Asking.{SlotState}
+use Rattle.machine_rules.specs.Loads.{missed_in}
+use Rattle.machine_rules.specs.Files.{Contents}
 use Rattle.machine_rules.specs.Machine.{Machine, first_machine}
 use Rattle.machine_rules.specs.Matcher.{plain_matcher}
 use Rattle.machine_rules.specs.Step.{step}
@@ -14,7 +17,8 @@ use Rattle.match_engine.specs.Readings.{nothing_kept}
 use Rattle.machine_rules.specs.Counting.{readings_in}
 use Rattle.machine_rules.specs.Questions.{AskNothing}
 use Rattle.engine.specs.AfterLine.{IsAfterLine}
-use Rattle.engine.specs.SessionState.{SessionState, no_counts}
+use Rattle.engine.specs.Kept.{Kept}
+use Rattle.engine.specs.SessionState.{no_counts}
 use Rattle.machine_rules.specs.CertainHit.{HaveCertainHits}
 use Rattle.session.specs.Tallies.{Tally, kept_sum}
 use Rattle.session.specs.Ends.{Streams, Serves}
@@ -41,7 +45,7 @@ use Rattle.session.specs.declared.outcome.End.TheVariants.{InputTooLong}
 -- what stands outside a run: the files by their names, those that failed, the streams, and the notes with how often
 -- they failed
 pub record Outside : Type 0 where
-  pub contents : List ℕ → Option (List ℕ)
+  pub contents : Contents
   pub missed : List (List ℕ)
   pub streams : Streams
   pub noted : Option (List ℕ)
@@ -53,14 +57,14 @@ pub record GiveOptions (words : List (List ℕ)) (options : Options) : Type 0 wh
   pub found : AreFound (rows_in words) options
 
 -- the files of the options were not opened, and the error says why; want of memory has no other cause
-abbrev pub IsUnopened : List SlotState → List (List ℕ) → (List ℕ → Option (List ℕ)) → OpenError → Type 0
+abbrev pub IsUnopened : List SlotState → List (List ℕ) → Contents → OpenError → Type 0
 IsUnopened helpers words contents error =
     (error ≡ opening.NoMemory) ⊎ ((options : Options) × GiveOptions words options
     × IsRefused (helper_names helpers) contents options.files options.states error)
 
 -- Generated lines were served in place of the source, which stays as it was. They are fewer bytes than the longest
 -- input.
-pub record ServesGenerated {M : Type 0} (n : ℕ) (step : M → RawLine → Step M) (first : M) (before after : Streams)
+pub record ServesGenerated {M : Type 0} (n : ℕ) (step : M → RawLine → Step M → Type 0) (first : M) (before after : Streams)
     (end : End) (tally : Tally M) : Type 0 where
   pub left : after.left ≡ before.left
   pub piece : after.piece ≡ before.piece
@@ -71,19 +75,19 @@ pub record ServesGenerated {M : Type 0} (n : ℕ) (step : M → RawLine → Step
   pub not_too_long : end ≢ InputTooLong
 
 -- the lines of the source were served, or where so many lines are to be generated, these
-abbrev pub ServesLines : {M : Type 0} → Option ℕ → (M → RawLine → Step M) → M → Streams → Streams → End → Tally M
+abbrev pub ServesLines : {M : Type 0} → Option ℕ → (M → RawLine → Step M → Type 0) → M → Streams → Streams → End → Tally M
     → Type 0
 ServesLines None step first before after end tally = Serves step first before after end tally
 ServesLines (Some n) step first before after end tally = ServesGenerated n step first before after end tally
 
 -- A session that had counted and kept nothing, and may keep this many questions, counts this after the lines.
 pub record RoseAlong (capacity : ℕ) (turns : List (Turn Machine)) (counts : Counts) : Type 0 where
-  pub first : SessionState
-  pub last : SessionState
-  pub uncounted : first.counts ≡ no_counts
-  pub kept : first.readings.kept ≡ nothing_kept capacity
+  pub first : Kept
+  pub last : Kept
+  pub uncounted : first.engine.counts ≡ no_counts
+  pub kept : first.engine.readings.kept ≡ nothing_kept capacity
   pub along : IsAlong IsAfterLine first turns last
-  pub same : counts ≡ last.counts
+  pub same : counts ≡ last.engine.counts
 
 -- The counts are those of these lines: each that asks for a reading and is answered with a code is counted, and no more
 -- are fresh. Where no keeping was refused, a certain hit is not fresh: n of them leave only the other readings to be.
@@ -109,15 +113,17 @@ IsSent generate sent tally = MatchOption generate (sent ≡ None) (λ n. IsSomeA
 
 -- The files of the options were opened, in which the helpers may be named, and the lines were served by the plain
 -- machine, which compares each diagram of their patterns with the board, reads as deep as the options say, and asks the
--- helpers, whose meanings never change.
-pub record IsServed (helpers : List SlotState) (options : Options) (contents : List ℕ
-    → Option (List ℕ)) (before after : Streams) (end : End)
-    (counts : Option Counts) (sent : Option Sent) : Type 0 where
+-- helpers, whose meanings never change. The names that the loader missed are those that it had missed, and behind them
+-- those of the lines that were answered `cannot load file`, in their order.
+pub record IsServed (helpers : List SlotState) (options : Options) (contents : Contents) (missed : List (List ℕ))
+    (now : List (List ℕ)) (before after : Streams) (end : End) (counts : Option Counts)
+    (sent : Option Sent) : Type 0 where
   pub patterns : List Pattern
   pub opened : IsOpened (helper_names helpers) contents options.files options.states patterns
   pub tally : Tally Machine
-  pub serves : ServesLines options.generate (step (plain_matcher (says_yes helpers) patterns))
-      (first_machine options.depth options.branch) before after end tally
+  pub serves : ServesLines options.generate (step (plain_matcher patterns) contents)
+      (first_machine helpers options.depth options.branch) before after end tally
+  pub names : now ≡ missed ++ flat_map missed_in tally.turns
   pub counted : AreCounts options.stats options.cache counts tally
   pub told : IsSent options.generate sent tally
 
@@ -128,25 +134,25 @@ pub record IsUntouched (before after : Streams) (counts : Option Counts) (sent :
   pub unsent : sent ≡ None
 
 -- by how far a run came, what its words gave, what it did, and what it is to note
-abbrev pub Came : List SlotState → List (List ℕ) → (List ℕ → Option (List ℕ)) → Streams → Streams → Option Counts
-    → Option Sent
-    → Phase → Type 0
-Came helpers words contents before after counts sent NotTaken =
+abbrev pub Came : List SlotState → List (List ℕ) → Contents → List (List ℕ) → List (List ℕ) → Streams → Streams
+    → Option Counts → Option Sent → Phase → Type 0
+Came helpers words contents missed now before after counts sent NotTaken =
     (is_taken words ≡ false) × IsUntouched before after counts sent
-Came helpers words contents before after counts sent (NotOpened error) = IsUnopened helpers words contents error
-    × IsUntouched before after counts sent
-Came helpers words contents before after counts sent (Served end) =
-    (options : Options) × GiveOptions words options × IsServed helpers options contents before after end counts sent
+Came helpers words contents missed now before after counts sent (NotOpened error) =
+    IsUnopened helpers words contents error × IsUntouched before after counts sent
+Came helpers words contents missed now before after counts sent (Served end) =
+    (options : Options) × GiveOptions words options
+    × IsServed helpers options contents missed now before after end counts sent
 
 -- the file words of a command line
 abbrev pub files_in : List (List ℕ) → List (List ℕ)
 files_in words = words_in (codes "files") (rows_in words)
 
--- by how far a run came, which names the loader missed
+-- by how far a run came, which names the loader missed before it served lines; `IsServed` says which it missed then
 abbrev pub MissedAfter : List (List ℕ) → List (List ℕ) → List (List ℕ) → Phase → Type 0
 MissedAfter names before now NotTaken = now ≡ before
 MissedAfter names before now (NotOpened error) = MissedIn names before now error
-MissedAfter names before now (Served end) = now ≡ before
+MissedAfter names before now (Served end) = Unit {0}
 
 -- a fault is told only where its object's count rose, and the count is greater than before only where the fault is told
 pub record IsCauseOf (fault : Type 0) (before now : ℕ) : Type 0 where
@@ -159,7 +165,8 @@ pub record Runs (helpers : List SlotState) (words : List (List ℕ)) (before aft
     (outcome : Outcome) : Type 0 where
   pub counts : Option Counts
   pub sent : Option Sent
-  pub came : Came helpers words before.contents before.streams after.streams counts sent (phase_of outcome)
+  pub came : Came helpers words before.contents before.missed after.missed before.streams after.streams counts sent
+      (phase_of outcome)
   pub missed : MissedAfter (files_in words) before.missed after.missed (phase_of outcome)
   pub same : after.contents ≡ before.contents
   pub input : IsCauseOf (outcome ≡ told.InputFault) before.streams.input_faults after.streams.input_faults

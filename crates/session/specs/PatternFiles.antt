@@ -6,6 +6,7 @@ use Rattle.std.specs.List.{flat_map}
 use Rattle.gtp_io.specs.declared.errors.LoadError.{LoadError}
 use Rattle.gtp_io.specs.declared.errors.LoadError.TheVariants as load
 use Rattle.gtp_cmd.specs.Words.{line_feed}
+use Rattle.machine_rules.specs.Files.{Contents, IsContents}
 use Rattle.pat_types.specs.declared.pattern.Pattern.{Pattern}
 use Rattle.dfa_core.specs.States.{HasStates, HasMoreStates}
 use Rattle.db_rules.specs.Entries.{entry_of}
@@ -37,20 +38,15 @@ ended text = text ++ added_feed text
 abbrev pub joined_text : List (List ℕ) → List ℕ
 joined_text texts = flat_map ended texts
 
--- the text is the contents of a file, where the loader tells these
-abbrev pub IsContents : Option (List ℕ) → List ℕ → Type 0
-IsContents None text = Unit {0}
-IsContents (Some contents) text = text ≡ contents
-
 -- the texts are the contents of the files with these names, one for each in their order
-abbrev pub AreContents : (List ℕ → Option (List ℕ)) → List (List ℕ) → List (List ℕ) → Type 0
+abbrev pub AreContents : Contents → List (List ℕ) → List (List ℕ) → Type 0
 AreContents contents [] [] = Unit {0}
 AreContents contents [] (text ∷ texts) = ⊥
 AreContents contents (name ∷ names) [] = ⊥
 AreContents contents (name ∷ names) (text ∷ texts) = IsContents (contents name) text × AreContents contents names texts
 
 -- the text is the contents of the files with these names, joined in their order
-pub record IsJoined (contents : List ℕ → Option (List ℕ)) (names : List (List ℕ)) (text : List ℕ) : Type 0 where
+pub record IsJoined (contents : Contents) (names : List (List ℕ)) (text : List ℕ) : Type 0 where
   pub texts : List (List ℕ)
   pub told : AreContents contents names texts
   pub joined : text ≡ joined_text texts
@@ -73,7 +69,7 @@ MissedBy names before now load.Failed = MissedOne names before now
 MissedBy names before now load.NoMemory = now ≡ before
 
 -- the joined files have no fault where these helpers may be named, and the patterns are their entries
-pub record IsDatabase (known : List (List ℕ)) (contents : List ℕ → Option (List ℕ)) (names : List (List ℕ))
+pub record IsDatabase (known : List (List ℕ)) (contents : Contents) (names : List (List ℕ))
     (patterns : List Pattern) : Type 0 where
   pub text : List ℕ
   pub joined : IsJoined contents names text
@@ -81,7 +77,7 @@ pub record IsDatabase (known : List (List ℕ)) (contents : List ℕ → Option 
   pub spelled : map entry_of patterns ≡ entries text
 
 -- the joined files have this first fault where these helpers may be named
-pub record IsFaulty (known : List (List ℕ)) (contents : List ℕ → Option (List ℕ)) (names : List (List ℕ))
+pub record IsFaulty (known : List (List ℕ)) (contents : Contents) (names : List (List ℕ))
     (line kind : ℕ) : Type 0 where
   pub text : List ℕ
   pub joined : IsJoined contents names text
@@ -92,20 +88,20 @@ abbrev pub HasFewStates : List Pattern → ℕ → Type 0
 HasFewStates patterns most = (n : ℕ) × HasStates patterns n × (n ≤ most)
 
 -- the joined files have no fault, their entries are the patterns, and these have no more states than there may be
-pub record IsOpened (known : List (List ℕ)) (contents : List ℕ → Option (List ℕ)) (names : List (List ℕ)) (most : ℕ)
+pub record IsOpened (known : List (List ℕ)) (contents : Contents) (names : List (List ℕ)) (most : ℕ)
     (patterns : List Pattern) : Type 0 where
   pub database : IsDatabase known contents names patterns
   pub few : HasFewStates patterns most
 
 -- the joined files have no fault, and their entries have more states than there may be
-pub record HasTooMany (known : List (List ℕ)) (contents : List ℕ → Option (List ℕ)) (names : List (List ℕ))
+pub record HasTooMany (known : List (List ℕ)) (contents : Contents) (names : List (List ℕ))
     (most : ℕ) : Type 0 where
   pub patterns : List Pattern
   pub database : IsDatabase known contents names patterns
   pub many : HasMoreStates patterns most
 
 -- the files were not opened, and the error says why
-abbrev pub IsRefused : List (List ℕ) → (List ℕ → Option (List ℕ)) → List (List ℕ) → ℕ → OpenError → Type 0
+abbrev pub IsRefused : List (List ℕ) → Contents → List (List ℕ) → ℕ → OpenError → Type 0
 IsRefused known contents names most FileFault = Unit {0}
 IsRefused known contents names most (BadDatabase line kind) = IsFaulty known contents names line kind
 IsRefused known contents names most (TooManyStates limit) = (limit ≡ most) × HasTooMany known contents names most

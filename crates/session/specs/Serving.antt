@@ -6,12 +6,12 @@ use Rattle.gtp_rules.specs.Lines.{RawLine}
 use Rattle.gtp_rules.specs.Steps.{Step}
 use Rattle.gtp_rules.specs.Transcript.{Answers}
 use Rattle.run_notes.specs.declared.notes.Sent.{Sent}
-use Rattle.engine.specs.SessionState.{SessionState}
+use Rattle.engine.specs.Kept.{Kept}
 use Rattle.machine_rules.specs.Turns.{Turn}
 use Rattle.session.specs.Tallies.{Tally, Progress, Advances, IsTallied, BreaksOff, tally_of, cut_tally, kept_sum}
 
 -- how far a run is: what its output holds, what its session keeps, and what was sent
-abbrev pub progress_of : Option (List ℕ) → SessionState → Sent → Progress
+abbrev pub progress_of : Option (List ℕ) → Kept → Sent → Progress
 progress_of written session sent =
     record { written = written; kept = session; replies = sent.lines; bytes = sent.bytes }
 
@@ -41,7 +41,7 @@ pub record PutsReply (old new : Option (List ℕ)) (before now : Sent) (bytes : 
   pub bytes_sent : now.bytes ≡ kept_sum before.bytes (length bytes)
 
 -- the line was answered, and its reply was put whole
-pub record Replies {M : Type 0} (step : M → RawLine → Step M) (goes : SessionState → Turn M → SessionState → Type 0)
+pub record Replies {M : Type 0} (step : M → RawLine → Step M → Type 0) (goes : Kept → Turn M → Kept → Type 0)
     (from : M)
     (line : RawLine) (to : M) (ends : Bool) (old new : Progress) : Type 0 where
   pub reply : List ℕ
@@ -49,8 +49,8 @@ pub record Replies {M : Type 0} (step : M → RawLine → Step M) (goes : Sessio
   pub advances : Advances goes old new (tally_of from line reply)
 
 -- the line was answered, and its reply was put in part
-pub record RepliesPart {M : Type 0} (step : M → RawLine → Step M)
-    (goes : SessionState → Turn M → SessionState → Type 0) (from : M)
+pub record RepliesPart {M : Type 0} (step : M → RawLine → Step M → Type 0)
+    (goes : Kept → Turn M → Kept → Type 0) (from : M)
     (line : RawLine) (old new : Progress) : Type 0 where
   pub part : List ℕ
   pub missing : List ℕ
@@ -58,10 +58,10 @@ pub record RepliesPart {M : Type 0} (step : M → RawLine → Step M)
   pub ends : Bool
   pub answers : Answers step from line (part ++ missing) next ends
   pub proper : 0 < length missing
-  pub advances : Advances goes old new (cut_tally from line part)
+  pub advances : Advances goes old new (cut_tally from line part missing)
 
 -- the lines were answered, and their replies were put whole
-pub record RunsTo {M : Type 0} (step : M → RawLine → Step M) (goes : SessionState → Turn M → SessionState → Type 0)
+pub record RunsTo {M : Type 0} (step : M → RawLine → Step M → Type 0) (goes : Kept → Turn M → Kept → Type 0)
     (from : M)
     (lines : List RawLine) (to : M) (ended : Bool) (old new : Progress) : Type 0 where
   pub tally : Tally M
@@ -69,7 +69,7 @@ pub record RunsTo {M : Type 0} (step : M → RawLine → Step M) (goes : Session
   pub advances : Advances goes old new tally
 
 -- the lines were answered up to one, whose reply was put in part
-pub record RunsPart {M : Type 0} (step : M → RawLine → Step M) (goes : SessionState → Turn M → SessionState → Type 0)
+pub record RunsPart {M : Type 0} (step : M → RawLine → Step M → Type 0) (goes : Kept → Turn M → Kept → Type 0)
     (from : M)
     (lines : List RawLine) (old new : Progress) : Type 0 where
   pub tally : Tally M

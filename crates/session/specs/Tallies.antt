@@ -8,7 +8,7 @@ use Rattle.std.specs.Io.KnownBytes.{Appends}
 use Rattle.gtp_rules.specs.Lines.{RawLine}
 use Rattle.gtp_rules.specs.Steps.{Step}
 use Rattle.gtp_rules.specs.Transcript.{Answers}
-use Rattle.engine.specs.SessionState.{SessionState}
+use Rattle.engine.specs.Kept.{Kept}
 use Rattle.machine_rules.specs.Turns.{Turn, IsAlong}
 
 -- the bytes that were put, how many replies they are, and the lines that were answered, each with its machine
@@ -25,21 +25,22 @@ no_tally = record { out = []; replies = 0; turns = [] }
 abbrev pub together : {M : Type 0} → Tally M → Tally M → Tally M
 together a b = record { out = a.out ++ b.out; replies = a.replies + b.replies; turns = a.turns ++ b.turns }
 
--- a line that comes to a machine, as the only one
-abbrev pub one_turn : {M : Type 0} → M → RawLine → List (Turn M)
-one_turn machine line = record { machine = machine; line = line } ∷ []
+-- a line that comes to a machine and has this reply, as the only one
+abbrev pub one_turn : {M : Type 0} → M → RawLine → List ℕ → List (Turn M)
+one_turn machine line reply = record { machine = machine; line = line; reply = reply } ∷ []
 
 -- the tally of a line and its reply
 abbrev pub tally_of : {M : Type 0} → M → RawLine → List ℕ → Tally M
-tally_of machine line reply = record { out = reply; replies = reply_count reply; turns = one_turn machine line }
+tally_of machine line reply = record { out = reply; replies = reply_count reply; turns = one_turn machine line reply }
 
--- the tally of a line and its reply, of which this part was put: the reply is not counted, but the line was answered
-abbrev pub cut_tally : {M : Type 0} → M → RawLine → List ℕ → Tally M
-cut_tally machine line part = record { out = part; replies = 0; turns = one_turn machine line }
+-- the tally of a line and its reply, of which a part was put: the reply is not counted, but the line was answered
+abbrev pub cut_tally : {M : Type 0} → M → RawLine → List ℕ → List ℕ → Tally M
+cut_tally machine line part missing =
+    record { out = part; replies = 0; turns = one_turn machine line (part ++ missing) }
 
 -- The lines were answered with this tally, one after another, and the machine is new after them. After a line that
 -- ends the session nothing is answered, and ended says whether there is one.
-abbrev pub IsTallied : {M : Type 0} → (M → RawLine → Step M) → M → List RawLine → Tally M → M → Bool → Type 0
+abbrev pub IsTallied : {M : Type 0} → (M → RawLine → Step M → Type 0) → M → List RawLine → Tally M → M → Bool → Type 0
 IsTallied step old [] tally new ended = (tally ≡ no_tally) × (new ≡ old) × (ended ≡ false)
 IsTallied {M} step old (line ∷ lines) tally new ended =
     (first : List ℕ) × (rest : Tally M) × (mid : M) × (ends : Bool) × Answers step old line first mid ends
@@ -47,7 +48,7 @@ IsTallied {M} step old (line ∷ lines) tally new ended =
     × MatchBool ends ((rest ≡ no_tally) × (new ≡ mid) × (ended ≡ true)) (IsTallied step mid lines rest new ended)
 
 -- The lines were answered up to one, of whose reply a part is missing.
-pub record BreaksOff {M : Type 0} (step : M → RawLine → Step M) (first : M) (lines : List RawLine)
+pub record BreaksOff {M : Type 0} (step : M → RawLine → Step M → Type 0) (first : M) (lines : List RawLine)
     (tally : Tally M) : Type 0 where
   pub before : List RawLine
   pub line : RawLine
@@ -62,7 +63,7 @@ pub record BreaksOff {M : Type 0} (step : M → RawLine → Step M) (first : M) 
   pub answered : IsTallied step first before whole mid false
   pub reply : Answers step mid line (part ++ missing) next ends
   pub proper : 0 < length missing
-  pub tallied : tally ≡ together whole (cut_tally mid line part)
+  pub tallied : tally ≡ together whole (cut_tally mid line part missing)
 
 -- a count after n more; it stands still at the greatest value of a u64
 abbrev pub kept_sum : ℕ → ℕ → ℕ
@@ -72,12 +73,12 @@ kept_sum count (suc n) = min (count + suc n) (2 ^ 64 - 1)
 -- what an output holds, what the session keeps, and how many replies and bytes were sent so far
 pub record Progress : Type 0 where
   pub written : Option (List ℕ)
-  pub kept : SessionState
+  pub kept : Kept
   pub replies : ℕ
   pub bytes : ℕ
 
 -- bytes were put on the output, what the session keeps went along the lines, and the counts rose by their tally
-pub record Advances {M : Type 0} (goes : SessionState → Turn M → SessionState → Type 0) (old new : Progress)
+pub record Advances {M : Type 0} (goes : Kept → Turn M → Kept → Type 0) (old new : Progress)
     (tally : Tally M) : Type 0 where
   pub writes : Appends old.written new.written tally.out
   pub along : IsAlong goes old.kept tally.turns new.kept

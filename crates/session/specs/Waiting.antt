@@ -5,6 +5,7 @@ use Rattle.run_notes.specs.declared.notes.Counts.{Counts}
 use Rattle.run_notes.specs.declared.notes.Sent.{Sent}
 use Rattle.gtp_rules.specs.Lines.{RawLine}
 use Rattle.gtp_rules.specs.Steps.{Step}
+use Rattle.engine.specs.Kept.{Kept}
 use Rattle.engine.specs.SessionState.{SessionState, no_counts}
 use Rattle.machine_rules.specs.Turns.{Turn}
 use Rattle.session.specs.Tallies.{Progress, kept_sum}
@@ -102,20 +103,22 @@ SendsReply w0 w1 s0 s1 b0 b1 reply.Nothing counts = (w1 ≡ w0) × (s1 ≡ s0) �
 SendsReply w0 w1 s0 s1 b0 b1 answer counts = Sends w0 w1 s0 s1 b0 b1 (reply_bytes answer) counts
 
 -- how far a run is with what waits
-abbrev pub progress_with : Option (List ℕ) → SessionState → Sent → WaitingState → Progress
-progress_with written session sent waiting = progress_of (holds_with written waiting) session (sent_with sent waiting)
+abbrev pub progress_with : Option (List ℕ) → Kept → Sent → WaitingState → Progress
+progress_with written kept sent waiting = progress_of (holds_with written waiting) kept (sent_with sent waiting)
 
--- The output failed within a reply to one of these lines, and what is noted are the counts after that line.
-pub record CutsShort {M : Type 0} (step : M → RawLine → Step M) (goes : SessionState → Turn M → SessionState → Type 0)
-    (from : M)
-    (lines : List RawLine) (old : Progress) (stop : Stop) : Type 0 where
-  pub kept : SessionState
-  pub same : stop.counts ≡ kept.counts
+-- The output failed within a reply to one of these lines. What is noted are the counts after that line, and these names
+-- were missed up to it.
+pub record CutsShort {M : Type 0} (step : M → RawLine → Step M → Type 0) (goes : Kept → Turn M → Kept → Type 0)
+    (from : M) (lines : List RawLine) (old : Progress) (stop : Stop) (missed : List (List ℕ)) : Type 0 where
+  pub kept : Kept
+  pub same : stop.counts ≡ kept.engine.counts
+  pub names : missed ≡ kept.missed
   pub runs : RunsPart step goes from lines old (progress_of stop.written kept stop.sent)
 
--- the output may fail so within what waits, or within a reply to one of these lines behind it
-abbrev pub MayCut : {M : Type 0} → (M → RawLine → Step M) → (SessionState → Turn M → SessionState → Type 0) → M
-    → List RawLine
-    → Option (List ℕ) → SessionState → Sent → WaitingState → Stop → Type 0
-MayCut step goes from lines written session sent waiting stop = IsStop written sent waiting stop
-    ⊎ CutsShort step goes from lines (progress_with written session sent waiting) stop
+-- the output may fail so within what waits, and then no name more was missed; or within a reply to one of these lines
+-- behind it
+abbrev pub MayCut : {M : Type 0} → (M → RawLine → Step M → Type 0) → (Kept → Turn M → Kept → Type 0) → M
+    → List RawLine → Option (List ℕ) → Kept → Sent → WaitingState → Stop → List (List ℕ) → Type 0
+MayCut step goes from lines written kept sent waiting stop missed =
+    (IsStop written sent waiting stop × (missed ≡ kept.missed))
+    ⊎ CutsShort step goes from lines (progress_with written kept sent waiting) stop missed

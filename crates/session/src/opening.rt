@@ -7,10 +7,8 @@ ghost use Rattle.db_read.specs.Reading.{BlamesAt};
 ghost use Rattle.go_options.specs.Found.{AreInRange};
 ghost use Rattle.session.specs.PatternFiles.{most_patterns, needs_feed, added_feed, Adds, IsJoined, MissedBy, MissedIn};
 ghost use Rattle.session.specs.PatternFiles.{HasFewStates, RefusesStates, IsRefused};
-ghost use Rattle.helpers.specs.Asking.{says_yes};
 ghost use Rattle.helpers.specs.Slots.{states_of};
 ghost use Rattle.engine.specs.Handed.{helper_names};
-ghost use Rattle.engine.specs.SessionSteps.{matcher_of};
 ghost use Rattle.session.specs.FirstSession.{IsPlainWith, Opens};
 
 use crate::outcome::OpenError;
@@ -95,8 +93,9 @@ fn session_with(
 ) -> Result<Session, OpenError>
     requires few { length patterns.items ≤ most_patterns }
     requires ranges { AreInRange options.now }
-    ensures ok { IfOk result (λ session. IsPlainWith (says_yes (states_of state helpers)) patterns.items
-        options.now.depth options.now.branch options.now.cache session.engine (matcher_of state session)) }
+    ensures ok { IfOk result (λ session. IsPlainWith patterns.items options.now.depth options.now.branch
+        options.now.cache session.engine) }
+    ensures helpers { IfOk result (λ session. states_of state session.helpers ≡ states_of state helpers) }
     ensures few { OnOk result (HasFewStates patterns.items options.now.states) }
     ensures err { IfErr result (RefusesStates patterns.items options.now.states) }
 {
@@ -114,7 +113,7 @@ pub(crate) fn open<L: Loader>(
 ) -> Result<Opened, OpenError>
     requires { AreInRange options.now }
     ensures ok { IfOk result (λ opened. Opens (states_of state helpers) (L.contents files.old) options.now
-        opened.session.engine (matcher_of state opened.session) opened.lines) }
+        opened.session.engine (states_of state opened.session.helpers) opened.lines) }
     ensures kept { OnOk result (L.missed files.new ≡ L.missed files.old) }
     ensures err { IfErr result (IsRefused (helper_names (states_of state helpers)) (L.contents files.old)
         options.now.files options.now.states) }

@@ -11,8 +11,9 @@ ghost use Rattle.gtp_lex.specs.Raw.{raw_line};
 ghost use Rattle.engine.specs.AfterLine.{IsAfterLine};
 ghost use Rattle.session.specs.Headline.{IsCauseOf};
 ghost use Rattle.session.specs.FirstSession.{EndsCounting};
-ghost use Rattle.engine.specs.SessionState.{machine_of};
-ghost use Rattle.engine.specs.SessionSteps.{matcher_of, step_of};
+ghost use Rattle.engine.specs.SessionState.{matcher_of};
+ghost use Rattle.engine.specs.SessionSteps.{machine_now, kept_of, step_of};
+ghost use Rattle.session.specs.Ends.{streams};
 ghost use Rattle.session.specs.Serving.{progress_of, RunsTo};
 ghost use Rattle.engine.specs.Replies.{reply_bytes, reply_ends};
 ghost use Rattle.session.specs.Waiting.{none_wait, progress_with, Stop, IsStop, MayStop, MayCut, CutsShort};
@@ -22,7 +23,7 @@ use crate::outbox::Outbox;
 use crate::outcome::End;
 use engine::{Reply, Session};
 use gtp_cmd::{RefuseText, refusal};
-use gtp_io::{Failed, Sink, Source};
+use gtp_io::{Failed, Loader, Sink, Source};
 use gtp_lex::{Lines, Raw, Taken};
 use run_notes::{Counts, Sent};
 
@@ -45,7 +46,8 @@ fn send<K: Sink>(
     ensures ends { IfOk result (λ ends. ends ≡ reply_ends reply) }
     ensures ok { OnOk result (SendsReply (K.written output.old) (K.written output.new) sent.old sent.new outbox.old
         outbox.new reply counts) }
-    ensures part { IfErr result (λ noted. MayStop (K.written output.old) sent.old outbox.old (reply_bytes reply) counts
+    ensures part { IfErr result (λ noted. MayStop (K.written output.old) sent.old outbox.old
+        (reply_bytes reply) counts
         (record { written = K.written output.new; sent = sent.new; counts = noted })) }
     ensures cause { IsCounted (K.faults output.old) (K.faults output.new) result }
     ensures last { OnErr result (K.failed output.new ≡ true) }
@@ -69,25 +71,30 @@ fn send<K: Sink>(
 }
 
 // Answers one line, and says whether it ends the session. What waits is put before a line that may take long.
-fn answer<K: Sink>(
+fn answer<L: Loader, K: Sink>(
     session: &mut Session,
     raw: Raw<'_>,
+    files: &mut L,
     outbox: &mut Outbox,
     output: &mut K,
     sent: &mut Sent,
 ) -> Result<bool, Counts>
-    ensures ok { IfOk result (λ ends. RunsTo (step_of state session.old) IsAfterLine (machine_of session.old.engine)
-        (raw_line raw.entry ∷ []) (machine_of session.new.engine) ends
-        (progress_with (K.written output.old) session.old.engine sent.old outbox.old)
-        (progress_with (K.written output.new) session.new.engine sent.new outbox.new)) }
+    ensures ok { IfOk result (λ ends. RunsTo (step_of session.old (L.contents files.old)) IsAfterLine
+        (machine_now state session.old)
+        (raw_line raw.entry ∷ []) (machine_now state session.new) ends
+        (progress_with (K.written output.old) (kept_of state session.old (L.missed files.old)) sent.old outbox.old)
+        (progress_with (K.written output.new) (kept_of state session.new (L.missed files.new)) sent.new outbox.new)) }
     ensures stops { OnOk result ((stop : Stop) → IsStop (K.written output.new) sent.new outbox.new stop
-        → MayCut (step_of state session.old) IsAfterLine (machine_of session.old.engine) (raw_line raw.entry ∷ [])
-        (K.written output.old) session.old.engine sent.old outbox.old stop) }
-    ensures part { IfErr result (λ noted. MayCut (step_of state session.old) IsAfterLine
-        (machine_of session.old.engine) (raw_line raw.entry ∷ [])
-        (K.written output.old) session.old.engine sent.old outbox.old
-        (record { written = K.written output.new; sent = sent.new; counts = noted })) }
-    ensures same { matcher_of state session.new ≡ matcher_of state session.old }
+        → MayCut (step_of session.old (L.contents files.old)) IsAfterLine (machine_now state session.old)
+        (raw_line raw.entry ∷ [])
+        (K.written output.old) (kept_of state session.old (L.missed files.old)) sent.old outbox.old stop
+        (L.missed files.new)) }
+    ensures part { IfErr result (λ noted. MayCut (step_of session.old (L.contents files.old)) IsAfterLine
+        (machine_now state session.old) (raw_line raw.entry ∷ [])
+        (K.written output.old) (kept_of state session.old (L.missed files.old)) sent.old outbox.old
+        (record { written = K.written output.new; sent = sent.new; counts = noted }) (L.missed files.new)) }
+    ensures same { matcher_of session.new.engine ≡ matcher_of session.old.engine }
+    ensures contents { L.contents files.new ≡ L.contents files.old }
     ensures cause { IsCounted (K.faults output.old) (K.faults output.new) result }
     ensures last { OnErr result (K.failed output.new ≡ true) }
 {
@@ -95,79 +102,95 @@ fn answer<K: Sink>(
         Ok(reply) => send(reply, session.stats(), false, outbox, output, sent),
         Err(slow) => {
             outbox.flush(output, sent)?;
-            let reply = session.finish(slow);
+            let reply = session.finish(slow, raw, files);
             send(reply, session.stats(), true, outbox, output, sent)
         }
     }
 }
 
 // Answers the line that was taken.
-fn answer_taken<K: Sink>(
+fn answer_taken<L: Loader, K: Sink>(
     session: &mut Session,
     lines: &Lines,
     taken: Taken,
+    files: &mut L,
     outbox: &mut Outbox,
     output: &mut K,
     sent: &mut Sent,
 ) -> Result<bool, Counts>
     requires { (held : RawLine) × (lines.now ≡ given_state held) × (taken ≡ taken_of held) }
     ensures ok { (held : RawLine) → lines.now ≡ given_state held → taken ≡ taken_of held → IfOk result
-        (λ ends. RunsTo (step_of state session.old) IsAfterLine (machine_of session.old.engine) (held ∷ [])
-        (machine_of session.new.engine) ends
-        (progress_with (K.written output.old) session.old.engine sent.old outbox.old)
-        (progress_with (K.written output.new) session.new.engine sent.new outbox.new)) }
+        (λ ends. RunsTo (step_of session.old (L.contents files.old)) IsAfterLine (machine_now state session.old)
+        (held ∷ [])
+        (machine_now state session.new) ends
+        (progress_with (K.written output.old) (kept_of state session.old (L.missed files.old)) sent.old outbox.old)
+        (progress_with (K.written output.new) (kept_of state session.new (L.missed files.new)) sent.new outbox.new)) }
     ensures stops { (held : RawLine) → lines.now ≡ given_state held → taken ≡ taken_of held → OnOk result
         ((stop : Stop) → IsStop (K.written output.new) sent.new outbox.new stop
-        → MayCut (step_of state session.old) IsAfterLine (machine_of session.old.engine) (held ∷ [])
-        (K.written output.old) session.old.engine sent.old outbox.old stop) }
+        → MayCut (step_of session.old (L.contents files.old)) IsAfterLine (machine_now state session.old) (held ∷ [])
+        (K.written output.old) (kept_of state session.old (L.missed files.old)) sent.old outbox.old stop
+        (L.missed files.new)) }
     ensures part { (held : RawLine) → lines.now ≡ given_state held → taken ≡ taken_of held → IfErr result
-        (λ noted. MayCut (step_of state session.old) IsAfterLine (machine_of session.old.engine) (held ∷ [])
-        (K.written output.old) session.old.engine sent.old outbox.old
-        (record { written = K.written output.new; sent = sent.new; counts = noted })) }
-    ensures same { matcher_of state session.new ≡ matcher_of state session.old }
+        (λ noted. MayCut (step_of session.old (L.contents files.old)) IsAfterLine (machine_now state session.old)
+        (held ∷ [])
+        (K.written output.old) (kept_of state session.old (L.missed files.old)) sent.old outbox.old
+        (record { written = K.written output.new; sent = sent.new; counts = noted }) (L.missed files.new)) }
+    ensures same { matcher_of session.new.engine ≡ matcher_of session.old.engine }
+    ensures contents { L.contents files.new ≡ L.contents files.old }
     ensures cause { IsCounted (K.faults output.old) (K.faults output.new) result }
     ensures last { OnErr result (K.failed output.new ≡ true) }
 {
     match taken {
-        Taken::Line => answer(session, Raw::Line(lines.bytes()), outbox, output, sent),
-        Taken::TooLong => answer(session, Raw::TooLong, outbox, output, sent),
+        Taken::Line => answer(
+            session,
+            Raw::Line(lines.bytes()),
+            files,
+            outbox,
+            output,
+            sent,
+        ),
+        Taken::TooLong => answer(session, Raw::TooLong, files, outbox, output, sent),
     }
 }
 
 // Takes bytes up to and with the first line feed, and answers the line that it ends, if it came.
 // Says how many bytes were taken, and whether the line ends the session.
-fn answer_next<K: Sink>(
+fn answer_next<L: Loader, K: Sink>(
     session: &mut Session,
     lines: &mut Lines,
     rest: &[u8],
+    files: &mut L,
     outbox: &mut Outbox,
     output: &mut K,
     sent: &mut Sent,
 ) -> Result<(usize, bool), Counts>
     requires { lines.old.waits ≡ false }
     ensures bound { IfOk result (λ turn. (turn.0 ≤ length rest.now) × (0 < length rest.now → 0 < turn.0)) }
-    ensures ok { IfOk result (λ turn. RunsTo (step_of state session.old) IsAfterLine (machine_of session.old.engine)
-        (lines_from lines.old.held (take turn.0 rest.now)) (machine_of session.new.engine) turn.1
-        (progress_with (K.written output.old) session.old.engine sent.old outbox.old)
-        (progress_with (K.written output.new) session.new.engine sent.new outbox.new)) }
+    ensures ok { IfOk result (λ turn. RunsTo (step_of session.old (L.contents files.old)) IsAfterLine
+        (machine_now state session.old)
+        (lines_from lines.old.held (take turn.0 rest.now)) (machine_now state session.new) turn.1
+        (progress_with (K.written output.old) (kept_of state session.old (L.missed files.old)) sent.old outbox.old)
+        (progress_with (K.written output.new) (kept_of state session.new (L.missed files.new)) sent.new outbox.new)) }
     ensures held { IfOk result (λ turn. (lines.new.held ≡ held_from lines.old.held (take turn.0 rest.now))
         × (lines.new.waits ≡ false)) }
     ensures stops { IfOk result (λ turn. (stop : Stop) → IsStop (K.written output.new) sent.new outbox.new stop
-        → MayCut (step_of state session.old) IsAfterLine (machine_of session.old.engine)
+        → MayCut (step_of session.old (L.contents files.old)) IsAfterLine (machine_now state session.old)
         (lines_from lines.old.held (take turn.0 rest.now))
-        (K.written output.old) session.old.engine sent.old outbox.old stop) }
-    ensures part { IfErr result (λ noted. MayCut (step_of state session.old) IsAfterLine
-        (machine_of session.old.engine) (lines_from lines.old.held rest.now)
-        (K.written output.old) session.old.engine sent.old outbox.old
-        (record { written = K.written output.new; sent = sent.new; counts = noted })) }
-    ensures same { matcher_of state session.new ≡ matcher_of state session.old }
+        (K.written output.old) (kept_of state session.old (L.missed files.old)) sent.old outbox.old stop
+        (L.missed files.new)) }
+    ensures part { IfErr result (λ noted. MayCut (step_of session.old (L.contents files.old)) IsAfterLine
+        (machine_now state session.old) (lines_from lines.old.held rest.now)
+        (K.written output.old) (kept_of state session.old (L.missed files.old)) sent.old outbox.old
+        (record { written = K.written output.new; sent = sent.new; counts = noted }) (L.missed files.new)) }
+    ensures same { matcher_of session.new.engine ≡ matcher_of session.old.engine }
+    ensures contents { L.contents files.new ≡ L.contents files.old }
     ensures cause { IsCounted (K.faults output.old) (K.faults output.new) result }
     ensures last { OnErr result (K.failed output.new ≡ true) }
 {
     let count = lines.feed(rest);
     match lines.take() {
         Some(taken) => {
-            let ended = answer_taken(session, lines, taken, outbox, output, sent)?;
+            let ended = answer_taken(session, lines, taken, files, outbox, output, sent)?;
             Ok((count, ended))
         }
         None => Ok((count, false)),
@@ -175,34 +198,38 @@ fn answer_next<K: Sink>(
 }
 
 // Answers the lines that end in a piece, and says whether one of them ends the session. No reply waits after it.
-fn answer_piece<K: Sink>(
+fn answer_piece<L: Loader, K: Sink>(
     session: &mut Session,
     lines: &mut Lines,
     piece: &[u8],
+    files: &mut L,
     outbox: &mut Outbox,
     output: &mut K,
     sent: &mut Sent,
 ) -> Result<bool, Counts>
     requires open_ended { lines.old.waits ≡ false }
     requires none { outbox.old ≡ none_wait }
-    ensures ok { IfOk result (λ ended. RunsTo (step_of state session.old) IsAfterLine (machine_of session.old.engine)
+    ensures ok { IfOk result (λ ended. RunsTo (step_of session.old (L.contents files.old)) IsAfterLine
+        (machine_now state session.old)
         (lines_from lines.old.held piece.now)
-        (machine_of session.new.engine) ended (progress_of (K.written output.old) session.old.engine sent.old)
-        (progress_of (K.written output.new) session.new.engine sent.new)) }
+        (machine_now state session.new) ended (progress_of (K.written output.old) (kept_of state session.old
+        (L.missed files.old)) sent.old)
+        (progress_of (K.written output.new) (kept_of state session.new (L.missed files.new)) sent.new)) }
     ensures held { IfOk result (λ ended. ended ≡ false →
         (lines.new.held ≡ held_from lines.old.held piece.now) × (lines.new.waits ≡ false)) }
     ensures none { OnOk result (outbox.new ≡ none_wait) }
-    ensures part { IfErr result (λ noted. CutsShort (step_of state session.old) IsAfterLine
-        (machine_of session.old.engine) (lines_from lines.old.held piece.now)
-        (progress_of (K.written output.old) session.old.engine sent.old)
-        (record { written = K.written output.new; sent = sent.new; counts = noted })) }
-    ensures same { matcher_of state session.new ≡ matcher_of state session.old }
+    ensures part { IfErr result (λ noted. CutsShort (step_of session.old (L.contents files.old)) IsAfterLine
+        (machine_now state session.old) (lines_from lines.old.held piece.now)
+        (progress_of (K.written output.old) (kept_of state session.old (L.missed files.old)) sent.old)
+        (record { written = K.written output.new; sent = sent.new; counts = noted }) (L.missed files.new)) }
+    ensures same { matcher_of session.new.engine ≡ matcher_of session.old.engine }
+    ensures contents { L.contents files.new ≡ L.contents files.old }
     ensures cause { IsCounted (K.faults output.old) (K.faults output.new) result }
     ensures last { OnErr result (K.failed output.new ≡ true) }
 {
     let mut rest = piece;
     while !rest.is_empty() {
-        let (count, ended) = answer_next(session, lines, rest, outbox, output, sent)?;
+        let (count, ended) = answer_next(session, lines, rest, files, outbox, output, sent)?;
         if ended {
             outbox.flush(output, sent)?;
             return Ok(true);
@@ -214,29 +241,32 @@ fn answer_piece<K: Sink>(
 }
 
 // Answers the rest as a last line, if there is one. No reply waits after it.
-fn answer_rest<K: Sink>(
+fn answer_rest<L: Loader, K: Sink>(
     session: &mut Session,
     lines: &mut Lines,
+    files: &mut L,
     outbox: &mut Outbox,
     output: &mut K,
     sent: &mut Sent,
 ) -> Result<bool, Counts>
     requires open_ended { lines.old.waits ≡ false }
     requires none { outbox.old ≡ none_wait }
-    ensures ok { IfOk result (λ ended. RunsTo (step_of state session.old) IsAfterLine (machine_of session.old.engine)
+    ensures ok { IfOk result (λ ended. RunsTo (step_of session.old (L.contents files.old)) IsAfterLine
+        (machine_now state session.old)
         (held_line lines.old.held)
-        (machine_of session.new.engine) ended (progress_of (K.written output.old) session.old.engine sent.old)
-        (progress_of (K.written output.new) session.new.engine sent.new)) }
-    ensures part { IfErr result (λ noted. CutsShort (step_of state session.old) IsAfterLine
-        (machine_of session.old.engine) (held_line lines.old.held)
-        (progress_of (K.written output.old) session.old.engine sent.old)
-        (record { written = K.written output.new; sent = sent.new; counts = noted })) }
+        (machine_now state session.new) ended (progress_of (K.written output.old) (kept_of state session.old
+        (L.missed files.old)) sent.old)
+        (progress_of (K.written output.new) (kept_of state session.new (L.missed files.new)) sent.new)) }
+    ensures part { IfErr result (λ noted. CutsShort (step_of session.old (L.contents files.old)) IsAfterLine
+        (machine_now state session.old) (held_line lines.old.held)
+        (progress_of (K.written output.old) (kept_of state session.old (L.missed files.old)) sent.old)
+        (record { written = K.written output.new; sent = sent.new; counts = noted }) (L.missed files.new)) }
     ensures cause { IsCounted (K.faults output.old) (K.faults output.new) result }
     ensures last { OnErr result (K.failed output.new ≡ true) }
 {
     match lines.finish() {
         Some(taken) => {
-            let ended = answer_taken(session, lines, taken, outbox, output, sent)?;
+            let ended = answer_taken(session, lines, taken, files, outbox, output, sent)?;
             outbox.flush(output, sent)?;
             Ok(ended)
         }
@@ -271,31 +301,24 @@ pub(crate) struct Ended {
 /// Answers the lines of the source until its end, a fault, or the line that ends the session.
 ///
 /// The replies of a piece wait and go out together, before the next piece is asked for.
-pub(crate) fn serve<S: Source, K: Sink>(
+pub(crate) fn serve<L: Loader, S: Source, K: Sink>(
     session: &mut Session,
     lines: &mut Lines,
+    files: &mut L,
     input: &mut S,
     output: &mut K,
     sent: &mut Sent,
 ) -> Ended
     requires { lines.old ≡ no_line }
-    ensures serves { EndsCounting None (step_of state session.old) IsAfterLine (machine_of session.old.engine)
-        (record {
-          left = S.left input.old;
-          piece = S.piece input.old;
-          input_faults = S.faults input.old;
-          written = K.written output.old;
-          output_faults = K.faults output.old;
-        })
-        (record {
-          left = S.left input.new;
-          piece = S.piece input.new;
-          input_faults = S.faults input.new;
-          written = K.written output.new;
-          output_faults = K.faults output.new;
-        }) result.end result.counts
-        (progress_of (K.written output.old) session.old.engine sent.old)
+    ensures serves { EndsCounting None (step_of session.old (L.contents files.old)) IsAfterLine
+        (machine_now state session.old)
+        (streams (S.left input.old) (S.piece input.old) (S.faults input.old) (K.written output.old)
+        (K.faults output.old))
+        (streams (S.left input.new) (S.piece input.new) (S.faults input.new) (K.written output.new)
+        (K.faults output.new)) result.end result.counts (L.missed files.new)
+        (progress_of (K.written output.old) (kept_of state session.old (L.missed files.old)) sent.old)
         (K.written output.new) sent.new }
+    ensures contents { L.contents files.new ≡ L.contents files.old }
     ensures input { IsCauseOf (result.end ≡ End.InputFault) (S.faults input.old) (S.faults input.new) }
     ensures output { IsCauseOf (result.end ≡ End.OutputFault) (K.faults output.old) (K.faults output.new) }
     ensures last { result.end ≡ End.OutputFault → K.failed output.new ≡ true }
@@ -312,7 +335,7 @@ pub(crate) fn serve<S: Source, K: Sink>(
                 };
             }
             Ok(0) => {
-                return match answer_rest(session, lines, &mut outbox, output, sent) {
+                return match answer_rest(session, lines, files, &mut outbox, output, sent) {
                     Ok(_) => Ended {
                         end: End::Done,
                         counts: session.stats(),
@@ -325,7 +348,15 @@ pub(crate) fn serve<S: Source, K: Sink>(
             }
             Ok(count) => {
                 room -= count;
-                match answer_piece(session, lines, &buf[..count], &mut outbox, output, sent) {
+                match answer_piece(
+                    session,
+                    lines,
+                    &buf[..count],
+                    files,
+                    &mut outbox,
+                    output,
+                    sent,
+                ) {
                     Ok(false) => {}
                     Ok(true) => {
                         return Ended {

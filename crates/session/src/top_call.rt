@@ -2,12 +2,12 @@
 ghost use Rattle.std.specs.Prelude.{◌≡◌, ◌↔◌, MatchOption, Option, None, Some, true, if◌then◌else◌, option_map, map};
 ghost use Rattle.std.specs.Prelude.{string_bytes};
 ghost use Rattle.session.specs.Headline.{Came, IsCauseOf, MissedAfter, Runs, RunsHad, files_in};
+ghost use Rattle.session.specs.Ends.{streams};
 ghost use Rattle.session.specs.FirstSession.{CameBy, EndsCounting};
 ghost use Rattle.session.specs.Serving.{progress_of};
 ghost use Rattle.go_options.specs.Found.{AreInRange, IsFrom};
 ghost use Rattle.engine.specs.AfterLine.{IsAfterLine};
-ghost use Rattle.engine.specs.SessionState.{machine_of};
-ghost use Rattle.engine.specs.SessionSteps.{step_of};
+ghost use Rattle.engine.specs.SessionSteps.{machine_now, kept_of, step_of};
 ghost use Rattle.helpers.specs.Slots.{states_of};
 ghost use Rattle.engine.specs.Handed.{handed};
 ghost use Rattle.session.specs.Notes.{note_of};
@@ -64,41 +64,33 @@ fn served(end: End, options: &Options, counts: Counts, sent: Sent) -> Ran
 }
 
 // Serves the lines of the input, or the generated lines in their place.
-fn serve_lines<S: Source, K: Sink>(
+fn serve_lines<L: Loader, S: Source, K: Sink>(
     generate: Option<u32>,
     opened: &mut Opened,
+    files: &mut L,
     input: &mut S,
     output: &mut K,
     sent: &mut Sent,
 ) -> Ended
     requires none { opened.old.lines ≡ no_line }
     requires few { MatchOption generate (Unit {0}) (IsFrom 1 100000) }
-    ensures serves { EndsCounting generate (step_of state opened.old.session) IsAfterLine
-        (machine_of opened.old.session.engine)
-        (record {
-          left = S.left input.old;
-          piece = S.piece input.old;
-          input_faults = S.faults input.old;
-          written = K.written output.old;
-          output_faults = K.faults output.old;
-        })
-        (record {
-          left = S.left input.new;
-          piece = S.piece input.new;
-          input_faults = S.faults input.new;
-          written = K.written output.new;
-          output_faults = K.faults output.new;
-        }) result.end result.counts
-        (progress_of (K.written output.old) opened.old.session.engine sent.old)
+    ensures serves { EndsCounting generate (step_of opened.old.session (L.contents files.old)) IsAfterLine
+        (machine_now state opened.old.session)
+        (streams (S.left input.old) (S.piece input.old) (S.faults input.old) (K.written output.old)
+        (K.faults output.old))
+        (streams (S.left input.new) (S.piece input.new) (S.faults input.new) (K.written output.new)
+        (K.faults output.new)) result.end result.counts (L.missed files.new)
+        (progress_of (K.written output.old) (kept_of state opened.old.session (L.missed files.old)) sent.old)
         (K.written output.new) sent.new }
+    ensures contents { L.contents files.new ≡ L.contents files.old }
     ensures input { IsCauseOf (result.end ≡ End.InputFault) (S.faults input.old) (S.faults input.new) }
     ensures output { IsCauseOf (result.end ≡ End.OutputFault) (K.faults output.old) (K.faults output.new) }
     ensures last { result.end ≡ End.OutputFault → K.failed output.new ≡ true }
 {
     let Opened { session, lines } = opened;
     match generate {
-        Some(n) => serve(session, lines, &mut Workload::new(n), output, sent),
-        None => serve(session, lines, input, output, sent),
+        Some(n) => serve(session, lines, files, &mut Workload::new(n), output, sent),
+        None => serve(session, lines, files, input, output, sent),
     }
 }
 
@@ -113,22 +105,14 @@ fn run_options<L: Loader, S: Source, K: Sink>(
 ) -> Ran
     requires { AreInRange options.now }
     ensures came { CameBy (states_of state helpers) options.now (L.contents files.old)
-        (record {
-          left = S.left input.old;
-          piece = S.piece input.old;
-          input_faults = S.faults input.old;
-          written = K.written output.old;
-          output_faults = K.faults output.old;
-        })
-        (record {
-          left = S.left input.new;
-          piece = S.piece input.new;
-          input_faults = S.faults input.new;
-          written = K.written output.new;
-          output_faults = K.faults output.new;
-        })
+        (L.missed files.old) (L.missed files.new)
+        (streams (S.left input.old) (S.piece input.old) (S.faults input.old) (K.written output.old)
+        (K.faults output.old))
+        (streams (S.left input.new) (S.piece input.new) (S.faults input.new) (K.written output.new)
+        (K.faults output.new))
         result.counts result.sent (phase_of result.outcome) }
-    ensures missed { MissedAfter options.now.files (L.missed files.old) (L.missed files.new) (phase_of result.outcome) }
+    ensures missed { MissedAfter options.now.files (L.missed files.old) (L.missed files.new)
+        (phase_of result.outcome) }
     ensures same { L.contents files.new ≡ L.contents files.old }
     ensures input { IsCauseOf (result.outcome ≡ Outcome.InputFault) (S.faults input.old) (S.faults input.new) }
     ensures output { IsCauseOf (result.outcome ≡ Outcome.OutputFault) (K.faults output.old) (K.faults output.new) }
@@ -139,7 +123,14 @@ fn run_options<L: Loader, S: Source, K: Sink>(
         Err(error) => return unserved(error.outcome()),
     };
     let mut sent = Sent { lines: 0, bytes: 0 };
-    let ended = serve_lines(options.generate, &mut opened, input, output, &mut sent);
+    let ended = serve_lines(
+        options.generate,
+        &mut opened,
+        files,
+        input,
+        output,
+        &mut sent,
+    );
     served(ended.end, options, ended.counts, sent)
 }
 
@@ -154,22 +145,14 @@ fn run_helped<L: Loader, S: Source, K: Sink>(
 ) -> Ran
     requires { AreInRange options.now }
     ensures came { CameBy (handed state helpers.items) options.now (L.contents files.old)
-        (record {
-          left = S.left input.old;
-          piece = S.piece input.old;
-          input_faults = S.faults input.old;
-          written = K.written output.old;
-          output_faults = K.faults output.old;
-        })
-        (record {
-          left = S.left input.new;
-          piece = S.piece input.new;
-          input_faults = S.faults input.new;
-          written = K.written output.new;
-          output_faults = K.faults output.new;
-        })
+        (L.missed files.old) (L.missed files.new)
+        (streams (S.left input.old) (S.piece input.old) (S.faults input.old) (K.written output.old)
+        (K.faults output.old))
+        (streams (S.left input.new) (S.piece input.new) (S.faults input.new) (K.written output.new)
+        (K.faults output.new))
         result.counts result.sent (phase_of result.outcome) }
-    ensures missed { MissedAfter options.now.files (L.missed files.old) (L.missed files.new) (phase_of result.outcome) }
+    ensures missed { MissedAfter options.now.files (L.missed files.old) (L.missed files.new)
+        (phase_of result.outcome) }
     ensures same { L.contents files.new ≡ L.contents files.old }
     ensures input { IsCauseOf (result.outcome ≡ Outcome.InputFault) (S.faults input.old) (S.faults input.new) }
     ensures output { IsCauseOf (result.outcome ≡ Outcome.OutputFault) (K.faults output.old) (K.faults output.new) }
@@ -191,20 +174,11 @@ fn run_unnoted<L: Loader, S: Source, K: Sink>(
     helpers: Vec<Box<dyn Helper>>,
 ) -> Ran
     ensures came { Came (handed state helpers.items) (map string_bytes words.now) (L.contents files.old)
-        (record {
-          left = S.left input.old;
-          piece = S.piece input.old;
-          input_faults = S.faults input.old;
-          written = K.written output.old;
-          output_faults = K.faults output.old;
-        })
-        (record {
-          left = S.left input.new;
-          piece = S.piece input.new;
-          input_faults = S.faults input.new;
-          written = K.written output.new;
-          output_faults = K.faults output.new;
-        })
+        (L.missed files.old) (L.missed files.new)
+        (streams (S.left input.old) (S.piece input.old) (S.faults input.old) (K.written output.old)
+        (K.faults output.old))
+        (streams (S.left input.new) (S.piece input.new) (S.faults input.new) (K.written output.new)
+        (K.faults output.new))
         result.counts result.sent (phase_of result.outcome) }
     ensures missed { MissedAfter (files_in (map string_bytes words.now)) (L.missed files.old) (L.missed files.new)
         (phase_of result.outcome) }
@@ -256,26 +230,16 @@ pub fn run<L: Loader, S: Source, K: Sink, D: Sink>(
         (record {
           contents = L.contents files.old;
           missed = L.missed files.old;
-          streams = record {
-            left = S.left input.old;
-            piece = S.piece input.old;
-            input_faults = S.faults input.old;
-            written = K.written output.old;
-            output_faults = K.faults output.old;
-          };
+          streams = streams (S.left input.old) (S.piece input.old) (S.faults input.old) (K.written output.old)
+              (K.faults output.old);
           noted = D.written notes.old;
           notes_faults = D.faults notes.old;
         })
         (record {
           contents = L.contents files.new;
           missed = L.missed files.new;
-          streams = record {
-            left = S.left input.new;
-            piece = S.piece input.new;
-            input_faults = S.faults input.new;
-            written = K.written output.new;
-            output_faults = K.faults output.new;
-          };
+          streams = streams (S.left input.new) (S.piece input.new) (S.faults input.new) (K.written output.new)
+              (K.faults output.new);
           noted = D.written notes.new;
           notes_faults = D.faults notes.new;
         })
@@ -302,26 +266,16 @@ pub fn run_words<L: Loader, S: Source, K: Sink, D: Sink>(
         (record {
           contents = L.contents files.old;
           missed = L.missed files.old;
-          streams = record {
-            left = S.left input.old;
-            piece = S.piece input.old;
-            input_faults = S.faults input.old;
-            written = K.written output.old;
-            output_faults = K.faults output.old;
-          };
+          streams = streams (S.left input.old) (S.piece input.old) (S.faults input.old) (K.written output.old)
+              (K.faults output.old);
           noted = D.written notes.old;
           notes_faults = D.faults notes.old;
         })
         (record {
           contents = L.contents files.new;
           missed = L.missed files.new;
-          streams = record {
-            left = S.left input.new;
-            piece = S.piece input.new;
-            input_faults = S.faults input.new;
-            written = K.written output.new;
-            output_faults = K.faults output.new;
-          };
+          streams = streams (S.left input.new) (S.piece input.new) (S.faults input.new) (K.written output.new)
+              (K.faults output.new);
           noted = D.written notes.new;
           notes_faults = D.faults notes.new;
         })

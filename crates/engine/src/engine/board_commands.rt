@@ -1,11 +1,11 @@
 //! The commands that set up a board, play on it and tell of it.
-ghost use Rattle.std.specs.Prelude.{◌≡◌, ◌*◌, ◌<◌, ◌≤◌, length, is_ok, IfSome};
+ghost use Rattle.std.specs.Prelude.{List, ◌≡◌, ◌*◌, ◌<◌, ◌≤◌, length, is_ok, IfSome};
 ghost use Rattle.go_rules.specs.declared.Move.{Move};
 ghost use Rattle.go_rules.specs.Replay.{moved};
 ghost use Rattle.go_rules.specs.Strings.{cell_at, is_stone};
 ghost use Rattle.go_strings.specs.Games.{reached};
-ghost use Rattle.machine_rules.specs.Machine.{position_of};
-ghost use Rattle.engine.specs.SessionState.{machine_of};
+ghost use Rattle.helpers.specs.Asking.{SlotState};
+ghost use Rattle.engine.specs.SessionState.{board_of, machine_with};
 ghost use Rattle.machine_rules.specs.BoardCommands.{digit_of, resized, cleared, komi_kept, played, taken_back, shown};
 ghost use Rattle.machine_rules.specs.BoardCommands.{allowed, all_allowed, liberties_counted, liberties_found};
 ghost use Rattle.machine_rules.specs.BoardCommands.{captures_counted};
@@ -41,8 +41,9 @@ pub(crate) fn has_stone(board: &StringBoard, p: Point) -> bool
 
 impl Engine {
     pub(crate) fn resize(&mut self, size: Option<Size>) -> Answer
-        ensures answer { IsAnswer (machine_of self.old) (resized (machine_of self.old) size) result
-            (machine_of self.new) }
+        ensures answer { (helpers : List SlotState) → IsAnswer
+            (resized (machine_with helpers self.old) size) result
+            (machine_with helpers self.new) }
         ensures patterns { self.new.patterns ≡ self.old.patterns }
         ensures same { self.new.automaton ≡ self.old.automaton }
         ensures counts { self.new.counts ≡ self.old.counts }
@@ -56,7 +57,8 @@ impl Engine {
     }
 
     pub(crate) fn clear(&mut self) -> Answer
-        ensures answer { IsAnswer (machine_of self.old) (cleared (machine_of self.old)) result (machine_of self.new) }
+        ensures answer { (helpers : List SlotState) → IsAnswer
+            (cleared (machine_with helpers self.old)) result (machine_with helpers self.new) }
         ensures patterns { self.new.patterns ≡ self.old.patterns }
         ensures same { self.new.automaton ≡ self.old.automaton }
         ensures counts { self.new.counts ≡ self.old.counts }
@@ -67,8 +69,9 @@ impl Engine {
     }
 
     pub(crate) fn keep_komi(&mut self, komi: KomiText) -> Answer
-        ensures answer { IsAnswer (machine_of self.old) (komi_kept (machine_of self.old) komi) result
-            (machine_of self.new) }
+        ensures answer { (helpers : List SlotState) → IsAnswer
+            (komi_kept (machine_with helpers self.old) komi) result
+            (machine_with helpers self.new) }
         ensures patterns { self.new.patterns ≡ self.old.patterns }
         ensures same { self.new.automaton ≡ self.old.automaton }
         ensures counts { self.new.counts ≡ self.old.counts }
@@ -80,7 +83,8 @@ impl Engine {
 
     pub(crate) fn play(&mut self, m: Move) -> Answer
         requires { IfSome m.at (λ p. p < self.old.base.size * self.old.base.size) }
-        ensures answer { IsAnswer (machine_of self.old) (played (machine_of self.old) m) result (machine_of self.new) }
+        ensures answer { (helpers : List SlotState) → IsAnswer
+            (played (machine_with helpers self.old) m) result (machine_with helpers self.new) }
         ensures patterns { self.new.patterns ≡ self.old.patterns }
         ensures same { self.new.automaton ≡ self.old.automaton }
         ensures counts { self.new.counts ≡ self.old.counts }
@@ -95,8 +99,9 @@ impl Engine {
     }
 
     pub(crate) fn undo(&mut self) -> Answer
-        ensures answer { IsAnswer (machine_of self.old) (taken_back (machine_of self.old) self.old.moves) result
-            (machine_of self.new) }
+        ensures answer { (helpers : List SlotState) → IsAnswer
+            (taken_back (machine_with helpers self.old) self.old.moves) result
+            (machine_with helpers self.new) }
         ensures patterns { self.new.patterns ≡ self.old.patterns }
         ensures same { self.new.automaton ≡ self.old.automaton }
         ensures counts { self.new.counts ≡ self.old.counts }
@@ -111,7 +116,7 @@ impl Engine {
     /// Whether the rules allow the move.
     fn is_legal(&self, m: Move) -> bool
         requires { IfSome m.at (λ p. p < self.now.base.size * self.now.base.size) }
-        ensures { result ≡ is_ok (moved (position_of (machine_of self.now)) m) }
+        ensures { result ≡ is_ok (moved (board_of self.now) m) }
     {
         match m.at {
             Some(p) => self.board().is_legal(m.colour, p),
@@ -121,28 +126,32 @@ impl Engine {
 
     pub(crate) fn tell_legal(&self, m: Move) -> Answer
         requires { IfSome m.at (λ p. p < self.now.base.size * self.now.base.size) }
-        ensures { IsAnswer (machine_of self.now) (allowed (machine_of self.now) m) result (machine_of self.now) }
+        ensures { (helpers : List SlotState) → IsAnswer
+            (allowed (machine_with helpers self.now) m) result (machine_with helpers self.now) }
     {
         told(digit(self.is_legal(m)))
     }
 
     pub(crate) fn show_board(&self) -> Answer
-        ensures { IsAnswer (machine_of self.now) (shown (machine_of self.now)) result (machine_of self.now) }
+        ensures { (helpers : List SlotState) → IsAnswer
+            (shown (machine_with helpers self.now)) result (machine_with helpers self.now) }
     {
         grown(board_text(self.alloc, &self.position()))
     }
 
     pub(crate) fn list_legal(&self, colour: Colour) -> Answer
-        ensures { IsAnswer (machine_of self.now) (all_allowed (machine_of self.now) colour) result
-            (machine_of self.now) }
+        ensures { (helpers : List SlotState) → IsAnswer
+            (all_allowed (machine_with helpers self.now) colour) result
+            (machine_with helpers self.now) }
     {
         grown(legal_text(self.alloc, self.board(), colour))
     }
 
     pub(crate) fn count_liberties(&self, p: Point) -> Answer
         requires { p < self.now.base.size * self.now.base.size }
-        ensures { IsAnswer (machine_of self.now) (liberties_counted (machine_of self.now) p) result
-            (machine_of self.now) }
+        ensures { (helpers : List SlotState) → IsAnswer
+            (liberties_counted (machine_with helpers self.now) p) result
+            (machine_with helpers self.now) }
     {
         let board = self.board();
         if !has_stone(board, p) {
@@ -153,8 +162,9 @@ impl Engine {
 
     pub(crate) fn find_liberties(&self, p: Point) -> Answer
         requires { p < self.now.base.size * self.now.base.size }
-        ensures { IsAnswer (machine_of self.now) (liberties_found (machine_of self.now) p) result
-            (machine_of self.now) }
+        ensures { (helpers : List SlotState) → IsAnswer
+            (liberties_found (machine_with helpers self.now) p) result
+            (machine_with helpers self.now) }
     {
         let board = self.board();
         if !has_stone(board, p) {
@@ -164,8 +174,9 @@ impl Engine {
     }
 
     pub(crate) fn count_captures(&self, colour: Colour) -> Answer
-        ensures { IsAnswer (machine_of self.now) (captures_counted (machine_of self.now) colour) result
-            (machine_of self.now) }
+        ensures { (helpers : List SlotState) → IsAnswer
+            (captures_counted (machine_with helpers self.now) colour) result
+            (machine_with helpers self.now) }
     {
         told_number(self.history.captures(colour))
     }

@@ -1,6 +1,7 @@
 //! The commands that read whether a string can be captured.
-ghost use Rattle.std.specs.Prelude.{◌≡◌, ◌*◌, ◌<◌, true, is_some, IfOk, IfErr, OnOk, OnErr};
-ghost use Rattle.engine.specs.SessionState.{machine_of};
+ghost use Rattle.std.specs.Prelude.{List, ◌≡◌, ◌*◌, ◌<◌, true, is_some, IfOk, IfErr, OnOk, OnErr};
+ghost use Rattle.helpers.specs.Asking.{SlotState};
+ghost use Rattle.engine.specs.SessionState.{machine_alone, machine_with};
 ghost use Rattle.machine_rules.specs.ReadingCommands.{read, deepened};
 ghost use Rattle.gtp_cmd.specs.Within.{AreDepths};
 ghost use Rattle.engine.specs.CommandAnswers.{IsAnswer};
@@ -21,7 +22,7 @@ use read_tree::Kind;
 impl Engine {
     /// Counts a reading: the moves that it tried, where it was made afresh.
     fn count_reading(&mut self, tried: Option<u64>)
-        ensures machine { machine_of self.new ≡ machine_of self.old }
+        ensures machine { (helpers : List SlotState) → machine_with helpers self.new ≡ machine_with helpers self.old }
         ensures patterns { self.new.patterns ≡ self.old.patterns }
         ensures same { self.new.automaton ≡ self.old.automaton }
         ensures readings { self.new.counts.readings ≡ counted self.old.counts.readings true }
@@ -40,13 +41,14 @@ impl Engine {
     /// Answers a question about the string of p by a reading, kept or fresh, where a stone stands there.
     pub(crate) fn read(&mut self, kind: Kind, p: Point) -> Answer
         requires { p < self.old.base.size * self.old.base.size }
-        ensures answer { IsAnswer (machine_of self.old) (read (machine_of self.old) kind p) result
-            (machine_of self.new) }
+        ensures answer { (helpers : List SlotState) → IsAnswer
+            (read (machine_with helpers self.old) kind p) result
+            (machine_with helpers self.new) }
         ensures patterns { self.new.patterns ≡ self.old.patterns }
         ensures same { self.new.automaton ≡ self.old.automaton }
         ensures readings { self.new.counts.readings ≡ counted self.old.counts.readings
-            (has_stone (machine_of self.old) p) }
-        ensures read { ReadsAs (asks_at (machine_of self.old) kind p) self.old self.new }
+            (has_stone (machine_alone self.old) p) }
+        ensures read { ReadsAs (asks_at (machine_alone self.old) kind p) self.old self.new }
     {
         if !has_stone(self.board(), p) {
             return Answer::Refused(RefuseText::VertexEmpty);
@@ -61,13 +63,13 @@ impl Engine {
     /// Answers the same question, which this work is, unless it has to be read afresh. Then nothing is done.
     pub(crate) fn recall(&mut self, kind: Kind, p: Point, work: Work) -> Result<Answer, Work>
         requires { p < self.old.base.size * self.old.base.size }
-        ensures answer { IfOk result (λ answer. IsAnswer (machine_of self.old) (read (machine_of self.old) kind p)
-            answer (machine_of self.new)) }
+        ensures answer { (helpers : List SlotState) → IfOk result (λ answer. IsAnswer
+            (read (machine_with helpers self.old) kind p) answer (machine_with helpers self.new)) }
         ensures patterns { OnOk result (self.new.patterns ≡ self.old.patterns) }
         ensures automaton { OnOk result (self.new.automaton ≡ self.old.automaton) }
         ensures readings { OnOk result (self.new.counts.readings ≡ counted self.old.counts.readings
-            (has_stone (machine_of self.old) p)) }
-        ensures read { OnOk result (ReadsAs (asks_at (machine_of self.old) kind p) self.old self.new) }
+            (has_stone (machine_alone self.old) p)) }
+        ensures read { OnOk result (ReadsAs (asks_at (machine_alone self.old) kind p) self.old self.new) }
         ensures slow { IfErr result (λ left. left ≡ work) }
         ensures same { OnErr result (self.new ≡ self.old) }
     {
@@ -85,8 +87,9 @@ impl Engine {
 
     pub(crate) fn deepen(&mut self, plies: u8, wide: u8) -> Answer
         requires { AreDepths plies wide }
-        ensures answer { IsAnswer (machine_of self.old) (deepened (machine_of self.old) plies wide) result
-            (machine_of self.new) }
+        ensures answer { (helpers : List SlotState) → IsAnswer
+            (deepened (machine_with helpers self.old) plies wide) result
+            (machine_with helpers self.new) }
         ensures patterns { self.new.patterns ≡ self.old.patterns }
         ensures same { self.new.automaton ≡ self.old.automaton }
         ensures counts { self.new.counts ≡ self.old.counts }

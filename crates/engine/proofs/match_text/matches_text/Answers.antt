@@ -3,8 +3,6 @@ use Rattle.std.proofs.Common.{is_err, inl, inr, sym, ap, subst, ◌∙◌}
 use Rattle.std.proofs.lemmas.Result.{err_from_is_err_and}
 use Rattle.helpers.specs.Asking.{says_yes}
 use Rattle.helpers.specs.Slots.{states_of}
-use Rattle.engine.specs.Handed.{without_calls}
-use Rattle.engine.proofs.HelperMeanings.{raised-quiet}
 use Rattle.match_engine.specs.AutomatonMatches.{automaton_matches}
 use Rattle.match_engine.specs.Readings.{codes_of}
 use Rattle.machine_rules.specs.MatchTexts.{AreAmong}
@@ -22,11 +20,7 @@ list_text-requires g c =
     (subst (λ s. AreAmong patterns s found) (sym c.size.ensures.value)
     (AreAmong-found code advice c.args.scanner.now patterns c.args.position.now c.args.friend))
 
--- the helpers were asked, and keep the rest
-pub returns-clause-helpers : goal.returns-clause-helpers
-returns-clause-helpers g c = ap without_calls c.in_ok-found.ensures.calls ∙ raised-quiet _ _
-
--- they were asked as the rule says
+-- the helpers were asked as the rule says
 pub returns-clause-calls : goal.returns-clause-calls
 returns-clause-calls g c = inl c.in_ok-found.ensures.calls
 

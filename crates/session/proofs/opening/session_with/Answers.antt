@@ -1,9 +1,8 @@
 -- The automaton accepts the patterns' numbers alone, and by it and the helpers the session is plain.
 use Rattle.std.proofs.Common.{sym, subst}
 use Rattle.dfa_core.specs.States.{IsAutomatonOf}
-use Rattle.helpers.specs.Asking.{says_yes}
 use Rattle.helpers.specs.Slots.{states_of}
-use Rattle.engine.specs.SessionState.{NumbersPatterns, matcher_with}
+use Rattle.engine.specs.SessionState.{NumbersPatterns}
 use Rattle.session.specs.FirstSession.{IsPlainWith}
 use Rattle.session.proofs.MatcherSessions.{plain-first}
 use Rattle.session.proofs.opening.session_with.Goals as goal
@@ -23,10 +22,5 @@ returns-clause-ok g c =
     let plies = c.args.options.now.depth in
     let wide = c.args.options.now.branch in
     let capacity = c.args.options.now.cache in
-    let advice = says_yes (states_of (λ z. (goal.Helper-dyn g z).state z.1) c.args.helpers) in
-    let session = c.in_ok-new.field-0 in
-    subst (λ h. IsPlainWith advice patterns plies wide capacity session.engine
-    (matcher_with (says_yes (states_of (λ z. (goal.Helper-dyn g z).state z.1) h)) session.engine))
-    (sym c.in_ok-new.ensures.helpers)
-    (subst (λ k. IsPlainWith advice patterns plies wide capacity k (matcher_with advice k)) (sym c.in_ok-new.ensures.engine)
-    (plain-first advice patterns rows plies wide capacity c.requires.ranges.cache.0 accepts))
+    subst (IsPlainWith patterns plies wide capacity) (sym c.in_ok-new.ensures.engine)
+    (plain-first patterns rows plies wide capacity c.requires.ranges.cache.0 accepts)

@@ -1,7 +1,7 @@
 use Rattle.std.proofs.Common.{◌≡◌, length, false}
 use Rattle.engine.specs.AfterLine.{IsAfterLine}
-use Rattle.engine.specs.SessionState.{machine_of}
-use Rattle.engine.specs.SessionSteps.{matcher_of, step_of}
+use Rattle.engine.specs.SessionState.{matcher_of}
+use Rattle.engine.specs.SessionSteps.{machine_now, kept_of, step_of}
 use Rattle.session.specs.Serving.{progress_of}
 use Rattle.session.specs.Waiting.{none_wait}
 use Rattle.session.proofs.RunEnds.{Served}
@@ -10,13 +10,17 @@ use Rattle.session.proofs.serve.serve.Given as goal
 -- the lines of the bytes taken so far were answered up to the one that is held, and nothing failed
 abbrev pub invariant-loop-room : goal.invariant-loop-room
 invariant-loop-room g l = record {
-  served : Served (step_of (λ z. (goal.Helper-dyn g z).state z.1) l.fn.session) IsAfterLine
-      (machine_of l.fn.session.engine) (machine_of l.session.engine)
+  served : Served (step_of l.fn.session (g.L.Loader.contents l.fn.files)) IsAfterLine
+      (machine_now (λ z. (goal.Helper-dyn g z).state z.1) l.fn.session)
+      (machine_now (λ z. (goal.Helper-dyn g z).state z.1) l.session)
       (g.S.Source.left l.fn.input) (g.S.Source.left l.input)
-      (progress_of (g.K.Sink.written l.fn.output) l.fn.session.engine l.fn.sent)
-      (progress_of (g.K.Sink.written l.output) l.session.engine l.sent) l.lines.held l.room;
-  same : matcher_of (λ z. (goal.Helper-dyn g z).state z.1) l.session
-      ≡ matcher_of (λ z. (goal.Helper-dyn g z).state z.1) l.fn.session;
+      (progress_of (g.K.Sink.written l.fn.output)
+      (kept_of (λ z. (goal.Helper-dyn g z).state z.1) l.fn.session (g.L.Loader.missed l.fn.files)) l.fn.sent)
+      (progress_of (g.K.Sink.written l.output)
+      (kept_of (λ z. (goal.Helper-dyn g z).state z.1) l.session (g.L.Loader.missed l.files)) l.sent)
+      l.lines.held l.room;
+  same : matcher_of l.session.engine ≡ matcher_of l.fn.session.engine;
+  contents : g.L.Loader.contents l.files ≡ g.L.Loader.contents l.fn.files;
   open_ended : l.lines.waits ≡ false;
   none : l.outbox ≡ none_wait;
   buffer : length l.buf ≡ 4096;

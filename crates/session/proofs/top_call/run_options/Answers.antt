@@ -8,7 +8,7 @@ pub returns-clause-came : goal.returns-clause-came
 returns-clause-came g c =
     let options = c.args.options.now in
     let served = c.serve_lines-ended in
-    came-served _ _ options c.in-Ok.opened.session.engine _ c.in-Ok.opened.lines _ _
+    came-served _ _ _ options c.in-Ok.opened.session.engine c.in-Ok.opened.lines _ _ _ _
     served.result.end served.result.counts _ _
     served.new.sent c.served.result.counts c.served.result.sent (phase_of c.served.result.outcome) c.in-Ok.ensures.ok
     served.ensures.serves c.served.ensures.counts c.served.ensures.sent c.served.ensures.phase

@@ -9,7 +9,7 @@ use Rattle.session.proofs.top_call.serve_lines.Goals as goal
 -- a run that generates its lines serves these, and leaves the source as it was
 pub returns-in-Some-clause-serves : goal.returns-in-Some-clause-serves
 returns-in-Some-clause-serves g c =
-    ends-generated c.in-Some.n _ _ _ _ _ _ _ _ _ _ _ _ _ c.new.result.left _ _ _ _ _ _ _ c.args.generate c.in-Some.is
+    ends-generated c.in-Some.n _ _ _ _ _ _ _ _ _ _ _ _ _ c.new.result.left _ _ _ _ _ _ _ _ c.args.generate c.in-Some.is
     (subst (λ o. MatchOption o (Unit {0}) (IsFrom 1 100000)) c.in-Some.is c.requires.few).1
     (ap (λ (w : WorkloadState). w.left) c.new.ensures) c.serve.ensures.serves
 

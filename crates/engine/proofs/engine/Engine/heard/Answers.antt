@@ -14,7 +14,7 @@ said_at parsed text s old now said size same =
 
 -- a line says what was parsed
 pub returns-in-Line-clause-said : goal.returns-in-Line-clause-said
-returns-in-Line-clause-said c =
+returns-in-Line-clause-said c = λ helpers.
     let said = said_at c.parse.result c.in-Line.text.now _ _ c.args.self.now c.parse.ensures.said c.size-size.ensures
     c.self.view_is in
     search rules

@@ -1,7 +1,7 @@
 -- The answer says what the history answered.
 use Rattle.std.proofs.Common.{Err, ap, subst, ◌∙◌}
 use Rattle.machine_rules.specs.BoardCommands.{played}
-use Rattle.engine.specs.SessionState.{SessionState, machine_of}
+use Rattle.engine.specs.SessionState.{SessionState, machine_with}
 use Rattle.engine.specs.CommandAnswers.{IsAnswer}
 use Rattle.engine.proofs.MoveAnswers.{with_game, move_added, move_illegal, move_past_full, move_without_memory}
 use Rattle.engine.proofs.engine.Engine.play.Goals as goal
@@ -9,9 +9,9 @@ use Rattle.engine.proofs.engine.Engine.play.Goals.{in-Ok, in-Err-Illegal, in-Err
 
 -- a legal move is added, finds the history full or lacks memory, and an illegal one is refused
 pub returns-clause-answer : goal.returns-clause-answer
-returns-clause-answer c =
+returns-clause-answer c = λ helpers.
     let game = c.self.inside.history in
-    let kept = machine_of (record {
+    let kept = machine_with helpers (record {
       base = game.base;
       moves = game.moves;
       komi = c.self.inside.komi;
@@ -28,10 +28,10 @@ returns-clause-answer c =
       readings = c.self.inside.readings;
     }) in
     let new = c.play.new.self in
-    let family : SessionState → Type 0 = λ old. IsAnswer (machine_of old)
-    (played (machine_of old) c.args.m) c.match-play.result (with_game new kept) in
+    let family : SessionState → Type 0 = λ old. IsAnswer
+    (played (machine_with helpers old) c.args.m) c.match-play.result (with_game new kept) in
     subst family c.self.view_is (elim c.match-play.branch as
-    (λ _. IsAnswer kept (played kept c.args.m) c.match-play.result (with_game new kept)) [
+    (λ _. IsAnswer (played kept c.args.m) c.match-play.result (with_game new kept)) [
       | in-Ok w ↦
           move_added game kept c.args.m new c.match-play.result w.in-Ok.ensures.ok w.in-Ok.ensures.allowed
           w.in-Ok.ensures.room

@@ -1,6 +1,6 @@
 -- An answer that was kept is one call of the readings, on the session's board, and was counted.
 use Rattle.std.proofs.Common.{◌≡◌, true, refl, ap, subst, rules}
-use Rattle.engine.specs.SessionState.{SessionState, machine_of}
+use Rattle.engine.specs.SessionState.{SessionState, machine_alone}
 use Rattle.machine_rules.specs.Counting.{has_stone}
 use Rattle.engine.specs.AfterLine.{CountsRefused}
 use Rattle.engine.proofs.LineCounts.{ReadsAs-once}
@@ -15,7 +15,7 @@ returns-clause-read c =
     let answer = c.in-Some.answer in
     let board = c.position-position.ensures.value in
     let view = c.self.view_is in
-    let stone : has_stone (machine_of old) c.args.p ≡ true = search rules in
+    let stone : has_stone (machine_alone old) c.args.p ≡ true = search rules in
     ReadsAs-once old new c.args.kind c.args.p c.position-position.result answer c.self.inside.readings
     found.new.self
     board (ap (λ (k : SessionState). k.readings) view) (ap (λ (k : SessionState). k.plies) view)

@@ -1,19 +1,18 @@
 -- The command was obeyed and its answer put behind the id, or it may take long.
-use Rattle.std.proofs.Common.{refl}
+use Rattle.std.proofs.Common.{refl, sym, append-nil}
 use Rattle.gtp_cmd.specs.declared.commands.Parsed.TheVariants.{Command}
-use Rattle.engine.specs.SessionState.{matcher_with}
 use Rattle.engine.proofs.LineAnswers.{answers-command, left-command}
 use Rattle.engine.proofs.engine.Engine.try_command.Goals as goal
 
 -- the reply to a command answers the line that says it
 pub returns-clause-answers : goal.returns-clause-answers
-returns-clause-answers c = λ advice.
-    answers-command (matcher_with advice c.args.self.now) c.args.self.now c.args.id c.args.command c.reply.result _
-    (c.reply.ensures.reply _ _ _ (c.in-Ok.ensures.answer advice)) c.reply.ensures.bytes c.in-Ok.ensures.patterns
-    c.in-Ok.ensures.automaton c.in-Ok.ensures.readings c.in-Ok.ensures.read
+returns-clause-answers g c = λ missed file.
+    answers-command _ _ c.args.id c.args.command c.reply.result _
+    (c.reply.ensures.reply _ _ (c.in-Ok.ensures.answer file)) c.reply.ensures.bytes c.in-Ok.ensures.patterns
+    c.in-Ok.ensures.automaton c.in-Ok.ensures.readings c.in-Ok.ensures.read (sym (append-nil missed))
 
 -- a command that may take long leaves its line
 pub returns-in-Err-clause-left : goal.returns-in-Err-clause-left
-returns-in-Err-clause-left c =
-    left-command c.args.self.now _ (Command c.args.id c.args.command) c.args.id c.args.command c.in-Err.work refl
+returns-in-Err-clause-left g c = λ missed.
+    left-command _ _ (Command c.args.id c.args.command) c.args.id c.args.command c.in-Err.work refl
     c.in-Err.ensures.slow c.in-Err.ensures.same c.requires

@@ -1,0 +1,20 @@
+-- Machines that are the same but for how often their helpers were asked.
+use Rattle.std.specs.Prelude.{◌≡◌, ℕ, List, map}
+use Rattle.helpers.specs.Asking.{SlotState}
+use Rattle.machine_rules.specs.Machine.{Machine}
+
+-- a place of a list of helpers without the calls of its helper
+abbrev pub without_its_calls : SlotState → SlotState
+without_its_calls s = record s { helper = record s.helper { calls = 0 } }
+
+-- a list of helpers without their calls: the number, the order, the names and the meanings, and which are on
+abbrev pub without_calls : List SlotState → List SlotState
+without_calls slots = map without_its_calls slots
+
+-- a machine without the calls of its helpers
+abbrev pub quiet : Machine → Machine
+quiet machine = record machine { helpers = without_calls machine.helpers }
+
+-- two machines are the same but for the calls of their helpers
+abbrev pub AreSameButCalls : Machine → Machine → Type 0
+AreSameButCalls old new = quiet new ≡ quiet old

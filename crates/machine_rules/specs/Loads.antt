@@ -1,0 +1,44 @@
+-- The file that a line loads.
+use Rattle.std.specs.Prelude.{ℕ, List, [], ◌∷◌, Option, Some, None, if◌then◌else◌}
+use Rattle.std.specs.Str.{bytes_eq}
+use Rattle.gtp_rules.specs.Lines.{RawLine}
+use Rattle.gtp_cmd.specs.declared.commands.Command.{Command}
+use Rattle.gtp_cmd.specs.declared.commands.Command.TheVariants as command
+use Rattle.gtp_cmd.specs.declared.commands.Parsed.{Parsed}
+use Rattle.gtp_cmd.specs.declared.commands.Parsed.TheVariants as parsed
+use Rattle.machine_rules.specs.Files.{Contents, IsContents}
+use Rattle.machine_rules.specs.Heard.{heard, bytes_in}
+use Rattle.machine_rules.specs.Machine.{Machine}
+use Rattle.machine_rules.specs.Turns.{Turn}
+
+-- the file that a line loads: its name, and the id of the line
+pub record Load : Type 0 where
+  pub id : Option ℕ
+  pub name : List ℕ
+
+-- the file that a command loads, where its line has these bytes and this id
+abbrev pub load_of : List ℕ → Option ℕ → Command → Option Load
+load_of line id _ = None
+
+-- the same of what a line says
+abbrev pub parsed_load : List ℕ → Parsed → Option Load
+parsed_load line (parsed.Command id command) = load_of line id command
+parsed_load line _ = None
+
+-- the file that a line loads, if it loads one
+unfoldable pub load_in : Machine → RawLine → Option Load
+load_in machine line = parsed_load (bytes_in line) (heard machine line)
+
+-- the text is that of the file that is loaded; any text is, where none is loaded
+abbrev pub IsFileOf : Contents → Option Load → List ℕ → Type 0
+IsFileOf contents None file = Unit {0}
+IsFileOf contents (Some load) file = IsContents (contents load.name) file
+
+-- the names that were missed where this was replied: that of the file that could not be loaded
+abbrev pub missed_by : Option Load → List ℕ → List (List ℕ)
+missed_by None reply = []
+missed_by (Some load) reply = []
+
+-- the names that a line missed
+abbrev pub missed_in : Turn Machine → List (List ℕ)
+missed_in turn = missed_by (load_in turn.machine turn.line) turn.reply
