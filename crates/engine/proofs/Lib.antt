@@ -6,4 +6,5 @@ pub mod LineTexts
 pub mod ListedMatches
 pub mod MoveAnswers
 pub mod RefusedLines
+pub mod StoneAnswers
 pub mod Texts

@@ -1,5 +1,5 @@
 -- A line is answered as what it says.
-use Rattle.std.proofs.Common.{◌≡◌, ◌↔◌, inl, ℕ, Bool, List, [], ◌∷◌, ◌++◌, Option, Result, Ok, Err, IfOk, IfErr}
+use Rattle.std.proofs.Common.{◌≡◌, ◌↔◌, inl, ℕ, Bool, false, List, [], ◌∷◌, ◌++◌, Option, Result, Ok, Err, IfOk, IfErr}
 use Rattle.std.proofs.Common.{refl, sym, ap, subst, ◌∙◌, append-nil}
 use Rattle.gtp_rules.specs.Lines.{RawLine, Line, TooLong}
 use Rattle.gtp_rules.specs.Transcript.{MayGive, Answers}
@@ -18,7 +18,8 @@ use Rattle.machine_rules.specs.Machine.{Machine}
 use Rattle.machine_rules.specs.Questions.{asks_of, asks_of_parsed, asks_of_line}
 use Rattle.machine_rules.specs.Soundness.{IsWithoutWords}
 use Rattle.machine_rules.specs.Step.{Input, step, step_on, parsed_step, effect_of}
-use Rattle.machine_rules.proofs.Soundness.{step-sound, read-heard}
+use Rattle.machine_rules.specs.Matcher.{automaton_matcher}
+use Rattle.machine_rules.proofs.Soundness.{step-sound, read-heard, some_file}
 use Rattle.machine_rules.proofs.WordLines.{parsed_of-none, none-parsed_of}
 use Rattle.engine.specs.AfterLine.{ReadsAs}
 use Rattle.engine.specs.AnsweredLines.{AnswersParsed, AnswersLine}
@@ -102,6 +103,37 @@ answers-line contents old line said answer new file same of is =
     heard-answers contents old line answer new file
     (subst (λ p. IsFileOf contents (parsed_load (bytes_in line) p) file) (sym same) of)
     (subst (λ p. AnswersParsed old (record { line = bytes_in line; file = file }) p answer new) (sym same) is)
+
+-- the same, by bytes that are those of the line
+pub answers-line-by : (contents : Contents) (old : Kept) (line : RawLine) (said : Parsed) (answer : Reply) (new : Kept)
+    (bytes file : List ℕ) → bytes ≡ bytes_in line → heard (machine_of old) line ≡ said
+    → IsFileOf contents (parsed_load bytes said) file
+    → AnswersParsed old (record { line = bytes; file = file }) said answer new
+    → AnswersLine contents old line answer new
+answers-line-by contents old line said answer new bytes file are same of is =
+    answers-line contents old line said answer new file same
+    (subst (λ b. IsFileOf contents (parsed_load b said) file) are of)
+    (subst (λ b. AnswersParsed old (record { line = b; file = file }) said answer new) are is)
+
+-- no file of these contents says more of a line than one whose contents they are
+abbrev pub file_for : Contents → List ℕ → Parsed → List ℕ
+file_for contents bytes said = (some_file contents (parsed_load bytes said)).0
+
+-- what says the same as a line, whatever a file holds, answers it
+pub answers-line-at : (contents : Contents) (old : Kept) (line : RawLine) (said : Parsed) (answer : Reply) (new : Kept)
+    (bytes : List ℕ) → bytes ≡ bytes_in line → heard (machine_of old) line ≡ said
+    → AnswersParsed old (record { line = bytes; file = file_for contents bytes said }) said answer new
+    → AnswersLine contents old line answer new
+answers-line-at contents old line said answer new bytes are same is =
+    answers-line-by contents old line said answer new bytes (file_for contents bytes said) are same
+    (some_file contents (parsed_load bytes said)).1 is
+
+-- whether a line was answered or left, the matcher stays
+pub same-matcher : (old new : Kept) (input : Input) (said : Parsed) (result : Result Reply Slow)
+    → IfOk result (λ answer. AnswersParsed old input said answer new) → IfErr result (λ slow. IsLeft old said slow new)
+    → matcher_of new.engine ≡ matcher_of old.engine
+same-matcher old new input said (Ok answer) is left = λ i. automaton_matcher (is.patterns i) (is.automaton i)
+same-matcher old new input said (Err slow) is left = ap (λ (k : Kept). matcher_of k.engine) left.same
 
 -- nothing is answered to nothing
 pub answers-nothing : (old : Kept) (input : Input) → AnswersParsed old input parsed.Nothing reply.Nothing old

@@ -100,8 +100,7 @@ impl Session {
     pub fn finish<L: Loader>(&mut self, slow: Slow, raw: Raw<'_>, files: &mut L) -> Reply
         requires own { ⊤ }
         requires within { SaysWithin self.old.engine.base.size (said_by slow) }
-        requires says { heard (machine_now state self.old) (raw_line raw.entry)
-            ≡ said_by slow }
+        requires says { heard (machine_now state self.old) (raw_line raw) ≡ said_by slow }
         ensures answers { AnswersLine (L.contents files.old) (kept_of state self.old (L.missed files.old))
             (raw_line raw.entry) result (kept_of state self.new (L.missed files.new)) }
         ensures same { L.contents files.new ≡ L.contents files.old }

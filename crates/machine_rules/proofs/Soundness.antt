@@ -210,7 +210,7 @@ some_text None = ([], tt)
 some_text (Some text) = (text, refl)
 
 -- a text for what is loaded, if anything is
-some_file : (contents : Contents) (load : Option Load) → (file : List ℕ) × IsFileOf contents load file
+pub some_file : (contents : Contents) (load : Option Load) → (file : List ℕ) × IsFileOf contents load file
 some_file contents None = ([], tt)
 some_file contents (Some load) = some_text (contents load.name)
 

@@ -1,9 +1,11 @@
 -- An answer that was kept is one call of the readings, on the session's board, and was counted.
-use Rattle.std.proofs.Common.{◌≡◌, true, refl, ap, subst, rules}
-use Rattle.engine.specs.SessionState.{SessionState, machine_alone}
+use Rattle.std.proofs.Common.{◌≡◌, true, List, ℕ, refl, ap, subst, ◌∙◌, rules}
+use Rattle.engine.specs.SessionState.{SessionState, machine_alone, machine_with}
 use Rattle.machine_rules.specs.Counting.{has_stone}
 use Rattle.engine.specs.AfterLine.{CountsRefused}
+use Rattle.machine_rules.specs.ReadingCommands.{answer_text, reading_of}
 use Rattle.engine.proofs.LineCounts.{ReadsAs-once}
+use Rattle.engine.proofs.StoneAnswers.{told-of_stone, depths-kept}
 use Rattle.engine.proofs.engine.Engine.recall.Goals as goal
 
 -- attack or defend on a stone makes one reading, of the session's position and at the session's depths
@@ -22,3 +24,17 @@ returns-clause-read c =
     (ap (λ (k : SessionState). k.wide) view) c.count_reading.ensures.kept c.in-Some.ensures.read c.size.ensures.position
     found.ensures.rest
     (subst CountsRefused view refl) c.count_reading.ensures.refused (search rules) (search rules) stone
+
+-- its answer is told
+pub returns-clause-answer : goal.returns-clause-answer
+returns-clause-answer c = λ helpers.
+    let old = machine_with helpers c.args.self.now in
+    let stone : has_stone (machine_alone c.args.self.now) c.args.p ≡ true = search rules in
+    let text : c.answer_text.result ≡ answer_text c.args.self.now.base.size (reading_of (machine_alone c.args.self.now)
+    c.args.kind c.args.p) = search rules in
+    let keeps : machine_with helpers c.count_reading.new.self ≡ machine_with helpers c.args.self.now =
+    c.count_reading.ensures.machine helpers ∙ depths-kept _ _ _ c.in-Some.ensures.read.plies c.in-Some.ensures.read.wide
+    ∙ ap (machine_with helpers) c.self.view_is in
+    told-of_stone old c.args.p (answer_text old.base.size (reading_of old c.args.kind c.args.p)) c.answer_text.result
+    c.told_text.result (machine_with helpers c.count_reading.new.self) stone c.told_text.ensures text
+    keeps

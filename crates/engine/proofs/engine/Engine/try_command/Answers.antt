@@ -1,6 +1,8 @@
 -- The command was obeyed and its answer put behind the id, or it may take long.
 use Rattle.std.proofs.Common.{refl, sym, append-nil}
 use Rattle.gtp_cmd.specs.declared.commands.Parsed.TheVariants.{Command}
+use Rattle.helpers.specs.Slots.{states_of}
+use Rattle.engine.specs.Kept.{kept_with}
 use Rattle.engine.proofs.LineAnswers.{answers-command, left-command}
 use Rattle.engine.proofs.engine.Engine.try_command.Goals as goal
 
@@ -15,4 +17,7 @@ returns-clause-answers g c = λ missed file.
 pub returns-in-Err-clause-left : goal.returns-in-Err-clause-left
 returns-in-Err-clause-left g c = λ missed.
     left-command _ _ (Command c.args.id c.args.command) c.args.id c.args.command c.in-Err.work refl
-    c.in-Err.ensures.slow c.in-Err.ensures.same c.requires
+    c.in-Err.ensures.slow
+    (λ i. kept_with (states_of (λ z. (goal.Helper-dyn g z).state z.1) (c.in-Err.ensures.helpers i)) missed
+    (c.in-Err.ensures.same i))
+    c.requires

@@ -1,0 +1,24 @@
+-- What is told of the stone at a point.
+use Rattle.std.proofs.Common.{◌≡◌, ℕ, true, cond, List, refl, sym, subst}
+use Rattle.gtp_cmd.specs.declared.refusals.RefuseText.TheVariants.{VertexEmpty}
+use Rattle.machine_rules.specs.BoardCommands.{of_stone}
+use Rattle.machine_rules.specs.Counting.{has_stone}
+use Rattle.machine_rules.specs.Effects.{refused, told}
+use Rattle.machine_rules.specs.Machine.{Machine}
+use Rattle.engine.specs.CommandAnswers.{IsAnswer}
+use Rattle.engine.specs.declared.answer.Answer.{Answer}
+use Rattle.engine.specs.declared.answer.Answer.TheVariants as answer
+
+-- where a stone stands, what is told of it is an answer
+pub told-of_stone : (machine : Machine) (p : ℕ) (text result : List ℕ) (said : Answer) (new : Machine)
+    → has_stone machine p ≡ true → said ≡ answer.Told result → result ≡ text → new ≡ machine
+    → IsAnswer (of_stone machine p (told text machine)) said new
+told-of_stone machine p text result said new stone says same keeps =
+    subst (λ b. IsAnswer (cond b (told text machine) (refused machine VertexEmpty)) said new) (sym stone)
+    (subst (λ a. IsAnswer (told text machine) a new) (sym says)
+    (record { allowed = refl; told = sym same; next = keeps; goes_on = refl }))
+
+-- a machine with the depths that it has
+pub depths-kept : (m : Machine) (plies wide : ℕ) → plies ≡ m.plies → wide ≡ m.wide
+    → record m { plies = plies; wide = wide } ≡ m
+depths-kept m plies wide same_plies same_wide = λ i. record m { plies = same_plies i; wide = same_wide i }
