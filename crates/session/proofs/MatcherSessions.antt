@@ -1,5 +1,5 @@
 -- Sessions that find matches by an automaton, and the plain machine.
-use Rattle.std.proofs.Common.{ℕ, ◌≤◌, List, Option, refl, subst}
+use Rattle.std.proofs.Common.{◌≡◌, ℕ, ◌≤◌, List, Option, refl, subst}
 use Rattle.pat_types.specs.declared.pattern.Pattern.{Pattern}
 use Rattle.dfa_core.specs.Automata.{Row}
 use Rattle.dfa_core.specs.States.{IsAutomatonOf}

@@ -181,7 +181,7 @@ module _ (M : Type 0) (step : M → RawLine → Step M → Type 0) (goes : Kept 
       ≡ line ∷ more
       → RepliesPart step goes from line a b → RunsPart step goes from lines a b
   RunsPart-one from line a b lines more first replies = record {
-    tally = cut_tally from line replies.part;
+    tally = cut_tally from line replies.part replies.missing;
     cut = BreaksOff-is M step from lines (line ∷ more) (cut_tally from line replies.part replies.missing) first
         (BreaksOff-one M step from line more replies.part replies.missing replies.next replies.ends replies.answers
         replies.proper);

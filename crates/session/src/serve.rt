@@ -261,6 +261,7 @@ fn answer_rest<L: Loader, K: Sink>(
         (machine_now state session.old) (held_line lines.old.held)
         (progress_of (K.written output.old) (kept_of state session.old (L.missed files.old)) sent.old)
         (record { written = K.written output.new; sent = sent.new; counts = noted }) (L.missed files.new)) }
+    ensures contents { L.contents files.new ≡ L.contents files.old }
     ensures cause { IsCounted (K.faults output.old) (K.faults output.new) result }
     ensures last { OnErr result (K.failed output.new ≡ true) }
 {
