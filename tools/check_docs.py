@@ -3,18 +3,19 @@
 usage: python3 tools/check_docs.py [--map | FILE ...]
 
 Without files these are README.md and docs/FORMATS.md, docs/USING.md, docs/AUTHORS.md, docs/LIBRARY.md and
-docs/HELPERS.md, in this order, and the manual page docs/gopat.1, in which `man` may find nothing to warn of; and the map
-of docs/ARCHITECTURE.md is compared with crates.txt. It runs at the top of a fresh clone: README's commands prove and
-build the program, docs/USING.md says what has to stand beside the clone, and docs/AUTHORS.md wants the checker that
-`rt run` makes in crates/pattern_check. `python3 tools/check_docs.py --map` compares the map alone, and needs no program.
+docs/HELPERS.md, in this order, and the manual page docs/gopat.1, in which `man` may find nothing to warn of; and the
+map of docs/ARCHITECTURE.md is compared with crates.txt. It runs at the top of a fresh clone: README's commands prove
+and build the program, docs/USING.md says what has to stand beside the clone, and docs/AUTHORS.md wants the checker that
+`rt run` makes in crates/pattern_check. `python3 tools/check_docs.py --map` compares the map alone, and needs no
+program.
 
-A command is a line `$ ..` of a block that is set off by three backticks; it goes on over lines that end in a
-backslash. The lines below it, up to the next command or the end of the block, are its standard output, where blank
-lines at the end do not count. A line `..` alone stands for lines that are left out. A block that is named `rust PATH`
-is a part of the file of this path, with the same use of `..`. In the table of kinds of docs/FORMATS.md each example
-is a text as printf takes it, and the program's note has to be the one beside it. A block under a line `<!-- not run:
-WHY -->` is passed over and told. In the map each crate of crates.txt has a row; its column `stands on` names crates that
-it uses, and each crate that it uses is named or stands below one that is.
+A command is a line `$ ..` of a block that is set off by three backticks; it goes on over lines that end in a backslash.
+The lines below it, up to the next command or the end of the block, are its standard output, where blank lines at the
+end do not count. A line `..` alone stands for lines that are left out. A block that is named `rust PATH` is a part of
+the file of this path, with the same use of `..`. In the table of kinds of docs/FORMATS.md each example is a text as
+printf takes it, and the program's note has to be the one beside it. A block under a line `<!-- not run: WHY -->` is
+passed over and told. In the map each crate of crates.txt has a row; its column `stands on` names crates that it uses,
+and each crate that it uses is named or stands below one that is.
 """
 
 import pathlib
