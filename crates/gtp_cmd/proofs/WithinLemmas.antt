@@ -1,6 +1,6 @@
 -- The points that a line names lie on the board of the machine that reads it, and its depths in their ranges.
 use Rattle.std.proofs.Common.{◌≡◌, ℕ, ◌-◌, ◌*◌, ◌<◌, ◌≤◌, Bool, true, false, cond, ltb, leb, ◌&&◌, List}
-use Rattle.std.proofs.Common.{[], ◌∷◌, Option, Some, None, IfSome, refl, arith}
+use Rattle.std.proofs.Common.{[], ◌∷◌, Option, Some, None, IfSome, refl, arith, drop}
 use Rattle.std.specs.Option.{option_map, option_and_then}
 use Rattle.std.specs.Str.{bytes_eq, str_to_ascii_lowercase}
 use Rattle.std.specs.Prelude.{codes}
@@ -12,6 +12,8 @@ use Rattle.gtp_cmd.specs.Words.{number_of}
 use Rattle.gtp_cmd.specs.Vertices.{vertex_of, point_of, column_named, row_number_of, target_of}
 use Rattle.gtp_cmd.specs.Colours.{colour_of}
 use Rattle.gtp_cmd.specs.Komi.{komi_of}
+use Rattle.gtp_cmd.specs.Spans.{first_span}
+use Rattle.gtp_cmd.specs.declared.spans.Span.{Span}
 use Rattle.gtp_cmd.specs.Commands.{first_argument, known_of, size_of, move_of, number_between, most_plies, most_wide}
 use Rattle.gtp_cmd.specs.Commands.{depths_of, command_of, named, asked, called, said}
 use Rattle.gtp_cmd.specs.declared.commands.CommandName.{CommandName}
@@ -21,13 +23,13 @@ use Rattle.gtp_cmd.specs.declared.commands.Command.TheVariants as command
 use Rattle.gtp_cmd.specs.Within.{IsPointOf, AreDepths, IsWithin, SaysWithin}
 
 -- where a fact of a value gives one of what is made of it, it does so too where the value may be missing
-if_some-map : {X Y : Type 0} (f : X → Y) (P : X → Type 0) (Q : Y → Type 0) (o : Option X) → ((x : X) → P x → Q (f x))
+pub if_some-map : {X Y : Type 0} (f : X → Y) (P : X → Type 0) (Q : Y → Type 0) (o : Option X) → ((x : X) → P x → Q (f x))
     → IfSome o P → IfSome (option_map f o) Q
 if_some-map f P Q None keeps h = tt
 if_some-map f P Q (Some x) keeps h = keeps x h
 
 -- a fact of whatever is made of a value holds where the value may be missing
-if_some-any : {X Y : Type 0} (f : X → Y) (Q : Y → Type 0) (o : Option X) → ((x : X) → Q (f x))
+pub if_some-any : {X Y : Type 0} (f : X → Y) (Q : Y → Type 0) (o : Option X) → ((x : X) → Q (f x))
     → IfSome (option_map f o) Q
 if_some-any f Q None keeps = tt
 if_some-any f Q (Some x) keeps = keeps x
@@ -120,49 +122,51 @@ depths_of-within (plies ∷ wide ∷ more) =
     (between-within 1 most_plies plies) (between-within 0 most_wide wide)
 
 -- the arguments of a command name points of the board, and depths in their ranges
-command_of-within : (n : CommandName) (s : ℕ) (words : List (List ℕ)) → IfSome (command_of n s words) (IsWithin s)
-command_of-within name.ProtocolVersion s words = tt
-command_of-within name.Name s words = tt
-command_of-within name.Version s words = tt
-command_of-within name.KnownCommand s words =
+command_of-within : (n : CommandName) (s : ℕ) (words : List (List ℕ)) (spans : List Span)
+    → IfSome (command_of n s words spans) (IsWithin s)
+command_of-within name.ProtocolVersion s words spans = tt
+command_of-within name.Name s words spans = tt
+command_of-within name.Version s words spans = tt
+command_of-within name.KnownCommand s words spans =
     if_some-any command.KnownCommand (IsWithin s) (known_of words) (λ known. tt)
-command_of-within name.ListCommands s words = tt
-command_of-within name.Quit s words = tt
-command_of-within name.BoardSize s words =
+command_of-within name.ListCommands s words spans = tt
+command_of-within name.Quit s words spans = tt
+command_of-within name.BoardSize s words spans =
     if_some-any (λ n. command.BoardSize (size_of n)) (IsWithin s) (first_argument number_of words) (λ n. tt)
-command_of-within name.ClearBoard s words = tt
-command_of-within name.Komi s words = if_some-any command.Komi (IsWithin s) (first_argument komi_of words) (λ text. tt)
-command_of-within name.GetKomi s words = tt
-command_of-within name.Play s words =
+command_of-within name.ClearBoard s words spans = tt
+command_of-within name.Komi s words spans = if_some-any command.Komi (IsWithin s) (first_argument komi_of words) (λ text. tt)
+command_of-within name.GetKomi s words spans = tt
+command_of-within name.Play s words spans =
     if_some-map (λ m. command.Play m.0 m.1) (λ m. IsPointOf s m.1) (IsWithin s) (move_of s words) (λ m below. below)
     (move_of-within s words)
-command_of-within name.Undo s words = tt
-command_of-within name.ShowBoard s words = tt
-command_of-within name.IsLegal s words =
+command_of-within name.Undo s words spans = tt
+command_of-within name.ShowBoard s words spans = tt
+command_of-within name.IsLegal s words spans =
     if_some-map (λ m. command.IsLegal m.0 m.1) (λ m. IsPointOf s m.1) (IsWithin s) (move_of s words) (λ m below. below)
     (move_of-within s words)
-command_of-within name.AllLegal s words =
+command_of-within name.AllLegal s words spans =
     if_some-any command.AllLegal (IsWithin s) (first_argument colour_of words) (λ c. tt)
-command_of-within name.CountLib s words =
+command_of-within name.CountLib s words spans =
     if_some-map command.CountLib (λ p. p < s * s) (IsWithin s) (first_argument (vertex_of s) words) (λ p below. below)
     (first_vertex-within s words)
-command_of-within name.FindLib s words =
+command_of-within name.FindLib s words spans =
     if_some-map command.FindLib (λ p. p < s * s) (IsWithin s) (first_argument (vertex_of s) words) (λ p below. below)
     (first_vertex-within s words)
-command_of-within name.Captures s words =
+command_of-within name.Captures s words spans =
     if_some-any command.Captures (IsWithin s) (first_argument colour_of words) (λ c. tt)
-command_of-within name.Attack s words =
+command_of-within name.Attack s words spans =
     if_some-map command.Attack (λ p. p < s * s) (IsWithin s) (first_argument (vertex_of s) words) (λ p below. below)
     (first_vertex-within s words)
-command_of-within name.Defend s words =
+command_of-within name.Defend s words spans =
     if_some-map command.Defend (λ p. p < s * s) (IsWithin s) (first_argument (vertex_of s) words) (λ p below. below)
     (first_vertex-within s words)
-command_of-within name.Depths s words =
+command_of-within name.Depths s words spans =
     if_some-map (λ d. command.Depths d.0 d.1) (λ d. AreDepths d.0 d.1) (IsWithin s) (depths_of words)
     (λ d within. within) (depths_of-within words)
-command_of-within name.MatchPatterns s words =
+command_of-within name.MatchPatterns s words spans =
     if_some-any command.MatchPatterns (IsWithin s) (first_argument colour_of words) (λ c. tt)
-command_of-within name.ListPatterns s words = tt
+command_of-within name.ListPatterns s words spans = tt
+command_of-within name.LoadSgf s words spans = if_some-any command.LoadSgf (IsWithin s) (first_span spans) (λ span. tt)
 
 -- a line whose command is within says nothing off the board
 asked-within : (id : Option ℕ) (s : ℕ) (o : Option Command) → IfSome o (IsWithin s) → SaysWithin s (asked id o)
@@ -170,12 +174,14 @@ asked-within id s None h = tt
 asked-within id s (Some c) h = h
 
 -- the words after a name say nothing off the board
-called-within : (id : Option ℕ) (s : ℕ) (n : Option CommandName) (words : List (List ℕ))
-    → SaysWithin s (called id s n words)
-called-within id s None words = tt
-called-within id s (Some n) words = asked-within id s (command_of n s words) (command_of-within n s words)
+called-within : (id : Option ℕ) (s : ℕ) (n : Option CommandName) (words : List (List ℕ)) (spans : List Span)
+    → SaysWithin s (called id s n words spans)
+called-within id s None words spans = tt
+called-within id s (Some n) words spans =
+    asked-within id s (command_of n s words spans) (command_of-within n s words spans)
 
 -- the words behind the id, or of a line without one, say nothing off the board
-pub said-within : (id : Option ℕ) (s : ℕ) (words : List (List ℕ)) → SaysWithin s (said id s words)
-said-within id s [] = tt
-said-within id s (word ∷ words) = called-within id s (named word) words
+pub said-within : (id : Option ℕ) (s : ℕ) (words : List (List ℕ)) (spans : List Span)
+    → SaysWithin s (said id s words spans)
+said-within id s [] spans = tt
+said-within id s (word ∷ words) spans = called-within id s (named word) words (drop 1 spans)

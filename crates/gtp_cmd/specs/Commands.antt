@@ -1,6 +1,6 @@
 -- The commands, the words that each takes, and what a line says.
 use Rattle.std.specs.Prelude.{ℕ, ◌&&◌, nat_le, Bool, List, [], ◌∷◌, map, Option, None, Some, is_some, if◌then◌else◌}
-use Rattle.std.specs.Prelude.{codes}
+use Rattle.std.specs.Prelude.{codes, drop}
 use Rattle.std.specs.List.{find, join_with_byte}
 use Rattle.std.specs.Option.{option_map, option_and_then}
 use Rattle.std.specs.Str.{bytes_eq}
@@ -10,6 +10,8 @@ use Rattle.gtp_cmd.specs.Words.{cleaned, words_of, number_of, id_of, line_feed}
 use Rattle.gtp_cmd.specs.Vertices.{vertex_of, target_of}
 use Rattle.gtp_cmd.specs.Colours.{colour_of}
 use Rattle.gtp_cmd.specs.Komi.{komi_of}
+use Rattle.gtp_cmd.specs.Spans.{spans_of, first_span}
+use Rattle.gtp_cmd.specs.declared.spans.Span.{Span}
 use Rattle.gtp_cmd.specs.declared.commands.CommandName.{CommandName}
 use Rattle.gtp_cmd.specs.declared.commands.CommandName.TheVariants as name
 use Rattle.gtp_cmd.specs.declared.commands.Command.{Command}
@@ -49,6 +51,7 @@ table =
     ∷ record { command = name.Depths; word = codes "depths" }
     ∷ record { command = name.MatchPatterns; word = codes "match_patterns" }
     ∷ record { command = name.ListPatterns; word = codes "list_patterns" }
+    ∷ record { command = name.LoadSgf; word = codes "loadsgf" }
     ∷ []
 
 -- the command of the first of these rows whose word this is
@@ -102,58 +105,59 @@ depths_of (plies ∷ wide ∷ more) =
     (number_between 1 most_plies plies)
 depths_of _ = None
 
--- what a command is with these words after its name, on a board of size s; none where an argument is missing or
--- malformed
-abbrev pub command_of : CommandName → ℕ → List (List ℕ) → Option Command
-command_of name.ProtocolVersion s words = Some command.ProtocolVersion
-command_of name.Name s words = Some command.Name
-command_of name.Version s words = Some command.Version
-command_of name.KnownCommand s words = option_map command.KnownCommand (known_of words)
-command_of name.ListCommands s words = Some command.ListCommands
-command_of name.Quit s words = Some command.Quit
-command_of name.BoardSize s words = option_map (λ n. command.BoardSize (size_of n)) (first_argument number_of words)
-command_of name.ClearBoard s words = Some command.ClearBoard
-command_of name.Komi s words = option_map command.Komi (first_argument komi_of words)
-command_of name.GetKomi s words = Some command.GetKomi
-command_of name.Play s words = option_map (λ m. command.Play m.0 m.1) (move_of s words)
-command_of name.Undo s words = Some command.Undo
-command_of name.ShowBoard s words = Some command.ShowBoard
-command_of name.IsLegal s words = option_map (λ m. command.IsLegal m.0 m.1) (move_of s words)
-command_of name.AllLegal s words = option_map command.AllLegal (first_argument colour_of words)
-command_of name.CountLib s words = option_map command.CountLib (first_argument (vertex_of s) words)
-command_of name.FindLib s words = option_map command.FindLib (first_argument (vertex_of s) words)
-command_of name.Captures s words = option_map command.Captures (first_argument colour_of words)
-command_of name.Attack s words = option_map command.Attack (first_argument (vertex_of s) words)
-command_of name.Defend s words = option_map command.Defend (first_argument (vertex_of s) words)
-command_of name.Depths s words = option_map (λ d. command.Depths d.0 d.1) (depths_of words)
-command_of name.MatchPatterns s words = option_map command.MatchPatterns (first_argument colour_of words)
-command_of name.ListPatterns s words = Some command.ListPatterns
+-- what a command is with these words after its name, which stand at these spans, on a board of size s; none where an
+-- argument is missing or malformed
+abbrev pub command_of : CommandName → ℕ → List (List ℕ) → List Span → Option Command
+command_of name.ProtocolVersion s words spans = Some command.ProtocolVersion
+command_of name.Name s words spans = Some command.Name
+command_of name.Version s words spans = Some command.Version
+command_of name.KnownCommand s words spans = option_map command.KnownCommand (known_of words)
+command_of name.ListCommands s words spans = Some command.ListCommands
+command_of name.Quit s words spans = Some command.Quit
+command_of name.BoardSize s words spans = option_map (λ n. command.BoardSize (size_of n)) (first_argument number_of words)
+command_of name.ClearBoard s words spans = Some command.ClearBoard
+command_of name.Komi s words spans = option_map command.Komi (first_argument komi_of words)
+command_of name.GetKomi s words spans = Some command.GetKomi
+command_of name.Play s words spans = option_map (λ m. command.Play m.0 m.1) (move_of s words)
+command_of name.Undo s words spans = Some command.Undo
+command_of name.ShowBoard s words spans = Some command.ShowBoard
+command_of name.IsLegal s words spans = option_map (λ m. command.IsLegal m.0 m.1) (move_of s words)
+command_of name.AllLegal s words spans = option_map command.AllLegal (first_argument colour_of words)
+command_of name.CountLib s words spans = option_map command.CountLib (first_argument (vertex_of s) words)
+command_of name.FindLib s words spans = option_map command.FindLib (first_argument (vertex_of s) words)
+command_of name.Captures s words spans = option_map command.Captures (first_argument colour_of words)
+command_of name.Attack s words spans = option_map command.Attack (first_argument (vertex_of s) words)
+command_of name.Defend s words spans = option_map command.Defend (first_argument (vertex_of s) words)
+command_of name.Depths s words spans = option_map (λ d. command.Depths d.0 d.1) (depths_of words)
+command_of name.MatchPatterns s words spans = option_map command.MatchPatterns (first_argument colour_of words)
+command_of name.ListPatterns s words spans = Some command.ListPatterns
+command_of name.LoadSgf s words spans = option_map command.LoadSgf (first_span spans)
 
 -- a command, or a refusal where its arguments are missing or malformed
 abbrev pub asked : Option ℕ → Option Command → Parsed
 asked id None = parsed.Refused id SyntaxError
 asked id (Some c) = parsed.Command id c
 
--- what the words after a name say, or a refusal where the name is no command's
-abbrev pub called : Option ℕ → ℕ → Option CommandName → List (List ℕ) → Parsed
-called id s None words = parsed.Refused id UnknownCommand
-called id s (Some n) words = asked id (command_of n s words)
+-- what the words after a name say, which stand at these spans, or a refusal where the name is no command's
+abbrev pub called : Option ℕ → ℕ → Option CommandName → List (List ℕ) → List Span → Parsed
+called id s None words spans = parsed.Refused id UnknownCommand
+called id s (Some n) words spans = asked id (command_of n s words spans)
 
--- what the words behind the id say; where there is none, no command is named
-abbrev pub said : Option ℕ → ℕ → List (List ℕ) → Parsed
-said id s [] = parsed.Refused id UnknownCommand
-said id s (word ∷ words) = called id s (named word) words
+-- what the words behind the id say, which stand at these spans; where there is none, no command is named
+abbrev pub said : Option ℕ → ℕ → List (List ℕ) → List Span → Parsed
+said id s [] spans = parsed.Refused id UnknownCommand
+said id s (word ∷ words) spans = called id s (named word) words (drop 1 spans)
 
--- what the words say, where the first may be an id
-abbrev pub said_with : Option ℕ → ℕ → List ℕ → List (List ℕ) → Parsed
-said_with None s first more = said None s (first ∷ more)
-said_with (Some id) s first more = said (Some id) s more
+-- what the words say, which stand at these spans, where the first may be an id
+abbrev pub said_with : Option ℕ → ℕ → List ℕ → List (List ℕ) → List Span → Parsed
+said_with None s first more spans = said None s (first ∷ more) spans
+said_with (Some id) s first more spans = said (Some id) s more (drop 1 spans)
 
--- what the words of a line say
-abbrev pub parsed_words : ℕ → List (List ℕ) → Parsed
-parsed_words s [] = parsed.Nothing
-parsed_words s (first ∷ more) = said_with (id_of first) s first more
+-- what the words of a line say, which stand at these spans
+abbrev pub parsed_words : ℕ → List (List ℕ) → List Span → Parsed
+parsed_words s [] spans = parsed.Nothing
+parsed_words s (first ∷ more) spans = said_with (id_of first) s first more spans
 
 -- what a line says to a machine whose board has size s
 unfoldable pub parsed_of : List ℕ → ℕ → Parsed
-parsed_of line s = parsed_words s (words_of (cleaned line))
+parsed_of line s = parsed_words s (words_of (cleaned line)) (spans_of line)

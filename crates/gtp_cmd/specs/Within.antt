@@ -1,6 +1,7 @@
--- Commands whose points lie on the board and whose depths lie in their ranges.
-use Rattle.std.specs.Prelude.{ℕ, ◌*◌, ◌<◌, ◌≤◌, Option, IfSome}
+-- Commands whose points lie on the board, whose depths lie in their ranges and whose spans lie in the line.
+use Rattle.std.specs.Prelude.{ℕ, ◌*◌, ◌<◌, ◌≤◌, List, Option, IfSome}
 use Rattle.gtp_cmd.specs.Commands.{most_plies, most_wide}
+use Rattle.gtp_cmd.specs.Spans.{IsSpanOf}
 use Rattle.gtp_cmd.specs.declared.commands.Command.{Command}
 use Rattle.gtp_cmd.specs.declared.commands.Command.TheVariants as command
 use Rattle.gtp_cmd.specs.declared.commands.Parsed.{Parsed}
@@ -29,3 +30,13 @@ IsWithin s _ = Unit {0}
 abbrev pub SaysWithin : ℕ → Parsed → Type 0
 SaysWithin s (parsed.Command id command) = IsWithin s command
 SaysWithin s _ = Unit {0}
+
+-- each span of the command lies in the line
+abbrev pub IsWithinLine : List ℕ → Command → Type 0
+IsWithinLine line (command.LoadSgf name) = IsSpanOf line name
+IsWithinLine line _ = Unit {0}
+
+-- the same of a command that the line says
+abbrev pub SaysWithinLine : List ℕ → Parsed → Type 0
+SaysWithinLine line (parsed.Command id command) = IsWithinLine line command
+SaysWithinLine line _ = Unit {0}

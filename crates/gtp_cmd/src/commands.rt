@@ -1,16 +1,20 @@
 //! The commands of the protocol, and what a line says.
 
-ghost use Rattle.std.specs.Prelude.{◌≡◌, ◌∷◌, ◌++◌, true, length, map, option_map, find, IfOk, OnOk};
+ghost use Rattle.std.specs.Prelude.{◌≡◌, ◌≤◌, ◌∷◌, ◌++◌, true, length, drop, map, option_map, find, IfOk, OnOk};
 ghost use Rattle.std.specs.List.{flat_map, list_all};
 ghost use Rattle.std.specs.Str.{bytes_eq};
 ghost use Rattle.gtp_cmd.specs.Words.{kept, line_feed, plain, words_of};
 ghost use Rattle.gtp_cmd.specs.Komi.{komi_of};
+ghost use Rattle.gtp_cmd.specs.Rooms.{longest_line};
+ghost use Rattle.gtp_cmd.specs.Spans.{spans_at};
 ghost use Rattle.gtp_cmd.specs.CodeRows.{row_seen, is_plain};
 ghost use Rattle.gtp_cmd.specs.Commands.{command_in, named, names_text, command_of, known_of, first_argument};
 
 use crate::arguments::{colour, colour_and_target, depths, first_number, size_numbered, vertex};
 use crate::komi::KomiText;
 use crate::refusals::RefuseText;
+use crate::spans::Span;
+use crate::word_spans::second_span;
 use go_base::{Bytes, Colour, NoMemory, Point, Size};
 use std::alloc::Global;
 use vertices::{byte_count, next_word, spells};
@@ -64,6 +68,8 @@ pub enum CommandName {
     MatchPatterns,
     /// `list_patterns`
     ListPatterns,
+    /// `loadsgf`
+    LoadSgf,
 }
 
 /// A command with its arguments. Where a point may be missing, a missing one is a pass.
@@ -120,6 +126,8 @@ pub enum Command {
     MatchPatterns(Colour),
     /// Asks for the patterns.
     ListPatterns,
+    /// Sets the board up as a game record has it, which this word of the line names.
+    LoadSgf(Span),
 }
 
 /// What a line says.
@@ -151,7 +159,7 @@ struct Row {
 }
 
 /// The commands in the order in which they are listed.
-const TABLE: [Row; 23] = [
+const TABLE: [Row; 24] = [
     Row {
         command: CommandName::ProtocolVersion,
         word: b"protocol_version",
@@ -243,6 +251,10 @@ const TABLE: [Row; 23] = [
     Row {
         command: CommandName::ListPatterns,
         word: b"list_patterns",
+    },
+    Row {
+        command: CommandName::LoadSgf,
+        word: b"loadsgf",
     },
 ];
 
@@ -347,8 +359,17 @@ fn komi(text: &[u8]) -> Option<KomiText>
 }
 
 /// The command with the arguments that the text behind its name gives, or nothing where one is missing or malformed.
-pub fn arguments(name: CommandName, text: &[u8], size: Size) -> Option<Command>
-    ensures { result ≡ command_of name size (words_of (plain text.now)) }
+/// The name begins in the whole text at this place or behind it.
+pub fn arguments(
+    name: CommandName,
+    text: &[u8],
+    size: Size,
+    whole: &[u8],
+    place: usize,
+) -> Option<Command>
+    requires inside { place ≤ length whole.now }
+    requires short { length whole.now ≤ longest_line }
+    ensures { result ≡ command_of name size (words_of (plain text.now)) (drop 1 (spans_at whole.now place)) }
 {
     match name {
         CommandName::ProtocolVersion => Some(Command::ProtocolVersion),
@@ -376,5 +397,6 @@ pub fn arguments(name: CommandName, text: &[u8], size: Size) -> Option<Command>
         CommandName::Depths => depths(text).map(|(plies, wide)| Command::Depths { plies, wide }),
         CommandName::MatchPatterns => colour(text).map(Command::MatchPatterns),
         CommandName::ListPatterns => Some(Command::ListPatterns),
+        CommandName::LoadSgf => second_span(whole, place).map(Command::LoadSgf),
     }
 }

@@ -1,19 +1,31 @@
 //! What a line says.
 
-ghost use Rattle.std.specs.Prelude.{◌≡◌, ◌∷◌};
+ghost use Rattle.std.specs.Prelude.{◌≡◌, ◌≤◌, ◌∷◌, length, drop};
 ghost use Rattle.gtp_cmd.specs.Words.{kept, plain, words_of};
 ghost use Rattle.gtp_cmd.specs.Commands.{said, parsed_of};
-ghost use Rattle.gtp_cmd.specs.Within.{SaysWithin};
+ghost use Rattle.gtp_cmd.specs.Rooms.{longest_line};
+ghost use Rattle.gtp_cmd.specs.Spans.{spans_at};
+ghost use Rattle.gtp_cmd.specs.Within.{SaysWithin, SaysWithinLine};
 
 use crate::commands::{Command, Parsed, arguments, named};
 use crate::ids::id;
 use crate::refusals::RefuseText;
+use crate::word_spans::behind_word;
 use go_base::Size;
 use vertices::{before_comment, next_word};
 
-/// What a command's word and the text behind it say.
-fn called(id: Option<u32>, word: &[u8], text: &[u8], size: Size) -> Parsed
-    ensures { result ≡ said id size (kept word.now ∷ words_of (plain text.now)) }
+/// What a command's word and the text behind it say. The word begins in the whole text at this place or behind it.
+fn called(
+    id: Option<u32>,
+    word: &[u8],
+    text: &[u8],
+    size: Size,
+    whole: &[u8],
+    place: usize,
+) -> Parsed
+    requires inside { place ≤ length whole.now }
+    requires short { length whole.now ≤ longest_line }
+    ensures { result ≡ said id size (kept word.now ∷ words_of (plain text.now)) (spans_at whole.now place) }
 {
     let Some(name) = named(word) else {
         return Parsed::Refused {
@@ -21,7 +33,7 @@ fn called(id: Option<u32>, word: &[u8], text: &[u8], size: Size) -> Parsed
             text: RefuseText::UnknownCommand,
         };
     };
-    match arguments(name, text, size) {
+    match arguments(name, text, size, whole, place) {
         Some(command) => Parsed::Command { id, command },
         None => Parsed::Refused {
             id,
@@ -30,12 +42,14 @@ fn called(id: Option<u32>, word: &[u8], text: &[u8], size: Size) -> Parsed
     }
 }
 
-/// What the text behind an id says.
-fn after_id(id: u32, text: &[u8], size: Size) -> Parsed
-    ensures { result ≡ said (Some id) size (words_of (plain text.now)) }
+/// What the text behind an id says. The id begins in the whole text at this place or behind it.
+fn after_id(id: u32, text: &[u8], size: Size, whole: &[u8], place: usize) -> Parsed
+    requires inside { place ≤ length whole.now }
+    requires short { length whole.now ≤ longest_line }
+    ensures { result ≡ said (Some id) size (words_of (plain text.now)) (drop 1 (spans_at whole.now place)) }
 {
     match next_word(text) {
-        Some((word, more)) => called(Some(id), word, more, size),
+        Some((word, more)) => called(Some(id), word, more, size, whole, behind_word(whole, place)),
         None => Parsed::Refused {
             id: Some(id),
             text: RefuseText::UnknownCommand,
@@ -48,22 +62,24 @@ fn after_id(id: u32, text: &[u8], size: Size) -> Parsed
 /// Control bytes other than tab and line feed are passed over, a tab counts as a blank, and `#` begins a comment. A
 /// first word of digits alone is the id, if it is at most 2147483647. A command that is not known is refused before its
 /// arguments are read, and words after the last argument are passed over. Colours, vertices and `pass` may be in either
-/// case, and a number may have any length. Each point of the answer lies on the board, and depths lie in their ranges.
-/// Takes no memory.
+/// case, and a number may have any length. Each point of the answer lies on the board, depths lie in their ranges, and
+/// spans in the line. Takes no memory.
 ///
 /// After the GTP version 2 draft, on preprocessing and on the structure of a command.
-#[tactic(auto, unfolding(crate::specs::Commands::parsed_of))]
+#[tactic(auto, unfolding(crate::specs::Commands::parsed_of, crate::specs::Spans::spans_of))]
 pub fn parse(line: &[u8], size: Size) -> Parsed
+    requires short { length line.now ≤ longest_line }
     ensures said { result ≡ parsed_of line.now size }
     ensures within { SaysWithin size result }
+    ensures spans { SaysWithinLine line.now result }
 {
     let text = before_comment(line);
     let Some((first, more)) = next_word(text) else {
         return Parsed::Nothing;
     };
     match id(first) {
-        Some(id) => after_id(id, more, size),
-        None => called(None, first, more, size),
+        Some(id) => after_id(id, more, size, text, 0),
+        None => called(None, first, more, size, text, 0),
     }
 }
 
@@ -71,9 +87,13 @@ pub fn parse(line: &[u8], size: Size) -> Parsed
 mod tests {
     use super::*;
     use crate::komi::KomiText;
+    use crate::spans::Span;
     use go_base::Colour;
     use std::test::Fail;
     use vertices::vertex_text;
+
+    /// How many bytes a line may have.
+    const LONGEST_LINE: usize = 65_536;
 
     /// The refusal of a line.
     fn refused(id: Option<u32>, text: RefuseText) -> Parsed {
@@ -118,6 +138,7 @@ mod tests {
             ),
             ("a comment in a word", "name#x", asked(None, Command::Name)),
         ] {
+            assert!(rt; line.len() <= LONGEST_LINE);
             assert_eq!(rt; parse(line.as_bytes(), size), want, "{row}");
         }
         Ok(())
@@ -162,6 +183,7 @@ mod tests {
             ("no colour", "all_legal grey", malformed()),
             ("a pass where none may be", "findlib pass", malformed()),
         ] {
+            assert!(rt; line.len() <= LONGEST_LINE);
             assert_eq!(rt; parse(line.as_bytes(), size), want, "{row}");
         }
         Ok(())
@@ -189,6 +211,7 @@ mod tests {
             ("the column I", "countlib I25", malformed()),
             ("a row past the board", "countlib A26", malformed()),
         ] {
+            assert!(rt; line.len() <= LONGEST_LINE);
             assert_eq!(rt; parse(line.as_bytes(), size), want, "{row}");
         }
         assert_eq!(rt; vertex_text(size, 24).as_slice(), b"Z25".as_slice());
@@ -250,6 +273,7 @@ mod tests {
                 malformed(),
             ),
         ] {
+            assert!(rt; line.len() <= LONGEST_LINE);
             assert_eq!(rt; parse(line.as_bytes(), size), want, "{row}");
         }
         for text in ["6.5", "-0.75", "+12", "00000000000000000000000000000000"] {
@@ -259,6 +283,52 @@ mod tests {
             }
         }
         assert_eq!(rt; KomiText::zero().as_slice(), b"0.0".as_slice());
+        Ok(())
+    }
+
+    #[test]
+    fn words_are_told_by_their_places(rt: HostRuntime) -> Result<(), Fail> {
+        let size = Size::new(2).ok_or("the size is one of a board")?;
+        for (row, line, want) in [
+            ("a name", "loadsgf game", Some((8, 12))),
+            (
+                "blanks at both ends",
+                "  loadsgf\t a.sgf \t",
+                Some((11, 16)),
+            ),
+            ("behind an id", "7 loadsgf a", Some((10, 11))),
+            (
+                "behind an id of many digits",
+                "0000000007 loadsgf ab",
+                Some((19, 21)),
+            ),
+            ("more words", "loadsgf a b c", Some((8, 9))),
+            ("a comment", "loadsgf ab#c", Some((8, 10))),
+            (
+                "dropped bytes about a word",
+                "load\u{1}sgf \u{1}a\u{2}b\u{3} c",
+                Some((10, 13)),
+            ),
+            ("dropped bytes alone", "loadsgf \u{1} \u{2}", None),
+            ("no name", "loadsgf", None),
+            ("blanks alone", "loadsgf \t ", None),
+            ("a comment alone", "loadsgf #a", None),
+        ] {
+            assert!(rt; line.len() <= LONGEST_LINE);
+            let found = match parse(line.as_bytes(), size) {
+                Parsed::Command {
+                    command: Command::LoadSgf(Span { from, to }),
+                    ..
+                } => Some((from, to)),
+                _ => None,
+            };
+            assert_eq!(rt; found, want, "{row}");
+        }
+        assert_eq!(rt; parse(b"loadsgf", size), malformed());
+        assert_eq!(rt;
+            parse(b"LOADSGF a", size),
+            refused(None, RefuseText::UnknownCommand)
+        );
         Ok(())
     }
 }
