@@ -8,15 +8,16 @@ use Rattle.gtp_cmd.specs.Vertices.{vertex_of}
 use Rattle.gtp_cmd.specs.Colours.{colour_of}
 use Rattle.gtp_cmd.specs.Komi.{komi_of}
 use Rattle.gtp_cmd.specs.Commands.{first_argument, known_of, size_of, move_of, depths_of, command_of, named, asked}
-use Rattle.gtp_cmd.specs.Commands.{called, said}
+use Rattle.gtp_cmd.specs.Commands.{called, said, claim_of}
 use Rattle.gtp_cmd.specs.declared.commands.CommandName.{CommandName}
 use Rattle.gtp_cmd.specs.declared.commands.CommandName.TheVariants as name
 use Rattle.gtp_cmd.specs.declared.commands.Command.{Command}
 use Rattle.gtp_cmd.specs.declared.commands.Command.TheVariants as command
 use Rattle.gtp_cmd.specs.declared.spans.Span.{Span}
-use Rattle.gtp_cmd.specs.Spans.{IsSpanOf, spans_at, first_span}
+use Rattle.gtp_cmd.specs.Spans.{IsSpanOf, spans_at, first_span, whole_span}
 use Rattle.gtp_cmd.specs.Within.{IsWithinLine, SaysWithinLine}
-use Rattle.gtp_cmd.proofs.SpanLemmas.{InOrder, InOrder-ends, InOrder-rest, spans_from-in_order}
+use Rattle.gtp_cmd.proofs.SpanLemmas.{InOrder, InOrder-ends, InOrder-rest, InOrder-three, InOrder-last}
+use Rattle.gtp_cmd.proofs.SpanLemmas.{spans_from-in_order}
 use Rattle.gtp_cmd.proofs.WithinLemmas.{if_some-map, if_some-any}
 
 -- the first of spans that are in order in a line lies in it
@@ -24,6 +25,16 @@ first_span-within : (line : List ℕ) (spans : List Span) → InOrder 0 (length 
     → IfSome (first_span spans) (IsSpanOf line)
 first_span-within line [] within = tt
 first_span-within line (span ∷ spans) within = (within.1, InOrder-ends span.to (length line) spans within.2)
+
+-- the span of all of spans that are in order in a line lies in it
+whole_span-within : (line : List ℕ) (spans : List Span) → InOrder 0 (length line) spans
+    → IsSpanOf line (whole_span spans)
+whole_span-within line [] within = (omega arith, omega arith)
+whole_span-within line (span ∷ spans) within =
+    let order = within.1 in
+    let last = InOrder-last span.to (length line) spans within.2 in
+    let later = last.0 in
+    (omega (arith, order, later), last.1)
 
 -- the arguments of a command lie in the line in which the words behind its name lie
 command_of-within_line : (line : List ℕ) (n : CommandName) (s : ℕ) (words : List (List ℕ)) (spans : List Span)
@@ -67,6 +78,14 @@ command_of-within_line line name.ListPatterns s words spans lie = tt
 command_of-within_line line name.LoadSgf s words spans lie =
     if_some-map command.LoadSgf (IsSpanOf line) (IsWithinLine line) (first_span spans) (λ span lies. lies)
     (first_span-within line spans lie)
+command_of-within_line line name.AttackProof s words spans lie =
+    if_some-any command.AttackProof (IsWithinLine line) (first_argument (vertex_of s) words) (λ x. tt)
+command_of-within_line line name.DefendProof s words spans lie =
+    if_some-any command.DefendProof (IsWithinLine line) (first_argument (vertex_of s) words) (λ x. tt)
+command_of-within_line line name.CheckProof s words spans lie =
+    if_some-any (λ q. command.CheckProof q.attack q.target q.code (whole_span (drop 3 spans))) (IsWithinLine line)
+    (claim_of s words)
+    (λ x. whole_span-within line (drop 3 spans) (InOrder-three 0 (length line) spans lie))
 
 -- a command whose spans lie in the line is said by it
 asked-within_line : (line : List ℕ) (id : Option ℕ) (o : Option Command) → IfSome o (IsWithinLine line)

@@ -1,11 +1,11 @@
 -- Where the words of a text stand, byte by byte.
-use Rattle.std.proofs.Common.{◌≡◌, ℕ, ◌+◌, ◌<◌, ◌≤◌, Bool, true, false, cond, List, [], ◌∷◌, length, drop, get_or, refl, subst}
+use Rattle.std.proofs.Common.{◌≡◌, ℕ, ◌+◌, ◌<◌, ◌≤◌, Bool, true, false, cond, not, List, [], ◌∷◌, length, drop, get_or, refl, subst}
 use Rattle.std.proofs.Common.{sym, ap, ◌∙◌, arith}
 use Rattle.std.proofs.lemmas.List.{drop_more, drop_all}
 use Rattle.std.proofs.lemmas.Bool.Decides.{nat_tests}
 use Rattle.gtp_cmd.specs.Words.{is_kept}
 use Rattle.vertices.specs.RawWords.{is_parting, is_skipped}
-use Rattle.gtp_cmd.specs.Spans.{goes_on, span_between, spans_with, spans_from, spans_at, end_with, first_span}
+use Rattle.gtp_cmd.specs.Spans.{goes_on, span_between, spans_with, spans_from, spans_at, end_with, first_span, last_end, whole_span}
 use Rattle.gtp_cmd.specs.Spans.{IsSpanOf}
 use Rattle.gtp_cmd.specs.declared.spans.Span.{Span}
 
@@ -203,3 +203,83 @@ spans_from-in_order place (b ∷ bs) =
           rest
       | false ↦ InOrder-with place (place + length (b ∷ bs)) (goes_on bs) (spans_from (place + 1) bs) rest
     ]
+
+-- the last word ends where it does, whether or not its first byte is told apart
+last_end-with : (end place next : ℕ) (on : Bool) (spans : List Span)
+    → last_end end (spans_with place next on spans) ≡ last_end next spans
+last_end-with end place next false spans = refl
+last_end-with end place next true [] = refl
+last_end-with end place next true (span ∷ spans) = refl
+
+-- the span of words that begin with a byte
+whole_span-with : (start end : ℕ) (on : Bool) (spans : List Span)
+    → whole_span (spans_with start end on spans) ≡ span_between start (last_end end spans)
+whole_span-with start end false spans = refl
+whole_span-with start end true [] = refl
+whole_span-with start end true (span ∷ spans) = refl
+
+-- the words that begin at a place, of which the last so far ends here, read up to another place: what is known of them
+pub record ReadsWords (text : List ℕ) (start end place : ℕ) : Type 0 where
+  pub span : whole_span (spans_at text start) ≡ span_between start (last_end end (spans_at text place))
+  pub order : start < end
+  pub reach : end ≤ place
+
+-- words begin with the first byte of the first
+pub ReadsWords-first : (text : List ℕ) (start : ℕ) → start < length text → is_skipped (get_or text start 0) ≡ false
+    → ReadsWords text start (start + 1) (start + 1)
+ReadsWords-first text start inside word = record {
+  span = ap whole_span (at-word text start inside word)
+      ∙ whole_span-with start (start + 1) (goes_on (drop (start + 1) text)) (spans_at text (start + 1));
+  order = omega arith;
+  reach = omega arith;
+}
+
+-- one more byte is read, and is the last of a word or none of one
+pub ReadsWords-step : (text : List ℕ) (start end place : ℕ) → place < length text → ReadsWords text start end place
+    → ReadsWords text start (end_with (not (is_skipped (get_or text place 0))) place end) (place + 1)
+ReadsWords-step text start end place inside so_far =
+    let order = so_far.order in
+    let reach = so_far.reach in
+    (elim (is_skipped (get_or text place 0))
+    as (λ t. is_skipped (get_or text place 0) ≡ t → ReadsWords text start (end_with (not t) place end) (place + 1)) [
+      | true ↦ λ skipped. record {
+        span = so_far.span ∙ ap (λ spans. span_between start (last_end end spans))
+            (at-skipped text place inside skipped);
+        order = order;
+        reach = omega (arith, reach);
+      }
+      | false ↦ λ word. record {
+        span = so_far.span ∙ ap (λ spans. span_between start (last_end end spans)) (at-word text place inside word)
+            ∙ ap (span_between start)
+            (last_end-with end place (place + 1) (goes_on (drop (place + 1) text)) (spans_at text (place + 1)));
+        order = omega (arith, order, reach);
+        reach = omega arith;
+      }
+    ]) refl
+
+-- behind the text no word ends
+pub ReadsWords-end : (text : List ℕ) (start end place : ℕ) → length text ≤ place → ReadsWords text start end place
+    → whole_span (spans_at text start) ≡ span_between start end
+ReadsWords-end text start end place past so_far =
+    so_far.span ∙ ap (λ spans. span_between start (last_end end spans)) (at-end text place past)
+
+-- the last of words in order ends before the end
+pub InOrder-last : (place end : ℕ) (spans : List Span) → InOrder place end spans
+    → (place ≤ last_end place spans) × (last_end place spans ≤ end)
+InOrder-last place end [] within = (omega arith, within)
+InOrder-last place end (span ∷ spans) within =
+    let from = within.0 in
+    let order = within.1 in
+    let rest = InOrder-last span.to end spans within.2 in
+    let later = rest.0 in
+    (omega (arith, from, order, later), rest.1)
+
+-- three spans less are in order too
+pub InOrder-three : (place end : ℕ) (spans : List Span) → InOrder place end spans → InOrder place end (drop 3 spans)
+InOrder-three place end [] within = within
+InOrder-three place end (a ∷ []) within = InOrder-rest place end (a ∷ []) within
+InOrder-three place end (a ∷ b ∷ []) within =
+    InOrder-rest place end (b ∷ []) (InOrder-rest place end (a ∷ b ∷ []) within)
+InOrder-three place end (a ∷ b ∷ c ∷ spans) within =
+    InOrder-rest place end (c ∷ spans)
+    (InOrder-rest place end (b ∷ c ∷ spans) (InOrder-rest place end (a ∷ b ∷ c ∷ spans) within))

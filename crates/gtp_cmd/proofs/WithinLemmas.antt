@@ -1,6 +1,6 @@
 -- The points that a line names lie on the board of the machine that reads it, and its depths in their ranges.
 use Rattle.std.proofs.Common.{◌≡◌, ℕ, ◌-◌, ◌*◌, ◌<◌, ◌≤◌, Bool, true, false, cond, ltb, leb, ◌&&◌, List}
-use Rattle.std.proofs.Common.{[], ◌∷◌, Option, Some, None, IfSome, refl, arith, drop}
+use Rattle.std.proofs.Common.{[], ◌∷◌, Option, Some, None, IfSome, refl, arith, drop, eqb, length}
 use Rattle.std.specs.Option.{option_map, option_and_then}
 use Rattle.std.specs.Str.{bytes_eq, str_to_ascii_lowercase}
 use Rattle.std.specs.Prelude.{codes}
@@ -12,10 +12,11 @@ use Rattle.gtp_cmd.specs.Words.{number_of}
 use Rattle.gtp_cmd.specs.Vertices.{vertex_of, point_of, column_named, row_number_of, target_of}
 use Rattle.gtp_cmd.specs.Colours.{colour_of}
 use Rattle.gtp_cmd.specs.Komi.{komi_of}
-use Rattle.gtp_cmd.specs.Spans.{first_span}
+use Rattle.gtp_cmd.specs.declared.arguments.Claim.{Claim}
+use Rattle.gtp_cmd.specs.Spans.{first_span, whole_span}
 use Rattle.gtp_cmd.specs.declared.spans.Span.{Span}
 use Rattle.gtp_cmd.specs.Commands.{first_argument, known_of, size_of, move_of, number_between, most_plies, most_wide}
-use Rattle.gtp_cmd.specs.Commands.{depths_of, command_of, named, asked, called, said}
+use Rattle.gtp_cmd.specs.Commands.{depths_of, command_of, named, asked, called, said, is_attack_of, code_of, claim_of, greatest_code}
 use Rattle.gtp_cmd.specs.declared.commands.CommandName.{CommandName}
 use Rattle.gtp_cmd.specs.declared.commands.CommandName.TheVariants as name
 use Rattle.gtp_cmd.specs.declared.commands.Command.{Command}
@@ -121,6 +122,46 @@ depths_of-within (plies ∷ wide ∷ more) =
     both-within (number_between 1 most_plies plies) (number_between 0 most_wide wide)
     (between-within 1 most_plies plies) (between-within 0 most_wide wide)
 
+-- a claim is of a point of the board and of a code
+abbrev ClaimWithin : ℕ → Claim → Type 0
+ClaimWithin s claim = (claim.target < s * s) × (claim.code ≤ greatest_code)
+
+-- a code is at most the greatest
+code_of-within : (word : List ℕ) → IfSome (code_of word) (λ code. code ≤ greatest_code)
+code_of-within word =
+    elim (eqb (length word) 1)
+    as (λ t. IfSome (cond t (number_between 0 greatest_code word) None) (λ code. code ≤ greatest_code)) [
+      | true ↦ if_some-weaken (number_between 0 greatest_code word) (between-within 0 greatest_code word)
+      | false ↦ tt
+    ]
+  where
+    if_some-weaken : (o : Option ℕ) → IfSome o (λ k. (0 ≤ k) × (k ≤ greatest_code))
+        → IfSome o (λ code. code ≤ greatest_code)
+    if_some-weaken None h = tt
+    if_some-weaken (Some k) h = h.1
+
+-- what words claim is within, where the point and the code are
+claim-within : (s : ℕ) (attack : Option Bool) (target code : Option ℕ) → IsPointOf s target
+    → IfSome code (λ c. c ≤ greatest_code)
+    → IfSome {T = Claim} (option_and_then (λ a. option_and_then (λ at. option_map (λ c. record {
+      attack = a;
+      target = at;
+      code = c;
+    }) code) target) attack) (ClaimWithin s)
+claim-within s None target code below few = tt
+claim-within s (Some a) None code below few = tt
+claim-within s (Some a) (Some at) None below few = tt
+claim-within s (Some a) (Some at) (Some c) below few = (below, few)
+
+-- what words claim is of a point of the board and of a code
+claim_of-within : (s : ℕ) (words : List (List ℕ)) → IfSome (claim_of s words) (ClaimWithin s)
+claim_of-within s [] = tt
+claim_of-within s (kind ∷ []) = tt
+claim_of-within s (kind ∷ target ∷ []) = tt
+claim_of-within s (kind ∷ target ∷ code ∷ more) =
+    claim-within s (is_attack_of kind) (vertex_of s target) (code_of code) (vertex_of-within s target)
+    (code_of-within code)
+
 -- the arguments of a command name points of the board, and depths in their ranges
 command_of-within : (n : CommandName) (s : ℕ) (words : List (List ℕ)) (spans : List Span)
     → IfSome (command_of n s words spans) (IsWithin s)
@@ -167,6 +208,15 @@ command_of-within name.MatchPatterns s words spans =
     if_some-any command.MatchPatterns (IsWithin s) (first_argument colour_of words) (λ c. tt)
 command_of-within name.ListPatterns s words spans = tt
 command_of-within name.LoadSgf s words spans = if_some-any command.LoadSgf (IsWithin s) (first_span spans) (λ span. tt)
+command_of-within name.AttackProof s words spans =
+    if_some-map command.AttackProof (λ p. p < s * s) (IsWithin s) (first_argument (vertex_of s) words)
+    (λ p below. below) (first_vertex-within s words)
+command_of-within name.DefendProof s words spans =
+    if_some-map command.DefendProof (λ p. p < s * s) (IsWithin s) (first_argument (vertex_of s) words)
+    (λ p below. below) (first_vertex-within s words)
+command_of-within name.CheckProof s words spans =
+    if_some-map (λ q. command.CheckProof q.attack q.target q.code (whole_span (drop 3 spans))) (ClaimWithin s)
+    (IsWithin s) (claim_of s words) (λ q within. within) (claim_of-within s words)
 
 -- a line whose command is within says nothing off the board
 asked-within : (id : Option ℕ) (s : ℕ) (o : Option Command) → IfSome o (IsWithin s) → SaysWithin s (asked id o)

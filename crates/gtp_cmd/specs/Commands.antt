@@ -1,5 +1,5 @@
 -- The commands, the words that each takes, and what a line says.
-use Rattle.std.specs.Prelude.{ℕ, ◌&&◌, nat_le, Bool, List, [], ◌∷◌, map, Option, None, Some, is_some, if◌then◌else◌}
+use Rattle.std.specs.Prelude.{ℕ, ◌==◌, length, true, false, ◌&&◌, nat_le, Bool, List, [], ◌∷◌, map, Option, None, Some, is_some, if◌then◌else◌}
 use Rattle.std.specs.Prelude.{codes, drop}
 use Rattle.std.specs.List.{find, join_with_byte}
 use Rattle.std.specs.Option.{option_map, option_and_then}
@@ -10,12 +10,13 @@ use Rattle.gtp_cmd.specs.Words.{cleaned, words_of, number_of, id_of, line_feed}
 use Rattle.gtp_cmd.specs.Vertices.{vertex_of, target_of}
 use Rattle.gtp_cmd.specs.Colours.{colour_of}
 use Rattle.gtp_cmd.specs.Komi.{komi_of}
-use Rattle.gtp_cmd.specs.Spans.{spans_of, first_span}
+use Rattle.gtp_cmd.specs.Spans.{spans_of, first_span, whole_span}
 use Rattle.gtp_cmd.specs.declared.spans.Span.{Span}
 use Rattle.gtp_cmd.specs.declared.commands.CommandName.{CommandName}
 use Rattle.gtp_cmd.specs.declared.commands.CommandName.TheVariants as name
 use Rattle.gtp_cmd.specs.declared.commands.Command.{Command}
 use Rattle.gtp_cmd.specs.declared.commands.Command.TheVariants as command
+use Rattle.gtp_cmd.specs.declared.arguments.Claim.{Claim}
 use Rattle.gtp_cmd.specs.declared.commands.Parsed.{Parsed}
 use Rattle.gtp_cmd.specs.declared.commands.Parsed.TheVariants as parsed
 use Rattle.gtp_cmd.specs.declared.refusals.RefuseText.TheVariants.{UnknownCommand, SyntaxError}
@@ -52,6 +53,9 @@ table =
     ∷ record { command = name.MatchPatterns; word = codes "match_patterns" }
     ∷ record { command = name.ListPatterns; word = codes "list_patterns" }
     ∷ record { command = name.LoadSgf; word = codes "loadsgf" }
+    ∷ record { command = name.AttackProof; word = codes "attack_proof" }
+    ∷ record { command = name.DefendProof; word = codes "defend_proof" }
+    ∷ record { command = name.CheckProof; word = codes "check_proof" }
     ∷ []
 
 -- the command of the first of these rows whose word this is
@@ -98,12 +102,34 @@ most_plies = 200
 abbrev pub most_wide : ℕ
 most_wide = 12
 
+-- the greatest code that a reading answers
+abbrev pub greatest_code : ℕ
+greatest_code = 3
+
 -- the plies and the wide plies of readings, where the first two words write both
 abbrev pub depths_of : List (List ℕ) → Option (ℕ × ℕ)
 depths_of (plies ∷ wide ∷ more) =
     option_and_then (λ n. option_map (λ k. (n, k)) (number_between 0 most_wide wide))
     (number_between 1 most_plies plies)
 depths_of _ = None
+
+-- whether a proof is of an attack: `attack` says so, and `defend` that it is of a defence
+abbrev pub is_attack_of : List ℕ → Option Bool
+is_attack_of word =
+    if bytes_eq word (codes "attack") then Some true
+    else if bytes_eq word (codes "defend") then Some false
+    else None
+
+-- the code that a word is: one digit, from 0 to 3
+abbrev pub code_of : List ℕ → Option ℕ
+code_of word = if length word == 1 then number_between 0 greatest_code word else None
+
+-- what a proof is said to show on a board of size s, where the first three words say it
+abbrev pub claim_of : ℕ → List (List ℕ) → Option Claim
+claim_of s (kind ∷ target ∷ code ∷ more) =
+    option_and_then (λ attack. option_and_then (λ at. option_map (λ c. record { attack = attack; target = at; code = c })
+    (code_of code)) (vertex_of s target)) (is_attack_of kind)
+claim_of s _ = None
 
 -- what a command is with these words after its name, which stand at these spans, on a board of size s; none where an
 -- argument is missing or malformed
@@ -132,6 +158,10 @@ command_of name.Depths s words spans = option_map (λ d. command.Depths d.0 d.1)
 command_of name.MatchPatterns s words spans = option_map command.MatchPatterns (first_argument colour_of words)
 command_of name.ListPatterns s words spans = Some command.ListPatterns
 command_of name.LoadSgf s words spans = option_map command.LoadSgf (first_span spans)
+command_of name.AttackProof s words spans = option_map command.AttackProof (first_argument (vertex_of s) words)
+command_of name.DefendProof s words spans = option_map command.DefendProof (first_argument (vertex_of s) words)
+command_of name.CheckProof s words spans =
+    option_map (λ q. command.CheckProof q.attack q.target q.code (whole_span (drop 3 spans))) (claim_of s words)
 
 -- a command, or a refusal where its arguments are missing or malformed
 abbrev pub asked : Option ℕ → Option Command → Parsed

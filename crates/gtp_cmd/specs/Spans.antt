@@ -54,3 +54,13 @@ end_with keeps place end = if keeps then place + 1 else end
 abbrev pub first_span : List Span → Option Span
 first_span [] = None
 first_span (span ∷ spans) = Some span
+
+-- where the last of some words ends, which ends here or stands among these spans
+abbrev pub last_end : ℕ → List Span → ℕ
+last_end end [] = end
+last_end end (span ∷ spans) = last_end span.to spans
+
+-- the span of all these words: from the first byte of the first to the last byte of the last, and 0 and 0 of no words
+abbrev pub whole_span : List Span → Span
+whole_span [] = span_between 0 0
+whole_span (span ∷ spans) = span_between span.from (last_end span.to spans)

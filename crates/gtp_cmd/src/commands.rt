@@ -10,11 +10,13 @@ ghost use Rattle.gtp_cmd.specs.Spans.{spans_at};
 ghost use Rattle.gtp_cmd.specs.CodeRows.{row_seen, is_plain};
 ghost use Rattle.gtp_cmd.specs.Commands.{command_in, named, names_text, command_of, known_of, first_argument};
 
-use crate::arguments::{colour, colour_and_target, depths, first_number, size_numbered, vertex};
+use crate::arguments::{
+    claim_made, colour, colour_and_target, depths, first_number, size_numbered, vertex,
+};
 use crate::komi::KomiText;
 use crate::refusals::RefuseText;
 use crate::spans::Span;
-use crate::word_spans::second_span;
+use crate::word_spans::{second_span, tokens_span};
 use go_base::{Bytes, Colour, NoMemory, Point, Size};
 use std::alloc::Global;
 use vertices::{byte_count, next_word, spells};
@@ -70,6 +72,12 @@ pub enum CommandName {
     ListPatterns,
     /// `loadsgf`
     LoadSgf,
+    /// `attack_proof`
+    AttackProof,
+    /// `defend_proof`
+    DefendProof,
+    /// `check_proof`
+    CheckProof,
 }
 
 /// A command with its arguments. Where a point may be missing, a missing one is a pass.
@@ -128,6 +136,21 @@ pub enum Command {
     ListPatterns,
     /// Sets the board up as a game record has it, which this word of the line names.
     LoadSgf(Span),
+    /// Asks for a proof of the code of an attack on the string at a point.
+    AttackProof(Point),
+    /// Asks for a proof of the code of a defence of the string at a point.
+    DefendProof(Point),
+    /// Asks whether words of the line prove a code.
+    CheckProof {
+        /// Whether the code is that of an attack, and not of a defence.
+        attack: bool,
+        /// The point whose string the code is of.
+        target: Point,
+        /// The code, from 0 to 3.
+        code: u8,
+        /// The words of the proof, of which there may be none.
+        tokens: Span,
+    },
 }
 
 /// What a line says.
@@ -159,7 +182,7 @@ struct Row {
 }
 
 /// The commands in the order in which they are listed.
-const TABLE: [Row; 24] = [
+const TABLE: [Row; 27] = [
     Row {
         command: CommandName::ProtocolVersion,
         word: b"protocol_version",
@@ -255,6 +278,18 @@ const TABLE: [Row; 24] = [
     Row {
         command: CommandName::LoadSgf,
         word: b"loadsgf",
+    },
+    Row {
+        command: CommandName::AttackProof,
+        word: b"attack_proof",
+    },
+    Row {
+        command: CommandName::DefendProof,
+        word: b"defend_proof",
+    },
+    Row {
+        command: CommandName::CheckProof,
+        word: b"check_proof",
     },
 ];
 
@@ -398,5 +433,13 @@ pub fn arguments(
         CommandName::MatchPatterns => colour(text).map(Command::MatchPatterns),
         CommandName::ListPatterns => Some(Command::ListPatterns),
         CommandName::LoadSgf => second_span(whole, place).map(Command::LoadSgf),
+        CommandName::AttackProof => vertex(text, size).map(Command::AttackProof),
+        CommandName::DefendProof => vertex(text, size).map(Command::DefendProof),
+        CommandName::CheckProof => claim_made(text, size).map(|claim| Command::CheckProof {
+            attack: claim.attack,
+            target: claim.target,
+            code: claim.code,
+            tokens: tokens_span(whole, place),
+        }),
     }
 }

@@ -25,4 +25,6 @@ pub enum RefuseText {
     CannotLoadFile,
     /// The text is no game record, for the reason of this number: `bad sgf kind 5`.
     BadSgf(u8),
+    /// The proof has more than 60,000 bytes: `proof too long`.
+    ProofTooLong,
 }

@@ -85,6 +85,7 @@ fn reason(text: RefuseText) -> Short
         RefuseText::OutOfMemory => Short::of(b"out of memory"),
         RefuseText::CannotLoadFile => Short::of(b"cannot load file"),
         RefuseText::BadSgf(kind) => numbered(b"bad sgf kind ", kind),
+        RefuseText::ProofTooLong => Short::of(b"proof too long"),
     }
 }
 
@@ -147,6 +148,11 @@ mod tests {
                 "the last kind",
                 RefuseText::BadSgf(5),
                 "? bad sgf kind 5\n\n",
+            ),
+            (
+                "a long proof",
+                RefuseText::ProofTooLong,
+                "? proof too long\n\n",
             ),
         ] {
             let reply = refusal(None, text);
