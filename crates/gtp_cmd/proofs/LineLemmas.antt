@@ -8,7 +8,7 @@ use Rattle.gtp_cmd.specs.Vertices.{vertex_of}
 use Rattle.gtp_cmd.specs.Colours.{colour_of}
 use Rattle.gtp_cmd.specs.Komi.{komi_of}
 use Rattle.gtp_cmd.specs.Commands.{first_argument, known_of, size_of, move_of, depths_of, command_of, named, asked}
-use Rattle.gtp_cmd.specs.Commands.{called, said, claim_of}
+use Rattle.gtp_cmd.specs.Commands.{called, said, claim_of, points_of}
 use Rattle.gtp_cmd.specs.declared.commands.CommandName.{CommandName}
 use Rattle.gtp_cmd.specs.declared.commands.CommandName.TheVariants as name
 use Rattle.gtp_cmd.specs.declared.commands.Command.{Command}
@@ -86,6 +86,10 @@ command_of-within_line line name.CheckProof s words spans lie =
     if_some-any (λ q. command.CheckProof q.attack q.target q.code (whole_span (drop 3 spans))) (IsWithinLine line)
     (claim_of s words)
     (λ x. whole_span-within line (drop 3 spans) (InOrder-three 0 (length line) spans lie))
+command_of-within_line line name.Connect s words spans lie =
+    if_some-any (λ m. command.Connect m.0 m.1) (IsWithinLine line) (points_of s words) (λ x. tt)
+command_of-within_line line name.Disconnect s words spans lie =
+    if_some-any (λ m. command.Disconnect m.0 m.1) (IsWithinLine line) (points_of s words) (λ x. tt)
 
 -- a command whose spans lie in the line is said by it
 asked-within_line : (line : List ℕ) (id : Option ℕ) (o : Option Command) → IfSome o (IsWithinLine line)

@@ -17,6 +17,7 @@ use Rattle.gtp_cmd.specs.Spans.{first_span, whole_span}
 use Rattle.gtp_cmd.specs.declared.spans.Span.{Span}
 use Rattle.gtp_cmd.specs.Commands.{first_argument, known_of, size_of, move_of, number_between, most_plies, most_wide}
 use Rattle.gtp_cmd.specs.Commands.{depths_of, command_of, named, asked, called, said, is_attack_of, code_of, claim_of, greatest_code}
+use Rattle.gtp_cmd.specs.Commands.{points_of}
 use Rattle.gtp_cmd.specs.declared.commands.CommandName.{CommandName}
 use Rattle.gtp_cmd.specs.declared.commands.CommandName.TheVariants as name
 use Rattle.gtp_cmd.specs.declared.commands.Command.{Command}
@@ -162,6 +163,21 @@ claim_of-within s (kind ∷ target ∷ code ∷ more) =
     claim-within s (is_attack_of kind) (vertex_of s target) (code_of code) (vertex_of-within s target)
     (code_of-within code)
 
+-- two points of the board are both on it
+points-within : (s : ℕ) (first second : Option ℕ) → IsPointOf s first → IsPointOf s second
+    → IfSome {T = ℕ × ℕ} (option_and_then (λ p. option_map (λ q. (p, q)) second) first)
+    (λ m. (m.0 < s * s) × (m.1 < s * s))
+points-within s None second some below = tt
+points-within s (Some p) None some below = tt
+points-within s (Some p) (Some q) some below = (some, below)
+
+-- the points that words name are on the board
+points_of-within : (s : ℕ) (words : List (List ℕ)) → IfSome (points_of s words) (λ m. (m.0 < s * s) × (m.1 < s * s))
+points_of-within s [] = tt
+points_of-within s (first ∷ []) = tt
+points_of-within s (first ∷ second ∷ more) =
+    points-within s (vertex_of s first) (vertex_of s second) (vertex_of-within s first) (vertex_of-within s second)
+
 -- the arguments of a command name points of the board, and depths in their ranges
 command_of-within : (n : CommandName) (s : ℕ) (words : List (List ℕ)) (spans : List Span)
     → IfSome (command_of n s words spans) (IsWithin s)
@@ -217,6 +233,12 @@ command_of-within name.DefendProof s words spans =
 command_of-within name.CheckProof s words spans =
     if_some-map (λ q. command.CheckProof q.attack q.target q.code (whole_span (drop 3 spans))) (ClaimWithin s)
     (IsWithin s) (claim_of s words) (λ q within. within) (claim_of-within s words)
+command_of-within name.Connect s words spans =
+    if_some-map (λ m. command.Connect m.0 m.1) (λ m. (m.0 < s * s) × (m.1 < s * s)) (IsWithin s) (points_of s words)
+    (λ m below. below) (points_of-within s words)
+command_of-within name.Disconnect s words spans =
+    if_some-map (λ m. command.Disconnect m.0 m.1) (λ m. (m.0 < s * s) × (m.1 < s * s)) (IsWithin s) (points_of s words)
+    (λ m below. below) (points_of-within s words)
 
 -- a line whose command is within says nothing off the board
 asked-within : (id : Option ℕ) (s : ℕ) (o : Option Command) → IfSome o (IsWithin s) → SaysWithin s (asked id o)

@@ -56,6 +56,8 @@ table =
     ∷ record { command = name.AttackProof; word = codes "attack_proof" }
     ∷ record { command = name.DefendProof; word = codes "defend_proof" }
     ∷ record { command = name.CheckProof; word = codes "check_proof" }
+    ∷ record { command = name.Connect; word = codes "connect" }
+    ∷ record { command = name.Disconnect; word = codes "disconnect" }
     ∷ []
 
 -- the command of the first of these rows whose word this is
@@ -131,6 +133,12 @@ claim_of s (kind ∷ target ∷ code ∷ more) =
     (code_of code)) (vertex_of s target)) (is_attack_of kind)
 claim_of s _ = None
 
+-- two points of a board of size s, where the first two words name both
+abbrev pub points_of : ℕ → List (List ℕ) → Option (ℕ × ℕ)
+points_of s (first ∷ second ∷ more) =
+    option_and_then (λ p. option_map (λ q. (p, q)) (vertex_of s second)) (vertex_of s first)
+points_of s _ = None
+
 -- what a command is with these words after its name, which stand at these spans, on a board of size s; none where an
 -- argument is missing or malformed
 abbrev pub command_of : CommandName → ℕ → List (List ℕ) → List Span → Option Command
@@ -162,6 +170,8 @@ command_of name.AttackProof s words spans = option_map command.AttackProof (firs
 command_of name.DefendProof s words spans = option_map command.DefendProof (first_argument (vertex_of s) words)
 command_of name.CheckProof s words spans =
     option_map (λ q. command.CheckProof q.attack q.target q.code (whole_span (drop 3 spans))) (claim_of s words)
+command_of name.Connect s words spans = option_map (λ m. command.Connect m.0 m.1) (points_of s words)
+command_of name.Disconnect s words spans = option_map (λ m. command.Disconnect m.0 m.1) (points_of s words)
 
 -- a command, or a refusal where its arguments are missing or malformed
 abbrev pub asked : Option ℕ → Option Command → Parsed

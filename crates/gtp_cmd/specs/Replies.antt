@@ -4,7 +4,7 @@ use Rattle.gtp_cmd.specs.declared.refusals.RefuseText.{RefuseText}
 use Rattle.gtp_cmd.specs.declared.refusals.RefuseText.TheVariants.{UnknownCommand, SyntaxError, LineTooLong}
 use Rattle.gtp_cmd.specs.declared.refusals.RefuseText.TheVariants.{UnacceptableSize, IllegalMove, HistoryFull}
 use Rattle.gtp_cmd.specs.declared.refusals.RefuseText.TheVariants.{CannotUndo, VertexEmpty, OutOfMemory}
-use Rattle.gtp_cmd.specs.declared.refusals.RefuseText.TheVariants.{CannotLoadFile, BadSgf, ProofTooLong}
+use Rattle.gtp_cmd.specs.declared.refusals.RefuseText.TheVariants.{CannotLoadFile, BadSgf, ProofTooLong, ColoursDiffer}
 
 -- the id, where there is one, as it is printed
 abbrev pub id_text : Option ℕ → List ℕ
@@ -38,6 +38,7 @@ text_of OutOfMemory = codes "out of memory"
 text_of CannotLoadFile = codes "cannot load file"
 text_of (BadSgf kind) = codes "bad sgf kind " ++ decimal kind
 text_of ProofTooLong = codes "proof too long"
+text_of ColoursDiffer = codes "colours differ"
 
 -- a refusal: `?`, the id if any, a blank, what it says, two line feeds
 abbrev pub refusal_text : Option ℕ → RefuseText → List ℕ

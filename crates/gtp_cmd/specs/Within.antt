@@ -26,6 +26,8 @@ IsWithin s (command.Defend p) = p < s * s
 IsWithin s (command.Depths plies wide) = AreDepths plies wide
 IsWithin s (command.AttackProof p) = p < s * s
 IsWithin s (command.DefendProof p) = p < s * s
+IsWithin s (command.Connect p q) = (p < s * s) × (q < s * s)
+IsWithin s (command.Disconnect p q) = (p < s * s) × (q < s * s)
 IsWithin s (command.CheckProof attack target code tokens) = (target < s * s) × (code ≤ greatest_code)
 IsWithin s _ = Unit {0}
 

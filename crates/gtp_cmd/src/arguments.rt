@@ -6,7 +6,7 @@ ghost use Rattle.vertices.specs.RawWords.{capped};
 ghost use Rattle.gtp_cmd.specs.Colours.{colour_of};
 ghost use Rattle.gtp_cmd.specs.Vertices.{vertex_of};
 ghost use Rattle.gtp_cmd.specs.Commands.{first_argument, size_of, move_of, number_between, depths_of, is_attack_of};
-ghost use Rattle.gtp_cmd.specs.Commands.{code_of, claim_of};
+ghost use Rattle.gtp_cmd.specs.Commands.{code_of, claim_of, points_of};
 
 use go_base::size::MAX_SIZE;
 use go_base::{Colour, Point, Size};
@@ -160,4 +160,15 @@ pub fn claim_made(text: &[u8], size: Size) -> Option<Claim>
         target,
         code,
     })
+}
+
+/// The two points that the first two words name.
+pub fn points(text: &[u8], size: Size) -> Option<(Point, Point)>
+    ensures { result ≡ points_of size (words_of (plain text.now)) }
+{
+    let (first, more) = next_word(text)?;
+    let (second, _) = next_word(more)?;
+    let a = vertex_named(first, size)?;
+    let b = vertex_named(second, size)?;
+    Some((a, b))
 }

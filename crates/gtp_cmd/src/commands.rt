@@ -11,7 +11,7 @@ ghost use Rattle.gtp_cmd.specs.CodeRows.{row_seen, is_plain};
 ghost use Rattle.gtp_cmd.specs.Commands.{command_in, named, names_text, command_of, known_of, first_argument};
 
 use crate::arguments::{
-    claim_made, colour, colour_and_target, depths, first_number, size_numbered, vertex,
+    claim_made, colour, colour_and_target, depths, first_number, points, size_numbered, vertex,
 };
 use crate::komi::KomiText;
 use crate::refusals::RefuseText;
@@ -78,6 +78,10 @@ pub enum CommandName {
     DefendProof,
     /// `check_proof`
     CheckProof,
+    /// `connect`
+    Connect,
+    /// `disconnect`
+    Disconnect,
 }
 
 /// A command with its arguments. Where a point may be missing, a missing one is a pass.
@@ -151,6 +155,10 @@ pub enum Command {
         /// The words of the proof, of which there may be none.
         tokens: Span,
     },
+    /// Asks whether the strings at two points can be joined.
+    Connect(Point, Point),
+    /// Asks whether the strings at two points can be kept apart.
+    Disconnect(Point, Point),
 }
 
 /// What a line says.
@@ -182,7 +190,7 @@ struct Row {
 }
 
 /// The commands in the order in which they are listed.
-const TABLE: [Row; 27] = [
+const TABLE: [Row; 29] = [
     Row {
         command: CommandName::ProtocolVersion,
         word: b"protocol_version",
@@ -290,6 +298,14 @@ const TABLE: [Row; 27] = [
     Row {
         command: CommandName::CheckProof,
         word: b"check_proof",
+    },
+    Row {
+        command: CommandName::Connect,
+        word: b"connect",
+    },
+    Row {
+        command: CommandName::Disconnect,
+        word: b"disconnect",
     },
 ];
 
@@ -441,5 +457,7 @@ pub fn arguments(
             code: claim.code,
             tokens: tokens_span(whole, place),
         }),
+        CommandName::Connect => points(text, size).map(|(a, b)| Command::Connect(a, b)),
+        CommandName::Disconnect => points(text, size).map(|(a, b)| Command::Disconnect(a, b)),
     }
 }

@@ -434,4 +434,56 @@ mod tests {
         assert_eq!(rt; parse(text, size), claimed(true, 3, 24, 65_023));
         Ok(())
     }
+
+    #[test]
+    fn two_points_to_connect(rt: HostRuntime) -> Result<(), Fail> {
+        let small = Size::new(2).ok_or("the size is one of a board")?;
+        let large = Size::new(25).ok_or("the size is one of a board")?;
+        for (row, line, size, want) in [
+            (
+                "two points",
+                "connect A2 B1",
+                small,
+                asked(None, Command::Connect(0, 3)),
+            ),
+            (
+                "in their order",
+                "disconnect b1 a2",
+                small,
+                asked(None, Command::Disconnect(3, 0)),
+            ),
+            (
+                "one point twice",
+                "connect A1 A1",
+                small,
+                asked(None, Command::Connect(2, 2)),
+            ),
+            (
+                "the largest board",
+                "connect Z1 J25 A1",
+                large,
+                asked(None, Command::Connect(624, 8)),
+            ),
+            (
+                "the first is off the board",
+                "connect C1 A1",
+                small,
+                malformed(),
+            ),
+            (
+                "the second is off the board",
+                "connect A1 A3",
+                small,
+                malformed(),
+            ),
+            ("the column I", "disconnect I1 A1", large, malformed()),
+            ("a pass", "disconnect A1 pass", large, malformed()),
+            ("one point", "connect A1", small, malformed()),
+            ("no point", "disconnect", small, malformed()),
+        ] {
+            assert!(rt; line.len() <= LONGEST_LINE);
+            assert_eq!(rt; parse(line.as_bytes(), size), want, "{row}");
+        }
+        Ok(())
+    }
 }

@@ -27,4 +27,6 @@ pub enum RefuseText {
     BadSgf(u8),
     /// The proof has more than 60,000 bytes: `proof too long`.
     ProofTooLong,
+    /// The stones at the two vertices have different colours: `colours differ`.
+    ColoursDiffer,
 }

@@ -86,6 +86,7 @@ fn reason(text: RefuseText) -> Short
         RefuseText::CannotLoadFile => Short::of(b"cannot load file"),
         RefuseText::BadSgf(kind) => numbered(b"bad sgf kind ", kind),
         RefuseText::ProofTooLong => Short::of(b"proof too long"),
+        RefuseText::ColoursDiffer => Short::of(b"colours differ"),
     }
 }
 
@@ -153,6 +154,11 @@ mod tests {
                 "a long proof",
                 RefuseText::ProofTooLong,
                 "? proof too long\n\n",
+            ),
+            (
+                "two colours",
+                RefuseText::ColoursDiffer,
+                "? colours differ\n\n",
             ),
         ] {
             let reply = refusal(None, text);
