@@ -90,6 +90,19 @@ command_of-within_line line name.Connect s words spans lie =
     if_some-any (λ m. command.Connect m.0 m.1) (IsWithinLine line) (points_of s words) (λ x. tt)
 command_of-within_line line name.Disconnect s words spans lie =
     if_some-any (λ m. command.Disconnect m.0 m.1) (IsWithinLine line) (points_of s words) (λ x. tt)
+command_of-within_line line name.GenMove s words spans lie =
+    if_some-any command.GenMove (IsWithinLine line) (first_argument colour_of words) (λ x. tt)
+command_of-within_line line name.RegGenMove s words spans lie =
+    if_some-any command.RegGenMove (IsWithinLine line) (first_argument colour_of words) (λ x. tt)
+command_of-within_line line name.HelperOff s words spans lie =
+    if_some-map command.HelperOff (IsSpanOf line) (IsWithinLine line) (first_span spans) (λ span lies. lies)
+    (first_span-within line spans lie)
+command_of-within_line line name.HelperCalls s words spans lie =
+    if_some-map command.HelperCalls (IsSpanOf line) (IsWithinLine line) (first_span spans) (λ span lies. lies)
+    (first_span-within line spans lie)
+command_of-within_line line name.HelperDrop s words spans lie =
+    if_some-map command.HelperDrop (IsSpanOf line) (IsWithinLine line) (first_span spans) (λ span lies. lies)
+    (first_span-within line spans lie)
 
 -- a command whose spans lie in the line is said by it
 asked-within_line : (line : List ℕ) (id : Option ℕ) (o : Option Command) → IfSome o (IsWithinLine line)

@@ -239,6 +239,13 @@ command_of-within name.Connect s words spans =
 command_of-within name.Disconnect s words spans =
     if_some-map (λ m. command.Disconnect m.0 m.1) (λ m. (m.0 < s * s) × (m.1 < s * s)) (IsWithin s) (points_of s words)
     (λ m below. below) (points_of-within s words)
+command_of-within name.GenMove s words spans =
+    if_some-any command.GenMove (IsWithin s) (first_argument colour_of words) (λ c. tt)
+command_of-within name.RegGenMove s words spans =
+    if_some-any command.RegGenMove (IsWithin s) (first_argument colour_of words) (λ c. tt)
+command_of-within name.HelperOff s words spans = if_some-any command.HelperOff (IsWithin s) (first_span spans) (λ span. tt)
+command_of-within name.HelperCalls s words spans = if_some-any command.HelperCalls (IsWithin s) (first_span spans) (λ span. tt)
+command_of-within name.HelperDrop s words spans = if_some-any command.HelperDrop (IsWithin s) (first_span spans) (λ span. tt)
 
 -- a line whose command is within says nothing off the board
 asked-within : (id : Option ℕ) (s : ℕ) (o : Option Command) → IfSome o (IsWithin s) → SaysWithin s (asked id o)

@@ -58,6 +58,11 @@ table =
     ∷ record { command = name.CheckProof; word = codes "check_proof" }
     ∷ record { command = name.Connect; word = codes "connect" }
     ∷ record { command = name.Disconnect; word = codes "disconnect" }
+    ∷ record { command = name.GenMove; word = codes "genmove" }
+    ∷ record { command = name.RegGenMove; word = codes "reg_genmove" }
+    ∷ record { command = name.HelperOff; word = codes "helper_off" }
+    ∷ record { command = name.HelperCalls; word = codes "helper_calls" }
+    ∷ record { command = name.HelperDrop; word = codes "helper_drop" }
     ∷ []
 
 -- the command of the first of these rows whose word this is
@@ -172,6 +177,11 @@ command_of name.CheckProof s words spans =
     option_map (λ q. command.CheckProof q.attack q.target q.code (whole_span (drop 3 spans))) (claim_of s words)
 command_of name.Connect s words spans = option_map (λ m. command.Connect m.0 m.1) (points_of s words)
 command_of name.Disconnect s words spans = option_map (λ m. command.Disconnect m.0 m.1) (points_of s words)
+command_of name.GenMove s words spans = option_map command.GenMove (first_argument colour_of words)
+command_of name.RegGenMove s words spans = option_map command.RegGenMove (first_argument colour_of words)
+command_of name.HelperOff s words spans = option_map command.HelperOff (first_span spans)
+command_of name.HelperCalls s words spans = option_map command.HelperCalls (first_span spans)
+command_of name.HelperDrop s words spans = option_map command.HelperDrop (first_span spans)
 
 -- a command, or a refusal where its arguments are missing or malformed
 abbrev pub asked : Option ℕ → Option Command → Parsed

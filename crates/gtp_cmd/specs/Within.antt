@@ -39,6 +39,9 @@ SaysWithin s _ = Unit {0}
 -- each span of the command lies in the line
 abbrev pub IsWithinLine : List ℕ → Command → Type 0
 IsWithinLine line (command.LoadSgf name) = IsSpanOf line name
+IsWithinLine line (command.HelperOff name) = IsSpanOf line name
+IsWithinLine line (command.HelperCalls name) = IsSpanOf line name
+IsWithinLine line (command.HelperDrop name) = IsSpanOf line name
 IsWithinLine line (command.CheckProof attack target code tokens) = IsSpanOf line tokens
 IsWithinLine line _ = Unit {0}
 

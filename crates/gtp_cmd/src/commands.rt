@@ -82,6 +82,16 @@ pub enum CommandName {
     Connect,
     /// `disconnect`
     Disconnect,
+    /// `genmove`
+    GenMove,
+    /// `reg_genmove`
+    RegGenMove,
+    /// `helper_off`
+    HelperOff,
+    /// `helper_calls`
+    HelperCalls,
+    /// `helper_drop`
+    HelperDrop,
 }
 
 /// A command with its arguments. Where a point may be missing, a missing one is a pass.
@@ -159,6 +169,16 @@ pub enum Command {
     Connect(Point, Point),
     /// Asks whether the strings at two points can be kept apart.
     Disconnect(Point, Point),
+    /// Chooses a move for a colour, and makes it.
+    GenMove(Colour),
+    /// Chooses a move for a colour.
+    RegGenMove(Colour),
+    /// Switches the helper off that this word of the line names.
+    HelperOff(Span),
+    /// Asks how often the helper was called that this word of the line names.
+    HelperCalls(Span),
+    /// Drops the helper that this word of the line names.
+    HelperDrop(Span),
 }
 
 /// What a line says.
@@ -190,7 +210,7 @@ struct Row {
 }
 
 /// The commands in the order in which they are listed.
-const TABLE: [Row; 29] = [
+const TABLE: [Row; 34] = [
     Row {
         command: CommandName::ProtocolVersion,
         word: b"protocol_version",
@@ -306,6 +326,26 @@ const TABLE: [Row; 29] = [
     Row {
         command: CommandName::Disconnect,
         word: b"disconnect",
+    },
+    Row {
+        command: CommandName::GenMove,
+        word: b"genmove",
+    },
+    Row {
+        command: CommandName::RegGenMove,
+        word: b"reg_genmove",
+    },
+    Row {
+        command: CommandName::HelperOff,
+        word: b"helper_off",
+    },
+    Row {
+        command: CommandName::HelperCalls,
+        word: b"helper_calls",
+    },
+    Row {
+        command: CommandName::HelperDrop,
+        word: b"helper_drop",
     },
 ];
 
@@ -459,5 +499,10 @@ pub fn arguments(
         }),
         CommandName::Connect => points(text, size).map(|(a, b)| Command::Connect(a, b)),
         CommandName::Disconnect => points(text, size).map(|(a, b)| Command::Disconnect(a, b)),
+        CommandName::GenMove => colour(text).map(Command::GenMove),
+        CommandName::RegGenMove => colour(text).map(Command::RegGenMove),
+        CommandName::HelperOff => second_span(whole, place).map(Command::HelperOff),
+        CommandName::HelperCalls => second_span(whole, place).map(Command::HelperCalls),
+        CommandName::HelperDrop => second_span(whole, place).map(Command::HelperDrop),
     }
 }

@@ -486,4 +486,61 @@ mod tests {
         }
         Ok(())
     }
+
+    #[test]
+    fn moves_that_are_chosen(rt: HostRuntime) -> Result<(), Fail> {
+        let size = Size::new(9).ok_or("the size is one of a board")?;
+        for (row, line, want) in [
+            (
+                "a colour",
+                "genmove b",
+                asked(None, Command::GenMove(Colour::Black)),
+            ),
+            (
+                "capitals",
+                "reg_genmove WHITE",
+                asked(None, Command::RegGenMove(Colour::White)),
+            ),
+            (
+                "more words",
+                "genmove w b",
+                asked(None, Command::GenMove(Colour::White)),
+            ),
+            ("no colour", "genmove", malformed()),
+            ("a word that is no colour", "reg_genmove green", malformed()),
+        ] {
+            assert!(rt; line.len() <= LONGEST_LINE);
+            assert_eq!(rt; parse(line.as_bytes(), size), want, "{row}");
+        }
+        Ok(())
+    }
+
+    #[test]
+    fn helpers_that_are_named(rt: HostRuntime) -> Result<(), Fail> {
+        let size = Size::new(9).ok_or("the size is one of a board")?;
+        for (row, line, want) in [
+            (
+                "one to switch off",
+                "helper_off near_edge",
+                asked(None, Command::HelperOff(Span { from: 11, to: 20 })),
+            ),
+            (
+                "one whose calls are asked for",
+                "helper_calls\tnear_edge far",
+                asked(None, Command::HelperCalls(Span { from: 13, to: 22 })),
+            ),
+            (
+                "one to drop",
+                " helper_drop  a \t",
+                asked(None, Command::HelperDrop(Span { from: 14, to: 15 })),
+            ),
+            ("no name to switch off", "helper_off", malformed()),
+            ("no name to ask for", "helper_calls \t", malformed()),
+            ("no name to drop", "helper_drop #a", malformed()),
+        ] {
+            assert!(rt; line.len() <= LONGEST_LINE);
+            assert_eq!(rt; parse(line.as_bytes(), size), want, "{row}");
+        }
+        Ok(())
+    }
 }

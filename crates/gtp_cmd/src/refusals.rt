@@ -29,4 +29,6 @@ pub enum RefuseText {
     ProofTooLong,
     /// The stones at the two vertices have different colours: `colours differ`.
     ColoursDiffer,
+    /// No helper has the name: `no such helper`.
+    NoSuchHelper,
 }

@@ -87,6 +87,7 @@ fn reason(text: RefuseText) -> Short
         RefuseText::BadSgf(kind) => numbered(b"bad sgf kind ", kind),
         RefuseText::ProofTooLong => Short::of(b"proof too long"),
         RefuseText::ColoursDiffer => Short::of(b"colours differ"),
+        RefuseText::NoSuchHelper => Short::of(b"no such helper"),
     }
 }
 
@@ -160,6 +161,7 @@ mod tests {
                 RefuseText::ColoursDiffer,
                 "? colours differ\n\n",
             ),
+            ("a helper", RefuseText::NoSuchHelper, "? no such helper\n\n"),
         ] {
             let reply = refusal(None, text);
             assert_eq!(rt; reply.as_slice(), want.as_bytes(), "{row}");
