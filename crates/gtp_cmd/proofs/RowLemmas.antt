@@ -1,6 +1,7 @@
 -- A search of the rows of commands.
 use Rattle.std.proofs.Common.{◌≡◌, ℕ, Bool, true, false, cond, List, [], ◌∷◌, map, Option, Some, None, refl, sym}
-use Rattle.std.proofs.Common.{ap, subst, ◌∙◌}
+use Rattle.std.proofs.Common.{ap, subst, ◌∙◌, All}
+use Rattle.std.proofs.lemmas.List.Elements.{All-nil, All-cons}
 use Rattle.std.specs.Option.{option_map}
 use Rattle.std.specs.List.{find, list_all}
 use Rattle.std.proofs.lemmas.Bool.{and_parts}
@@ -56,3 +57,13 @@ written-named rows word command plain written =
         let same : word ≡ r.word.now = (bytes_eq-Decides word r.word.now).0 found.0 in
         let keeps : kept r.word.now ≡ r.word.now = (bytes_eq-Decides (kept r.word.now) r.word.now).0 found.1 in
         ap kept same ∙ keeps ∙ sym same
+
+-- this holds of each of the rows
+abbrev pub HoldsOfRows : (Row → Type 0) → List Row → Type 0
+HoldsOfRows P [] = Unit {0}
+HoldsOfRows P (row ∷ rows) = P row × HoldsOfRows P rows
+
+-- what holds of each row holds of all
+pub all-rows : (P : Row → Type 0) (rows : List Row) → HoldsOfRows P rows → All P rows
+all-rows P [] holds = All-nil P
+all-rows P (row ∷ rows) holds = All-cons P row rows holds.0 (all-rows P rows holds.1)

@@ -1,6 +1,6 @@
 -- The points that a line names lie on the board of the machine that reads it, and its depths in their ranges.
 use Rattle.std.proofs.Common.{◌≡◌, ℕ, ◌-◌, ◌*◌, ◌<◌, ◌≤◌, Bool, true, false, cond, ltb, leb, ◌&&◌, List}
-use Rattle.std.proofs.Common.{[], ◌∷◌, Option, Some, None, IfSome, refl, arith}
+use Rattle.std.proofs.Common.{[], ◌∷◌, Option, Some, None, IfSome, refl, arith, drop, eqb, length}
 use Rattle.std.specs.Option.{option_map, option_and_then}
 use Rattle.std.specs.Str.{bytes_eq, str_to_ascii_lowercase}
 use Rattle.std.specs.Prelude.{codes}
@@ -12,8 +12,12 @@ use Rattle.gtp_cmd.specs.Words.{number_of}
 use Rattle.gtp_cmd.specs.Vertices.{vertex_of, point_of, column_named, row_number_of, target_of}
 use Rattle.gtp_cmd.specs.Colours.{colour_of}
 use Rattle.gtp_cmd.specs.Komi.{komi_of}
+use Rattle.gtp_cmd.specs.declared.arguments.Claim.{Claim}
+use Rattle.gtp_cmd.specs.Spans.{first_span, whole_span}
+use Rattle.gtp_cmd.specs.declared.spans.Span.{Span}
 use Rattle.gtp_cmd.specs.Commands.{first_argument, known_of, size_of, move_of, number_between, most_plies, most_wide}
-use Rattle.gtp_cmd.specs.Commands.{depths_of, command_of, named, asked, called, said}
+use Rattle.gtp_cmd.specs.Commands.{depths_of, command_of, named, asked, called, said, is_attack_of, code_of, claim_of, greatest_code}
+use Rattle.gtp_cmd.specs.Commands.{points_of}
 use Rattle.gtp_cmd.specs.declared.commands.CommandName.{CommandName}
 use Rattle.gtp_cmd.specs.declared.commands.CommandName.TheVariants as name
 use Rattle.gtp_cmd.specs.declared.commands.Command.{Command}
@@ -21,13 +25,13 @@ use Rattle.gtp_cmd.specs.declared.commands.Command.TheVariants as command
 use Rattle.gtp_cmd.specs.Within.{IsPointOf, AreDepths, IsWithin, SaysWithin}
 
 -- where a fact of a value gives one of what is made of it, it does so too where the value may be missing
-if_some-map : {X Y : Type 0} (f : X → Y) (P : X → Type 0) (Q : Y → Type 0) (o : Option X) → ((x : X) → P x → Q (f x))
+pub if_some-map : {X Y : Type 0} (f : X → Y) (P : X → Type 0) (Q : Y → Type 0) (o : Option X) → ((x : X) → P x → Q (f x))
     → IfSome o P → IfSome (option_map f o) Q
 if_some-map f P Q None keeps h = tt
 if_some-map f P Q (Some x) keeps h = keeps x h
 
 -- a fact of whatever is made of a value holds where the value may be missing
-if_some-any : {X Y : Type 0} (f : X → Y) (Q : Y → Type 0) (o : Option X) → ((x : X) → Q (f x))
+pub if_some-any : {X Y : Type 0} (f : X → Y) (Q : Y → Type 0) (o : Option X) → ((x : X) → Q (f x))
     → IfSome (option_map f o) Q
 if_some-any f Q None keeps = tt
 if_some-any f Q (Some x) keeps = keeps x
@@ -119,50 +123,129 @@ depths_of-within (plies ∷ wide ∷ more) =
     both-within (number_between 1 most_plies plies) (number_between 0 most_wide wide)
     (between-within 1 most_plies plies) (between-within 0 most_wide wide)
 
+-- a claim is of a point of the board and of a code
+abbrev ClaimWithin : ℕ → Claim → Type 0
+ClaimWithin s claim = (claim.target < s * s) × (claim.code ≤ greatest_code)
+
+-- a code is at most the greatest
+code_of-within : (word : List ℕ) → IfSome (code_of word) (λ code. code ≤ greatest_code)
+code_of-within word =
+    elim (eqb (length word) 1)
+    as (λ t. IfSome (cond t (number_between 0 greatest_code word) None) (λ code. code ≤ greatest_code)) [
+      | true ↦ if_some-weaken (number_between 0 greatest_code word) (between-within 0 greatest_code word)
+      | false ↦ tt
+    ]
+  where
+    if_some-weaken : (o : Option ℕ) → IfSome o (λ k. (0 ≤ k) × (k ≤ greatest_code))
+        → IfSome o (λ code. code ≤ greatest_code)
+    if_some-weaken None h = tt
+    if_some-weaken (Some k) h = h.1
+
+-- what words claim is within, where the point and the code are
+claim-within : (s : ℕ) (attack : Option Bool) (target code : Option ℕ) → IsPointOf s target
+    → IfSome code (λ c. c ≤ greatest_code)
+    → IfSome {T = Claim} (option_and_then (λ a. option_and_then (λ at. option_map (λ c. record {
+      attack = a;
+      target = at;
+      code = c;
+    }) code) target) attack) (ClaimWithin s)
+claim-within s None target code below few = tt
+claim-within s (Some a) None code below few = tt
+claim-within s (Some a) (Some at) None below few = tt
+claim-within s (Some a) (Some at) (Some c) below few = (below, few)
+
+-- what words claim is of a point of the board and of a code
+claim_of-within : (s : ℕ) (words : List (List ℕ)) → IfSome (claim_of s words) (ClaimWithin s)
+claim_of-within s [] = tt
+claim_of-within s (kind ∷ []) = tt
+claim_of-within s (kind ∷ target ∷ []) = tt
+claim_of-within s (kind ∷ target ∷ code ∷ more) =
+    claim-within s (is_attack_of kind) (vertex_of s target) (code_of code) (vertex_of-within s target)
+    (code_of-within code)
+
+-- two points of the board are both on it
+points-within : (s : ℕ) (first second : Option ℕ) → IsPointOf s first → IsPointOf s second
+    → IfSome {T = ℕ × ℕ} (option_and_then (λ p. option_map (λ q. (p, q)) second) first)
+    (λ m. (m.0 < s * s) × (m.1 < s * s))
+points-within s None second some below = tt
+points-within s (Some p) None some below = tt
+points-within s (Some p) (Some q) some below = (some, below)
+
+-- the points that words name are on the board
+points_of-within : (s : ℕ) (words : List (List ℕ)) → IfSome (points_of s words) (λ m. (m.0 < s * s) × (m.1 < s * s))
+points_of-within s [] = tt
+points_of-within s (first ∷ []) = tt
+points_of-within s (first ∷ second ∷ more) =
+    points-within s (vertex_of s first) (vertex_of s second) (vertex_of-within s first) (vertex_of-within s second)
+
 -- the arguments of a command name points of the board, and depths in their ranges
-command_of-within : (n : CommandName) (s : ℕ) (words : List (List ℕ)) → IfSome (command_of n s words) (IsWithin s)
-command_of-within name.ProtocolVersion s words = tt
-command_of-within name.Name s words = tt
-command_of-within name.Version s words = tt
-command_of-within name.KnownCommand s words =
+command_of-within : (n : CommandName) (s : ℕ) (words : List (List ℕ)) (spans : List Span)
+    → IfSome (command_of n s words spans) (IsWithin s)
+command_of-within name.ProtocolVersion s words spans = tt
+command_of-within name.Name s words spans = tt
+command_of-within name.Version s words spans = tt
+command_of-within name.KnownCommand s words spans =
     if_some-any command.KnownCommand (IsWithin s) (known_of words) (λ known. tt)
-command_of-within name.ListCommands s words = tt
-command_of-within name.Quit s words = tt
-command_of-within name.BoardSize s words =
+command_of-within name.ListCommands s words spans = tt
+command_of-within name.Quit s words spans = tt
+command_of-within name.BoardSize s words spans =
     if_some-any (λ n. command.BoardSize (size_of n)) (IsWithin s) (first_argument number_of words) (λ n. tt)
-command_of-within name.ClearBoard s words = tt
-command_of-within name.Komi s words = if_some-any command.Komi (IsWithin s) (first_argument komi_of words) (λ text. tt)
-command_of-within name.GetKomi s words = tt
-command_of-within name.Play s words =
+command_of-within name.ClearBoard s words spans = tt
+command_of-within name.Komi s words spans = if_some-any command.Komi (IsWithin s) (first_argument komi_of words) (λ text. tt)
+command_of-within name.GetKomi s words spans = tt
+command_of-within name.Play s words spans =
     if_some-map (λ m. command.Play m.0 m.1) (λ m. IsPointOf s m.1) (IsWithin s) (move_of s words) (λ m below. below)
     (move_of-within s words)
-command_of-within name.Undo s words = tt
-command_of-within name.ShowBoard s words = tt
-command_of-within name.IsLegal s words =
+command_of-within name.Undo s words spans = tt
+command_of-within name.ShowBoard s words spans = tt
+command_of-within name.IsLegal s words spans =
     if_some-map (λ m. command.IsLegal m.0 m.1) (λ m. IsPointOf s m.1) (IsWithin s) (move_of s words) (λ m below. below)
     (move_of-within s words)
-command_of-within name.AllLegal s words =
+command_of-within name.AllLegal s words spans =
     if_some-any command.AllLegal (IsWithin s) (first_argument colour_of words) (λ c. tt)
-command_of-within name.CountLib s words =
+command_of-within name.CountLib s words spans =
     if_some-map command.CountLib (λ p. p < s * s) (IsWithin s) (first_argument (vertex_of s) words) (λ p below. below)
     (first_vertex-within s words)
-command_of-within name.FindLib s words =
+command_of-within name.FindLib s words spans =
     if_some-map command.FindLib (λ p. p < s * s) (IsWithin s) (first_argument (vertex_of s) words) (λ p below. below)
     (first_vertex-within s words)
-command_of-within name.Captures s words =
+command_of-within name.Captures s words spans =
     if_some-any command.Captures (IsWithin s) (first_argument colour_of words) (λ c. tt)
-command_of-within name.Attack s words =
+command_of-within name.Attack s words spans =
     if_some-map command.Attack (λ p. p < s * s) (IsWithin s) (first_argument (vertex_of s) words) (λ p below. below)
     (first_vertex-within s words)
-command_of-within name.Defend s words =
+command_of-within name.Defend s words spans =
     if_some-map command.Defend (λ p. p < s * s) (IsWithin s) (first_argument (vertex_of s) words) (λ p below. below)
     (first_vertex-within s words)
-command_of-within name.Depths s words =
+command_of-within name.Depths s words spans =
     if_some-map (λ d. command.Depths d.0 d.1) (λ d. AreDepths d.0 d.1) (IsWithin s) (depths_of words)
     (λ d within. within) (depths_of-within words)
-command_of-within name.MatchPatterns s words =
+command_of-within name.MatchPatterns s words spans =
     if_some-any command.MatchPatterns (IsWithin s) (first_argument colour_of words) (λ c. tt)
-command_of-within name.ListPatterns s words = tt
+command_of-within name.ListPatterns s words spans = tt
+command_of-within name.LoadSgf s words spans = if_some-any command.LoadSgf (IsWithin s) (first_span spans) (λ span. tt)
+command_of-within name.AttackProof s words spans =
+    if_some-map command.AttackProof (λ p. p < s * s) (IsWithin s) (first_argument (vertex_of s) words)
+    (λ p below. below) (first_vertex-within s words)
+command_of-within name.DefendProof s words spans =
+    if_some-map command.DefendProof (λ p. p < s * s) (IsWithin s) (first_argument (vertex_of s) words)
+    (λ p below. below) (first_vertex-within s words)
+command_of-within name.CheckProof s words spans =
+    if_some-map (λ q. command.CheckProof q.attack q.target q.code (whole_span (drop 3 spans))) (ClaimWithin s)
+    (IsWithin s) (claim_of s words) (λ q within. within) (claim_of-within s words)
+command_of-within name.Connect s words spans =
+    if_some-map (λ m. command.Connect m.0 m.1) (λ m. (m.0 < s * s) × (m.1 < s * s)) (IsWithin s) (points_of s words)
+    (λ m below. below) (points_of-within s words)
+command_of-within name.Disconnect s words spans =
+    if_some-map (λ m. command.Disconnect m.0 m.1) (λ m. (m.0 < s * s) × (m.1 < s * s)) (IsWithin s) (points_of s words)
+    (λ m below. below) (points_of-within s words)
+command_of-within name.GenMove s words spans =
+    if_some-any command.GenMove (IsWithin s) (first_argument colour_of words) (λ c. tt)
+command_of-within name.RegGenMove s words spans =
+    if_some-any command.RegGenMove (IsWithin s) (first_argument colour_of words) (λ c. tt)
+command_of-within name.HelperOff s words spans = if_some-any command.HelperOff (IsWithin s) (first_span spans) (λ span. tt)
+command_of-within name.HelperCalls s words spans = if_some-any command.HelperCalls (IsWithin s) (first_span spans) (λ span. tt)
+command_of-within name.HelperDrop s words spans = if_some-any command.HelperDrop (IsWithin s) (first_span spans) (λ span. tt)
 
 -- a line whose command is within says nothing off the board
 asked-within : (id : Option ℕ) (s : ℕ) (o : Option Command) → IfSome o (IsWithin s) → SaysWithin s (asked id o)
@@ -170,12 +253,14 @@ asked-within id s None h = tt
 asked-within id s (Some c) h = h
 
 -- the words after a name say nothing off the board
-called-within : (id : Option ℕ) (s : ℕ) (n : Option CommandName) (words : List (List ℕ))
-    → SaysWithin s (called id s n words)
-called-within id s None words = tt
-called-within id s (Some n) words = asked-within id s (command_of n s words) (command_of-within n s words)
+called-within : (id : Option ℕ) (s : ℕ) (n : Option CommandName) (words : List (List ℕ)) (spans : List Span)
+    → SaysWithin s (called id s n words spans)
+called-within id s None words spans = tt
+called-within id s (Some n) words spans =
+    asked-within id s (command_of n s words spans) (command_of-within n s words spans)
 
 -- the words behind the id, or of a line without one, say nothing off the board
-pub said-within : (id : Option ℕ) (s : ℕ) (words : List (List ℕ)) → SaysWithin s (said id s words)
-said-within id s [] = tt
-said-within id s (word ∷ words) = called-within id s (named word) words
+pub said-within : (id : Option ℕ) (s : ℕ) (words : List (List ℕ)) (spans : List Span)
+    → SaysWithin s (said id s words spans)
+said-within id s [] spans = tt
+said-within id s (word ∷ words) spans = called-within id s (named word) words (drop 1 spans)

@@ -4,6 +4,8 @@ use Rattle.gtp_cmd.specs.declared.refusals.RefuseText.{RefuseText}
 use Rattle.gtp_cmd.specs.declared.refusals.RefuseText.TheVariants.{UnknownCommand, SyntaxError, LineTooLong}
 use Rattle.gtp_cmd.specs.declared.refusals.RefuseText.TheVariants.{UnacceptableSize, IllegalMove, HistoryFull}
 use Rattle.gtp_cmd.specs.declared.refusals.RefuseText.TheVariants.{CannotUndo, VertexEmpty, OutOfMemory}
+use Rattle.gtp_cmd.specs.declared.refusals.RefuseText.TheVariants.{CannotLoadFile, BadSgf, ProofTooLong, ColoursDiffer}
+use Rattle.gtp_cmd.specs.declared.refusals.RefuseText.TheVariants.{NoSuchHelper}
 
 -- the id, where there is one, as it is printed
 abbrev pub id_text : Option ℕ → List ℕ
@@ -34,6 +36,11 @@ text_of HistoryFull = codes "history full"
 text_of CannotUndo = codes "cannot undo"
 text_of VertexEmpty = codes "vertex must not be empty"
 text_of OutOfMemory = codes "out of memory"
+text_of CannotLoadFile = codes "cannot load file"
+text_of (BadSgf kind) = codes "bad sgf kind " ++ decimal kind
+text_of ProofTooLong = codes "proof too long"
+text_of ColoursDiffer = codes "colours differ"
+text_of NoSuchHelper = codes "no such helper"
 
 -- a refusal: `?`, the id if any, a blank, what it says, two line feeds
 abbrev pub refusal_text : Option ℕ → RefuseText → List ℕ

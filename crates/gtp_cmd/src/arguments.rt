@@ -5,17 +5,23 @@ ghost use Rattle.gtp_cmd.specs.Words.{kept, plain, words_of, number_of};
 ghost use Rattle.vertices.specs.RawWords.{capped};
 ghost use Rattle.gtp_cmd.specs.Colours.{colour_of};
 ghost use Rattle.gtp_cmd.specs.Vertices.{vertex_of};
-ghost use Rattle.gtp_cmd.specs.Commands.{first_argument, size_of, move_of, number_between, depths_of};
+ghost use Rattle.gtp_cmd.specs.Commands.{first_argument, size_of, move_of, number_between, depths_of, is_attack_of};
+ghost use Rattle.gtp_cmd.specs.Commands.{code_of, claim_of, points_of};
 
 use go_base::size::MAX_SIZE;
 use go_base::{Colour, Point, Size};
-use vertices::{next_word, number, spells_in_either_case, target_named, vertex_named};
+use vertices::{
+    byte_count, next_word, number, spells, spells_in_either_case, target_named, vertex_named,
+};
 
 /// The greatest number of plies that a reading may have.
 const MAX_PLIES: u8 = 200;
 
 /// The greatest number of wide plies that a reading may have.
 const MAX_WIDE: u8 = 12;
+
+/// The greatest code that a reading answers.
+const GREATEST_CODE: u8 = 3;
 
 /// The colour that a word names.
 fn colour_named(word: &[u8]) -> Option<Colour>
@@ -102,4 +108,67 @@ pub fn size_numbered(number: u32) -> Option<Size>
         return None;
     }
     Size::new(number as u8)
+}
+
+/// What a proof is said to show: the code of an attack, or of a defence, on the string at a point.
+#[derive(Clone, Copy)]
+pub struct Claim {
+    /// Whether the code is that of an attack.
+    pub attack: bool,
+    /// The point whose string the code is of.
+    pub target: Point,
+    /// The code, from 0 to 3.
+    pub code: u8,
+}
+
+/// Whether a word says that a proof is of an attack, and not of a defence.
+fn is_attack(word: &[u8]) -> Option<bool>
+    ensures { result ≡ is_attack_of (kept word.now) }
+{
+    if spells(word, b"attack") {
+        Some(true)
+    } else if spells(word, b"defend") {
+        Some(false)
+    } else {
+        None
+    }
+}
+
+/// The code that a word is: one digit from 0 to 3.
+fn code(word: &[u8]) -> Option<u8>
+    ensures { result ≡ code_of (kept word.now) }
+{
+    if byte_count(word) == 1 {
+        number_between(0, GREATEST_CODE, word)
+    } else {
+        None
+    }
+}
+
+/// What the first three words say that a proof shows.
+pub fn claim_made(text: &[u8], size: Size) -> Option<Claim>
+    ensures { result ≡ claim_of size (words_of (plain text.now)) }
+{
+    let (first, more) = next_word(text)?;
+    let (second, more) = next_word(more)?;
+    let (third, _) = next_word(more)?;
+    let attack = is_attack(first)?;
+    let target = vertex_named(second, size)?;
+    let code = code(third)?;
+    Some(Claim {
+        attack,
+        target,
+        code,
+    })
+}
+
+/// The two points that the first two words name.
+pub fn points(text: &[u8], size: Size) -> Option<(Point, Point)>
+    ensures { result ≡ points_of size (words_of (plain text.now)) }
+{
+    let (first, more) = next_word(text)?;
+    let (second, _) = next_word(more)?;
+    let a = vertex_named(first, size)?;
+    let b = vertex_named(second, size)?;
+    Some((a, b))
 }

@@ -1,16 +1,22 @@
 //! The commands of the protocol, and what a line says.
 
-ghost use Rattle.std.specs.Prelude.{◌≡◌, ◌∷◌, ◌++◌, true, length, map, option_map, find, IfOk, OnOk};
+ghost use Rattle.std.specs.Prelude.{◌≡◌, ◌≤◌, ◌∷◌, ◌++◌, true, length, drop, map, option_map, find, IfOk, OnOk};
 ghost use Rattle.std.specs.List.{flat_map, list_all};
 ghost use Rattle.std.specs.Str.{bytes_eq};
 ghost use Rattle.gtp_cmd.specs.Words.{kept, line_feed, plain, words_of};
 ghost use Rattle.gtp_cmd.specs.Komi.{komi_of};
+ghost use Rattle.gtp_cmd.specs.Rooms.{longest_line};
+ghost use Rattle.gtp_cmd.specs.Spans.{spans_at};
 ghost use Rattle.gtp_cmd.specs.CodeRows.{row_seen, is_plain};
 ghost use Rattle.gtp_cmd.specs.Commands.{command_in, named, names_text, command_of, known_of, first_argument};
 
-use crate::arguments::{colour, colour_and_target, depths, first_number, size_numbered, vertex};
+use crate::arguments::{
+    claim_made, colour, colour_and_target, depths, first_number, points, size_numbered, vertex,
+};
 use crate::komi::KomiText;
 use crate::refusals::RefuseText;
+use crate::spans::Span;
+use crate::word_spans::{second_span, tokens_span};
 use go_base::{Bytes, Colour, NoMemory, Point, Size};
 use std::alloc::Global;
 use vertices::{byte_count, next_word, spells};
@@ -64,6 +70,28 @@ pub enum CommandName {
     MatchPatterns,
     /// `list_patterns`
     ListPatterns,
+    /// `loadsgf`
+    LoadSgf,
+    /// `attack_proof`
+    AttackProof,
+    /// `defend_proof`
+    DefendProof,
+    /// `check_proof`
+    CheckProof,
+    /// `connect`
+    Connect,
+    /// `disconnect`
+    Disconnect,
+    /// `genmove`
+    GenMove,
+    /// `reg_genmove`
+    RegGenMove,
+    /// `helper_off`
+    HelperOff,
+    /// `helper_calls`
+    HelperCalls,
+    /// `helper_drop`
+    HelperDrop,
 }
 
 /// A command with its arguments. Where a point may be missing, a missing one is a pass.
@@ -120,6 +148,37 @@ pub enum Command {
     MatchPatterns(Colour),
     /// Asks for the patterns.
     ListPatterns,
+    /// Sets the board up as a game record has it, which this word of the line names.
+    LoadSgf(Span),
+    /// Asks for a proof of the code of an attack on the string at a point.
+    AttackProof(Point),
+    /// Asks for a proof of the code of a defence of the string at a point.
+    DefendProof(Point),
+    /// Asks whether words of the line prove a code.
+    CheckProof {
+        /// Whether the code is that of an attack, and not of a defence.
+        attack: bool,
+        /// The point whose string the code is of.
+        target: Point,
+        /// The code, from 0 to 3.
+        code: u8,
+        /// The words of the proof, of which there may be none.
+        tokens: Span,
+    },
+    /// Asks whether the strings at two points can be joined.
+    Connect(Point, Point),
+    /// Asks whether the strings at two points can be kept apart.
+    Disconnect(Point, Point),
+    /// Chooses a move for a colour, and makes it.
+    GenMove(Colour),
+    /// Chooses a move for a colour.
+    RegGenMove(Colour),
+    /// Switches the helper off that this word of the line names.
+    HelperOff(Span),
+    /// Asks how often the helper was called that this word of the line names.
+    HelperCalls(Span),
+    /// Drops the helper that this word of the line names.
+    HelperDrop(Span),
 }
 
 /// What a line says.
@@ -151,7 +210,7 @@ struct Row {
 }
 
 /// The commands in the order in which they are listed.
-const TABLE: [Row; 23] = [
+const TABLE: [Row; 34] = [
     Row {
         command: CommandName::ProtocolVersion,
         word: b"protocol_version",
@@ -243,6 +302,50 @@ const TABLE: [Row; 23] = [
     Row {
         command: CommandName::ListPatterns,
         word: b"list_patterns",
+    },
+    Row {
+        command: CommandName::LoadSgf,
+        word: b"loadsgf",
+    },
+    Row {
+        command: CommandName::AttackProof,
+        word: b"attack_proof",
+    },
+    Row {
+        command: CommandName::DefendProof,
+        word: b"defend_proof",
+    },
+    Row {
+        command: CommandName::CheckProof,
+        word: b"check_proof",
+    },
+    Row {
+        command: CommandName::Connect,
+        word: b"connect",
+    },
+    Row {
+        command: CommandName::Disconnect,
+        word: b"disconnect",
+    },
+    Row {
+        command: CommandName::GenMove,
+        word: b"genmove",
+    },
+    Row {
+        command: CommandName::RegGenMove,
+        word: b"reg_genmove",
+    },
+    Row {
+        command: CommandName::HelperOff,
+        word: b"helper_off",
+    },
+    Row {
+        command: CommandName::HelperCalls,
+        word: b"helper_calls",
+    },
+    Row {
+        command: CommandName::HelperDrop,
+        word: b"helper_drop",
     },
 ];
 
@@ -347,8 +450,17 @@ fn komi(text: &[u8]) -> Option<KomiText>
 }
 
 /// The command with the arguments that the text behind its name gives, or nothing where one is missing or malformed.
-pub fn arguments(name: CommandName, text: &[u8], size: Size) -> Option<Command>
-    ensures { result ≡ command_of name size (words_of (plain text.now)) }
+/// The name begins in the whole text at this place or behind it.
+pub fn arguments(
+    name: CommandName,
+    text: &[u8],
+    size: Size,
+    whole: &[u8],
+    place: usize,
+) -> Option<Command>
+    requires inside { place ≤ length whole.now }
+    requires short { length whole.now ≤ longest_line }
+    ensures { result ≡ command_of name size (words_of (plain text.now)) (drop 1 (spans_at whole.now place)) }
 {
     match name {
         CommandName::ProtocolVersion => Some(Command::ProtocolVersion),
@@ -376,5 +488,21 @@ pub fn arguments(name: CommandName, text: &[u8], size: Size) -> Option<Command>
         CommandName::Depths => depths(text).map(|(plies, wide)| Command::Depths { plies, wide }),
         CommandName::MatchPatterns => colour(text).map(Command::MatchPatterns),
         CommandName::ListPatterns => Some(Command::ListPatterns),
+        CommandName::LoadSgf => second_span(whole, place).map(Command::LoadSgf),
+        CommandName::AttackProof => vertex(text, size).map(Command::AttackProof),
+        CommandName::DefendProof => vertex(text, size).map(Command::DefendProof),
+        CommandName::CheckProof => claim_made(text, size).map(|claim| Command::CheckProof {
+            attack: claim.attack,
+            target: claim.target,
+            code: claim.code,
+            tokens: tokens_span(whole, place),
+        }),
+        CommandName::Connect => points(text, size).map(|(a, b)| Command::Connect(a, b)),
+        CommandName::Disconnect => points(text, size).map(|(a, b)| Command::Disconnect(a, b)),
+        CommandName::GenMove => colour(text).map(Command::GenMove),
+        CommandName::RegGenMove => colour(text).map(Command::RegGenMove),
+        CommandName::HelperOff => second_span(whole, place).map(Command::HelperOff),
+        CommandName::HelperCalls => second_span(whole, place).map(Command::HelperCalls),
+        CommandName::HelperDrop => second_span(whole, place).map(Command::HelperDrop),
     }
 }

@@ -14,6 +14,7 @@ mod parser;
 mod refusals;
 mod replies;
 mod spans;
+mod word_spans;
 
 pub use commands::{Command, CommandName, Parsed, names_text};
 pub use komi::KomiText;

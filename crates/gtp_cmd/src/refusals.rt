@@ -21,4 +21,14 @@ pub enum RefuseText {
     VertexEmpty,
     /// There is no memory for a growing reply: `out of memory`.
     OutOfMemory,
+    /// The file that a game record is read from cannot be had: `cannot load file`.
+    CannotLoadFile,
+    /// The text is no game record, for the reason of this number: `bad sgf kind 5`.
+    BadSgf(u8),
+    /// The proof has more than 60,000 bytes: `proof too long`.
+    ProofTooLong,
+    /// The stones at the two vertices have different colours: `colours differ`.
+    ColoursDiffer,
+    /// No helper has the name: `no such helper`.
+    NoSuchHelper,
 }

@@ -1,6 +1,6 @@
 //! The bytes of replies.
 
-ghost use Rattle.std.specs.Prelude.{◌≡◌, ◌+◌, ◌≤◌, [], ◌++◌, length, IfOk};
+ghost use Rattle.std.specs.Prelude.{◌≡◌, ◌+◌, ◌≤◌, [], ◌++◌, length, decimal, IfOk};
 ghost use Rattle.gtp_cmd.specs.Replies.{id_text, success_text, refusal_text, text_of};
 ghost use Rattle.gtp_cmd.specs.Rooms.{result_room};
 
@@ -56,21 +56,38 @@ pub fn short(id: Option<u32>, text: &[u8]) -> Short
     out
 }
 
+/// The number of a reason behind the words that name it.
+fn numbered(words: &[u8], number: u8) -> Short
+    requires { length words.now ≤ 14 }
+    ensures text { result ≡ words.now ++ decimal number }
+    ensures len { length result ≤ 24 }
+{
+    let mut out = Short::of(words);
+    let mut buffer = Buffer::new();
+    out.extend(buffer.format(u32::from(number)).as_bytes());
+    out
+}
+
 /// What a refusal says.
-fn reason(text: RefuseText) -> &'static [u8]
-    ensures text { result.now ≡ text_of text }
-    ensures len { length result.now ≤ 24 }
+fn reason(text: RefuseText) -> Short
+    ensures text { result ≡ text_of text }
+    ensures len { length result ≤ 24 }
 {
     match text {
-        RefuseText::UnknownCommand => b"unknown command",
-        RefuseText::SyntaxError => b"syntax error",
-        RefuseText::LineTooLong => b"line too long",
-        RefuseText::UnacceptableSize => b"unacceptable size",
-        RefuseText::IllegalMove => b"illegal move",
-        RefuseText::HistoryFull => b"history full",
-        RefuseText::CannotUndo => b"cannot undo",
-        RefuseText::VertexEmpty => b"vertex must not be empty",
-        RefuseText::OutOfMemory => b"out of memory",
+        RefuseText::UnknownCommand => Short::of(b"unknown command"),
+        RefuseText::SyntaxError => Short::of(b"syntax error"),
+        RefuseText::LineTooLong => Short::of(b"line too long"),
+        RefuseText::UnacceptableSize => Short::of(b"unacceptable size"),
+        RefuseText::IllegalMove => Short::of(b"illegal move"),
+        RefuseText::HistoryFull => Short::of(b"history full"),
+        RefuseText::CannotUndo => Short::of(b"cannot undo"),
+        RefuseText::VertexEmpty => Short::of(b"vertex must not be empty"),
+        RefuseText::OutOfMemory => Short::of(b"out of memory"),
+        RefuseText::CannotLoadFile => Short::of(b"cannot load file"),
+        RefuseText::BadSgf(kind) => numbered(b"bad sgf kind ", kind),
+        RefuseText::ProofTooLong => Short::of(b"proof too long"),
+        RefuseText::ColoursDiffer => Short::of(b"colours differ"),
+        RefuseText::NoSuchHelper => Short::of(b"no such helper"),
     }
 }
 
@@ -80,7 +97,7 @@ pub fn refusal(id: Option<u32>, text: RefuseText) -> Short
 {
     let mut out = head(b"?", id);
     out.extend(b" ");
-    out.extend(reason(text));
+    out.extend(reason(text).as_slice());
     out.extend(b"\n\n");
     out
 }
@@ -118,6 +135,37 @@ mod tests {
             longest.as_slice(),
             b"?4294967295 vertex must not be empty\n\n".as_slice()
         );
+        for (row, text, want) in [
+            (
+                "a file",
+                RefuseText::CannotLoadFile,
+                "? cannot load file\n\n",
+            ),
+            (
+                "the first kind",
+                RefuseText::BadSgf(1),
+                "? bad sgf kind 1\n\n",
+            ),
+            (
+                "the last kind",
+                RefuseText::BadSgf(5),
+                "? bad sgf kind 5\n\n",
+            ),
+            (
+                "a long proof",
+                RefuseText::ProofTooLong,
+                "? proof too long\n\n",
+            ),
+            (
+                "two colours",
+                RefuseText::ColoursDiffer,
+                "? colours differ\n\n",
+            ),
+            ("a helper", RefuseText::NoSuchHelper, "? no such helper\n\n"),
+        ] {
+            let reply = refusal(None, text);
+            assert_eq!(rt; reply.as_slice(), want.as_bytes(), "{row}");
+        }
         Ok(())
     }
 }

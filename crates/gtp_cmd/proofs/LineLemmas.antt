@@ -1,0 +1,145 @@
+-- The spans that a line names lie in it.
+use Rattle.std.proofs.Common.{◌≡◌, ℕ, ◌+◌, ◌≤◌, List, [], ◌∷◌, Option, Some, None, IfSome, length, take, drop, eqb}
+use Rattle.std.proofs.Common.{sym, subst, arith, length-take}
+use Rattle.std.specs.Option.{option_map}
+use Rattle.std.specs.List.{before_first, position_or_len}
+use Rattle.gtp_cmd.specs.Words.{number_of, hash}
+use Rattle.gtp_cmd.specs.Vertices.{vertex_of}
+use Rattle.gtp_cmd.specs.Colours.{colour_of}
+use Rattle.gtp_cmd.specs.Komi.{komi_of}
+use Rattle.gtp_cmd.specs.Commands.{first_argument, known_of, size_of, move_of, depths_of, command_of, named, asked}
+use Rattle.gtp_cmd.specs.Commands.{called, said, claim_of, points_of}
+use Rattle.gtp_cmd.specs.declared.commands.CommandName.{CommandName}
+use Rattle.gtp_cmd.specs.declared.commands.CommandName.TheVariants as name
+use Rattle.gtp_cmd.specs.declared.commands.Command.{Command}
+use Rattle.gtp_cmd.specs.declared.commands.Command.TheVariants as command
+use Rattle.gtp_cmd.specs.declared.spans.Span.{Span}
+use Rattle.gtp_cmd.specs.Spans.{IsSpanOf, spans_at, first_span, whole_span}
+use Rattle.gtp_cmd.specs.Within.{IsWithinLine, SaysWithinLine}
+use Rattle.gtp_cmd.proofs.SpanLemmas.{InOrder, InOrder-ends, InOrder-rest, InOrder-three, InOrder-last}
+use Rattle.gtp_cmd.proofs.SpanLemmas.{spans_from-in_order}
+use Rattle.gtp_cmd.proofs.WithinLemmas.{if_some-map, if_some-any}
+
+-- the first of spans that are in order in a line lies in it
+first_span-within : (line : List ℕ) (spans : List Span) → InOrder 0 (length line) spans
+    → IfSome (first_span spans) (IsSpanOf line)
+first_span-within line [] within = tt
+first_span-within line (span ∷ spans) within = (within.1, InOrder-ends span.to (length line) spans within.2)
+
+-- the span of all of spans that are in order in a line lies in it
+whole_span-within : (line : List ℕ) (spans : List Span) → InOrder 0 (length line) spans
+    → IsSpanOf line (whole_span spans)
+whole_span-within line [] within = (omega arith, omega arith)
+whole_span-within line (span ∷ spans) within =
+    let order = within.1 in
+    let last = InOrder-last span.to (length line) spans within.2 in
+    let later = last.0 in
+    (omega (arith, order, later), last.1)
+
+-- the arguments of a command lie in the line in which the words behind its name lie
+command_of-within_line : (line : List ℕ) (n : CommandName) (s : ℕ) (words : List (List ℕ)) (spans : List Span)
+    → InOrder 0 (length line) spans → IfSome (command_of n s words spans) (IsWithinLine line)
+command_of-within_line line name.ProtocolVersion s words spans lie = tt
+command_of-within_line line name.Name s words spans lie = tt
+command_of-within_line line name.Version s words spans lie = tt
+command_of-within_line line name.KnownCommand s words spans lie =
+    if_some-any command.KnownCommand (IsWithinLine line) (known_of words) (λ x. tt)
+command_of-within_line line name.ListCommands s words spans lie = tt
+command_of-within_line line name.Quit s words spans lie = tt
+command_of-within_line line name.BoardSize s words spans lie =
+    if_some-any (λ n. command.BoardSize (size_of n)) (IsWithinLine line) (first_argument number_of words) (λ x. tt)
+command_of-within_line line name.ClearBoard s words spans lie = tt
+command_of-within_line line name.Komi s words spans lie =
+    if_some-any command.Komi (IsWithinLine line) (first_argument komi_of words) (λ x. tt)
+command_of-within_line line name.GetKomi s words spans lie = tt
+command_of-within_line line name.Play s words spans lie =
+    if_some-any (λ m. command.Play m.0 m.1) (IsWithinLine line) (move_of s words) (λ x. tt)
+command_of-within_line line name.Undo s words spans lie = tt
+command_of-within_line line name.ShowBoard s words spans lie = tt
+command_of-within_line line name.IsLegal s words spans lie =
+    if_some-any (λ m. command.IsLegal m.0 m.1) (IsWithinLine line) (move_of s words) (λ x. tt)
+command_of-within_line line name.AllLegal s words spans lie =
+    if_some-any command.AllLegal (IsWithinLine line) (first_argument colour_of words) (λ x. tt)
+command_of-within_line line name.CountLib s words spans lie =
+    if_some-any command.CountLib (IsWithinLine line) (first_argument (vertex_of s) words) (λ x. tt)
+command_of-within_line line name.FindLib s words spans lie =
+    if_some-any command.FindLib (IsWithinLine line) (first_argument (vertex_of s) words) (λ x. tt)
+command_of-within_line line name.Captures s words spans lie =
+    if_some-any command.Captures (IsWithinLine line) (first_argument colour_of words) (λ x. tt)
+command_of-within_line line name.Attack s words spans lie =
+    if_some-any command.Attack (IsWithinLine line) (first_argument (vertex_of s) words) (λ x. tt)
+command_of-within_line line name.Defend s words spans lie =
+    if_some-any command.Defend (IsWithinLine line) (first_argument (vertex_of s) words) (λ x. tt)
+command_of-within_line line name.Depths s words spans lie =
+    if_some-any (λ d. command.Depths d.0 d.1) (IsWithinLine line) (depths_of words) (λ x. tt)
+command_of-within_line line name.MatchPatterns s words spans lie =
+    if_some-any command.MatchPatterns (IsWithinLine line) (first_argument colour_of words) (λ x. tt)
+command_of-within_line line name.ListPatterns s words spans lie = tt
+command_of-within_line line name.LoadSgf s words spans lie =
+    if_some-map command.LoadSgf (IsSpanOf line) (IsWithinLine line) (first_span spans) (λ span lies. lies)
+    (first_span-within line spans lie)
+command_of-within_line line name.AttackProof s words spans lie =
+    if_some-any command.AttackProof (IsWithinLine line) (first_argument (vertex_of s) words) (λ x. tt)
+command_of-within_line line name.DefendProof s words spans lie =
+    if_some-any command.DefendProof (IsWithinLine line) (first_argument (vertex_of s) words) (λ x. tt)
+command_of-within_line line name.CheckProof s words spans lie =
+    if_some-any (λ q. command.CheckProof q.attack q.target q.code (whole_span (drop 3 spans))) (IsWithinLine line)
+    (claim_of s words)
+    (λ x. whole_span-within line (drop 3 spans) (InOrder-three 0 (length line) spans lie))
+command_of-within_line line name.Connect s words spans lie =
+    if_some-any (λ m. command.Connect m.0 m.1) (IsWithinLine line) (points_of s words) (λ x. tt)
+command_of-within_line line name.Disconnect s words spans lie =
+    if_some-any (λ m. command.Disconnect m.0 m.1) (IsWithinLine line) (points_of s words) (λ x. tt)
+command_of-within_line line name.GenMove s words spans lie =
+    if_some-any command.GenMove (IsWithinLine line) (first_argument colour_of words) (λ x. tt)
+command_of-within_line line name.RegGenMove s words spans lie =
+    if_some-any command.RegGenMove (IsWithinLine line) (first_argument colour_of words) (λ x. tt)
+command_of-within_line line name.HelperOff s words spans lie =
+    if_some-map command.HelperOff (IsSpanOf line) (IsWithinLine line) (first_span spans) (λ span lies. lies)
+    (first_span-within line spans lie)
+command_of-within_line line name.HelperCalls s words spans lie =
+    if_some-map command.HelperCalls (IsSpanOf line) (IsWithinLine line) (first_span spans) (λ span lies. lies)
+    (first_span-within line spans lie)
+command_of-within_line line name.HelperDrop s words spans lie =
+    if_some-map command.HelperDrop (IsSpanOf line) (IsWithinLine line) (first_span spans) (λ span lies. lies)
+    (first_span-within line spans lie)
+
+-- a command whose spans lie in the line is said by it
+asked-within_line : (line : List ℕ) (id : Option ℕ) (o : Option Command) → IfSome o (IsWithinLine line)
+    → SaysWithinLine line (asked id o)
+asked-within_line line id None h = tt
+asked-within_line line id (Some c) h = h
+
+-- the words after a name say spans of the line
+called-within_line : (line : List ℕ) (id : Option ℕ) (s : ℕ) (n : Option CommandName) (words : List (List ℕ))
+    (spans : List Span) → InOrder 0 (length line) spans → SaysWithinLine line (called id s n words spans)
+called-within_line line id s None words spans lie = tt
+called-within_line line id s (Some n) words spans lie =
+    asked-within_line line id (command_of n s words spans) (command_of-within_line line n s words spans lie)
+
+-- the words behind the id, or of a line without one, say spans of the line
+pub said-within_line : (line : List ℕ) (id : Option ℕ) (s : ℕ) (words : List (List ℕ)) (spans : List Span)
+    → InOrder 0 (length line) spans → SaysWithinLine line (said id s words spans)
+said-within_line line id s [] spans lie = tt
+said-within_line line id s (word ∷ words) spans lie =
+    called-within_line line id s (named word) words (drop 1 spans) (InOrder-rest 0 (length line) spans lie)
+
+-- spans that end before a place end before a later one
+InOrder-later : (place end later : ℕ) (spans : List Span) → end ≤ later → InOrder place end spans
+    → InOrder place later spans
+InOrder-later place end later [] order within = omega (arith, order, within)
+InOrder-later place end later (span ∷ spans) order within =
+    (within.0, within.1, InOrder-later span.to end later spans order within.2)
+
+-- what is taken of a line is no longer than the line
+take-shorter : (n : ℕ) (line : List ℕ) → length (take n line) ≤ length line
+take-shorter n line = simp length-take (omega arith)
+
+-- the words before a comment stand in the line
+pub spans_before_comment : (line text : List ℕ) → text ≡ before_first (λ b. eqb b hash) line
+    → InOrder 0 (length line) (spans_at text 0)
+spans_before_comment line text same =
+    let shorter : length text ≤ length line = subst (λ (t : List ℕ). length t ≤ length line) (sym same)
+    (take-shorter (position_or_len (λ b. eqb b hash) line) line) in
+    InOrder-later 0 (0 + length text) (length line) (spans_at text 0) (omega (arith, shorter))
+    (spans_from-in_order 0 text)
