@@ -1,10 +1,10 @@
 -- The first match of the greatest worth, by the definition, in words, and one match after another.
-use Rattle.std.proofs.Common.{◌≡◌, ◌↔◌, ℕ, ◌<◌, ◌≤◌, inl, inr, Bool, true, false, cond, List, [], ◌∷◌, ◌++◌, Some, None}
-use Rattle.std.proofs.Common.{Contains, All, refl, sym, ap, ◌∙◌, subst, arith}
+use Rattle.std.proofs.Common.{◌≡◌, ◌↔◌, ℕ, ◌+◌, ◌<◌, ◌≤◌, inl, inr, Bool, true, false, cond, List, [], ◌∷◌, ◌++◌, length}
+use Rattle.std.proofs.Common.{take, get_or, Some, None, Contains, All, refl, sym, ap, ◌∙◌, subst, arith}
 use Rattle.std.specs.Prelude.{◌==◌}
 use Rattle.std.specs.List.{find}
 use Rattle.std.proofs.lemmas.Bool.{cases_Bool, cases_lt, eqb-true, eqb-false, eq-eqb, ne_eqb}
-use Rattle.std.proofs.lemmas.List.{append_assoc}
+use Rattle.std.proofs.lemmas.List.{append_assoc, take_more}
 use Rattle.std.proofs.lemmas.List.Elements.{All-nil, All-cons, All-head, All-tail, All-push, All-weaker, All-contains}
 use Rattle.std.proofs.lemmas.List.Elements.{Contains-append_right}
 use Rattle.std.proofs.lemmas.Option.{none-some, same_Some}
@@ -22,27 +22,33 @@ less_where_other a n most other =
 module _ (p : Match → Bool) where
   -- the first match passes
   find-here : (y : Match) (ys : List Match) → p y ≡ true → find p (y ∷ ys) ≡ Some y
-  find-here y ys yes = ap (λ b. cond b (Some y) (find p ys)) yes
+  find-here y ys passes = ap (λ b. cond b (Some y) (find p ys)) passes
 
   -- the first match does not
   find-later : (y : Match) (ys : List Match) → p y ≡ false → find p (y ∷ ys) ≡ find p ys
-  find-later y ys no = ap (λ b. cond b (Some y) (find p ys)) no
+  find-later y ys fails = ap (λ b. cond b (Some y) (find p ys)) fails
 
   -- what is found passes
   find-passes : (zs : List Match) (z : Match) → find p zs ≡ Some z → p z ≡ true
   find-passes [] z e = absurd (none-some z e)
   find-passes (y ∷ ys) z e = elim (cases_Bool (p y)) [
-    | inl yes ↦ subst (λ x. p x ≡ true) (same_Some y z (sym (find-here y ys yes) ∙ e)) yes
-    | inr no ↦ find-passes ys z (sym (find-later y ys no) ∙ e)
+    | inl passes ↦ subst (λ x. p x ≡ true) (same_Some y z (sym (find-here y ys passes) ∙ e)) passes
+    | inr fails ↦ find-passes ys z (sym (find-later y ys fails) ∙ e)
   ]
 
   -- a match that passes is found behind others that do not
   find-behind : (before : List Match) (z : Match) (after : List Match) → All (λ y. p y ≡ false) before → p z ≡ true
       → find p (before ++ z ∷ after) ≡ Some z
-  find-behind [] z after none yes = find-here z after yes
-  find-behind (y ∷ ys) z after none yes =
+  find-behind [] z after none passes = find-here z after passes
+  find-behind (y ∷ ys) z after none passes =
       find-later y (ys ++ z ∷ after) (All-head (λ x. p x ≡ false) y ys none)
-      ∙ find-behind ys z after (All-tail (λ x. p x ≡ false) y ys none) yes
+      ∙ find-behind ys z after (All-tail (λ x. p x ≡ false) y ys none) passes
+
+-- the first match and so many of the rest, and one more
+one_more : (first : Match) (rest : List Match) (i : ℕ) (z : Match) → i < length rest → z ≡ get_or rest i z
+    → first ∷ take (i + 1) rest ≡ (first ∷ take i rest) ++ z ∷ []
+one_more first rest i z within here =
+    ap (λ l. first ∷ l) (take_more rest i z within ∙ ap (λ y. take i rest ++ y ∷ []) (sym here))
 
 module _ (w : Match → ℕ) where
   -- no match is worth more than the greatest worth
@@ -69,8 +75,8 @@ module _ (w : Match → ℕ) where
       let none : All (λ x. w x ≤ w z) (y ∷ ys) =
         All-weaker (λ x. w x ≤ n) (λ x. w x ≤ w z) (λ x less. omega arith) (y ∷ ys) most in
       elim (cases_Bool (w y == n)) [
-        | inl yes ↦
-          let same : y ≡ z = same_Some y z (sym (find-here (λ x. w x == n) y ys yes) ∙ e) in
+        | inl passes ↦
+          let same : y ≡ z = same_Some y z (sym (find-here (λ x. w x == n) y ys passes) ∙ e) in
           record {
             before = [];
             after = ys;
@@ -78,8 +84,8 @@ module _ (w : Match → ℕ) where
             none_greater = none;
             earlier_less = All-nil (λ x. w x < w z);
           }
-        | inr no ↦
-          let later = found-choice n ys z is (sym (find-later (λ x. w x == n) y ys no) ∙ e)
+        | inr fails ↦
+          let later = found-choice n ys z is (sym (find-later (λ x. w x == n) y ys fails) ∙ e)
             (All-tail (λ x. w x ≤ n) y ys most) in
           let first : w y ≤ n = All-head (λ x. w x ≤ n) y ys most in
           record {
@@ -87,7 +93,7 @@ module _ (w : Match → ℕ) where
             after = later.after;
             place = ap (λ l. y ∷ l) later.place;
             none_greater = none;
-            earlier_less = All-cons (λ x. w x < w z) y later.before (omega (arith, less_where_other (w y) n first no))
+            earlier_less = All-cons (λ x. w x < w z) y later.before (omega (arith, less_where_other (w y) n first fails))
                 later.earlier_less;
           }
       ]
@@ -183,3 +189,19 @@ module _ (w : Match → ℕ) where
   no-choice (z ∷ zs) =
       let some = some_choice z zs in
       ((λ e. absurd (none-some some.0 (sym e ∙ choice-found (z ∷ zs) some.0 some.1))), (λ e. absurd (cc)))
+
+  -- one match more of the rest, which is worth no more
+  pub IsChoice-keeps_more : (first : Match) (rest : List Match) (i : ℕ) (c z : Match) → i < length rest
+      → z ≡ get_or rest i z → IsChoice w (first ∷ take i rest) c → w z ≤ w c
+      → IsChoice w (first ∷ take (i + 1) rest) c
+  IsChoice-keeps_more first rest i c z within here is less =
+      subst (λ l. IsChoice w l c) (sym (one_more first rest i z within here))
+      (IsChoice-keeps (first ∷ take i rest) c z is less)
+
+  -- one match more of the rest, which is worth more
+  pub IsChoice-takes_more : (first : Match) (rest : List Match) (i : ℕ) (c z : Match) → i < length rest
+      → z ≡ get_or rest i z → IsChoice w (first ∷ take i rest) c → w c < w z
+      → IsChoice w (first ∷ take (i + 1) rest) z
+  IsChoice-takes_more first rest i c z within here is more =
+      subst (λ l. IsChoice w l z) (sym (one_more first rest i z within here))
+      (IsChoice-takes (first ∷ take i rest) c z is more)

@@ -1,6 +1,6 @@
 -- The first number that an item says, by the definition and in words.
 use Rattle.std.proofs.Common.{◌≡◌, ◌↔◌, ℕ, inl, inr, ◌&&◌, cond, List, [], ◌∷◌, ◌++◌, length, Option, Some, None, All}
-use Rattle.std.proofs.Common.{unwrap_or, slice_get, refl, sym, ap, ◌∙◌, subst, ltb, leb}
+use Rattle.std.proofs.Common.{unwrap_or, slice_get, refl, sym, ap, ◌∙◌, subst}
 use Rattle.std.specs.Prelude.{codes, nat_lt, nat_le}
 use Rattle.std.specs.List.{filter_map, cons_option, list_all}
 use Rattle.std.specs.Char.{is_ascii_digit}
@@ -20,7 +20,7 @@ said-from : (item : Item) (n : ℕ) → SaysWorth item n → worth_said item ≡
 said-from item n is =
     let number : is_short_number is.text ≡ true =
       and_from (nat_lt 0 (length is.text)) (nat_le (length is.text) most_digits && list_all is_ascii_digit is.text)
-      (lt-ltb 0 (length is.text) is.some)
+      (lt-ltb 0 (length is.text) is.not_empty)
       (and_from (nat_le (length is.text) most_digits) (list_all is_ascii_digit is.text)
       (le-leb (length is.text) most_digits is.few) (list_all-from_AllPass is_ascii_digit is.text is.digits)) in
     ap (number_said item.name) is.in_parentheses
@@ -35,8 +35,8 @@ module _ (item : Item) (n : ℕ) where
   by_text None here e = absurd (none-some n e)
   by_text (Some text) here e =
       elim (cases_Bool (bytes_eq item.name (codes "value") && is_short_number text)) [
-        | inl yes ↦
-          let both = and_parts (bytes_eq item.name (codes "value")) (is_short_number text) yes in
+        | inl right ↦
+          let both = and_parts (bytes_eq item.name (codes "value")) (is_short_number text) right in
           let parts = and_parts (nat_lt 0 (length text)) (nat_le (length text) most_digits && list_all is_ascii_digit text)
             both.1 in
           let rest = and_parts (nat_le (length text) most_digits) (list_all is_ascii_digit text) parts.1 in
@@ -44,13 +44,13 @@ module _ (item : Item) (n : ℕ) where
             name = (bytes_eq-Decides item.name (codes "value")).0 both.0;
             text = text;
             in_parentheses = here;
-            some = ltb-true 0 (length text) parts.0;
+            not_empty = ltb-true 0 (length text) parts.0;
             few = leb-true (length text) most_digits rest.0;
             digits = AllPass-from_list_all is_ascii_digit text rest.1;
             number = same_Some n (digits_value 10 text)
-                (sym e ∙ ap (λ b. cond b (Some (digits_value 10 text)) None) yes);
+                (sym e ∙ ap (λ b. cond b (Some (digits_value 10 text)) None) right);
           }
-        | inr no ↦ absurd (none-some n (sym (ap (λ b. cond b (Some (digits_value 10 text)) None) no) ∙ e))
+        | inr wrong ↦ absurd (none-some n (sym (ap (λ b. cond b (Some (digits_value 10 text)) None) wrong) ∙ e))
       ]
 
   -- what an item says it says in words
@@ -74,12 +74,11 @@ filter_map-nothing (item ∷ items) none =
     ∙ filter_map-nothing items (All-tail SaysNothing item items none)
 
 -- the first number of these items, and 0 where there is none
-first : List Item → ℕ
+abbrev first : List Item → ℕ
 first items = unwrap_or (slice_get (filter_map worth_said items) 0) 0
 
 -- the first number in words is the first number
 first-from : (items : List Item) (n : ℕ) → IsWorth items n → first items ≡ n
-unfolding first
 first-from items n (said before item after place none is) =
     ap (λ l. unwrap_or (slice_get (filter_map worth_said l) 0) 0) place
     ∙ ap (λ l. unwrap_or (slice_get l 0) 0) (filter_map-append worth_said before (item ∷ after)
@@ -108,7 +107,6 @@ some_worth (item ∷ items) = by_number (some_worth items) (worth_said item) ref
 -- a number is the first exactly where it is in words
 pub first-words : (items : List Item) (n : ℕ)
     → (unwrap_or (slice_get (filter_map worth_said items) 0) 0 ≡ n) ↔ IsWorth items n
-unfolding first
 first-words items n =
     let found = some_worth items in
     ((λ e. subst (IsWorth items) (sym (first-from items found.0 found.1) ∙ e) found.1), first-from items n)

@@ -1,5 +1,5 @@
 -- The match whose move is played: of those of the greatest worth the first one.
-use Rattle.std.specs.Prelude.{◌≡◌, ℕ, zero, ◌<◌, ◌≤◌, ◌==◌, max, List, [], ◌∷◌, ◌++◌, Option, slice_get, find, All}
+use Rattle.std.specs.Prelude.{◌≡◌, ℕ, ◌<◌, ◌≤◌, ◌==◌, max, List, [], ◌∷◌, ◌++◌, Option, slice_get, find, All}
 use Rattle.std.specs.Option.{option_map_or}
 use Rattle.pat_types.specs.declared.pattern.Pattern.{Pattern}
 use Rattle.match_rules.specs.declared.found.Match.{Match}
@@ -7,7 +7,7 @@ use Rattle.move_choice.specs.Worth.{worth_of}
 
 -- the worth of a match is that of its pattern
 abbrev pub worth_at : List Pattern → Match → ℕ
-worth_at patterns z = option_map_or worth_of 0 (slice_get patterns z.pattern)
+worth_at patterns z = option_map_or worth_of (slice_get patterns z.pattern) 0
 
 -- the greatest worth of the matches, 0 where there is no match
 abbrev pub greatest_worth : (Match → ℕ) → List Match → ℕ

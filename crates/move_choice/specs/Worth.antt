@@ -36,7 +36,7 @@ pub record SaysWorth (item : Item) (n : ℕ) : Type 0 where
   pub name : item.name ≡ codes "value"
   pub text : List ℕ
   pub in_parentheses : item.text ≡ Some text
-  pub some : 0 < length text
+  pub not_empty : 0 < length text
   pub few : length text ≤ most_digits
   pub digits : AllPass is_ascii_digit text
   pub number : n ≡ digits_value 10 text

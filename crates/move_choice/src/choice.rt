@@ -4,16 +4,16 @@ ghost use Rattle.std.specs.Prelude.{◌≡◌, ◌<◌, ◌↔◌, [], length, C
 ghost use Rattle.match_rules.specs.declared.found.Match.{Match};
 ghost use Rattle.move_choice.specs.Choice.{worth_at, choice_of};
 
-use crate::worth::worth;
+use crate::worth::worth_of;
 use match_rules::Match;
 use pat_types::Pattern;
 
 /// The worth of a match, which is that of its pattern.
-fn worth_of(patterns: &[Pattern], found: &Match) -> u32
+fn worth_at(patterns: &[Pattern], found: &Match) -> u32
     requires { found.now.pattern < length patterns.now }
     ensures { result ≡ worth_at patterns.now found.now }
 {
-    worth(&patterns[usize::from(found.pattern)])
+    worth_of(&patterns[usize::from(found.pattern)])
 }
 
 /// The match that is chosen: the first one, in the order of the list, among those of the greatest worth. The worth of a
@@ -26,9 +26,9 @@ pub fn choose(patterns: &[Pattern], found: &[Match]) -> Option<Match>
 {
     let (first, rest) = found.split_first()?;
     let mut choice = *first;
-    let mut greatest = worth_of(patterns, first);
+    let mut greatest = worth_at(patterns, first);
     for z in rest {
-        let worth = worth_of(patterns, z);
+        let worth = worth_at(patterns, z);
         if greatest < worth {
             choice = *z;
             greatest = worth;

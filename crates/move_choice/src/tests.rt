@@ -1,7 +1,7 @@
 //! Tables of worths and choices. A pattern here is a star alone with some items on its colon line.
 
 use crate::choice::choose;
-use crate::worth::worth;
+use crate::worth::worth_of;
 use go_base::{Bytes, NoMemory, Point, Transform};
 use match_rules::Match;
 use pat_types::{Item, Items, Labels, Letter, Letters, Mark, Pattern};
@@ -92,7 +92,7 @@ fn worth_is_the_first_number_that_an_item_says(rt: HostRuntime) -> Result<(), Fa
     ];
     for (what, written, want) in rows {
         let pattern = pattern(&rt, written)?;
-        assert_eq!(rt; worth(&pattern), want, "{what}");
+        assert_eq!(rt; worth_of(&pattern), want, "{what}");
     }
     Ok(())
 }

@@ -1,7 +1,6 @@
 //! The worth of a pattern.
 
-ghost use Rattle.std.specs.Prelude.{◌≡◌, ◌≤◌, true, length};
-ghost use Rattle.std.specs.List.{list_all};
+ghost use Rattle.std.specs.Prelude.{◌≡◌, ◌<◌, ◌≤◌, ℕ, true, length, slice_index};
 ghost use Rattle.std.specs.Char.{is_ascii_digit};
 ghost use Rattle.std.specs.Str.Parse.{digits_value};
 ghost use Rattle.move_choice.specs.Worth.{most_digits, is_short_number as are_few_digits, worth_said as worth_in};
@@ -22,7 +21,7 @@ fn is_short_number(text: &[u8]) -> bool
 /// The number that digits write, of which there are few enough.
 fn number(digits: &[u8]) -> u32
     requires few { length digits.now ≤ most_digits }
-    requires digits { list_all is_ascii_digit digits.now ≡ true }
+    requires digits { (i : ℕ) → i < length digits.now → is_ascii_digit (slice_index digits.now i) ≡ true }
     ensures { result ≡ digits_value 10 digits.now }
 {
     let mut n: u32 = 0;
@@ -49,7 +48,7 @@ fn worth_said(item: &Item) -> Option<u32>
 
 /// The worth of a pattern.
 #[tactic(auto, unfolding(crate::specs::Worth::worth_of))]
-pub fn worth(pattern: &Pattern) -> u32
+pub fn worth_of(pattern: &Pattern) -> u32
     ensures { result ≡ worth_of pattern.now }
 {
     for item in pattern.items.as_slice() {
