@@ -73,36 +73,36 @@ module _ (w : Match → ℕ) where
   found-choice n [] z is e most = absurd (none-some z e)
   found-choice n (y ∷ ys) z is e most =
       let none : All (λ x. w x ≤ w z) (y ∷ ys) =
-        All-weaker (λ x. w x ≤ n) (λ x. w x ≤ w z) (λ x less. omega arith) (y ∷ ys) most in
+      All-weaker (λ x. w x ≤ n) (λ x. w x ≤ w z) (λ x less. omega arith) (y ∷ ys) most in
       elim (cases_Bool (w y == n)) [
         | inl passes ↦
-          let same : y ≡ z = same_Some y z (sym (find-here (λ x. w x == n) y ys passes) ∙ e) in
-          record {
-            before = [];
-            after = ys;
-            place = ap (λ x. x ∷ ys) same;
-            none_greater = none;
-            earlier_less = All-nil (λ x. w x < w z);
-          }
+            let same : y ≡ z = same_Some y z (sym (find-here (λ x. w x == n) y ys passes) ∙ e) in
+            record {
+              before = [];
+              after = ys;
+              place = ap (λ x. x ∷ ys) same;
+              none_greater = none;
+              earlier_less = All-nil (λ x. w x < w z);
+            }
         | inr fails ↦
-          let later = found-choice n ys z is (sym (find-later (λ x. w x == n) y ys fails) ∙ e)
+            let later = found-choice n ys z is (sym (find-later (λ x. w x == n) y ys fails) ∙ e)
             (All-tail (λ x. w x ≤ n) y ys most) in
-          let first : w y ≤ n = All-head (λ x. w x ≤ n) y ys most in
-          record {
-            before = y ∷ later.before;
-            after = later.after;
-            place = ap (λ l. y ∷ l) later.place;
-            none_greater = none;
-            earlier_less = All-cons (λ x. w x < w z) y later.before (omega (arith, less_where_other (w y) n first fails))
-                later.earlier_less;
-          }
+            let first : w y ≤ n = All-head (λ x. w x ≤ n) y ys most in
+            record {
+              before = y ∷ later.before;
+              after = later.after;
+              place = ap (λ l. y ∷ l) later.place;
+              none_greater = none;
+              earlier_less = All-cons (λ x. w x < w z) y later.before (omega (arith, less_where_other (w y) n first fails))
+                  later.earlier_less;
+            }
       ]
 
   -- the choice in words is found
   pub choice-found : (zs : List Match) (z : Match) → IsChoice w zs z → choice_by w zs ≡ Some z
   choice-found zs z is =
       let there : Contains zs z = subst (λ l. Contains l z) (sym is.place)
-        (Contains-append_right is.before (z ∷ is.after) z (0, omega arith, refl)) in
+      (Contains-append_right is.before (z ∷ is.after) z (0, omega arith, refl)) in
       let up : w z ≤ greatest_worth w zs = All-contains (λ y. w y ≤ greatest_worth w zs) zs z (at_most zs) there in
       let down : greatest_worth w zs ≤ w z = least (w z) zs is.none_greater in
       let same : w z ≡ greatest_worth w zs = omega arith in
@@ -116,8 +116,9 @@ module _ (w : Match → ℕ) where
   pub choice-words : (zs : List Match) (z : Match) → (choice_by w zs ≡ Some z) ↔ IsChoice w zs z
   choice-words zs z = (
     (λ e. found-choice (greatest_worth w zs) zs z
-    (eqb-true (w z) (greatest_worth w zs) (find-passes (λ y. w y == greatest_worth w zs) zs z e)) e (at_most zs)),
-    choice-found zs z)
+        (eqb-true (w z) (greatest_worth w zs) (find-passes (λ y. w y == greatest_worth w zs) zs z e)) e (at_most zs)),
+    choice-found zs z,
+  )
 
   -- one match alone is the choice
   pub IsChoice-alone : (z : Match) → IsChoice w (z ∷ []) z

@@ -5,7 +5,7 @@ use Rattle.std.specs.Prelude.{nat_lt, nat_le}
 use Rattle.std.specs.List.{filter_map, cons_option, list_all}
 use Rattle.std.specs.Char.{is_ascii_digit, digit_value}
 use Rattle.std.specs.Str.Parse.{digits_value, digits_value_after}
-use Rattle.std.proofs.lemmas.Bool.{and_parts}
+use Rattle.std.proofs.lemmas.Bool.{and_parts, leb-true}
 use Rattle.std.proofs.lemmas.Bool.Decides.{nat_tests}
 use Rattle.std.proofs.lemmas.List.{drop_more, drop_all}
 use Rattle.std.proofs.lemmas.List.Sums.{AllPass-from_list_all}
@@ -25,18 +25,18 @@ digits_more digits i n within digit is =
     ∙ ap (digits_value_after 10 n) (sym (drop_more digits i 0 within)) ∙ is
 
 -- a short number has few bytes
-pub short-few : (text : List ℕ) → is_short_number text ≡ true → nat_le (length text) most_digits ≡ true
+pub short-few : (text : List ℕ) → is_short_number text ≡ true → length text ≤ most_digits
 short-few text short =
     let rest = (and_parts (nat_lt 0 (length text)) (nat_le (length text) most_digits && list_all is_ascii_digit text)
-      short).1 in
-    (and_parts (nat_le (length text) most_digits) (list_all is_ascii_digit text) rest).0
+    short).1 in
+    leb-true (length text) most_digits (and_parts (nat_le (length text) most_digits) (list_all is_ascii_digit text) rest).0
 
 -- each of them is a digit
 pub short-digits : (text : List ℕ) → is_short_number text ≡ true
     → (i : ℕ) → i < length text → is_ascii_digit (get_or text i 0) ≡ true
 short-digits text short i within =
     let rest = (and_parts (nat_lt 0 (length text)) (nat_le (length text) most_digits && list_all is_ascii_digit text)
-      short).1 in
+    short).1 in
     AllPass-from_list_all is_ascii_digit text
     (and_parts (nat_le (length text) most_digits) (list_all is_ascii_digit text) rest).1 i 0 within
 
@@ -65,4 +65,4 @@ module _ (items : List Item) (i : ℕ) where
   -- no item says a number
   pub ends : length items ≤ i → filter_map worth_said (drop i items) ≡ filter_map worth_said items
       → 0 ≡ unwrap_or (slice_get (filter_map worth_said items) 0) 0
-  ends past is = ap (λ l. unwrap_or (slice_get l 0) 0) (sym (ap (filter_map worth_said) (drop_all items i past)) ∙ is)
+  ends past is = ap (λ l. unwrap_or (slice_get l 0) 0) (sym (ap (filter_map worth_said) (drop_all i items past)) ∙ is)

@@ -19,10 +19,10 @@ use Rattle.move_choice.specs.Worth.{said, unsaid}
 said-from : (item : Item) (n : ℕ) → SaysWorth item n → worth_said item ≡ Some n
 said-from item n is =
     let number : is_short_number is.text ≡ true =
-      and_from (nat_lt 0 (length is.text)) (nat_le (length is.text) most_digits && list_all is_ascii_digit is.text)
-      (lt-ltb 0 (length is.text) is.not_empty)
-      (and_from (nat_le (length is.text) most_digits) (list_all is_ascii_digit is.text)
-      (le-leb (length is.text) most_digits is.few) (list_all-from_AllPass is_ascii_digit is.text is.digits)) in
+    and_from (nat_lt 0 (length is.text)) (nat_le (length is.text) most_digits && list_all is_ascii_digit is.text)
+    (lt-ltb 0 (length is.text) is.not_empty)
+    (and_from (nat_le (length is.text) most_digits) (list_all is_ascii_digit is.text)
+    (le-leb (length is.text) most_digits is.few) (list_all-from_AllPass is_ascii_digit is.text is.digits)) in
     ap (number_said item.name) is.in_parentheses
     ∙ ap (λ b. cond b (Some (digits_value 10 is.text)) None)
     (and_from (bytes_eq item.name (codes "value")) (is_short_number is.text)
@@ -36,20 +36,20 @@ module _ (item : Item) (n : ℕ) where
   by_text (Some text) here e =
       elim (cases_Bool (bytes_eq item.name (codes "value") && is_short_number text)) [
         | inl right ↦
-          let both = and_parts (bytes_eq item.name (codes "value")) (is_short_number text) right in
-          let parts = and_parts (nat_lt 0 (length text)) (nat_le (length text) most_digits && list_all is_ascii_digit text)
+            let both = and_parts (bytes_eq item.name (codes "value")) (is_short_number text) right in
+            let parts = and_parts (nat_lt 0 (length text)) (nat_le (length text) most_digits && list_all is_ascii_digit text)
             both.1 in
-          let rest = and_parts (nat_le (length text) most_digits) (list_all is_ascii_digit text) parts.1 in
-          record {
-            name = (bytes_eq-Decides item.name (codes "value")).0 both.0;
-            text = text;
-            in_parentheses = here;
-            not_empty = ltb-true 0 (length text) parts.0;
-            few = leb-true (length text) most_digits rest.0;
-            digits = AllPass-from_list_all is_ascii_digit text rest.1;
-            number = same_Some n (digits_value 10 text)
-                (sym e ∙ ap (λ b. cond b (Some (digits_value 10 text)) None) right);
-          }
+            let rest = and_parts (nat_le (length text) most_digits) (list_all is_ascii_digit text) parts.1 in
+            record {
+              name = (bytes_eq-Decides item.name (codes "value")).0 both.0;
+              text = text;
+              in_parentheses = here;
+              not_empty = ltb-true 0 (length text) parts.0;
+              few = leb-true (length text) most_digits rest.0;
+              digits = AllPass-from_list_all is_ascii_digit text rest.1;
+              number = same_Some n (digits_value 10 text)
+                  (sym e ∙ ap (λ b. cond b (Some (digits_value 10 text)) None) right);
+            }
         | inr wrong ↦ absurd (none-some n (sym (ap (λ b. cond b (Some (digits_value 10 text)) None) wrong) ∙ e))
       ]
 

@@ -85,10 +85,22 @@ fn worth_is_the_first_number_that_an_item_says(rt: HostRuntime) -> Result<(), Fa
         ("a sign", &[value(b"+5")], 0),
         ("a blank", &[value(b"5 ")], 0),
         ("no parentheses", &[plain], 0),
-        ("other names", &[named(b"Value", b"5"), named(b"values", b"6")], 0),
+        (
+            "other names",
+            &[named(b"Value", b"5"), named(b"values", b"6")],
+            0,
+        ),
         ("two numbers", &[value(b"3"), value(b"8")], 3),
-        ("a number behind other texts", &[value(b"x"), named(b"followup", b"4"), value(b"8")], 8),
-        ("a number behind too long a one", &[value(b"1234567"), value(b"12")], 12),
+        (
+            "a number behind other texts",
+            &[value(b"x"), named(b"followup", b"4"), value(b"8")],
+            8,
+        ),
+        (
+            "a number behind too long a one",
+            &[value(b"1234567"), value(b"12")],
+            12,
+        ),
     ];
     for (what, written, want) in rows {
         let pattern = pattern(&rt, written)?;
@@ -98,10 +110,14 @@ fn worth_is_the_first_number_that_an_item_says(rt: HostRuntime) -> Result<(), Fa
 }
 
 /// The point of the choice among matches of these patterns. A match is its pattern's place in the list, and its point.
-fn chosen(rt: &HostRuntime, patterns: &[Pattern], found: &[(u16, Point)]) -> Result<Option<Point>, Fail> {
+fn chosen(
+    rt: &HostRuntime,
+    patterns: &[Pattern],
+    found: &[(u16, Point)],
+) -> Result<Option<Point>, Fail> {
     let transform = Transform::new(0).ok_or("there is a first transformation")?;
     let mut matches = Vec::new(rt.alloc());
-    for (pattern, at) in found {
+    'matches: for (pattern, at) in found {
         assert!(rt; usize::from(*pattern) < patterns.len());
         matches.push(Match {
             pattern: *pattern,
@@ -115,7 +131,8 @@ fn chosen(rt: &HostRuntime, patterns: &[Pattern], found: &[(u16, Point)]) -> Res
 #[test]
 fn first_match_of_the_greatest_worth_is_chosen(rt: HostRuntime) -> Result<(), Fail> {
     let mut patterns = Vec::new(rt.alloc());
-    for text in [b"5".as_slice(), b"9", b"", b"09", b"10", b"1000000"] {
+    let texts: [&[u8]; 6] = [b"5", b"9", b"", b"09", b"10", b"1000000"];
+    for text in texts {
         patterns.push(pattern(&rt, &[value(text)])?)?;
     }
     let none: [(u16, Point); 0] = [];
@@ -124,8 +141,16 @@ fn first_match_of_the_greatest_worth_is_chosen(rt: HostRuntime) -> Result<(), Fa
         ("one match of no worth", &[(2, 40)], Some(40)),
         ("the greater worth last", &[(0, 40), (1, 4)], Some(4)),
         ("the greater worth first", &[(1, 40), (0, 4)], Some(40)),
-        ("the greater worth between", &[(0, 40), (4, 4), (1, 7)], Some(4)),
-        ("equal worths of two patterns", &[(0, 40), (1, 7), (3, 4)], Some(7)),
+        (
+            "the greater worth between",
+            &[(0, 40), (4, 4), (1, 7)],
+            Some(4),
+        ),
+        (
+            "equal worths of two patterns",
+            &[(0, 40), (1, 7), (3, 4)],
+            Some(7),
+        ),
         ("one pattern twice", &[(1, 7), (1, 4)], Some(7)),
         ("more digits are more", &[(3, 7), (4, 4)], Some(4)),
         ("none has a worth", &[(2, 7), (5, 4), (2, 1)], Some(7)),
