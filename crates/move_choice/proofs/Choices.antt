@@ -1,15 +1,17 @@
 -- The first match of the greatest worth, by the definition, in words, and one match after another.
-use Rattle.std.proofs.Common.{◌≡◌, ◌↔◌, ℕ, ◌+◌, ◌<◌, ◌≤◌, inl, inr, Bool, true, false, cond, List, [], ◌∷◌, ◌++◌, length}
-use Rattle.std.proofs.Common.{take, get_or, Some, None, Contains, All, refl, sym, ap, ◌∙◌, subst, arith}
+use Rattle.std.proofs.Common.{◌≡◌, ◌↔◌, ℕ, ◌+◌, ◌<◌, ◌≤◌, inl, inr, Bool, true, false, cond, List, [], ◌∷◌, ◌++◌}
+use Rattle.std.proofs.Common.{length, take, get_or, Some, None, Contains, All, refl, sym, ap, ◌∙◌, subst, arith}
+use Rattle.std.proofs.Common.{add-one}
 use Rattle.std.specs.Prelude.{◌==◌}
 use Rattle.std.specs.List.{find}
 use Rattle.std.proofs.lemmas.Bool.{cases_Bool, cases_lt, eqb-true, eqb-false, eq-eqb, ne_eqb}
-use Rattle.std.proofs.lemmas.List.{append_assoc, take_more}
+use Rattle.std.proofs.lemmas.List.{append_assoc, take_more, take_all}
 use Rattle.std.proofs.lemmas.List.Elements.{All-nil, All-cons, All-head, All-tail, All-push, All-weaker, All-contains}
-use Rattle.std.proofs.lemmas.List.Elements.{Contains-append_right}
+use Rattle.std.proofs.lemmas.List.Elements.{Contains-append_right, Contains-get_or}
 use Rattle.std.proofs.lemmas.Option.{none-some, same_Some}
 use Rattle.match_rules.specs.declared.found.Match.{Match}
-use Rattle.move_choice.specs.Choice.{greatest_worth, choice_by, IsChoice}
+use Rattle.pat_types.specs.declared.pattern.Pattern.{Pattern}
+use Rattle.move_choice.specs.Choice.{greatest_worth, choice_by, choice_of, IsChoice}
 
 -- a number that is at most another and differs from it is less
 less_where_other : (a n : ℕ) → a ≤ n → (a == n) ≡ false → a < n
@@ -43,12 +45,6 @@ module _ (p : Match → Bool) where
   find-behind (y ∷ ys) z after none passes =
       find-later y (ys ++ z ∷ after) (All-head (λ x. p x ≡ false) y ys none)
       ∙ find-behind ys z after (All-tail (λ x. p x ≡ false) y ys none) passes
-
--- the first match and so many of the rest, and one more
-one_more : (first : Match) (rest : List Match) (i : ℕ) (z : Match) → i < length rest → z ≡ get_or rest i z
-    → first ∷ take (i + 1) rest ≡ (first ∷ take i rest) ++ z ∷ []
-one_more first rest i z within here =
-    ap (λ l. first ∷ l) (take_more rest i z within ∙ ap (λ y. take i rest ++ y ∷ []) (sym here))
 
 module _ (w : Match → ℕ) where
   -- no match is worth more than the greatest worth
@@ -93,7 +89,8 @@ module _ (w : Match → ℕ) where
               after = later.after;
               place = ap (λ l. y ∷ l) later.place;
               none_greater = none;
-              earlier_less = All-cons (λ x. w x < w z) y later.before (omega (arith, less_where_other (w y) n first fails))
+              earlier_less = All-cons (λ x. w x < w z) y later.before
+                  (omega (arith, less_where_other (w y) n first fails))
                   later.earlier_less;
             }
       ]
@@ -191,18 +188,53 @@ module _ (w : Match → ℕ) where
       let some = some_choice z zs in
       ((λ e. absurd (none-some some.0 (sym e ∙ choice-found (z ∷ zs) some.0 some.1))), (λ e. absurd (cc)))
 
-  -- one match more of the rest, which is worth no more
-  pub IsChoice-keeps_more : (first : Match) (rest : List Match) (i : ℕ) (c z : Match) → i < length rest
-      → z ≡ get_or rest i z → IsChoice w (first ∷ take i rest) c → w z ≤ w c
-      → IsChoice w (first ∷ take (i + 1) rest) c
-  IsChoice-keeps_more first rest i c z within here is less =
-      subst (λ l. IsChoice w l c) (sym (one_more first rest i z within here))
-      (IsChoice-keeps (first ∷ take i rest) c z is less)
+-- among no matches there is no choice
+pub choice-empty : (patterns : List Pattern) (zs : List Match) → length zs ≡ 0 → choice_of patterns zs ≡ None
+unfolding choice_of
+choice-empty patterns [] empty = refl
+choice-empty patterns (z ∷ zs) empty = absurd (omega arith)
 
-  -- one match more of the rest, which is worth more
-  pub IsChoice-takes_more : (first : Match) (rest : List Match) (i : ℕ) (c z : Match) → i < length rest
-      → z ≡ get_or rest i z → IsChoice w (first ∷ take i rest) c → w c < w z
-      → IsChoice w (first ∷ take (i + 1) rest) z
-  IsChoice-takes_more first rest i c z within here is more =
-      subst (λ l. IsChoice w l z) (sym (one_more first rest i z within here))
-      (IsChoice-takes (first ∷ take i rest) c z is more)
+-- some matches, the first of them, and the rest
+module _ (found rest : List Match) (first : Match) (place : found ≡ first ∷ rest) where
+  -- the n-th of the rest is the one behind the n-th of all
+  one_of_rest : (i : ℕ) (z : Match) → get_or found (i + 1) z ≡ get_or rest i z
+  one_of_rest i z = ap (λ l. get_or l (i + 1) z) place ∙ ap (λ n. get_or (first ∷ rest) n z) (add-one i)
+
+  -- it is one of the matches
+  pub among : (i : ℕ) (d : Match) → i < length rest → Contains found (get_or rest i d)
+  among i d within = subst (Contains found) (one_of_rest i d)
+      (Contains-get_or found (i + 1) d (omega (arith, ap length place)))
+
+  -- so is the first
+  pub first_among : Contains found first
+  first_among = subst (λ l. Contains l first) (sym place) (0, omega arith, refl)
+
+  -- the matches up to the i-th of the rest
+  one_more : (i : ℕ) (z : Match) → i < length rest → z ≡ get_or rest i z
+      → take (i + 1 + 1) found ≡ take (i + 1) found ++ z ∷ []
+  one_more i z within here =
+      take_more found (i + 1) z (omega (arith, ap length place))
+      ∙ ap (λ y. take (i + 1) found ++ y ∷ []) (one_of_rest i z ∙ sym here)
+
+  -- the first alone
+  pub IsChoice-first : (w : Match → ℕ) → IsChoice w (take 1 found) first
+  IsChoice-first w = subst (λ l. IsChoice w (take 1 l) first) (sym place) (IsChoice-alone w first)
+
+  -- one match more, which is worth no more
+  pub IsChoice-keeps_more : (w : Match → ℕ) (i : ℕ) (c z : Match) → i < length rest → z ≡ get_or rest i z
+      → IsChoice w (take (i + 1) found) c → w z ≤ w c → IsChoice w (take (i + 1 + 1) found) c
+  IsChoice-keeps_more w i c z within here is less =
+      subst (λ l. IsChoice w l c) (sym (one_more i z within here)) (IsChoice-keeps w (take (i + 1) found) c z is less)
+
+  -- one match more, which is worth more
+  pub IsChoice-takes_more : (w : Match → ℕ) (i : ℕ) (c z : Match) → i < length rest → z ≡ get_or rest i z
+      → IsChoice w (take (i + 1) found) c → w c < w z → IsChoice w (take (i + 1 + 1) found) z
+  IsChoice-takes_more w i c z within here is more =
+      subst (λ l. IsChoice w l z) (sym (one_more i z within here)) (IsChoice-takes w (take (i + 1) found) c z is more)
+
+  -- the choice among all
+  pub choice-all : (w : Match → ℕ) (i : ℕ) (c : Match) → length rest ≤ i → IsChoice w (take (i + 1) found) c
+      → choice_by w found ≡ Some c
+  choice-all w i c past is =
+      choice-found w found c
+      (subst (λ l. IsChoice w l c) (take_all (i + 1) found (omega (arith, ap length place))) is)

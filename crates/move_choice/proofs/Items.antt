@@ -2,10 +2,10 @@
 use Rattle.std.proofs.Common.{◌≡◌, ℕ, ◌+◌, ◌-◌, ◌*◌, ◌<◌, ◌≤◌, true, ◌&&◌, List, ◌∷◌, length, drop, get_or, Some, None}
 use Rattle.std.proofs.Common.{unwrap_or, slice_get, sym, ap, ◌∙◌, arith}
 use Rattle.std.specs.Prelude.{nat_lt, nat_le}
-use Rattle.std.specs.List.{filter_map, cons_option, list_all}
+use Rattle.std.specs.List.{filter_map, cons_option, list_all, AllPass}
 use Rattle.std.specs.Char.{is_ascii_digit, digit_value}
 use Rattle.std.specs.Str.Parse.{digits_value, digits_value_after}
-use Rattle.std.proofs.lemmas.Bool.{and_parts, leb-true}
+use Rattle.std.proofs.lemmas.Bool.{and_parts, ltb-true, leb-true}
 use Rattle.std.proofs.lemmas.Bool.Decides.{nat_tests}
 use Rattle.std.proofs.lemmas.List.{drop_more, drop_all}
 use Rattle.std.proofs.lemmas.List.Sums.{AllPass-from_list_all}
@@ -21,24 +21,20 @@ pub digits_more : (digits : List ℕ) (i n : ℕ) → i < length digits → is_a
     → digits_value_after 10 n (drop i digits) ≡ digits_value 10 digits
     → digits_value_after 10 (n * 10 + (get_or digits i 0 - 48)) (drop (i + 1) digits) ≡ digits_value 10 digits
 digits_more digits i n within digit is =
-    ap (λ d. digits_value_after 10 (n * 10 + d) (drop (i + 1) digits)) (sym (digit_value-digit (get_or digits i 0) digit))
+    ap (λ d. digits_value_after 10 (n * 10 + d) (drop (i + 1) digits))
+    (sym (digit_value-digit (get_or digits i 0) digit))
     ∙ ap (digits_value_after 10 n) (sym (drop_more digits i 0 within)) ∙ is
 
--- a short number has few bytes
-pub short-few : (text : List ℕ) → is_short_number text ≡ true → length text ≤ most_digits
-short-few text short =
-    let rest = (and_parts (nat_lt 0 (length text)) (nat_le (length text) most_digits && list_all is_ascii_digit text)
-    short).1 in
-    leb-true (length text) most_digits (and_parts (nat_le (length text) most_digits) (list_all is_ascii_digit text) rest).0
-
--- each of them is a digit
-pub short-digits : (text : List ℕ) → is_short_number text ≡ true
-    → (i : ℕ) → i < length text → is_ascii_digit (get_or text i 0) ≡ true
-short-digits text short i within =
-    let rest = (and_parts (nat_lt 0 (length text)) (nat_le (length text) most_digits && list_all is_ascii_digit text)
-    short).1 in
-    AllPass-from_list_all is_ascii_digit text
-    (and_parts (nat_le (length text) most_digits) (list_all is_ascii_digit text) rest).1 i 0 within
+-- a short number has a byte, it has few, and each of them is a digit
+pub short-parts : (text : List ℕ) → is_short_number text ≡ true
+    → (0 < length text) × (length text ≤ most_digits) × AllPass is_ascii_digit text
+short-parts text short =
+    let few = nat_le (length text) most_digits in
+    let digits = list_all is_ascii_digit text in
+    let parts = and_parts (nat_lt 0 (length text)) (few && digits) short in
+    let rest = and_parts few digits parts.1 in
+    (ltb-true 0 (length text) parts.0, leb-true (length text) most_digits rest.0,
+    AllPass-from_list_all is_ascii_digit text rest.1)
 
 module _ (items : List Item) (i : ℕ) where
   -- the numbers of the items from the i-th on

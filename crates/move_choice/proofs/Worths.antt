@@ -1,19 +1,20 @@
 -- The first number that an item says, by the definition and in words.
-use Rattle.std.proofs.Common.{◌≡◌, ◌↔◌, ℕ, inl, inr, ◌&&◌, cond, List, [], ◌∷◌, ◌++◌, length, Option, Some, None, All}
+use Rattle.std.proofs.Common.{◌≡◌, ◌↔◌, ℕ, inl, inr, true, ◌&&◌, cond, List, [], ◌∷◌, ◌++◌, length, Option, Some, None, All}
 use Rattle.std.proofs.Common.{unwrap_or, slice_get, refl, sym, ap, ◌∙◌, subst}
 use Rattle.std.specs.Prelude.{codes, nat_lt, nat_le}
 use Rattle.std.specs.List.{filter_map, cons_option, list_all}
 use Rattle.std.specs.Char.{is_ascii_digit}
 use Rattle.std.specs.Str.{bytes_eq}
 use Rattle.std.specs.Str.Parse.{digits_value}
-use Rattle.std.proofs.lemmas.Bool.{cases_Bool, and_parts, and_from, ltb-true, leb-true, lt-ltb, le-leb}
+use Rattle.std.proofs.lemmas.Bool.{cases_Bool, and_parts, and_from, lt-ltb, le-leb}
 use Rattle.std.proofs.lemmas.List.Elements.{All-nil, All-cons, All-head, All-tail, filter_map-append}
-use Rattle.std.proofs.lemmas.List.Sums.{AllPass-from_list_all, list_all-from_AllPass}
+use Rattle.std.proofs.lemmas.List.Sums.{list_all-from_AllPass}
 use Rattle.std.proofs.lemmas.Option.{none-some, same_Some}
 use Rattle.std.proofs.lemmas.Slice.Eq.{bytes_eq-Decides}
 use Rattle.pat_types.specs.declared.pattern.Item.{Item}
-use Rattle.move_choice.specs.Worth.{most_digits, is_short_number, number_said, worth_said, SaysWorth, SaysNothing, IsWorth}
-use Rattle.move_choice.specs.Worth.{said, unsaid}
+use Rattle.move_choice.specs.Worth.{most_digits, is_short_number, number_said, worth_said, SaysWorth, SaysNothing}
+use Rattle.move_choice.specs.Worth.{IsWorth, said, unsaid}
+use Rattle.move_choice.proofs.Items.{short-parts}
 
 -- what an item says in words it says
 said-from : (item : Item) (n : ℕ) → SaysWorth item n → worth_said item ≡ Some n
@@ -37,16 +38,14 @@ module _ (item : Item) (n : ℕ) where
       elim (cases_Bool (bytes_eq item.name (codes "value") && is_short_number text)) [
         | inl right ↦
             let both = and_parts (bytes_eq item.name (codes "value")) (is_short_number text) right in
-            let parts = and_parts (nat_lt 0 (length text)) (nat_le (length text) most_digits && list_all is_ascii_digit text)
-            both.1 in
-            let rest = and_parts (nat_le (length text) most_digits) (list_all is_ascii_digit text) parts.1 in
+            let parts = short-parts text both.1 in
             record {
               name = (bytes_eq-Decides item.name (codes "value")).0 both.0;
               text = text;
               in_parentheses = here;
-              not_empty = ltb-true 0 (length text) parts.0;
-              few = leb-true (length text) most_digits rest.0;
-              digits = AllPass-from_list_all is_ascii_digit text rest.1;
+              not_empty = parts.0;
+              few = parts.1;
+              digits = parts.2;
               number = same_Some n (digits_value 10 text)
                   (sym e ∙ ap (λ b. cond b (Some (digits_value 10 text)) None) right);
             }

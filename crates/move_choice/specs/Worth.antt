@@ -1,6 +1,6 @@
 -- The worth of a pattern, which its author says by an item of the colon line, as `value(20)`.
-use Rattle.std.specs.Prelude.{◌≡◌, ℕ, ◌<◌, ◌≤◌, Bool, ◌&&◌, nat_lt, nat_le, List, ◌∷◌, ◌++◌, length, Option, Some, None, codes}
-use Rattle.std.specs.Prelude.{slice_get, unwrap_or, All, if◌then◌else◌}
+use Rattle.std.specs.Prelude.{◌≡◌, ℕ, ◌<◌, ◌≤◌, Bool, ◌&&◌, nat_lt, nat_le, List, ◌∷◌, ◌++◌, length, Option, Some, None}
+use Rattle.std.specs.Prelude.{codes, slice_get, unwrap_or, All, if◌then◌else◌}
 use Rattle.std.specs.List.{list_all, filter_map, AllPass}
 use Rattle.std.specs.Char.{is_ascii_digit}
 use Rattle.std.specs.Str.{bytes_eq}

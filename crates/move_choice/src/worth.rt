@@ -1,6 +1,7 @@
 //! The worth of a pattern.
 
 ghost use Rattle.std.specs.Prelude.{◌≡◌, ◌<◌, ◌≤◌, ℕ, true, length, slice_index};
+ghost use Rattle.std.specs.List.{list_all};
 ghost use Rattle.std.specs.Char.{is_ascii_digit};
 ghost use Rattle.std.specs.Str.Parse.{digits_value};
 ghost use Rattle.move_choice.specs.Worth.{most_digits, is_short_number as are_few_digits, worth_said as worth_in};
@@ -11,11 +12,18 @@ use pat_types::{Item, Pattern};
 /// The most digits that a worth may have.
 const MOST_DIGITS: usize = 6;
 
+/// Whether each byte of a text is a digit.
+fn are_digits(text: &[u8]) -> bool
+    ensures { result ≡ list_all is_ascii_digit text.now }
+{
+    text.iter().all(|b| b.is_ascii_digit())
+}
+
 /// Whether a text is one to six digits.
 fn is_short_number(text: &[u8]) -> bool
     ensures { result ≡ are_few_digits text.now }
 {
-    !text.is_empty() && text.len() <= MOST_DIGITS && text.iter().all(|b| b.is_ascii_digit())
+    !text.is_empty() && text.len() <= MOST_DIGITS && are_digits(text)
 }
 
 /// The number that digits write, of which there are few enough.

@@ -1,4 +1,4 @@
-use Rattle.std.proofs.Common.{◌≡◌, ◌∷◌, take}
+use Rattle.std.proofs.Common.{◌≡◌, ◌+◌, take}
 use Rattle.move_choice.specs.Choice.{worth_at, IsChoice}
 use Rattle.move_choice.proofs.choice.choose.Given as goal
 
@@ -6,5 +6,5 @@ use Rattle.move_choice.proofs.choice.choose.Given as goal
 abbrev pub invariant-loop-z : goal.invariant-loop-z
 invariant-loop-z l = record {
   worth : l.greatest ≡ worth_at l.patterns l.choice;
-  is : IsChoice (worth_at l.patterns) (l.first ∷ take l.z-index l.rest) l.choice;
+  is : IsChoice (worth_at l.patterns) (take (l.z-index + 1) l.found) l.choice;
 }

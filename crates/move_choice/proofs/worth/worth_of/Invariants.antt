@@ -5,4 +5,5 @@ use Rattle.move_choice.proofs.worth.worth_of.Given as goal
 
 -- no item so far says a number
 abbrev pub invariant-loop-item : goal.invariant-loop-item
-invariant-loop-item l = filter_map worth_said (drop l.item-index l.pattern.items) ≡ filter_map worth_said l.pattern.items
+invariant-loop-item l =
+    filter_map worth_said (drop l.item-index l.pattern.items) ≡ filter_map worth_said l.pattern.items
