@@ -7,7 +7,7 @@ use Rattle.std.specs.List.{find}
 use Rattle.std.proofs.lemmas.Bool.{cases_Bool, cases_lt, eqb-true, eqb-false, eq-eqb, ne_eqb}
 use Rattle.std.proofs.lemmas.List.{append_assoc, take_more, take_all}
 use Rattle.std.proofs.lemmas.List.Elements.{All-nil, All-cons, All-head, All-tail, All-push, All-weaker, All-contains}
-use Rattle.std.proofs.lemmas.List.Elements.{Contains-append_right, Contains-get_or}
+use Rattle.std.proofs.lemmas.List.Elements.{Contains-append_right}
 use Rattle.std.proofs.lemmas.Option.{none-some, same_Some}
 use Rattle.match_rules.specs.declared.found.Match.{Match}
 use Rattle.pat_types.specs.declared.pattern.Pattern.{Pattern}
@@ -201,9 +201,8 @@ module _ (found rest : List Match) (first : Match) (place : found ≡ first ∷ 
   one_of_rest i z = ap (λ l. get_or l (i + 1) z) place ∙ ap (λ n. get_or (first ∷ rest) n z) (add-one i)
 
   -- it is one of the matches
-  pub among : (i : ℕ) (d : Match) → i < length rest → Contains found (get_or rest i d)
-  among i d within = subst (Contains found) (one_of_rest i d)
-      (Contains-get_or found (i + 1) d (omega (arith, ap length place)))
+  pub among : (i : ℕ) (z : Match) → i < length rest → z ≡ get_or rest i z → Contains found z
+  among i z within here = (i + 1, omega (arith, ap length place), one_of_rest i z ∙ sym here)
 
   -- so is the first
   pub first_among : Contains found first

@@ -32,9 +32,11 @@ short-parts text short =
     let few = nat_le (length text) most_digits in
     let digits = list_all is_ascii_digit text in
     let parts = and_parts (nat_lt 0 (length text)) (few && digits) short in
-    let rest = and_parts few digits parts.1 in
-    (ltb-true 0 (length text) parts.0, leb-true (length text) most_digits rest.0,
-    AllPass-from_list_all is_ascii_digit text rest.1)
+    let rest = and_parts few digits parts.1 in (
+      ltb-true 0 (length text) parts.0,
+      leb-true (length text) most_digits rest.0,
+      AllPass-from_list_all is_ascii_digit text rest.1,
+    )
 
 module _ (items : List Item) (i : ℕ) where
   -- the numbers of the items from the i-th on

@@ -5,44 +5,38 @@ use crate::worth::worth_of;
 use go_base::{Bytes, NoMemory, Point, Transform};
 use match_rules::Match;
 use pat_types::{Item, Items, Labels, Letter, Letters, Mark, Pattern};
-use std::process::Abort;
 use std::test::Fail;
 
-/// An item's name, and the text in parentheses behind it, if there is one.
-type Written<'a> = (&'a [u8], Option<&'a [u8]>);
-
-fn bytes(rt: &HostRuntime, text: &[u8]) -> Result<Bytes, NoMemory> {
+fn bytes(rt: &HostRuntime, text: &str) -> Result<Bytes, NoMemory> {
     let mut bytes = Bytes::new(rt.alloc());
-    bytes.extend(text)?;
+    bytes.extend(text.as_bytes())?;
     Ok(bytes)
 }
 
-fn item(rt: &HostRuntime, written: Written<'_>) -> Result<Item, NoMemory> {
-    let (name, text) = written;
-    let name = bytes(rt, name)?;
-    let text = match text {
-        Some(text) => Some(bytes(rt, text)?),
-        None => None,
-    };
-    Ok(Item { name, text })
-}
-
-fn items(rt: &HostRuntime, written: &[Written<'_>]) -> Result<Items, NoMemory> {
-    let mut items = Items::new(rt.alloc());
-    for one in written {
-        items.push(item(rt, *one)?)?;
+/// An item as it is written: a name, or a name and a text in parentheses.
+fn item(rt: &HostRuntime, written: &str) -> Result<Item, NoMemory> {
+    match written.split_once('(') {
+        Some((name, text)) => Ok(Item {
+            name: bytes(rt, name)?,
+            text: Some(bytes(rt, text.trim_end_matches(')'))?),
+        }),
+        None => Ok(Item {
+            name: bytes(rt, written)?,
+            text: None,
+        }),
     }
-    Ok(items)
 }
 
-/// A star alone, with these items.
-fn pattern(rt: &HostRuntime, written: &[Written<'_>]) -> Result<Pattern, NoMemory> {
-    let name = bytes(rt, b"P".as_slice())?;
-    let items = items(rt, written)?;
+/// A star alone, with these items, between which commas stand.
+fn pattern(rt: &HostRuntime, written: &str) -> Result<Pattern, NoMemory> {
+    let mut items = Items::new(rt.alloc());
+    for one in written.split(',') {
+        items.push(item(rt, one)?)?;
+    }
     let mut letters = Letters::new(rt.alloc());
     letters.push(Letter::Star)?;
     Ok(Pattern {
-        name,
+        name: bytes(rt, "P")?,
         rows: 1,
         cols: 1,
         letters,
@@ -59,52 +53,28 @@ fn pattern(rt: &HostRuntime, written: &[Written<'_>]) -> Result<Pattern, NoMemor
     })
 }
 
-/// The item `value` with this text.
-fn value(text: &[u8]) -> Written<'_> {
-    (b"value".as_slice(), Some(text))
-}
-
-/// An item with this name and text.
-fn named<'a>(name: &'a [u8], text: &'a [u8]) -> Written<'a> {
-    (name, Some(text))
-}
-
 #[test]
 fn worth_is_the_first_number_that_an_item_says(rt: HostRuntime) -> Result<(), Fail> {
-    let no_items: [Written<'_>; 0] = [];
-    let plain = (b"value".as_slice(), None);
-    let rows: [(&str, &[Written<'_>], u32); 15] = [
-        ("no item", &no_items, 0),
-        ("one digit", &[value(b"7")], 7),
-        ("six digits", &[value(b"999999")], 999_999),
-        ("seven digits", &[value(b"1000000")], 0),
-        ("seven digits of a small number", &[value(b"0000001")], 0),
-        ("zeros in front", &[value(b"007")], 7),
-        ("no text", &[value(b"")], 0),
-        ("no digits", &[value(b"high")], 0),
-        ("a sign", &[value(b"+5")], 0),
-        ("a blank", &[value(b"5 ")], 0),
-        ("no parentheses", &[plain], 0),
-        (
-            "other names",
-            &[named(b"Value", b"5"), named(b"values", b"6")],
-            0,
-        ),
-        ("two numbers", &[value(b"3"), value(b"8")], 3),
-        (
-            "a number behind other texts",
-            &[value(b"x"), named(b"followup", b"4"), value(b"8")],
-            8,
-        ),
-        (
-            "a number behind too long a one",
-            &[value(b"1234567"), value(b"12")],
-            12,
-        ),
+    let rows = [
+        ("NULL", 0),
+        ("value(7)", 7),
+        ("value(999999)", 999_999),
+        ("value(1000000)", 0),
+        ("value(0000001)", 0),
+        ("value(007)", 7),
+        ("value()", 0),
+        ("value(high)", 0),
+        ("value(+5)", 0),
+        ("value(5 )", 0),
+        ("value", 0),
+        ("Value(5),values(6)", 0),
+        ("value(3),value(8)", 3),
+        ("value(x),followup(4),value(8)", 8),
+        ("value(1234567),value(12)", 12),
     ];
-    for (what, written, want) in rows {
+    for (written, want) in rows {
         let pattern = pattern(&rt, written)?;
-        assert_eq!(rt; worth_of(&pattern), want, "{what}");
+        assert_eq!(rt; worth_of(&pattern), want, "{written}");
     }
     Ok(())
 }
@@ -118,7 +88,9 @@ fn chosen(
     let transform = Transform::new(0).ok_or("there is a first transformation")?;
     let mut matches = Vec::new(rt.alloc());
     'matches: for (pattern, at) in found {
-        assert!(rt; usize::from(*pattern) < patterns.len());
+        if usize::from(*pattern) >= patterns.len() {
+            return Err("a match names one of the patterns")?;
+        }
         matches.push(Match {
             pattern: *pattern,
             transform,
@@ -131,9 +103,15 @@ fn chosen(
 #[test]
 fn first_match_of_the_greatest_worth_is_chosen(rt: HostRuntime) -> Result<(), Fail> {
     let mut patterns = Vec::new(rt.alloc());
-    let texts: [&[u8]; 6] = [b"5", b"9", b"", b"09", b"10", b"1000000"];
-    for text in texts {
-        patterns.push(pattern(&rt, &[value(text)])?)?;
+    for written in [
+        "value(5)",
+        "value(9)",
+        "value()",
+        "value(09)",
+        "value(10)",
+        "value(1000000)",
+    ] {
+        patterns.push(pattern(&rt, written)?)?;
     }
     let none: [(u16, Point); 0] = [];
     let rows: [(&str, &[(u16, Point)], Option<Point>); 9] = [

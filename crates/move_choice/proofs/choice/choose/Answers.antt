@@ -1,19 +1,9 @@
-use Rattle.std.proofs.Common.{◌+◌, take, get_or, sym, ap, ◌∙◌, subst, arith}
-use Rattle.std.proofs.lemmas.List.{get_or_default}
-use Rattle.match_rules.specs.declared.found.Match.{Match}
+use Rattle.std.proofs.Common.{◌+◌, take, sym, ap, ◌∙◌, subst, arith}
 use Rattle.move_choice.specs.Choice.{worth_at, choice_of, IsChoice}
 use Rattle.move_choice.proofs.Choices.{choice-empty, first_among, among, IsChoice-first, IsChoice-keeps_more}
 use Rattle.move_choice.proofs.Choices.{IsChoice-takes_more, choice-all}
 use Rattle.move_choice.proofs.choice.choose.Goals as goal
-use Rattle.move_choice.proofs.choice.choose.Goals.{In-loop-z, then-greatest-worth, else-greatest-worth}
-
--- what is read behind the end of a list
-abbrev no_match : Match
-no_match = record { pattern = 0; transform = 0; at = 0 }
-
--- the match that the loop is at
-abbrev here : In-loop-z → Match
-here c = get_or c.in_ok-first.rest.now c.loop-z.z-index no_match
+use Rattle.move_choice.proofs.choice.choose.Goals.{then-greatest-worth, else-greatest-worth}
 
 -- there is no match
 pub returns-in_err-first-clause-choice : goal.returns-in_err-first-clause-choice
@@ -38,35 +28,33 @@ loop-z-init c = record {
 -- so is one of the rest
 pub worth_at-worth-requires : goal.worth_at-worth-requires
 worth_at-worth-requires c =
-    c.requires (here c)
+    c.requires c.z-item.result
     (among c.args.found.now c.in_ok-first.rest.now c.in_ok-first.first.now c.in_ok-first.ensures.cases.0
-    c.loop-z.z-index no_match c.loop-z-test.true)
+    c.loop-z.z-index c.z-item.result c.loop-z-test.true c.z-item.is)
 
 -- it is the choice where it is worth more
 pub loop-z-preserved : goal.loop-z-preserved
 loop-z-preserved c =
-    let at = goal.at.loop-z-preserved c in
-    let z = here at.In-loop-z in
+    let z = c.z-item.result in
     let worth = worth_at c.args.patterns.now in
     let place = c.in_ok-first.ensures.cases.0 in
-    let stands = get_or_default c.in_ok-first.rest.now c.loop-z.z-index no_match z c.loop-z-test.true in
     elim c.if-greatest-worth.branch [
       | then-greatest-worth w ↦ record {
-          worth = w.greatest-is ∙ c.worth_at-worth.ensures ∙ ap worth (sym w.choice-is);
-          is =
-              subst (IsChoice worth (take (c.loop-z.z-index + 1 + 1) c.args.found.now)) (sym w.choice-is)
-              (IsChoice-takes_more c.args.found.now c.in_ok-first.rest.now c.in_ok-first.first.now place worth
-              c.loop-z.z-index c.loop-z.choice z c.loop-z-test.true stands c.loop-z.invariant.is
-              (omega (arith, c.loop-z.invariant.worth, c.worth_at-worth.ensures)));
-        }
+        worth = w.greatest-is ∙ c.worth_at-worth.ensures ∙ ap worth (sym w.choice-is);
+        is =
+            subst (IsChoice worth (take (c.loop-z.z-index + 1 + 1) c.args.found.now)) (sym w.choice-is)
+            (IsChoice-takes_more c.args.found.now c.in_ok-first.rest.now c.in_ok-first.first.now place worth
+            c.loop-z.z-index c.loop-z.choice z c.loop-z-test.true c.z-item.is c.loop-z.invariant.is
+            (omega (arith, c.loop-z.invariant.worth, c.worth_at-worth.ensures)));
+      }
       | else-greatest-worth w ↦ record {
-          worth = w.greatest-is ∙ c.loop-z.invariant.worth ∙ ap worth (sym w.choice-is);
-          is =
-              subst (IsChoice worth (take (c.loop-z.z-index + 1 + 1) c.args.found.now)) (sym w.choice-is)
-              (IsChoice-keeps_more c.args.found.now c.in_ok-first.rest.now c.in_ok-first.first.now place worth
-              c.loop-z.z-index c.loop-z.choice z c.loop-z-test.true stands c.loop-z.invariant.is
-              (omega (arith, c.loop-z.invariant.worth, c.worth_at-worth.ensures)));
-        }
+        worth = w.greatest-is ∙ c.loop-z.invariant.worth ∙ ap worth (sym w.choice-is);
+        is =
+            subst (IsChoice worth (take (c.loop-z.z-index + 1 + 1) c.args.found.now)) (sym w.choice-is)
+            (IsChoice-keeps_more c.args.found.now c.in_ok-first.rest.now c.in_ok-first.first.now place worth
+            c.loop-z.z-index c.loop-z.choice z c.loop-z-test.true c.z-item.is c.loop-z.invariant.is
+            (omega (arith, c.loop-z.invariant.worth, c.worth_at-worth.ensures)));
+      }
     ]
 
 -- all matches were looked at
