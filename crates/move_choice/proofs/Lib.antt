@@ -1,3 +1,3 @@
-pub mod Items
+pub mod ShortNumbers
 pub mod Worths
 pub mod Choices

@@ -14,7 +14,7 @@ use Rattle.std.proofs.lemmas.Slice.Eq.{bytes_eq-Decides}
 use Rattle.pat_types.specs.declared.pattern.Item.{Item}
 use Rattle.move_choice.specs.Worth.{most_digits, is_short_number, number_said, worth_said, SaysWorth, SaysNothing}
 use Rattle.move_choice.specs.Worth.{IsWorth, said, unsaid}
-use Rattle.move_choice.proofs.Items.{short-parts}
+use Rattle.move_choice.proofs.ShortNumbers.{short-parts}
 
 -- what an item says in words it says
 said-from : (item : Item) (n : ℕ) → SaysWorth item n → worth_said item ≡ Some n
