@@ -1,0 +1,3 @@
+pub mod ShortNumbers
+pub mod Worths
+pub mod Choices

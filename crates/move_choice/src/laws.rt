@@ -1,0 +1,21 @@
+//! What the definitions of specs/ mean, in words. Each function here is a law: its contract is what is proved, and it
+//! does nothing.
+
+ghost use Rattle.std.specs.Prelude.{◌≡◌, ◌↔◌, ℕ, List, [], Some, None};
+ghost use Rattle.pat_types.specs.declared.pattern.Pattern.{Pattern};
+ghost use Rattle.match_rules.specs.declared.found.Match.{Match};
+ghost use Rattle.move_choice.specs.Worth.{worth_of, IsWorth};
+ghost use Rattle.move_choice.specs.Choice.{worth_at, choice_of, IsChoice};
+
+/// The worth of a pattern is what the first of its items says that says a number, and 0 where none does.
+pub fn worth_is_in_words()
+    ensures { (pattern : Pattern) (n : ℕ) → (worth_of pattern ≡ n) ↔ IsWorth pattern.items n }
+{}
+
+/// The choice is a match of the list of which no match is worth more, and every match before it is worth less; no other
+/// match is such. There is one exactly where the list is not empty.
+pub fn choice_is_in_words()
+    ensures choice { (patterns : List Pattern) (zs : List Match) (z : Match)
+        → (choice_of patterns zs ≡ Some z) ↔ IsChoice (worth_at patterns) zs z }
+    ensures none { (patterns : List Pattern) (zs : List Match) → (choice_of patterns zs ≡ None) ↔ (zs ≡ []) }
+{}
