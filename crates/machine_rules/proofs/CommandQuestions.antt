@@ -1,5 +1,5 @@
 -- What a line asks of the readings, by the command that it names.
-use Rattle.std.proofs.Common.{◌≡◌, ℕ, Bool, true, false, cond, List, [], ◌∷◌, Option, Some, None, refl, sym, ap, ◌∙◌}
+use Rattle.std.proofs.Common.{◌≡◌, ℕ, Bool, true, false, cond, List, [], ◌∷◌, Option, Some, None, drop, refl, sym, ap, ◌∙◌}
 use Rattle.std.specs.Option.{option_map}
 use Rattle.gtp_rules.specs.Lines.{RawLine, Line, TooLong}
 use Rattle.gtp_cmd.specs.Words.{cleaned, words_of, id_of}
@@ -8,7 +8,9 @@ use Rattle.gtp_cmd.specs.Colours.{colour_of}
 use Rattle.gtp_cmd.specs.Komi.{komi_of}
 use Rattle.gtp_cmd.specs.Words.{number_of}
 use Rattle.gtp_cmd.specs.Commands.{named, asked, called, said, said_with, parsed_words, parsed_of, command_of}
-use Rattle.gtp_cmd.specs.Commands.{first_argument, known_of, size_of, move_of, depths_of}
+use Rattle.gtp_cmd.specs.Commands.{first_argument, known_of, size_of, move_of, depths_of, claim_of, points_of}
+use Rattle.gtp_cmd.specs.Spans.{spans_of, first_span, whole_span}
+use Rattle.gtp_cmd.specs.declared.spans.Span.{Span}
 use Rattle.gtp_cmd.specs.declared.commands.CommandName.{CommandName}
 use Rattle.gtp_cmd.specs.declared.commands.CommandName.TheVariants as name
 use Rattle.gtp_cmd.specs.declared.commands.Command.{Command}
@@ -18,6 +20,7 @@ use Rattle.gtp_cmd.specs.declared.commands.Parsed.TheVariants as parsed
 use Rattle.read_rules.specs.declared.question.Kind.TheVariants.{Attack, Defend}
 use Rattle.match_engine.specs.declared.keys.Key.{Key}
 use Rattle.machine_rules.specs.Machine.{Machine}
+use Rattle.machine_rules.specs.ChoiceCommands.{is_full}
 use Rattle.machine_rules.specs.Counting.{has_stone, is_read, is_parsed_read, is_read_line}
 use Rattle.machine_rules.specs.Questions.{Asks, Nothing, One, Many, key_at, asks_of, asks_of_parsed, asks_of_line}
 use Rattle.machine_rules.specs.CertainHit.{first_named, named_after, named_by, named_in, is_reading, is_matching}
@@ -48,90 +51,127 @@ module _ (machine : Machine) where
   fits_asked c n each id None = tt
   fits_asked c n each id (Some x) = each x
 
+  -- matches are asked for where the list of moves is not full
+  fits_full : (full : Bool) → Fits (cond full Nothing Many) (Some name.GenMove)
+  fits_full true = tt
+  fits_full false = refl
+
   -- a command with its words
-  fits_command : (n : CommandName) (id : Option ℕ) (s : ℕ) (words : List (List ℕ))
-      → Fits (asks_of_parsed machine (asked id (command_of n s words))) (Some n)
-  fits_command name.ProtocolVersion id s words = tt
-  fits_command name.Name id s words = tt
-  fits_command name.Version id s words = tt
-  fits_command name.KnownCommand id s words = fits_asked command.KnownCommand (Some name.KnownCommand) (λ _. tt) id
+  fits_command : (n : CommandName) (id : Option ℕ) (s : ℕ) (words : List (List ℕ)) (spans : List Span)
+      → Fits (asks_of_parsed machine (asked id (command_of n s words spans))) (Some n)
+  fits_command name.ProtocolVersion id s words spans = tt
+  fits_command name.Name id s words spans = tt
+  fits_command name.Version id s words spans = tt
+  fits_command name.KnownCommand id s words spans = fits_asked command.KnownCommand (Some name.KnownCommand) (λ _. tt) id
       (known_of words)
-  fits_command name.ListCommands id s words = tt
-  fits_command name.Quit id s words = tt
-  fits_command name.BoardSize id s words =
+  fits_command name.ListCommands id s words spans = tt
+  fits_command name.Quit id s words spans = tt
+  fits_command name.BoardSize id s words spans =
       fits_asked (λ n. command.BoardSize (size_of n)) (Some name.BoardSize) (λ _. tt) id
       (first_argument number_of words)
-  fits_command name.ClearBoard id s words = tt
-  fits_command name.Komi id s words = fits_asked command.Komi (Some name.Komi) (λ _. tt) id
+  fits_command name.ClearBoard id s words spans = tt
+  fits_command name.Komi id s words spans = fits_asked command.Komi (Some name.Komi) (λ _. tt) id
       (first_argument komi_of words)
-  fits_command name.GetKomi id s words = tt
-  fits_command name.Play id s words = fits_asked (λ m. command.Play m.0 m.1) (Some name.Play) (λ _. tt) id
+  fits_command name.GetKomi id s words spans = tt
+  fits_command name.Play id s words spans = fits_asked (λ m. command.Play m.0 m.1) (Some name.Play) (λ _. tt) id
       (move_of s words)
-  fits_command name.Undo id s words = tt
-  fits_command name.ShowBoard id s words = tt
-  fits_command name.IsLegal id s words = fits_asked (λ m. command.IsLegal m.0 m.1) (Some name.IsLegal) (λ _. tt) id
+  fits_command name.Undo id s words spans = tt
+  fits_command name.ShowBoard id s words spans = tt
+  fits_command name.IsLegal id s words spans = fits_asked (λ m. command.IsLegal m.0 m.1) (Some name.IsLegal) (λ _. tt) id
       (move_of s words)
-  fits_command name.AllLegal id s words = fits_asked command.AllLegal (Some name.AllLegal) (λ _. tt) id
+  fits_command name.AllLegal id s words spans = fits_asked command.AllLegal (Some name.AllLegal) (λ _. tt) id
       (first_argument colour_of words)
-  fits_command name.CountLib id s words = fits_asked command.CountLib (Some name.CountLib) (λ _. tt) id
+  fits_command name.CountLib id s words spans = fits_asked command.CountLib (Some name.CountLib) (λ _. tt) id
       (first_argument (vertex_of s) words)
-  fits_command name.FindLib id s words = fits_asked command.FindLib (Some name.FindLib) (λ _. tt) id
+  fits_command name.FindLib id s words spans = fits_asked command.FindLib (Some name.FindLib) (λ _. tt) id
       (first_argument (vertex_of s) words)
-  fits_command name.Captures id s words = fits_asked command.Captures (Some name.Captures) (λ _. tt) id
+  fits_command name.Captures id s words spans = fits_asked command.Captures (Some name.Captures) (λ _. tt) id
       (first_argument colour_of words)
-  fits_command name.Attack id s words =
+  fits_command name.Attack id s words spans =
       fits_asked command.Attack (Some name.Attack)
       (λ p. fits_where (has_stone machine p) (key_at machine Attack p) (Some name.Attack) refl) id
       (first_argument (vertex_of s) words)
-  fits_command name.Defend id s words =
+  fits_command name.Defend id s words spans =
       fits_asked command.Defend (Some name.Defend)
       (λ p. fits_where (has_stone machine p) (key_at machine Defend p) (Some name.Defend) refl) id
       (first_argument (vertex_of s) words)
-  fits_command name.Depths id s words = fits_asked (λ d. command.Depths d.0 d.1) (Some name.Depths) (λ _. tt) id
+  fits_command name.Depths id s words spans = fits_asked (λ d. command.Depths d.0 d.1) (Some name.Depths) (λ _. tt) id
       (depths_of words)
-  fits_command name.MatchPatterns id s words =
+  fits_command name.MatchPatterns id s words spans =
       fits_asked command.MatchPatterns (Some name.MatchPatterns) (λ _. refl) id (first_argument colour_of words)
-  fits_command name.ListPatterns id s words = tt
+  fits_command name.ListPatterns id s words spans = tt
+  fits_command name.LoadSgf id s words spans =
+      fits_asked command.LoadSgf (Some name.LoadSgf) (λ _. tt) id (first_span spans)
+  fits_command name.AttackProof id s words spans =
+      fits_asked command.AttackProof (Some name.AttackProof) (λ _. tt) id (first_argument (vertex_of s) words)
+  fits_command name.DefendProof id s words spans =
+      fits_asked command.DefendProof (Some name.DefendProof) (λ _. tt) id (first_argument (vertex_of s) words)
+  fits_command name.CheckProof id s words spans =
+      fits_asked (λ q. command.CheckProof q.attack q.target q.code (whole_span (drop 3 spans))) (Some name.CheckProof)
+      (λ _. tt) id (claim_of s words)
+  fits_command name.Connect id s words spans =
+      fits_asked (λ m. command.Connect m.0 m.1) (Some name.Connect) (λ _. tt) id (points_of s words)
+  fits_command name.Disconnect id s words spans =
+      fits_asked (λ m. command.Disconnect m.0 m.1) (Some name.Disconnect) (λ _. tt) id (points_of s words)
+  fits_command name.GenMove id s words spans =
+      fits_asked command.GenMove (Some name.GenMove) (λ _. fits_full (is_full machine)) id
+      (first_argument colour_of words)
+  fits_command name.RegGenMove id s words spans =
+      fits_asked command.RegGenMove (Some name.RegGenMove) (λ _. refl) id (first_argument colour_of words)
+  fits_command name.HelperOff id s words spans =
+      fits_asked command.HelperOff (Some name.HelperOff) (λ _. tt) id (first_span spans)
+  fits_command name.HelperCalls id s words spans =
+      fits_asked command.HelperCalls (Some name.HelperCalls) (λ _. tt) id (first_span spans)
+  fits_command name.HelperDrop id s words spans =
+      fits_asked command.HelperDrop (Some name.HelperDrop) (λ _. tt) id (first_span spans)
 
   -- a name with its words
-  fits_called : (id : Option ℕ) (s : ℕ) (n : Option CommandName) (words : List (List ℕ))
-      → Fits (asks_of_parsed machine (called id s n words)) n
-  fits_called id s None words = tt
-  fits_called id s (Some n) words = fits_command n id s words
+  fits_called : (id : Option ℕ) (s : ℕ) (n : Option CommandName) (words : List (List ℕ)) (spans : List Span)
+      → Fits (asks_of_parsed machine (called id s n words spans)) n
+  fits_called id s None words spans = tt
+  fits_called id s (Some n) words spans = fits_command n id s words spans
 
   -- the words behind an id
-  fits_said : (id : Option ℕ) (s : ℕ) (words : List (List ℕ))
-      → Fits (asks_of_parsed machine (said id s words)) (first_named words)
-  fits_said id s [] = tt
-  fits_said id s (word ∷ words) = fits_called id s (named word) words
+  fits_said : (id : Option ℕ) (s : ℕ) (words : List (List ℕ)) (spans : List Span)
+      → Fits (asks_of_parsed machine (said id s words spans)) (first_named words)
+  fits_said id s [] spans = tt
+  fits_said id s (word ∷ words) spans = fits_called id s (named word) words (drop 1 spans)
 
   -- words of which the first may be an id
-  fits_with : (id : Option ℕ) (s : ℕ) (first : List ℕ) (more : List (List ℕ))
-      → Fits (asks_of_parsed machine (said_with id s first more)) (named_after id first more)
-  fits_with None s first more = fits_called None s (named first) more
-  fits_with (Some id) s first more = fits_said (Some id) s more
+  fits_with : (id : Option ℕ) (s : ℕ) (first : List ℕ) (more : List (List ℕ)) (spans : List Span)
+      → Fits (asks_of_parsed machine (said_with id s first more spans)) (named_after id first more)
+  fits_with None s first more spans = fits_called None s (named first) more (drop 1 spans)
+  fits_with (Some id) s first more spans = fits_said (Some id) s more (drop 1 spans)
 
   -- the words of a line
-  fits_words : (s : ℕ) (words : List (List ℕ)) → Fits (asks_of_parsed machine (parsed_words s words)) (named_by words)
-  fits_words s [] = tt
-  fits_words s (first ∷ more) = fits_with (id_of first) s first more
+  fits_words : (s : ℕ) (words : List (List ℕ)) (spans : List Span)
+      → Fits (asks_of_parsed machine (parsed_words s words spans)) (named_by words)
+  fits_words s [] spans = tt
+  fits_words s (first ∷ more) spans = fits_with (id_of first) s first more spans
 
   -- a line
   pub Fits-line : (line : RawLine) → Fits (asks_of_line machine line) (named_in line)
   unfolding asks_of_line named_in parsed_of
   Fits-line TooLong = tt
-  Fits-line (Line text) = fits_words machine.base.size (words_of (cleaned text))
+  Fits-line (Line text) = fits_words machine.base.size (words_of (cleaned text)) (spans_of text)
 
   -- where a stone stands one question is asked
   one_where : (stone : Bool) (key : Key) → is_one (cond stone (One key) Nothing) ≡ stone
   one_where true key = refl
   one_where false key = refl
 
+  -- no question by itself is asked where matches are
+  one_full : (full : Bool) → is_one (cond full Nothing Many) ≡ false
+  one_full true = refl
+  one_full false = refl
+
   -- a command asks one question exactly where it is a reading that is answered with a code
   one_command : (c : Command) → is_one (asks_of machine c) ≡ is_read machine c
   one_command (command.Attack p) = one_where (has_stone machine p) (key_at machine Attack p)
   one_command (command.Defend p) = one_where (has_stone machine p) (key_at machine Defend p)
   one_command (command.MatchPatterns friend) = refl
+  one_command (command.GenMove friend) = one_full (is_full machine)
+  one_command (command.RegGenMove friend) = refl
   one_command _ = refl
 
   -- so does what a line says

@@ -1,6 +1,6 @@
 -- What every step keeps: a refused line keeps the machine, what may stand in place of a reply is a refusal that keeps it
 -- but for the calls of helpers, and only a success ends the session.
-use Rattle.std.proofs.Common.{◌≡◌, ℕ, Bool, true, false, cond, List, [], ◌∷◌, map, Option, None, Some, get_or, arith}
+use Rattle.std.proofs.Common.{◌≡◌, ℕ, Bool, true, false, cond, List, [], ◌∷◌, map, Option, None, Some, Result, Ok, Err, get_or, arith}
 use Rattle.std.proofs.Common.{refl, sym, ap, subst, ◌∙◌}
 use Rattle.gtp_rules.specs.Lines.{RawLine, Line, TooLong}
 use Rattle.gtp_rules.specs.Steps.{Step}
@@ -22,7 +22,17 @@ use Rattle.machine_rules.specs.Matcher.{Matcher}
 use Rattle.machine_rules.specs.Calls.{AreSameButCalls, without_calls}
 use Rattle.machine_rules.specs.Effects.{Excuse, Effect, refused, told, growing, ended, fallback, replied}
 use Rattle.machine_rules.specs.Files.{Contents, IsContents}
-use Rattle.machine_rules.specs.Heard.{heard, bytes_in}
+use Rattle.machine_rules.specs.Heard.{heard, bytes_in, word_at}
+use Rattle.machine_rules.specs.HelperCommands.{of_helper}
+use Rattle.machine_rules.specs.LinkCommands.{linked}
+use Rattle.machine_rules.specs.ProofCommands.{proved}
+use Rattle.machine_rules.specs.RecordCommands.{is_utf8, recorded, loaded, loaded_by}
+use Rattle.sgf_rules.specs.declared.kind.FaultKind.{FaultKind}
+use Rattle.sgf_rules.specs.Game.{game_of}
+use Rattle.link_rules.specs.declared.question.LinkKind.{LinkKind}
+use Rattle.link_rules.specs.declared.question.LinkKind.TheVariants.{Connect, Disconnect}
+use Rattle.go_rules.specs.Position.{BoardState}
+use Rattle.read_rules.specs.declared.question.Kind.{Kind}
 use Rattle.machine_rules.specs.Loads.{Load, load_in, IsFileOf}
 use Rattle.machine_rules.specs.BoardCommands.{resized, played, taken_back, of_stone}
 use Rattle.machine_rules.specs.MatchingCommands.{after_asking, advised}
@@ -105,6 +115,32 @@ module _ (old : Machine) where
   played-kind move =
       cond-kind _ _ _ (cond-kind _ _ _ (refused-kind _) (grown-kind [] _)) (refused-kind _)
 
+  -- a game record, or its fault
+  recorded-kind : (found : Result BoardState FaultKind) → IsKind old (recorded old found)
+  recorded-kind (Ok board) = told-kind [] _
+  recorded-kind (Err kind) = refused-kind _
+
+  -- a file that is loaded
+  loaded_by-kind : (name file : List ℕ) → IsKind old (loaded_by old name file)
+  loaded_by-kind name file =
+      let read = recorded-kind (game_of file) in
+      let whole : IsKind old (loaded old file) =
+      record { refused = read.refused; excuses = (refl, tt); ended = read.ended } in
+      growing-kind _ old refl (cond-kind (is_utf8 name) _ _ whole (refused-kind _))
+
+  -- a printed proof
+  proved-kind : (kind : Kind) (p : ℕ) → IsKind old (proved old kind p)
+  proved-kind kind p = stone-kind p _ (growing-kind _ old refl (cond-kind _ _ _ (told-kind _ old) (refused-kind _)))
+
+  -- a connection
+  linked-kind : (kind : LinkKind) (a b : ℕ) → IsKind old (linked old kind a b)
+  linked-kind kind a b =
+      stone-kind a _ (stone-kind b _ (cond-kind _ _ _ (told-kind _ old) (refused-kind _)))
+
+  -- what is done of a helper
+  helper-kind : (name : List ℕ) (effect : Effect) → IsKind old effect → IsKind old (of_helper old name effect)
+  helper-kind name effect kind = growing-kind _ old refl (cond-kind _ _ _ kind (refused-kind _))
+
   module _ (matcher : Matcher) where
     -- the machine after its helpers were asked is the same but for their calls
     asking-same : (friend : Colour) → AreSameButCalls old (after_asking matcher old friend)
@@ -150,6 +186,17 @@ module _ (old : Machine) where
     effect-kind input (command.Depths plies wide) = told-kind [] _
     effect-kind input (command.MatchPatterns friend) = advised-kind friend _ _
     effect-kind input command.ListPatterns = grown-kind _ old
+    effect-kind input (command.LoadSgf span) = loaded_by-kind (word_at input.line span) input.file
+    effect-kind input (command.AttackProof p) = proved-kind Attack p
+    effect-kind input (command.DefendProof p) = proved-kind Defend p
+    effect-kind input (command.CheckProof attack p code span) = stone-kind p _ (told-kind _ old)
+    effect-kind input (command.Connect a b) = linked-kind Connect a b
+    effect-kind input (command.Disconnect a b) = linked-kind Disconnect a b
+    effect-kind input (command.GenMove friend) = cond-kind _ _ _ (refused-kind _) (advised-kind friend _ _)
+    effect-kind input (command.RegGenMove friend) = advised-kind friend _ _
+    effect-kind input (command.HelperOff span) = helper-kind _ _ (told-kind [] _)
+    effect-kind input (command.HelperCalls span) = helper-kind _ _ (told-kind _ old)
+    effect-kind input (command.HelperDrop span) = helper-kind _ _ (told-kind [] _)
 
 -- the excuses behind an id are refusals that keep the machine so
 excuses-told : (old : Machine) (id : Option ℕ) (excuses : List Excuse) → KeepMachine old excuses

@@ -40,16 +40,18 @@ is_reading (Some name.Attack) = true
 is_reading (Some name.Defend) = true
 is_reading _ = false
 
--- the command is match_patterns
+-- the command asks for matches: it is match_patterns, genmove or reg_genmove
 abbrev pub is_matching : Option CommandName → Bool
 is_matching (Some name.MatchPatterns) = true
+is_matching (Some name.GenMove) = true
+is_matching (Some name.RegGenMove) = true
 is_matching _ = false
 
 -- how many of the lines are `attack` or `defend` lines, answered or refused
 abbrev pub reading_lines : List (Turn Machine) → ℕ
 reading_lines turns = count_by (λ turn. is_reading (named_in turn.line)) turns
 
--- how many are `match_patterns` lines
+-- how many are `match_patterns`, `genmove` or `reg_genmove` lines
 abbrev pub matching_lines : List (Turn Machine) → ℕ
 matching_lines turns = count_by (λ turn. is_matching (named_in turn.line)) turns
 
@@ -63,7 +65,7 @@ board_at turn = position_of turn.machine
 
 -- After the lines before it, a line is a certain hit: an earlier line asks the same question, both are answered with a
 -- code, their positions agree on the active area of the question at the earlier one, and between them stand at most
--- three `attack` and `defend` lines and no `match_patterns` line.
+-- three `attack` and `defend` lines and no `match_patterns`, `genmove` or `reg_genmove` line.
 pub record IsCertainHit (before : List (Turn Machine)) (now : Turn Machine) : Type 0 where
   pub first : List (Turn Machine)
   pub earlier : Turn Machine

@@ -2,10 +2,13 @@ pub mod BoardCommands
 pub mod BoardText
 pub mod Calls
 pub mod CertainHit
+pub mod ChoiceCommands
 pub mod Counting
 pub mod Effects
 pub mod Files
 pub mod Heard
+pub mod HelperCommands
+pub mod LinkCommands
 pub mod Loads
 pub mod Machine
 pub mod MatchTexts
@@ -13,8 +16,10 @@ pub mod Matcher
 pub mod MatchingCommands
 pub mod PatternTexts
 pub mod PointLists
+pub mod ProofCommands
 pub mod Questions
 pub mod ReadingCommands
+pub mod RecordCommands
 pub mod Soundness
 pub mod Step
 pub mod Turns

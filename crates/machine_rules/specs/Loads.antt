@@ -2,13 +2,16 @@
 use Rattle.std.specs.Prelude.{ℕ, List, [], ◌∷◌, Option, Some, None, if◌then◌else◌}
 use Rattle.std.specs.Str.{bytes_eq}
 use Rattle.gtp_rules.specs.Lines.{RawLine}
+use Rattle.gtp_cmd.specs.Replies.{refusal_text}
+use Rattle.gtp_cmd.specs.declared.refusals.RefuseText.TheVariants.{CannotLoadFile}
 use Rattle.gtp_cmd.specs.declared.commands.Command.{Command}
 use Rattle.gtp_cmd.specs.declared.commands.Command.TheVariants as command
 use Rattle.gtp_cmd.specs.declared.commands.Parsed.{Parsed}
 use Rattle.gtp_cmd.specs.declared.commands.Parsed.TheVariants as parsed
 use Rattle.machine_rules.specs.Files.{Contents, IsContents}
-use Rattle.machine_rules.specs.Heard.{heard, bytes_in}
+use Rattle.machine_rules.specs.Heard.{heard, bytes_in, word_at}
 use Rattle.machine_rules.specs.Machine.{Machine}
+use Rattle.machine_rules.specs.RecordCommands.{is_utf8}
 use Rattle.machine_rules.specs.Turns.{Turn}
 
 -- the file that a line loads: its name, and the id of the line
@@ -16,8 +19,13 @@ pub record Load : Type 0 where
   pub id : Option ℕ
   pub name : List ℕ
 
+-- the file of this name is loaded; a name that is no text names none
+abbrev pub load_by : Option ℕ → List ℕ → Option Load
+load_by id name = if is_utf8 name then Some (record { id = id; name = name }) else None
+
 -- the file that a command loads, where its line has these bytes and this id
 abbrev pub load_of : List ℕ → Option ℕ → Command → Option Load
+load_of line id (command.LoadSgf span) = load_by id (word_at line span)
 load_of line id _ = None
 
 -- the same of what a line says
@@ -37,7 +45,8 @@ IsFileOf contents (Some load) file = IsContents (contents load.name) file
 -- the names that were missed where this was replied: that of the file that could not be loaded
 abbrev pub missed_by : Option Load → List ℕ → List (List ℕ)
 missed_by None reply = []
-missed_by (Some load) reply = []
+missed_by (Some load) reply =
+    if bytes_eq reply (refusal_text load.id CannotLoadFile) then load.name ∷ [] else []
 
 -- the names that a line missed
 abbrev pub missed_in : Turn Machine → List (List ℕ)

@@ -11,6 +11,7 @@ use Rattle.read_rules.specs.declared.question.Kind.TheVariants.{Attack, Defend}
 use Rattle.read_rules.specs.Answer.{asked_on}
 use Rattle.match_engine.specs.declared.keys.Key.{Key}
 use Rattle.machine_rules.specs.Machine.{Machine, position_of}
+use Rattle.machine_rules.specs.ChoiceCommands.{is_full}
 use Rattle.machine_rules.specs.Counting.{has_stone}
 use Rattle.machine_rules.specs.Turns.{Turn}
 
@@ -36,6 +37,8 @@ abbrev pub asks_of : Machine → Command → Asks
 asks_of machine (command.Attack p) = asks_at machine Attack p
 asks_of machine (command.Defend p) = asks_at machine Defend p
 asks_of machine (command.MatchPatterns friend) = Many
+asks_of machine (command.GenMove friend) = if is_full machine then Nothing else Many
+asks_of machine (command.RegGenMove friend) = Many
 asks_of machine _ = Nothing
 
 -- what a line that says this asks of them

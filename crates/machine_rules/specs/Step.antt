@@ -9,7 +9,7 @@ use Rattle.gtp_cmd.specs.declared.commands.Command.TheVariants as command
 use Rattle.gtp_cmd.specs.declared.commands.Parsed.{Parsed}
 use Rattle.gtp_cmd.specs.declared.commands.Parsed.TheVariants as parsed
 use Rattle.read_rules.specs.declared.question.Kind.TheVariants.{Attack, Defend}
-use Rattle.machine_rules.specs.Heard.{heard, bytes_in}
+use Rattle.machine_rules.specs.Heard.{heard, bytes_in, word_at}
 use Rattle.machine_rules.specs.Machine.{Machine}
 use Rattle.machine_rules.specs.Matcher.{Matcher}
 use Rattle.machine_rules.specs.Effects.{Effect, refused, told, grown, ended, replied}
@@ -17,12 +17,14 @@ use Rattle.machine_rules.specs.Files.{Contents}
 use Rattle.machine_rules.specs.Loads.{load_in, IsFileOf}
 use Rattle.machine_rules.specs.BoardCommands.{resized, cleared, komi_kept, played, taken_back, shown, allowed, all_allowed}
 use Rattle.machine_rules.specs.BoardCommands.{liberties_counted, liberties_found, captures_counted}
+use Rattle.link_rules.specs.declared.question.LinkKind.TheVariants.{Connect, Disconnect}
+use Rattle.machine_rules.specs.ChoiceCommands.{move_made, move_told}
+use Rattle.machine_rules.specs.HelperCommands.{switched_off, calls_told, dropped}
+use Rattle.machine_rules.specs.LinkCommands.{linked}
+use Rattle.machine_rules.specs.ProofCommands.{word_of, proved, checked, kind_of}
 use Rattle.machine_rules.specs.ReadingCommands.{read, deepened}
+use Rattle.machine_rules.specs.RecordCommands.{loaded_by}
 use Rattle.machine_rules.specs.MatchingCommands.{matches_listed, patterns_listed}
-
--- `true` or `false`
-abbrev pub word_of : Bool → List ℕ
-word_of known = if known then codes "true" else codes "false"
 
 -- what stands behind the words of a line: its bytes, and the text of the file that it loads
 pub record Input : Type 0 where
@@ -54,6 +56,18 @@ effect_of matcher old input (command.Defend p) = read old Defend p
 effect_of matcher old input (command.Depths plies wide) = deepened old plies wide
 effect_of matcher old input (command.MatchPatterns friend) = matches_listed matcher old friend
 effect_of matcher old input command.ListPatterns = patterns_listed matcher old
+effect_of matcher old input (command.LoadSgf span) = loaded_by old (word_at input.line span) input.file
+effect_of matcher old input (command.AttackProof p) = proved old Attack p
+effect_of matcher old input (command.DefendProof p) = proved old Defend p
+effect_of matcher old input (command.CheckProof attack p code span) =
+    checked old (kind_of attack) p code (word_at input.line span)
+effect_of matcher old input (command.Connect a b) = linked old Connect a b
+effect_of matcher old input (command.Disconnect a b) = linked old Disconnect a b
+effect_of matcher old input (command.GenMove friend) = move_made matcher old friend
+effect_of matcher old input (command.RegGenMove friend) = move_told matcher old friend
+effect_of matcher old input (command.HelperOff span) = switched_off old (word_at input.line span)
+effect_of matcher old input (command.HelperCalls span) = calls_told old (word_at input.line span)
+effect_of matcher old input (command.HelperDrop span) = dropped old (word_at input.line span)
 
 -- the answer to what a line says
 abbrev pub parsed_step : Matcher → Machine → Input → Parsed → Step Machine

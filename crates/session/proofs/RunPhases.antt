@@ -89,6 +89,29 @@ came-served helpers slots contents options session lines missed now before after
           (sent-told options.generate sent counting.tally counting.advances.replies counting.advances.bytes);
     })
 
+-- the same where the files were opened before, which leaves what files hold and which names were missed
+pub came-served-after : (helpers slots : List SlotState) (contents contents' : Contents) (options : Options)
+    (session : SessionState) (lines : LinesState) (missed missed' now : List (List ℕ))
+    (before after : Streams) (end : End) (counts : Counts) (w0 w1 : Option (List ℕ)) (sent : Sent)
+    (told : Option Counts) (noted : Option Sent)
+    (phase : Phase) → contents' ≡ contents → missed' ≡ missed → Opens helpers contents options session slots lines
+    → EndsCounting options.generate (step (matcher_of session) contents') IsAfterLine (machine_with slots session) before
+    after end counts now
+    (progress_of w0 (kept_with slots missed' session) (record { lines = 0; bytes = 0 })) w1 sent
+    → told ≡ cond options.stats (Some counts) None → noted ≡ option_map (λ _. sent) options.generate
+    → phase ≡ Served end → CameBy helpers options contents missed now before after told noted phase
+came-served-after helpers slots contents contents' options session lines missed missed' now before after end counts w0
+    w1 sent told noted phase same kept opens ends tells notes is =
+    came-served helpers slots contents options session lines missed now before after end counts w0 w1 sent told noted
+    phase opens
+    (subst (λ l. EndsCounting options.generate (step (matcher_of session) contents) IsAfterLine
+    (machine_with slots session) before after end counts now
+    (progress_of w0 (kept_with slots l session) (record { lines = 0; bytes = 0 })) w1 sent) kept
+    (subst (λ k. EndsCounting options.generate (step (matcher_of session) k) IsAfterLine
+    (machine_with slots session) before after end counts now
+    (progress_of w0 (kept_with slots missed' session) (record { lines = 0; bytes = 0 })) w1 sent) same ends))
+    tells notes is
+
 -- a source that never fails causes no fault
 pub uncaused : (fault : Type 0) (count : ℕ) → IsCauseOf fault 0 0 → IsCauseOf fault count count
 uncaused fault count cause = record {
