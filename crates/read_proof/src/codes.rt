@@ -8,7 +8,7 @@ use go_base::{Cell, Colour, Point, Position};
 use read_rules::{Depths, Kind, Node, ReadingQuestion};
 
 /// What a proof of the code claims of the attacker under the allowances of another code.
-pub(crate) fn claim_under(question: &ReadingQuestion, code: u8, more: u8) -> bool
+pub fn claim_under(question: &ReadingQuestion, code: u8, more: u8) -> bool
     ensures { result ≡ claim_under question.now code more }
 {
     match question.kind {
@@ -26,7 +26,7 @@ fn allowance_under(code: u8, with_one: u8) -> u8
 }
 
 /// The first node of the question under the allowances of a code.
-pub(crate) fn first_node(question: &ReadingQuestion, code: u8) -> Node
+pub fn first_node(question: &ReadingQuestion, code: u8) -> Node
     ensures { result ≡ first_node question.now code }
 {
     let own = allowance_under(code, 1);
@@ -62,7 +62,7 @@ fn colour_of(cell: Cell) -> Colour
 }
 
 /// The question that a call asks.
-pub(crate) fn question_on(
+pub fn question_on(
     pos: &Position,
     of: Kind,
     target: Point,

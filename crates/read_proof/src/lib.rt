@@ -10,7 +10,7 @@
 mod candidates;
 mod checker;
 mod children;
-mod codes;
+pub mod codes;
 pub mod laws;
 mod settled;
 mod token;

@@ -9,3 +9,4 @@ pub mod OrderLemmas
 pub mod AtariLemmas
 pub mod EscapeLemmas
 pub mod TableLemmas
+pub mod NodeLemmas

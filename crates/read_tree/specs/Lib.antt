@@ -1,5 +1,6 @@
 pub mod Allowances
 pub mod Escapes
+pub mod Nodes
 pub mod Readings
 pub mod Stages
 pub mod Steps

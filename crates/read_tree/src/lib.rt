@@ -14,7 +14,8 @@ mod bound;
 mod candidates;
 mod escape;
 mod making;
-mod memory;
+pub mod memory;
+pub mod nodes;
 mod order;
 mod outlook;
 pub mod reading;
@@ -24,6 +25,7 @@ mod tree;
 pub mod turn;
 
 pub use allowances::Allowances;
+pub use nodes::{NodeAt, wins};
 pub use read_rules::{Answer, Depths, Kind, Node, ReadingQuestion, Spot};
 pub use reading::{attack, defend, read};
 pub use report::Report;

@@ -367,7 +367,7 @@ fn has_good_move<L: Look>(
 
 /// Those of the asked under which the target is captured, with `plies` plies left.
 #[cycle(read)]
-fn attacker_wins<L: Look>(
+pub fn attacker_wins<L: Look>(
     board: &mut Trial<L>,
     turn: Turn,
     plies: u8,

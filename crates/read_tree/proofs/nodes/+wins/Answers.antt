@@ -1,0 +1,204 @@
+-- The walk over the moves of a node answers what the tree says, over every position that agrees with what was seen.
+use Rattle.std.proofs.Common.{◌≡◌, ◌∙◌, ◌*◌, ◌<◌, ◌&&◌, ℕ, true, List, ap, sym, subst, refl, inl, inr, arith, rules}
+use Rattle.std.specs.FinSet as set
+use Rattle.std.proofs.lemmas.Bool.{cases_eq}
+use Rattle.go_base.specs.Facts.{Agrees, agrees_before, Grows-refl, Grows-trans}
+use Rattle.go_rules.specs.declared.Cell.TheVariants.{Empty}
+use Rattle.go_rules.proofs.Cells.{eq_is_same_cell}
+use Rattle.go_rules.specs.Position.{BoardState}
+use Rattle.trial_board.specs.declared.moves.TrialMove.{TrialMove}
+use Rattle.trial_board.specs.Trials.{after}
+use Rattle.trial_board.proofs.AfterLemmas.{size-after}
+use Rattle.read_rules.specs.Candidates.{is_candidate}
+use Rattle.read_rules.specs.GameTree.{succeeds}
+use Rattle.read_rules.proofs.CandidateLaws.{candidate_on}
+use Rattle.read_rules.proofs.WinLemmas.{wins-captured, wins-no_plies, wins-by_move, none_before, first_success-found}
+use Rattle.read_rules.proofs.WinLemmas.{first_success-none}
+use Rattle.read_tree.proofs.TableLemmas.{table_more}
+use Rattle.read_tree.proofs.NodeLemmas.{play_made, play_refused, no_pass, pass_made, first_pass, first_point, good_barred}
+use Rattle.read_tree.proofs.NodeLemmas.{good_first}
+use Rattle.read_tree.proofs.nodes.+wins.Goals as goal
+
+-- the play is made
+pub succeeds-returns-in-Some-clause-over : goal.succeeds-returns-in-Some-clause-over
+succeeds-returns-in-Some-clause-over g t c = λ pos a.
+    let a1 = agrees_before c.wins_at-won.ensures.stays.grows (rw c.back.ensures.moves at a) in
+    play_made c.args.plies c.args.node (after pos c.args.board.now.moves) c.args.p c.in-Some.next
+    (after pos c.make_at.new.board.moves) c.make_at.result c.wins_at-won.result (c.make_at.ensures.over pos a1)
+    c.in-Some.is (c.wins_at-won.ensures.over pos (rw c.back.ensures.moves at a))
+
+-- it is not
+pub succeeds-returns-in-None-clause-over : goal.succeeds-returns-in-None-clause-over
+succeeds-returns-in-None-clause-over g t c = λ pos a.
+    play_refused c.args.plies c.args.node (after pos c.args.board.now.moves) c.args.p
+    (after pos c.make_at.new.board.moves) c.make_at.result (c.make_at.ensures.over pos a) c.in-None.is
+
+-- the attacker does not pass
+pub pass_saves-returns-then-node-clause-over : goal.pass_saves-returns-then-node-clause-over
+pass_saves-returns-then-node-clause-over g t c = λ pos a.
+    no_pass c.args.plies c.args.node (after pos c.args.board.now.moves) c.if-node.true
+
+-- the defender passes
+pub pass_saves-returns-clause-over : goal.pass_saves-returns-clause-over
+pass_saves-returns-clause-over g t c = λ pos a.
+    pass_made c.args.plies c.args.node (after pos c.args.board.now.moves) c.wins_at-won.result c.if-node.false
+    (rw (c.pass.ensures, c.next.ensures, c.allowance.ensures) at
+    (c.wins_at-won.ensures.over pos (rw c.back.ensures.moves at a)))
+
+-- a candidate is on the board
+candidate_inside : (shown : BoardState) (moves : List TrialMove) (target wide p : ℕ)
+    → is_candidate (after shown moves) target wide p ≡ true → p < shown.size * shown.size
+candidate_inside shown moves target wide p h =
+    subst (λ n. p < n * n) (size-after shown moves) (candidate_on (after shown moves) target wide p h)
+
+-- no candidate was tried yet
+pub first_success-plays-init : goal.first_success-plays-init
+first_success-plays-init g t c = record {
+  stays = c.candidates-candidates.ensures.stays;
+  grows = Grows-refl _;
+  table = table_more c.requires.table c.candidates-candidates.ensures.stays.grows;
+  none = λ pos a q below. absurd (omega (arith, below));
+}
+
+-- the next candidate and the target are on the board
+pub first_success-succeeds-requires : goal.first_success-succeeds-requires
+first_success-succeeds-requires g t c κs within =
+    let inside = candidate_inside (g.L.Look.shows c.args.board.now.look) c.args.board.now.moves c.args.node.target
+    c.args.node.wide c.in-Some.p (sym (c.candidates-candidates.ensures.answer c.in-Some.p)
+    ∙ c.in-Some.ensures.some.2) in
+    let i = c.plays.invariant in
+    let still : (p : ℕ) → p < (g.L.Look.shows c.args.board.now.look).size * (g.L.Look.shows c.args.board.now.look).size
+    → p < (g.L.Look.shows c.plays.board.look).size * (g.L.Look.shows c.plays.board.look).size =
+    λ p h. subst (λ (pos : BoardState). p < pos.size * pos.size) (sym i.stays.shown) h in
+    let on = still c.in-Some.p inside in
+    let target = still c.args.node.target c.requires.target in
+    search rules
+
+-- it does not succeed, and none before it did
+pub first_success-plays-preserved : goal.first_success-plays-preserved
+first_success-plays-preserved g t c =
+    let i = c.plays.invariant in
+    let later = c.succeeds.ensures.stays in
+    let found = c.in-Some.ensures.some in
+    record {
+      stays = record {
+        moves = later.moves ∙ i.stays.moves;
+        shown = later.shown ∙ i.stays.shown;
+        grows = Grows-trans i.stays.grows later.grows;
+      };
+      grows = Grows-trans i.grows later.grows;
+      table = c.succeeds.ensures.table;
+      none = λ pos a q below.
+          let here = after pos c.args.board.now.moves in
+          let fails = rw i.stays.moves at (c.succeeds.ensures.over pos a) in
+          elim (cases_eq q c.in-Some.p) [
+            | inl same ↦ ap (λ k. set.contains c.candidates-candidates.result k
+                && succeeds c.args.plies c.args.node here k) same
+                ∙ ap (λ b. b && succeeds c.args.plies c.args.node here c.in-Some.p) found.2
+                ∙ sym fails ∙ c.if-succeeds.false
+            | inr ne ↦ none_before (set.contains c.candidates-candidates.result)
+                (succeeds c.args.plies c.args.node here) c.plays.from c.in-Some.p
+                (i.none pos (agrees_before later.grows a)) found.3 q (omega (arith, below, ne))
+          ];
+    }
+
+-- it is the first that succeeds
+pub first_success-returns-then-succeeds-clause-over : goal.first_success-returns-then-succeeds-clause-over
+first_success-returns-then-succeeds-clause-over g t c = λ pos a.
+    let i = c.plays.invariant in
+    let found = c.in-Some.ensures.some in
+    let a1 = agrees_before c.succeeds.ensures.stays.grows a in
+    let yes = rw i.stays.moves at (c.succeeds.ensures.over pos a) in
+    first_success-found c.args.plies c.args.node (after pos c.args.board.now.moves) c.plays.from c.in-Some.p
+    (set.contains c.candidates-candidates.result)
+    (c.candidates-candidates.ensures.over pos (agrees_before i.grows a1)) (i.none pos a1) found.3 found.2
+    (sym c.if-succeeds.true ∙ yes)
+
+-- it is on the board
+pub first_success-returns-then-succeeds-clause-on_board : goal.first_success-returns-then-succeeds-clause-on_board
+first_success-returns-then-succeeds-clause-on_board g t c =
+    candidate_inside (g.L.Look.shows c.args.board.now.look) c.args.board.now.moves c.args.node.target
+    c.args.node.wide c.in-Some.p (sym (c.candidates-candidates.ensures.answer c.in-Some.p)
+    ∙ c.in-Some.ensures.some.2)
+
+-- none succeeds
+pub first_success-returns-clause-over : goal.first_success-returns-clause-over
+first_success-returns-clause-over g t c = λ pos a.
+    let i = c.plays.invariant in
+    first_success-none c.args.plies c.args.node (after pos c.args.board.now.moves) c.plays.from
+    (set.contains c.candidates-candidates.result)
+    (c.candidates-candidates.ensures.over pos (agrees_before i.grows a)) (i.none pos a) c.in_default.ensures.none
+
+-- the pass saves the target
+pub first_move-returns-then-pass_saves-clause-over : goal.first_move-returns-then-pass_saves-clause-over
+first_move-returns-then-pass_saves-clause-over g t c = λ pos a.
+    first_pass c.args.plies c.args.node (after pos c.args.board.now.moves)
+    (sym c.if-pass_saves.true ∙ c.pass_saves.ensures.over pos a)
+
+-- a point is the first move
+pub first_move-returns-in-Some-clause-over : goal.first_move-returns-in-Some-clause-over
+first_move-returns-in-Some-clause-over g t c = λ pos a.
+    let a1 = agrees_before c.first_success.ensures.stays.grows a in
+    let point = rw (c.pass_saves.ensures.stays.moves, c.in-Some.is) at (c.first_success.ensures.over pos a) in
+    first_point c.args.plies c.args.node (after pos c.args.board.now.moves) _
+    (sym c.if-pass_saves.false ∙ c.pass_saves.ensures.over pos a1) point
+
+-- none is
+pub first_move-returns-in-None-clause-over : goal.first_move-returns-in-None-clause-over
+first_move-returns-in-None-clause-over g t c = λ pos a.
+    let a1 = agrees_before c.first_success.ensures.stays.grows a in
+    let point = rw (c.pass_saves.ensures.stays.moves, c.in-None.is) at (c.first_success.ensures.over pos a) in
+    first_point c.args.plies c.args.node (after pos c.args.board.now.moves) _
+    (sym c.if-pass_saves.false ∙ c.pass_saves.ensures.over pos a1) point
+
+-- the attacker may not play
+pub has_good_move-returns-then-is_barred-clause-over : goal.has_good_move-returns-then-is_barred-clause-over
+has_good_move-returns-then-is_barred-clause-over g t c = λ pos a.
+    good_barred c.args.plies c.args.node (after pos c.args.board.now.moves)
+    (sym c.if-is_barred.true ∙ c.is_barred.ensures.over pos a)
+
+-- the first move is good
+pub has_good_move-returns-clause-over : goal.has_good_move-returns-clause-over
+has_good_move-returns-clause-over g t c = λ pos a.
+    let a1 = agrees_before c.first_move.ensures.stays.grows a in
+    let first = rw c.is_barred.ensures.stays.moves at (c.first_move.ensures.over pos a) in
+    c.is_some.ensures ∙ good_first c.args.plies c.args.node (after pos c.args.board.now.moves) c.first_move.result
+    (sym c.if-is_barred.false ∙ c.is_barred.ensures.over pos a1) first
+
+-- the target is captured
+pub wins_at-returns-then-eq-clause-over : goal.wins_at-returns-then-eq-clause-over
+wins_at-returns-then-eq-clause-over g t c = λ pos a.
+    let cell = c.cell.ensures.over pos a in
+    let taken = sym (eq_is_same_cell c.cell.result Empty) ∙ sym c.eq.ensures ∙ c.if-eq.true in
+    sym (wins-captured c.args.plies c.args.node (after pos c.args.board.now.moves) (rw cell at taken))
+
+-- no ply is left
+pub wins_at-returns-then-plies-eq0-clause-over : goal.wins_at-returns-then-plies-eq0-clause-over
+wins_at-returns-then-plies-eq0-clause-over g t c = λ pos a.
+    let cell = c.cell.ensures.over pos a in
+    let stands = sym (eq_is_same_cell c.cell.result Empty) ∙ sym c.eq.ensures ∙ c.if-eq.false in
+    sym (wins-no_plies c.args.plies c.args.node (after pos c.args.board.now.moves) (rw cell at stands)
+    c.if-plies-eq0.true)
+
+-- the table stays true
+pub wins_at-returns-then-eq-clause-table : goal.wins_at-returns-then-eq-clause-table
+wins_at-returns-then-eq-clause-table g t c = table_more c.requires.table c.cell.ensures.stays.grows
+
+-- and so where no ply is left
+pub wins_at-returns-then-plies-eq0-clause-table : goal.wins_at-returns-then-plies-eq0-clause-table
+wins_at-returns-then-plies-eq0-clause-table g t c = table_more c.requires.table c.cell.ensures.stays.grows
+
+-- and where the moves are tried
+pub wins_at-has_good_move-requires : goal.wins_at-has_good_move-requires
+wins_at-has_good_move-requires g t c κs within =
+    let table = table_more c.requires.table c.cell.ensures.stays.grows in
+    search rules
+
+-- the side to play has a good move or none
+pub wins_at-returns-clause-over : goal.wins_at-returns-clause-over
+wins_at-returns-clause-over g t c = λ pos a.
+    let cell = c.cell.ensures.over pos (agrees_before c.has_good_move.ensures.stays.grows a) in
+    let stands = sym (eq_is_same_cell c.cell.result Empty) ∙ sym c.eq.ensures ∙ c.if-eq.false in
+    wins-by_move c.args.plies c.args.node (after pos c.args.board.now.moves) c.has_good_move.result
+    (rw cell at stands) c.if-plies-eq0.false
+    (rw c.cell.ensures.stays.moves at (c.has_good_move.ensures.over pos a))

@@ -1,0 +1,41 @@
+-- A node of the game tree on a board with trial moves, under whatever ko allowances.
+use Rattle.std.specs.Prelude.{◌≡◌, ℕ, ◌+◌, Bool, not, ◌&&◌, ◌==◌, nat_lt, Option}
+use Rattle.std.specs.Option.{option_map}
+use Rattle.go_rules.specs.Position.{BoardState}
+use Rattle.read_rules.specs.declared.node.Node.{Node}
+use Rattle.read_rules.specs.GameTree.{child_of}
+use Rattle.read_tree.specs.declared.allowances.Allowances.{Allowances}
+use Rattle.read_tree.specs.declared.nodes.NodeAt.{NodeAt}
+
+-- at most one side may still ignore the ban, and that once
+abbrev pub has_one_at_most : Node → Bool
+has_one_at_most node = nat_lt (node.attacker_ko + node.defender_ko) 2
+
+-- the allowances of a node: of the attacker where he may still ignore the ban, of the defender where he may, and that of
+-- neither where neither may
+abbrev pub the_allowance : Node → Allowances
+the_allowance node = record {
+  defender = nat_lt 0 node.defender_ko;
+  neither = (node.attacker_ko == 0) && (node.defender_ko == 0);
+  attacker = nat_lt 0 node.attacker_ko;
+}
+
+-- both nodes are about the same string
+pub record SameString (node next : Node) : Type 0 where
+  pub target : next.target ≡ node.target
+  pub defender : next.defender ≡ node.defender
+
+-- the mover's play at p leads from here to this node over new; or, with no node, it cannot be played
+abbrev pub LeadsTo : Node → BoardState → ℕ → Option Node → BoardState → Type 0
+LeadsTo node here p next new = child_of node here p ≡ option_map (λ n. (n, new)) next
+
+-- the node of the game tree
+abbrev pub game_node : NodeAt → Node
+game_node node = record {
+  target = node.target;
+  defender = node.defender;
+  attacker_to_play = node.attacker_turn;
+  wide = node.k;
+  attacker_ko = node.a;
+  defender_ko = node.d;
+}

@@ -1,0 +1,226 @@
+-- What is written at a node, by what is written at the nodes to which its moves lead.
+use Rattle.std.proofs.Common.{◌≡◌, ◌∙◌, ℕ, zero, suc, ◌-◌, ◌≤◌, Bool, true, false, cond, List, [], ◌∷◌, ◌++◌, length}
+use Rattle.std.proofs.Common.{Option, Some, None, Result, Ok, Err, refl, sym, ap, subst, arith, codes, ltb, eqb, ◌||◌, ◌&&◌}
+use Rattle.std.proofs.Common.{not, ◌+◌, ◌/◌, ◌<◌, ◌≢◌, drop, ◌↔◌}
+use Rattle.std.proofs.lemmas.Bool.{ne_eqb}
+use Rattle.std.specs.List.{filter_map, filter, range_with_len}
+use Rattle.std.specs.Option.{option_to_list, option_map}
+use Rattle.std.specs.Result.{IsErrAnd}
+use Rattle.std.proofs.lemmas.List.{append-nil}
+use Rattle.go_rules.specs.Position.{BoardState}
+use Rattle.go_rules.specs.Play.{pass}
+use Rattle.go_rules.specs.Strings.{liberties}
+use Rattle.go_base.specs.Facts.{Fact}
+use Rattle.trial_board.specs.Trials.{Trying, Stays, after}
+use Rattle.read_rules.specs.declared.node.Node.{Node}
+use Rattle.read_rules.specs.declared.question.Spot.{Spot}
+use Rattle.read_rules.specs.declared.question.Spot.TheVariants.{At, Pass}
+use Rattle.read_rules.specs.Candidates.{is_candidate}
+use Rattle.read_rules.specs.GameTree.{child_of, next_node, allowance_of, first_move, is_captured, has_many_liberties}
+use Rattle.read_rules.proofs.RuleLemmas.{first_move_gives}
+use Rattle.read_tree.specs.Nodes.{LeadsTo}
+use Rattle.read_proof.specs.Proves.{child_after, passed, pass_children, is_settled, has_too_many}
+use Rattle.read_proof.specs.FirstProof.{Writer, move_word, write_child, write_each, write_move, first_words}
+use Rattle.write_proof.specs.declared.text.ProofError.{ProofError}
+use Rattle.write_proof.specs.declared.text.ProofError.TheVariants.{TooLong, NoMemory}
+use Rattle.write_proof.specs.Printed.{most_bytes, behind_blanks, Puts, Writes, position_on}
+use Rattle.write_proof.proofs.PutLemmas.{puts_both, puts_up, blanks_both, one_less}
+
+-- where the trial moves and the position shown stay, so does the position after the moves
+pub here_stays : {L : Type 0} (shows : L → BoardState) (seen : L → Fact → Bool) (old new : Trying L)
+    → Stays shows seen old new → position_on shows new ≡ position_on shows old
+here_stays shows seen old new stays =
+    ap (after (shows new.look)) stays.moves ∙ ap (λ (p : BoardState). after p old.moves) stays.shown
+
+-- nothing is put where nothing is to be written
+pub nothing_put : (out more : List ℕ) → [] ≡ more → length out ≤ most_bytes → Puts {T = Unit {0}} out more out (Ok tt)
+nothing_put out more none room = (sym (append-nil out) ∙ ap (λ t. out ++ t) none, room)
+
+-- the words at one child, where there is one
+pub child_each : (write : Writer) (o : Option (Node × BoardState))
+    → write_child write o ≡ write_each write (option_to_list o)
+child_each write None = refl
+child_each write (Some child) = sym (append-nil (write child.0 child.1))
+
+-- the words at the child after the pass, where there is one
+pass_each : (write : Writer) (attacker : Bool) (child : Node × BoardState)
+    → write_child write (cond attacker None (Some child)) ≡ write_each write (cond attacker [] (child ∷ []))
+pass_each write true child = refl
+pass_each write false child = sym (append-nil (write child.0 child.1))
+
+-- The first proof of a claim at a node, with n plies left after its move.
+module _ (n : ℕ) (won : Bool) (node : Node) (here : BoardState) where
+  -- what is written after a play that was made
+  pub play_written : {T : Type 0} (p : ℕ) (child : Option Node) (next : Node) (new : BoardState) (old out : List ℕ)
+      (r : Result T ProofError) → LeadsTo node here p child new → child ≡ Some next
+      → Puts old (behind_blanks (first_words n won next new)) out r
+      → Puts old (behind_blanks (write_each (first_words n won) (option_to_list (child_of node here p)))) out r
+  play_written p child next new old out r leads is h =
+      let made = leads ∙ ap (option_map (λ (m : Node). (m, new))) is in
+      subst (λ ws. Puts old (behind_blanks ws) out r)
+      (sym (append-nil (first_words n won next new))
+      ∙ sym (ap (λ o. write_each (first_words n won) (option_to_list o)) made)) h
+
+  -- nothing is written after one that was not
+  pub refused_written : (p : ℕ) (child : Option Node) (new : BoardState) → LeadsTo node here p child new → child ≡ None
+      → [] ≡ behind_blanks (write_each (first_words n won) (option_to_list (child_of node here p)))
+  refused_written p child new leads is =
+      sym (ap (λ o. behind_blanks (write_each (first_words n won) (option_to_list o)))
+      (leads ∙ ap (option_map (λ (m : Node). (m, new))) is))
+
+  -- the attacker does not pass
+  pub no_pass_written : node.attacker_to_play ≡ true
+      → [] ≡ behind_blanks (write_each (first_words n won) (pass_children node here))
+  no_pass_written e =
+      sym (ap (λ b. behind_blanks (write_each (first_words n won) (cond b [] (passed node here ∷ [])))) e)
+
+  -- what is written after the defender's pass
+  pub pass_written : {T : Type 0} (old out : List ℕ) (r : Result T ProofError) → node.attacker_to_play ≡ false
+      → Puts old (behind_blanks (first_words n won (next_node node (allowance_of node)) (pass here))) out r
+      → Puts old (behind_blanks (write_each (first_words n won) (pass_children node here))) out r
+  pass_written old out r e h =
+      subst (λ ws. Puts old (behind_blanks ws) out r)
+      (sym (append-nil (first_words n won (next_node node (allowance_of node)) (pass here)))
+      ∙ sym (ap (λ b. write_each (first_words n won) (cond b [] (passed node here ∷ []))) e)) h
+
+  -- the words of a move are its own, and those at its child
+  move_parts : (size : ℕ) (spot : Spot) → size ≡ here.size → Some spot ≡ first_move n node here
+      → behind_blanks (move_word size spot ∷ [])
+      ++ behind_blanks (write_child (first_words n won) (child_after node here spot))
+      ≡ behind_blanks (write_move (first_words n won) node here (first_move n node here))
+  move_parts size spot same is =
+      sym (blanks_both (move_word size spot ∷ []) (write_child (first_words n won) (child_after node here spot)))
+      ∙ ap (λ s. behind_blanks (move_word s spot ∷ write_child (first_words n won) (child_after node here spot))) same
+      ∙ ap (λ o. behind_blanks (write_move (first_words n won) node here o)) is
+
+  -- what is written at the child of the first move, behind its word
+  pub move_written : {T : Type 0} (size : ℕ) (spot : Spot) (old mid out more : List ℕ) (r : Result T ProofError)
+      → size ≡ here.size → Some spot ≡ first_move n node here → mid ≡ old ++ behind_blanks (move_word size spot ∷ [])
+      → more ≡ behind_blanks (write_child (first_words n won) (child_after node here spot))
+      → Puts mid more out r
+      → Puts old (behind_blanks (write_move (first_words n won) node here (first_move n node here))) out r
+  move_written size spot old mid out more r same is behind words h =
+      subst (λ ws. Puts old ws out r) (move_parts size spot same is)
+      (puts_both old mid out (behind_blanks (move_word size spot ∷ []))
+      (behind_blanks (write_child (first_words n won) (child_after node here spot))) r behind
+      (subst (λ ws. Puts mid ws out r) words h))
+
+  -- there was no room for its word
+  pub move_refused : {T : Type 0} (size : ℕ) (spot : Spot) (old out end : List ℕ) (e : ProofError)
+      (r : Result T ProofError) → size ≡ here.size → Some spot ≡ first_move n node here → IsErrAnd r (λ k. k ≡ e)
+      → Puts {T = Unit {0}} old (behind_blanks (move_word size spot ∷ [])) out (Err e)
+      → Puts old (behind_blanks (write_move (first_words n won) node here (first_move n node here))) end r
+  move_refused size spot old out end e r same is up h =
+      subst (λ ws. Puts old ws end r) (move_parts size spot same is)
+      (puts_up old out end (behind_blanks (move_word size spot ∷ []))
+      (behind_blanks (write_child (first_words n won) (child_after node here spot))) e r up h)
+
+  -- no move is written where none will do
+  pub no_move_written : None ≡ first_move n node here
+      → [] ≡ behind_blanks (write_move (first_words n won) node here (first_move n node here))
+  no_move_written is = ap (λ o. behind_blanks (write_move (first_words n won) node here o)) is
+
+  -- the child after a play that is the first move
+  pub play_child : (p : ℕ) → Some (At p) ≡ first_move n node here
+      → behind_blanks (write_each (first_words n won) (option_to_list (child_of node here p)))
+      ≡ behind_blanks (write_child (first_words n won) (child_after node here (At p)))
+  unfolding child_after
+  play_child p is =
+      let candidate = (first_move_gives n node here (At p) (sym is)).succeeds.candidate in
+      ap behind_blanks (sym (child_each (first_words n won) (child_of node here p))
+      ∙ sym (ap (λ b. write_child (first_words n won) (cond b (child_of node here p) None)) candidate))
+
+  -- the child after the pass
+  pub pass_child : behind_blanks (write_each (first_words n won) (pass_children node here))
+      ≡ behind_blanks (write_child (first_words n won) (child_after node here Pass))
+  unfolding child_after
+  pass_child = ap behind_blanks (sym (pass_each (first_words n won) node.attacker_to_play (passed node here)))
+
+-- before the first candidate everything is left to write
+pub all_left : (write : Writer) (f : ℕ → Option (Node × BoardState)) (g : ℕ → Bool) (n : ℕ) (out : List ℕ)
+    → out ++ behind_blanks (write_each write (filter_map f (filter g (range_with_len 0 (n - 0)))))
+    ≡ out ++ behind_blanks (write_each write (filter_map f (filter g (range_with_len 0 n))))
+all_left write f g n out =
+    let less : n - 0 ≡ n = omega arith in
+    ap (λ m. out ++ behind_blanks (write_each write (filter_map f (filter g (range_with_len 0 m))))) less
+
+-- The claim at a node with n plies left, by what was found of the target.
+module _ (n : ℕ) (node : Node) (here : BoardState) (captured : Bool) (found : captured ≡ is_captured here node.target)
+  where
+    -- that the attacker wins is settled where the target is captured
+    pub settled_won : (won : Bool) → won ≡ true → captured ≡ is_settled n won node here
+    unfolding is_settled
+    settled_won won e =
+        found ∙ sym (ap (λ b. cond b (is_captured here node.target) (not (is_captured here node.target)
+        && (eqb n 0 || has_too_many n node here))) e)
+
+    -- that he does not is not, where it is
+    pub settled_captured : (won : Bool) → won ≡ false → captured ≡ true → false ≡ is_settled n won node here
+    unfolding is_settled
+    settled_captured won e taken =
+        sym (ap (λ b. cond b (is_captured here node.target) (not (is_captured here node.target)
+        && (eqb n 0 || has_too_many n node here))) e
+        ∙ ap (λ b. not b && (eqb n 0 || has_too_many n node here)) (sym found ∙ taken))
+
+    -- else it is where no ply is left
+    pub settled_end : (won : Bool) → won ≡ false → captured ≡ false → n ≡ 0 → true ≡ is_settled n won node here
+    unfolding is_settled
+    settled_end won e stands none =
+        sym (ap (λ b. cond b (is_captured here node.target) (not (is_captured here node.target)
+        && (eqb n 0 || has_too_many n node here))) e
+        ∙ ap (λ b. not b && (eqb n 0 || has_too_many n node here)) (sym found ∙ stands)
+        ∙ ap (λ m. eqb m 0 || has_too_many n node here) none)
+
+    -- or the target has too many liberties
+    pub settled_many : (won : Bool) (many : ℕ) → won ≡ false → captured ≡ false → n ≢ 0
+        → many ≡ liberties here.size here.cells node.target
+        → cond node.attacker_to_play (ltb ((n + 1) / 2) many || (ltb 4 many || (eqb node.wide 0 && ltb 2 many)))
+        (ltb (n / 2) many) ≡ is_settled n won node here
+    unfolding is_settled has_too_many has_many_liberties
+    settled_many won many e stands some is =
+        ap (λ m. cond node.attacker_to_play (ltb ((n + 1) / 2) m || (ltb 4 m || (eqb node.wide 0 && ltb 2 m)))
+        (ltb (n / 2) m)) is
+        ∙ sym (ap (λ b. cond b (is_captured here node.target) (not (is_captured here node.target)
+        && (eqb n 0 || has_too_many n node here))) e
+        ∙ ap (λ b. not b && (eqb n 0 || has_too_many n node here)) (sym found ∙ stands)
+        ∙ ap (λ b. b || has_too_many n node here) (ne_eqb n 0 some))
+
+-- The whole text, by its words behind blanks.
+module _ {U : Type 0} (bytes text : List ℕ) (some : 0 < length bytes) (is : drop 1 bytes ≡ text) where
+  -- it is not too long where these are not
+  pub short_text : (proof : U) → length bytes ≤ most_bytes → ◌≢◌ {A = Result U ProofError} (Ok proof) (Err NoMemory)
+      → ◌≡◌ {A = Result U ProofError} (Ok proof) (Err TooLong) ↔ (60000 < length text)
+  short_text proof few memory = (
+    (λ e. absurd cc),
+    (λ long. absurd (let less = one_less bytes some in let same = ap length is in omega (arith, less, same, few, long))),
+  )
+
+  -- and where these were not all written for want of room, it is
+  pub long_text : (e : ProofError) (s : Result U ProofError) → IsErrAnd s (λ k. k ≡ e) → Writes bytes (Err e)
+      → s ≢ Err NoMemory → s ≡ Err TooLong ↔ (60000 < length text)
+  long_text e (Ok proof) same h memory = absurd same
+  long_text TooLong (Err k) same h memory = (
+    (λ over. let less = one_less bytes some in let size = ap length is in omega (arith, less, size, h)),
+    (λ long. ap Err same),
+  )
+  long_text NoMemory (Err k) same h memory = absurd (memory (ap Err same))
+
+-- what was put behind nothing was written
+pub written : {T : Type 0} (start bytes all out : List ℕ) (r : Result T ProofError) (done : T) → start ≡ [] → bytes ≡ all
+    → r ≡ Ok done → Puts start bytes out r → Writes all (Ok out)
+written {T} start bytes all out r done none same is h =
+    let put : Puts {T = T} [] all out (Ok done) =
+    subst (λ (x : Result T ProofError). Puts [] all out x) is
+    (subst (λ b. Puts [] b out r) same (subst (λ a. Puts a bytes out r) none h)) in
+    (put.0, put.1)
+
+-- where not all of it was put, not all was written
+pub not_written : {T : Type 0} (start bytes all out : List ℕ) (r : Result T ProofError) (e : ProofError) → start ≡ []
+    → bytes ≡ all → r ≡ Err e → Puts start bytes out r → Writes all (Err e)
+not_written {T} start bytes all out r e none same is h =
+    by e (subst (λ (x : Result T ProofError). Puts [] all out x) is
+    (subst (λ b. Puts [] b out r) same (subst (λ a. Puts a bytes out r) none h)))
+  where
+    by : (e : ProofError) → Puts {T = T} [] all out (Err e) → Writes all (Err e)
+    by TooLong long = long
+    by NoMemory done = tt

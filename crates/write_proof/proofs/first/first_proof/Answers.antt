@@ -1,0 +1,67 @@
+use Rattle.std.proofs.Common.{◌≡◌, ◌∙◌, ◌++◌, ℕ, drop, ap, sym, subst, refl}
+use Rattle.go_rules.specs.Position.{BoardState}
+use Rattle.read_rules.specs.declared.question.ReadingQuestion.{ReadingQuestion}
+use Rattle.read_rules.specs.Answer.{answer_of, asked_on}
+use Rattle.read_rules.proofs.RuleLemmas.{code-answer_of}
+use Rattle.read_proof.specs.ProofOf.{codes_down_to, IsProofOf}
+use Rattle.read_proof.specs.FirstProof.{first_words_of, first_text}
+use Rattle.read_proof.proofs.QuestionLemmas.{about_asked}
+use Rattle.read_proof.proofs.TextLemmas.{first_text_proves}
+use Rattle.write_proof.specs.Printed.{behind_blanks}
+use Rattle.write_proof.proofs.PutLemmas.{text_words, some_text}
+use Rattle.write_proof.proofs.WriteLemmas.{short_text, long_text}
+use Rattle.write_proof.proofs.first.first_proof.Goals as goal
+
+-- the first text by the question that was asked and the code that was found
+text_of : (q asked : ReadingQuestion) (pos : BoardState) (code : ℕ) → q ≡ asked → code ≡ (answer_of asked pos).code
+    → drop 1 (behind_blanks (first_words_of q pos code (codes_down_to code))) ≡ first_text asked pos
+text_of q asked pos code e is =
+    ap (λ (m : ReadingQuestion). drop 1 (behind_blanks (first_words_of m pos code (codes_down_to code)))) e
+    ∙ text_words asked pos code (is ∙ code-answer_of asked pos)
+
+-- the words that were written have a first byte
+pub without_first-requires : goal.without_first-requires
+without_first-requires c =
+    rw c.in_ok-words.ensures.0 (some_text c.question_on-question.result c.args.pos.now c.code_of-code.result)
+
+-- without it, they are the first text
+pub returns-in-Ok-clause-text : goal.returns-in-Ok-clause-text
+returns-in-Ok-clause-text c =
+    c.in-Ok.ensures ∙ ap (drop 1) c.in_ok-words.ensures.0
+    ∙ text_of c.question_on-question.result
+    (asked_on c.args.pos.now c.args.of c.args.target c.args.depths.plies c.args.depths.wide) c.args.pos.now
+    c.code_of-code.result c.question_on-question.ensures c.code_of-code.ensures
+
+-- so it is a proof of the code
+pub returns-in-Ok-clause-accepted : goal.returns-in-Ok-clause-accepted
+returns-in-Ok-clause-accepted c =
+    let pos = c.args.pos.now in
+    let q = asked_on pos c.args.of c.args.target c.args.depths.plies c.args.depths.wide in
+    let here = c.size.ensures.position in
+    subst (λ k. IsProofOf q pos k c.in-Ok.text) (sym c.code_of-code.ensures)
+    (subst (λ t. IsProofOf q pos (answer_of q pos).code t) (sym (returns-in-Ok-clause-text c))
+    (first_text_proves q pos (record { at_least = here.size_at_least; at_most = here.size_at_most })
+    c.requires.on_board
+    (about_asked pos c.args.of c.args.target c.args.depths.plies c.args.depths.wide c.requires.stone)))
+
+-- and it is not too long
+pub returns-in-Ok-clause-too_long : goal.returns-in-Ok-clause-too_long
+returns-in-Ok-clause-too_long c =
+    let words = behind_blanks (first_words_of c.question_on-question.result c.args.pos.now c.code_of-code.result
+    (codes_down_to c.code_of-code.result)) in
+    short_text words _ (some_text c.question_on-question.result c.args.pos.now c.code_of-code.result)
+    (text_of c.question_on-question.result
+    (asked_on c.args.pos.now c.args.of c.args.target c.args.depths.plies c.args.depths.wide) c.args.pos.now
+    c.code_of-code.result c.question_on-question.ensures c.code_of-code.ensures) _
+    (rw c.in_ok-words.ensures.0 at c.in_ok-words.ensures.1)
+
+-- not all of them were written
+pub returns-in_err-words-clause-too_long : goal.returns-in_err-words-clause-too_long
+returns-in_err-words-clause-too_long c =
+    let words = behind_blanks (first_words_of c.question_on-question.result c.args.pos.now c.code_of-code.result
+    (codes_down_to c.code_of-code.result)) in
+    long_text words _ (some_text c.question_on-question.result c.args.pos.now c.code_of-code.result)
+    (text_of c.question_on-question.result
+    (asked_on c.args.pos.now c.args.of c.args.target c.args.depths.plies c.args.depths.wide) c.args.pos.now
+    c.code_of-code.result c.question_on-question.ensures c.code_of-code.ensures) c.in_err-words.field-0.0
+    c.from_residual.result c.from_residual.ensures.1 c.in_err-words.ensures

@@ -1,0 +1,50 @@
+use Rattle.std.proofs.Common.{◌≡◌, ◌+◌, ◌-◌, ◌*◌, ◌≤◌, ◌++◌, length}
+use Rattle.std.specs.List.{filter_map, filter, range_with_len}
+use Rattle.go_rules.specs.Board.{largest_points}
+use Rattle.trial_board.specs.Trials.{Stays}
+use Rattle.read_rules.specs.Candidates.{is_candidate}
+use Rattle.read_rules.specs.GameTree.{child_of}
+use Rattle.read_tree.specs.Table.{IsTrueTable}
+use Rattle.read_proof.specs.Proves.{play_children}
+use Rattle.read_proof.specs.FirstProof.{write_each, first_words}
+use Rattle.write_proof.specs.Printed.{behind_blanks, most_bytes, position_on}
+use Rattle.write_proof.proofs.walk.+write.Given as goal
+
+-- each step down the tree spends a ply
+abbrev pub decreases-write : goal.decreases-write
+decreases-write g l = 4 * l.plies
+
+-- a play is written with as many plies as the node after it
+abbrev pub decreases-write_play : goal.decreases-write_play
+decreases-write_play g l = 4 * l.plies + 1
+
+-- and so is the pass
+abbrev pub decreases-write_pass : goal.decreases-write_pass
+decreases-write_pass g l = 4 * l.plies + 1
+
+-- the plays are one step above each of them
+abbrev pub decreases-write_plays : goal.decreases-write_plays
+decreases-write_plays g l = 4 * l.plies + 2
+
+-- and so is the first move
+abbrev pub decreases-write_move : goal.decreases-write_move
+decreases-write_move g l = 4 * l.plies + 2
+
+-- what is written so far, and what is left to write from the next candidate on, are what was to be written
+abbrev pub invariant-write_plays-plays : goal.invariant-write_plays-plays
+invariant-write_plays-plays g l = record {
+  stays : Stays g.L.Look.shows g.L.Look.seen l.fn.board l.board;
+  table : IsTrueTable (g.L.Look.seen l.board.look) l.node.target l.node.defender l.memory.table.now;
+  text : l.out ++ behind_blanks (write_each (first_words l.plies l.won)
+      (filter_map (child_of l.node (position_on g.L.Look.shows l.fn.board))
+      (filter (is_candidate (position_on g.L.Look.shows l.fn.board) l.node.target l.node.wide)
+      (range_with_len l.from ((position_on g.L.Look.shows l.fn.board).size
+      * (position_on g.L.Look.shows l.fn.board).size - l.from)))))
+      ≡ l.fn.out ++ behind_blanks (write_each (first_words l.plies l.won)
+      (play_children l.node (position_on g.L.Look.shows l.fn.board)));
+  bytes : length l.out ≤ most_bytes;
+}
+
+-- how many points are left
+abbrev pub decreases-write_plays-plays : goal.decreases-write_plays-plays
+decreases-write_plays-plays g l = largest_points - l.from

@@ -1,0 +1,80 @@
+//! The first proof of a code: a letter and the first proof of a claim for each code from 3 down.
+
+ghost use Rattle.std.specs.Prelude.{◌≡◌, ◌+◌, ◌*◌, ◌<◌, ◌≤◌, [], ◌∷◌, length};
+ghost use Rattle.trial_board.specs.Trials.{Stays, most_moves};
+ghost use Rattle.read_tree.specs.Table.{IsTrueTable};
+ghost use Rattle.read_tree.specs.Walk.{IsPointOf};
+ghost use Rattle.read_proof.specs.ProofOf.{codes_down_to, letter_of};
+ghost use Rattle.read_proof.specs.FirstProof.{first_words_of};
+ghost use Rattle.write_proof.specs.Printed.{behind_blanks, most_bytes, Puts, position_on};
+
+use crate::text::{ProofError, put_word};
+use crate::walk::write;
+use go_base::{Bytes, Look};
+use read_proof::codes::{claim_under, first_node};
+use read_rules::ReadingQuestion;
+use read_tree::memory::Memory;
+use trial_board::Trial;
+
+/// The letter of a claim.
+fn letter(won: bool) -> &'static [u8]
+    ensures { result.now ≡ letter_of won }
+{
+    if won { b"W" } else { b"N" }
+}
+
+/// Writes the letter and the first proof of what a proof of the code claims under the allowances of another code.
+fn write_under<L: Look>(
+    board: &mut Trial<L>,
+    question: &ReadingQuestion,
+    code: u8,
+    more: u8,
+    memory: &mut Memory,
+    out: &mut Bytes,
+) -> Result<(), ProofError>
+    requires room { length board.old.moves + question.now.plies ≤ most_moves }
+    requires target { IsPointOf L.shows board.old question.now.target }
+    requires table { IsTrueTable (L.seen board.old.look) question.now.target question.now.colour memory.old.table.now }
+    requires bytes { length out.old ≤ most_bytes }
+    ensures stays { Stays L.shows L.seen board.old board.new }
+    ensures table { IsTrueTable (L.seen board.new.look) question.now.target question.now.colour memory.new.table.now }
+    ensures puts { Puts out.old
+        (behind_blanks (first_words_of question.now (position_on L.shows board.old) code (more ∷ []))) out.new result }
+{
+    let won = claim_under(question, code, more);
+    put_word(out, letter(won))?;
+    write(
+        board,
+        first_node(question, more),
+        question.plies,
+        won,
+        memory,
+        out,
+    )
+}
+
+/// Writes the first proof of the code: what is claimed under the codes from 3 down to it, or to 1.
+pub fn write_all<L: Look>(
+    board: &mut Trial<L>,
+    question: &ReadingQuestion,
+    code: u8,
+    memory: &mut Memory,
+    out: &mut Bytes,
+) -> Result<(), ProofError>
+    requires room { length board.old.moves + question.now.plies ≤ most_moves }
+    requires target { IsPointOf L.shows board.old question.now.target }
+    requires table { IsTrueTable (L.seen board.old.look) question.now.target question.now.colour memory.old.table.now }
+    requires bytes { length out.old ≤ most_bytes }
+    ensures { Puts out.old (behind_blanks
+        (first_words_of question.now (position_on L.shows board.old) code (codes_down_to code))) out.new result }
+{
+    write_under(board, question, code, 3, memory, out)?;
+    if code == 3 {
+        return Ok(());
+    }
+    write_under(board, question, code, 2, memory, out)?;
+    if code == 2 {
+        return Ok(());
+    }
+    write_under(board, question, code, 1, memory, out)
+}

@@ -1,0 +1,109 @@
+//! The first proof of the code of a question, as it is printed.
+
+ghost use Rattle.std.specs.Prelude.{◌≡◌, ◌≢◌, ◌↔◌, ◌*◌, ◌<◌, ◌≤◌, IfOk, Err, length, drop};
+ghost use Rattle.go_rules.specs.Strings.{cell_at};
+ghost use Rattle.read_rules.specs.Answer.{answer_of, asked_on};
+ghost use Rattle.read_proof.specs.ProofOf.{codes_down_to, IsProofOf};
+ghost use Rattle.read_proof.specs.FirstProof.{first_words_of, first_text};
+ghost use Rattle.write_proof.specs.Printed.{behind_blanks, Writes};
+
+use crate::codes::write_all;
+use crate::text::ProofError;
+use go_base::{Bytes, Cell, NoMemory, Point, Position, Watch};
+use read_proof::codes::question_on;
+use read_rules::{Depths, Kind, ReadingQuestion};
+use read_tree::memory::Memory;
+use read_tree::table::empty_table;
+use read_tree::{attack, defend};
+use std::alloc::Global;
+use trial_board::Trial;
+
+/// The code of a question, and the first proof of it as it is printed.
+#[derive(Debug, Drop)]
+pub struct Proof {
+    /// The code.
+    pub code: u8,
+    /// The words of its first proof, with one blank between each two.
+    pub text: Bytes,
+}
+
+/// The code of a question, by the reader.
+fn code_of(pos: &Position, of: Kind, target: Point, depths: Depths) -> u8
+    requires on_board { target < pos.now.size * pos.now.size }
+    requires stone { cell_at pos.now.cells target ≢ Cell.Empty }
+    ensures { result ≡ (answer_of (asked_on pos.now of target depths.plies depths.wide) pos.now).code }
+{
+    let look = Watch::new(pos);
+    match of {
+        Kind::Attack => attack(look, target, depths).answer.code,
+        Kind::Defend => defend(look, target, depths).answer.code,
+    }
+}
+
+/// The words of the first proof of the code, each behind a blank. One table remembers the nodes of the whole proof.
+fn words_of(
+    alloc: Global,
+    pos: &Position,
+    question: &ReadingQuestion,
+    code: u8,
+) -> Result<Bytes, ProofError>
+    requires plies { question.now.plies ≤ 200 }
+    requires target { question.now.target < pos.now.size * pos.now.size }
+    ensures { Writes (behind_blanks (first_words_of question.now pos.now code (codes_down_to code))) result }
+{
+    let mut board = Trial::new(Watch::new(pos));
+    let mut table = empty_table();
+    let mut memory = Memory {
+        reply: question.target,
+        table: &mut table,
+    };
+    let mut out = Bytes::new(alloc);
+    let done = write_all(&mut board, question, code, &mut memory, &mut out);
+    board.finish();
+    match done {
+        Ok(()) => Ok(out),
+        Err(why) => Err(why),
+    }
+}
+
+/// The text without its first byte.
+fn without_first(alloc: Global, text: &Bytes) -> Result<Bytes, NoMemory>
+    requires { 0 < length text.now }
+    ensures { IfOk result (λ new. new ≡ drop 1 text.now) }
+{
+    let mut out = Bytes::new(alloc);
+    out.extend(&text.as_slice()[1..])?;
+    Ok(out)
+}
+
+/// The code of an attack on the string at `target`, or of its defence, with these depths, and the first proof of it.
+///
+/// The proof takes `.` wherever it will do, else the first move in reading order that will, the pass before all points,
+/// and else `*`. `TooLong` exactly where it has more than 60,000 bytes, if memory lasts. Takes memory.
+pub fn first_proof(
+    alloc: Global,
+    pos: &Position,
+    of: Kind,
+    target: Point,
+    depths: Depths,
+) -> Result<Proof, ProofError>
+    requires on_board { target < pos.now.size * pos.now.size }
+    requires stone { cell_at pos.now.cells target ≢ Cell.Empty }
+    ensures code { IfOk result (λ proof. proof.code
+        ≡ (answer_of (asked_on pos.now of target depths.plies depths.wide) pos.now).code) }
+    ensures text { IfOk result (λ proof. proof.text
+        ≡ first_text (asked_on pos.now of target depths.plies depths.wide) pos.now) }
+    ensures too_long { result ≢ Err ProofError.NoMemory → result ≡ Err ProofError.TooLong
+        ↔ (60000 < length (first_text (asked_on pos.now of target depths.plies depths.wide) pos.now)) }
+    ensures accepted { IfOk result (λ proof.
+        IsProofOf (asked_on pos.now of target depths.plies depths.wide) pos.now proof.code proof.text) }
+{
+    let _ = pos.size();
+    let question = question_on(pos, of, target, depths);
+    let code = code_of(pos, of, target, depths);
+    let words = words_of(alloc, pos, &question, code)?;
+    match without_first(alloc, &words) {
+        Ok(text) => Ok(Proof { code, text }),
+        Err(NoMemory) => Err(ProofError::NoMemory),
+    }
+}

@@ -1,0 +1,18 @@
+//! Printed proofs of readings: the code of an attack or a defence, and the first proof of it.
+//!
+//! `read_proof` says what a proof is, and checks one without the reader. Here the reader finds one: at each node it is
+//! asked which move is the first that will do. `docs/PROOFS_OF_READINGS.md` explains a proof word by word.
+#![tactic(auto)]
+
+mod codes;
+mod first;
+mod settled;
+mod text;
+mod walk;
+
+pub use first::{Proof, first_proof};
+pub use read_proof::{Depths, ProofOf};
+pub use text::ProofError;
+
+#[cfg(test)]
+mod tests;

@@ -1,0 +1,49 @@
+//! Whether a claim is settled at a node, on a board with trial moves.
+
+ghost use Rattle.std.specs.Prelude.{◌≡◌, ◌+◌, ◌*◌, ◌<◌, ◌/◌, ◌||◌, ◌&&◌, ◌==◌, nat_lt, if◌then◌else◌};
+ghost use Rattle.trial_board.specs.Trials.{Stays};
+ghost use Rattle.read_proof.specs.Proves.{is_settled, is_wanted};
+ghost use Rattle.write_proof.specs.Printed.{position_on};
+
+use go_base::{Cell, Look};
+use read_rules::Node;
+use trial_board::Trial;
+
+/// Whether so many liberties of the target are more than the attacker can fill with `plies` plies left, or than he may
+/// play at.
+fn are_too_many(node: Node, plies: u8, liberties: u16) -> bool
+    ensures { result ≡ (if node.attacker_to_play then nat_lt ((plies + 1) / 2) liberties
+        || (nat_lt 4 liberties || ((node.wide == 0) && nat_lt 2 liberties)) else nat_lt (plies / 2) liberties) }
+{
+    if node.attacker_to_play {
+        liberties > (u16::from(plies) + 1) / 2 || liberties > 4 || (node.wide == 0 && liberties > 2)
+    } else {
+        liberties > u16::from(plies) / 2
+    }
+}
+
+/// Whether the claim, that the attacker wins or that he does not, is settled with `plies` plies left.
+pub fn is_settled<L: Look>(board: &mut Trial<L>, node: Node, plies: u8, won: bool) -> bool
+    requires target { node.target < (L.shows board.old.look).size * (L.shows board.old.look).size }
+    ensures stays { Stays L.shows L.seen board.old board.new }
+    ensures answer { result ≡ is_settled plies won node (position_on L.shows board.old) }
+{
+    let captured = board.cell(node.target) == Cell::Empty;
+    if won {
+        return captured;
+    }
+    if captured {
+        return false;
+    }
+    if plies == 0 {
+        return true;
+    }
+    are_too_many(node, plies, board.liberties(node.target).count())
+}
+
+/// Whether the claim is what the side to play wants.
+pub fn is_wanted(node: Node, won: bool) -> bool
+    ensures { result ≡ is_wanted won node }
+{
+    if node.attacker_to_play { won } else { !won }
+}

@@ -1,0 +1,151 @@
+//! First proofs of small positions. They are the worked rows, or were found by hand.
+
+ghost use Rattle.std.specs.Prelude.{◌*◌, ◌<◌, IfSome};
+
+use super::{Depths, Proof, ProofError, ProofOf, first_proof};
+use go_base::{Cell, Colour, Point, Position, Size};
+use read_proof::check;
+use std::alloc::Global;
+use std::process::Abort;
+use std::test::Fail;
+use vertices::vertex_named;
+
+/// A small position: its size, black's stones, and then white's.
+type Stones = (u8, &'static str, &'static str);
+
+/// The point of a vertex.
+fn vertex(size: Size, name: &str) -> Option<Point>
+    ensures { IfSome result (λ p. p < size * size) }
+{
+    let p = vertex_named(name.as_bytes(), size)?;
+    if p < size.points() { Some(p) } else { None }
+}
+
+/// The position with these stones more.
+fn with_stones(position: Position, colour: Colour, names: &str) -> Option<Position> {
+    let mut position = position;
+    for name in names.split_whitespace() {
+        position = position.play(colour, vertex(position.size(), name)?).ok()?;
+    }
+    Some(position)
+}
+
+/// The position of these stones.
+fn position((size, black, white): Stones) -> Option<Position> {
+    let position = Position::new(Size::new(size)?);
+    with_stones(
+        with_stones(position, Colour::Black, black)?,
+        Colour::White,
+        white,
+    )
+}
+
+/// What a question asks.
+fn kind(word: &str) -> Option<ProofOf> {
+    match word {
+        "attack" => Some(ProofOf::Attack),
+        "defend" => Some(ProofOf::Defend),
+        _ => None,
+    }
+}
+
+/// What a proof of the question on the position comes to; nothing where its target is empty, and also nothing where the
+/// proof is not one that is accepted.
+fn first_on(
+    alloc: Global,
+    position: &Position,
+    question: &str,
+) -> Option<Result<Proof, ProofError>> {
+    let mut words = question.split_whitespace();
+    let kind = kind(words.next()?)?;
+    let target = vertex(position.size(), words.next()?)?;
+    let depths = Depths::new(words.next()?.parse().ok()?, words.next()?.parse().ok()?)?;
+    if position.cell(target) == Cell::Empty {
+        return None;
+    }
+    let found = first_proof(alloc, position, kind, target, depths);
+    if let Ok(proof) = &found {
+        if proof.code > 3 {
+            return None;
+        }
+        if !check(
+            position,
+            kind,
+            target,
+            depths,
+            proof.code,
+            proof.text.as_slice(),
+        ) {
+            return None;
+        }
+    }
+    Some(found)
+}
+
+/// The code and the first proof of each question on the position of these stones are as its row says.
+fn check_on(
+    rt: &impl Abort,
+    alloc: Global,
+    stones: Stones,
+    rows: &[(&str, u8, &str)],
+) -> Result<(), Fail> {
+    let position = position(stones).ok_or("the stones can be put")?;
+    for (question, code, text) in rows {
+        let proof = first_on(alloc, &position, question)
+            .ok_or("the question is about a stone")?
+            .ok()
+            .ok_or("the proof is short")?;
+        assert_eq!(rt; proof.code, *code, "{question}");
+        assert_eq!(rt; proof.text.as_slice(), text.as_bytes(), "{question} {text}");
+    }
+    Ok(())
+}
+
+/// Black D4 has one liberty, D3.
+const IN_ATARI: Stones = (9, "D4", "C4 E4 D5");
+
+/// White has taken D3, where black may not play at once.
+const KO: Stones = (5, "B3 C4 C2 D3", "D4 E3 D2 C3");
+
+#[test]
+fn first_proofs_are_printed(rt: HostRuntime) -> Result<(), Fail> {
+    let alloc = rt.alloc();
+    let atari = [
+        ("attack D4 3 2", 3, "W D3 ."),
+        ("defend D4 3 2", 3, "N D3 ."),
+    ];
+    check_on(&rt, alloc, IN_ATARI, &atari)?;
+    check_on(
+        &rt,
+        alloc,
+        (9, "D4", ""),
+        &[("attack D4 3 2", 0, "N . N . N .")],
+    )?;
+    check_on(&rt, alloc, KO, &[("attack C3 3 4", 1, "N * N * W D3 .")])
+}
+
+#[test]
+fn every_child_has_its_proof_with_the_pass_first(rt: HostRuntime) -> Result<(), Fail> {
+    let lost = [(
+        "defend A1 2 0",
+        0,
+        "W * A2 . A3 . W * A2 . A3 . W * A2 . A3 .",
+    )];
+    check_on(&rt, rt.alloc(), (5, "A1", "B1 B2"), &lost)?;
+    let saved = [("defend D4 4 0", 3, "N PASS * D3 . D5 .")];
+    check_on(&rt, rt.alloc(), (9, "D4", "C4 E4"), &saved)
+}
+
+/// White F4 stands nearly alone, and a reading of it is deep and wide.
+const OPEN: Stones = (9, "E4 F5 D6", "F4 G6");
+
+#[test]
+fn long_proofs_are_not_told(rt: HostRuntime) -> Result<(), Fail> {
+    let position = position(OPEN).ok_or("the stones can be put")?;
+    let found = first_on(rt.alloc(), &position, "attack F4 16 8").ok_or(
+        "the question is about a stone",
+    )?;
+    let too_long = matches!(&found, Err(ProofError::TooLong));
+    assert!(rt; too_long, "a proof of more than 60,000 bytes");
+    Ok(())
+}
