@@ -1,6 +1,7 @@
 -- What a session's own answer to a command is, by what the command does.
-use Rattle.std.specs.Prelude.{◌≡◌, ◌⊎◌, ℕ, true, false, List, [], None, Some}
-use Rattle.gtp_cmd.specs.declared.refusals.RefuseText.TheVariants.{OutOfMemory}
+use Rattle.std.specs.Prelude.{◌≡◌, ◌⊎◌, ℕ, true, false, List, [], ◌∷◌, Option, None, Some}
+use Rattle.gtp_cmd.specs.declared.refusals.RefuseText.TheVariants.{OutOfMemory, CannotLoadFile}
+use Rattle.machine_rules.specs.Loads.{Load}
 use Rattle.machine_rules.specs.Machine.{Machine}
 use Rattle.machine_rules.specs.Effects.{Effect, IsExcused}
 use Rattle.engine.specs.declared.answer.Answer.{Answer}
@@ -23,3 +24,8 @@ IsAnswer effect (answer.Refused text) new =
     ((effect.refusal ≡ Some text) × (new ≡ effect.next) × (effect.ends ≡ false)) ⊎ IsExcused effect.excuses text new
 IsAnswer effect answer.Ended new =
     (effect.refusal ≡ None) × (effect.result ≡ []) × (new ≡ effect.next) × (effect.ends ≡ true)
+
+-- the names that a load missed which has this answer
+abbrev pub missed_as : Option Load → Answer → List (List ℕ)
+missed_as (Some load) (answer.Refused CannotLoadFile) = load.name ∷ []
+missed_as _ _ = []

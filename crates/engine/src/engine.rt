@@ -1,28 +1,34 @@
 //! What a session keeps beside its helpers: the plain machine, its patterns and its counts; and its answer to each
 //! line.
-ghost use Rattle.std.specs.Prelude.{◌≡◌, ◌≤◌, ℕ, List, None, length, IfOk, IfErr, OnOk, OnErr};
+ghost use Rattle.std.specs.Prelude.{◌≡◌, ◌≤◌, ◌++◌, ℕ, List, None, length, IfOk, IfErr, OnOk, OnErr};
 ghost use Rattle.gtp_lex.specs.Raw.{raw_line};
 ghost use Rattle.go_options.specs.Found.{AreInRange};
 ghost use Rattle.go_strings.specs.Games.{reached};
-ghost use Rattle.gtp_cmd.specs.Within.{IsWithin, SaysWithin};
+ghost use Rattle.gtp_cmd.specs.Rooms.{longest_line};
+ghost use Rattle.gtp_cmd.specs.Within.{IsWithin, SaysWithin, IsWithinLine, SaysWithinLine};
 ghost use Rattle.helpers.specs.Asking.{SlotState};
 ghost use Rattle.helpers.specs.Slots.{states_of};
 ghost use Rattle.machine_rules.specs.Counting.{counted, is_read};
-ghost use Rattle.machine_rules.specs.Heard.{heard};
+ghost use Rattle.machine_rules.specs.Heard.{heard, bytes_in};
 ghost use Rattle.machine_rules.specs.Loads.{load_of, parsed_load, IsFileOf};
 ghost use Rattle.machine_rules.specs.Questions.{asks_of};
 ghost use Rattle.machine_rules.specs.Step.{effect_of, word_of};
 ghost use Rattle.engine.specs.AfterLine.{ReadsAs};
 ghost use Rattle.engine.specs.AnsweredLines.{AnswersParsed};
-ghost use Rattle.engine.specs.CommandAnswers.{IsAnswer};
+ghost use Rattle.engine.specs.CommandAnswers.{IsAnswer, missed_as};
 ghost use Rattle.engine.specs.Kept.{kept_with};
 ghost use Rattle.engine.specs.SessionState.{board_of, machine_with, machine_alone, matcher_of, first_kept};
 ghost use Rattle.engine.specs.SessionState.{NumbersPatterns};
 ghost use Rattle.engine.specs.SlowLines.{command_of, said_by, IsLeft};
 
 mod board_commands;
+mod choice_commands;
+mod helper_commands;
+mod link_commands;
 mod matching_commands;
+mod proof_commands;
 mod reading_commands;
+mod record_commands;
 
 use crate::answer::{Answer, grown, told};
 use crate::reply::Reply;
@@ -37,6 +43,7 @@ use gtp_cmd::{Command, KomiText, Parsed, RefuseText, names_text, parse};
 use gtp_io::Loader;
 use gtp_lex::Raw;
 use helpers::Helpers;
+use link_rules::LinkKind;
 use match_engine::Readings;
 use pat_types::Pattern;
 use read_moves::Depths;
@@ -162,8 +169,10 @@ impl Engine {
 
     /// What a line says: one that is too long is refused.
     pub(crate) fn heard(&self, raw: Raw<'_>) -> Parsed
+        requires { length (bytes_in (raw_line raw)) ≤ longest_line }
         ensures said { (helpers : List SlotState) → result ≡ heard (machine_with helpers self.now) (raw_line raw.entry) }
         ensures within { SaysWithin self.now.base.size result }
+        ensures spans { SaysWithinLine (bytes_in (raw_line raw.entry)) result }
     {
         match raw {
             Raw::TooLong => Parsed::Refused {
@@ -186,12 +195,13 @@ impl Engine {
         line: &[u8],
         said: Parsed,
     ) -> Result<Reply, Slow>
-        requires { SaysWithin self.old.base.size said }
+        requires within { SaysWithin self.old.base.size said }
+        requires spans { SaysWithinLine line.now said }
         ensures answers { (missed : List (List ℕ)) (file : List ℕ) → IfOk result (λ reply. AnswersParsed
             (kept_with (states_of state helpers.old) missed self.old) (record { line = line.now; file = file }) said
             reply (kept_with (states_of state helpers.new) missed self.new)) }
         ensures left { (missed : List (List ℕ)) → IfErr result (λ slow. IsLeft
-            (kept_with (states_of state helpers.old) missed self.old) said slow
+            (kept_with (states_of state helpers.old) missed self.old) line.now said slow
             (kept_with (states_of state helpers.new) missed self.new)) }
     {
         match said {
@@ -209,12 +219,13 @@ impl Engine {
         id: Option<u32>,
         command: Command,
     ) -> Result<Reply, Slow>
-        requires { IsWithin self.old.base.size command }
+        requires within { IsWithin self.old.base.size command }
+        requires spans { IsWithinLine line.now command }
         ensures answers { (missed : List (List ℕ)) (file : List ℕ) → IfOk result (λ reply. AnswersParsed
             (kept_with (states_of state helpers.old) missed self.old) (record { line = line.now; file = file })
             (Parsed.Command id command) reply (kept_with (states_of state helpers.new) missed self.new)) }
         ensures left { (missed : List (List ℕ)) → IfErr result (λ slow. IsLeft
-            (kept_with (states_of state helpers.old) missed self.old) (Parsed.Command id command) slow
+            (kept_with (states_of state helpers.old) missed self.old) line.now (Parsed.Command id command) slow
             (kept_with (states_of state helpers.new) missed self.new)) }
     {
         let answer = match self.obey(helpers, line, command) {
@@ -236,7 +247,8 @@ impl Engine {
         line: &[u8],
         files: &mut L,
     ) -> Reply
-        requires { SaysWithin self.old.base.size (said_by slow) }
+        requires within { SaysWithin self.old.base.size (said_by slow) }
+        requires spans { SaysWithinLine line.now (said_by slow) }
         ensures answers { (file : List ℕ)
             × IsFileOf (L.contents files.old) (parsed_load line.now (said_by slow)) file
             × AnswersParsed (kept_with (states_of state helpers.old) (L.missed files.old) self.old)
@@ -255,12 +267,14 @@ impl Engine {
         line: &[u8],
         files: &mut L,
     ) -> Answer
-        requires { IsWithin self.old.base.size (command_of work) }
+        requires within { IsWithin self.old.base.size (command_of work) }
+        requires spans { IsWithinLine line.now (command_of work) }
         ensures answer { (file : List ℕ) × IsFileOf (L.contents files.old) (load_of line.now None (command_of work)) file
             × IsAnswer (effect_of (matcher_of self.old) (machine_with (states_of state helpers.old) self.old)
             (record { line = line.now; file = file }) (command_of work)) result
             (machine_with (states_of state helpers.new) self.new) }
-        ensures missed { L.missed files.new ≡ L.missed files.old }
+        ensures missed { L.missed files.new ≡ L.missed files.old
+            ++ missed_as (load_of line.now None (command_of work)) result }
         ensures same { L.contents files.new ≡ L.contents files.old }
         ensures patterns { self.new.patterns ≡ self.old.patterns }
         ensures automaton { self.new.automaton ≡ self.old.automaton }
@@ -272,6 +286,13 @@ impl Engine {
             Work::Attack(p) => self.read(Kind::Attack, p),
             Work::Defend(p) => self.read(Kind::Defend, p),
             Work::Match(friend) => self.list_matches(helpers, friend),
+            Work::Load(span) => self.load_record(line, span, files),
+            Work::AttackProof(p) => self.print_proof(Kind::Attack, p),
+            Work::DefendProof(p) => self.print_proof(Kind::Defend, p),
+            Work::Connect(a, b) => self.tell_link(LinkKind::Connect, a, b),
+            Work::Disconnect(a, b) => self.tell_link(LinkKind::Disconnect, a, b),
+            Work::GenMove(friend) => self.make_move(helpers, friend),
+            Work::RegGenMove(friend) => self.tell_move(helpers, friend),
         }
     }
 
@@ -282,7 +303,8 @@ impl Engine {
         line: &[u8],
         command: Command,
     ) -> Result<Answer, Work>
-        requires { IsWithin self.old.base.size command }
+        requires within { IsWithin self.old.base.size command }
+        requires spans { IsWithinLine line.now command }
         ensures answer { (file : List ℕ) → IfOk result (λ answer. IsAnswer
             (effect_of (matcher_of self.old) (machine_with (states_of state helpers.old) self.old)
             (record { line = line.now; file = file }) command) answer
@@ -320,6 +342,22 @@ impl Engine {
             Command::Depths { plies, wide } => Ok(self.deepen(plies, wide)),
             Command::MatchPatterns(friend) => Err(Work::Match(friend)),
             Command::ListPatterns => Ok(self.list_patterns()),
+            Command::LoadSgf(span) => Err(Work::Load(span)),
+            Command::AttackProof(p) => Err(Work::AttackProof(p)),
+            Command::DefendProof(p) => Err(Work::DefendProof(p)),
+            Command::CheckProof {
+                attack,
+                target,
+                code,
+                tokens,
+            } => Ok(self.check_proof(attack, target, code, line, tokens)),
+            Command::Connect(a, b) => Err(Work::Connect(a, b)),
+            Command::Disconnect(a, b) => Err(Work::Disconnect(a, b)),
+            Command::GenMove(friend) => Err(Work::GenMove(friend)),
+            Command::RegGenMove(friend) => Err(Work::RegGenMove(friend)),
+            Command::HelperOff(span) => Ok(self.switch_off(helpers, line, span)),
+            Command::HelperCalls(span) => Ok(self.tell_calls(helpers, line, span)),
+            Command::HelperDrop(span) => Ok(self.drop_helper(helpers, line, span)),
         }
     }
 

@@ -1,7 +1,8 @@
 //! A session of the protocol: what it keeps, and the helpers that its patterns ask.
-ghost use Rattle.std.specs.Prelude.{⊤, ◌≡◌, ℕ, List, IfOk, IfErr};
+ghost use Rattle.std.specs.Prelude.{⊤, ◌≡◌, ◌≤◌, ℕ, List, length, IfOk, IfErr};
 ghost use Rattle.gtp_lex.specs.Raw.{raw_line};
-ghost use Rattle.gtp_cmd.specs.Within.{SaysWithin};
+ghost use Rattle.gtp_cmd.specs.Rooms.{longest_line};
+ghost use Rattle.gtp_cmd.specs.Within.{SaysWithin, SaysWithinLine};
 ghost use Rattle.go_options.specs.Found.{AreInRange};
 ghost use Rattle.machine_rules.specs.Files.{Contents};
 ghost use Rattle.machine_rules.specs.Heard.{heard, bytes_in};
@@ -72,18 +73,19 @@ impl Session {
     }
 
     /// Answers one line, by the step of the machine that the session is, unless it may take long: a question that is
-    /// not kept, and a list of matches. Then nothing is done, and `finish` answers it.
+    /// not kept, a list of matches, a chosen move, a game record, a printed proof, a connection. Then nothing is done, and `finish` answers it.
     ///
     /// Nothing comes exactly for a line without words. NoMemory comes only in place of a growing reply. It leaves the
     /// machine as it was, and so does a refused line; of the counts only that of refused keepings may have risen. The
     /// empty condition says that the call makes no helper of its own.
     pub fn try_line(&mut self, raw: Raw<'_>) -> Result<Reply, Slow>
         requires own { ⊤ }
+        requires short { length (bytes_in (raw_line raw)) ≤ longest_line }
         // No file is loaded: whatever files hold, and whichever were missed, this answers the line.
         ensures answers { (contents : Contents) (missed : List (List ℕ)) → IfOk result (λ reply. AnswersLine contents
             (kept_of state self.old missed) (raw_line raw.entry) reply (kept_of state self.new missed)) }
         ensures left { (missed : List (List ℕ)) → IfErr result (λ slow. IsLeft (kept_of state self.old missed)
-            (heard (machine_now state self.old) (raw_line raw.entry)) slow
+            (bytes_in (raw_line raw.entry)) (heard (machine_now state self.old) (raw_line raw.entry)) slow
             (kept_of state self.new missed)) }
         ensures matcher { matcher_of self.new.engine ≡ matcher_of self.old.engine }
     {
@@ -100,6 +102,7 @@ impl Session {
     pub fn finish<L: Loader>(&mut self, slow: Slow, raw: Raw<'_>, files: &mut L) -> Reply
         requires own { ⊤ }
         requires within { SaysWithin self.old.engine.base.size (said_by slow) }
+        requires spans { SaysWithinLine (bytes_in (raw_line raw)) (said_by slow) }
         requires says { heard (machine_now state self.old) (raw_line raw) ≡ said_by slow }
         ensures answers { AnswersLine (L.contents files.old) (kept_of state self.old (L.missed files.old))
             (raw_line raw.entry) result (kept_of state self.new (L.missed files.new)) }
@@ -112,7 +115,7 @@ impl Session {
     /// Answers one line, however long it takes: as `try_line` and, where that leaves it, `finish`. A file that it names
     /// is loaded from `files`.
     pub fn line<L: Loader>(&mut self, raw: Raw<'_>, files: &mut L) -> Reply
-        requires { ⊤ }
+        requires short { length (bytes_in (raw_line raw)) ≤ longest_line }
         ensures answers { AnswersLine (L.contents files.old) (kept_of state self.old (L.missed files.old))
             (raw_line raw.entry) result (kept_of state self.new (L.missed files.new)) }
         ensures same { L.contents files.new ≡ L.contents files.old }

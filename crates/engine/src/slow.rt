@@ -1,5 +1,6 @@
 //! Lines that may take long.
 use go_base::{Colour, Point};
+use gtp_cmd::Span;
 
 /// What may take long.
 #[derive(Clone, Copy, Debug, PartialEq, Eq)]
@@ -10,6 +11,20 @@ pub enum Work {
     Defend(Point),
     /// The list of matches for a friend.
     Match(Colour),
+    /// The game record in the file whose name stands in this part of the line.
+    Load(Span),
+    /// The first proof of the code of an attack.
+    AttackProof(Point),
+    /// The first proof of the code of a defence.
+    DefendProof(Point),
+    /// Whether the strings of two points can be joined.
+    Connect(Point, Point),
+    /// Whether they can be kept apart.
+    Disconnect(Point, Point),
+    /// The move for a friend that the patterns choose, which is played.
+    GenMove(Colour),
+    /// The same move, which is not played.
+    RegGenMove(Colour),
 }
 
 /// A line that may take long and was not answered yet: its id, and what it asks.

@@ -37,6 +37,10 @@ parsed_load line _ = None
 unfoldable pub load_in : Machine → RawLine → Option Load
 load_in machine line = parsed_load (bytes_in line) (heard machine line)
 
+-- the file that is loaded, by its name alone
+abbrev pub named_load : List ℕ → Option Load
+named_load name = load_by None name
+
 -- the text is that of the file that is loaded; any text is, where none is loaded
 abbrev pub IsFileOf : Contents → Option Load → List ℕ → Type 0
 IsFileOf contents None file = Unit {0}

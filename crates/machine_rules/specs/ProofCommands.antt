@@ -4,7 +4,7 @@ use Rattle.std.specs.Prelude.{if◌then◌else◌, decimal, codes}
 use Rattle.read_rules.specs.declared.question.Kind.{Kind}
 use Rattle.read_rules.specs.declared.question.Kind.TheVariants.{Attack, Defend}
 use Rattle.read_rules.specs.declared.question.ReadingQuestion.{ReadingQuestion}
-use Rattle.read_rules.specs.Answer.{asked_on, code_of}
+use Rattle.read_rules.specs.Answer.{asked_on}
 use Rattle.read_proof.specs.FirstProof.{first_text}
 use Rattle.read_proof.specs.ProofOf.{codes_down_to, proves_all}
 use Rattle.read_proof.specs.Tokens.{Word, words_in}
@@ -13,6 +13,7 @@ use Rattle.gtp_cmd.specs.declared.refusals.RefuseText.TheVariants.{ProofTooLong}
 use Rattle.machine_rules.specs.Machine.{Machine, position_of}
 use Rattle.machine_rules.specs.Effects.{Effect, refused, told, growing}
 use Rattle.machine_rules.specs.BoardCommands.{of_stone}
+use Rattle.machine_rules.specs.ReadingCommands.{reading_of}
 
 -- the most bytes of a proof that is printed, without its code
 abbrev pub longest_proof : ℕ
@@ -29,7 +30,7 @@ proof_of machine kind p = first_text (question_at machine kind p) (position_of m
 -- a code, a blank and the proof
 abbrev pub proof_text : Machine → Kind → ℕ → List ℕ
 proof_text machine kind p =
-    decimal (code_of (question_at machine kind p) (position_of machine)) ++ blank ∷ proof_of machine kind p
+    decimal (reading_of machine kind p).code ++ blank ∷ proof_of machine kind p
 
 -- the first proof is printed where it is not too long
 abbrev pub proof_told : Machine → Kind → ℕ → Effect

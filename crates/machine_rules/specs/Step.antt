@@ -4,6 +4,7 @@ use Rattle.std.specs.Prelude.{◌≡◌, ℕ, Bool, false, List, [], None, if◌
 use Rattle.gtp_rules.specs.Lines.{RawLine}
 use Rattle.gtp_rules.specs.Steps.{Step}
 use Rattle.gtp_cmd.specs.Commands.{names_text}
+use Rattle.gtp_cmd.specs.Spans.{spanned}
 use Rattle.gtp_cmd.specs.declared.commands.Command.{Command}
 use Rattle.gtp_cmd.specs.declared.commands.Command.TheVariants as command
 use Rattle.gtp_cmd.specs.declared.commands.Parsed.{Parsed}
@@ -60,7 +61,7 @@ effect_of matcher old input (command.LoadSgf span) = loaded_by old (word_at inpu
 effect_of matcher old input (command.AttackProof p) = proved old Attack p
 effect_of matcher old input (command.DefendProof p) = proved old Defend p
 effect_of matcher old input (command.CheckProof attack p code span) =
-    checked old (kind_of attack) p code (word_at input.line span)
+    checked old (kind_of attack) p code (spanned input.line span)
 effect_of matcher old input (command.Connect a b) = linked old Connect a b
 effect_of matcher old input (command.Disconnect a b) = linked old Disconnect a b
 effect_of matcher old input (command.GenMove friend) = move_made matcher old friend

@@ -1,0 +1,60 @@
+//! The commands that print why a reading has its code, and that check such a proof.
+ghost use Rattle.std.specs.Prelude.{◌*◌, ◌<◌, ◌≤◌, List};
+ghost use Rattle.gtp_cmd.specs.Spans.{spanned, IsSpanOf};
+ghost use Rattle.helpers.specs.Asking.{SlotState};
+ghost use Rattle.machine_rules.specs.ProofCommands.{proved, checked, kind_of};
+ghost use Rattle.engine.specs.CommandAnswers.{IsAnswer};
+ghost use Rattle.engine.specs.SessionState.{machine_with};
+
+use crate::answer::{Answer, told};
+use crate::engine::Engine;
+use crate::engine::board_commands::has_stone;
+use crate::point_lists::push_number;
+use go_base::{Bytes, NoMemory, Point};
+use gtp_cmd::{RefuseText, Span};
+use read_proof::check;
+use read_tree::Kind;
+use write_proof::{Proof, ProofError, first_proof};
+
+impl Engine {
+    /// Prints the first proof of the code of a question about the string of p.
+    pub(crate) fn print_proof(&self, kind: Kind, p: Point) -> Answer
+        requires { p < self.now.base.size * self.now.base.size }
+        ensures { (helpers : List SlotState) → IsAnswer (proved (machine_with helpers self.now) kind p) result
+            (machine_with helpers self.now) }
+    {
+        if !has_stone(self.board(), p) {
+            return Answer::Refused(RefuseText::VertexEmpty);
+        }
+        let position = self.position();
+        match first_proof(self.alloc, &position, kind, p, self.readings.depths()) {
+            Ok(proof) => grown(proof_text(self.alloc, &proof)),
+            Err(ProofError::TooLong) => Answer::Refused(RefuseText::ProofTooLong),
+            Err(ProofError::NoMemory) => Answer::NoMemory,
+        }
+    }
+
+    /// Tells whether the words in this part of the line are a proof of the code of a question about the string of p.
+    pub(crate) fn check_proof(
+        &self,
+        attack: bool,
+        p: Point,
+        code: u8,
+        line: &[u8],
+        tokens: Span,
+    ) -> Answer
+        requires on_board { p < self.now.base.size * self.now.base.size }
+        requires code { code ≤ 3 }
+        requires span { IsSpanOf line.now tokens }
+        ensures { (helpers : List SlotState) → IsAnswer (checked (machine_with helpers self.now) (kind_of attack) p code
+            (spanned line.now tokens)) result (machine_with helpers self.now) }
+    {
+        if !has_stone(self.board(), p) {
+            return Answer::Refused(RefuseText::VertexEmpty);
+        }
+        let position = self.position();
+        let kind = if attack { Kind::Attack } else { Kind::Defend };
+        let words = &line[tokens.from as usize..tokens.to as usize];
+        told(word(check(&position, kind, p, self.readings.depths(), code, words)))
+    }
+}
