@@ -4,7 +4,7 @@ use Rattle.std.proofs.Common.{refl, sym, ap, subst, ◌∙◌, append-nil}
 use Rattle.gtp_rules.specs.Lines.{RawLine, Line, TooLong}
 use Rattle.gtp_rules.specs.Transcript.{MayGive, Answers}
 use Rattle.gtp_cmd.specs.Replies.{refusal_text}
-use Rattle.gtp_cmd.specs.Within.{SaysWithin}
+use Rattle.gtp_cmd.specs.Within.{SaysWithin, SaysWithinLine}
 use Rattle.gtp_cmd.specs.declared.commands.Command.{Command}
 use Rattle.gtp_cmd.specs.declared.commands.Parsed.{Parsed}
 use Rattle.gtp_cmd.specs.declared.commands.Parsed.TheVariants as parsed
@@ -130,7 +130,7 @@ answers-line-at contents old line said answer new bytes are same is =
 
 -- whether a line was answered or left, the matcher stays
 pub same-matcher : (old new : Kept) (input : Input) (said : Parsed) (result : Result Reply Slow)
-    → IfOk result (λ answer. AnswersParsed old input said answer new) → IfErr result (λ slow. IsLeft old said slow new)
+    → IfOk result (λ answer. AnswersParsed old input said answer new) → IfErr result (λ slow. IsLeft old input.line said slow new)
     → matcher_of new.engine ≡ matcher_of old.engine
 same-matcher old new input said (Ok answer) is left = λ i. automaton_matcher (is.patterns i) (is.automaton i)
 same-matcher old new input said (Err slow) is left = ap (λ (k : Kept). matcher_of k.engine) left.same
@@ -191,25 +191,28 @@ answers-command old input id command answer new is bytes patterns automaton read
 }
 
 -- a command that may take long leaves its line
-pub left-command : (old new : Kept) (said : Parsed) (id : Option ℕ) (command : Command) (work : Work)
+pub left-command : (old new : Kept) (line : List ℕ) (said : Parsed) (id : Option ℕ) (command : Command) (work : Work)
     → said ≡ parsed.Command id command → command ≡ command_of work → new ≡ old
-    → SaysWithin old.engine.base.size said → IsLeft old said (record { id = id; work = work }) new
-left-command old new said id command work is asks same within =
+    → SaysWithin old.engine.base.size said → SaysWithinLine line said
+    → IsLeft old line said (record { id = id; work = work }) new
+left-command old new line said id command work is asks same within spans =
     let says : said ≡ said_by (record { id = id; work = work }) = is ∙ ap (parsed.Command id) asks in
     record {
       same = same;
       says = says;
       within = subst (λ p. SaysWithin new.engine.base.size p) says
           (subst (λ (k : Kept). SaysWithin k.engine.base.size said) (sym same) within);
+      spans = subst (SaysWithinLine line) says spans;
     }
 
 -- a line that says the same was left
-pub left-line : (old new : Kept) (line said : Parsed) (slow : Slow) → said ≡ line → IsLeft old said slow new
-    → IsLeft old line slow new
-left-line old new line said slow same left = record {
+pub left-line : (old new : Kept) (bytes bytes' : List ℕ) (said said' : Parsed) (slow : Slow) → bytes ≡ bytes'
+    → said ≡ said' → IsLeft old bytes said slow new → IsLeft old bytes' said' slow new
+left-line old new bytes bytes' said said' slow are same left = record {
   same = left.same;
   says = sym same ∙ left.says;
   within = left.within;
+  spans = subst (λ l. SaysWithinLine l (said_by slow)) are left.spans;
 }
 
 -- what holds of the value of a success follows from what does

@@ -18,7 +18,8 @@ use Rattle.match_engine.specs.Readings.{ReadingsView, HasRead, AllRest}
 use Rattle.machine_rules.specs.Machine.{Machine}
 use Rattle.engine.specs.SessionState.{SessionState, board_of, machine_alone}
 use Rattle.machine_rules.specs.Counting.{counted, has_stone, is_read, is_parsed_read, is_read_line}
-use Rattle.machine_rules.specs.Questions.{Nothing, One, key_at}
+use Rattle.machine_rules.specs.ChoiceCommands.{is_full}
+use Rattle.machine_rules.specs.Questions.{Nothing, One, Many, key_at}
 use Rattle.engine.specs.AfterLine.{ReadsAs, ReadsNothing, KeepsCounts, CountsRefused, after_trials}
 use Rattle.machine_rules.specs.Questions.{asks_at, asks_of, asks_of_parsed, asks_of_line}
 use Rattle.engine.specs.AfterLine.{HasFewFresh}
@@ -39,6 +40,11 @@ module _ (old new : SessionState) where
     few = omega (arith, few.few, kept.fresh, kept.readings);
     small = omega (arith, few.small, kept.readings);
   }
+
+  -- matches were asked for, or the list of moves is full
+  full-kept : (full : Bool) → ReadsAs (cond full Nothing Many) old new → KeepsCounts old new
+  full-kept true read = nothing-kept read
+  full-kept false read = read.counts
 
   -- one reading was counted, and at most one that was fresh
   few-once : (fresh : Bool) → new.counts.readings ≡ counted old.counts.readings true
@@ -71,6 +77,8 @@ module _ (old new : SessionState) where
     counts_kept-command (command.Defend p) read never =
         at-kept (key_at machine Defend p) (has_stone machine p) read never
     counts_kept-command (command.MatchPatterns friend) read never = read.counts
+    counts_kept-command (command.GenMove friend) read never = full-kept (is_full machine) read
+    counts_kept-command (command.RegGenMove friend) read never = read.counts
     counts_kept-command _ read never = nothing-kept read
 
     -- no command leaves more that are fresh than were counted
@@ -82,6 +90,8 @@ module _ (old new : SessionState) where
     few_fresh-command (command.Defend p) readings read few =
         at-few (key_at machine Defend p) (has_stone machine p) readings read few
     few_fresh-command (command.MatchPatterns friend) readings read few = few-kept read.counts few
+    few_fresh-command (command.GenMove friend) readings read few = few-kept (full-kept (is_full machine) read) few
+    few_fresh-command (command.RegGenMove friend) readings read few = few-kept read.counts few
     few_fresh-command _ readings read few = few-kept (nothing-kept read) few
 
     -- the same of what a line says

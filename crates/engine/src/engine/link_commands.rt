@@ -31,7 +31,7 @@ impl Engine {
         }
         let position = self.position();
         let look = Watch::new(&position);
-        let plies = self.readings.depths().plies();
+        let plies = self.readings.depths().plies;
         let told = match kind {
             LinkKind::Connect => connect(look, a, b, plies),
             LinkKind::Disconnect => disconnect(look, a, b, plies),

@@ -1,13 +1,14 @@
 //! The commands that print why a reading has its code, and that check such a proof.
-ghost use Rattle.std.specs.Prelude.{◌*◌, ◌<◌, ◌≤◌, List};
+ghost use Rattle.std.specs.Prelude.{◌≡◌, ◌*◌, ◌<◌, ◌≤◌, ◌++◌, ◌∷◌, List, IfOk, decimal};
+ghost use Rattle.gtp_cmd.specs.Words.{blank};
 ghost use Rattle.gtp_cmd.specs.Spans.{spanned, IsSpanOf};
 ghost use Rattle.helpers.specs.Asking.{SlotState};
 ghost use Rattle.machine_rules.specs.ProofCommands.{proved, checked, kind_of};
 ghost use Rattle.engine.specs.CommandAnswers.{IsAnswer};
 ghost use Rattle.engine.specs.SessionState.{machine_with};
 
-use crate::answer::{Answer, told};
-use crate::engine::Engine;
+use crate::answer::{Answer, grown, told};
+use crate::engine::{Engine, word};
 use crate::engine::board_commands::has_stone;
 use crate::point_lists::push_number;
 use go_base::{Bytes, NoMemory, Point};
@@ -28,10 +29,21 @@ impl Engine {
         }
         let position = self.position();
         match first_proof(self.alloc, &position, kind, p, self.readings.depths()) {
-            Ok(proof) => grown(proof_text(self.alloc, &proof)),
+            Ok(proof) => grown(self.proof_text(&proof)),
             Err(ProofError::TooLong) => Answer::Refused(RefuseText::ProofTooLong),
             Err(ProofError::NoMemory) => Answer::NoMemory,
         }
+    }
+
+    /// A code and its proof as they are printed. Takes memory.
+    fn proof_text(&self, proof: &Proof) -> Result<Bytes, NoMemory>
+        ensures { IfOk result (λ text. text ≡ decimal proof.now.code ++ blank ∷ proof.now.text) }
+    {
+        let mut text = Bytes::new(self.alloc);
+        push_number(&mut text, proof.code)?;
+        text.push(b' ')?;
+        text.extend(proof.text.as_slice())?;
+        Ok(text)
     }
 
     /// Tells whether the words in this part of the line are a proof of the code of a question about the string of p.

@@ -46,22 +46,22 @@ impl Engine {
             return Answer::Refused(RefuseText::SyntaxError);
         };
         match files.load(name, Vec::new(self.alloc)) {
-            Ok(record) => self.set_record(record.as_slice()),
+            Ok(contents) => self.set_record(contents.as_slice()),
             Err(LoadError::Failed) => Answer::Refused(RefuseText::CannotLoadFile),
             Err(LoadError::NoMemory) => Answer::NoMemory,
         }
     }
 
     /// Makes the position of a game record that from which moves are played, or tells its first fault.
-    fn set_record(&mut self, record: &[u8]) -> Answer
+    fn set_record(&mut self, contents: &[u8]) -> Answer
         ensures answer { (helpers : List SlotState) → IsAnswer
-            (recorded (machine_with helpers self.old) (game_of record.now)) result (machine_with helpers self.new) }
+            (recorded (machine_with helpers self.old) (game_of contents.now)) result (machine_with helpers self.new) }
         ensures patterns { self.new.patterns ≡ self.old.patterns }
         ensures same { self.new.automaton ≡ self.old.automaton }
         ensures counts { self.new.counts ≡ self.old.counts }
         ensures kept { self.new.readings.kept ≡ self.old.readings.kept }
     {
-        match read(record) {
+        match read(contents) {
             Ok(position) => {
                 self.history.start(&position);
                 told(b"")

@@ -11,13 +11,15 @@ pub returns-clause-answers : goal.returns-clause-answers
 returns-clause-answers g c = λ missed file.
     answers-command _ _ c.args.id c.args.command c.reply.result _
     (c.reply.ensures.reply _ _ (c.in-Ok.ensures.answer file)) c.reply.ensures.bytes c.in-Ok.ensures.patterns
-    c.in-Ok.ensures.automaton c.in-Ok.ensures.readings c.in-Ok.ensures.read (sym (append-nil missed))
+    c.in-Ok.ensures.automaton c.in-Ok.ensures.readings c.in-Ok.ensures.read
+    (sym (ap (λ l. missed ++ l) (missed-none c.args.line.now c.args.id c.args.command c.reply.result
+    (c.in-Ok.ensures.loads)) ∙ append-nil missed))
 
 -- a command that may take long leaves its line
 pub returns-in-Err-clause-left : goal.returns-in-Err-clause-left
 returns-in-Err-clause-left g c = λ missed.
-    left-command _ _ (Command c.args.id c.args.command) c.args.id c.args.command c.in-Err.work refl
+    left-command _ _ c.args.line.now (Command c.args.id c.args.command) c.args.id c.args.command c.in-Err.work refl
     c.in-Err.ensures.slow
     (λ i. kept_with (states_of (λ z. (goal.Helper-dyn g z).state z.1) (c.in-Err.ensures.helpers i)) missed
     (c.in-Err.ensures.same i))
-    c.requires
+    c.requires.within c.requires.spans

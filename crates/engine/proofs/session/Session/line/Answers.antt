@@ -16,6 +16,10 @@ returns-in-Ok-clause-answers g c =
 pub finish-requires-clause-within : goal.finish-requires-clause-within
 finish-requires-clause-within g c = (c.in-Err.ensures.left (g.L.Loader.missed c.args.files.now)).within
 
+-- and its parts lie in it
+pub finish-requires-clause-spans : goal.finish-requires-clause-spans
+finish-requires-clause-spans g c = (c.in-Err.ensures.left (g.L.Loader.missed c.args.files.now)).spans
+
 -- the line says what was left
 pub finish-requires-clause-says : goal.finish-requires-clause-says
 finish-requires-clause-says g c =

@@ -23,8 +23,8 @@ pub returns-clause-left : goal.returns-clause-left
 returns-clause-left g c = λ missed.
     let helpers = states_of (λ z. (goal.Helper-dyn g z).state z.1) c.args.self.now.helpers in
     if_err_map c.try_answer.result
-    (λ slow left. left-line (kept_with helpers missed c.args.self.now.engine) _ _ c.heard-said.result slow
-    (c.heard-said.ensures.said helpers) left)
+    (λ slow left. left-line (kept_with helpers missed c.args.self.now.engine) _ _ _ c.heard-said.result _ slow
+    c.bytes_of.ensures (c.heard-said.ensures.said helpers) left)
     (c.try_answer.ensures.left missed)
 
 -- no line changes how a session finds the matches of its patterns
