@@ -4,6 +4,7 @@ pub mod LineAnswers
 pub mod LineCounts
 pub mod LineTexts
 pub mod ListedMatches
+pub mod LoadAnswers
 pub mod MoveAnswers
 pub mod RefusedLines
 pub mod StoneAnswers

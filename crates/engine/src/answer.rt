@@ -1,11 +1,12 @@
 //! What a session answers to a command, before the id of its line is known.
-ghost use Rattle.std.specs.Prelude.{◌≡◌, ◌≤◌, List, ℕ, length, decimal, IfOk};
+ghost use Rattle.std.specs.Prelude.{◌≡◌, ◌≤◌, List, ℕ, Some, length, decimal, IfOk};
 ghost use Rattle.gtp_cmd.specs.Rooms.{result_room};
 ghost use Rattle.machine_rules.specs.Machine.{Machine};
 ghost use Rattle.gtp_rules.specs.Transcript.{MayGive};
 ghost use Rattle.gtp_cmd.specs.declared.refusals.RefuseText.TheVariants.{OutOfMemory};
 ghost use Rattle.machine_rules.specs.Effects.{Effect, IsExcused, grown, replied};
-ghost use Rattle.engine.specs.CommandAnswers.{Succeeds, IsAnswer};
+ghost use Rattle.machine_rules.specs.Loads.{missed_by};
+ghost use Rattle.engine.specs.CommandAnswers.{Succeeds, IsAnswer, named, missed_as};
 ghost use Rattle.engine.specs.Replies.{reply_bytes, reply_ends, reply_count};
 
 use crate::reply::Reply;
@@ -126,6 +127,9 @@ impl Answer {
         ensures reply { (effect : Effect) (new : Machine) → IsAnswer effect self new
             → MayGive (replied id effect) (reply_bytes result) new (reply_ends result) }
         ensures bytes { reply_count (reply_bytes result) ≡ 1 }
+        // A file was missed exactly where that is told.
+        ensures missed { (name : List ℕ) → missed_by (Some (record { id = id; name = name })) (reply_bytes result)
+            ≡ missed_as (named name) self }
     {
         match self {
             Answer::Told(text) => Reply::Short {

@@ -1,6 +1,6 @@
 //! What a session keeps beside its helpers: the plain machine, its patterns and its counts; and its answer to each
 //! line.
-ghost use Rattle.std.specs.Prelude.{◌≡◌, ◌≤◌, ◌++◌, ℕ, List, None, length, IfOk, IfErr, OnOk, OnErr};
+ghost use Rattle.std.specs.Prelude.{◌≡◌, ◌≤◌, ◌++◌, ℕ, List, Option, None, length, IfOk, IfErr, OnOk, OnErr};
 ghost use Rattle.gtp_lex.specs.Raw.{raw_line};
 ghost use Rattle.go_options.specs.Found.{AreInRange};
 ghost use Rattle.go_strings.specs.Games.{reached};
@@ -16,7 +16,7 @@ ghost use Rattle.machine_rules.specs.ProofCommands.{word_of};
 ghost use Rattle.machine_rules.specs.Step.{effect_of};
 ghost use Rattle.engine.specs.AfterLine.{ReadsAs};
 ghost use Rattle.engine.specs.AnsweredLines.{AnswersParsed};
-ghost use Rattle.engine.specs.CommandAnswers.{IsAnswer, missed_as};
+ghost use Rattle.engine.specs.CommandAnswers.{IsAnswer, IsDone, missed_as};
 ghost use Rattle.engine.specs.Kept.{kept_with};
 ghost use Rattle.engine.specs.SessionState.{board_of, machine_with, machine_alone, matcher_of, first_kept};
 ghost use Rattle.engine.specs.SessionState.{NumbersPatterns};
@@ -270,9 +270,8 @@ impl Engine {
     ) -> Answer
         requires within { IsWithin self.old.base.size (command_of work) }
         requires spans { IsWithinLine line.now (command_of work) }
-        ensures answer { (file : List ℕ) × IsFileOf (L.contents files.old) (load_of line.now None (command_of work)) file
-            × IsAnswer (effect_of (matcher_of self.old) (machine_with (states_of state helpers.old) self.old)
-            (record { line = line.now; file = file }) (command_of work)) result
+        ensures answer { IsDone (L.contents files.old) (matcher_of self.old)
+            (machine_with (states_of state helpers.old) self.old) line.now (command_of work) result
             (machine_with (states_of state helpers.new) self.new) }
         ensures missed { L.missed files.new ≡ L.missed files.old
             ++ missed_as (load_of line.now None (command_of work)) result }
@@ -315,6 +314,7 @@ impl Engine {
         ensures readings { OnOk result (self.new.counts.readings ≡ counted self.old.counts.readings
             (is_read (machine_alone self.old) command)) }
         ensures read { OnOk result (ReadsAs (asks_of (machine_alone self.old) command) self.old self.new) }
+        ensures loads { OnOk result ((id : Option ℕ) → load_of line.now id command ≡ None) }
         ensures slow { IfErr result (λ work. command ≡ command_of work) }
         ensures same { OnErr result (self.new ≡ self.old) }
         ensures helpers { OnErr result (helpers.new ≡ helpers.old) }

@@ -1,9 +1,11 @@
 -- The reply to a command is one that the machine may give.
-use Rattle.std.proofs.Common.{refl, sym, subst}
+use Rattle.std.proofs.Common.{Some, refl, sym, ap, subst, ◌∙◌}
 use Rattle.gtp_rules.specs.Transcript.{MayGive}
 use Rattle.gtp_cmd.specs.declared.refusals.RefuseText.TheVariants.{OutOfMemory}
 use Rattle.machine_rules.specs.Effects.{replied}
-use Rattle.engine.specs.CommandAnswers.{IsAnswer}
+use Rattle.machine_rules.specs.Loads.{missed_by}
+use Rattle.engine.specs.CommandAnswers.{IsAnswer, named, missed_as}
+use Rattle.engine.proofs.LoadAnswers.{missed-refused}
 use Rattle.engine.specs.Replies.{reply_bytes, reply_ends}
 use Rattle.engine.specs.declared.answer.Answer.{Answer}
 use Rattle.engine.specs.declared.reply.Reply.{Reply}
@@ -28,3 +30,10 @@ returns-in-Refused-clause-reply c = λ effect new is.
     subst (λ (r : Reply). MayGive (replied c.args.id effect) (reply_bytes r) new (reply_ends r)) (sym c.refused.ensures)
     (gives-refusal c.args.id effect new c.in-Refused.text _ refl
     (subst (λ (a : Answer). IsAnswer effect a new) c.in-Refused.is is))
+
+-- a refusal missed a file where it says so
+pub returns-in-Refused-clause-missed : goal.returns-in-Refused-clause-missed
+returns-in-Refused-clause-missed c = λ name.
+    ap (λ (r : Reply). missed_by (Some (record { id = c.args.id; name = name })) (reply_bytes r)) c.refused.ensures
+    ∙ missed-refused c.args.id c.in-Refused.text name
+    ∙ ap (missed_as (named name)) (sym c.in-Refused.is)

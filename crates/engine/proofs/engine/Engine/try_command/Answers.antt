@@ -1,8 +1,10 @@
 -- The command was obeyed and its answer put behind the id, or it may take long.
-use Rattle.std.proofs.Common.{refl, sym, append-nil}
+use Rattle.std.proofs.Common.{refl, sym, ap, ◌∙◌, ◌++◌, append-nil}
 use Rattle.gtp_cmd.specs.declared.commands.Parsed.TheVariants.{Command}
 use Rattle.helpers.specs.Slots.{states_of}
 use Rattle.engine.specs.Kept.{kept_with}
+use Rattle.engine.proofs.LoadAnswers.{missed-none}
+use Rattle.engine.specs.Replies.{reply_bytes}
 use Rattle.engine.proofs.LineAnswers.{answers-command, left-command}
 use Rattle.engine.proofs.engine.Engine.try_command.Goals as goal
 
@@ -12,7 +14,7 @@ returns-clause-answers g c = λ missed file.
     answers-command _ _ c.args.id c.args.command c.reply.result _
     (c.reply.ensures.reply _ _ (c.in-Ok.ensures.answer file)) c.reply.ensures.bytes c.in-Ok.ensures.patterns
     c.in-Ok.ensures.automaton c.in-Ok.ensures.readings c.in-Ok.ensures.read
-    (sym (ap (λ l. missed ++ l) (missed-none c.args.line.now c.args.id c.args.command c.reply.result
+    (sym (ap (λ l. missed ++ l) (missed-none c.args.line.now c.args.id c.args.command (reply_bytes c.reply.result)
     (c.in-Ok.ensures.loads)) ∙ append-nil missed))
 
 -- a command that may take long leaves its line
