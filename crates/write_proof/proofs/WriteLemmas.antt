@@ -1,6 +1,6 @@
 -- What is written at a node, by what is written at the nodes to which its moves lead.
-use Rattle.std.proofs.Common.{◌≡◌, ◌∙◌, ℕ, zero, suc, ◌-◌, ◌≤◌, Bool, true, false, cond, List, [], ◌∷◌, ◌++◌, length}
-use Rattle.std.proofs.Common.{Option, Some, None, Result, Ok, Err, refl, sym, ap, subst, arith, codes, ltb, eqb, ◌||◌, ◌&&◌}
+use Rattle.std.proofs.Common.{◌≡◌, ◌∙◌, ℕ, ◌-◌, ◌≤◌, Bool, true, false, cond, List, [], ◌∷◌, ◌++◌, length}
+use Rattle.std.proofs.Common.{Option, Some, None, Result, Ok, Err, refl, sym, ap, subst, arith, ltb, eqb, ◌||◌, ◌&&◌}
 use Rattle.std.proofs.Common.{not, ◌+◌, ◌/◌, ◌<◌, ◌≢◌, drop, ◌↔◌}
 use Rattle.std.proofs.lemmas.Bool.{ne_eqb}
 use Rattle.std.specs.List.{filter_map, filter, range_with_len}
@@ -15,7 +15,6 @@ use Rattle.trial_board.specs.Trials.{Trying, Stays, after}
 use Rattle.read_rules.specs.declared.node.Node.{Node}
 use Rattle.read_rules.specs.declared.question.Spot.{Spot}
 use Rattle.read_rules.specs.declared.question.Spot.TheVariants.{At, Pass}
-use Rattle.read_rules.specs.Candidates.{is_candidate}
 use Rattle.read_rules.specs.GameTree.{child_of, next_node, allowance_of, first_move, is_captured, has_many_liberties}
 use Rattle.read_rules.proofs.RuleLemmas.{first_move_gives}
 use Rattle.read_tree.specs.Nodes.{LeadsTo}
