@@ -223,3 +223,8 @@ not_written {T} start bytes all out r e none same is h =
     by : (e : ProofError) → Puts {T = T} [] all out (Err e) → Writes all (Err e)
     by TooLong long = long
     by NoMemory done = tt
+
+-- the words without their first byte are not too long
+pub short_length : (bytes text : List ℕ) → text ≡ drop 1 bytes → length bytes ≤ most_bytes → length text ≤ 60000
+short_length [] text is few = rw is (omega arith)
+short_length (x ∷ xs) text is few = rw is (omega (arith, few))
