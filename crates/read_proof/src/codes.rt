@@ -62,12 +62,7 @@ fn colour_of(cell: Cell) -> Colour
 }
 
 /// The question that a call asks.
-pub fn question_on(
-    pos: &Position,
-    of: Kind,
-    target: Point,
-    depths: Depths,
-) -> ReadingQuestion
+pub fn question_on(pos: &Position, of: Kind, target: Point, depths: Depths) -> ReadingQuestion
     requires { target < pos.now.size * pos.now.size }
     ensures { result ≡ asked_on pos.now of target depths.plies depths.wide }
 {

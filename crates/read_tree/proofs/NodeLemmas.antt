@@ -4,7 +4,6 @@ use Rattle.std.proofs.Common.{arith, eqb, subst, not, cond, Option, None, Some, 
 use Rattle.std.specs.Option.{option_map}
 use mathlib.Core.Bool.{beq}
 use Rattle.std.proofs.lemmas.Bool.{ltb-true, lt-ltb, or_right}
-use Rattle.go_rules.specs.declared.Colour.{Colour}
 use Rattle.go_rules.specs.Position.{BoardState}
 use Rattle.read_rules.specs.declared.node.Node.{Node}
 use Rattle.go_rules.specs.Strings.{liberties}

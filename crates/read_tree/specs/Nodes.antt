@@ -1,5 +1,5 @@
 -- A node of the game tree on a board with trial moves, under whatever ko allowances.
-use Rattle.std.specs.Prelude.{◌≡◌, ℕ, ◌+◌, Bool, not, ◌&&◌, ◌==◌, nat_lt, Option}
+use Rattle.std.specs.Prelude.{◌≡◌, ℕ, ◌+◌, Bool, ◌&&◌, ◌==◌, nat_lt, Option}
 use Rattle.std.specs.Option.{option_map}
 use Rattle.go_rules.specs.Position.{BoardState}
 use Rattle.read_rules.specs.declared.node.Node.{Node}

@@ -1,6 +1,6 @@
 -- What is written at a node, by what is written at the nodes to which its moves lead.
-use Rattle.std.proofs.Common.{◌≡◌, ◌∙◌, ℕ, zero, suc, ◌-◌, ◌≤◌, Bool, true, false, cond, List, [], ◌∷◌, ◌++◌, length}
-use Rattle.std.proofs.Common.{Option, Some, None, Result, Ok, Err, refl, sym, ap, subst, arith, codes, ltb, eqb, ◌||◌, ◌&&◌}
+use Rattle.std.proofs.Common.{◌≡◌, ◌∙◌, ℕ, ◌-◌, ◌≤◌, Bool, true, false, cond, List, [], ◌∷◌, ◌++◌, length}
+use Rattle.std.proofs.Common.{Option, Some, None, Result, Ok, Err, refl, sym, ap, subst, arith, ltb, eqb, ◌||◌, ◌&&◌}
 use Rattle.std.proofs.Common.{not, ◌+◌, ◌/◌, ◌<◌, ◌≢◌, drop, ◌↔◌}
 use Rattle.std.proofs.lemmas.Bool.{ne_eqb}
 use Rattle.std.specs.List.{filter_map, filter, range_with_len}
@@ -15,7 +15,6 @@ use Rattle.trial_board.specs.Trials.{Trying, Stays, after}
 use Rattle.read_rules.specs.declared.node.Node.{Node}
 use Rattle.read_rules.specs.declared.question.Spot.{Spot}
 use Rattle.read_rules.specs.declared.question.Spot.TheVariants.{At, Pass}
-use Rattle.read_rules.specs.Candidates.{is_candidate}
 use Rattle.read_rules.specs.GameTree.{child_of, next_node, allowance_of, first_move, is_captured, has_many_liberties}
 use Rattle.read_rules.proofs.RuleLemmas.{first_move_gives}
 use Rattle.read_tree.specs.Nodes.{LeadsTo}
@@ -224,3 +223,8 @@ not_written {T} start bytes all out r e none same is h =
     by : (e : ProofError) → Puts {T = T} [] all out (Err e) → Writes all (Err e)
     by TooLong long = long
     by NoMemory done = tt
+
+-- the words without their first byte are not too long
+pub short_length : (bytes text : List ℕ) → text ≡ drop 1 bytes → length bytes ≤ most_bytes → length text ≤ 60000
+short_length [] text is few = rw is (omega arith)
+short_length (x ∷ xs) text is few = rw is (omega (arith, few))

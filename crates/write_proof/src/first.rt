@@ -31,7 +31,8 @@ pub struct Proof {
 fn code_of(pos: &Position, of: Kind, target: Point, depths: Depths) -> u8
     requires on_board { target < pos.now.size * pos.now.size }
     requires stone { cell_at pos.now.cells target ≢ Cell.Empty }
-    ensures { result ≡ (answer_of (asked_on pos.now of target depths.plies depths.wide) pos.now).code }
+    ensures value { result ≡ (answer_of (asked_on pos.now of target depths.plies depths.wide) pos.now).code }
+    ensures few { result ≤ 3 }
 {
     let look = Watch::new(pos);
     match of {
@@ -93,6 +94,8 @@ pub fn first_proof(
         ≡ (answer_of (asked_on pos.now of target depths.plies depths.wide) pos.now).code) }
     ensures text { IfOk result (λ proof. proof.text
         ≡ first_text (asked_on pos.now of target depths.plies depths.wide) pos.now) }
+    ensures few { IfOk result (λ proof. proof.code ≤ 3) }
+    ensures short { IfOk result (λ proof. length proof.text ≤ 60000) }
     ensures too_long { result ≢ Err ProofError.NoMemory → result ≡ Err ProofError.TooLong
         ↔ (60000 < length (first_text (asked_on pos.now of target depths.plies depths.wide) pos.now)) }
     ensures accepted { IfOk result (λ proof.

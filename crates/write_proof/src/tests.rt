@@ -136,13 +136,13 @@ fn every_child_has_its_proof_with_the_pass_first(rt: HostRuntime) -> Result<(), 
     check_on(&rt, rt.alloc(), (9, "D4", "C4 E4"), &saved)
 }
 
-/// White F4 stands nearly alone, and a reading of it is deep and wide.
-const OPEN: Stones = (9, "E4 F5 D6", "F4 G6");
+/// Black D2 has room on all sides, and a reading of it that is deep and wide has many moves.
+const OPEN: Stones = (9, "B2 D2", "G2 A2");
 
 #[test]
 fn long_proofs_are_not_told(rt: HostRuntime) -> Result<(), Fail> {
     let position = position(OPEN).ok_or("the stones can be put")?;
-    let found = first_on(rt.alloc(), &position, "attack F4 16 8").ok_or(
+    let found = first_on(rt.alloc(), &position, "attack D2 16 12").ok_or(
         "the question is about a stone",
     )?;
     let too_long = matches!(&found, Err(ProofError::TooLong));

@@ -1,8 +1,8 @@
 -- The walk over the moves of a node answers what the tree says, over every position that agrees with what was seen.
-use Rattle.std.proofs.Common.{◌≡◌, ◌∙◌, ◌*◌, ◌<◌, ◌&&◌, ℕ, true, List, ap, sym, subst, refl, inl, inr, arith, rules}
+use Rattle.std.proofs.Common.{◌≡◌, ◌∙◌, ◌*◌, ◌<◌, ◌&&◌, ℕ, true, List, ap, sym, subst, inl, inr, arith, rules}
 use Rattle.std.specs.FinSet as set
 use Rattle.std.proofs.lemmas.Bool.{cases_eq}
-use Rattle.go_base.specs.Facts.{Agrees, agrees_before, Grows-refl, Grows-trans}
+use Rattle.go_base.specs.Facts.{agrees_before, Grows-refl, Grows-trans}
 use Rattle.go_rules.specs.declared.Cell.TheVariants.{Empty}
 use Rattle.go_rules.proofs.Cells.{eq_is_same_cell}
 use Rattle.go_rules.specs.Position.{BoardState}

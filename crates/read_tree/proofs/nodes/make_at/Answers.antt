@@ -1,9 +1,8 @@
 -- Where a play leads is where the try led, and it leads nowhere where the try was refused.
-use Rattle.std.proofs.Common.{ap, sym, subst, inl, inr, ◌∙◌, ◌<◌, Some, arith}
+use Rattle.std.proofs.Common.{sym, subst, inl, inr, ◌∙◌, ◌<◌, arith}
 use Rattle.go_base.specs.Facts.{agrees_before, Grows-trans}
 use Rattle.trial_board.specs.Trials.{after}
 use Rattle.trial_board.specs.declared.moves.Tried.TheVariants.{Banned}
-use Rattle.read_rules.specs.declared.node.Node.{Node}
 use Rattle.read_rules.specs.GameTree.{allowance_of}
 use Rattle.read_tree.proofs.ChildLemmas.{child_of-done, child_of-dropped, child_of-suicide, child_of-refused}
 use Rattle.read_tree.proofs.ChildLemmas.{moves-refused, moves-banned, at_most_one_more}

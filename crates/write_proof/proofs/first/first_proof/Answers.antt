@@ -1,4 +1,4 @@
-use Rattle.std.proofs.Common.{◌≡◌, ◌∙◌, ◌++◌, ℕ, drop, ap, sym, subst, refl}
+use Rattle.std.proofs.Common.{◌≡◌, ◌∙◌, ℕ, drop, ap, sym, subst}
 use Rattle.go_rules.specs.Position.{BoardState}
 use Rattle.read_rules.specs.declared.question.ReadingQuestion.{ReadingQuestion}
 use Rattle.read_rules.specs.Answer.{answer_of, asked_on}
@@ -9,7 +9,7 @@ use Rattle.read_proof.proofs.QuestionLemmas.{about_asked}
 use Rattle.read_proof.proofs.TextLemmas.{first_text_proves}
 use Rattle.write_proof.specs.Printed.{behind_blanks}
 use Rattle.write_proof.proofs.PutLemmas.{text_words, some_text}
-use Rattle.write_proof.proofs.WriteLemmas.{short_text, long_text}
+use Rattle.write_proof.proofs.WriteLemmas.{short_text, long_text, short_length}
 use Rattle.write_proof.proofs.first.first_proof.Goals as goal
 
 -- the first text by the question that was asked and the code that was found
@@ -30,7 +30,7 @@ returns-in-Ok-clause-text c =
     c.in-Ok.ensures ∙ ap (drop 1) c.in_ok-words.ensures.0
     ∙ text_of c.question_on-question.result
     (asked_on c.args.pos.now c.args.of c.args.target c.args.depths.plies c.args.depths.wide) c.args.pos.now
-    c.code_of-code.result c.question_on-question.ensures c.code_of-code.ensures
+    c.code_of-code.result c.question_on-question.ensures c.code_of-code.ensures.value
 
 -- so it is a proof of the code
 pub returns-in-Ok-clause-accepted : goal.returns-in-Ok-clause-accepted
@@ -38,11 +38,16 @@ returns-in-Ok-clause-accepted c =
     let pos = c.args.pos.now in
     let q = asked_on pos c.args.of c.args.target c.args.depths.plies c.args.depths.wide in
     let here = c.size.ensures.position in
-    subst (λ k. IsProofOf q pos k c.in-Ok.text) (sym c.code_of-code.ensures)
+    subst (λ k. IsProofOf q pos k c.in-Ok.text) (sym c.code_of-code.ensures.value)
     (subst (λ t. IsProofOf q pos (answer_of q pos).code t) (sym (returns-in-Ok-clause-text c))
     (first_text_proves q pos (record { at_least = here.size_at_least; at_most = here.size_at_most })
     c.requires.on_board
     (about_asked pos c.args.of c.args.target c.args.depths.plies c.args.depths.wide c.requires.stone)))
+
+-- it is short
+pub returns-in-Ok-clause-short : goal.returns-in-Ok-clause-short
+returns-in-Ok-clause-short c =
+    short_length _ c.in-Ok.text c.in-Ok.ensures c.in_ok-words.ensures.1
 
 -- and it is not too long
 pub returns-in-Ok-clause-too_long : goal.returns-in-Ok-clause-too_long
@@ -52,7 +57,7 @@ returns-in-Ok-clause-too_long c =
     short_text words _ (some_text c.question_on-question.result c.args.pos.now c.code_of-code.result)
     (text_of c.question_on-question.result
     (asked_on c.args.pos.now c.args.of c.args.target c.args.depths.plies c.args.depths.wide) c.args.pos.now
-    c.code_of-code.result c.question_on-question.ensures c.code_of-code.ensures) _
+    c.code_of-code.result c.question_on-question.ensures c.code_of-code.ensures.value) _
     (rw c.in_ok-words.ensures.0 at c.in_ok-words.ensures.1)
 
 -- not all of them were written
@@ -63,5 +68,5 @@ returns-in_err-words-clause-too_long c =
     long_text words _ (some_text c.question_on-question.result c.args.pos.now c.code_of-code.result)
     (text_of c.question_on-question.result
     (asked_on c.args.pos.now c.args.of c.args.target c.args.depths.plies c.args.depths.wide) c.args.pos.now
-    c.code_of-code.result c.question_on-question.ensures c.code_of-code.ensures) c.in_err-words.field-0.0
+    c.code_of-code.result c.question_on-question.ensures c.code_of-code.ensures.value) c.in_err-words.field-0.0
     c.from_residual.result c.from_residual.ensures.1 c.in_err-words.ensures

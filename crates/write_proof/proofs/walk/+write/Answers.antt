@@ -1,7 +1,6 @@
 -- What is written at a node is its first proof: a word, and then the proofs at its children.
-use Rattle.std.proofs.Common.{◌≡◌, ◌∙◌, ◌+◌, ◌-◌, ◌*◌, ◌<◌, ◌++◌, ℕ, true, List, [], ◌∷◌, ap, sym, subst, refl, inl, inr}
+use Rattle.std.proofs.Common.{◌≡◌, ◌∙◌, ◌+◌, ◌-◌, ◌*◌, ◌<◌, ◌++◌, ℕ, true, List, [], ◌∷◌, ap, sym, subst, inl, inr}
 use Rattle.std.proofs.Common.{codes, append_assoc, rules, Err, Option, Some, IfSome}
-use Rattle.std.specs.FinSet as set
 use Rattle.std.specs.List.{filter_map, filter, range_with_len}
 use Rattle.std.specs.Option.{option_to_list}
 use Rattle.go_base.specs.Facts.{Agrees, Grows-trans}
