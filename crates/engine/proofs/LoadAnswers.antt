@@ -1,6 +1,7 @@
 -- What a line loads, and whether it missed that.
 use Rattle.std.proofs.Common.{◌≡◌, ℕ, Bool, true, false, cond, eqb, List, [], ◌∷◌, ◌++◌, Option, None, Some, refl, sym}
-use Rattle.std.proofs.Common.{ap, subst, ◌∙◌, append-nil, append_assoc, codes}
+use Rattle.std.proofs.Common.{ap, subst, ◌∙◌, append-nil, append_assoc, codes, nat_eq, ◌&&◌, arith}
+use Rattle.std.proofs.lemmas.Bool.Decides.{nat_tests}
 use Rattle.std.specs.Str.{bytes_eq}
 use Rattle.gtp_cmd.specs.Replies.{refusal_text, id_text, text_of, reply_end}
 use Rattle.gtp_cmd.specs.declared.commands.Command.{Command}
@@ -57,12 +58,6 @@ missed-told line id (command.LoadSgf span) bytes said told =
     missed-named id (is_utf8 (word_at line span)) (word_at line span) bytes said told
 missed-told line id _ bytes said told = refl
 
--- bytes behind equal ones
-bytes_eq-front : (front a b : List ℕ) → bytes_eq (front ++ a) (front ++ b) ≡ bytes_eq a b
-bytes_eq-front [] a b = refl
-bytes_eq-front (x ∷ front) a b =
-    ap (λ t. and t (bytes_eq (front ++ a) (front ++ b))) (nat_eq-refl x) ∙ bytes_eq-front front a b
-
 -- What a done command's work answered.
 module _ (contents : Contents) (matcher : Matcher) (old : Machine) (line : List ℕ) (said : Answer)
     (new : Machine) (work done : Work) (is : work ≡ done) (none : load_of line None (command_of done) ≡ None) where
@@ -78,6 +73,16 @@ module _ (contents : Contents) (matcher : Matcher) (old : Machine) (line : List 
   missed-unloaded missed =
       subst (λ (w : Work). missed ≡ missed ++ missed_as (load_of line None (command_of w)) said) (sym is)
       (subst (λ load. missed ≡ missed ++ missed_as load said) (sym none) (sym (append-nil missed)))
+
+-- a number is itself
+same-number : (n : ℕ) → nat_eq n n ≡ true
+same-number n = grind (arith, nat_tests)
+
+-- bytes behind equal ones
+bytes_eq-front : (front a b : List ℕ) → bytes_eq (front ++ a) (front ++ b) ≡ bytes_eq a b
+bytes_eq-front [] a b = refl
+bytes_eq-front (x ∷ front) a b =
+    ap (λ t. t && bytes_eq (front ++ a) (front ++ b)) (same-number x) ∙ bytes_eq-front front a b
 
 -- what a refusal says, with the line feeds behind it
 abbrev ending : RefuseText → List ℕ
@@ -109,7 +114,7 @@ pub missed-refused : (id : Option ℕ) (text : RefuseText) (name : List ℕ)
 missed-refused id text name =
     let front : List ℕ = codes "?" ++ (id_text id ++ codes " ") in
     let apart : (t : RefuseText) → refusal_text id t ≡ front ++ ending t =
-    λ t. ap (λ l. 63 ∷ l) (sym (append_assoc (id_text id) (codes " ") (text_of t ++ reply_end))) in
+    λ t. ap (λ l. 63 ∷ l) (append_assoc (id_text id ++ codes " ") (text_of t) reply_end) in
     ap (λ b. cond b (name ∷ []) [])
     (ap (λ l. bytes_eq l (refusal_text id refusal.CannotLoadFile)) (apart text)
     ∙ ap (bytes_eq (front ++ ending text)) (apart refusal.CannotLoadFile)
