@@ -5,6 +5,7 @@ pub mod LineCounts
 pub mod LineTexts
 pub mod ListedMatches
 pub mod MoveAnswers
+pub mod RecordAnswers
 pub mod RefusedLines
 pub mod StoneAnswers
 pub mod Texts
