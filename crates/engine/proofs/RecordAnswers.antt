@@ -1,6 +1,6 @@
 -- What is answered where a game record is loaded, by what the loader says of its file.
-use Rattle.std.proofs.Common.{◌≡◌, ℕ, Bool, true, cond, eqb, List, [], ◌∷◌, length, Option, Some, None, Result, Ok, Err}
-use Rattle.std.proofs.Common.{inl, inr, refl, sym, ap, subst, arith}
+use Rattle.std.proofs.Common.{◌≡◌, ℕ, Bool, true, cond, eqb, List, [], ◌∷◌, ◌++◌, length, Option, Some, None, Result, Ok, Err}
+use Rattle.std.proofs.Common.{inl, inr, refl, sym, ap, subst, ◌∙◌, arith}
 use Rattle.std.proofs.lemmas.Bool.Decides.{nat_tests}
 use Rattle.std.proofs.lemmas.Str.{utf8_valid_len-IsUtf8}
 use Rattle.std.specs.Prelude.{IsUtf8}
@@ -10,7 +10,9 @@ use Rattle.sgf_rules.specs.declared.kind.FaultKind.{FaultKind}
 use Rattle.sgf_rules.specs.Game.{game_of}
 use Rattle.gtp_cmd.specs.declared.refusals.RefuseText.{RefuseText}
 use Rattle.gtp_cmd.specs.declared.refusals.RefuseText.TheVariants.{CannotLoadFile, SyntaxError, OutOfMemory}
-use Rattle.gtp_io.specs.Loading.{IsLoaded}
+use Rattle.gtp_io.specs.Loading.{IsLoaded, missed_after}
+use Rattle.gtp_io.specs.declared.errors.LoadError.{LoadError}
+use Rattle.gtp_io.specs.declared.errors.LoadError.TheVariants.{Failed}
 use Rattle.machine_rules.specs.Machine.{Machine}
 use Rattle.machine_rules.specs.Effects.{Excuse, Effect, IsExcused, refused, growing, out_of_memory}
 use Rattle.machine_rules.specs.Files.{Contents, IsContents}
@@ -88,8 +90,17 @@ module _ (name : List ℕ) (utf8 : is_utf8 name ≡ true) where
       (are-contents (contents name) bytes is)
 
   -- where the file could not be loaded, its name is missed
-  pub misses-name : missed_as (named_load name) (answer.Refused CannotLoadFile) ≡ name ∷ []
+  misses-name : missed_as (named_load name) (answer.Refused CannotLoadFile) ≡ name ∷ []
   misses-name = ap (λ b. missed_as (cond b (Some load) None) (answer.Refused CannotLoadFile)) utf8
+
+  -- so the loader, which could not load it, missed what the refusal says
+  pub miss-told : {T : Type 0} (missed : List (List ℕ)) (given : List ℕ) (result : Result T LoadError)
+      → result ≡ Err Failed → given ≡ name
+      → missed_after missed given result ≡ missed ++ missed_as (named_load name) (answer.Refused CannotLoadFile)
+  miss-told missed given result failed same =
+      ap (λ r. missed_after missed given r) failed
+      ∙ ap (λ known. missed ++ known ∷ []) same
+      ∙ ap (λ names. missed ++ names) (sym misses-name)
 
   module _ (old : Machine) (file : List ℕ) where
     -- what a load does, where its name is a text or not
