@@ -6,6 +6,7 @@ pub mod LineTexts
 pub mod ListedMatches
 pub mod LoadAnswers
 pub mod MoveAnswers
+pub mod RecordAnswers
 pub mod RefusedLines
 pub mod StoneAnswers
 pub mod Texts
