@@ -1,6 +1,6 @@
 -- What is answered where a game record is loaded, by what the loader says of its file.
-use Rattle.std.proofs.Common.{◌≡◌, ℕ, Bool, true, cond, eqb, List, [], ◌∷◌, ◌++◌, length, Option, Some, None, Result, Ok, Err}
-use Rattle.std.proofs.Common.{inl, inr, refl, sym, ap, subst, ◌∙◌, arith}
+use Rattle.std.proofs.Common.{◌≡◌, ℕ, Bool, true, cond, eqb, List, [], ◌∷◌, ◌++◌, length, Option, Some, None}
+use Rattle.std.proofs.Common.{Result, Ok, Err, inl, inr, refl, sym, ap, subst, ◌∙◌, arith}
 use Rattle.std.proofs.lemmas.Bool.Decides.{nat_tests}
 use Rattle.std.proofs.lemmas.Str.{utf8_valid_len-IsUtf8}
 use Rattle.std.specs.Prelude.{IsUtf8}
@@ -18,7 +18,7 @@ use Rattle.machine_rules.specs.Effects.{Excuse, Effect, IsExcused, refused, grow
 use Rattle.machine_rules.specs.Files.{Contents, IsContents}
 use Rattle.machine_rules.specs.Loads.{Load, IsFileOf, named_load}
 use Rattle.machine_rules.specs.RecordCommands.{is_utf8, not_loaded, recorded, loaded, loaded_by}
-use Rattle.engine.specs.CommandAnswers.{Succeeds, IsAnswer, missed_as}
+use Rattle.engine.specs.CommandAnswers.{IsAnswer, missed_as}
 use Rattle.engine.specs.declared.answer.Answer.{Answer}
 use Rattle.engine.specs.declared.answer.Answer.TheVariants as answer
 

@@ -1,5 +1,5 @@
 -- The answer says what the loader said of the file, and what its text is as a record.
-use Rattle.std.proofs.Common.{◌≡◌, ◌++◌, ℕ, true, List, [], Err, inl, refl, sym, ap, subst, ◌∙◌, append-nil}
+use Rattle.std.proofs.Common.{◌≡◌, ◌++◌, true, [], Err, inl, refl, sym, ap, subst, ◌∙◌, append-nil}
 use Rattle.std.specs.Prelude.{IsUtf8}
 use Rattle.gtp_io.specs.Loading.{IsLoaded}
 use Rattle.machine_rules.specs.Heard.{word_at}
@@ -8,7 +8,8 @@ use Rattle.machine_rules.specs.RecordCommands.{is_utf8}
 use Rattle.sgf_rules.specs.Game.{game_of}
 use Rattle.machine_rules.proofs.Soundness.{some_file}
 use Rattle.engine.specs.SessionState.{machine_with}
-use Rattle.engine.proofs.RecordAnswers.{text-is_utf8, record-misses, given-file, miss-told, record-loaded, file-not-loaded}
+use Rattle.engine.proofs.RecordAnswers.{text-is_utf8, record-misses, given-file, miss-told}
+use Rattle.engine.proofs.RecordAnswers.{record-loaded, file-not-loaded}
 use Rattle.engine.proofs.engine.Engine.load_record.Goals as goal
 
 -- there was no memory for the word, whatever the file is
