@@ -27,3 +27,12 @@ returns-in-Defend-clause-answer g c = λ file.
     (effect_of (matcher_of old) (machine_with helpers old) input k) answer
     (machine_with helpers c.recall-in-Defend.new.self))) (sym c.in-Defend.is)
     (c.recall-in-Defend.ensures.answer helpers)
+
+-- the check of a proof
+pub returns-in-CheckProof-clause-answer : goal.returns-in-CheckProof-clause-answer
+returns-in-CheckProof-clause-answer g c = λ file.
+    let helpers = states_of (λ z. (goal.Helper-dyn g z).state z.1) c.args.helpers.now in
+    let input : Input = record { line = c.args.line.now; file = file } in
+    let old = c.args.self.now in
+    subst (λ (k : Command). IsAnswer (effect_of (matcher_of old) (machine_with helpers old) input k)
+    c.check_proof.result (machine_with helpers old)) (sym c.in-CheckProof.is) (c.check_proof.ensures helpers)
