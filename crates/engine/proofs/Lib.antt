@@ -1,5 +1,6 @@
 pub mod AmongMatches
 pub mod CommandReplies
+pub mod HelperAnswers
 pub mod LineAnswers
 pub mod LineCounts
 pub mod LineTexts
