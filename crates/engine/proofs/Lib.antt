@@ -1,4 +1,5 @@
 pub mod AmongMatches
+pub mod ChosenMoves
 pub mod CommandReplies
 pub mod HelperAnswers
 pub mod LineAnswers
