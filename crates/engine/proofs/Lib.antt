@@ -1,5 +1,7 @@
 pub mod AmongMatches
+pub mod ChosenMoves
 pub mod CommandReplies
+pub mod HelperAnswers
 pub mod LineAnswers
 pub mod LineCounts
 pub mod LineTexts
