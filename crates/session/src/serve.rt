@@ -8,6 +8,8 @@ ghost use Rattle.gtp_lex.specs.Held.{lines_from, held_from, held_line};
 ghost use Rattle.gtp_lex.specs.Lines.{no_line};
 ghost use Rattle.gtp_lex.specs.LinesTaken.{taken_of, given_state};
 ghost use Rattle.gtp_lex.specs.Raw.{raw_line};
+ghost use Rattle.gtp_cmd.specs.Rooms.{longest_line};
+ghost use Rattle.machine_rules.specs.Heard.{bytes_in};
 ghost use Rattle.engine.specs.AfterLine.{IsAfterLine};
 ghost use Rattle.session.specs.Headline.{IsCauseOf};
 ghost use Rattle.session.specs.FirstSession.{EndsCounting};
@@ -79,6 +81,7 @@ fn answer<L: Loader, K: Sink>(
     output: &mut K,
     sent: &mut Sent,
 ) -> Result<bool, Counts>
+    requires { length (bytes_in (raw_line raw)) ≤ longest_line }
     ensures ok { IfOk result (λ ends. RunsTo (step_of session.old (L.contents files.old)) IsAfterLine
         (machine_now state session.old)
         (raw_line raw.entry ∷ []) (machine_now state session.new) ends

@@ -67,6 +67,10 @@ returns-in_err-flush-in-Err-clause-part g c =
 pub finish-reply-requires-clause-within : goal.finish-reply-requires-clause-within
 finish-reply-requires-clause-within g c = (c.in-Err.ensures.left (g.L.Loader.missed c.args.files.now)).within
 
+-- and its parts lie in it
+pub finish-reply-requires-clause-spans : goal.finish-reply-requires-clause-spans
+finish-reply-requires-clause-spans g c = (c.in-Err.ensures.left (g.L.Loader.missed c.args.files.now)).spans
+
 -- the line says what was left
 pub finish-reply-requires-clause-says : goal.finish-reply-requires-clause-says
 finish-reply-requires-clause-says g c =
