@@ -1,5 +1,5 @@
 -- The match that is chosen, and what is told of it.
-use Rattle.std.proofs.Common.{◌≡◌, ◌*◌, ◌<◌, ℕ, List, ◌∷◌, Option, Some, Contains, refl, sym, subst, arith}
+use Rattle.std.proofs.Common.{◌≡◌, List, ◌∷◌, Some, Contains, refl, sym, subst, arith}
 use Rattle.std.proofs.lemmas.List.Elements.{Contains-append_right}
 use Rattle.go_rules.specs.declared.Colour.{Colour}
 use Rattle.go_rules.specs.Position.{BoardState}
