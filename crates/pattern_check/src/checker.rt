@@ -18,11 +18,9 @@ const FAULTY: u8 = 1;
 /// The exit status where nothing can be said.
 pub(crate) const NOT_CHECKED: u8 = 2;
 
-/// What is asked for, and what the files before came to.
+/// What the files so far came to.
 #[derive(Drop)]
 pub(crate) struct Checker {
-    /// What is asked for.
-    options: Options,
     /// The names of the helpers that an entry may name.
     helpers: Vec<Bytes>,
     /// What was counted in all files.
@@ -86,19 +84,13 @@ fn print_notes<W: Write>(
 
 impl Checker {
     /// Nothing is checked yet.
-    pub(crate) fn new(alloc: Global, options: Options) -> io::Result<Checker> {
+    pub(crate) fn new(alloc: Global) -> io::Result<Checker> {
         Ok(Checker {
-            options,
             helpers: helper_names(alloc).map_err(no_memory)?,
             all: Counts::new(),
             list: List::new(alloc),
             missed: false,
         })
-    }
-
-    /// The names of the files.
-    pub(crate) fn files(&self) -> &[String] {
-        self.options.files.as_slice()
     }
 
     /// Takes note that a file could not be read.
@@ -110,22 +102,23 @@ impl Checker {
     pub(crate) fn check<W: Write>(
         &mut self,
         alloc: Global,
+        options: &Options,
         index: usize,
         text: &[u8],
         page: &mut W,
     ) -> io::Result<()> {
-        let Some(file) = self.options.files.get(index) else {
+        let Some(file) = options.files.get(index) else {
             return Ok(());
         };
         let file = file.as_str();
         let mut counts = Counts::new();
         let parts = parts(alloc, text).map_err(no_memory)?;
         let report: Report = report_on(alloc, text, self.helpers.as_slice()).map_err(no_memory)?;
-        print_faults(page, &self.options, file, &report, &mut counts)?;
-        if self.options.port {
+        print_faults(page, options, file, &report, &mut counts)?;
+        if options.port {
             print_notes(page, alloc, file, &report)?;
         }
-        if !self.options.quiet {
+        if !options.quiet {
             for warning in &warnings(alloc, text, parts.as_slice(), &report).map_err(no_memory)? {
                 print_warning(page, file, warning)?;
                 counts.warn();
@@ -134,7 +127,7 @@ impl Checker {
         counts.take(report.entries.len());
         print_counts(page, file, &counts)?;
         self.all.add(&counts);
-        if self.options.states.is_some() {
+        if options.states.is_some() {
             let Report {
                 entries,
                 patterns,
@@ -147,25 +140,19 @@ impl Checker {
         Ok(())
     }
 
-    /// Whether there is a list whose states are asked for.
-    pub(crate) fn has_list(&self) -> bool {
-        self.options.states.is_some()
-    }
-
     /// Prints what all files come to.
-    pub(crate) fn finish<W: Write>(&self, alloc: Global, page: &mut W) -> io::Result<()> {
-        if self.options.files.len() > 1 {
+    pub(crate) fn finish<W: Write>(
+        &self,
+        alloc: Global,
+        options: &Options,
+        page: &mut W,
+    ) -> io::Result<()> {
+        if options.files.len() > 1 {
             print_counts(page, "all files", &self.all)?;
         }
-        if let Some(limit) = self.options.states {
+        if let Some(limit) = options.states {
             let states = states_of(alloc, self.list.patterns.as_slice(), limit).map_err(no_memory)?;
-            print_states(
-                page,
-                self.options.files.as_slice(),
-                limit,
-                &self.list,
-                &states,
-            )?;
+            print_states(page, options.files.as_slice(), limit, &self.list, &states)?;
         }
         Ok(())
     }

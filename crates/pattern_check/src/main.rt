@@ -47,6 +47,7 @@ fn text_of<R: Files + Input + AllocGlobal>(rt: &R, file: &str) -> io::Result<Vec
 /// Checks the file at this index and prints what is told of it, or that it cannot be read.
 fn check_file<R: Files + Input + Print + Eprint + Clock + AllocGlobal>(
     rt: &R,
+    options: &Options,
     checker: &mut Checker,
     progress: &mut Progress,
     index: usize,
@@ -57,7 +58,7 @@ fn check_file<R: Files + Input + Print + Eprint + Clock + AllocGlobal>(
         Ok(text) => {
             let words = format!(in rt.alloc(); "checking {file}")?;
             progress.tell(rt, text.len() > LONG_TEXT, words.as_str())?;
-            checker.check(rt.alloc(), index, text.as_slice(), &mut page)?;
+            checker.check(rt.alloc(), options, index, text.as_slice(), &mut page)?;
             progress.clear(rt)?;
         }
         Err(error) => {
@@ -72,22 +73,25 @@ fn check_file<R: Files + Input + Print + Eprint + Clock + AllocGlobal>(
 /// Checks the files in their order: the exit status.
 fn check_files<R: Files + Input + Print + Eprint + Clock + AllocGlobal>(
     rt: &R,
-    options: Options,
+    options: &Options,
     is_terminal: bool,
 ) -> io::Result<ExitCode> {
     let alloc = rt.alloc();
     let mut progress = Progress::begin(rt, is_terminal)?;
-    let mut files = Vec::new(alloc);
-    for file in &options.files {
-        files.push(file.clone()?)?;
+    let mut checker = Checker::new(alloc)?;
+    for (index, file) in options.files.iter().enumerate() {
+        check_file(
+            rt,
+            options,
+            &mut checker,
+            &mut progress,
+            index,
+            file.as_str(),
+        )?;
     }
-    let mut checker = Checker::new(alloc, options)?;
-    for (index, file) in files.iter().enumerate() {
-        check_file(rt, &mut checker, &mut progress, index, file.as_str())?;
-    }
-    progress.tell(rt, checker.has_list(), "counting states")?;
+    progress.tell(rt, options.states.is_some(), "counting states")?;
     let mut page = Vec::new(alloc);
-    checker.finish(alloc, &mut page)?;
+    checker.finish(alloc, options, &mut page)?;
     progress.clear(rt)?;
     io::writer(rt).write_all(page.as_slice())?;
     Ok(ExitCode::from(checker.status()))
@@ -111,7 +115,7 @@ fn main(rt: HostRuntime) -> ExitCode {
         let _ = eprintln!(rt; "{USAGE}");
         return ExitCode::from(NOT_CHECKED);
     };
-    match check_files(&rt, options, rt.stderr().is_terminal()) {
+    match check_files(&rt, &options, rt.stderr().is_terminal()) {
         Ok(code) => code,
         Err(error) => {
             let _ = eprintln!(rt; "{error}");
