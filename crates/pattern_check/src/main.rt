@@ -89,7 +89,9 @@ fn check_files<R: Files + Input + Print + Eprint + Clock + AllocGlobal>(
             file.as_str(),
         )?;
     }
-    progress.tell(rt, options.states.is_some(), "counting states")?;
+    if options.states.is_some() {
+        progress.tell(rt, true, "counting states")?;
+    }
     let mut page = Vec::new(alloc);
     checker.finish(alloc, options, &mut page)?;
     progress.clear(rt)?;

@@ -140,6 +140,10 @@ pub enum Port<'a> {
     EyeValue(&'a [u8]),
     /// A weight of GNU Go's playouts in place of a mark.
     Weight(&'a [u8]),
+    /// A diagram without a move.
+    NoMove,
+    /// A label that stands at several points.
+    LabelAgain(u8),
     /// A function of GNU Go's own.
     Function(&'a [u8]),
     /// A word of GNU Go's in a comparison, as DEAD.
@@ -180,6 +184,14 @@ impl Display for Port<'_> {
                 f,
                 "GNU Go has a weight of its playouts, as {}, in place of a mark; gopat has no weights",
                 Shown(weight)
+            ),
+            Port::NoMove => f.write_str(
+                "GNU Go has patterns without a move, as those of connections and of influence; gopat has not",
+            ),
+            Port::LabelAgain(label) => write!(
+                f,
+                "in GNU Go the first '{}' counts where several stand; here a label stands once",
+                ShownByte(*label)
             ),
             Port::Function(name) => write!(
                 f,
@@ -261,7 +273,9 @@ pub fn port_of<'a>(fault: &Fault<'a>) -> Option<Port<'a>> {
     match &fault.cause {
         Cause::Letter(letter) | Cause::LabelInDiagram(letter) => of_letter(*letter),
         Cause::Stars(_) if is_eye_value(first_field(fault.place.text)) => Some(Port::EyeStars),
+        Cause::Stars(0) => Some(Port::NoMove),
         Cause::Mark(field) => of_mark(field),
+        Cause::LabelAgain(label) => Some(Port::LabelAgain(*label)),
         Cause::Function(name) if is_among(name, FUNCTIONS) => Some(Port::Function(name)),
         Cause::NoArguments(word) if word.len() > 1 => Some(Port::Word(word)),
         Cause::Helper(name) => Some(Port::Helper(name)),

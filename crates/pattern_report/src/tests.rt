@@ -53,7 +53,7 @@ fn the_reading_goes_on_at_the_next_pattern_line(rt: HostRuntime) -> Result<(), F
 
 #[test]
 fn each_fault_of_a_line_has_its_cause(rt: HostRuntime) -> Result<(), Fail> {
-    let rows: [(&[u8], &str); 34] = [
+    let rows: [(&[u8], &str); 35] = [
         (b"# \x07", "1 1:3 kind 1: byte 7 may stand in no line\n"),
         (
             b"\xef\xbb\xbfPattern A\nO*\n:8,s\n",
@@ -77,6 +77,10 @@ fn each_fault_of_a_line_has_its_cause(rt: HostRuntime) -> Result<(), Fail> {
             b"Pattern A\nO*\n:8,s\n;1\nO*\n",
             "5 5:1 kind 2: behind an expression or actions only lines with ';' or '>' may stand; an entry \
              begins with a Pattern line\n",
+        ),
+        (
+            b"Pattern A\nO*\n:8,s\n;\n:8,s\n;1\n",
+            "4 4:1 kind 15: the expression ends where a number, a call or a parenthesis is wanted\n",
         ),
         (
             b"Pattern",
@@ -387,7 +391,7 @@ fn ported(rt: &HostRuntime, text: &[u8]) -> Result<String, Fail> {
 
 #[test]
 fn what_is_gnu_gos_own_has_its_words(rt: HostRuntime) -> Result<(), Fail> {
-    let rows: [(&[u8], &str); 15] = [
+    let rows: [(&[u8], &str); 17] = [
         (
             b"Pattern A\nOY*\n:8,s\n",
             "2: GNU Go has the letter 'Y' in diagrams; gopat has not\n",
@@ -405,7 +409,16 @@ fn what_is_gnu_gos_own_has_its_words(rt: HostRuntime) -> Result<(), Fail> {
             "3: in GNU Go's eye shapes '*' is a vital point, of which there may be none or several; gopat has no \
              eye shapes\n",
         ),
-        (b"Pattern 1\n...\n:8,s\n", ""),
+        (
+            b"Pattern A\n.Q\n:8,s\nPattern B\n...\n:8,t\n",
+            "2: GNU Go has the letter 'Q' in diagrams; gopat has not\n\
+             6: GNU Go has patterns without a move, as those of connections and of influence; gopat has not\n",
+        ),
+        (b"Pattern 1\n**.\n:8,s\n", ""),
+        (
+            b"Pattern A\nOO*\n:8,s\nAA*\n",
+            "4: in GNU Go the first 'A' counts where several stand; here a label stands once\n",
+        ),
         (
             b"Pattern 1\n.*.\n:0112\n",
             "3: GNU Go has the eyes of an eye shape, as 0112, in place of a mark; gopat has no eye shapes\n",
