@@ -32,7 +32,9 @@ fn patterns_without(rt: &HostRuntime, left_out: usize) -> Result<Vec<Pattern>, F
 
 /// The automaton of patterns.
 fn automaton_of(rt: &HostRuntime, patterns: &[Pattern]) -> Result<Automaton, Fail> {
-    assert!(rt; patterns.len() <= 4096, "the list has an automaton");
+    if patterns.len() > 4096 {
+        return Err("the list is short")?;
+    }
     Ok(compile(rt.alloc(), patterns, 1000)?)
 }
 
