@@ -1,8 +1,9 @@
 //! What is printed, in the form that compilers use.
 
 use crate::counts::Counts;
-use crate::states::States;
-use pattern_report::{Fault, Part, Place, Port, PortNote, Shown, Warning, name_of};
+use crate::list::List;
+use crate::states::{Added, States};
+use pattern_report::{Fault, Place, Port, PortNote, Shown, Warning};
 use std::io::{self, Write};
 
 /// Prints blanks.
@@ -117,30 +118,65 @@ pub(crate) fn print_counts<W: Write>(page: &mut W, file: &str, counts: &Counts) 
     writeln!(page, "")
 }
 
-/// Prints the states of the entries of a file.
+/// How the files are named whose entries are one list.
+fn list_name(files: &[String]) -> &str {
+    match files {
+        [file] => file.as_str(),
+        _ => "all files",
+    }
+}
+
+/// Prints the states of the entries of all files, up to so many, and the entries that add most.
 pub(crate) fn print_states<W: Write>(
     page: &mut W,
-    file: &str,
-    entries: &[Part<'_>],
+    files: &[String],
+    limit: u32,
+    list: &List,
     states: &States,
 ) -> io::Result<()> {
-    match states.all {
-        Some(all) => writeln!(
-            page,
-            "{file}: states {all}; gopat needs --states {all} or more"
-        )?,
-        None => writeln!(page, "{file}: states more than {}", states.limit)?,
-    }
-    for added in &states.most {
-        if let Some(part) = entries.get(added.entry) {
+    let name = list_name(files);
+    match states {
+        States::TooManyPatterns => {
             writeln!(
                 page,
-                "{file}:{}: {} adds {} states",
-                part.number,
-                Shown(name_of(part)),
-                added.states
+                "{name}: more than 4096 entries; gopat takes no list of so many"
+            )
+        }
+        States::More => writeln!(page, "{name}: states more than {limit}"),
+        States::Counted { all, most } => {
+            writeln!(
+                page,
+                "{name}: states {all}; gopat needs --states {all} or more"
             )?;
+            for added in most {
+                print_added(page, files, list, added)?;
+            }
+            Ok(())
         }
     }
-    Ok(())
+}
+
+/// Prints how many states an entry adds.
+fn print_added<W: Write>(
+    page: &mut W,
+    files: &[String],
+    list: &List,
+    added: &Added,
+) -> io::Result<()> {
+    let (Some(origin), Some(pattern)) = (
+        list.origins.get(added.entry),
+        list.patterns.get(added.entry),
+    ) else {
+        return Ok(());
+    };
+    let Some(file) = files.get(origin.file) else {
+        return Ok(());
+    };
+    writeln!(
+        page,
+        "{file}:{}: {} adds {} states",
+        origin.line,
+        Shown(pattern.name.as_slice()),
+        added.states
+    )
 }

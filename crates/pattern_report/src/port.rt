@@ -1,17 +1,21 @@
 //! What an entry of GNU Go's has that gopat does not have, and where a value differs.
 
 use crate::cause::Cause;
-use crate::fault::Place;
+use crate::fault::{Fault, Place};
 use crate::part::Part;
 use crate::shown::{Shown, ShownByte};
 use crate::tokens::{Sort, tokens};
 use crate::written::lines_in;
+use db_lex::trim;
 use pat_types::NoMemory;
 use std::alloc::Global;
 use std::fmt::{self, Display, Formatter, Write};
 
 /// The letters of GNU Go's diagrams that gopat's do not have.
-const LETTERS: &[u8] = b",a!QY@";
+const LETTERS: &[u8] = b",a!QY";
+
+/// The letters of GNU Go's eye shapes that no diagram has.
+const EYE_LETTERS: &[u8] = b"@$<>()";
 
 /// The functions of GNU Go's constraints that gopat's do not have.
 const FUNCTIONS: &[&[u8]] = &[
@@ -128,6 +132,18 @@ const FUNCTIONS: &[&[u8]] = &[
 pub enum Port<'a> {
     /// A letter of GNU Go's own.
     Letter(u8),
+    /// A letter of GNU Go's eye shapes.
+    EyeLetter(u8),
+    /// An eye shape, in which '*' is no move.
+    EyeStars,
+    /// The number of eyes of an eye shape in place of a mark.
+    EyeValue(&'a [u8]),
+    /// A weight of GNU Go's playouts in place of a mark.
+    Weight(&'a [u8]),
+    /// A diagram without a move.
+    NoMove,
+    /// A label that stands at several points.
+    LabelAgain(u8),
     /// A function of GNU Go's own.
     Function(&'a [u8]),
     /// A word of GNU Go's in a comparison, as DEAD.
@@ -149,6 +165,33 @@ impl Display for Port<'_> {
                 f,
                 "GNU Go has the letter '{}' in diagrams; gopat has not",
                 ShownByte(*letter)
+            ),
+            Port::EyeLetter(letter) => write!(
+                f,
+                "GNU Go has the letter '{}' in eye shapes; gopat has no eye shapes",
+                ShownByte(*letter)
+            ),
+            Port::EyeStars => f.write_str(
+                "in GNU Go's eye shapes '*' is a vital point, of which there may be none or several; gopat has no eye \
+                 shapes",
+            ),
+            Port::EyeValue(value) => write!(
+                f,
+                "GNU Go has the eyes of an eye shape, as {}, in place of a mark; gopat has no eye shapes",
+                Shown(value)
+            ),
+            Port::Weight(weight) => write!(
+                f,
+                "GNU Go has a weight of its playouts, as {}, in place of a mark; gopat has no weights",
+                Shown(weight)
+            ),
+            Port::NoMove => f.write_str(
+                "GNU Go has patterns without a move, as those of connections and of influence; gopat has not",
+            ),
+            Port::LabelAgain(label) => write!(
+                f,
+                "in GNU Go the first '{}' counts where several stand; here a label stands once",
+                ShownByte(*label)
             ),
             Port::Function(name) => write!(
                 f,
@@ -200,17 +243,50 @@ fn is_among(name: &[u8], names: &[&[u8]]) -> bool {
     false
 }
 
-/// What of GNU Go's own a cause comes from, where it does.
-pub fn port_of<'a>(cause: &Cause<'a>) -> Option<Port<'a>> {
-    match cause {
-        Cause::Letter(letter) | Cause::LabelInDiagram(letter) if LETTERS.contains(letter) => {
-            Some(Port::Letter(*letter))
-        }
+/// Whether a first field is the value of an eye shape: a digit from 0 to 2 for each of four cases.
+fn is_eye_value(field: &[u8]) -> bool {
+    field.len() == 4 && field.iter().all(|digit| matches!(*digit, b'0'..=b'2'))
+}
+
+/// What a first field is that is no mark, where GNU Go has such fields.
+fn of_mark<'a>(field: &'a [u8]) -> Option<Port<'a>> {
+    if is_eye_value(field) {
+        return Some(Port::EyeValue(field));
+    }
+    let is_number = !field.is_empty() && field.iter().all(u8::is_ascii_digit);
+    is_number.then_some(Port::Weight(field))
+}
+
+/// What of GNU Go's own a letter of no diagram is.
+fn of_letter<'a>(letter: u8) -> Option<Port<'a>> {
+    if LETTERS.contains(&letter) {
+        Some(Port::Letter(letter))
+    } else if EYE_LETTERS.contains(&letter) {
+        Some(Port::EyeLetter(letter))
+    } else {
+        None
+    }
+}
+
+/// What of GNU Go's own a fault comes from, where it does.
+pub fn port_of<'a>(fault: &Fault<'a>) -> Option<Port<'a>> {
+    match &fault.cause {
+        Cause::Letter(letter) | Cause::LabelInDiagram(letter) => of_letter(*letter),
+        Cause::Stars(_) if is_eye_value(first_field(fault.place.text)) => Some(Port::EyeStars),
+        Cause::Stars(0) => Some(Port::NoMove),
+        Cause::Mark(field) => of_mark(field),
+        Cause::LabelAgain(label) => Some(Port::LabelAgain(*label)),
         Cause::Function(name) if is_among(name, FUNCTIONS) => Some(Port::Function(name)),
         Cause::NoArguments(word) if word.len() > 1 => Some(Port::Word(word)),
         Cause::Helper(name) => Some(Port::Helper(name)),
         _ => None,
     }
+}
+
+/// The first field of a colon line.
+fn first_field(line: &[u8]) -> &[u8] {
+    let fields = trim(line).strip_prefix(b":".as_slice()).unwrap_or(&[]);
+    trim(fields.split(|byte| *byte == b',').next().unwrap_or(&[]))
 }
 
 /// What a function of this name values otherwise than GNU Go's.

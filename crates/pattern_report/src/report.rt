@@ -1,8 +1,9 @@
 //! All faults of a text.
 
-ghost use Rattle.std.specs.Prelude.{◌≡◌, [], None, IfOk};
+ghost use Rattle.std.specs.Prelude.{◌≡◌, [], None, IfOk, map};
 ghost use Rattle.std.specs.Option.{option_map};
-ghost use Rattle.db_rules.specs.Faults.{first_fault};
+ghost use Rattle.db_rules.specs.Entries.{entry_of};
+ghost use Rattle.db_rules.specs.Faults.{first_fault, entries};
 ghost use Rattle.pattern_report.specs.Told.{line_and_kind};
 
 use crate::explain::explain;
@@ -121,16 +122,20 @@ pub fn report_on<'a>(
     ensures first { IfOk result (λ r. option_map line_and_kind r.first ≡ first_fault helpers.now text.now) }
     // Nothing else is told of a text without a fault.
     ensures clean { IfOk result (λ r. first_fault helpers.now text.now ≡ None → r.others.items ≡ []) }
+    // The patterns of a text without a fault are its entries.
+    ensures patterns { IfOk result (λ r. first_fault helpers.now text.now ≡ None
+        → map entry_of r.patterns.items ≡ entries text.now) }
 {
     let parts = parts(alloc, text)?;
     match read(alloc, text, helpers, Vec::new(alloc)) {
-        Ok(_) => {
-            let readings = read_parts(alloc, helpers, parts.as_slice(), parts.len())?;
+        Ok(found) => {
+            let mut entries = Vec::new(alloc);
+            entries.extend_from_slice(parts.get(1..).unwrap_or(&[]))?;
             Ok(Report {
                 first: None,
                 others: Vec::new(alloc),
-                entries: readings.entries,
-                patterns: readings.patterns,
+                entries,
+                patterns: found,
             })
         }
         Err(DbError::NoMemory) => Err(NoMemory),

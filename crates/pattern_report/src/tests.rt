@@ -1,6 +1,6 @@
 //! What is told of texts, one row for each cause and each warning.
 
-use crate::{Report, parts, report_on, warnings};
+use crate::{Report, parts, port_notes, port_of, report_on, warnings};
 use go_base::Bytes;
 use std::test::Fail;
 
@@ -53,7 +53,7 @@ fn the_reading_goes_on_at_the_next_pattern_line(rt: HostRuntime) -> Result<(), F
 
 #[test]
 fn each_fault_of_a_line_has_its_cause(rt: HostRuntime) -> Result<(), Fail> {
-    let rows: [(&[u8], &str); 34] = [
+    let rows: [(&[u8], &str); 35] = [
         (b"# \x07", "1 1:3 kind 1: byte 7 may stand in no line\n"),
         (
             b"\xef\xbb\xbfPattern A\nO*\n:8,s\n",
@@ -77,6 +77,10 @@ fn each_fault_of_a_line_has_its_cause(rt: HostRuntime) -> Result<(), Fail> {
             b"Pattern A\nO*\n:8,s\n;1\nO*\n",
             "5 5:1 kind 2: behind an expression or actions only lines with ';' or '>' may stand; an entry \
              begins with a Pattern line\n",
+        ),
+        (
+            b"Pattern A\nO*\n:8,s\n;\n:8,s\n;1\n",
+            "4 4:1 kind 15: the expression ends where a number, a call or a parenthesis is wanted\n",
         ),
         (
             b"Pattern",
@@ -358,6 +362,102 @@ fn each_warning_has_its_words(rt: HostRuntime) -> Result<(), Fail> {
     ];
     for (text, want) in rows {
         assert_eq!(rt; warned(&rt, text)?.as_str(), want);
+    }
+    Ok(())
+}
+
+/// What of GNU Go's own is told of a text, one a line: of each fault, and of each place in the entries that are taken.
+fn ported(rt: &HostRuntime, text: &[u8]) -> Result<String, Fail> {
+    let alloc = rt.alloc();
+    let report: Report = report_on(alloc, text, &[])?;
+    let mut lines = String::new(alloc);
+    for fault in report.first.iter().chain(report.others.iter()) {
+        if let Some(port) = port_of(fault) {
+            let line = format!(in alloc; "{}: {port}\n", fault.line)?;
+            lines.push_str(line.as_str())?;
+        }
+    }
+    for part in &report.entries {
+        for note in &port_notes(alloc, *part)? {
+            let line = format!(in alloc;
+                "{}:{}: {}\n",
+                note.place.line, note.place.column, note.port
+            )?;
+            lines.push_str(line.as_str())?;
+        }
+    }
+    Ok(lines)
+}
+
+#[test]
+fn what_is_gnu_gos_own_has_its_words(rt: HostRuntime) -> Result<(), Fail> {
+    let rows: [(&[u8], &str); 17] = [
+        (
+            b"Pattern A\nOY*\n:8,s\n",
+            "2: GNU Go has the letter 'Y' in diagrams; gopat has not\n",
+        ),
+        (
+            b"Pattern A\n.*\n.a\n:8,s\n",
+            "3: GNU Go has the letter 'a' in diagrams; gopat has not\n",
+        ),
+        (
+            b"Pattern 1\n.$*\n:0112\n",
+            "2: GNU Go has the letter '$' in eye shapes; gopat has no eye shapes\n",
+        ),
+        (
+            b"Pattern 1\n...\n :0112\n",
+            "3: in GNU Go's eye shapes '*' is a vital point, of which there may be none or several; gopat has no \
+             eye shapes\n",
+        ),
+        (
+            b"Pattern A\n.Q\n:8,s\nPattern B\n...\n:8,t\n",
+            "2: GNU Go has the letter 'Q' in diagrams; gopat has not\n\
+             6: GNU Go has patterns without a move, as those of connections and of influence; gopat has not\n",
+        ),
+        (b"Pattern 1\n**.\n:8,s\n", ""),
+        (
+            b"Pattern A\nOO*\n:8,s\nAA*\n",
+            "4: in GNU Go the first 'A' counts where several stand; here a label stands once\n",
+        ),
+        (
+            b"Pattern 1\n.*.\n:0112\n",
+            "3: GNU Go has the eyes of an eye shape, as 0112, in place of a mark; gopat has no eye shapes\n",
+        ),
+        (
+            b"Pattern 1\nO*O\n:40,x\n",
+            "3: GNU Go has a weight of its playouts, as 40, in place of a mark; gopat has no weights\n",
+        ),
+        (b"Pattern 1\nO*O\n:,s\n", ""),
+        (
+            b"Pattern A\nO*\n:8,s\nA*\n;dead(A)\n",
+            "5: GNU Go has the function dead; gopat has not\n",
+        ),
+        (b"Pattern A\nO*\n:8,s\nA*\n;libs(A)\n", ""),
+        (
+            b"Pattern A\nO*\n:8,s\nA*\n;lib(A)==DEAD\n",
+            "5: GNU Go compares with words such as DEAD; gopat has numbers alone\n",
+        ),
+        (
+            b"Pattern A\nO*\n:8,s,jump_out_helper\n",
+            "3: GNU Go calls its function jump_out_helper here; a helper of this name can be handed to gopat's \
+             library\n",
+        ),
+        (
+            b"Pattern A\nO*\n:8,s\nA*\n;xplay_attack(*,A)\n",
+            "5:2: where the moves take the last argument, xplay_attack is 3 in GNU Go and 0 here\n",
+        ),
+        (
+            b"Pattern A\nO*\n:8,s\nA*\n;does_attack(*,A)\n",
+            "5:2: does_attack is 0 in GNU Go where the target is lost anyway, and looks at its best defence too; \
+             here it is 3 less the defend code behind the play\n",
+        ),
+        (
+            b"Pattern A\nO*\n:8,s\nA*\n;1 + ko(A)\n",
+            "5:6: ko of a stone is 1 in GNU Go where the stone can be retaken; here it is 0\n",
+        ),
+    ];
+    for (text, want) in rows {
+        assert_eq!(rt; ported(&rt, text)?.as_str(), want);
     }
     Ok(())
 }

@@ -23,7 +23,7 @@ pub(crate) enum Role {
     Expression,
     /// An action line.
     Action,
-    /// A line that may not stand where it stands.
+    /// A line that may not stand where it stands, or one behind it.
     Stray,
 }
 
@@ -96,12 +96,9 @@ pub(crate) fn lines_in<'a>(alloc: Global, part: Part<'a>) -> Result<Vec<Written<
         if let Some(first) = bytes.first()
             && *first != b'#'
         {
-            let role = role_after(before, whole, *first);
-            if role != Role::Stray {
-                before = role;
-            }
+            before = role_after(before, whole, *first);
             all.push(Written {
-                role,
+                role: before,
                 number,
                 whole,
                 bytes,
