@@ -1,0 +1,222 @@
+"""Stands between a Go interface and gopat, and answers what an interface wants of a player that gopat leaves out.
+
+usage: python3 tools/as_player.py GOPAT [option or pattern file of gopat ...] [option of GNU Go ...]
+
+An interface starts this command in place of gopat. These commands are answered here; every other line goes to gopat as
+it came, and its reply back at once.
+
+    time_settings, time_left, kgs-time_settings       taken, and no clock is kept
+    fixed_handicap, place_free_handicap               GNU Go's points, each set by a play line
+    set_free_handicap                                 the points, each set by a play line
+    final_score, final_status_list                    refused as the protocol says: cannot score
+    list_commands, known_command                      gopat's commands and these
+
+Words that an interface adds for GNU Go are left out of gopat's command line: --mode gtp, --quiet and --level N.
+The exit status is gopat's.
+"""
+
+import re
+import subprocess
+import sys
+from typing import Callable, NamedTuple
+
+import gtp
+import sgf
+
+Answer = gtp.Reply
+OPTIONS_OF_GNUGO = {"--mode": 2, "--level": 2, "--quiet": 1}
+GREATEST_ID = 2147483647
+
+
+class Line(NamedTuple):
+    """A protocol line: its id, or nothing, the command, and the words behind it."""
+
+    id: str
+    command: str
+    words: list[str]
+
+
+class Ended(Exception):
+    """gopat ended where a reply was wanted."""
+
+
+class Gopat:
+    """A running gopat that is asked one line after the other."""
+
+    def __init__(self, command: list[str]):
+        self.process = subprocess.Popen(command, stdin=subprocess.PIPE, stdout=subprocess.PIPE)
+
+    def pass_on(self, line: bytes) -> bytes:
+        """The reply to a line that has words, with its empty line."""
+        self.process.stdin.write(line.rstrip(b"\n") + b"\n")
+        self.process.stdin.flush()
+        reply = b""
+        while not reply.endswith(b"\n\n"):
+            part = self.process.stdout.readline()
+            if not part:
+                raise Ended
+            reply += part
+        return reply
+
+    def ask(self, line: str) -> Answer:
+        """The reply to a line without an id."""
+        text = self.pass_on(line.encode()).decode()
+        return Answer(text[0] == "=", text[1:].removeprefix(" ").removesuffix("\n\n"))
+
+    def board(self) -> tuple[int, bool]:
+        """The board's size, and whether no stone is on it."""
+        rows = re.findall(r"(?m)^ *\d+((?: [.XO])+)$", self.ask("showboard").text)
+        return len(rows), not any(mark in row for row in rows for mark in "XO")
+
+    def set_stones(self, vertices: list[str]) -> bool:
+        """Black stones at these points; where one is refused none stays."""
+        for count, vertex in enumerate(vertices):
+            if not self.ask(f"play b {vertex}").ok:
+                for _ in range(count):
+                    self.ask("undo")
+                return False
+        return True
+
+
+def read_line(raw: bytes) -> Line | None:
+    """The words of a line as gopat takes them; None where it has no word, and so no reply."""
+    text = raw.decode("latin-1").replace("\t", " ").partition("#")[0]
+    words = "".join(letter for letter in text if letter >= " " and letter != "\x7f").split(" ")
+    words = [word for word in words if word]
+    if not words:
+        return None
+    number = ""
+    if re.fullmatch("[0-9]+", words[0]) and int(words[0]) <= GREATEST_ID:
+        number = str(int(words.pop(0)))
+    return Line(number, words[0] if words else "", words[1:])
+
+
+def handicap_points(size: int, count: int) -> list[str] | None:
+    """GNU Go's points of a fixed handicap, from the top row down; None where there is none of so many stones."""
+    most = 9 if size % 2 == 1 and size >= 9 else 4 if size >= 7 else 0
+    if not 2 <= count <= most:
+        return None
+    low = 3 if size < 12 else 4
+    high, middle = size + 1 - low, (size + 1) // 2
+    corners = [(low, low), (high, high), (low, high), (high, low)]
+    sides = [(low, middle), (high, middle)], [(middle, low), (middle, high)]
+    points = corners[: min(count, 4)]
+    points += sides[0] if count >= 6 else []
+    points += sides[1] if count >= 8 else []
+    points += [(middle, middle)] if count in (5, 7, 9) else []
+    return [f"{sgf.COLUMNS[column - 1]}{row}" for column, row in sorted(points, key=lambda point: (-point[1], point[0]))]
+
+
+def number(words: list[str]) -> int | None:
+    """The first word as a number."""
+    return int(words[0]) if words and re.fullmatch("[0-9]{1,9}", words[0]) else None
+
+
+def taken(_gopat: Gopat, words: list[str]) -> Answer:
+    """Times are taken and not kept."""
+    return Answer(True, "") if words else Answer(False, "syntax error")
+
+
+def cannot_score(_gopat: Gopat, _words: list[str]) -> Answer:
+    return Answer(False, "cannot score")
+
+
+def fixed_handicap(gopat: Gopat, words: list[str]) -> Answer:
+    return set_handicap(gopat, number(words), False)
+
+
+def place_free_handicap(gopat: Gopat, words: list[str]) -> Answer:
+    """The fixed handicap of so many stones, or the greatest that there is: the protocol allows fewer."""
+    return set_handicap(gopat, number(words), True)
+
+
+def set_handicap(gopat: Gopat, count: int | None, may_be_fewer: bool) -> Answer:
+    if count is None:
+        return Answer(False, "syntax error")
+    size, is_empty = gopat.board()
+    if not is_empty:
+        return Answer(False, "board not empty")
+    counts = range(count, 1, -1) if may_be_fewer and count < size * size else [count]
+    vertices = next(filter(None, (handicap_points(size, one) for one in counts)), None)
+    if vertices is None or not gopat.set_stones(vertices):
+        return Answer(False, "invalid number of stones")
+    return Answer(True, " ".join(vertices))
+
+
+def set_free_handicap(gopat: Gopat, words: list[str]) -> Answer:
+    if not gopat.board()[1]:
+        return Answer(False, "board not empty")
+    is_list = len(words) >= 2 and all(re.fullmatch("[A-Za-z][0-9]+", word) for word in words)
+    return Answer(True, "") if is_list and gopat.set_stones(words) else Answer(False, "bad vertex list")
+
+
+def list_commands(gopat: Gopat, _words: list[str]) -> Answer:
+    theirs = gopat.ask("list_commands").text.split("\n")
+    return Answer(True, "\n".join(theirs + [name for name in COMMANDS if name not in theirs]))
+
+
+def known_command(gopat: Gopat, words: list[str]) -> Answer:
+    return Answer(True, "true") if words and words[0] in COMMANDS else gopat.ask(" ".join(["known_command", *words]))
+
+
+COMMANDS: dict[str, Callable[[Gopat, list[str]], Answer]] = {
+    "list_commands": list_commands,
+    "known_command": known_command,
+    "time_settings": taken,
+    "time_left": taken,
+    "kgs-time_settings": taken,
+    "fixed_handicap": fixed_handicap,
+    "place_free_handicap": place_free_handicap,
+    "set_free_handicap": set_free_handicap,
+    "final_score": cannot_score,
+    "final_status_list": cannot_score,
+}
+
+
+def reply_to(gopat: Gopat, raw: bytes, line: Line) -> bytes:
+    """The reply, from here or from gopat."""
+    if line.command not in COMMANDS:
+        return gopat.pass_on(raw)
+    answer = COMMANDS[line.command](gopat, line.words)
+    text = f"{'=' if answer.ok else '?'}{line.id}{' ' if answer.text else ''}{answer.text}\n\n"
+    return text.encode()
+
+
+def without_their_options(words: list[str]) -> list[str]:
+    """The words of a command line without those that are GNU Go's."""
+    kept: list[str] = []
+    at = 0
+    while at < len(words):
+        name, has_value, _ = words[at].partition("=")
+        if name in OPTIONS_OF_GNUGO:
+            at += 1 if has_value else OPTIONS_OF_GNUGO[name]
+        else:
+            kept.append(words[at])
+            at += 1
+    return kept
+
+
+def main(words: list[str]) -> int:
+    """Answers the lines of standard input until gopat or the input ends."""
+    gopat = Gopat(without_their_options(words))
+    try:
+        for raw in iter(sys.stdin.buffer.readline, b""):
+            line = read_line(raw)
+            if line is not None:
+                sys.stdout.buffer.write(reply_to(gopat, raw, line))
+                sys.stdout.buffer.flush()
+            if line is not None and line.command == "quit":
+                break
+    except (Ended, BrokenPipeError):
+        pass
+    try:
+        gopat.process.stdin.close()
+    except BrokenPipeError:
+        pass
+    return gopat.process.wait()
+
+
+if __name__ == "__main__":
+    if len(sys.argv) < 2:
+        sys.exit(__doc__)
+    sys.exit(main(sys.argv[1:]))
