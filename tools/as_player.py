@@ -16,16 +16,15 @@ The exit status is gopat's.
 """
 
 import re
-import subprocess
 import sys
 from typing import Callable, NamedTuple
 
 import gtp
 import sgf
 
-Answer = gtp.Reply
 OPTIONS_OF_GNUGO = {"--mode": 2, "--level": 2, "--quiet": 1}
 GREATEST_ID = 2147483647
+LONGEST_LINE = 65536
 
 
 class Line(NamedTuple):
@@ -36,50 +35,27 @@ class Line(NamedTuple):
     words: list[str]
 
 
-class Ended(Exception):
-    """gopat ended where a reply was wanted."""
+def board(gopat: gtp.Running) -> tuple[int, bool]:
+    """The board's size, and whether no stone is on it."""
+    rows = re.findall(r"(?m)^ *\d+((?: [.XO])+)$", gopat.ask("showboard").text)
+    return len(rows), not any(mark in row for row in rows for mark in "XO")
 
 
-class Gopat:
-    """A running gopat that is asked one line after the other."""
-
-    def __init__(self, command: list[str]):
-        self.process = subprocess.Popen(command, stdin=subprocess.PIPE, stdout=subprocess.PIPE)
-
-    def pass_on(self, line: bytes) -> bytes:
-        """The reply to a line that has words, with its empty line."""
-        self.process.stdin.write(line.rstrip(b"\n") + b"\n")
-        self.process.stdin.flush()
-        reply = b""
-        while not reply.endswith(b"\n\n"):
-            part = self.process.stdout.readline()
-            if not part:
-                raise Ended
-            reply += part
-        return reply
-
-    def ask(self, line: str) -> Answer:
-        """The reply to a line without an id."""
-        text = self.pass_on(line.encode()).decode()
-        return Answer(text[0] == "=", text[1:].removeprefix(" ").removesuffix("\n\n"))
-
-    def board(self) -> tuple[int, bool]:
-        """The board's size, and whether no stone is on it."""
-        rows = re.findall(r"(?m)^ *\d+((?: [.XO])+)$", self.ask("showboard").text)
-        return len(rows), not any(mark in row for row in rows for mark in "XO")
-
-    def set_stones(self, vertices: list[str]) -> bool:
-        """Black stones at these points; where one is refused none stays."""
-        for count, vertex in enumerate(vertices):
-            if not self.ask(f"play b {vertex}").ok:
-                for _ in range(count):
-                    self.ask("undo")
-                return False
-        return True
+def set_stones(gopat: gtp.Running, vertices: list[str]) -> bool:
+    """Black stones at these points; where one is refused none stays."""
+    for count, vertex in enumerate(vertices):
+        if not gopat.ask(f"play b {vertex}").ok:
+            for _ in range(count):
+                gopat.ask("undo")
+            return False
+    return True
 
 
 def read_line(raw: bytes) -> Line | None:
-    """The words of a line as gopat takes them; None where it has no word, and so no reply."""
+    """The words of a line as gopat takes them; None where it has no word, and so no reply. One that is too long for gopat
+    has a reply, and no words here."""
+    if len(raw.rstrip(b"\n")) > LONGEST_LINE:
+        return Line("", "", [])
     text = raw.decode("latin-1").replace("\t", " ").partition("#")[0]
     words = "".join(letter for letter in text if letter >= " " and letter != "\x7f").split(" ")
     words = [word for word in words if word]
@@ -112,54 +88,54 @@ def number(words: list[str]) -> int | None:
     return int(words[0]) if words and re.fullmatch("[0-9]{1,9}", words[0]) else None
 
 
-def taken(_gopat: Gopat, words: list[str]) -> Answer:
+def taken(_gopat: gtp.Running, words: list[str]) -> gtp.Reply:
     """Times are taken and not kept."""
-    return Answer(True, "") if words else Answer(False, "syntax error")
+    return gtp.Reply(True, "") if words else gtp.Reply(False, "syntax error")
 
 
-def cannot_score(_gopat: Gopat, _words: list[str]) -> Answer:
-    return Answer(False, "cannot score")
+def cannot_score(_gopat: gtp.Running, _words: list[str]) -> gtp.Reply:
+    return gtp.Reply(False, "cannot score")
 
 
-def fixed_handicap(gopat: Gopat, words: list[str]) -> Answer:
+def fixed_handicap(gopat: gtp.Running, words: list[str]) -> gtp.Reply:
     return set_handicap(gopat, number(words), False)
 
 
-def place_free_handicap(gopat: Gopat, words: list[str]) -> Answer:
+def place_free_handicap(gopat: gtp.Running, words: list[str]) -> gtp.Reply:
     """The fixed handicap of so many stones, or the greatest that there is: the protocol allows fewer."""
     return set_handicap(gopat, number(words), True)
 
 
-def set_handicap(gopat: Gopat, count: int | None, may_be_fewer: bool) -> Answer:
+def set_handicap(gopat: gtp.Running, count: int | None, may_be_fewer: bool) -> gtp.Reply:
     if count is None:
-        return Answer(False, "syntax error")
-    size, is_empty = gopat.board()
+        return gtp.Reply(False, "syntax error")
+    size, is_empty = board(gopat)
     if not is_empty:
-        return Answer(False, "board not empty")
+        return gtp.Reply(False, "board not empty")
     counts = range(count, 1, -1) if may_be_fewer and count < size * size else [count]
     vertices = next(filter(None, (handicap_points(size, one) for one in counts)), None)
-    if vertices is None or not gopat.set_stones(vertices):
-        return Answer(False, "invalid number of stones")
-    return Answer(True, " ".join(vertices))
+    if vertices is None or not set_stones(gopat, vertices):
+        return gtp.Reply(False, "invalid number of stones")
+    return gtp.Reply(True, " ".join(vertices))
 
 
-def set_free_handicap(gopat: Gopat, words: list[str]) -> Answer:
-    if not gopat.board()[1]:
-        return Answer(False, "board not empty")
+def set_free_handicap(gopat: gtp.Running, words: list[str]) -> gtp.Reply:
+    if not board(gopat)[1]:
+        return gtp.Reply(False, "board not empty")
     is_list = len(words) >= 2 and all(re.fullmatch("[A-Za-z][0-9]+", word) for word in words)
-    return Answer(True, "") if is_list and gopat.set_stones(words) else Answer(False, "bad vertex list")
+    return gtp.Reply(True, "") if is_list and set_stones(gopat, words) else gtp.Reply(False, "bad vertex list")
 
 
-def list_commands(gopat: Gopat, _words: list[str]) -> Answer:
+def list_commands(gopat: gtp.Running, _words: list[str]) -> gtp.Reply:
     theirs = gopat.ask("list_commands").text.split("\n")
-    return Answer(True, "\n".join(theirs + [name for name in COMMANDS if name not in theirs]))
+    return gtp.Reply(True, "\n".join(theirs + [name for name in COMMANDS if name not in theirs]))
 
 
-def known_command(gopat: Gopat, words: list[str]) -> Answer:
-    return Answer(True, "true") if words and words[0] in COMMANDS else gopat.ask(" ".join(["known_command", *words]))
+def known_command(gopat: gtp.Running, words: list[str]) -> gtp.Reply:
+    return gtp.Reply(True, "true") if words and words[0] in COMMANDS else gopat.ask(" ".join(["known_command", *words]))
 
 
-COMMANDS: dict[str, Callable[[Gopat, list[str]], Answer]] = {
+COMMANDS: dict[str, Callable[[gtp.Running, list[str]], gtp.Reply]] = {
     "list_commands": list_commands,
     "known_command": known_command,
     "time_settings": taken,
@@ -173,7 +149,7 @@ COMMANDS: dict[str, Callable[[Gopat, list[str]], Answer]] = {
 }
 
 
-def reply_to(gopat: Gopat, raw: bytes, line: Line) -> bytes:
+def reply_to(gopat: gtp.Running, raw: bytes, line: Line) -> bytes:
     """The reply, from here or from gopat."""
     if line.command not in COMMANDS:
         return gopat.pass_on(raw)
@@ -197,8 +173,8 @@ def without_their_options(words: list[str]) -> list[str]:
 
 
 def main(words: list[str]) -> int:
-    """Answers the lines of standard input until gopat or the input ends."""
-    gopat = Gopat(without_their_options(words))
+    """gtp.Replys the lines of standard input until gopat or the input ends."""
+    gopat = gtp.Running(without_their_options(words))
     try:
         for raw in iter(sys.stdin.buffer.readline, b""):
             line = read_line(raw)
@@ -207,13 +183,9 @@ def main(words: list[str]) -> int:
                 sys.stdout.buffer.flush()
             if line is not None and line.command == "quit":
                 break
-    except (Ended, BrokenPipeError):
+    except (gtp.Ended, BrokenPipeError):
         pass
-    try:
-        gopat.process.stdin.close()
-    except BrokenPipeError:
-        pass
-    return gopat.process.wait()
+    return gopat.end()
 
 
 if __name__ == "__main__":

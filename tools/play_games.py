@@ -60,7 +60,7 @@ def stones(board: str, mark: str) -> list[str]:
 
 def stand_between(path: str, command: list[str]) -> int:
     """Passes lines on and keeps the notes of the last game."""
-    engine = as_player.Gopat(command)
+    engine = gtp.Running(command)
     plies, score, refused = 0, "", []
     for raw in iter(sys.stdin.buffer.readline, b""):
         line = as_player.read_line(raw)
@@ -80,7 +80,7 @@ def stand_between(path: str, command: list[str]) -> int:
     pathlib.Path(path).write_text(json.dumps(notes._asdict()), encoding="ascii")
     with contextlib.suppress(BrokenPipeError):
         os.write(sys.stdout.fileno(), engine.pass_on(b"quit\n"))
-    return engine.process.wait()
+    return engine.end()
 
 
 def is_there(program: str) -> bool:
