@@ -8,7 +8,8 @@ it came, and its reply back at once.
     time_settings, time_left, kgs-time_settings       taken, and no clock is kept
     fixed_handicap, place_free_handicap               GNU Go's points, each set by a play line
     set_free_handicap                                 the points, each set by a play line
-    final_score, final_status_list                    refused as the protocol says: cannot score
+    final_score                                       refused as the protocol says: cannot score
+    final_status_list                                 every stone is alive, no point is anybody's
     list_commands, known_command                      gopat's commands and these
 
 Words that an interface adds for GNU Go are left out of gopat's command line: --mode gtp, --quiet and --level N.
@@ -25,6 +26,7 @@ import sgf
 OPTIONS_OF_GNUGO = {"--mode": 2, "--level": 2, "--quiet": 1}
 GREATEST_ID = 2147483647
 LONGEST_LINE = 65536
+STATUSES = ("dead", "seki", "white_territory", "black_territory", "dame")
 
 
 class Line(NamedTuple):
@@ -35,10 +37,12 @@ class Line(NamedTuple):
     words: list[str]
 
 
-def board(gopat: gtp.Running) -> tuple[int, bool]:
-    """The board's size, and whether no stone is on it."""
-    rows = re.findall(r"(?m)^ *\d+((?: [.XO])+)$", gopat.ask("showboard").text)
-    return len(rows), not any(mark in row for row in rows for mark in "XO")
+def board(gopat: gtp.Running) -> tuple[int, list[str]]:
+    """The board's size, and the points with a stone on them."""
+    rows = re.findall(r"(?m)^ *(\d+)((?: [.XO])+)$", gopat.ask("showboard").text)
+    return len(rows), [
+        column + number for number, row in rows for column, mark in zip(sgf.COLUMNS, row.split()) if mark != "."
+    ]
 
 
 def set_stones(gopat: gtp.Running, vertices: list[str]) -> bool:
@@ -97,6 +101,13 @@ def cannot_score(_gopat: gtp.Running, _words: list[str]) -> gtp.Reply:
     return gtp.Reply(False, "cannot score")
 
 
+def final_status_list(gopat: gtp.Running, words: list[str]) -> gtp.Reply:
+    """All stones are alive. Quarry wants a list, also an empty one, and ends at a refusal."""
+    if words[:1] == ["alive"]:
+        return gtp.Reply(True, " ".join(board(gopat)[1]))
+    return gtp.Reply(True, "") if words[:1] and words[0] in STATUSES else gtp.Reply(False, "syntax error")
+
+
 def fixed_handicap(gopat: gtp.Running, words: list[str]) -> gtp.Reply:
     return set_handicap(gopat, number(words), False)
 
@@ -109,8 +120,8 @@ def place_free_handicap(gopat: gtp.Running, words: list[str]) -> gtp.Reply:
 def set_handicap(gopat: gtp.Running, count: int | None, may_be_fewer: bool) -> gtp.Reply:
     if count is None:
         return gtp.Reply(False, "syntax error")
-    size, is_empty = board(gopat)
-    if not is_empty:
+    size, stones = board(gopat)
+    if stones:
         return gtp.Reply(False, "board not empty")
     counts = range(count, 1, -1) if may_be_fewer and count < size * size else [count]
     vertices = next(filter(None, (handicap_points(size, one) for one in counts)), None)
@@ -120,7 +131,7 @@ def set_handicap(gopat: gtp.Running, count: int | None, may_be_fewer: bool) -> g
 
 
 def set_free_handicap(gopat: gtp.Running, words: list[str]) -> gtp.Reply:
-    if not board(gopat)[1]:
+    if board(gopat)[1]:
         return gtp.Reply(False, "board not empty")
     is_list = len(words) >= 2 and all(re.fullmatch("[A-Za-z][0-9]+", word) for word in words)
     return gtp.Reply(True, "") if is_list and set_stones(gopat, words) else gtp.Reply(False, "bad vertex list")
@@ -145,7 +156,7 @@ COMMANDS: dict[str, Callable[[gtp.Running, list[str]], gtp.Reply]] = {
     "place_free_handicap": place_free_handicap,
     "set_free_handicap": set_free_handicap,
     "final_score": cannot_score,
-    "final_status_list": cannot_score,
+    "final_status_list": final_status_list,
 }
 
 
