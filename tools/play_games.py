@@ -1,10 +1,12 @@
 """Plays whole games of gopat, with a pattern file, under GNU Go's three match programs: against GNU Go and against itself,
-on 9, 13 and 19 rows. At the end the boards of both sides have to be the same, stone by stone.
+on 9, 13 and 19 rows, and on the smallest of them with handicap stones. At the end the boards of both sides have to be
+the same, stone by stone.
 
 usage: python3 tools/play_games.py GOPAT PATTERNS GNUGO EXAMPLES [LEVEL [SIZE ...]]
 
 EXAMPLES is the folder interface/gtp_examples of GNU Go's source, which has twogtp (Perl), twogtp.py (Python 2.7) and
-twogtp.pike (pike 8.0). A program that is missing is told and passed over. LEVEL is GNU Go's, by itself 1. gopat stands
+twogtp.pike (pike 8.0). A program that is missing is told and passed over. LEVEL is GNU Go's, by itself 1, with a fixed
+seed, so that each run plays the same games. gopat stands
 behind tools/as_player.py, and each side behind this file's own `--side`, which keeps what was said:
 
        python3 tools/play_games.py --side NOTES COMMAND ..
@@ -50,6 +52,7 @@ class Game(NamedTuple):
     size: int
     black: str
     white: str
+    handicap: int
 
 
 def stones(board: str, mark: str) -> list[str]:
@@ -89,29 +92,31 @@ def is_there(program: str) -> bool:
     return path is not None and subprocess.run([path, "--version"], capture_output=True, check=False).returncode == 0
 
 
-def command_of(client: str, examples: pathlib.Path, sides: dict[str, str], size: int, folder: str) -> list[str]:
+def command_of(game: Game, examples: pathlib.Path, sides: dict[str, str], folder: str) -> list[str]:
     """The command line of a match of one game."""
-    words = [shutil.which(CLIENTS[client]), str(examples / client)]
-    words += ["--white", sides["white"], "--black", sides["black"], "--komi", "5.5"]
-    if client == "twogtp.pike":
-        return [*words, f"--board-size={size}", f"--sgf-base={folder}/game"]
-    return [*words, "--size", str(size), "--sgffile" if client == "twogtp" else "--sgfbase", f"{folder}/game"]
+    words = [shutil.which(CLIENTS[game.client]), str(examples / game.client)]
+    words += [f"--white={sides['white']}", f"--black={sides['black']}", "--komi=5.5"]
+    words += [f"--handicap={game.handicap}"] if game.handicap else []
+    size, record = {
+        "twogtp": ("--size", "--sgffile"),
+        "twogtp.py": ("--size", "--sgfbase"),
+        "twogtp.pike": ("--board-size", "--sgf-base"),
+    }[game.client]
+    return [*words, f"{size}={game.size}", f"{record}={folder}/game"]
 
 
-def play(game: Game, players: dict[str, str], examples: pathlib.Path) -> tuple[dict[str, Notes], float]:
-    """What both sides noted of a game, and its seconds."""
+def play(game: Game, players: dict[str, str], examples: pathlib.Path) -> dict[str, Notes]:
+    """What both sides noted of a game."""
     with tempfile.TemporaryDirectory() as folder:
         wrap = f"{sys.executable} {pathlib.Path(__file__).resolve()} --side {folder}"
         sides = {
             colour: f"{wrap}/{colour} {players[player]}"
             for colour, player in (("black", game.black), ("white", game.white))
         }
-        start = time.monotonic()
-        command = command_of(game.client, examples, sides, game.size, folder)
+        command = command_of(game, examples, sides, folder)
         with open(os.devnull, "wb") as nothing:
             subprocess.run(command, cwd=folder, stdout=nothing, stderr=nothing, timeout=SECONDS, check=True)
-        seconds = time.monotonic() - start
-        return {colour: read_notes(f"{folder}/{colour}") for colour in sides}, seconds
+        return {colour: read_notes(f"{folder}/{colour}") for colour in sides}
 
 
 def read_notes(path: str) -> Notes:
@@ -127,19 +132,25 @@ def read_notes(path: str) -> Notes:
 def games(clients: list[str], sizes: list[int]) -> Iterator[Game]:
     for client in clients:
         for size in sizes:
-            yield Game(client, size, "gopat", "gnugo")
-            yield Game(client, size, "gnugo", "gopat")
-            yield Game(client, size, "gopat", "gopat")
+            for black, white in (("gopat", "gnugo"), ("gnugo", "gopat"), ("gopat", "gopat")):
+                yield Game(client, size, black, white, 0)
+        for black, white in (("gopat", "gnugo"), ("gnugo", "gopat")):
+            yield Game(client, min(sizes), black, white, 4)
 
 
-def told(game: Game, notes: dict[str, Notes], seconds: float) -> tuple[str, bool]:
+def called(game: Game) -> str:
+    """The game in words."""
+    return f"{game.client} {game.size}: {game.black} {game.white}" + (", handicap 4" if game.handicap else "")
+
+
+def told(game: Game, notes: dict[str, Notes]) -> tuple[str, bool]:
     """A line on a game, and whether its boards are the same."""
     black, white = notes["black"], notes["white"]
     same = (black.black, black.white) == (white.black, white.white)
-    score = next((side.score for side in (black, white) if side.score[:1] in "BW0" and side.score), "no score")
+    score = next((side.score for side in (black, white) if side.score and side.score[0] in "BW0"), "no score")
     count = len(black.black) + len(black.white)
-    text = f"{game.client} {game.size}: {game.black} {game.white}, {max(black.plies, white.plies)} moves, {count} stones"
-    return f"{text}, boards {'equal' if same else 'DIFFER'}, {score}, {seconds:.0f} s", same
+    text = f"{called(game)}, {max(black.plies, white.plies)} moves, {count} stones"
+    return f"{text}, boards {'equal' if same else 'DIFFER'}, {score}", same
 
 
 def refusals(all_notes: list[Notes]) -> str:
@@ -150,7 +161,8 @@ def refusals(all_notes: list[Notes]) -> str:
 def main(gopat: str, patterns: str, gnugo: str, examples: str, level: str = "1", *sizes: str) -> int:
     tools = pathlib.Path(__file__).resolve().parent
     words = [sys.executable, str(tools / "as_player.py"), os.path.abspath(gopat), os.path.abspath(patterns)]
-    players = {"gopat": shlex.join(words), "gnugo": f"{shutil.which(gnugo)} --mode gtp --quiet --level {level}"}
+    theirs = f"{shutil.which(gnugo)} --mode gtp --quiet --level {level} --seed 1"
+    players = {"gopat": shlex.join(words), "gnugo": theirs}
     found = [client for client in CLIENTS if is_there(CLIENTS[client])]
     for client in CLIENTS:
         if client not in found:
@@ -158,13 +170,13 @@ def main(gopat: str, patterns: str, gnugo: str, examples: str, level: str = "1",
     wrong, kept = 0, []
     for game in games(found, [int(size) for size in sizes] or [9, 13, 19]):
         try:
-            notes, seconds = play(game, players, pathlib.Path(examples).resolve())
+            notes = play(game, players, pathlib.Path(examples).resolve())
         except (subprocess.SubprocessError, RuntimeError) as why:
-            print(f"{game.client} {game.size}: {game.black} {game.white}, did not end: {why}", flush=True)
+            print(f"{called(game)}, did not end: {why}", flush=True)
             wrong += 1
             continue
         kept += notes.values()
-        line, same = told(game, notes, seconds)
+        line, same = told(game, notes)
         print(line, flush=True)
         wrong += not same
     print(f"refused: {refusals(kept)}")
