@@ -56,8 +56,8 @@ def set_stones(gopat: gtp.Running, vertices: list[str]) -> bool:
 
 
 def read_line(raw: bytes) -> Line | None:
-    """The words of a line as gopat takes them; None where it has no word, and so no reply. One that is too long for gopat
-    has a reply, and no words here."""
+    """The words of a line as gopat takes them; None where it has no word, and so no reply. One that is too long for
+    gopat has a reply, and no words here."""
     if len(raw.rstrip(b"\n")) > LONGEST_LINE:
         return Line("", "", [])
     text = raw.decode("latin-1").replace("\t", " ").partition("#")[0]
@@ -84,7 +84,8 @@ def handicap_points(size: int, count: int) -> list[str] | None:
     points += sides[0] if count >= 6 else []
     points += sides[1] if count >= 8 else []
     points += [(middle, middle)] if count in (5, 7, 9) else []
-    return [f"{sgf.COLUMNS[column - 1]}{row}" for column, row in sorted(points, key=lambda point: (-point[1], point[0]))]
+    points.sort(key=lambda point: (-point[1], point[0]))
+    return [f"{sgf.COLUMNS[column - 1]}{row}" for column, row in points]
 
 
 def number(words: list[str]) -> int | None:

@@ -1,13 +1,13 @@
-"""Asks gopat the same questions of every game record of a folder, and tells the replies as lines of four columns, parted
-by tabs: record, move, question, reply.
+"""Asks gopat the same questions of every game record of a folder, and tells the replies as lines of four columns,
+parted by tabs: record, move, question, reply.
 
 usage: python3 tools/ask_records.py GOPAT FOLDER [--every N] QUESTION ...
        python3 tools/ask_records.py --stream GOPAT FOLDER [--every N] QUESTION ... > STREAM
        python3 tools/ask_records.py --replies STREAM < REPLIES
 
 GOPAT is a command with its options and pattern files, in one word for the shell. The folder is searched for *.sgf. A
-question is a protocol line in one word. In it STRINGS stands for each string on the board in turn, by its first stone in
-reading order, and STRINGS:2 for each that has at most two liberties:
+question is a protocol line in one word. In it STRINGS stands for each string on the board in turn, by its first stone
+in reading order, and STRINGS:2 for each that has at most two liberties:
 
        python3 tools/ask_records.py 'gopat --depth=20' games 'attack STRINGS:3' 'match_patterns b'
 
@@ -21,11 +21,12 @@ lines have ids: 12030007 is question 7 after move 30 of record 12. With more tha
 questions past 999, a stream has to be made with `--table FILE`. Then the ids count lines, and the file says in four
 columns what each of them is.
 
-The exit status is 1 where a record or a question was refused, and 2 where replies are missing.
+The exit status is 1 where a record or a question was refused, and 2 where there are no records or replies are missing.
 """
 
 import argparse
 import contextlib
+import os
 import pathlib
 import re
 import shlex
@@ -118,6 +119,10 @@ def moves_of(path: str) -> Iterator[tuple[str, bool]]:
         yield f"play {move}", not move.is_set_up
 
 
+class Missing(Exception):
+    """There are no records, or a line of a stream has no reply; the text says which."""
+
+
 class Refused(Exception):
     """A record that is not asked about; the text says why."""
 
@@ -146,12 +151,14 @@ def lines_of(task: Task, engine: gtp.Running, record: int, path: str) -> Iterato
             asked = questions_on(board, task.questions) if board else []
             yield from (Line(record, name, move or "", count, text) for count, text in enumerate(asked, start=1))
     except sgf.NotPlayable as why:
-        raise Refused(str(why)) from why
+        raise Refused(str(why).removeprefix(f"{path}: ")) from why
 
 
 def paths_of(folder: str) -> Iterator[tuple[int, str]]:
     """The records of a folder with their numbers, and on a terminal how far it is."""
     paths = sorted(str(path) for path in pathlib.Path(folder).rglob("*.sgf"))
+    if not paths:
+        raise Missing(f"{folder}: no *.sgf")
     for record, path in enumerate(paths, start=1):
         yield record, path
         if sys.stderr.isatty() and (record % 10 == 0 or record == len(paths)):
@@ -178,14 +185,15 @@ def ask(task: Task, out: TextIO) -> tuple[int, int]:
 
 def row(name: str, move: str, question: str, reply: gtp.Reply) -> str:
     """The four columns of a reply."""
-    return "\t".join([name, move, question, ("" if reply.ok else "? ") + ", ".join(reply.text.strip("\n").split("\n"))]) + "\n"
+    text = ", ".join(reply.text.strip("\n").split("\n"))
+    return "\t".join([name, move, question, text if reply.ok else f"? {text}"]) + "\n"
 
 
 def readable_id(line: Line) -> int:
     """The id that names record, move and question."""
     parts = line.record, int(line.move) if line.move.isdigit() else 0, line.question
     if any(part > most for part, most in zip(parts, MOST)):
-        sys.exit(f"{line.name}: no id has room for record {parts[0]}, move {parts[1]}, question {parts[2]}: use --table")
+        sys.exit(f"{line.name}: no id has room for record, move and question {parts}: use --table")
     return (parts[0] * 1000 + parts[1]) * 1000 + parts[2]
 
 
@@ -231,10 +239,6 @@ def replies_in(file: BinaryIO) -> Iterator[str]:
         elif reply:
             yield "\n".join(reply)
             reply = []
-
-
-class Missing(Exception):
-    """A line of the stream has no reply."""
 
 
 def put_together(stream: TextIO, file: BinaryIO, out: TextIO) -> tuple[int, int]:
@@ -304,6 +308,12 @@ def main() -> int:
 if __name__ == "__main__":
     try:
         sys.exit(main())
-    except Missing as why:
+    except BrokenPipeError:
+        os.dup2(os.open(os.devnull, os.O_WRONLY), sys.stdout.fileno())
+        sys.exit(1)
+    except (Missing, OSError) as why:
         print(why, file=sys.stderr)
+        sys.exit(2)
+    except gtp.Ended:
+        print("gopat ended before it had answered", file=sys.stderr)
         sys.exit(2)
