@@ -1,6 +1,6 @@
-"""Plays whole games of gopat, with a pattern file, under GNU Go's three match programs: against GNU Go and against itself,
-on 9, 13 and 19 rows, and on the smallest of them with handicap stones. At the end the boards of both sides have to be
-the same, stone by stone.
+"""Plays whole games of gopat, with a pattern file, under GNU Go's three match programs: against GNU Go and against
+itself, on 9, 13 and 19 rows, and on the smallest of them with handicap stones. At the end the boards of both sides have
+to be the same, stone by stone.
 
 usage: python3 tools/play_games.py GOPAT PATTERNS GNUGO EXAMPLES [LEVEL [SIZE ...]]
 
