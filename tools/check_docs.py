@@ -1,19 +1,22 @@
 """Runs every command of the documents for users, as it stands, and compares what it prints with what stands below it.
 
-usage: python3 tools/check_docs.py [FILE ...]
+usage: python3 tools/check_docs.py [--map | FILE ...]
 
 Without files these are README.md and docs/FORMATS.md, docs/USING.md, docs/AUTHORS.md, docs/LIBRARY.md and
-docs/HELPERS.md, in this order, and the manual page docs/gopat.1, in which `man` may find nothing to warn of. It runs at
-the top of a fresh clone: README's commands prove and build the program, docs/USING.md says what has to stand beside the
-clone, and docs/AUTHORS.md wants the checker that `rt run` makes in crates/pattern_check.
+docs/HELPERS.md, in this order, and the manual page docs/gopat.1, in which `man` may find nothing to warn of; and the
+map of docs/ARCHITECTURE.md is compared with crates.txt. It runs at the top of a fresh clone: README's commands prove
+and build the program, docs/USING.md says what has to stand beside the clone, and docs/AUTHORS.md wants the checker that
+`rt run` makes in crates/pattern_check. `python3 tools/check_docs.py --map` compares the map alone, and needs no
+program.
 
-A command is a line `$ ..` of a block that is set off by three backticks; it goes on over lines that end in a
-backslash. The lines below it, up to the next command or the end of the block, are its standard output, where blank
-lines at the end do not count. A line `..` alone stands for lines that are left out. A block that is named `rust PATH`
-is a part of the file of this path, with the same use of `..`. In the table of kinds of docs/FORMATS.md each example
-is a text as printf takes it, and the program's note has to be the one beside it. A block under a line `<!-- not run:
-WHY -->` is passed over and told, and so is one under `<!-- needs: NAME .. -->` where a name is neither a program on the
-path nor a file.
+A command is a line `$ ..` of a block that is set off by three backticks; it goes on over lines that end in a backslash.
+The lines below it, up to the next command or the end of the block, are its standard output, where blank lines at the
+end do not count. A line `..` alone stands for lines that are left out. A block that is named `rust PATH` is a part of
+the file of this path, with the same use of `..`. In the table of kinds of docs/FORMATS.md each example is a text as
+printf takes it, and the program's note has to be the one beside it. A block under a line `<!-- not run: WHY -->` is
+passed over and told, and so is one under `<!-- needs: NAME .. -->` where a name is neither a program on the path nor a
+file. In the map each crate of crates.txt has a row; its column `stands on` names crates that it uses,
+and each crate that it uses is named or stands below one that is.
 """
 
 import os
@@ -27,7 +30,11 @@ from typing import Iterator, NamedTuple
 
 DOCUMENTS = ["README.md", "docs/FORMATS.md", "docs/USING.md", "docs/AUTHORS.md", "docs/LIBRARY.md", "docs/HELPERS.md"]
 MANUAL_PAGE = "docs/gopat.1"
+MAP = "docs/ARCHITECTURE.md"
+CRATES = "crates.txt"
 GOPAT = "crates/gopat/out/gopat"
+USES = re.compile(r"(\w+):(.*)")
+ROW = re.compile(r"\| `(\w+)` \|[^|]*\|([^|]*)\|[^|]*\|")
 KIND = re.compile(r"\| (\d+) \| [^|]+ \| `([^`]+)` \| `(line \d+ kind \d+)` \|.*")
 
 
@@ -111,9 +118,47 @@ def check_manual_page() -> Iterator[str | None]:
     yield None if done.returncode == 0 and not done.stderr else f"{MANUAL_PAGE}: {done.stderr}"
 
 
+def below(name: str, uses: dict[str, list[str]]) -> set[str]:
+    """The crates that a crate stands on, and all below these."""
+    found: set[str] = set()
+    waiting = list(uses.get(name, []))
+    while waiting:
+        crate = waiting.pop()
+        if crate not in found:
+            found.add(crate)
+            waiting += uses.get(crate, [])
+    return found
+
+
+def check_row(name: str, named: set[str] | None, uses: dict[str, list[str]]) -> str | None:
+    """None, or what is wrong of the row of a crate, by the crates that its column `stands on` names."""
+    if named is None:
+        return f"{MAP}: no row for {name}"
+    reached = named.union(*(below(crate, uses) for crate in named))
+    unused = sorted(named - set(uses[name]))
+    unnamed = sorted({crate for crate in uses[name] if crate in uses} - reached)
+    if unused or unnamed:
+        return f"{MAP}: {name}: named and not used: {unused}, used and not named: {unnamed}"
+    return None
+
+
+def check_map() -> Iterator[str | None]:
+    """For each crate of crates.txt, and each row of the map, None or what is wrong."""
+    lines = pathlib.Path(CRATES).read_text(encoding="utf-8").splitlines()
+    uses = {row[1]: row[2].split() for row in filter(None, map(USES.fullmatch, lines))}
+    rows = filter(None, map(ROW.fullmatch, pathlib.Path(MAP).read_text(encoding="utf-8").splitlines()))
+    named = {row[1]: set(re.findall(r"`(\w+)`", row[2])) for row in rows}
+    for name in uses:
+        yield check_row(name, named.get(name), uses)
+    for name in sorted(set(named) - set(uses)):
+        yield f"{MAP}: {name} is no crate of {CRATES}"
+
+
 def main(documents: list[str]):
     found: list[str | None] = []
-    for document in documents:
+    if documents in (DOCUMENTS, ["--map"]):
+        found += check_map()
+    for document in documents if documents != ["--map"] else []:
         for block in blocks(document):
             if block.not_run is None:
                 found += check_block(block)
@@ -123,7 +168,7 @@ def main(documents: list[str]):
     if documents == DOCUMENTS:
         found += check_manual_page()
     wrong = [one for one in found if one]
-    print("\n".join([*wrong, f"{len(found)} commands, quotes and examples, {len(wrong)} of them differ"]))
+    print("\n".join([*wrong, f"{len(found)} commands, quotes, examples and rows, {len(wrong)} of them differ"]))
     sys.exit(1 if wrong else 0)
 
 
