@@ -31,7 +31,7 @@ import pathlib
 import re
 import shlex
 import sys
-from typing import BinaryIO, Callable, Iterator, NamedTuple, TextIO
+from typing import Callable, Iterator, NamedTuple, TextIO
 
 import gtp
 import sgf
@@ -229,19 +229,18 @@ def write_stream(task: Task, out: TextIO, number: Callable[[Line], int]) -> int:
     return refused
 
 
-def replies_in(file: BinaryIO) -> Iterator[str]:
+def replies_in(file: TextIO) -> Iterator[str]:
     """The replies of a session, without their last two line feeds."""
-    reply: list[str] = []
-    for raw in file:
-        line = raw.decode("utf-8", "replace").rstrip("\n")
-        if line:
-            reply.append(line)
+    reply = ""
+    for line in file:
+        if line != "\n":
+            reply += line
         elif reply:
-            yield "\n".join(reply)
-            reply = []
+            yield reply[:-1]
+            reply = ""
 
 
-def put_together(stream: TextIO, file: BinaryIO, out: TextIO) -> tuple[int, int]:
+def put_together(stream: TextIO, file: TextIO, out: TextIO) -> tuple[int, int]:
     """Writes the four columns, and answers how many questions were answered and how many lines were refused."""
     replies, name, move = replies_in(file), "", ""
     answered = refused = 0
@@ -250,7 +249,9 @@ def put_together(stream: TextIO, file: BinaryIO, out: TextIO) -> tuple[int, int]
         if number == "#":
             name, move = heading(text, name)
             continue
-        reply = reply_to(number, next(replies, ""), f"{name}: {text}")
+        reply = read_reply(number, next(replies, ""))
+        if reply is None:
+            raise Missing(f"{name}: no reply to {number} {text}")
         refused += not reply.ok
         if text.split(" ")[0] not in SETTING_UP:
             answered += 1
@@ -266,11 +267,12 @@ def heading(text: str, name: str) -> tuple[str, str]:
     return (words[2], "") if words[0] == "record" else (name, words[1])
 
 
-def reply_to(number: str, reply: str, place: str) -> gtp.Reply:
-    """The reply, which has to have this id."""
-    if not re.match(rf"[=?]{number}(?!\d)", reply):
-        raise Missing(f"{place}: the next reply is {reply[:40]!r}, and has not the id {number}")
-    return gtp.Reply(reply[0] == "=", reply[1 + len(number) :].removeprefix(" "))
+def read_reply(number: str, text: str) -> gtp.Reply | None:
+    """The reply, where it has this id."""
+    end = 1 + len(number)
+    if text[1:end] != number or text[end : end + 1].isdigit():
+        return None
+    return gtp.Reply(text[0] == "=", text[end:].removeprefix(" "))
 
 
 def ended(answered: int, refused: int) -> int:
@@ -296,7 +298,7 @@ def main() -> int:
     words = read_words()
     if words.replies:
         with open(words.replies, encoding="ascii") as stream:
-            return ended(*put_together(stream, sys.stdin.buffer, sys.stdout))
+            return ended(*put_together(stream, sys.stdin, sys.stdout))
     task = Task(shlex.split(words.words[0]), words.words[1], words.every, words.words[2:])
     if not words.stream:
         return ended(*ask(task, sys.stdout))
