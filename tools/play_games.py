@@ -161,8 +161,10 @@ def refusals(all_notes: list[Notes]) -> str:
 def main(gopat: str, patterns: str, gnugo: str, examples: str, level: str = "1", *sizes: str) -> int:
     tools = pathlib.Path(__file__).resolve().parent
     words = [sys.executable, str(tools / "as_player.py"), os.path.abspath(gopat), os.path.abspath(patterns)]
-    theirs = f"{shutil.which(gnugo)} --mode gtp --quiet --level {level} --seed 1"
-    players = {"gopat": shlex.join(words), "gnugo": theirs}
+    theirs = [os.path.abspath(shutil.which(gnugo) or gnugo), "--mode", "gtp", "--quiet", "--level", level, "--seed", "1"]
+    players = {"gopat": shlex.join(words), "gnugo": shlex.join(theirs)}
+    for command in (words, theirs):
+        gtp.session(command, ["protocol_version"])
     found = [client for client in CLIENTS if is_there(CLIENTS[client])]
     for client in CLIENTS:
         if client not in found:
