@@ -16,6 +16,7 @@ Words that an interface adds for GNU Go are left out of gopat's command line: --
 The exit status is gopat's.
 """
 
+import os
 import re
 import sys
 from typing import Callable, NamedTuple
@@ -195,8 +196,10 @@ def main(words: list[str]) -> int:
                 sys.stdout.buffer.flush()
             if line is not None and line.command == "quit":
                 break
-    except (gtp.Ended, BrokenPipeError):
+    except gtp.Ended:
         pass
+    except BrokenPipeError:
+        os.dup2(os.open(os.devnull, os.O_WRONLY), sys.stdout.fileno())
     return gopat.end()
 
 
