@@ -11,13 +11,15 @@ in reading order, and STRINGS:2 for each that has at most two liberties:
 
        python3 tools/ask_records.py 'gopat --depth=20' games 'attack STRINGS:3' 'match_patterns b'
 
+A question leaves the board as it is: `reg_genmove b`, and not `genmove b`.
+
 The questions are asked where a record ends, on the board that `loadsgf` sets up. With `--every N` they are asked after
 each N moves, which are sent as `play` lines. Lines of a reply are parted by a comma and a blank. A record that gopat
 refuses is told on standard error with its name and gopat's words.
 
 `--stream` prints the protocol lines that are asked, for one gopat or for several (docs/USING.md, "Many records, many
 processors"), and `--replies` puts the replies to such a stream together. A record begins with a line `# record`. Its
-lines have ids: 12030007 is question 7 after move 30 of record 12. With more than 2,146 records, and moves or
+lines have ids: 12030007 is question 7 after move 30 of record 12. With more than 2,146 records, or moves or
 questions past 999, a stream has to be made with `--table FILE`. Then the ids count lines, and the file says in four
 columns what each of them is.
 
