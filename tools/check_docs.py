@@ -14,12 +14,15 @@ The lines below it, up to the next command or the end of the block, are its stan
 end do not count. A line `..` alone stands for lines that are left out. A block that is named `rust PATH` is a part of
 the file of this path, with the same use of `..`. In the table of kinds of docs/FORMATS.md each example is a text as
 printf takes it, and the program's note has to be the one beside it. A block under a line `<!-- not run: WHY -->` is
-passed over and told. In the map each crate of crates.txt has a row; its column `stands on` names crates that it uses,
+passed over and told, and so is one under `<!-- needs: NAME .. -->` where a name is neither a program on the path nor a
+file. In the map each crate of crates.txt has a row; its column `stands on` names crates that it uses,
 and each crate that it uses is named or stands below one that is.
 """
 
+import os
 import pathlib
 import re
+import shutil
 import subprocess
 import sys
 import tempfile
@@ -52,10 +55,17 @@ def blocks(document: str) -> Iterator[Block]:
         if lines[at].startswith("```"):
             end = lines.index("```", at + 1)
             above = next((line for line in reversed(lines[:at]) if line.strip()), "")
-            why = re.fullmatch(r"<!-- not run: (.*) -->", above)
-            yield Block(f"{document}:{at + 1}", lines[at][3:].strip(), why[1] if why else None, lines[at + 1 : end])
+            yield Block(f"{document}:{at + 1}", lines[at][3:].strip(), why_not(above), lines[at + 1 : end])
             at = end
         at += 1
+
+
+def why_not(above: str) -> str | None:
+    """Why the block under a line is not run: the line says so, or something that it needs is not there."""
+    told = re.fullmatch(r"<!-- not run: (.*) -->", above)
+    needed = re.fullmatch(r"<!-- needs: (.*) -->", above)
+    missing = [one for one in needed[1].split() if not (shutil.which(one) or os.path.exists(one))] if needed else []
+    return told[1] if told else f"there is no {' and no '.join(missing)}" if missing else None
 
 
 def commands(block: Block) -> Iterator[tuple[str, list[str]]]:

@@ -1,4 +1,4 @@
-"""One session of the Go Text Protocol with a program: all lines in, all replies out."""
+"""Sessions of the Go Text Protocol with a program: all lines in and all replies out, or one line after the other."""
 
 import subprocess
 import time
@@ -24,3 +24,42 @@ def session(command: list[str], lines: list[str], folder: str | None = None) -> 
     if len(replies) != len(lines):
         raise RuntimeError(f"{command[0]}: {len(replies)} replies to {len(lines)} lines")
     return replies, seconds
+
+
+class Ended(Exception):
+    """The program ended where a reply was wanted."""
+
+
+class Running:
+    """A running program that is asked one line after the other."""
+
+    def __init__(self, command: list[str]):
+        self.process = subprocess.Popen(command, stdin=subprocess.PIPE, stdout=subprocess.PIPE)
+
+    def pass_on(self, line: bytes) -> bytes:
+        """The reply to a line that has words, with its empty line."""
+        try:
+            self.process.stdin.write(line.rstrip(b"\n") + b"\n")
+            self.process.stdin.flush()
+        except BrokenPipeError as why:
+            raise Ended from why
+        reply = b""
+        while not reply.endswith(b"\n\n"):
+            part = self.process.stdout.readline()
+            if not part:
+                raise Ended
+            reply += part
+        return reply
+
+    def ask(self, line: str) -> Reply:
+        """The reply to a line without an id."""
+        text = self.pass_on(line.encode()).decode()
+        return Reply(text[0] == "=", text[1:].removeprefix(" ").removesuffix("\n\n"))
+
+    def end(self) -> int:
+        """The exit status, after the end of the lines."""
+        try:
+            self.process.stdin.close()
+        except BrokenPipeError:
+            pass
+        return self.process.wait()
