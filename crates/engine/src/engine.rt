@@ -257,7 +257,8 @@ impl Engine {
             (kept_with (states_of state helpers.new) (L.missed files.new) self.new) }
         ensures same { L.contents files.new ≡ L.contents files.old }
     {
-        self.work_on(helpers, slow.work, line, files).reply(self.alloc, slow.id)
+        self.work_on(helpers, slow.work, line, files)
+            .reply(self.alloc, slow.id)
     }
 
     /// Does what may take long.
@@ -297,12 +298,7 @@ impl Engine {
     }
 
     /// Does what a command says, unless it may take long. Then nothing is done.
-    fn obey(
-        &mut self,
-        helpers: &mut Helpers,
-        line: &[u8],
-        command: Command,
-    ) -> Result<Answer, Work>
+    fn obey(&mut self, helpers: &mut Helpers, line: &[u8], command: Command) -> Result<Answer, Work>
         requires within { IsWithin self.old.base.size command }
         requires spans { IsWithinLine line.now command }
         ensures answer { (file : List ℕ) → IfOk result (λ answer. IsAnswer

@@ -90,7 +90,8 @@ impl Session {
         ensures matcher { matcher_of self.new.engine ≡ matcher_of self.old.engine }
     {
         let said = self.engine.heard(raw);
-        self.engine.try_answer(&mut self.helpers, bytes_of(raw), said)
+        self.engine
+            .try_answer(&mut self.helpers, bytes_of(raw), said)
     }
 
     /// Answers a line that was left, which may take long, by the step of the machine that the session is: for the
@@ -109,7 +110,8 @@ impl Session {
         ensures same { L.contents files.new ≡ L.contents files.old }
         ensures matcher { matcher_of self.new.engine ≡ matcher_of self.old.engine }
     {
-        self.engine.finish(&mut self.helpers, slow, bytes_of(raw), files)
+        self.engine
+            .finish(&mut self.helpers, slow, bytes_of(raw), files)
     }
 
     /// Answers one line, however long it takes: as `try_line` and, where that leaves it, `finish`. A file that it names

@@ -18,7 +18,7 @@ pub struct Session {
 }
 
 /// The sessions of the protocol's frame, of the board, of readings and of patterns.
-pub const SESSIONS: [Session; 29] = [
+pub const SESSIONS: [Session; 32] = [
     Session {
         name: "reply_repeats_the_id",
         files: &[],
@@ -249,11 +249,37 @@ pub const SESSIONS: [Session; 29] = [
         output: b"=\n\n=\n\n",
     },
     Session {
+        name: "one_point_jump_connects_until_it_is_cut",
+        files: &[],
+        input: b"boardsize 9\ndepths 3 2\nplay b C5\nplay b E5\nconnect C5 E5\ndisconnect C5 E5\nplay w D5\n\
+            connect C5 E5\ndisconnect C5 E5\nconnect C5 D5\n",
+        output: b"=\n\n=\n\n=\n\n=\n\n= 1 D5\n\n= 1 D5\n\n=\n\n= 0\n\n= 1 PASS\n\n? colours differ\n\n",
+    },
+    Session {
+        name: "printed_proofs_are_accepted",
+        files: &[],
+        input: b"boardsize 9\ndepths 1 0\nplay w D4\nplay b C4\nplay b E4\nplay b D5\nattack_proof D4\n\
+            check_proof attack D4 3 W D3 .\ncheck_proof attack D4 3 W C3 .\ncheck_proof defend A1 3\n",
+        output: b"=\n\n=\n\n=\n\n=\n\n=\n\n=\n\n= 3 W D3 .\n\n= true\n\n= false\n\n\
+            ? vertex must not be empty\n\n",
+    },
+    Session {
+        name: "match_of_greatest_value_is_played",
+        files: &[File {
+            name: "p",
+            text: b"Pattern A\nO*\n:O,s,value(5)\n\nPattern B\n*O\n:O,s,value(9)\n",
+        }],
+        input: b"boardsize 3\nplay b B2\nreg_genmove b\nreg_genmove w\ngenmove b\nundo\nundo\nundo\n",
+        output: b"=\n\n=\n\n= A2\n\n= PASS\n\n= A2\n\n=\n\n=\n\n? cannot undo\n\n",
+    },
+    Session {
         name: "every_command_is_listed_in_order",
         files: &[],
         input: b"protocol_version\nversion\nlist_commands\n",
         output: b"= 2\n\n= 1\n\n= protocol_version\nname\nversion\nknown_command\nlist_commands\nquit\n\
             boardsize\nclear_board\nkomi\nget_komi\nplay\nundo\nshowboard\nis_legal\nall_legal\ncountlib\n\
-            findlib\ncaptures\nattack\ndefend\ndepths\nmatch_patterns\nlist_patterns\n\n",
+            findlib\ncaptures\nattack\ndefend\ndepths\nmatch_patterns\nlist_patterns\n\
+            loadsgf\nattack_proof\ndefend_proof\ncheck_proof\nconnect\ndisconnect\ngenmove\nreg_genmove\n\
+            helper_off\nhelper_calls\nhelper_drop\n\n",
     },
 ];

@@ -6,5 +6,6 @@ mod faults;
 mod files_and_words;
 mod option_runs;
 mod pieces;
+mod records;
 mod runs;
 mod waiting;

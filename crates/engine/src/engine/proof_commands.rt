@@ -8,8 +8,8 @@ ghost use Rattle.engine.specs.CommandAnswers.{IsAnswer};
 ghost use Rattle.engine.specs.SessionState.{machine_with};
 
 use crate::answer::{Answer, grown, told};
-use crate::engine::{Engine, word};
 use crate::engine::board_commands::has_stone;
+use crate::engine::{Engine, word};
 use crate::point_lists::push_number;
 use go_base::{Bytes, NoMemory, Point};
 use gtp_cmd::{RefuseText, Span};

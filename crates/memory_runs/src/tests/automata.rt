@@ -2,6 +2,7 @@
 use db_read::read;
 use dfa_join::compile;
 use go_options::read_options;
+use gtp_io::SureShelf;
 use gtp_lex::Raw;
 use helpers::Helpers;
 use pat_types::Pattern;
@@ -39,6 +40,7 @@ fn session_by_another(alloc: Global) -> Result<Session, Fail> {
 #[test]
 fn session_answers_by_the_automaton_given(rt: HostRuntime) -> Result<(), Fail> {
     let mut session = session_by_another(rt.alloc())?;
+    let mut files = SureShelf::new(Vec::new(rt.alloc()), Vec::new(rt.alloc()));
     for (line, want) in [
         ("boardsize 3", "=\n\n"),
         ("play b B2", "=\n\n"),
@@ -48,7 +50,8 @@ fn session_answers_by_the_automaton_given(rt: HostRuntime) -> Result<(), Fail> {
             "= P 0 C2\nP 1 B1\nP 2 A2\nP 3 B3\nP 4 A2\nP 5 B3\nP 6 C2\nP 7 B1\n\n",
         ),
     ] {
-        match session.line(Raw::Line(line.as_bytes())) {
+        assert!(rt; line.len() <= 65_536);
+        match session.line(Raw::Line(line.as_bytes()), &mut files) {
             Reply::Short { text, .. } => assert_eq!(rt; text.as_slice(), want.as_bytes(), "{line}"),
             Reply::Text { bytes } => assert_eq!(rt; bytes.as_slice(), want.as_bytes(), "{line}"),
             _ => return Err(Fail::from("a line with words has a reply")),

@@ -118,6 +118,19 @@ pub(super) fn go_with(
     input: &[u8],
     way: Way,
 ) -> Result<Ran, Fail> {
+    go_over(rt, alloc, options, files, files, input, way)
+}
+
+/// The same over a shelf with these files, whether the command line names them or not.
+pub(super) fn go_over(
+    rt: &impl Abort,
+    alloc: Global,
+    options: &[&str],
+    files: &[File<'_>],
+    held: &[File<'_>],
+    input: &[u8],
+    way: Way,
+) -> Result<Ran, Fail> {
     assert!(rt; way.piece > 0, "a call moves some bytes");
     let bytes = Vec::from_slice(alloc, input)?;
     let mut feed = Feed::new(bytes, way.piece, once(alloc, way.source_fails)?);
@@ -126,7 +139,7 @@ pub(super) fn go_with(
     let mut output = Page::new(alloc, ROOM, takes, once(alloc, way.sink_fails)?)?;
     let mut notes = Page::new(alloc, ROOM, way.piece, once(alloc, way.notes_fail)?)?;
     let words = words(alloc, options, files)?;
-    let mut shelf = shelf(rt, alloc, files, way.loader_fails)?;
+    let mut shelf = shelf(rt, alloc, held, way.loader_fails)?;
     let mut helpers: Vec<Box<dyn Helper>> = Vec::new(alloc);
     helpers.push(Box::new(alloc, NearEdge::new())?)?;
     helpers.push(Box::new(alloc, NoBan::new())?)?;

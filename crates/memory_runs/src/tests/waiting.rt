@@ -183,17 +183,19 @@ const MANY_BYTES: [(&[u8], usize, usize); 2] = [
 ];
 
 // Replies of just as many bytes as may wait go out in one call; where the last one is longer by a byte, it goes out by
-// itself. A reply to `list_commands` has 217 bytes, one to `1 name` ten.
+// itself. A reply to `showboard` on nine lines has 214 bytes, one to `1 name` ten, and one to `11 name` eleven.
 #[test]
 fn as_many_bytes_wait_as_there_is_room_for(rt: HostRuntime) -> Result<(), Fail> {
     for (last, all, out) in MANY_BYTES {
         let mut input = Vec::new(rt.alloc());
+        input.extend_from_slice(b"boardsize 9\n")?;
         for _ in 0..18 {
-            input.extend_from_slice(b"list_commands\n")?;
+            input.extend_from_slice(b"showboard\n")?;
         }
-        for _ in 0..16 {
+        for _ in 0..20 {
             input.extend_from_slice(b"1 name\n")?;
         }
+        input.extend_from_slice(b"11 name\n")?;
         input.extend_from_slice(last)?;
         let whole = go(&rt, rt.alloc(), &[], &input, WHOLE)?;
         assert_eq!(rt; whole.output.bytes().len(), all);

@@ -32,10 +32,13 @@ returns-in-Ok-load-clause-answer g c =
     subst (λ text. IsLoaded (contents word) [] text) (sym c.as_slice-in-Ok-load.ensures.value)
     (subst (λ into. IsLoaded (contents word) into c.in-Ok-load.contents.items) c.new-2.ensures.items
     (subst (λ known. IsLoaded (contents known) c.new-2.result.items c.in-Ok-load.contents.items) name
-    c.in-Ok-load.ensures.loaded)) in
-    (file, given-file word utf8 contents file loaded, λ helpers. record-loaded word utf8
-    (machine_with helpers c.args.self.now) file c.set_record.result (machine_with helpers c.set_record.new.self)
-    (c.set_record.ensures.answer helpers))
+    c.in-Ok-load.ensures.loaded)) in (
+      file,
+      given-file word utf8 contents file loaded,
+      λ helpers. record-loaded word utf8
+          (machine_with helpers c.args.self.now) file c.set_record.result (machine_with helpers c.set_record.new.self)
+          (c.set_record.ensures.answer helpers),
+    )
 
 -- no name is missed there
 pub returns-in-Ok-load-clause-missed : goal.returns-in-Ok-load-clause-missed

@@ -1,0 +1,73 @@
+//! Game records that lines load, and helpers that lines switch off.
+use super::runs::{WHOLE, go_over};
+use crate::sessions::File;
+use std::test::Fail;
+
+/// Records on a shelf: one without a fault, and one for each kind of fault.
+const RECORDS: &[File<'static>] = &[
+    File {
+        name: "g",
+        text: b"(;GM[1]FF[4]SZ[9]AB[dd:ed]AW[aa];B[ee](;W[];B[fe])(;W[ab]))",
+    },
+    File {
+        name: "k1",
+        text: b"(;SZ[9]",
+    },
+    File {
+        name: "k2",
+        text: b"(;SZ[26])",
+    },
+    File {
+        name: "k3",
+        text: b"(;SZ[9]AB[jj])",
+    },
+    File {
+        name: "k4",
+        text: b"(;SZ[2]AB[aa][bb]AW[ab][ba])",
+    },
+    File {
+        name: "k5",
+        text: b"(;SZ[9];B[dd];W[dd])",
+    },
+];
+
+/// Lines over these records, and their replies.
+struct Load {
+    name: &'static str,
+    input: &'static [u8],
+    output: &'static [u8],
+}
+
+const LOADS: [Load; 4] = [
+    Load {
+        name: "undo_stops_at_the_loaded_position",
+        input: b"loadsgf g\ncountlib E5\nis_legal w A9\nundo\nplay w A1\nundo\nundo\n",
+        output: b"=\n\n= 8\n\n= 0\n\n? cannot undo\n\n=\n\n=\n\n? cannot undo\n\n",
+    },
+    Load {
+        name: "faulty_records_by_kind",
+        input: b"play b D4\nloadsgf k1\nloadsgf k2\nloadsgf k3\nloadsgf k4\nloadsgf k5\nloadsgf\nundo\n",
+        output: b"=\n\n? bad sgf kind 1\n\n? bad sgf kind 2\n\n? bad sgf kind 3\n\n? bad sgf kind 4\n\n\
+            ? bad sgf kind 5\n\n? syntax error\n\n=\n\n",
+    },
+    Load {
+        name: "unknown_name_is_missed",
+        input: b"play b D4\n7 loadsgf nothing\nloadsgf \xff\nundo\n",
+        output: b"=\n\n?7 cannot load file\n\n? syntax error\n\n=\n\n",
+    },
+    Load {
+        name: "new_size_ends_the_record",
+        input: b"loadsgf g\nboardsize 9\ncaptures b\ncountlib E5\n",
+        output: b"=\n\n=\n\n= 0\n\n? vertex must not be empty\n\n",
+    },
+];
+
+#[test]
+fn records_are_loaded_by_their_names(rt: HostRuntime) -> Result<(), Fail> {
+    for load in &LOADS {
+        let ran = go_over(&rt, rt.alloc(), &[], &[], RECORDS, load.input, WHOLE)?;
+        let name = load.name;
+        assert_eq!(rt; ran.output.bytes(), load.output, "{name}");
+    }
+    Ok(())
+}
