@@ -3,6 +3,7 @@ use Rattle.std.proofs.Common.{◌≡◌, ℕ, List, Option, Some, None, ap}
 use Rattle.gtp_rules.specs.Lines.{RawLine}
 use Rattle.gtp_rules.specs.Steps.{Step}
 use Rattle.helpers.specs.Asking.{SlotState}
+use Rattle.machine_rules.specs.Files.{Contents}
 use Rattle.run_notes.specs.declared.notes.Counts.{Counts}
 use Rattle.run_notes.specs.declared.notes.Sent.{Sent}
 use Rattle.session.specs.Tallies.{Tally}
@@ -34,7 +35,7 @@ module _ (input : List ℕ) (last hurt : ℕ) (old : List ℕ) (torn : ℕ) (res
       (cc, cc)
 
   -- the lines were served, those of the feed or generated ones
-  either : {M : Type 0} (step : M → RawLine → Step M) (first : M) (generate : Option ℕ) (end : End) (tally : Tally M)
+  either : {M : Type 0} (step : M → RawLine → Step M → Type 0) (first : M) (generate : Option ℕ) (end : End) (tally : Tally M)
       → ServesLines generate step first (telling input last hurt old torn)
       (telling rest piece fault new cut) end tally
       → ServesEither generate step first input rest old new piece end
@@ -63,17 +64,16 @@ module _ (input : List ℕ) (last hurt : ℕ) (old : List ℕ) (torn : ℕ) (res
       )
 
   -- a run over them says what was taken and put
-  pub told : (helpers : List SlotState) (words : List (List ℕ)) (contents : List ℕ
-      → Option (List ℕ)) (counts : Option Counts)
-      (sent : Option Sent) (phase : Phase)
-      → Came helpers words contents (telling input last hurt old torn)
+  pub told : (helpers : List SlotState) (words : List (List ℕ)) (contents : Contents) (missed now : List (List ℕ))
+      (counts : Option Counts) (sent : Option Sent) (phase : Phase)
+      → Came helpers words contents missed now (telling input last hurt old torn)
       (telling rest piece fault new cut) counts sent phase
       → ComesTo helpers words contents input rest old new piece phase
-  told helpers words contents counts sent NotTaken came = let same = as_before came.1.streams in
+  told helpers words contents missed now counts sent NotTaken came = let same = as_before came.1.streams in
       (came.0, same.0, same.1)
-  told helpers words contents counts sent (NotOpened error) came = let same = as_before came.1.streams in
+  told helpers words contents missed now counts sent (NotOpened error) came = let same = as_before came.1.streams in
       (came.0, same.0, same.1)
-  told helpers words contents counts sent (Served end) came = record {
+  told helpers words contents missed now counts sent (Served end) came = record {
     options = came.0;
     given = came.1;
     patterns = came.2.patterns;

@@ -6,10 +6,11 @@ use Rattle.go_options.specs.CommandLine.{is_taken}
 use Rattle.go_options.specs.declared.options.Options.{Options}
 use Rattle.workload.specs.GeneratedLines.{generated_text}
 use Rattle.pat_types.specs.declared.pattern.Pattern.{Pattern}
+use Rattle.machine_rules.specs.Files.{Contents}
 use Rattle.machine_rules.specs.Step.{step}
 use Rattle.machine_rules.specs.Machine.{first_machine}
 use Rattle.machine_rules.specs.Matcher.{plain_matcher}
-use Rattle.helpers.specs.Asking.{SlotState, says_yes}
+use Rattle.helpers.specs.Asking.{SlotState}
 use Rattle.engine.specs.Handed.{helper_names}
 use Rattle.session.specs.PatternFiles.{IsOpened}
 use Rattle.session.specs.Outcomes.{Phase, NotTaken, NotOpened, Served}
@@ -19,7 +20,7 @@ use Rattle.session.specs.declared.outcome.End.{End}
 
 -- a front of the input was taken, so that rest is left and piece bytes came last, and bytes were put behind the old
 -- ones, as the end says
-pub record ServesBytes {M : Type 0} (step : M → RawLine → Step M) (first : M) (input rest old new : List ℕ) (piece : ℕ)
+pub record ServesBytes {M : Type 0} (step : M → RawLine → Step M → Type 0) (first : M) (input rest old new : List ℕ) (piece : ℕ)
     (end : End) : Type 0 where
   pub taken : List ℕ
   pub put : List ℕ
@@ -29,7 +30,7 @@ pub record ServesBytes {M : Type 0} (step : M → RawLine → Step M) (first : M
 
 -- the bytes of the feed were served, or where so many lines are to be generated, the bytes of these, and the feed was
 -- left alone
-abbrev pub ServesEither : {M : Type 0} → Option ℕ → (M → RawLine → Step M) → M → List ℕ → List ℕ → List ℕ → List ℕ
+abbrev pub ServesEither : {M : Type 0} → Option ℕ → (M → RawLine → Step M → Type 0) → M → List ℕ → List ℕ → List ℕ → List ℕ
     → ℕ → End → Type 0
 ServesEither None step first input rest old new piece end = ServesBytes step first input rest old new piece end
 ServesEither (Some n) step first input rest old new piece end =
@@ -38,19 +39,19 @@ ServesEither (Some n) step first input rest old new piece end =
 
 -- the words gave options, the files were opened, and the lines were served by the plain machine and these helpers; rest
 -- is what the feed has left, and piece how many bytes it gave last
-pub record ServesInMemory (helpers : List SlotState) (words : List (List ℕ)) (contents : List ℕ → Option (List ℕ))
+pub record ServesInMemory (helpers : List SlotState) (words : List (List ℕ)) (contents : Contents)
     (input rest old new : List ℕ) (piece : ℕ)
     (end : End) : Type 0 where
   pub options : Options
   pub given : GiveOptions words options
   pub patterns : List Pattern
   pub opened : IsOpened (helper_names helpers) contents options.files options.states patterns
-  pub serves : ServesEither options.generate (step (plain_matcher (says_yes helpers) patterns))
-      (first_machine options.depth options.branch)
+  pub serves : ServesEither options.generate (step (plain_matcher patterns) contents)
+      (first_machine helpers options.depth options.branch)
       input rest old new piece end
 
 -- by how far a run came: before the lines nothing was taken and nothing put
-abbrev pub ComesTo : List SlotState → List (List ℕ) → (List ℕ → Option (List ℕ)) → List ℕ → List ℕ → List ℕ → List ℕ → ℕ
+abbrev pub ComesTo : List SlotState → List (List ℕ) → Contents → List ℕ → List ℕ → List ℕ → List ℕ → ℕ
     → Phase → Type 0
 ComesTo helpers words contents input rest old new piece NotTaken =
     (is_taken words ≡ false) × (rest ≡ input) × (new ≡ old)

@@ -18,7 +18,7 @@ pub struct Session {
 }
 
 /// The sessions of the protocol's frame, of the board, of readings and of patterns.
-pub const SESSIONS: [Session; 32] = [
+pub const SESSIONS: [Session; 33] = [
     Session {
         name: "reply_repeats_the_id",
         files: &[],
@@ -271,6 +271,16 @@ pub const SESSIONS: [Session; 32] = [
         }],
         input: b"boardsize 3\nplay b B2\nreg_genmove b\nreg_genmove w\ngenmove b\nundo\nundo\nundo\n",
         output: b"=\n\n=\n\n= A2\n\n= PASS\n\n= A2\n\n=\n\n=\n\n? cannot undo\n\n",
+    },
+    Session {
+        name: "helper_is_counted_switched_off_and_dropped",
+        files: &[File {
+            name: "p",
+            text: b"Pattern P\nO*\n:8,s,near_edge\n",
+        }],
+        input: b"boardsize 9\nplay b C5\ngenmove b\nhelper_calls near_edge\nhelper_off near_edge\n\
+            match_patterns b\nhelper_calls near_edge\nhelper_drop near_edge\nhelper_calls near_edge\n",
+        output: b"=\n\n=\n\n= B5\n\n= 8\n\n=\n\n=\n\n= 8\n\n=\n\n? no such helper\n\n",
     },
     Session {
         name: "every_command_is_listed_in_order",

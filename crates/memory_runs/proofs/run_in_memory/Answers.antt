@@ -7,4 +7,4 @@ use Rattle.memory_runs.proofs.run_in_memory.Goals as goal
 pub returns : goal.returns
 returns g c =
     let runs = c.run.ensures.runs in
-    told _ _ _ _ _ _ _ _ _ _ _ _ _ runs.counts runs.sent (phase_of c.run.result) runs.came
+    told _ _ _ _ _ _ _ _ _ _ _ _ _ _ _ runs.counts runs.sent (phase_of c.run.result) runs.came

@@ -1,4 +1,4 @@
-//! Game records that lines load, and helpers that lines switch off.
+//! Game records that lines load.
 use super::runs::{WHOLE, go_over};
 use crate::sessions::File;
 use std::test::Fail;
@@ -31,13 +31,14 @@ const RECORDS: &[File<'static>] = &[
     },
 ];
 
-/// Lines over these records, and their replies.
+/// Lines over these records, and their replies, by the name of what they show.
 struct Load {
     name: &'static str,
     input: &'static [u8],
     output: &'static [u8],
 }
 
+/// What lines load, and what they are refused.
 const LOADS: [Load; 4] = [
     Load {
         name: "undo_stops_at_the_loaded_position",
