@@ -118,15 +118,15 @@ pub(super) fn go_with(
     input: &[u8],
     way: Way,
 ) -> Result<Ran, Fail> {
-    go_over(rt, alloc, options, files, files, input, way)
+    let words = words(alloc, options, files)?;
+    go_over(rt, alloc, &words, files, input, way)
 }
 
-/// The same over a shelf with these files, whether the command line names them or not.
+/// The same with these words, over a shelf with these files, whether the words name them or not.
 pub(super) fn go_over(
     rt: &impl Abort,
     alloc: Global,
-    options: &[&str],
-    files: &[File<'_>],
+    words: &[String],
     held: &[File<'_>],
     input: &[u8],
     way: Way,
@@ -138,14 +138,13 @@ pub(super) fn go_over(
     assert!(rt; takes > 0, "a call of the sink takes some bytes");
     let mut output = Page::new(alloc, ROOM, takes, once(alloc, way.sink_fails)?)?;
     let mut notes = Page::new(alloc, ROOM, way.piece, once(alloc, way.notes_fail)?)?;
-    let words = words(alloc, options, files)?;
     let mut shelf = shelf(rt, alloc, held, way.loader_fails)?;
     let mut helpers: Vec<Box<dyn Helper>> = Vec::new(alloc);
     helpers.push(Box::new(alloc, NearEdge::new())?)?;
     helpers.push(Box::new(alloc, NoBan::new())?)?;
     let outcome = run(
         alloc,
-        &words,
+        words,
         &mut shelf,
         &mut feed,
         &mut output,
