@@ -1,7 +1,7 @@
-"""Asks gopat `connect` and `disconnect` about two stones on random boards of 5 to 7 lines, at 1 to 4 plies, and says how many
-answers and moves differ from those of the plain reader in this file. It follows the definitions of connections in
-docs/DEFINITIONS.md word for word: every connecting move is tried in reading order, and nothing is remembered. gopat
-may answer from what it has kept, as the same two stones are asked about again after more plays.
+"""Asks gopat `connect` and `disconnect` about two stones on random boards of 5 to 7 lines, at 1 to 4 plies, and says
+how many answers and moves differ from those of the plain reader in this file. It follows the definitions of connections in
+docs/DEFINITIONS.md: every connecting move is tried in reading order, and nothing is remembered. gopat may answer from
+what it has kept, as the same two stones are asked about again after more plays.
 
 usage: python3 tools/compare_links.py GOPAT QUESTIONS [SEED]
 
@@ -18,7 +18,7 @@ COLUMNS = "ABCDEFG"
 
 
 class Board:
-    """A board's points as bits of a number, in reading order from the lowest bit on, and what lies beside a set of them."""
+    """A board whose points are bits of a number, in reading order from the lowest on; a set of them is one too."""
 
     def __init__(self, size: int):
         self.size = size
@@ -279,7 +279,7 @@ def main(gopat: str, questions: str, seed: str = "1") -> int:
                 yes += line.reply.text.startswith("1")
                 moves += line.reply.text.startswith("1") and not line.reply.text.endswith("PASS")
                 banned += line.reply.ok and line.position.ban is not None
-    print(f"{asked} questions, {yes} with yes, {moves} of these by a play, {banned} under a ban; {refused} refused", end="; ")
+    print(f"{asked} questions, {yes} with yes, {moves} of these by a play, {banned} under a ban; {refused} refused")
     print(f"{differ} replies differ")
     return differ
 

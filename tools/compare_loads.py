@@ -1,12 +1,13 @@
-"""Loads every game record of a folder in gopat and in GNU Go by `loadsgf`, and compares the boards after the main lines, stone
-by stone. Then it times both over all records that both answer, in one session each, replies into a pipe.
+"""Loads every game record of a folder in gopat and in GNU Go by `loadsgf`, and compares the boards after the main
+lines, stone by stone. Then it times both over all records that both answer, in one session each, replies into a pipe.
 
 usage: python3 tools/compare_loads.py GOPAT GNUGO FOLDER [RUNS]
 
 The folder is searched for *.sgf. GNU Go wants no more than the name: without a move number it follows the main line to
 its end too. Each record that differs is listed with the reason: what gopat says where it refuses it, what GNU Go says
 where that does, or the vertices where the boards differ. A record that ends GNU Go is listed too, and a name with a
-blank, which is no one word, is passed over. The times are the least of RUNS runs (five), in turn.
+blank, which is no one word, is passed over. The times are the least of RUNS runs (five), in turn. The exit status is 1
+where a record differs.
 """
 
 import pathlib
@@ -54,10 +55,9 @@ class Program:
 
 class Gopat(Program):
     def stones(self) -> Stones:
-        rows = (line.split() for line in self.running.ask("showboard").text.splitlines() if re.match(r" *\d+ [.XO]", line))
-        return {
-            letter + row[0]: mark for row in rows for letter, mark in zip(sgf.COLUMNS, row[1:]) if mark in ("X", "O")
-        }
+        lines = self.running.ask("showboard").text.splitlines()
+        rows = (line.split() for line in lines if re.match(r" *\d+ [.XO]", line))
+        return {letter + row[0]: mark for row in rows for letter, mark in zip(sgf.COLUMNS, row[1:]) if mark in "XO"}
 
 
 class GnuGo(Program):
@@ -80,10 +80,8 @@ def difference(ours: Loaded, theirs: Loaded) -> str | None:
     vertices = list(dict.fromkeys(vertex for vertex, _ in places))
     if not vertices:
         return None
-    shown = ", ".join(
-        f"{vertex} {ours.stones.get(vertex, '.')} and {theirs.stones.get(vertex, '.')}" for vertex in vertices[:MOST_SHOWN]
-    )
-    return f"{len(vertices)} points: {shown}" + (", ..." if len(vertices) > MOST_SHOWN else "")
+    pairs = [f"{vertex} {ours.stones.get(vertex, '.')} and {theirs.stones.get(vertex, '.')}" for vertex in vertices]
+    return f"{len(vertices)} points: {', '.join(pairs[:MOST_SHOWN])}" + (", ..." if len(pairs) > MOST_SHOWN else "")
 
 
 def seconds(command: list[str], lines: list[str]) -> tuple[float, float]:
@@ -106,8 +104,10 @@ def time_both(gopat: list[str], gnugo: list[str], paths: list[str], runs: int):
     taken = [[seconds(*kind) for kind in kinds] for _ in range(runs)]
     ours, theirs, our_start, their_start = (least([row[column] for row in taken]) for column in range(len(kinds)))
     for name, whole, start in (("gopat", ours, our_start), ("GNU Go", theirs, their_start)):
-        print(f"{name}: {whole[0]:.3f} seconds, {whole[1]:.3f} of the processor; {start[0]:.3f} and {start[1]:.3f} without records")
-    print(f"{len(paths)} records: gopat is {theirs[0] / ours[0]:.1f} times as fast, {theirs[1] / ours[1]:.1f} of the processor's time")
+        print(f"{name}: {whole[0]:.3f} seconds, of the processor {whole[1]:.3f}; ", end="")
+        print(f"{start[0]:.3f} and {start[1]:.3f} without records")
+    passed, busy = theirs[0] / ours[0], theirs[1] / ours[1]
+    print(f"{len(paths)} records: gopat is {passed:.1f} times as fast, {busy:.1f} times by the processor's time")
 
 
 def main(gopat: str, gnugo: str, folder: str, runs: str = "5") -> int:
@@ -127,8 +127,8 @@ def main(gopat: str, gnugo: str, folder: str, runs: str = "5") -> int:
             timed.append(path)
     ours.running.end()
     theirs.running.end()
-    stones = f"{len(found) - len(paths)} names with a blank passed over"
-    print(f"{len(paths)} records, {refused} refused by gopat, {differ} differ; {stones}")
+    print(f"{len(paths)} records, {refused} refused by gopat, {differ} differ; ", end="")
+    print(f"{len(found) - len(paths)} names with a blank passed over")
     time_both([gopat], [gnugo, *QUIET], timed, int(runs))
     return differ
 
