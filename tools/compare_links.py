@@ -1,7 +1,7 @@
 """Asks gopat `connect` and `disconnect` about two stones on random boards of 5 to 7 lines, at 1 to 4 plies, and says
-how many answers and moves differ from those of the plain reader in this file. It follows the definitions of connections in
-docs/DEFINITIONS.md: every connecting move is tried in reading order, and nothing is remembered. gopat may answer from
-what it has kept, as the same two stones are asked about again after more plays.
+how many answers and moves differ from those of the plain reader in this file. It follows the definitions of
+connections in docs/DEFINITIONS.md: every connecting move is tried in reading order, and nothing is remembered. gopat
+may answer from what it has kept, as the same two stones are asked about again after more plays.
 
 usage: python3 tools/compare_links.py GOPAT QUESTIONS [SEED]
 
@@ -86,7 +86,7 @@ class Position(NamedTuple):
         if (self.black | self.white) & point or self.ban == Ban(point, colour):
             return None
         put = self.holding(colour, self.stones(colour) | point, self.stones(other(colour)))
-        taken = put.without_liberties(other(colour))
+        taken = put.taken_beside(point, other(colour))
         after = put.holding(colour, put.stones(colour), put.stones(other(colour)) & ~taken)
         string = self.board.string(after.stones(colour), point)
         left = after.liberties(string)
@@ -100,12 +100,14 @@ class Position(NamedTuple):
         """The board with these stones of the colour and of the other, without a ban."""
         return Position(self.board, own, others) if colour == "b" else Position(self.board, others, own)
 
-    def without_liberties(self, colour: str) -> int:
-        """The stones of the colour whose strings have no liberty."""
-        return sum(string for string in self.strings(self.stones(colour), colour) if not self.liberties(string))
+    def taken_beside(self, point: int, colour: str) -> int:
+        """The stones of the colour whose strings are beside the point and have no liberty."""
+        beside = self.strings(self.board.neighbours(point), colour)
+        return sum(string for string in beside if not self.liberties(string))
 
     def strings(self, some: int, colour: str) -> Iterator[int]:
-        """The strings of the stones of a set, which are of the colour."""
+        """The strings of the colour that have a stone in the set."""
+        some &= self.stones(colour)
         while some:
             string = self.board.string(self.stones(colour), some & -some)
             yield string
@@ -142,7 +144,7 @@ def connecting_moves(link: Link, position: Position) -> int:
     for liberties in (of_a, of_b):
         moves |= liberties if is_one(liberties) else 0
     enemies = other(link.colour)
-    for string in position.strings(board.neighbours(strings[0] | strings[1]) & position.stones(enemies), enemies):
+    for string in position.strings(board.neighbours(strings[0] | strings[1]), enemies):
         last = position.liberties(string)
         moves |= last if is_one(last) else 0
     return moves
@@ -234,7 +236,7 @@ def game(choose: random.Random) -> Iterator[Asked]:
     """A position by random plays, the last of which may leave a ban, questions on it, and the same again after more."""
     board = Board(choose.choice([5, 6, 7]))
     vertices = [f"{column}{row + 1}" for column in COLUMNS[: board.size] for row in range(board.size)]
-    position, plies = Position(board, 0, 0), choose.choice([1, 2, 3, 4])
+    position, plies = Position(board, 0, 0), choose.choice([1, 2, 3, 3, 4, 4])
     for line in (f"boardsize {board.size}", "clear_board", f"depths {plies} {choose.randint(0, 3)}"):
         yield Asked(line, gtp.Reply(True, ""))
     asked: list[tuple[str, str]] = []
