@@ -5,15 +5,17 @@ usage: python3 tools/compare_loads.py GOPAT GNUGO FOLDER [RUNS]
 
 The folder is searched for *.sgf. GNU Go wants no more than the name: without a move number it follows the main line to
 its end too. Each record that differs is listed with the reason: what gopat says where it refuses it, what GNU Go says
-where that does, or the vertices where the boards differ. A record that ends GNU Go is listed too, and a name with a
-blank, which is no one word, is passed over. The times are the least of RUNS runs (five), in turn. The exit status is 1
-where a record differs.
+where that does, or the vertices where the boards differ. GNU Go passes over AE: where gopat has GNU Go's board once AE
+is taken out of the record, that is the reason, and such records are told and do not count as different. A record that
+ends GNU Go is listed too, and a name with a blank, which is no one word, is passed over. The times are the least of
+RUNS runs (five), in turn. The exit status is 1 where a record differs.
 """
 
 import pathlib
 import re
 import resource
 import sys
+import tempfile
 from typing import NamedTuple
 
 import gtp
@@ -84,6 +86,14 @@ def difference(ours: Loaded, theirs: Loaded) -> str | None:
     return f"{len(vertices)} points: {', '.join(pairs[:MOST_SHOWN])}" + (", ..." if len(pairs) > MOST_SHOWN else "")
 
 
+def is_by_removal(gopat: Program, path: str, theirs: Loaded) -> bool:
+    """Whether gopat has the other board too, once the record takes no stones off."""
+    with tempfile.NamedTemporaryFile(suffix=".sgf") as copy:
+        copy.write(re.sub(rb"\bAE(?=\s*\[)", b"XE", pathlib.Path(path).read_bytes()))
+        copy.flush()
+        return gopat.load(copy.name) == theirs
+
+
 def seconds(command: list[str], lines: list[str]) -> tuple[float, float]:
     """How long a session with the lines took, and how much of it the processor was busy."""
     before = resource.getrusage(resource.RUSAGE_CHILDREN)
@@ -115,19 +125,21 @@ def main(gopat: str, gnugo: str, folder: str, runs: str = "5") -> int:
     ours, theirs = Gopat([gopat]), GnuGo([gnugo, *QUIET])
     found = sorted(str(path.resolve()) for path in pathlib.Path(folder).rglob("*.sgf"))
     paths = [path for path in found if not re.search(r"\s", path)]
-    timed, refused, differ = [], 0, 0
+    timed, refused, removals, differ = [], 0, 0, 0
     for path in paths:
         our, their = ours.load(path), theirs.load(path)
         reason = difference(our, their)
+        removed = reason is not None and is_by_removal(ours, path, their)
         if reason:
-            print(f"{path}: {reason}")
-        differ += reason is not None
+            print(f"{path}: {'AE, ' if removed else ''}{reason}")
+        removals += removed
+        differ += reason is not None and not removed
         refused += our.refusal is not None
         if ENDED not in (our.refusal, their.refusal):
             timed.append(path)
     ours.running.end()
     theirs.running.end()
-    print(f"{len(paths)} records, {refused} refused by gopat, {differ} differ; ", end="")
+    print(f"{len(paths)} records, {refused} refused by gopat, {differ} differ, {removals} by AE; ", end="")
     print(f"{len(found) - len(paths)} names with a blank passed over")
     time_both([gopat], [gnugo, *QUIET], timed, int(runs))
     return differ
