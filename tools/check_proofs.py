@@ -1,5 +1,5 @@
-"""A second checker of proofs of readings, and what it says beside gopat. `check` knows the rules of Go, the candidates of
-docs/DEFINITIONS.md and the rules of docs/PROOFS_OF_READINGS.md, and asks no program.
+"""A second checker of proofs of readings, and what it says beside gopat. `check` knows the rules of Go, the candidates
+of docs/DEFINITIONS.md and the rules of docs/PROOFS_OF_READINGS.md, and asks no program.
 
 usage: python3 tools/check_proofs.py GOPAT REGRESSION [CHANGES [SEED [PLIES:WIDE ...]]]
 
@@ -23,12 +23,14 @@ import run_cases
 
 COLUMNS = "ABCDEFGHJKLMNOPQRSTUVWXYZ"
 EMPTY, BLACK, WHITE = 0, 1, 2
+# How many positions each function keeps its answers for: changed proofs come by the same positions again and again.
+KEPT = 50_000
 COLOURS = {"b": BLACK, "black": BLACK, "w": WHITE, "white": WHITE}
 
 # The rules of Go.
 
 
-class Vertices(NamedTuple):
+class Move(NamedTuple):
     """A move at a point, or the pass where there is none."""
 
     point: int | None
@@ -82,6 +84,7 @@ def captures(size: int, cells: bytes, point: int) -> set[int]:
     return taken
 
 
+@functools.lru_cache(KEPT)
 def play_free(position: Position, colour: int, point: int) -> Position | None:
     """The position after a play for which no ban counts; none where the point is occupied or the play is suicide."""
     size = position.size
@@ -109,6 +112,12 @@ def play(position: Position, colour: int, point: int | None) -> Position | None:
 # The tree of a reading.
 
 
+@functools.lru_cache(KEPT)
+def liberties_of(position: Position, point: int) -> int:
+    """How many liberties the string at a point has."""
+    return len(string_at(position.size, position.cells, point)[1])
+
+
 class Node(NamedTuple):
     """A position, whose turn it is, the plies and wide plies that are left, and the ko allowances."""
 
@@ -122,7 +131,10 @@ class Node(NamedTuple):
     defender_ko: int
 
     def liberties(self) -> int:
-        return len(string_at(self.position.size, self.position.cells, self.target)[1])
+        return liberties_of(self.position, self.target)
+
+    def candidates(self) -> list[int]:
+        return candidates(self.position, self.target, self.wide > 0)
 
     def is_captured(self) -> bool:
         return self.position.cells[self.target] == EMPTY
@@ -150,14 +162,14 @@ def backfilling(position: Position, attacker: int, liberties: set[int]) -> set[i
     return found
 
 
-def candidates(node: Node) -> list[int]:
-    """The points that are tried at a node whose target stands, in reading order."""
-    position = node.position
+@functools.lru_cache(KEPT)
+def candidates(position: Position, target: int, is_wide: bool) -> list[int]:
+    """The points that are tried where the target stands and a wide ply is left or not, in reading order."""
     size, cells = position.size, position.cells
-    stones, liberties = string_at(size, cells, node.target)
+    stones, liberties = string_at(size, cells, target)
     found = liberties | last_liberties(size, cells, stones)
-    if node.wide > 0:
-        found |= backfilling(position, other(node.defender), liberties)
+    if is_wide:
+        found |= backfilling(position, other(cells[target]), liberties)
         if len(liberties) <= 2:
             found |= {near for point in liberties for near in neighbours(size)[point] if cells[near] == EMPTY}
     return sorted(found)
@@ -190,7 +202,7 @@ def children(node: Node) -> Iterator[Node]:
     """All nodes that a move leads to, the one after the pass first."""
     if not node.is_attackers:
         yield passed(node)
-    yield from filter(None, (played(node, point) for point in candidates(node)))
+    yield from filter(None, (played(node, point) for point in node.candidates()))
 
 
 # What words prove.
@@ -204,14 +216,14 @@ def is_point(size: int, word: str) -> bool:
     return column != "" and 1 <= int(row) <= size
 
 
-def move_of(size: int, word: str) -> Vertices | None:
+def move_of(size: int, word: str) -> Move | None:
     """The move that a word names, in either case; none where it names no move."""
     word = word.upper() if word.isascii() else ""
     if word == "PASS":
-        return Vertices(None)
+        return Move(None)
     if not is_point(size, word):
         return None
-    return Vertices((size - int(word[1:])) * size + COLUMNS.index(word[0]))
+    return Move((size - int(word[1:])) * size + COLUMNS.index(word[0]))
 
 
 def has_too_many(node: Node) -> bool:
@@ -234,13 +246,13 @@ def is_settled(node: Node, claim: str) -> bool:
     return node.plies == 0 or has_too_many(node)
 
 
-def child_by(node: Node, move: Vertices) -> Node | None:
+def child_by(node: Node, move: Move) -> Node | None:
     """The node after a move that may prove what the side to play wants; none where it may not."""
     if move.point is None:
         return None if node.is_attackers else passed(node)
     if node.is_attackers and is_out_of_reach(node, node.liberties()):
         return None
-    return played(node, move.point) if move.point in candidates(node) else None
+    return played(node, move.point) if move.point in node.candidates() else None
 
 
 def proved(node: Node, claim: str, words: list[str], at: int) -> int | None:
@@ -344,8 +356,9 @@ def wrong_examples() -> int:
         if found != verdict:
             print(f"example {question}, {code} {text}: {found}")
             wrong += 1
-    backfilled = first_node(words_after(empty(5), BACKFILLED[1]), "attack", 15, (5, 2), 3)
-    return wrong + ((22 in candidates(backfilled)) is False) + (22 in candidates(backfilled._replace(wide=0)))
+    position, c1 = words_after(empty(5), BACKFILLED[1]), 22
+    found = [c1 in candidates(position, 15, is_wide) for is_wide in (False, True)]
+    return wrong + (found != [False, True])
 
 
 # The questions of the suites.
@@ -376,7 +389,8 @@ def after_play(position: Position, line: str) -> tuple[Position, bool]:
     return after or position, after is not None
 
 
-def position_of(set_up: list[str]) -> Position:
+@functools.cache
+def position_of(set_up: tuple[str, ...]) -> Position:
     """The position after a line `boardsize` and lines `play`."""
     position = empty(int(set_up[0].split()[1]))
     for line in set_up[1:]:
@@ -391,49 +405,65 @@ def line_of(line: str, set_up: list[str]) -> list[str]:
     return set_up[:-1] if line == "undo" else [*set_up, line]
 
 
+def has_cases(path: pathlib.Path) -> bool:
+    return any(run_cases.CASE.fullmatch(line.strip()) for line in path.read_text(encoding="latin-1").splitlines())
+
+
 def questions(regression: str) -> Iterator[Question]:
     """The questions of all suites, in order."""
-    for path in sorted(pathlib.Path(regression).glob("*.tst")):
+    for path in filter(has_cases, sorted(pathlib.Path(regression).glob("*.tst"))):
         set_up: list[str] = []
         for line in run_cases.cut(path):
             case = run_cases.CASE.fullmatch(line)
             if case:
                 kind, vertex = case[2].split()
-                yield Question(set_up, position_of(set_up), kind, vertex)
+                yield Question(set_up, position_of(tuple(set_up)), kind, vertex)
             elif not line.startswith("#"):
                 set_up = line_of(line, set_up)
 
 
-class Gopat:
-    """The running program, which position it was set up with, and how long it took to answer each sort of line."""
+class Gopat(gtp.Running):
+    """The running program, and the seconds of the processor that it took for each sort of line."""
 
     def __init__(self, program: str):
-        self.running = gtp.Running([program])
-        self.set_up: list[str] = []
+        super().__init__([program])
         self.seconds: Counter[str] = Counter()
-        self.slowest: dict[str, float] = {}
+        self.slowest: Counter[str] = Counter()
 
-    def ask(self, line: str) -> str:
-        """The text of a reply; that of a refusal begins with `?`."""
-        start = time.perf_counter()
-        reply = self.running.ask(line)
-        seconds, sort = time.perf_counter() - start, line.split()[0]
+    def processor(self) -> float:
+        """The seconds that the program has run."""
+        return int(pathlib.Path(f"/proc/{self.process.pid}/schedstat").read_text(encoding="ascii").split()[0]) / 1e9
+
+    def timed(self, line: str) -> str:
+        """The text of a reply, that of a refusal behind `? `."""
+        start = self.processor()
+        reply = text_of(self.pass_on(line.encode()))
+        seconds, sort = self.processor() - start, line.split()[0]
         self.seconds[sort] += seconds
-        self.slowest[sort] = max(self.slowest.get(sort, 0.0), seconds)
-        return reply.text if reply.ok else "? " + reply.text.strip()
+        self.slowest[sort] = max(self.slowest[sort], seconds)
+        return reply
 
-    def place(self, set_up: list[str]):
-        """Sets a position up; an illegal play changes nothing."""
-        if set_up != self.set_up:
-            for line in set_up:
-                self.ask(line)
-            self.set_up = set_up
+    def replies(self, lines: list[str]) -> list[str]:
+        """The replies to lines that are sent together. They must be so few and short that a pipe holds them."""
+        self.process.stdin.write("".join(line + "\n" for line in lines).encode())
+        self.process.stdin.flush()
+        return [text_of(self.process.stdout.readline() + self.process.stdout.readline()) for _ in lines]
 
     def depths(self, depths: tuple[int, int]):
-        self.ask("depths {} {}".format(*depths))
+        self.replies([depths_line(depths)])
 
-    def verdict(self, question: Question, code: int, text: str) -> str:
-        return self.ask(f"check_proof {question.kind} {question.vertex} {code} {text}")
+
+def text_of(reply: bytes) -> str:
+    """The text of a reply of one line; that of a refusal begins with `?`."""
+    return reply.decode().strip().removeprefix("=").strip()
+
+
+def depths_line(depths: tuple[int, int]) -> str:
+    return "depths {} {}".format(*depths)
+
+
+def check_line(question: Question, code: int, text: str) -> str:
+    return f"check_proof {question.kind} {question.vertex} {code} {text}"
 
 
 def verdict(position: Position, kind: str, vertex: str, depths: tuple[int, int], code: int, text: str) -> str:
@@ -458,9 +488,9 @@ def printed(gopat: Gopat, asked: list[Question], depths: tuple[int, int]) -> Tol
     told = Told([], Counter())
     gopat.depths(depths)
     for question in asked:
-        gopat.place(question.set_up)
-        answer = gopat.ask(f"{question.kind} {question.vertex}")
-        text = gopat.ask(f"{question.kind}_proof {question.vertex}")
+        gopat.replies(question.set_up)
+        answer = gopat.timed(f"{question.kind} {question.vertex}")
+        text = gopat.timed(f"{question.kind}_proof {question.vertex}")
         if text.startswith("?"):
             told.refused[text[2:]] += 1
             continue
@@ -473,9 +503,9 @@ def printed(gopat: Gopat, asked: list[Question], depths: tuple[int, int]) -> Tol
 def refusals(gopat: Gopat, proof: Proof) -> int:
     """How many of the two checkers do not accept a proof."""
     question, text = proof.question, " ".join(proof.words)
-    gopat.place(question.set_up)
+    gopat.replies(question.set_up)
     ours = verdict(question.position, question.kind, question.vertex, proof.depths, proof.code, text)
-    theirs = gopat.verdict(question, proof.code, text)
+    theirs = gopat.timed(check_line(question, proof.code, text))
     if (ours, theirs) != ("true", "true"):
         print(f"{question.kind} {question.vertex} at {proof.depths}: {ours} and {theirs}: {proof.code} {text[:200]}")
     return (ours != "true") + (theirs != "true")
@@ -491,17 +521,18 @@ def both_accept(gopat: Gopat, asked: list[Question], depths: tuple[int, int]) ->
     gopat.seconds.clear()
     gopat.slowest.clear()
     told = printed(gopat, asked, depths)
-    start = time.perf_counter()
+    start = time.process_time()
     differ = sum(refusals(gopat, proof) for proof in told.proofs)
-    seconds = time.perf_counter() - start - gopat.seconds["check_proof"]
+    seconds = time.process_time() - start
     codes = Counter(proof.code for proof in told.proofs)
     words = sum(len(proof.words) for proof in told.proofs)
-    print("{} {}:".format(*depths), f"{len(told.proofs)} proofs, {words} words, the longest {longest(told.proofs)} bytes;",
+    print("{} {}:".format(*depths), f"{len(told.proofs)} proofs, {words} words,",
+          f"the longest {longest(told.proofs)} bytes;",
           f"codes 3 to 0: {', '.join(str(codes[code]) for code in (3, 2, 1, 0))};",
           ", ".join(f"{count} {text}" for text, count in sorted(told.refused.items()) if count) or "none refused")
     for name, sorts in SORTS.items():
-        slowest = max(gopat.slowest.get(sort, 0.0) for sort in sorts)
-        print(f"  {name}: {sum(gopat.seconds[sort] for sort in sorts):.4f} seconds, at most {slowest:.4f}")
+        slowest = max(gopat.slowest[sort] for sort in sorts)
+        print(f"  {name}: {sum(gopat.seconds[sort] for sort in sorts):.4f} seconds, at most {slowest:.5f}")
     print(f"  checking here: {seconds:.1f} seconds")
     return told.proofs, differ + told.refused["another code than that of the reading"]
 
@@ -521,7 +552,7 @@ def random_vertex(choose: random.Random, position: Position, near: str | None = 
 
 
 # Words that are none of a proof, or are written otherwise than gopat prints them.
-ODD = ["I3", "**", "..", "w", "n", "A0", "A100", "a1", "A01", "pass", "Pass", "PASS1", "D", "4", "Z25", "-1", "W.", "*."]
+ODD = ["I3", "**", "..", "w", "n", "A0", "A100", "a1", "A01", "pass", "Pass", "PASS1", "D", "4", "Z25", "W."]
 
 
 def random_word(choose: random.Random, proof: Proof) -> str:
@@ -587,7 +618,7 @@ class Change(NamedTuple):
 
 def with_another_stone(choose: random.Random, question: Question) -> list[str]:
     """The lines with one more play, or with one left out."""
-    if choose.random() < 0.25 and len(question.set_up) > 1:
+    if choose.random() < 0.1 and len(question.set_up) > 1:
         at = choose.randrange(1, len(question.set_up))
         return [*question.set_up[:at], *question.set_up[at + 1 :]]
     return [*question.set_up, f"play {choose.choice('bw')} {random_vertex(choose, question.position, question.vertex)}"]
@@ -609,37 +640,44 @@ def changed(choose: random.Random, proof: Proof) -> Change:
     return Change(sort, set_up, question, depths, code, words)
 
 
-def position_after(change: Change) -> Position:
-    """The position of a change."""
-    before = change.question.set_up
+class Line(NamedTuple):
+    """A line, and the reply that is right; none where it does not matter."""
+
+    text: str
+    reply: str | None = None
+
+
+def lines_of(change: Change) -> list[Line]:
+    """The lines that ask about a change of a proof, where the question's position is set up before and behind."""
+    question, text, before = change.question, " ".join(change.words), change.question.set_up
+    position, first, last = question.position, [], []
     if change.set_up[:-1] == before:
-        return after_play(change.question.position, change.set_up[-1])[0]
-    return change.question.position if change.set_up == before else position_of(change.set_up)
+        position, is_legal = after_play(position, change.set_up[-1])
+        first, last = [Line(change.set_up[-1], "" if is_legal else "? illegal move")], [Line("undo", "")] * is_legal
+    elif change.set_up != before:
+        position = position_of(tuple(change.set_up))
+        first, last = list(map(Line, change.set_up)), list(map(Line, before))
+    ours = verdict(position, question.kind, question.vertex, change.depths, change.code, text)
+    asked = Line(check_line(question, change.code, text), ours)
+    return [*first, Line(depths_line(change.depths), ""), asked, *last]
 
 
-def verdict_of_gopat(gopat: Gopat, change: Change, text: str) -> str:
-    """What gopat answers about a change. One more play is taken back again, so the position need not be set up anew."""
-    before = change.question.set_up
-    is_more = change.set_up[:-1] == before
-    gopat.place(before if is_more else change.set_up)
-    is_played = is_more and not gopat.ask(change.set_up[-1]).startswith("?")
-    gopat.depths(change.depths)
-    answer = gopat.verdict(change.question, change.code, text)
-    if is_played:
-        gopat.ask("undo")
-    return answer
+def wrong_replies(gopat: Gopat, changes: list[Change], counts: Counter[tuple[str, str]]) -> int:
+    """How many replies about changes of one question's proofs differ; counts our verdicts."""
+    lines = list(map(Line, changes[0].question.set_up))
+    for change in changes:
+        lines += lines_of(change)
+        ours = next(line.reply for line in reversed(lines) if line.text.startswith("check_proof"))
+        counts[change.sort, ours] += 1
+    replies = gopat.replies([line.text for line in lines])
+    wrong = [(line, reply) for line, reply in zip(lines, replies) if line.reply not in (None, reply)]
+    for line, reply in wrong:
+        print(f"{changes[0].question.set_up[-1]}, {line.text[:500]}: {line.reply} and {reply}")
+    return len(wrong)
 
 
-def differs(gopat: Gopat, change: Change, counts: Counter[tuple[str, str]]) -> bool:
-    """Whether the verdicts on a change differ; counts ours."""
-    question, text = change.question, " ".join(change.words)
-    ours = verdict(position_after(change), question.kind, question.vertex, change.depths, change.code, text)
-    theirs = verdict_of_gopat(gopat, change, text)
-    counts[change.sort, ours] += 1
-    if ours != theirs:
-        print(f"{question.kind} {question.vertex} {change.depths} {change.sort} {change.set_up[-1]}: {ours} and {theirs}",
-              f"{change.code} {text[:300]}")
-    return ours != theirs
+# So many changes of one proof are asked about together.
+TOGETHER = 40
 
 
 def is_short(proof: Proof) -> bool:
@@ -655,11 +693,11 @@ def compare_changes(gopat: Gopat, proofs: list[Proof], changes: int, choose: ran
         proof = choose.choice(proofs)
         if is_short(proof) and choose.random() < 0.8:
             continue
-        for _ in range(min(20, changes - counts.total())):
-            differ += differs(gopat, changed(choose, proof), counts)
+        more = [changed(choose, proof) for _ in range(min(TOGETHER, changes - counts.total()))]
+        differ += wrong_replies(gopat, more, counts)
     for sort in sorted({sort for sort, _ in counts}):
         told = {text: count for (one, text), count in counts.items() if one == sort}
-        print(f"another {sort}: " + ", ".join(f"{count} {text.removeprefix('? ')}" for text, count in sorted(told.items())))
+        print(f"another {sort}: " + ", ".join(f"{count} {text}" for text, count in sorted(told.items())))
     print(f"{changes} changed proofs in {time.perf_counter() - start:.0f} seconds: {differ} differ")
     return differ
 
@@ -675,7 +713,7 @@ def main(gopat: str, regression: str, changes: str = "1000", seed: str = "1", *d
         proofs += more
         differ += wrong
     differ += compare_changes(program, proofs, int(changes), random.Random(int(seed)))
-    print(f"gopat ended with status {program.running.end()}; {differ} differ in all")
+    print(f"gopat ended with status {program.end()}; {differ} differ in all")
     return int(differ > 0)
 
 
