@@ -208,6 +208,14 @@ def children(node: Node) -> Iterator[Node]:
 # What words prove.
 
 
+# A tab counts as a blank, and other control bytes are dropped.
+CLEANED = {**dict.fromkeys([*range(32), 127]), ord("\t"): " "}
+
+
+def words_of(text: str) -> list[str]:
+    return [word for word in text.translate(CLEANED).split(" ") if word]
+
+
 def is_point(size: int, word: str) -> bool:
     """Whether a word in capitals is the vertex of a point."""
     column, row = word[:1], word[1:]
@@ -470,7 +478,7 @@ def verdict(position: Position, kind: str, vertex: str, depths: tuple[int, int],
     """What gopat should answer to `check_proof`."""
     if position.cells[move_of(position.size, vertex).point] == EMPTY:
         return "? vertex must not be empty"
-    return "true" if check(position, kind, vertex, depths, code, text.split()) else "false"
+    return "true" if check(position, kind, vertex, depths, code, words_of(text)) else "false"
 
 
 # What gopat prints, and random changes of it.
@@ -594,7 +602,30 @@ def with_a_part_undone(choose: random.Random, proof: Proof) -> list[str]:
     return [*words[:at], *choose.choice([each, each, [choose.choice(moves), "."]]), *words[at + 1 :]]
 
 
-WORDS: list[Callable[[random.Random, Proof], list[str]]] = [with_another_word, with_another_move, with_a_part_undone]
+def with_more_blanks(choose: random.Random, proof: Proof) -> list[str]:
+    """The words with more blanks, tabs or control bytes between them, or at an end."""
+    words = list(proof.words)
+    for _ in range(choose.randint(1, 4)):
+        words.insert(choose.randint(0, len(words)), choose.choice(["", " ", "\t", "\x01", "\x0b\x1f", "\t\x7f "]))
+    at = choose.randrange(len(words))
+    words[at] += choose.choice(["", "\x02", "\t", "\x0c"])
+    return words
+
+
+def with_many_words(choose: random.Random, proof: Proof) -> list[str]:
+    """Some 60,000 bytes of `*` or `.`, as one word or as many, behind words that stand first."""
+    many = choose.choice([["*" * 60_000], ["*"] * 30_000, ["."] * 30_000, ["*", "."] * 15_000])
+    return [*proof.words[: choose.randint(0, min(len(proof.words), 100))], *many]
+
+
+# How a word is changed, and how often.
+WORDS: dict[Callable[[random.Random, Proof], list[str]], int] = {
+    with_another_word: 300,
+    with_another_move: 300,
+    with_a_part_undone: 300,
+    with_more_blanks: 99,
+    with_many_words: 1,
+}
 
 
 def other_depths(choose: random.Random, depths: tuple[int, int]) -> tuple[int, int]:
@@ -630,7 +661,7 @@ def changed(choose: random.Random, proof: Proof) -> Change:
     sort = choose.choices(["word", "code", "depths", "stone"], [60, 5, 15, 20])[0]
     set_up = question.set_up
     if sort == "word":
-        words = choose.choice(WORDS)(choose, proof)
+        words = choose.choices(list(WORDS), list(WORDS.values()))[0](choose, proof)
     elif sort == "code":
         code = choose.choice([one for one in range(4) if one != code])
     elif sort == "depths":
