@@ -703,7 +703,7 @@ def wrong_replies(gopat: Gopat, changes: list[Change], counts: Counter[tuple[str
     replies = gopat.replies([line.text for line in lines])
     wrong = [(line, reply) for line, reply in zip(lines, replies) if line.reply not in (None, reply)]
     for line, reply in wrong:
-        print(f"{changes[0].question.set_up[-1]}, {line.text[:500]}: {line.reply} and {reply}")
+        print(f"behind {changes[0].question.set_up[-1]}, {line.text[:500]!r}: {line.reply} and {reply}")
     return len(wrong)
 
 
