@@ -707,13 +707,19 @@ def wrong_replies(gopat: Gopat, changes: list[Change], counts: Counter[tuple[str
     return len(wrong)
 
 
-# So many changes of one proof are asked about together.
+# So many changes of one proof are asked about together, and behind so many the count so far is told.
 TOGETHER = 40
+TOLD = 5_000
 
 
 def is_short(proof: Proof) -> bool:
     """Whether a proof has nothing but settled nodes."""
     return len(proof.words) <= 6
+
+
+def counts_of(counts: Counter[tuple[str, str]], ours: str) -> int:
+    """How many changes have this verdict."""
+    return sum(count for (_, one), count in counts.items() if one == ours)
 
 
 def compare_changes(gopat: Gopat, proofs: list[Proof], changes: int, choose: random.Random) -> int:
@@ -726,6 +732,8 @@ def compare_changes(gopat: Gopat, proofs: list[Proof], changes: int, choose: ran
             continue
         more = [changed(choose, proof) for _ in range(min(TOGETHER, changes - counts.total()))]
         differ += wrong_replies(gopat, more, counts)
+        if counts.total() % TOLD < len(more):
+            print(f"  {counts.total()} changed, {counts_of(counts, 'true')} of them accepted: {differ} differ", flush=True)
     for sort in sorted({sort for sort, _ in counts}):
         told = {text: count for (one, text), count in counts.items() if one == sort}
         print(f"another {sort}: " + ", ".join(f"{count} {text}" for text, count in sorted(told.items())))
