@@ -733,7 +733,8 @@ def compare_changes(gopat: Gopat, proofs: list[Proof], changes: int, choose: ran
         more = [changed(choose, proof) for _ in range(min(TOGETHER, changes - counts.total()))]
         differ += wrong_replies(gopat, more, counts)
         if counts.total() % TOLD < len(more):
-            print(f"  {counts.total()} changed, {counts_of(counts, 'true')} of them accepted: {differ} differ", flush=True)
+            accepted = counts_of(counts, "true")
+            print(f"  {counts.total()} changed, {accepted} of them accepted: {differ} differ", flush=True)
     for sort in sorted({sort for sort, _ in counts}):
         told = {text: count for (one, text), count in counts.items() if one == sort}
         print(f"another {sort}: " + ", ".join(f"{count} {text}" for text, count in sorted(told.items())))
