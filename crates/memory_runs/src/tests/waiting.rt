@@ -77,7 +77,7 @@ const PATTERN: &[File<'static>] = &[File {
 }];
 
 /// Lines that come together, the call of the output that fails, and what is out then.
-const CALLS_OF_THE_OUTPUT: [(&str, &[u8], u64, &[u8]); 10] = [
+const CALLS_OF_THE_OUTPUT: [(&str, &[u8], u64, &[u8]); 14] = [
     (
         "what waits goes out before a fresh reading of an attack",
         b"name\nplay b D4\nattack D4\nname\n",
@@ -87,6 +87,30 @@ const CALLS_OF_THE_OUTPUT: [(&str, &[u8], u64, &[u8]); 10] = [
     (
         "and before one of a defence",
         b"name\nplay b D4\ndefend D4\nname\n",
+        2,
+        b"= gopat\n\n=\n\n",
+    ),
+    (
+        "before a printed proof",
+        b"name\nplay b D4\nattack_proof D4\nname\n",
+        2,
+        b"= gopat\n\n=\n\n",
+    ),
+    (
+        "before a connection",
+        b"name\nplay b D4\nconnect D4 D4\nname\n",
+        2,
+        b"= gopat\n\n=\n\n",
+    ),
+    (
+        "before a move chosen",
+        b"name\nplay b D4\ngenmove w\nname\n",
+        2,
+        b"= gopat\n\n=\n\n",
+    ),
+    (
+        "before a record that is loaded",
+        b"name\nplay b D4\nloadsgf game.sgf\nname\n",
         2,
         b"= gopat\n\n=\n\n",
     ),
