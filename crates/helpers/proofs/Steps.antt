@@ -8,10 +8,10 @@ use Rattle.std.proofs.lemmas.List.Folds.{list_all-append}
 use Rattle.go_rules.specs.declared.Colour.{Colour}
 use Rattle.go_rules.specs.Position.{BoardState}
 use Rattle.helpers.specs.Asking.{SlotState, says_yes, after_asking}
-use Rattle.helper_asking.specs.Rule.{is_on, all_say_yes, asks_of, raised, IsAskedFor}
-use Rattle.helper_asking.proofs.Times.{same_name, times-other, times-again, times-none, times-new, times-stop}
-use Rattle.helper_asking.proofs.Times.{says-again}
-use Rattle.helper_asking.proofs.CallCounts.{one_more_of, raised-cong, raised-zero, says_yes-raised, after_asking-raised}
+use Rattle.helpers.specs.Agreement.{is_on, all_say_yes, asks_of, raised, IsAskedFor}
+use Rattle.helpers.proofs.Times.{same_name, times-other, times-again, times-none, times-new, times-stop}
+use Rattle.helpers.proofs.Times.{says-again}
+use Rattle.helpers.proofs.CallCounts.{one_more_of, raised-cong, raised-zero, says_yes-raised, after_asking-raised}
 
 module _ (slots : List SlotState) (board : BoardState) (at : ℕ) (friend : Colour) where
   -- what the helper of a name says

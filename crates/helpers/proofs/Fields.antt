@@ -9,10 +9,10 @@ use Rattle.go_rules.specs.declared.Colour.{Colour}
 use Rattle.go_rules.specs.Position.{BoardState}
 use Rattle.pat_types.specs.declared.pattern.Item.{Item}
 use Rattle.helpers.specs.Asking.{SlotState, says_yes, after_asking}
-use Rattle.helper_asking.specs.Fields.{names_helper, helper_names}
-use Rattle.helper_asking.specs.Rule.{all_say_yes, asks_of, raised, IsAskedFor}
-use Rattle.helper_asking.proofs.Names.{helper_names-append, helper_names-named, helper_names-other}
-use Rattle.helper_asking.proofs.Steps.{asked_for-again, asked_for-new, asked_for-stop}
+use Rattle.helpers.specs.Fields.{names_helper, helper_names}
+use Rattle.helpers.specs.Agreement.{all_say_yes, asks_of, raised, IsAskedFor}
+use Rattle.helpers.proofs.Names.{helper_names-append, helper_names-named, helper_names-other}
+use Rattle.helpers.proofs.Steps.{asked_for-again, asked_for-new, asked_for-stop}
 
 module _ (slots : List SlotState) (board : BoardState) (at : ℕ) (friend : Colour) (before : List Item) (item : Item)
     (now : List SlotState) (agree : all_say_yes slots (helper_names before) board at friend ≡ true)

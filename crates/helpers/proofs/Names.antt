@@ -5,7 +5,7 @@ use Rattle.std.specs.List.{list_any}
 use Rattle.std.specs.Str.{bytes_eq}
 use Rattle.std.proofs.lemmas.List.{drop_more, drop_all}
 use Rattle.pat_types.specs.declared.pattern.Item.{Item}
-use Rattle.helper_asking.specs.Fields.{names_helper, helper_names}
+use Rattle.helpers.specs.Fields.{names_helper, helper_names}
 
 -- the names of some fields and of others behind them
 pub helper_names-append : (xs ys : List Item) → helper_names (xs ++ ys) ≡ helper_names xs ++ helper_names ys

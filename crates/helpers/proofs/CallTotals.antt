@@ -8,9 +8,9 @@ use Rattle.std.proofs.lemmas.List.Sums.{sum_by-append}
 use Rattle.go_rules.specs.declared.Colour.{Colour}
 use Rattle.go_rules.specs.Position.{BoardState}
 use Rattle.helpers.specs.Asking.{SlotState, says_yes}
-use Rattle.helper_asking.specs.Rule.{is_on, times_asked, all_say_yes, asks_of, raised, IsAskedFor}
-use Rattle.helper_totals.specs.Totals.{asks_over}
-use Rattle.helper_asking.proofs.CallCounts.{raised-cong, raised-zero, raised-add, says_yes-raised, is_on-raised}
+use Rattle.helpers.specs.Agreement.{is_on, times_asked, all_say_yes, asks_of, raised, IsAskedFor}
+use Rattle.helpers.specs.Totals.{asks_over}
+use Rattle.helpers.proofs.CallCounts.{raised-cong, raised-zero, raised-add, says_yes-raised, is_on-raised}
 
 -- helpers that are on alike and say alike are asked alike
 times-cong : (on off says told : List ℕ → Bool) → ((n : List ℕ) → on n ≡ off n) → ((n : List ℕ) → says n ≡ told n)
@@ -68,32 +68,3 @@ module _ (slots : List SlotState) (board : BoardState) (friend : Colour) where
       (asks_over slots (plays ++ (names, at) ∷ []) board friend) slots
       (λ n. ap (λ k. before n + k) (sym (zero-add (asks_of slots names board at friend n)))
       ∙ sym (sum_by-append (λ play. asks_of slots play.0 board play.1 friend n) plays ((names, at) ∷ [])))
-
--- the i-th of several plays with the same names: one more yes is counted, and its calls are added
-module _ (slots : List SlotState) (board : BoardState) (friend : Colour) (names : List (List ℕ)) (places : List ℕ)
-    (i count one : ℕ) (now after : List SlotState) (answer : Bool) (within : i < length places)
-    (so_far : (count ≡ count_by (λ at. all_say_yes slots names board at friend) (take i places))
-    × (now ≡ raised (asks_over slots (map (λ at. (names, at)) (take i places)) board friend) slots))
-    (asked : IsAskedFor now names board (get_or places i 0) friend answer after) (is_one : one ≡ cond answer 1 0) where
-  -- the count and the calls of one place more
-  pub one_more_place : (count + one ≡ count_by (λ at. all_say_yes slots names board at friend) (take (i + 1) places))
-      × (after ≡ raised (asks_over slots (map (λ at. (names, at)) (take (i + 1) places)) board friend) slots)
-  one_more_place =
-      let next : take (i + 1) places ≡ take i places ++ get_or places i 0 ∷ [] = take_more places i 0 within in
-      let told : answer ≡ all_say_yes slots names board (get_or places i 0) friend =
-      answer_over-more slots board friend (map (λ at. (names, at)) (take i places)) names
-      (get_or places i 0) now after answer so_far.1 asked in
-      let add : one ≡ 0 + cond (all_say_yes slots names board (get_or places i 0) friend) 1 0 = is_one
-      ∙ ap (λ b. cond b 1 0) told
-      ∙ sym (zero-add (cond (all_say_yes slots names board (get_or places i 0) friend) 1 0)) in (
-        ap (λ k. k + one) so_far.0
-            ∙ ap (λ k. count_by (λ at. all_say_yes slots names board at friend) (take i places) + k) add
-            ∙ sym (ap (count_by (λ at. all_say_yes slots names board at friend)) next
-            ∙ sum_by-append (λ at. cond (all_say_yes slots names board at friend) 1 0) (take i places)
-            (get_or places i 0 ∷ [])),
-        asked_over-more slots board friend (map (λ at. (names, at)) (take i places)) names
-            (get_or places i 0) now after answer so_far.1 asked
-            ∙ sym (ap (λ l. raised (asks_over slots l board friend) slots)
-            (ap (map (λ at. (names, at))) next
-            ∙ map-append (λ at. (names, at)) (take i places) (get_or places i 0 ∷ []))),
-      )

@@ -1,15 +1,15 @@
-//! Asking in turn.
+//! Asking the helpers that a pattern names about one play, in turn.
 
 ghost use Rattle.std.specs.Prelude.{◌≡◌, ◌<◌, ◌*◌, ◌&&◌, ◌++◌, [], ◌∷◌, List, not, true};
 ghost use Rattle.std.specs.List.{list_any};
 ghost use Rattle.std.specs.Str.{bytes_eq};
 ghost use Rattle.helpers.specs.Asking.{SlotState};
 ghost use Rattle.helpers.specs.Slots.{states_of};
-ghost use Rattle.helper_asking.specs.Fields.{names_helper as is_helper_name, helper_names};
-ghost use Rattle.helper_asking.specs.Rule.{all_say_yes, asks_of, raised, IsAskedFor};
+ghost use Rattle.helpers.specs.Fields.{names_helper as is_helper_name, helper_names};
+ghost use Rattle.helpers.specs.Agreement.{all_say_yes, asks_of, raised, IsAskedFor};
 
+use crate::Helpers;
 use go_base::{Colour, Point, Position};
-use helpers::Helpers;
 use pat_types::Item;
 
 /// Whether the helpers that these fields name all say yes to a play of `friend` at `at`.

@@ -1,9 +1,9 @@
 -- The fields were asked in turn, each as the rule has it.
 use Rattle.std.proofs.Common.{sym}
 use Rattle.helpers.specs.Slots.{states_of}
-use Rattle.helper_asking.proofs.Steps.{asked_for-none}
-use Rattle.helper_asking.proofs.Fields.{asked_for-end, asked_for-next}
-use Rattle.helper_asking.proofs.rule.all_agree.Goals as goal
+use Rattle.helpers.proofs.Steps.{asked_for-none}
+use Rattle.helpers.proofs.Fields.{asked_for-end, asked_for-next}
+use Rattle.helpers.proofs.rule.all_agree.Goals as goal
 
 -- for no field no helper is asked
 pub loop-i-init : goal.loop-i-init

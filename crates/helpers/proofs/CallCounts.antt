@@ -9,8 +9,8 @@ use Rattle.go_rules.specs.declared.Colour.{Colour}
 use Rattle.go_rules.specs.Position.{BoardState}
 use Rattle.helpers.specs.Asking.{HelperState, SlotState, asked, has_name, named, slot_says, slot_asked, says_yes}
 use Rattle.helpers.specs.Asking.{change_first, after_asking}
-use Rattle.helper_asking.specs.Rule.{slot_on, is_on, asked_often, slot_asked_often, raised_from, raised}
-use Rattle.helper_asking.proofs.Times.{same_name, itself, bytes_eq-false}
+use Rattle.helpers.specs.Agreement.{slot_on, is_on, asked_often, slot_asked_often, raised_from, raised}
+use Rattle.helpers.proofs.Times.{same_name, itself, bytes_eq-false}
 
 -- one more call of the helper of a name, where it is on
 unfoldable pub one_more_of : List ℕ → Bool → (List ℕ → ℕ) → List ℕ → ℕ

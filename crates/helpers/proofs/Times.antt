@@ -4,7 +4,7 @@ use Rattle.std.specs.List.{list_all, list_any}
 use Rattle.std.specs.Str.{bytes_eq}
 use Rattle.std.proofs.lemmas.Bool.{and_parts, and_cases, or_cases, or_parts, true≢false, false_from_ne_true}
 use Rattle.std.proofs.lemmas.Slice.Eq.{bytes_eq-Decides}
-use Rattle.helper_asking.specs.Rule.{times_asked}
+use Rattle.helpers.specs.Agreement.{times_asked}
 
 -- a name that is compared as equal is the same
 pub same_name : (a b : List ℕ) → bytes_eq a b ≡ true → a ≡ b
