@@ -1,9 +1,5 @@
-use Rattle.go_rules.proofs.InWords.{is_boundary-is, neighbourhood_of-is, in_neighbourhood_on_board}
-use Rattle.go_rules.proofs.laws.boundaries_are_in_words.Goals as goal
-
--- the test of the boundary is the fact
-pub returns-clause-boundary : goal.returns-clause-boundary
-returns-clause-boundary c = is_boundary-is
+use Rattle.go_rules.proofs.InWords.{neighbourhood_of-is, in_neighbourhood_on_board}
+use Rattle.go_rules.proofs.laws.neighbourhoods_are_in_words.Goals as goal
 
 -- the test of the neighbourhood is the fact
 pub returns-clause-neighbourhood : goal.returns-clause-neighbourhood
