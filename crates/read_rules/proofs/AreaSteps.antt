@@ -4,7 +4,7 @@ use Rattle.std.proofs.Common.{refl, sym, subst, inl, inr}
 use Rattle.go_rules.specs.declared.Cell.{Cell}
 use Rattle.go_rules.specs.Strings.{is_in_string, IsInString}
 use Rattle.go_rules.specs.Neighbourhood.{whole_strings_of, neighbourhood_of}
-use Rattle.go_rules.proofs.Boundary.{is_in_string_on}
+use Rattle.go_rules.proofs.StringMembers.{is_in_string_on}
 use Rattle.go_rules.proofs.InWords.{neighbourhood_of-on_board}
 use Rattle.go_rules.proofs.Paths.{IsInString-from_test, is_is_in_string-from_fact}
 use Rattle.go_base.proofs.PointNeighbourhoods.{whole_self, whole_string, whole_cases, close_whole, close_next}
