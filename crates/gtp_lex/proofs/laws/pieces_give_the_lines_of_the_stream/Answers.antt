@@ -5,7 +5,7 @@ use Rattle.gtp_rules.specs.Lines.{Line}
 use Rattle.gtp_lex.specs.Held.{held_line, held_after, lines_from}
 use Rattle.gtp_lex.proofs.HeldLemmas.{lines_from-append, lines_of-lines_from, lines_with_rest-lines_from}
 use Rattle.gtp_lex.proofs.HeldLemmas.{lines_in_turn-concat, held_after-concat}
-use Rattle.gtp_lex.proofs.pieces_give_the_lines_of_the_stream.Goals as goal
+use Rattle.gtp_lex.proofs.laws.pieces_give_the_lines_of_the_stream.Goals as goal
 
 -- the lines taken piece by piece are those of the joined pieces
 pub returns-clause-lines : goal.returns-clause-lines

@@ -2,7 +2,7 @@
 use Rattle.std.proofs.lemmas.List.Splits.{join_with_byte-slice_split}
 use Rattle.gtp_rules.specs.Lines.{line_feed}
 use Rattle.gtp_rules.proofs.LineLemmas.{texts_of-rest_of}
-use Rattle.gtp_rules.proofs.lines_lose_nothing.Goals as goal
+use Rattle.gtp_rules.proofs.laws.lines_lose_nothing.Goals as goal
 
 -- a list that is cut at each line feed is given back when it is joined by them
 pub returns-clause-joined : goal.returns-clause-joined
