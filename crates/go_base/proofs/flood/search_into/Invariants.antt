@@ -5,7 +5,7 @@ use Rattle.go_rules.specs.Position.{BoardState}
 use Rattle.go_rules.specs.Neighbourhood.{neighbourhood_of}
 use Rattle.go_base.specs.Views.{Looks, anywhere, alone}
 use Rattle.go_base.proofs.BoundedSearches.{FloodsUnder}
-use Rattle.go_base.proofs.flood.search.Given as goal
+use Rattle.go_base.proofs.flood.search_into.Given as goal
 
 -- the stones that do not wait have their neighbours where they belong, or enough liberties were seen
 abbrev pub invariant-loop-q : goal.invariant-loop-q
