@@ -22,8 +22,8 @@ ghost use Rattle.dfa_match.specs.Rings.{ring_of};
 ghost use Rattle.dfa_match.specs.Steps.{AreSteps};
 ghost use Rattle.dfa_match.specs.Walks.{IsStanding, first_walks_of, second_walks_of};
 
-pub mod laws;
 mod cursor;
+pub mod laws;
 mod rings;
 mod scanner;
 mod sights;

@@ -20,25 +20,25 @@ loop-side-preserved g c =
     let i = c.loop-side.invariant in
     elim c.match-neighbour.branch [
       | in-Some w ↦
-        let here = λ (pos : BoardState) (a : Agrees (g.L.Look.seen c.loop-side.board.look) pos).
-        side_found pos.size l side w.in-Some.q (same_size (g.met.L.Look.sized c.loop-side.board.look) a
-        ∙ ap (λ x. x.size) i.stays.shown) c.requires c.size-size.ensures c.neighbour.ensures.value w.in-Some.is in
-        record {
-          stays = rw w.board-is (Stays-trans i.stays w.reach_of_side.ensures.stays);
-          near = λ pos a.
-              let a1 = rw w.board-is at a in
-              let a0 = agrees_before w.reach_of_side.ensures.stays.grows a1 in
-              rw w.board-is (side_looked (here pos a0) (i.near pos a0) w.reach_of_side.ensures.near);
-          over = λ pos a.
-              let a1 = rw w.board-is at a in
-              let a0 = agrees_before w.reach_of_side.ensures.stays.grows a1 in
-              let cells = (after pos c.args.board.now.moves).cells in
-              let one = w.reach_of_side.result in
-              let came = rw i.stays.moves at (w.reach_of_side.ensures.over pos a1) in
-              rw (w.reach-is, w.with-reach.ensures) (SoFar-next Nowhere (IsEmptySide pos.size cells l) side
-              c.loop-side.reach one (i.over pos a0)
-              (side_told pos.size cells l (here pos a0).on_board side w.in-Some.q one (here pos a0).at came));
-        }
+          let here = λ (pos : BoardState) (a : Agrees (g.L.Look.seen c.loop-side.board.look) pos).
+          side_found pos.size l side w.in-Some.q (same_size (g.met.L.Look.sized c.loop-side.board.look) a
+          ∙ ap (λ x. x.size) i.stays.shown) c.requires c.size-size.ensures c.neighbour.ensures.value w.in-Some.is in
+          record {
+            stays = rw w.board-is (Stays-trans i.stays w.reach_of_side.ensures.stays);
+            near = λ pos a.
+                let a1 = rw w.board-is at a in
+                let a0 = agrees_before w.reach_of_side.ensures.stays.grows a1 in
+                rw w.board-is (side_looked (here pos a0) (i.near pos a0) w.reach_of_side.ensures.near);
+            over = λ pos a.
+                let a1 = rw w.board-is at a in
+                let a0 = agrees_before w.reach_of_side.ensures.stays.grows a1 in
+                let cells = (after pos c.args.board.now.moves).cells in
+                let one = w.reach_of_side.result in
+                let came = rw i.stays.moves at (w.reach_of_side.ensures.over pos a1) in
+                rw (w.reach-is, w.with-reach.ensures) (SoFar-next Nowhere (IsEmptySide pos.size cells l) side
+                c.loop-side.reach one (i.over pos a0)
+                (side_told pos.size cells l (here pos a0).on_board side w.in-Some.q one (here pos a0).at came));
+          }
       | in_default w ↦ record {
         stays = rw w.board-is i.stays;
         near = λ pos a. rw w.board-is (i.near pos (rw w.board-is at a));
