@@ -24,9 +24,10 @@ import pathlib
 import re
 import shutil
 import subprocess
-import sys
 import tempfile
 from typing import Iterator, NamedTuple
+
+import command_line
 
 DOCUMENTS = ["README.md", "docs/FORMATS.md", "docs/USING.md", "docs/AUTHORS.md", "docs/LIBRARY.md", "docs/HELPERS.md"]
 MANUAL_PAGE = "docs/gopat.1"
@@ -112,9 +113,8 @@ def check_kinds(document: str) -> Iterator[str | None]:
 
 def check_manual_page() -> Iterator[str | None]:
     """None, or what `man` warns of in the manual page."""
-    done = subprocess.run(
-        ["man", "--warnings", "-E", "UTF-8", "-l", "-Tutf8", "-Z", MANUAL_PAGE], capture_output=True, text=True, check=False
-    )
+    command = ["man", "--warnings", "-E", "UTF-8", "-l", "-Tutf8", "-Z", MANUAL_PAGE]
+    done = subprocess.run(command, capture_output=True, text=True, check=False)
     yield None if done.returncode == 0 and not done.stderr else f"{MANUAL_PAGE}: {done.stderr}"
 
 
@@ -154,8 +154,8 @@ def check_map() -> Iterator[str | None]:
         yield f"{MAP}: {name} is no crate of {CRATES}"
 
 
-def main(documents: list[str]):
-    found: list[str | None] = []
+def main(*words: str) -> int:
+    documents, found = list(words) or DOCUMENTS, []
     if documents in (DOCUMENTS, ["--map"]):
         found += check_map()
     for document in documents if documents != ["--map"] else []:
@@ -169,8 +169,8 @@ def main(documents: list[str]):
         found += check_manual_page()
     wrong = [one for one in found if one]
     print("\n".join([*wrong, f"{len(found)} commands, quotes, examples and rows, {len(wrong)} of them differ"]))
-    sys.exit(1 if wrong else 0)
+    return 1 if wrong else 0
 
 
 if __name__ == "__main__":
-    main(sys.argv[1:] or DOCUMENTS)
+    command_line.run(main, __doc__)

@@ -1,4 +1,5 @@
-"""What a program takes: the processor's seconds, which other programs disturb less than those of the clock, and memory."""
+"""What a program takes: the processor's seconds, which other programs disturb less than those of the clock, and
+memory."""
 
 import resource
 import subprocess
@@ -20,7 +21,8 @@ def spent() -> float:
 
 
 def of(command: list[str], lines: Iterable[str] = ()) -> Cost:
-    """What a program takes that is given these lines. GNU time starts it, since the peak of Python's child is never below its own."""
+    """What a program takes that is given these lines. GNU time starts it, since the peak of Python's child is never
+    below its own."""
     with tempfile.NamedTemporaryFile("r") as kept, tempfile.TemporaryFile("w+") as given:
         given.writelines(f"{line}\n" for line in lines)
         given.seek(0)
