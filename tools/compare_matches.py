@@ -113,19 +113,35 @@ def stones_left(gopat: str, position: Position) -> list[sgf.Move]:
     return [sgf.Move("b" if mark == "X" else "w", vertex) for vertex, mark in stones.items()]
 
 
-def build(folder: pathlib.Path, room: pathlib.Path, database: pathlib.Path) -> pathlib.Path | None:
+# GNU Go's libraries, in its source after make.
+LIBRARIES = ["engine/libengine.a", "patterns/libpatterns.a", "engine/libboard.a", "sgf/libsgf.a", "utils/libutils.a"]
+
+
+class Build(NamedTuple):
+    """GNU Go's source after make, and a room whose headers come before its own."""
+
+    folder: pathlib.Path
+    room: pathlib.Path
+
+    def compile(self, files: list[pathlib.Path], made: pathlib.Path, names: list[str] = LIBRARIES):
+        """Compiles files and links GNU Go's libraries of these names."""
+        places = [self.room, *(self.folder / name for name in ("", "engine", "patterns", "utils", "sgf"))]
+        includes = [f"-I{place}" for place in places]
+        libraries = ["-Wl,--start-group", *(self.folder / name for name in names), "-Wl,--end-group"]
+        found = re.search(r"^LIBS = (.*)$", (self.folder / "Makefile").read_text(encoding="latin-1"), re.MULTILINE)
+        libraries += found[1].split() if found else ["-lm"]
+        options = ["-O2", "-w", "-fcommon", "-DHAVE_CONFIG_H"]
+        subprocess.run(["cc", *options, *includes, *files, "-o", made, *libraries], check=True)
+
+
+def matcher_of(folder: pathlib.Path, room: pathlib.Path, database: pathlib.Path) -> pathlib.Path | None:
     """GNU Go's matcher over a database, where its compiler of patterns takes it."""
     made, driver, matcher = room / "compared.c", room / "driver.c", room / "matcher"
     driver.write_text(DRIVER, encoding="ascii")
     command = [folder / "patterns/mkpat", "-b", "-i", database, "-o", made, "compared"]
     if subprocess.run(command, capture_output=True, check=False).returncode:
         return None
-    includes = [f"-I{folder / name}" for name in ("", "engine", "patterns", "utils", "sgf")]
-    names = ("engine/libengine.a", "patterns/libpatterns.a", "engine/libboard.a", "sgf/libsgf.a", "utils/libutils.a")
-    curses = ["-lcurses"] if "#define HAVE_CURSES_H 1" in (folder / "config.h").read_text(encoding="utf-8") else []
-    libraries = ["-Wl,--start-group", *(folder / name for name in names), "-Wl,--end-group", "-lm", *curses]
-    compiled = ["cc", "-O1", "-w", "-fcommon", "-DHAVE_CONFIG_H", *includes, driver, made, "-o", matcher, *libraries]
-    subprocess.run(compiled, check=True)
+    Build(folder, room).compile([driver, made], matcher)
     return matcher
 
 
@@ -181,7 +197,7 @@ def main(gopat: str, folder: str, patterns: str, records: str, wanted: str = "10
             totals += collections.Counter(listed=whole.listed, whole=count(whole.lists), files=1)
             database = room / path.name
             database.write_bytes(b"".join(entries))
-            matcher = build(pathlib.Path(folder).resolve(), room, database) if entries else None
+            matcher = matcher_of(pathlib.Path(folder).resolve(), room, database) if entries else None
             if not matcher:
                 print("; none compared")
                 continue

@@ -16,7 +16,6 @@ are the processor's, and of nine runs of each in turn the shortest and the middl
 import collections
 import pathlib
 import random
-import re
 import statistics
 import subprocess
 import tempfile
@@ -70,9 +69,8 @@ int main(void) {
 # How often each program is run, in turn.
 RUNS = 9
 
-# GNU Go's compiler of patterns, and its libraries.
+# GNU Go's compiler of patterns.
 COMPILER = ["mkpat.c", "transform.c", "dfa.c"]
-LIBRARIES = ["engine/libengine.a", "patterns/libpatterns.a", "engine/libboard.a", "sgf/libsgf.a", "utils/libutils.a"]
 
 
 def unlisted(entry: bytes) -> bytes:
@@ -93,22 +91,11 @@ def widened(folder: pathlib.Path, room: pathlib.Path):
         (room / path.name).write_text(text, encoding="latin-1")
 
 
-def compile_c(
-    folder: pathlib.Path, room: pathlib.Path, files: list[pathlib.Path], names: list[str], made: pathlib.Path
-):
-    """Compiles files, with the copied headers before GNU Go's own, and links GNU Go's libraries of these names."""
-    includes = [f"-I{room}", *(f"-I{folder / name}" for name in ("", "engine", "patterns", "utils", "sgf"))]
-    libraries = ["-Wl,--start-group", *(folder / name for name in names), "-Wl,--end-group"]
-    found = re.search(r"^LIBS = (.*)$", (folder / "Makefile").read_text(encoding="latin-1"), re.MULTILINE)
-    libraries += found[1].split() if found else ["-lm"]
-    options = ["-O2", "-w", "-fcommon", "-DHAVE_CONFIG_H"]
-    subprocess.run(["cc", *options, *includes, *files, "-o", made, *libraries], check=True)
-
-
 def compiled_by_gnugo(folder: pathlib.Path, room: pathlib.Path, database: pathlib.Path) -> cost.Cost:
     """Makes GNU Go's automaton of the entries, as C, and says what its compiler of patterns took."""
     widened(folder, room)
-    compile_c(folder, room, [room / name for name in COMPILER], ["utils/libutils.a"], room / "mkpat")
+    build = compare_matches.Build(folder, room)
+    build.compile([room / name for name in COMPILER], room / "mkpat", ["utils/libutils.a"])
     command = [room / "mkpat", "-D", "-m", "-b", "-i", database, "-o", room / "timed.c", "timed"]
     return cost.of([str(word) for word in command])
 
@@ -117,7 +104,7 @@ def matcher_of(folder: pathlib.Path, room: pathlib.Path) -> pathlib.Path:
     """GNU Go's matcher over that automaton."""
     (room / "driver.c").write_text(DRIVER, encoding="ascii")
     files = [room / "driver.c", room / "timed.c", folder / "engine/matchpat.c"]
-    compile_c(folder, room, files, LIBRARIES, room / "matcher")
+    compare_matches.Build(folder, room).compile(files, room / "matcher")
     return room / "matcher"
 
 
