@@ -22,7 +22,7 @@ ghost use Rattle.read_tree.specs.Walk.{IsReady, IsPointOf, AreLibertiesOf, OnEac
 ghost use Rattle.read_tree.specs.Walk.{LooksNear, LooksNearWhere, LooksNearOrAt};
 
 use crate::allowances::Allowances;
-use crate::apart::{all_but, copy_of};
+use crate::apart::all_but;
 use crate::bound::leaves_too_many;
 use crate::candidates::{captures_of, others_of};
 use crate::escape::escapes;
@@ -48,6 +48,7 @@ fn liberties_after<L: Look>(
     known: &PointSet,
 ) -> Option<PointSet>
     requires target { IsPointOf L.shows board.old turn.target }
+    requires on_board { IsPointOf L.shows board.old p }
     ensures stays { Stays L.shows L.seen board.old board.new }
     ensures over { OnEachAgreeing L.seen board.old board.new (λ here. IfSome result (IsCarried turn here p known.now)) }
     ensures near { AddsIn (L.seen board.old.look) (L.seen board.new.look) (alone turn.target) }
@@ -55,6 +56,7 @@ fn liberties_after<L: Look>(
     if !turn.attacker_to_play || board.cell(turn.target) != stone_of(turn.defender) {
         return None;
     }
+    let _ = board.size().points();
     Some(all_but(known, p))
 }
 
@@ -329,7 +331,7 @@ pub fn pass_saves<L: Look>(
         return Allowances::none();
     }
     board.pass();
-    let good = has_way(board, turn, plies, asked, Some(copy_of(known)), memory);
+    let good = has_way(board, turn, plies, asked, Some(known.copied()), memory);
     board.back();
     good
 }
