@@ -4,7 +4,7 @@ ghost use Rattle.std.specs.Prelude.{◌≡◌, ◌<◌, ◌*◌, ◌&&◌, ◌++
 ghost use Rattle.std.specs.List.{list_any};
 ghost use Rattle.std.specs.Str.{bytes_eq};
 ghost use Rattle.helpers.specs.Asking.{SlotState};
-ghost use Rattle.helpers.specs.Slots.{states_of};
+ghost use Rattle.helpers.specs.Slots.{listed};
 ghost use Rattle.helpers.specs.Fields.{names_helper as is_helper_name, helper_names};
 ghost use Rattle.helpers.specs.Agreement.{all_say_yes, asks_of, raised, IsAskedFor};
 
@@ -23,11 +23,11 @@ pub fn all_agree(
     friend: Colour,
 ) -> bool
     requires { at < pos.now.size * pos.now.size }
-    ensures answer { result ≡ all_say_yes (states_of state helpers.old) (helper_names items.now) pos.now at friend }
-    ensures calls { states_of state helpers.new
+    ensures answer { result ≡ all_say_yes (listed state helpers.old) (helper_names items.now) pos.now at friend }
+    ensures calls { listed state helpers.new
         ≡ raised
-        (asks_of (states_of state helpers.old) (helper_names items.now) pos.now at friend)
-        (states_of state helpers.old) }
+        (asks_of (listed state helpers.old) (helper_names items.now) pos.now at friend)
+        (listed state helpers.old) }
 {
     for (i, item) in items.iter().enumerate() {
         if !agrees(helpers, &items[..i], item, pos, at, friend) {
@@ -48,10 +48,10 @@ fn agrees(
 ) -> bool
     requires { at < pos.now.size * pos.now.size }
     ensures { (slots : List SlotState)
-        → states_of state helpers.old ≡ raised (asks_of slots (helper_names before.now) pos.now at friend) slots
+        → listed state helpers.old ≡ raised (asks_of slots (helper_names before.now) pos.now at friend) slots
         → all_say_yes slots (helper_names before.now) pos.now at friend ≡ true
         → IsAskedFor slots (helper_names (before.now ++ item.now ∷ [])) pos.now at friend result
-        (states_of state helpers.new) }
+        (listed state helpers.new) }
 {
     if names_anew(before, item) {
         helpers.decide(item.name.as_slice(), pos, at, friend)

@@ -1,7 +1,7 @@
 -- The helper that the field names anew is asked, and no other.
 use Rattle.std.proofs.Common.{sym, ◌∙◌}
 use Rattle.helpers.proofs.Fields.{asked_for-anew, asked_for-passed}
-use Rattle.helpers.proofs.rule.agrees.Goals as goal
+use Rattle.helpers.proofs.agreement.agrees.Goals as goal
 
 -- a field that names a helper anew asks it, and what it says is the answer
 pub returns-then-names_anew : goal.returns-then-names_anew

@@ -3,7 +3,7 @@ use Rattle.std.proofs.Common.{sym}
 use Rattle.helpers.specs.Slots.{states_of}
 use Rattle.helpers.proofs.Steps.{asked_for-none}
 use Rattle.helpers.proofs.Fields.{asked_for-end, asked_for-next}
-use Rattle.helpers.proofs.rule.all_agree.Goals as goal
+use Rattle.helpers.proofs.agreement.all_agree.Goals as goal
 
 -- for no field no helper is asked
 pub loop-i-init : goal.loop-i-init

@@ -4,7 +4,7 @@ use Rattle.std.specs.Str.{bytes_eq}
 use Rattle.gtp_cmd.specs.CodeRows.{row_seen}
 use Rattle.gtp_cmd.specs.Words.{kept}
 use Rattle.gtp_cmd.proofs.RowLemmas.{find-seen}
-use Rattle.gtp_cmd.proofs.commands.command_in.Goals as goal
+use Rattle.gtp_cmd.proofs.rows.command_in.Goals as goal
 
 -- a row of the code is seen with its command and its word
 pub returns : goal.returns

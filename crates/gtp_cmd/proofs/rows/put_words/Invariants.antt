@@ -1,7 +1,7 @@
 use Rattle.std.proofs.Common.{◌≡◌, ◌∷◌, ◌++◌, take}
 use Rattle.std.specs.List.{flat_map}
 use Rattle.gtp_cmd.specs.Words.{line_feed}
-use Rattle.gtp_cmd.proofs.commands.put_words.Given as goal
+use Rattle.gtp_cmd.proofs.rows.put_words.Given as goal
 
 -- the words of the rows so far were put
 abbrev pub invariant-loop-row : goal.invariant-loop-row
