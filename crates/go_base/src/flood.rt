@@ -31,7 +31,7 @@ pub struct Found {
 
 /// Nothing found yet.
 #[inline(always)]
-fn nothing_found() -> Found
+pub(crate) fn nothing_found() -> Found
     ensures stones { result.stones ≡ set.empty }
     ensures liberties { result.liberties ≡ set.empty }
     ensures enemies { result.enemies ≡ set.empty }
@@ -157,7 +157,7 @@ fn next_stone(waiting: &mut PointSet, seen: u16, most: u16) -> Option<Point>
 }
 
 /// Searches as `search` does, and writes what it finds where it stays. Nothing stands there before.
-fn search_into<V: View>(board: &mut V, p: Point, most: u16, found: &mut Found)
+pub(crate) fn search_into<V: View>(board: &mut V, p: Point, most: u16, found: &mut Found)
     requires on_board { p < V.rows board.old * V.rows board.old }
     requires stones { found.old.stones ≡ set.empty }
     requires liberties { found.old.liberties ≡ set.empty }

@@ -22,6 +22,7 @@ ghost use Rattle.read_tree.specs.Walk.{IsPointOf, AreLibertiesOf, OnEachAgreeing
 use crate::allowances::Allowances;
 use crate::bound::has_too_many;
 use crate::memory::Memory;
+use crate::outlook::liberties_within;
 use crate::report::Report;
 use crate::table::{Entry, empty_table};
 use crate::tree::{pass_saves, succeeds};
@@ -189,7 +190,7 @@ fn read_on<L: Look>(board: &mut Trial<L>, question: &ReadingQuestion) -> Answer
         (alone question.now.target)) }
 {
     let turn = first_turn(question);
-    let known = board.liberties(turn.target);
+    let known = liberties_within(board, turn, question.plies);
     if has_too_many(turn, question.plies, &known) {
         return unread(turn.attacker_to_play);
     }
