@@ -62,14 +62,7 @@ fn pass_told<L: Look>(
     if turn.attacker_to_play {
         return Told::Never;
     }
-    told_by(pass_saves(
-        board,
-        turn,
-        plies,
-        Allowances::all(),
-        known,
-        memory,
-    ))
+    told_by(pass_saves(board, turn, plies, Allowances::all(), known, memory))
 }
 
 /// What they tell of a play at p.
@@ -90,15 +83,7 @@ fn play_told<L: Look>(
     ensures table { IsTrueTable (L.seen board.new.look) turn.target turn.defender memory.new.table.now }
     ensures told { IsTold result (λ ko. succeeds plies (under turn ko) (position_on L.shows board.old) p) }
 {
-    told_by(succeeds(
-        board,
-        turn,
-        p,
-        plies,
-        Allowances::all(),
-        known,
-        memory,
-    ))
+    told_by(succeeds(board, turn, p, plies, Allowances::all(), known, memory))
 }
 
 /// The first candidate in reading order that gives the side to play its way under each allowance, where none before it

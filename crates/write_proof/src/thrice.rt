@@ -50,14 +50,7 @@ pub fn write_part<L: Look>(
 {
     let won = claim_under(question, 0, 3);
     put_word(out, letter(won))?;
-    write_alike(
-        board,
-        turn_of(question),
-        question.plies,
-        won,
-        memory,
-        out,
-    )
+    write_alike(board, turn_of(question), question.plies, won, memory, out)
 }
 
 /// Puts a part three times behind a text.

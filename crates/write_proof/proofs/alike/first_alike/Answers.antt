@@ -1,10 +1,9 @@
-use Rattle.std.proofs.Common.{◌≡◌, ◌∙◌, ◌*◌, ◌<◌, ℕ, true, false, ap, sym, subst, Option, Some, IfSome, rules}
+use Rattle.std.proofs.Common.{◌≡◌, ◌∙◌, ◌*◌, ◌<◌, ℕ, true, false, sym, subst, Option, Some, IfSome, rules}
 use Rattle.go_base.specs.Facts.{Agrees, agrees_before}
 use Rattle.go_rules.specs.Position.{BoardState}
 use Rattle.go_rules.specs.Strings.{liberty_points}
 use Rattle.trial_board.specs.Trials.{after}
 use Rattle.read_rules.specs.GameTree.{pass_saves, first_success}
-use Rattle.read_rules.specs.GoodMoves.{IsOnBoard}
 use Rattle.read_tree.specs.Allowances.{Ko, under}
 use Rattle.read_tree.proofs.NodeLemmas.{first_pass, first_point}
 use Rattle.read_tree.proofs.TableLemmas.{table_more}

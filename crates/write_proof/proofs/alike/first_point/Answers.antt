@@ -1,4 +1,4 @@
-use Rattle.std.proofs.Common.{◌≡◌, ◌∙◌, ◌+◌, ◌*◌, ◌<◌, ◌&&◌, ℕ, true, false, List, ap, sym, subst, inl, inr, arith, rules}
+use Rattle.std.proofs.Common.{◌≡◌, ◌∙◌, ◌*◌, ◌<◌, ◌&&◌, ℕ, true, false, List, ap, sym, subst, inl, inr, arith, rules}
 use Rattle.std.specs.FinSet as set
 use Rattle.std.proofs.lemmas.Bool.{cases_eq}
 use Rattle.go_base.specs.Facts.{Agrees, agrees_before, Grows-trans}
@@ -13,9 +13,7 @@ use Rattle.read_rules.proofs.CandidateLaws.{candidate_on}
 use Rattle.read_rules.proofs.WinLemmas.{none_before, first_success-found}
 use Rattle.read_tree.specs.Allowances.{under}
 use Rattle.read_tree.proofs.TableLemmas.{table_more}
-use Rattle.write_proof.specs.declared.alike.Told.{Told}
 use Rattle.write_proof.specs.Printed.{position_on}
-use Rattle.write_proof.specs.Alike.{IsTold}
 use Rattle.write_proof.proofs.WriteLemmas.{here_stays}
 use Rattle.write_proof.proofs.alike.first_point.Goals as goal
 

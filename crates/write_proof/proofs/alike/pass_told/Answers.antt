@@ -1,6 +1,5 @@
 use Rattle.std.proofs.Common.{ap, sym, subst}
 use Rattle.go_base.specs.Facts.{Agrees}
-use Rattle.trial_board.specs.Trials.{after}
 use Rattle.read_rules.specs.GameTree.{pass_saves}
 use Rattle.read_tree.specs.Allowances.{has, has_some, under}
 use Rattle.read_tree.proofs.NodeLemmas.{no_pass}

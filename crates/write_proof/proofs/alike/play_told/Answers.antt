@@ -1,6 +1,5 @@
 use Rattle.std.proofs.Common.{ap, subst}
 use Rattle.go_base.specs.Facts.{Agrees}
-use Rattle.trial_board.specs.Trials.{after}
 use Rattle.read_rules.specs.GameTree.{succeeds}
 use Rattle.read_tree.specs.Allowances.{has, has_some, under}
 use Rattle.write_proof.specs.Printed.{position_on}

@@ -1,6 +1,6 @@
 -- What is written for all three allowances at once is the first proof under each of them.
-use Rattle.std.proofs.Common.{◌≡◌, ◌∙◌, ◌+◌, ◌-◌, ◌*◌, ◌<◌, ◌≤◌, ◌++◌, ℕ, length, true, false, List, [], ◌∷◌, ap, sym, refl, subst}
-use Rattle.std.proofs.Common.{inl, inr, codes, append_assoc, rules, Bool, Err, Ok, Option, None, Some, IfSome}
+use Rattle.std.proofs.Common.{◌≡◌, ◌∙◌, ◌+◌, ◌-◌, ◌*◌, ◌<◌, ◌≤◌, ◌++◌, ℕ, length, true, List, [], ◌∷◌, ap, sym, refl, subst}
+use Rattle.std.proofs.Common.{inl, inr, codes, append_assoc, rules, Bool, Err, Option, None, Some, IfSome}
 use Rattle.std.specs.List.{filter_map, filter, range_with_len}
 use Rattle.std.specs.Option.{option_to_list}
 use Rattle.go_base.specs.Facts.{Agrees, Grows-trans}
@@ -19,7 +19,7 @@ use Rattle.read_rules.proofs.CandidateLaws.{candidate_on}
 use Rattle.read_tree.specs.Allowances.{Ko, neither_may, under, next_turn}
 use Rattle.read_tree.proofs.AllowanceLemmas.{next_keeps}
 use Rattle.read_tree.proofs.TableLemmas.{table_more}
-use Rattle.read_proof.specs.Proves.{pass_children, play_children, is_settled, is_wanted}
+use Rattle.read_proof.specs.Proves.{pass_children, play_children, is_wanted}
 use Rattle.read_proof.specs.FirstProof.{write_each, write_move, move_word, first_words}
 use Rattle.write_proof.specs.Printed.{behind_blanks, most_bytes, Puts, position_on}
 use Rattle.write_proof.proofs.PutLemmas.{puts_both, puts_up, puts_same, dot_words, move_words, each_words, walk_words}
@@ -269,9 +269,10 @@ write_alike-returns-then-plies-eq0-clause-puts g t c = λ same ko.
 
 -- the target is on the board
 pub write_alike-is_settled-requires : goal.write_alike-is_settled-requires
-write_alike-is_settled-requires g t c =
-    subst (λ (m : Node). m.target < (g.L.Look.shows c.args.board.now.look).size
-    * (g.L.Look.shows c.args.board.now.look).size) (sym c.node_of-node.ensures) c.requires.target
+write_alike-is_settled-requires g t c = record {
+  target = subst (λ (m : Node). m.target < (g.L.Look.shows c.args.board.now.look).size
+      * (g.L.Look.shows c.args.board.now.look).size) (sym c.node_of-node.ensures) c.requires.target;
+}
 
 -- the claim is settled
 pub write_alike-returns-then-is_settled-clause-puts : goal.write_alike-returns-then-is_settled-clause-puts

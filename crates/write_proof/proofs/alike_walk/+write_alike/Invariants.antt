@@ -1,4 +1,4 @@
-use Rattle.std.proofs.Common.{◌≡◌, ℕ, ◌+◌, ◌-◌, ◌*◌, ◌≤◌, ◌++◌, length}
+use Rattle.std.proofs.Common.{◌≡◌, ◌+◌, ◌-◌, ◌*◌, ◌≤◌, ◌++◌, length}
 use Rattle.std.specs.List.{filter_map, filter, range_with_len}
 use Rattle.go_rules.specs.Board.{largest_points}
 use Rattle.trial_board.specs.Trials.{Stays}
