@@ -32,7 +32,7 @@ use Rattle.read_rules.proofs.WinLemmas.{first_success-found, first_success-none}
 use Rattle.read_rules.proofs.AnswerLemmas.{attained_by, answer_best, about_stands}
 
 -- a code from 1 to 3 is one of them
-data IsCode : ℕ → Type 0 where
+pub data IsCode : ℕ → Type 0 where
   one : IsCode 1
   two : IsCode 2
   three : IsCode 3
@@ -352,7 +352,7 @@ module _ (n : ℕ) (turn : Turn) (here : BoardState) where
       off false c s e = refl
 
 -- The best of all moves at the first turn of a question is its answer.
-node_is : (q : ReadingQuestion) (code : ℕ) → IsCode code → node_of (first_turn q) code ≡ first_node q code
+pub node_is : (q : ReadingQuestion) (code : ℕ) → IsCode code → node_of (first_turn q) code ≡ first_node q code
 node_is q code c = by q.kind code c
   where
     by : (kind : Kind) (code : ℕ) → IsCode code → let q' : ReadingQuestion =

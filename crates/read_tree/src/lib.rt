@@ -13,7 +13,7 @@ mod apart;
 mod bound;
 mod candidates;
 mod escape;
-mod making;
+pub mod making;
 pub mod memory;
 pub mod nodes;
 mod order;
@@ -21,7 +21,7 @@ mod outlook;
 pub mod reading;
 pub mod report;
 pub mod table;
-mod tree;
+pub mod tree;
 pub mod turn;
 
 pub use allowances::Allowances;

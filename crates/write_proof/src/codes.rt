@@ -17,7 +17,7 @@ use read_tree::memory::Memory;
 use trial_board::Trial;
 
 /// The letter of a claim.
-fn letter(won: bool) -> &'static [u8]
+pub fn letter(won: bool) -> &'static [u8]
     ensures { result.now ≡ letter_of won }
 {
     if won { b"W" } else { b"N" }

@@ -4,10 +4,13 @@
 //! asked which move is the first that will do. `docs/PROOFS_OF_READINGS.md` explains a proof word by word.
 #![tactic(auto)]
 
+mod alike;
+mod alike_walk;
 mod codes;
 mod first;
 mod settled;
 mod text;
+mod thrice;
 mod walk;
 
 pub use first::{Proof, first_proof};

@@ -25,7 +25,7 @@ pub enum ProofError {
 }
 
 /// Puts bytes behind a text, where there is room for them.
-fn put(out: &mut Bytes, more: &[u8]) -> Result<(), ProofError>
+pub fn put(out: &mut Bytes, more: &[u8]) -> Result<(), ProofError>
     requires { length out.old ≤ most_bytes }
     ensures { Puts out.old more.now out.new result }
 {

@@ -1,0 +1,375 @@
+-- What is written for all three allowances at once is the first proof under each of them.
+use Rattle.std.proofs.Common.{◌≡◌, ◌∙◌, ◌+◌, ◌-◌, ◌*◌, ◌<◌, ◌≤◌, ◌++◌, ℕ, length, true, List, [], ◌∷◌, ap, sym, refl, subst}
+use Rattle.std.proofs.Common.{inl, inr, codes, append_assoc, rules, Bool, Err, Option, None, Some, IfSome}
+use Rattle.std.specs.List.{filter_map, filter, range_with_len}
+use Rattle.std.specs.Option.{option_to_list}
+use Rattle.go_base.specs.Facts.{Agrees, Grows-trans}
+use Rattle.go_rules.specs.Position.{BoardState}
+use Rattle.go_rules.specs.Play.{pass}
+use Rattle.trial_board.specs.declared.moves.TrialMove.{TrialMove}
+use Rattle.trial_board.specs.Trials.{after}
+use Rattle.trial_board.proofs.AfterLemmas.{size-after}
+use Rattle.read_rules.specs.declared.node.Node.{Node}
+use Rattle.read_rules.specs.Candidates.{is_candidate}
+use Rattle.read_rules.specs.declared.question.Spot.{Spot}
+use Rattle.read_rules.specs.declared.question.Spot.TheVariants.{At, Pass}
+use Rattle.read_rules.specs.GameTree.{child_of, first_move}
+use Rattle.read_rules.specs.GoodMoves.{IsOnBoard}
+use Rattle.read_rules.proofs.CandidateLaws.{candidate_on}
+use Rattle.read_tree.specs.Allowances.{Ko, neither_may, under, next_turn}
+use Rattle.read_tree.proofs.AllowanceLemmas.{next_keeps}
+use Rattle.read_tree.proofs.TableLemmas.{table_more}
+use Rattle.read_proof.specs.Proves.{pass_children, play_children, is_wanted}
+use Rattle.read_proof.specs.FirstProof.{write_each, write_move, move_word, first_words}
+use Rattle.write_proof.specs.Printed.{behind_blanks, most_bytes, Puts, position_on}
+use Rattle.write_proof.proofs.PutLemmas.{puts_both, puts_up, puts_same, dot_words, move_words, each_words, walk_words}
+use Rattle.write_proof.proofs.PutLemmas.{walk_written}
+use Rattle.write_proof.proofs.WriteLemmas.{here_stays, nothing_put, play_written, refused_written, no_pass_written}
+use Rattle.write_proof.proofs.WriteLemmas.{pass_written, move_written, move_refused, play_child, pass_child, all_left}
+use Rattle.write_proof.proofs.AlikeLemmas.{puts_up_told, yes_told, settled_alike}
+use Rattle.write_proof.proofs.alike_walk.+write_alike.Goals as goal
+
+-- the attacker does not pass
+pub alike_pass-returns-then-turn-clause-puts : goal.alike_pass-returns-then-turn-clause-puts
+alike_pass-returns-then-turn-clause-puts g t c = λ same ko.
+    nothing_put c.args.out.now _ (no_pass_written c.args.plies c.args.won (under c.args.turn ko)
+    (position_on g.L.Look.shows c.args.board.now) c.if-turn.true) c.requires.bytes
+
+-- the defender does, and the allowances stay
+pub alike_pass-returns-clause-puts : goal.alike_pass-returns-clause-puts
+alike_pass-returns-clause-puts g t c = λ same ko.
+    let here = position_on g.L.Look.shows c.args.board.now in
+    pass_written c.args.plies c.args.won (under c.args.turn ko) here c.args.out.now
+    c.write_alike-done.new.out c.write_alike-done.result c.if-turn.false
+    (subst (λ (m : Node). Puts c.args.out.now (behind_blanks (first_words c.args.plies c.args.won m (pass here)))
+    c.write_alike-done.new.out c.write_alike-done.result) (sym (next_keeps c.args.turn ko))
+    (rw (c.pass.ensures, c.next.ensures) at (c.write_alike-done.ensures.puts same ko)))
+
+-- the play is legal, and the allowances stay
+pub alike_play-returns-in-Legal-clause-puts : goal.alike_play-returns-in-Legal-clause-puts
+alike_play-returns-in-Legal-clause-puts g t c = λ same ko.
+    let shown = g.L.Look.shows c.args.board.now.look in
+    let agrees = subst (Agrees (g.L.Look.seen c.make.new.board.look)) c.make.ensures.shown
+    (g.met.L.Look.holds c.make.new.board.look) in
+    let next = under (next_turn c.args.turn) ko in
+    play_written c.args.plies c.args.won (under c.args.turn ko) (position_on g.L.Look.shows c.args.board.now) c.args.p
+    (Some next) next (after shown c.make.new.board.moves) c.args.out.now c.write_alike-done.new.out
+    c.write_alike-done.result ((rw c.in-Legal.is at (c.make.ensures.over shown agrees)) ko) refl
+    (subst (λ (p : BoardState). Puts c.args.out.now (behind_blanks (first_words c.args.plies c.args.won next
+    (after p c.make.new.board.moves))) c.write_alike-done.new.out c.write_alike-done.result) c.make.ensures.shown
+    (rw c.next.ensures at (c.write_alike-done.ensures.puts same ko)))
+
+-- the ban alone forbids it, and the allowances differ
+pub alike_play-returns-in-Allowed-clause-puts : goal.alike_play-returns-in-Allowed-clause-puts
+alike_play-returns-in-Allowed-clause-puts g t c = λ same ko. absurd (same refl)
+
+-- it cannot be made
+pub alike_play-returns-in-Not-clause-puts : goal.alike_play-returns-in-Not-clause-puts
+alike_play-returns-in-Not-clause-puts g t c = λ same ko.
+    let shown = g.L.Look.shows c.args.board.now.look in
+    let agrees = subst (Agrees (g.L.Look.seen c.make.new.board.look)) c.make.ensures.shown
+    (g.met.L.Look.holds c.make.new.board.look) in
+    nothing_put c.args.out.now _ (refused_written c.args.plies c.args.won (under c.args.turn ko)
+    (position_on g.L.Look.shows c.args.board.now) c.args.p None (after shown c.make.new.board.moves)
+    ((rw c.in-Not.is at (c.make.ensures.over shown agrees)) ko (λ own. refl)) refl) c.requires.bytes
+
+-- a candidate is on the board
+candidate_inside : (shown : BoardState) (moves : List TrialMove) (target wide p : ℕ)
+    → is_candidate (after shown moves) target wide p ≡ true → p < shown.size * shown.size
+candidate_inside shown moves target wide p h =
+    subst (λ n. p < n * n) (size-after shown moves) (candidate_on (after shown moves) target wide p h)
+
+-- everything is left to write
+pub alike_plays-plays-init : goal.alike_plays-plays-init
+alike_plays-plays-init g t c =
+    let here = position_on g.L.Look.shows c.args.board.now in
+    record {
+      stays = c.candidates-candidates.ensures.stays;
+      table = table_more c.requires.table c.candidates-candidates.ensures.stays.grows;
+      text = λ ko. all_left (first_words c.args.plies c.args.won) (child_of (under c.args.turn ko) here)
+          (is_candidate here c.args.turn.target c.args.turn.wide) (here.size * here.size) c.args.out.now;
+      bytes = c.requires.bytes;
+    }
+
+-- the next candidate and the target are on the board
+pub alike_plays-alike_play-requires : goal.alike_plays-alike_play-requires
+alike_plays-alike_play-requires g t c κs within =
+    let inside = candidate_inside (g.L.Look.shows c.args.board.now.look) c.args.board.now.moves c.args.turn.target
+    c.args.turn.wide c.in-Some.p (sym (c.candidates-candidates.ensures.answer c.in-Some.p)
+    ∙ c.in-Some.ensures.some.2) in
+    let i = c.plays.invariant in
+    let still : (p : ℕ) → p < (g.L.Look.shows c.args.board.now.look).size * (g.L.Look.shows c.args.board.now.look).size
+    → p < (g.L.Look.shows c.plays.board.look).size * (g.L.Look.shows c.plays.board.look).size =
+    λ p h. subst (λ (pos : BoardState). p < pos.size * pos.size) (sym i.stays.shown) h in
+    let on = still c.in-Some.p inside in
+    let target = still c.args.turn.target c.requires.target in
+    search rules
+
+-- there is no room for the proof after the next play
+pub alike_plays-returns-in_err-alike-clause-puts : goal.alike_plays-returns-in_err-alike-clause-puts
+alike_plays-returns-in_err-alike-clause-puts g t c = λ same ko.
+    let here = position_on g.L.Look.shows c.args.board.now in
+    let node = under c.args.turn ko in
+    let write = first_words c.args.plies c.args.won in
+    let found = c.in-Some.ensures.some in
+    let play = behind_blanks (write_each write (option_to_list (child_of node here c.in-Some.p))) in
+    let rest = behind_blanks (write_each write (filter_map (child_of node here)
+    (filter (is_candidate here c.args.turn.target c.args.turn.wide)
+    (range_with_len (c.in-Some.p + 1) (here.size * here.size - (c.in-Some.p + 1)))))) in
+    puts_same c.plays.out c.args.out.now c.alike_play.new.out (play ++ rest) _ c.from_residual.result
+    (sym (ap (λ m. c.plays.out ++ m) (walk_words write (child_of node here)
+    (is_candidate here c.args.turn.target c.args.turn.wide) (here.size * here.size) c.plays.from c.in-Some.p found.0
+    (candidate_on here c.args.turn.target c.args.turn.wide c.in-Some.p
+    (sym (c.candidates-candidates.ensures.answer c.in-Some.p) ∙ found.2))
+    (sym (c.candidates-candidates.ensures.answer c.in-Some.p) ∙ found.2)
+    (λ k lo hi. sym (c.candidates-candidates.ensures.answer k) ∙ found.3 k lo hi)))
+    ∙ c.plays.invariant.text ko)
+    (puts_up_told c.plays.out c.alike_play.new.out c.alike_play.new.out play rest c.in_err-alike.field-0.0
+    c.from_residual.result c.from_residual.ensures.1
+    (subst (λ (p : BoardState). Puts {T = Bool} c.plays.out (behind_blanks (write_each write
+    (option_to_list (child_of node p c.in-Some.p)))) c.alike_play.new.out (Err c.in_err-alike.field-0.0))
+    (here_stays g.L.Look.shows g.L.Look.seen c.args.board.now c.plays.board c.plays.invariant.stays)
+    (c.in_err-alike.ensures.puts (λ e. cc) ko)))
+
+-- the proofs after the next play differ
+pub alike_plays-returns-then-not-alike-clause-puts : goal.alike_plays-returns-then-not-alike-clause-puts
+alike_plays-returns-then-not-alike-clause-puts g t c = λ same ko. absurd (same refl)
+
+-- what is written behind the next candidate, and what is left
+pub alike_plays-plays-preserved : goal.alike_plays-plays-preserved
+alike_plays-plays-preserved g t c =
+    let here = position_on g.L.Look.shows c.args.board.now in
+    let write = first_words c.args.plies c.args.won in
+    let i = c.plays.invariant in
+    let found = c.in-Some.ensures.some in
+    let puts = c.in_ok-alike.ensures.puts (yes_told c.in_ok-alike.alike c.if-not-alike.false) in
+    record {
+      stays = record {
+        moves = c.in_ok-alike.ensures.stays.moves ∙ i.stays.moves;
+        shown = c.in_ok-alike.ensures.stays.shown ∙ i.stays.shown;
+        grows = Grows-trans i.stays.grows c.in_ok-alike.ensures.stays.grows;
+      };
+      table = c.in_ok-alike.ensures.table;
+      text = λ ko.
+          let node = under c.args.turn ko in
+          let play = behind_blanks (write_each write (option_to_list (child_of node here c.in-Some.p))) in
+          let rest = behind_blanks (write_each write (filter_map (child_of node here)
+          (filter (is_candidate here c.args.turn.target c.args.turn.wide)
+          (range_with_len (c.in-Some.p + 1) (here.size * here.size - (c.in-Some.p + 1)))))) in
+          let put = subst (λ (p : BoardState). c.alike_play.new.out ≡ c.plays.out ++ behind_blanks (write_each write
+          (option_to_list (child_of node p c.in-Some.p))))
+          (here_stays g.L.Look.shows g.L.Look.seen c.args.board.now c.plays.board i.stays) (puts ko).0 in
+          ap (λ m. m ++ rest) put
+          ∙ append_assoc c.plays.out play rest
+          ∙ sym (ap (λ m. c.plays.out ++ m) (walk_words write (child_of node here)
+          (is_candidate here c.args.turn.target c.args.turn.wide) (here.size * here.size) c.plays.from c.in-Some.p
+          found.0 (candidate_on here c.args.turn.target c.args.turn.wide c.in-Some.p
+          (sym (c.candidates-candidates.ensures.answer c.in-Some.p) ∙ found.2))
+          (sym (c.candidates-candidates.ensures.answer c.in-Some.p) ∙ found.2)
+          (λ k lo hi. sym (c.candidates-candidates.ensures.answer k) ∙ found.3 k lo hi)))
+          ∙ i.text ko;
+      bytes = (puts neither_may).1;
+    }
+
+-- nothing is left
+pub alike_plays-returns-clause-puts : goal.alike_plays-returns-clause-puts
+alike_plays-returns-clause-puts g t c = λ same ko.
+    let here = position_on g.L.Look.shows c.args.board.now in (
+      walk_written (first_words c.args.plies c.args.won) (child_of (under c.args.turn ko) here)
+          (is_candidate here c.args.turn.target c.args.turn.wide) (here.size * here.size - c.plays.from) c.plays.from
+          c.plays.out _ (λ k lo. sym (c.candidates-candidates.ensures.answer k) ∙ c.in_default.ensures.none k lo)
+          (c.plays.invariant.text ko),
+      c.plays.invariant.bytes,
+    )
+
+-- the first move is on the board
+pub alike_move-put_move-requires-clause-on_board : goal.alike_move-put_move-requires-clause-on_board
+alike_move-put_move-requires-clause-on_board g t c =
+    subst (λ n. IsOnBoard n c.in-Some.spot)
+    (sym (c.size.ensures ∙ ap (λ (p : BoardState). p.size) c.first_alike.ensures.stays.shown))
+    (subst (λ (o : Option Spot). IfSome o (IsOnBoard (g.L.Look.shows c.args.board.now.look).size)) c.in-Some.is
+    c.first_alike.ensures.on_board)
+
+-- and so is its point
+pub alike_move-alike_play-requires : goal.alike_move-alike_play-requires
+alike_move-alike_play-requires g t c κs within =
+    let on : c.in-At.p < (g.L.Look.shows c.first_alike.new.board.look).size
+    * (g.L.Look.shows c.first_alike.new.board.look).size =
+    subst (λ (pos : BoardState). c.in-At.p < pos.size * pos.size) (sym c.first_alike.ensures.stays.shown)
+    (subst (λ (o : Option Spot). IfSome o (IsOnBoard (g.L.Look.shows c.args.board.now.look).size))
+    (c.in-Some.is ∙ ap Some c.in-At.is) c.first_alike.ensures.on_board) in
+    search rules
+
+-- no move is the first under each allowance
+pub alike_move-returns-in-None-clause-puts : goal.alike_move-returns-in-None-clause-puts
+alike_move-returns-in-None-clause-puts g t c = λ same ko. absurd (same refl)
+
+-- there is no room for its word
+pub alike_move-returns-in_err-put_move-in-Some-clause-puts : goal.alike_move-returns-in_err-put_move-in-Some-clause-puts
+alike_move-returns-in_err-put_move-in-Some-clause-puts g t c = λ same ko.
+    let here = position_on g.L.Look.shows c.args.board.now in
+    let first = subst (λ (o : Option Spot). IfSome o (λ (spot : Spot). (ko : Ko)
+    → Some spot ≡ first_move c.args.plies (under c.args.turn ko) here)) c.in-Some.is c.first_alike.ensures.first in
+    move_refused c.args.plies c.args.won (under c.args.turn ko) here c.size.result
+    c.in-Some.spot c.args.out.now c.put_move.new.out c.put_move.new.out c.in_err-put_move-in-Some.field-0.0
+    c.from_residual.result
+    (c.size.ensures ∙ ap (λ (p : BoardState). p.size) c.first_alike.ensures.stays.shown
+    ∙ sym (size-after (g.L.Look.shows c.args.board.now.look) c.args.board.now.moves))
+    (first ko) c.from_residual.ensures.1 c.in_err-put_move-in-Some.ensures
+
+-- it is a play
+pub alike_move-returns-in-At-clause-puts : goal.alike_move-returns-in-At-clause-puts
+alike_move-returns-in-At-clause-puts g t c = λ same ko.
+    let here = position_on g.L.Look.shows c.args.board.now in
+    let node = under c.args.turn ko in
+    let write = first_words c.args.plies c.args.won in
+    let first = subst (λ (o : Option Spot). IfSome o (λ (spot : Spot). (ko : Ko)
+    → Some spot ≡ first_move c.args.plies (under c.args.turn ko) here)) c.in-Some.is c.first_alike.ensures.first in
+    let is = ap Some (sym c.in-At.is) ∙ first ko in
+    move_written c.args.plies c.args.won node here c.size.result (At c.in-At.p) c.args.out.now
+    c.put_move.new.out c.alike_play.new.out
+    (behind_blanks (write_each write (option_to_list (child_of node here c.in-At.p)))) c.alike_play.result
+    (c.size.ensures ∙ ap (λ (p : BoardState). p.size) c.first_alike.ensures.stays.shown
+    ∙ sym (size-after (g.L.Look.shows c.args.board.now.look) c.args.board.now.moves)) is
+    (c.in_ok-put_move-in-Some.ensures.0
+    ∙ ap (λ (s : Spot). c.args.out.now ++ behind_blanks (move_word c.size.result s ∷ [])) c.in-At.is)
+    (play_child c.args.plies c.args.won node here c.in-At.p is)
+    (subst (λ (p : BoardState). Puts c.put_move.new.out (behind_blanks (write_each write
+    (option_to_list (child_of node p c.in-At.p)))) c.alike_play.new.out c.alike_play.result)
+    (here_stays g.L.Look.shows g.L.Look.seen c.args.board.now c.first_alike.new.board c.first_alike.ensures.stays)
+    (c.alike_play.ensures.puts same ko))
+
+-- it is the pass
+pub alike_move-returns-in-Pass-clause-puts : goal.alike_move-returns-in-Pass-clause-puts
+alike_move-returns-in-Pass-clause-puts g t c = λ same ko.
+    let here = position_on g.L.Look.shows c.args.board.now in
+    let node = under c.args.turn ko in
+    let write = first_words c.args.plies c.args.won in
+    let first = subst (λ (o : Option Spot). IfSome o (λ (spot : Spot). (ko : Ko)
+    → Some spot ≡ first_move c.args.plies (under c.args.turn ko) here)) c.in-Some.is c.first_alike.ensures.first in
+    let is = ap Some (sym c.in-Pass.is) ∙ first ko in
+    move_written c.args.plies c.args.won node here c.size.result Pass c.args.out.now
+    c.put_move.new.out c.alike_pass.new.out
+    (behind_blanks (write_each write (pass_children node here))) c.alike_pass.result
+    (c.size.ensures ∙ ap (λ (p : BoardState). p.size) c.first_alike.ensures.stays.shown
+    ∙ sym (size-after (g.L.Look.shows c.args.board.now.look) c.args.board.now.moves)) is
+    (c.in_ok-put_move-in-Some.ensures.0
+    ∙ ap (λ (s : Spot). c.args.out.now ++ behind_blanks (move_word c.size.result s ∷ [])) c.in-Pass.is)
+    (pass_child c.args.plies c.args.won node here)
+    (subst (λ (p : BoardState). Puts c.put_move.new.out (behind_blanks (write_each write
+    (pass_children node p))) c.alike_pass.new.out c.alike_pass.result)
+    (here_stays g.L.Look.shows g.L.Look.seen c.args.board.now c.first_alike.new.board c.first_alike.ensures.stays)
+    (c.alike_pass.ensures.puts same ko))
+
+-- no ply is left
+pub write_alike-returns-then-plies-eq0-clause-puts : goal.write_alike-returns-then-plies-eq0-clause-puts
+write_alike-returns-then-plies-eq0-clause-puts g t c = λ same ko.
+    rw (dot_words c.args.plies c.args.won (under c.args.turn ko) (position_on g.L.Look.shows c.args.board.now)
+    (inl c.if-plies-eq0.true)) c.put_dot.ensures
+
+-- the target is on the board
+pub write_alike-is_settled-requires : goal.write_alike-is_settled-requires
+write_alike-is_settled-requires g t c = record {
+  target = subst (λ (m : Node). m.target < (g.L.Look.shows c.args.board.now.look).size
+      * (g.L.Look.shows c.args.board.now.look).size) (sym c.node_of-node.ensures) c.requires.target;
+}
+
+-- the claim is settled
+pub write_alike-returns-then-is_settled-clause-puts : goal.write_alike-returns-then-is_settled-clause-puts
+write_alike-returns-then-is_settled-clause-puts g t c = λ same ko.
+    let here = position_on g.L.Look.shows c.args.board.now in
+    rw (dot_words c.args.plies c.args.won (under c.args.turn ko) here
+    (inr (sym (settled_alike c.args.plies c.args.won c.args.turn ko here c.node_of-node.result c.node_of-node.ensures)
+    ∙ sym c.is_settled.ensures.answer ∙ c.if-is_settled.true))) c.put_dot-then-is_settled.ensures
+
+-- the side to play wants the claim
+pub write_alike-returns-then-is_wanted-clause-puts : goal.write_alike-returns-then-is_wanted-clause-puts
+write_alike-returns-then-is_wanted-clause-puts g t c = λ same ko.
+    let here = position_on g.L.Look.shows c.args.board.now in
+    let node = under c.args.turn ko in
+    rw (move_words c.args.plies c.args.won node here c.if-plies-eq0.false
+    (sym (settled_alike c.args.plies c.args.won c.args.turn ko here c.node_of-node.result c.node_of-node.ensures)
+    ∙ sym c.is_settled.ensures.answer ∙ c.if-is_settled.false)
+    (sym (ap (is_wanted c.args.won) c.node_of-node.ensures) ∙ sym c.is_wanted.ensures ∙ c.if-is_wanted.true))
+    (subst (λ (p : BoardState). Puts c.args.out.now (behind_blanks (write_move
+    (first_words (c.args.plies - 1) c.args.won) node p (first_move (c.args.plies - 1) node p)))
+    c.alike_move.new.out c.alike_move.result)
+    (here_stays g.L.Look.shows g.L.Look.seen c.args.board.now c.is_settled.new.board c.is_settled.ensures.stays)
+    (c.alike_move.ensures.puts same ko))
+
+-- there is no room for the star
+pub write_alike-returns-in_err-put_word-clause-puts : goal.write_alike-returns-in_err-put_word-clause-puts
+write_alike-returns-in_err-put_word-clause-puts g t c = λ same ko.
+    let pos = position_on g.L.Look.shows c.args.board.now in
+    let node = under c.args.turn ko in
+    let write = first_words (c.args.plies - 1) c.args.won in
+    let star = behind_blanks (codes "*" ∷ []) in
+    let passed = behind_blanks (write_each write (pass_children node pos)) in
+    let played = behind_blanks (write_each write (play_children node pos)) in
+    rw (each_words c.args.plies c.args.won node pos c.if-plies-eq0.false
+    (sym (settled_alike c.args.plies c.args.won c.args.turn ko pos c.node_of-node.result c.node_of-node.ensures)
+    ∙ sym c.is_settled.ensures.answer ∙ c.if-is_settled.false)
+    (sym (ap (is_wanted c.args.won) c.node_of-node.ensures) ∙ sym c.is_wanted.ensures ∙ c.if-is_wanted.false))
+    (puts_up c.args.out.now c.put_word.new.out c.put_word.new.out star (passed ++ played)
+    c.in_err-put_word.field-0.0 c.from_residual.result c.from_residual.ensures.1 c.in_err-put_word.ensures)
+
+-- there is none for the proof after the pass
+pub write_alike-returns-in_err-alike-clause-puts : goal.write_alike-returns-in_err-alike-clause-puts
+write_alike-returns-in_err-alike-clause-puts g t c = λ same ko.
+    let pos = position_on g.L.Look.shows c.args.board.now in
+    let node = under c.args.turn ko in
+    let write = first_words (c.args.plies - 1) c.args.won in
+    let star = behind_blanks (codes "*" ∷ []) in
+    let passed = behind_blanks (write_each write (pass_children node pos)) in
+    let played = behind_blanks (write_each write (play_children node pos)) in
+    rw (each_words c.args.plies c.args.won node pos c.if-plies-eq0.false
+    (sym (settled_alike c.args.plies c.args.won c.args.turn ko pos c.node_of-node.result c.node_of-node.ensures)
+    ∙ sym c.is_settled.ensures.answer ∙ c.if-is_settled.false)
+    (sym (ap (is_wanted c.args.won) c.node_of-node.ensures) ∙ sym c.is_wanted.ensures ∙ c.if-is_wanted.false))
+    (puts_both c.args.out.now c.put_word.new.out c.alike_pass.new.out star (passed ++ played)
+    c.from_residual-in_err-alike.result c.in_ok-put_word.ensures.0
+    (puts_up_told c.put_word.new.out c.alike_pass.new.out c.alike_pass.new.out passed played
+    c.in_err-alike.field-0.0 c.from_residual-in_err-alike.result
+    c.from_residual-in_err-alike.ensures.1
+    (subst (λ (p : BoardState). Puts {T = Bool} c.put_word.new.out (behind_blanks (write_each write
+    (pass_children node p))) c.alike_pass.new.out (Err c.in_err-alike.field-0.0))
+    (here_stays g.L.Look.shows g.L.Look.seen c.args.board.now c.is_settled.new.board c.is_settled.ensures.stays)
+    (c.in_err-alike.ensures.puts (λ e. cc) ko))))
+
+-- there is room behind what is written after the pass
+pub write_alike-alike_plays-requires : goal.write_alike-alike_plays-requires
+write_alike-alike_plays-requires g t c κs within =
+    let bytes : length c.alike_pass.new.out ≤ most_bytes =
+    (c.in_ok-alike.ensures.puts (yes_told c.in_ok-alike.alike c.if-not-alike.false) neither_may).1 in
+    search rules
+
+-- the proofs after the pass differ
+pub write_alike-returns-then-not-alike-clause-puts : goal.write_alike-returns-then-not-alike-clause-puts
+write_alike-returns-then-not-alike-clause-puts g t c = λ same ko. absurd (same refl)
+
+-- the star, the proof after the pass and those after the plays
+pub write_alike-returns-clause-puts : goal.write_alike-returns-clause-puts
+write_alike-returns-clause-puts g t c = λ same ko.
+    let pos = position_on g.L.Look.shows c.args.board.now in
+    let node = under c.args.turn ko in
+    let write = first_words (c.args.plies - 1) c.args.won in
+    let settled = here_stays g.L.Look.shows g.L.Look.seen c.args.board.now c.is_settled.new.board
+    c.is_settled.ensures.stays in
+    let passed = here_stays g.L.Look.shows g.L.Look.seen c.is_settled.new.board c.alike_pass.new.board
+    c.alike_pass.ensures.stays ∙ settled in
+    let first = c.in_ok-alike.ensures.puts (yes_told c.in_ok-alike.alike c.if-not-alike.false) ko in
+    rw (each_words c.args.plies c.args.won node pos c.if-plies-eq0.false
+    (sym (settled_alike c.args.plies c.args.won c.args.turn ko pos c.node_of-node.result c.node_of-node.ensures)
+    ∙ sym c.is_settled.ensures.answer ∙ c.if-is_settled.false)
+    (sym (ap (is_wanted c.args.won) c.node_of-node.ensures) ∙ sym c.is_wanted.ensures ∙ c.if-is_wanted.false))
+    (puts_both c.args.out.now c.put_word.new.out c.alike_plays.new.out (behind_blanks (codes "*" ∷ []))
+    (behind_blanks (write_each write (pass_children node pos))
+    ++ behind_blanks (write_each write (play_children node pos))) c.alike_plays.result
+    c.in_ok-put_word.ensures.0
+    (puts_both c.put_word.new.out c.alike_pass.new.out c.alike_plays.new.out
+    (behind_blanks (write_each write (pass_children node pos)))
+    (behind_blanks (write_each write (play_children node pos))) c.alike_plays.result
+    (subst (λ (p : BoardState). c.alike_pass.new.out ≡ c.put_word.new.out ++ behind_blanks (write_each write
+    (pass_children node p))) settled first.0)
+    (subst (λ (p : BoardState). Puts c.alike_pass.new.out (behind_blanks (write_each write
+    (play_children node p))) c.alike_plays.new.out c.alike_plays.result) passed (c.alike_plays.ensures.puts same ko))))

@@ -1,0 +1,44 @@
+use Rattle.std.proofs.Common.{◌∙◌, ◌++◌, [], ◌∷◌, ap, sym}
+use Rattle.read_tree.specs.declared.turn.Turn.{Turn}
+use Rattle.read_tree.specs.Allowances.{under}
+use Rattle.read_tree.specs.Steps.{first_turn}
+use Rattle.read_proof.specs.FirstProof.{first_words}
+use Rattle.read_proof.specs.ProofOf.{claim_under, letter_of}
+use Rattle.write_proof.specs.Printed.{behind_blanks, position_on}
+use Rattle.write_proof.proofs.PutLemmas.{puts_both, puts_up, puts_same, blanks_both}
+use Rattle.write_proof.proofs.thrice.write_part.Goals as goal
+
+-- there is no room for the letter
+pub returns-in_err-put_word : goal.returns-in_err-put_word
+returns-in_err-put_word g c = λ same ko.
+    let q = c.args.question.now in
+    let pos = position_on g.L.Look.shows c.args.board.now in
+    let won = claim_under q 0 3 in
+    let proof = first_words q.plies won (under (first_turn q) ko) pos in
+    let letter = behind_blanks (c.letter.result.now ∷ []) in
+    puts_same c.args.out.now c.args.out.now c.put_word.new.out (letter ++ behind_blanks proof) _ c.from_residual.result
+    (ap (λ w. c.args.out.now ++ (behind_blanks (w ∷ []) ++ behind_blanks proof))
+    (c.letter.ensures ∙ ap letter_of c.claim_under-won.ensures)
+    ∙ ap (λ t. c.args.out.now ++ t) (sym (blanks_both (letter_of won ∷ []) proof)))
+    (puts_up c.args.out.now c.put_word.new.out c.put_word.new.out letter (behind_blanks proof)
+    c.in_err-put_word.field-0.0 c.from_residual.result c.from_residual.ensures.1 c.in_err-put_word.ensures)
+
+-- the letter and the proof
+pub returns : goal.returns
+returns g c = λ same ko.
+    let q = c.args.question.now in
+    let pos = position_on g.L.Look.shows c.args.board.now in
+    let won = claim_under q 0 3 in
+    let letter = behind_blanks (c.letter.result.now ∷ []) in
+    let proof = first_words q.plies c.claim_under-won.result (under c.turn_of.result ko) pos in
+    puts_same c.args.out.now c.args.out.now c.write_alike.new.out (letter ++ behind_blanks proof) _ c.write_alike.result
+    (ap (λ w. c.args.out.now ++ (behind_blanks (w ∷ []) ++ behind_blanks proof))
+    (c.letter.ensures ∙ ap letter_of c.claim_under-won.ensures)
+    ∙ ap (λ b. c.args.out.now ++ (behind_blanks (letter_of won ∷ [])
+    ++ behind_blanks (first_words q.plies b (under c.turn_of.result ko) pos))) c.claim_under-won.ensures
+    ∙ ap (λ (t : Turn). c.args.out.now ++ (behind_blanks (letter_of won ∷ [])
+    ++ behind_blanks (first_words q.plies won (under t ko) pos))) c.turn_of.ensures
+    ∙ ap (λ t. c.args.out.now ++ t)
+    (sym (blanks_both (letter_of won ∷ []) (first_words q.plies won (under (first_turn q) ko) pos))))
+    (puts_both c.args.out.now c.put_word.new.out c.write_alike.new.out letter (behind_blanks proof)
+    c.write_alike.result c.in_ok-put_word.ensures.0 (c.write_alike.ensures.puts same ko))
