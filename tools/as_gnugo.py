@@ -12,6 +12,8 @@ import re
 import subprocess
 import sys
 
+import command_line
+
 
 def with_their_codes(replies: str) -> str:
     """The replies with 4 less the code in place of each code above 0."""
@@ -19,15 +21,13 @@ def with_their_codes(replies: str) -> str:
     return re.sub(answer, lambda found: found[1] + str(4 - int(found[2])), replies)
 
 
-def main(gopat: str, plies: str, wide: str, *_options: str):
+def main(gopat: str, plies: str, wide: str, *_options: str) -> int:
     command = [gopat, f"--depth={plies}", f"--branch={wide}"]
     done = subprocess.run(command, stdin=sys.stdin, capture_output=True, text=True, check=False)
     sys.stdout.write(with_their_codes(done.stdout))
     sys.stderr.write(done.stderr)
-    sys.exit(done.returncode)
+    return done.returncode
 
 
 if __name__ == "__main__":
-    if len(sys.argv) < 4:
-        sys.exit(__doc__)
-    main(*sys.argv[1:])
+    command_line.run(main, __doc__)

@@ -21,8 +21,8 @@ import re
 import sys
 from typing import Callable, NamedTuple
 
+import command_line
 import gtp
-import sgf
 
 OPTIONS_OF_GNUGO = {"--mode": 2, "--level": 2, "--quiet": 1}
 GREATEST_ID = 2147483647
@@ -38,12 +38,9 @@ class Line(NamedTuple):
     words: list[str]
 
 
-def board(gopat: gtp.Running) -> tuple[int, list[str]]:
-    """The board's size, and the points with a stone on them."""
-    rows = re.findall(r"(?m)^ *(\d+)((?: [.XO])+)$", gopat.ask("showboard").text)
-    return len(rows), [
-        column + number for number, row in rows for column, mark in zip(sgf.COLUMNS, row.split()) if mark != "."
-    ]
+def board(gopat: gtp.Running) -> gtp.Shown:
+    """The board as it stands."""
+    return gtp.shown(gopat.ask("showboard").text)
 
 
 def set_stones(gopat: gtp.Running, vertices: list[str]) -> bool:
@@ -86,7 +83,7 @@ def handicap_points(size: int, count: int) -> list[str] | None:
     points += sides[1] if count >= 8 else []
     points += [(middle, middle)] if count in (5, 7, 9) else []
     points.sort(key=lambda point: (-point[1], point[0]))
-    return [f"{sgf.COLUMNS[column - 1]}{row}" for column, row in points]
+    return [f"{gtp.COLUMNS[column - 1]}{row}" for column, row in points]
 
 
 def number(words: list[str]) -> int | None:
@@ -106,7 +103,7 @@ def cannot_score(_gopat: gtp.Running, _words: list[str]) -> gtp.Reply:
 def final_status_list(gopat: gtp.Running, words: list[str]) -> gtp.Reply:
     """All stones are alive. Quarry wants a list, also an empty one, and ends at a refusal."""
     if words[:1] == ["alive"]:
-        return gtp.Reply(True, " ".join(board(gopat)[1]))
+        return gtp.Reply(True, " ".join(board(gopat).stones))
     return gtp.Reply(True, "") if words[:1] and words[0] in STATUSES else gtp.Reply(False, "syntax error")
 
 
@@ -133,7 +130,7 @@ def set_handicap(gopat: gtp.Running, count: int | None, may_be_fewer: bool) -> g
 
 
 def set_free_handicap(gopat: gtp.Running, words: list[str]) -> gtp.Reply:
-    if board(gopat)[1]:
+    if board(gopat).stones:
         return gtp.Reply(False, "board not empty")
     is_list = len(words) >= 2 and all(re.fullmatch("[A-Za-z][0-9]+", word) for word in words)
     return gtp.Reply(True, "") if is_list and set_stones(gopat, words) else gtp.Reply(False, "bad vertex list")
@@ -185,9 +182,9 @@ def without_their_options(words: list[str]) -> list[str]:
     return kept
 
 
-def main(words: list[str]) -> int:
-    """gtp.Replys the lines of standard input until gopat or the input ends."""
-    gopat = gtp.Running(without_their_options(words))
+def main(program: str, *words: str) -> int:
+    """Answers the lines of standard input until gopat or the input ends, and answers gopat's exit status."""
+    gopat = gtp.Running(without_their_options([program, *words]))
     try:
         for raw in iter(sys.stdin.buffer.readline, b""):
             line = read_line(raw)
@@ -204,6 +201,4 @@ def main(words: list[str]) -> int:
 
 
 if __name__ == "__main__":
-    if len(sys.argv) < 2:
-        sys.exit(__doc__)
-    sys.exit(main(sys.argv[1:]))
+    command_line.run(main, __doc__)

@@ -2,7 +2,7 @@
 parted by tabs: record, move, question, reply.
 
 usage: python3 tools/ask_records.py GOPAT FOLDER [--every N] QUESTION ...
-       python3 tools/ask_records.py --stream GOPAT FOLDER [--every N] QUESTION ... > STREAM
+       python3 tools/ask_records.py --stream [--table FILE] GOPAT FOLDER [--every N] QUESTION ... > STREAM
        python3 tools/ask_records.py --replies STREAM < REPLIES
 
 GOPAT is a command with its options and pattern files, in one word for the shell. The folder is searched for *.sgf. A
@@ -23,18 +23,20 @@ lines have ids: 12030007 is question 7 after move 30 of record 12. With more tha
 questions past 999, a stream has to be made with `--table FILE`. Then the ids count lines, and the file says in four
 columns what each of them is.
 
-The exit status is 1 where a record or a question was refused, and 2 where there are no records or replies are missing.
+The exit status is 1 where a record or a question was refused, and 2 where the script cannot go on: there are no
+records, an id has no room, or replies are missing.
 """
 
 import argparse
 import contextlib
-import os
+import functools
 import pathlib
 import re
 import shlex
 import sys
 from typing import Callable, Iterator, NamedTuple, TextIO
 
+import command_line
 import gtp
 import sgf
 
@@ -63,54 +65,51 @@ class Line(NamedTuple):
     text: str
 
 
-class Board:
-    """The stones of a `showboard` reply."""
-
-    def __init__(self, text: str):
-        rows = [line.split()[1:] for line in text.splitlines() if re.match(r" *\d+ [.XO]", line)]
-        self.size = len(rows)
-        self.stones = {
-            (row, column): mark for row, marks in enumerate(rows) for column, mark in enumerate(marks) if mark != "."
-        }
-
-    def strings(self) -> Iterator[tuple[str, int]]:
-        """The vertex of each string's first stone, and its number of liberties."""
-        seen: set[tuple[int, int]] = set()
-        for point in sorted(self.stones):
-            if point not in seen:
-                string, liberties = self.string_of(point)
-                seen |= string
-                yield f"{sgf.COLUMNS[point[1]]}{self.size - point[0]}", len(liberties)
-
-    def string_of(self, point: tuple[int, int]) -> tuple[set[tuple[int, int]], set[tuple[int, int]]]:
-        """The stones and the liberties of the string at a point."""
-        string, liberties, left = {point}, set(), [point]
-        while left:
-            for one in self.neighbours(left.pop()):
-                if one not in self.stones:
-                    liberties.add(one)
-                elif self.stones[one] == self.stones[point] and one not in string:
-                    string.add(one)
-                    left.append(one)
-        return string, liberties
-
-    def neighbours(self, point: tuple[int, int]) -> Iterator[tuple[int, int]]:
-        row, column = point
-        for one in ((row - 1, column), (row + 1, column), (row, column - 1), (row, column + 1)):
-            if 0 <= one[0] < self.size and 0 <= one[1] < self.size:
-                yield one
+@functools.cache
+def neighbours(size: int) -> dict[str, list[str]]:
+    """The neighbours of each vertex."""
+    found: dict[str, list[str]] = {vertex: [] for vertex in gtp.vertices(size)}
+    for vertex, beside in found.items():
+        column, row = gtp.COLUMNS.index(vertex[0]), int(vertex[1:])
+        around = ((column, row - 1), (column, row + 1), (column - 1, row), (column + 1, row))
+        beside += [f"{gtp.COLUMNS[x]}{y}" for x, y in around if 0 <= x < size and 1 <= y <= size]
+    return found
 
 
-def questions_on(board: Board, questions: list[str]) -> Iterator[str]:
+def strings(board: gtp.Shown) -> Iterator[tuple[str, int]]:
+    """The vertex of each string's first stone, and its number of liberties."""
+    seen: set[str] = set()
+    for vertex in board.stones:
+        if vertex not in seen:
+            string, liberties = string_of(board, vertex)
+            seen |= string
+            yield vertex, len(liberties)
+
+
+def string_of(board: gtp.Shown, vertex: str) -> tuple[set[str], set[str]]:
+    """The stones and the liberties of the string at a stone."""
+    beside, stones = neighbours(board.size), board.stones
+    string, liberties, left = {vertex}, set(), [vertex]
+    while left:
+        for one in beside[left.pop()]:
+            if one not in stones:
+                liberties.add(one)
+            elif stones[one] == stones[vertex] and one not in string:
+                string.add(one)
+                left.append(one)
+    return string, liberties
+
+
+def questions_on(board: gtp.Shown, questions: list[str]) -> Iterator[str]:
     """The protocol lines of the questions on a board."""
-    strings = list(board.strings()) if any(STRINGS.search(question) for question in questions) else []
+    found_strings = list(strings(board)) if any(STRINGS.search(question) for question in questions) else []
     for question in questions:
         found = STRINGS.search(question)
         if found is None:
             yield question
             continue
         most = int(found[1]) if found[1] else board.size * board.size
-        yield from (STRINGS.sub(vertex, question) for vertex, liberties in strings if liberties <= most)
+        yield from (STRINGS.sub(vertex, question) for vertex, liberties in found_strings if liberties <= most)
 
 
 def moves_of(path: str) -> Iterator[tuple[str, bool]]:
@@ -121,8 +120,8 @@ def moves_of(path: str) -> Iterator[tuple[str, bool]]:
         yield f"play {move}", not move.is_set_up
 
 
-class Missing(Exception):
-    """There are no records, or a line of a stream has no reply; the text says which."""
+class Stopped(Exception):
+    """The script cannot go on; the text says why."""
 
 
 class Refused(Exception):
@@ -149,8 +148,7 @@ def lines_of(task: Task, engine: gtp.Running, record: int, path: str) -> Iterato
             if not reply.ok:
                 raise Refused(reply.text if line.startswith("loadsgf") else f"{line}: {reply.text}")
             yield Line(record, name, move or "", 0, line)
-            board = Board(engine.ask("showboard").text) if move else None
-            asked = questions_on(board, task.questions) if board else []
+            asked = questions_on(gtp.shown(engine.ask("showboard").text), task.questions) if move else []
             yield from (Line(record, name, move or "", count, text) for count, text in enumerate(asked, start=1))
     except sgf.NotPlayable as why:
         raise Refused(str(why).removeprefix(f"{path}: ")) from why
@@ -160,7 +158,7 @@ def paths_of(folder: str) -> Iterator[tuple[int, str]]:
     """The records of a folder with their numbers, and on a terminal how far it is."""
     paths = sorted(str(path) for path in pathlib.Path(folder).rglob("*.sgf"))
     if not paths:
-        raise Missing(f"{folder}: no *.sgf")
+        raise Stopped(f"{folder}: no *.sgf")
     for record, path in enumerate(paths, start=1):
         yield record, path
         if sys.stderr.isatty() and (record % 10 == 0 or record == len(paths)):
@@ -195,7 +193,7 @@ def readable_id(line: Line) -> int:
     """The id that names record, move and question."""
     parts = line.record, int(line.move) if line.move.isdigit() else 0, line.question
     if any(part > most for part, most in zip(parts, MOST)):
-        sys.exit(f"{line.name}: no id has room for record, move and question {parts}: use --table")
+        raise Stopped(f"{line.name}: no id has room for record, move and question {parts}: use --table")
     return (parts[0] * 1000 + parts[1]) * 1000 + parts[2]
 
 
@@ -253,7 +251,7 @@ def put_together(stream: TextIO, file: TextIO, out: TextIO) -> tuple[int, int]:
             continue
         reply = read_reply(number, next(replies, ""))
         if reply is None:
-            raise Missing(f"{name}: no reply to {number} {text}")
+            raise Stopped(f"{name}: no reply to {number} {text}")
         refused += not reply.ok
         if text.split(" ")[0] not in SETTING_UP:
             answered += 1
@@ -283,21 +281,22 @@ def ended(answered: int, refused: int) -> int:
     return 1 if refused else 0
 
 
-def read_words() -> argparse.Namespace:
-    words = argparse.ArgumentParser(usage=__doc__)
+def read_words(given: tuple[str, ...]) -> argparse.Namespace:
+    words = argparse.ArgumentParser(usage=__doc__, add_help=False)
     words.add_argument("--stream", action="store_true")
     words.add_argument("--table")
     words.add_argument("--every", type=int)
     words.add_argument("--replies")
     words.add_argument("words", nargs="*")
-    found = words.parse_intermixed_args()
+    found = words.parse_intermixed_args(given)
     if not found.replies and len(found.words) < 3:
-        sys.exit(__doc__)
+        words.error("a folder and a question are wanted")
     return found
 
 
-def main() -> int:
-    words = read_words()
+def work(*given: str) -> int:
+    """Does what the words of the command line say, and answers the exit status."""
+    words = read_words(given)
     if words.replies:
         with open(words.replies, encoding="ascii") as stream:
             return ended(*put_together(stream, sys.stdin, sys.stdout))
@@ -309,15 +308,18 @@ def main() -> int:
         return 1 if write_stream(task, sys.stdout, table or readable_id) else 0
 
 
-if __name__ == "__main__":
+def main(*given: str) -> int:
+    """The same, where what is missing is told."""
     try:
-        sys.exit(main())
+        return work(*given)
     except BrokenPipeError:
-        os.dup2(os.open(os.devnull, os.O_WRONLY), sys.stdout.fileno())
-        sys.exit(1)
-    except (Missing, OSError) as why:
+        raise
+    except (Stopped, OSError) as why:
         print(why, file=sys.stderr)
-        sys.exit(2)
     except gtp.Ended:
         print("gopat ended before it had answered", file=sys.stderr)
-        sys.exit(2)
+    return 2
+
+
+if __name__ == "__main__":
+    command_line.run(main, __doc__)

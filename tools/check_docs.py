@@ -4,10 +4,10 @@ usage: python3 tools/check_docs.py [--map | FILE ...]
 
 Without files these are README.md and docs/FORMATS.md, docs/USING.md, docs/AUTHORS.md, docs/LIBRARY.md and
 docs/HELPERS.md, in this order, and the manual page docs/gopat.1, in which `man` may find nothing to warn of; and the
-map of docs/ARCHITECTURE.md is compared with crates.txt. It runs at the top of a fresh clone: README's commands prove
-and build the program, docs/USING.md says what has to stand beside the clone, and docs/AUTHORS.md wants the checker that
-`rt run` makes in crates/pattern_check. `python3 tools/check_docs.py --map` compares the map alone, and needs no
-program.
+map of docs/ARCHITECTURE.md is compared with crates.txt, and tools/README.md with the scripts. It runs at the top of a
+fresh clone: README's commands prove and build the program, docs/USING.md says what has to stand beside the clone, and
+docs/AUTHORS.md wants the checker that `rt run` makes in crates/pattern_check. `python3 tools/check_docs.py --map`
+compares the map and the scripts alone, and needs no program.
 
 A command is a line `$ ..` of a block that is set off by three backticks; it goes on over lines that end in a backslash.
 The lines below it, up to the next command or the end of the block, are its standard output, where blank lines at the
@@ -24,14 +24,16 @@ import pathlib
 import re
 import shutil
 import subprocess
-import sys
 import tempfile
 from typing import Iterator, NamedTuple
+
+import command_line
 
 DOCUMENTS = ["README.md", "docs/FORMATS.md", "docs/USING.md", "docs/AUTHORS.md", "docs/LIBRARY.md", "docs/HELPERS.md"]
 MANUAL_PAGE = "docs/gopat.1"
 MAP = "docs/ARCHITECTURE.md"
 CRATES = "crates.txt"
+SCRIPTS = "tools/README.md"
 GOPAT = "crates/gopat/out/gopat"
 USES = re.compile(r"(\w+):(.*)")
 ROW = re.compile(r"\| `(\w+)` \|[^|]*\|([^|]*)\|[^|]*\|")
@@ -112,9 +114,8 @@ def check_kinds(document: str) -> Iterator[str | None]:
 
 def check_manual_page() -> Iterator[str | None]:
     """None, or what `man` warns of in the manual page."""
-    done = subprocess.run(
-        ["man", "--warnings", "-E", "UTF-8", "-l", "-Tutf8", "-Z", MANUAL_PAGE], capture_output=True, text=True, check=False
-    )
+    command = ["man", "--warnings", "-E", "UTF-8", "-l", "-Tutf8", "-Z", MANUAL_PAGE]
+    done = subprocess.run(command, capture_output=True, text=True, check=False)
     yield None if done.returncode == 0 and not done.stderr else f"{MANUAL_PAGE}: {done.stderr}"
 
 
@@ -154,10 +155,17 @@ def check_map() -> Iterator[str | None]:
         yield f"{MAP}: {name} is no crate of {CRATES}"
 
 
-def main(documents: list[str]):
-    found: list[str | None] = []
+def check_scripts() -> Iterator[str | None]:
+    """For each script of tools/ None, or that their table does not name it."""
+    table = pathlib.Path(SCRIPTS).read_text(encoding="utf-8")
+    for path in sorted(pathlib.Path(SCRIPTS).parent.glob("*.py")):
+        yield None if f"`{path.name}`" in table else f"{SCRIPTS}: nothing of {path.name}"
+
+
+def main(*words: str) -> int:
+    documents, found = list(words) or DOCUMENTS, []
     if documents in (DOCUMENTS, ["--map"]):
-        found += check_map()
+        found += [*check_map(), *check_scripts()]
     for document in documents if documents != ["--map"] else []:
         for block in blocks(document):
             if block.not_run is None:
@@ -169,8 +177,8 @@ def main(documents: list[str]):
         found += check_manual_page()
     wrong = [one for one in found if one]
     print("\n".join([*wrong, f"{len(found)} commands, quotes, examples and rows, {len(wrong)} of them differ"]))
-    sys.exit(1 if wrong else 0)
+    return 1 if wrong else 0
 
 
 if __name__ == "__main__":
-    main(sys.argv[1:] or DOCUMENTS)
+    command_line.run(main, __doc__)

@@ -13,15 +13,14 @@ proofs and times. The exit status is 1 where anything differs, or an example of 
 import functools
 import pathlib
 import random
-import sys
 import time
 from collections import Counter
 from typing import Callable, Iterator, NamedTuple
 
+import command_line
 import gtp
 import run_cases
 
-COLUMNS = "ABCDEFGHJKLMNOPQRSTUVWXYZ"
 EMPTY, BLACK, WHITE = 0, 1, 2
 # How many positions each function keeps its answers for: changed proofs come by the same positions again and again.
 KEPT = 50_000
@@ -219,7 +218,7 @@ def words_of(text: str) -> list[str]:
 def is_point(size: int, word: str) -> bool:
     """Whether a word in capitals is the vertex of a point."""
     column, row = word[:1], word[1:]
-    if column not in COLUMNS[:size] or not 1 <= len(row) <= 2 or not set(row) <= set("0123456789"):
+    if column not in gtp.COLUMNS[:size] or not 1 <= len(row) <= 2 or not set(row) <= set("0123456789"):
         return False
     return column != "" and 1 <= int(row) <= size
 
@@ -231,7 +230,7 @@ def move_of(size: int, word: str) -> Move | None:
         return Move(None)
     if not is_point(size, word):
         return None
-    return Move((size - int(word[1:])) * size + COLUMNS.index(word[0]))
+    return Move((size - int(word[1:])) * size + gtp.COLUMNS.index(word[0]))
 
 
 def has_too_many(node: Node) -> bool:
@@ -556,7 +555,7 @@ def random_vertex(choose: random.Random, position: Position, near: str | None = 
         point = move_of(size, near).point
         column = min(max(point % size + choose.randint(-2, 2), 0), size - 1)
         row = min(max(size - 1 - point // size + choose.randint(-2, 2), 0), size - 1)
-    return f"{COLUMNS[column]}{row + 1}"
+    return f"{gtp.COLUMNS[column]}{row + 1}"
 
 
 # Words that are none of a proof, or are written otherwise than gopat prints them.
@@ -758,6 +757,4 @@ def main(gopat: str, regression: str, changes: str = "1000", seed: str = "1", *d
 
 
 if __name__ == "__main__":
-    if len(sys.argv) < 3:
-        sys.exit(__doc__)
-    sys.exit(main(*sys.argv[1:]))
+    command_line.run(main, __doc__)

@@ -1,9 +1,11 @@
-"""Writes random pattern databases, and compares every fault that pattern_check tells with a second reading of the grammar.
+"""Writes random pattern databases, and compares every fault that pattern_check tells with a second reading of the
+grammar.
 
 usage: python3 tools/compare_checks.py PATTERN_CHECK COUNT [SEED]
 
-The first fault is that of the whole text, and the others are those of the entries behind it, each read alone. Prints how many faults of
-which kind were told, each text on which the two differ, and each message that gives no cause.
+The first fault is that of the whole text, and the others are those of the entries behind it, each read alone. Prints
+how many faults of which kind were told, each text on which the two differ, and each message that gives no cause. The
+exit status is 1 where there is such a text or such a message.
 """
 
 import collections
@@ -11,9 +13,9 @@ import pathlib
 import random
 import re
 import subprocess
-import sys
 import tempfile
 
+import command_line
 import compare_databases
 import database
 
@@ -58,7 +60,7 @@ def told_of(program: str, paths: list[pathlib.Path]) -> dict[str, list[tuple[int
     return told
 
 
-def main(program: str, count: str, seed: str = "1"):
+def main(program: str, count: str, seed: str = "1") -> int:
     rng = random.Random(int(seed))
     kinds: collections.Counter[int] = collections.Counter()
     different = without = 0
@@ -82,7 +84,8 @@ def main(program: str, count: str, seed: str = "1"):
                         print(f"no cause: {text!r}: line {line} kind {kind}")
     print(" ".join(f"{kind}:{kinds[kind]}" for kind in sorted(kinds)))
     print(f"{different} of {count} differ, {without} faults without a cause")
+    return 1 if different or without else 0
 
 
 if __name__ == "__main__":
-    main(*sys.argv[1:])
+    command_line.run(main, __doc__)

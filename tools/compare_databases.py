@@ -1,18 +1,19 @@
-"""Writes random pattern databases, faulty and whole, and compares gopat's first fault with a second reading of the grammar.
+"""Writes random pattern databases, faulty and whole, and compares gopat's first fault with a second reading of the
+grammar.
 
-usage: python3 tools/compare_databases.py GOPAT COUNT [SEED] [--with-helpers]
+usage: python3 tools/compare_databases.py GOPAT COUNT [SEED]
 
-Prints how many texts had which first fault, and each text on which the two differ. With --with-helpers the program has the helpers
-`near_edge` and `no_ban`.
+Prints how many texts had which first fault, and each text on which the two differ. The helpers that an entry may name
+are gopat's own, `near_edge` and `no_ban`. The exit status is 1 where a text differs.
 """
 
 import collections
 import pathlib
 import random
 import subprocess
-import sys
 import tempfile
 
+import command_line
 import database
 
 HELPERS = {b"near_edge", b"no_ban"}
@@ -105,7 +106,8 @@ def spoil(rng: random.Random, lines: list[str]) -> list[str]:
         case 7:
             lines[at] = rng.choice([":7", ":8," + "s" * rng.choice([32, 33]), ":8,s1", ":8,s,value(", ":8,s,far_away"])
         case 8:
-            lines[at] = rng.choice([";lib(", ";foo(A)", ";lib(Q)", ";1!=2", ";lib(A,B)", ";lib(?)", ";oplay_attack(?,?)"])
+            faulty = [";lib(", ";foo(A)", ";lib(Q)", ";1!=2", ";lib(A,B)", ";lib(?)", ";oplay_attack(?,?)"]
+            lines[at] = rng.choice(faulty)
         case 9:
             lines[at] = ";" + "(" * 33 + "1" + ")" * rng.choice([32, 33])
         case 10:
@@ -147,9 +149,8 @@ def answer_of(gopat: str, path: pathlib.Path) -> tuple[int, int] | list[str]:
     return done.stdout.decode()[1:].split("\n\n")[0].strip().splitlines() if done.returncode == 0 else []
 
 
-def main(gopat: str, count: str, seed: str = "1"):
+def main(gopat: str, count: str, seed: str = "1") -> int:
     rng = random.Random(int(seed))
-    helpers = HELPERS if "--with-helpers" in sys.argv else set()
     kinds: collections.Counter[int] = collections.Counter()
     different = 0
     with tempfile.TemporaryDirectory(dir="/dev/shm") as folder:
@@ -157,7 +158,7 @@ def main(gopat: str, count: str, seed: str = "1"):
         for _ in range(int(count)):
             text = text_of(rng)
             path.write_bytes(text)
-            want, got = database.read(text, helpers), answer_of(gopat, path)
+            want, got = database.read(text, HELPERS), answer_of(gopat, path)
             kinds[want[1] if isinstance(want, tuple) else 0] += 1
             same = want == got if isinstance(want, tuple) else got in ([], want)
             if not same:
@@ -165,7 +166,8 @@ def main(gopat: str, count: str, seed: str = "1"):
                 print(f"differs: {text!r}: expected {want}, gopat says {got}")
     print(" ".join(f"{kind or 'none'}:{kinds[kind]}" for kind in sorted(kinds)))
     print(f"{different} of {count} differ")
+    return 1 if different else 0
 
 
 if __name__ == "__main__":
-    main(*[word for word in sys.argv[1:] if not word.startswith("--")])
+    command_line.run(main, __doc__)

@@ -1,19 +1,22 @@
-"""Plays random games with `attack` and `defend` between the moves, taking moves back too, and compares each answer with that of
-a program that was started for this question alone, which has kept nothing.
+"""Plays random games with `attack` and `defend` between the moves, taking moves back too, and compares each answer with
+that of a program that was started for this question alone, which has kept nothing.
 
 usage: python3 tools/compare_kept.py GOPAT GAMES MOVES
+
+The exit status is 1 where an answer differs.
 """
 
 import random
-import sys
 
+import command_line
 import gtp
 
 
 def game(chance: random.Random, size: int, moves: int) -> list[str]:
-    """The lines of a random game: plays near one corner, so that strings meet, some undos, and a question after most of them."""
+    """The lines of a random game: plays near one corner, so that strings meet, some undos, and a question after most of
+    them."""
     lines = [f"boardsize {size}", f"depths {chance.choice([3, 5, 8])} {chance.choice([0, 1, 2])}"]
-    vertices = [f"{column}{row}" for column in "ABCDEFGHJ"[:size] for row in range(1, size + 1)]
+    vertices = gtp.vertices(size)
     for _ in range(moves):
         lines.append("undo" if chance.random() < 0.2 else f"play {chance.choice('bw')} {chance.choice(vertices)}")
         for _ in range(chance.randrange(4)):
@@ -26,7 +29,7 @@ def is_question(line: str) -> bool:
     return line.startswith(("attack", "defend"))
 
 
-def main(gopat: str, games: str, moves: str):
+def main(gopat: str, games: str, moves: str) -> int:
     chance = random.Random(1)
     asked = different = 0
     for number in range(int(games)):
@@ -43,8 +46,8 @@ def main(gopat: str, games: str, moves: str):
             else:
                 front.append(line)
     print(f"{asked} questions in {games} games, {different} answered otherwise than afresh")
-    sys.exit(1 if different else 0)
+    return 1 if different else 0
 
 
 if __name__ == "__main__":
-    main(*sys.argv[1:])
+    command_line.run(main, __doc__)

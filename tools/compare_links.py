@@ -9,12 +9,10 @@ The exit status is 1 where a reply differs.
 """
 
 import random
-import sys
 from typing import Iterator, NamedTuple
 
+import command_line
 import gtp
-
-COLUMNS = "ABCDEFG"
 
 
 class Board:
@@ -39,11 +37,11 @@ class Board:
         return string
 
     def bit(self, vertex: str) -> int:
-        return 1 << (self.size - int(vertex[1:])) * self.size + COLUMNS.index(vertex[0])
+        return 1 << (self.size - int(vertex[1:])) * self.size + gtp.COLUMNS.index(vertex[0])
 
     def vertex(self, point: int) -> str:
         row, column = divmod(point.bit_length() - 1, self.size)
-        return f"{COLUMNS[column]}{self.size - row}"
+        return f"{gtp.COLUMNS[column]}{self.size - row}"
 
 
 def each(some: int) -> Iterator[int]:
@@ -235,7 +233,7 @@ def pairs(choose: random.Random, vertices: list[str], position: Position) -> Ite
 def game(choose: random.Random) -> Iterator[Asked]:
     """A position by random plays, the last of which may leave a ban, questions on it, and the same again after more."""
     board = Board(choose.choice([5, 6, 7]))
-    vertices = [f"{column}{row + 1}" for column in COLUMNS[: board.size] for row in range(board.size)]
+    vertices = gtp.vertices(board.size)
     position, plies = Position(board, 0, 0), choose.choice([1, 2, 3, 3, 4, 4])
     for line in (f"boardsize {board.size}", "clear_board", f"depths {plies} {choose.randint(0, 3)}"):
         yield Asked(line, gtp.Reply(True, ""))
@@ -262,7 +260,6 @@ def drawn(position: Position) -> str:
 
 
 def main(gopat: str, questions: str, seed: str = "1") -> int:
-    """How many replies differ."""
     choose = random.Random(int(seed))
     asked = yes = moves = refused = banned = differ = 0
     while asked < int(questions):
@@ -283,10 +280,8 @@ def main(gopat: str, questions: str, seed: str = "1") -> int:
                 banned += line.reply.ok and line.position.ban is not None
     print(f"{asked} questions, {yes} with yes, {moves} of these by a play, {banned} under a ban; {refused} refused")
     print(f"{differ} replies differ")
-    return differ
+    return 1 if differ else 0
 
 
 if __name__ == "__main__":
-    if not 3 <= len(sys.argv) <= 4:
-        sys.exit(__doc__)
-    sys.exit(1 if main(*sys.argv[1:]) else 0)
+    command_line.run(main, __doc__)

@@ -13,15 +13,13 @@ RUNS runs (five), in turn. The exit status is 1 where a record differs.
 
 import pathlib
 import re
-import resource
-import sys
 import tempfile
 from typing import NamedTuple
 
+import command_line
+import cost
 import gtp
-import sgf
 
-QUIET = ["--mode", "gtp", "--quiet"]
 MOST_SHOWN = 12
 ENDED = "the program ended"
 
@@ -57,9 +55,7 @@ class Program:
 
 class Gopat(Program):
     def stones(self) -> Stones:
-        lines = self.running.ask("showboard").text.splitlines()
-        rows = (line.split() for line in lines if re.match(r" *\d+ [.XO]", line))
-        return {letter + row[0]: mark for row in rows for letter, mark in zip(sgf.COLUMNS, row[1:]) if mark in "XO"}
+        return gtp.shown(self.running.ask("showboard").text).stones
 
 
 class GnuGo(Program):
@@ -96,10 +92,9 @@ def is_by_removal(gopat: Program, path: str, theirs: Loaded) -> bool:
 
 def seconds(command: list[str], lines: list[str]) -> tuple[float, float]:
     """How long a session with the lines took, and how much of it the processor was busy."""
-    before = resource.getrusage(resource.RUSAGE_CHILDREN)
+    before = cost.spent()
     _, passed = gtp.session(command, lines)
-    after = resource.getrusage(resource.RUSAGE_CHILDREN)
-    return passed, after.ru_utime + after.ru_stime - before.ru_utime - before.ru_stime
+    return passed, cost.spent() - before
 
 
 def least(runs: list[tuple[float, float]]) -> tuple[float, float]:
@@ -121,8 +116,7 @@ def time_both(gopat: list[str], gnugo: list[str], paths: list[str], runs: int):
 
 
 def main(gopat: str, gnugo: str, folder: str, runs: str = "5") -> int:
-    """How many records differ."""
-    ours, theirs = Gopat([gopat]), GnuGo([gnugo, *QUIET])
+    ours, theirs = Gopat([gopat]), GnuGo(gtp.gnugo(gnugo))
     found = sorted(str(path.resolve()) for path in pathlib.Path(folder).rglob("*.sgf"))
     paths = [path for path in found if not re.search(r"\s", path)]
     timed, refused, removals, differ = [], 0, 0, 0
@@ -141,11 +135,9 @@ def main(gopat: str, gnugo: str, folder: str, runs: str = "5") -> int:
     theirs.running.end()
     print(f"{len(paths)} records, {refused} refused by gopat, {differ} differ, {removals} by AE; ", end="")
     print(f"{len(found) - len(paths)} names with a blank passed over")
-    time_both([gopat], [gnugo, *QUIET], timed, int(runs))
-    return differ
+    time_both([gopat], gtp.gnugo(gnugo), timed, int(runs))
+    return 1 if differ else 0
 
 
 if __name__ == "__main__":
-    if not 4 <= len(sys.argv) <= 5:
-        sys.exit(__doc__)
-    sys.exit(1 if main(*sys.argv[1:]) else 0)
+    command_line.run(main, __doc__)

@@ -8,7 +8,8 @@ folder that is searched for *.sgf. A file's entries are compared as diagrams alo
 is left out, and so is one with the mark O, which GNU Go takes in another sense, and one without a stone, which its
 matcher cannot anchor. The class letters become `s`, so that neither program asks for a reading. On each position the
 two lists of (name, move) are compared as multisets, for both colours. Before that each file is loaded as it is,
-listed, and matched on the same positions by gopat alone, with its classes and constraints.
+listed, and matched on the same positions by gopat alone, with its classes and constraints. The exit status is 1 where
+a list differs.
 """
 
 import collections
@@ -16,13 +17,13 @@ import pathlib
 import random
 import re
 import subprocess
-import sys
 import tempfile
 from typing import Iterator, NamedTuple
 
+import command_line
+import cut_patterns
 import gtp
 import sgf
-from cut_patterns import entries_of
 
 # Answers lines `size N`, `put b D4` and `match b`: the matches, one a line as a name and a vertex, and then a line `.`.
 DRIVER = r"""
@@ -64,16 +65,25 @@ class Position(NamedTuple):
     stones: list[sgf.Move]
 
 
-def plain_entries(path: pathlib.Path) -> Iterator[bytes]:
-    """The entries that both programs take in one sense, as diagrams alone."""
-    for entry in entries_of(path.read_bytes()):
+class Drawn(NamedTuple):
+    """An entry as its diagram alone, with the class letter `s`; and whether it has a constraint diagram."""
+
+    entry: bytes
+    is_constrained: bool
+
+
+def drawn_entries(path: pathlib.Path) -> Iterator[Drawn]:
+    """The entries that both programs can take in one sense, as diagrams alone: none with the mark O, which GNU Go takes
+    in another, and none without a stone, which its matcher cannot anchor."""
+    for entry in cut_patterns.entries_of(path.read_bytes()):
         lines = [line.rstrip() for line in entry.split(b"\n")]
         colon = next(at for at, line in enumerate(lines) if line.startswith(b":"))
         words = [line.split()[0] for line in lines[1:colon] if line.strip() and not line.startswith(b"#")]
         rest = [line for line in lines[colon + 1 :] if line.strip() and not line.startswith((b"#", b">", b";"))]
         mark = lines[colon][1:2]
-        if not rest and mark != b"O" and any(letter in word for word in words for letter in (b"O", b"X")):
-            yield b"\n".join([b" ".join(lines[0].split()[:2]), b"", *words, b"", b":" + mark + b",s", b"", b""])
+        if mark != b"O" and any(letter in word for word in words for letter in (b"O", b"X")):
+            alone = [b" ".join(lines[0].split()[:2]), b"", *words, b"", b":" + mark + b",s", b"", b""]
+            yield Drawn(b"\n".join(alone), bool(rest))
 
 
 def numbered(entries: Iterator[bytes]) -> list[bytes]:
@@ -99,34 +109,45 @@ def stones_left(gopat: str, position: Position) -> list[sgf.Move]:
     """The stones that stand after the plays."""
     lines = [f"boardsize {position.size}", *(f"play {move}" for move in position.stones), "showboard"]
     replies, _ = gtp.session([gopat], lines)
-    left = []
-    for row in replies[-1].text.splitlines():
-        number, *cells = row.split() or [""]
-        if number.isdigit():
-            marks = zip(sgf.COLUMNS, cells)
-            stones = ((f"{column}{number}", cell) for column, cell in marks if cell != ".")
-            left += [sgf.Move("b" if cell == "X" else "w", vertex) for vertex, cell in stones]
-    return left
+    stones = gtp.shown(replies[-1].text).stones
+    return [sgf.Move("b" if mark == "X" else "w", vertex) for vertex, mark in stones.items()]
 
 
-def build(folder: pathlib.Path, room: pathlib.Path, database: pathlib.Path) -> pathlib.Path | None:
+# GNU Go's libraries, in its source after make.
+LIBRARIES = ["engine/libengine.a", "patterns/libpatterns.a", "engine/libboard.a", "sgf/libsgf.a", "utils/libutils.a"]
+
+
+class Build(NamedTuple):
+    """GNU Go's source after make, and a room whose headers come before its own."""
+
+    folder: pathlib.Path
+    room: pathlib.Path
+
+    def compile(self, files: list[pathlib.Path], made: pathlib.Path, names: list[str] = LIBRARIES):
+        """Compiles files and links GNU Go's libraries of these names."""
+        places = [self.room, *(self.folder / name for name in ("", "engine", "patterns", "utils", "sgf"))]
+        includes = [f"-I{place}" for place in places]
+        libraries = ["-Wl,--start-group", *(self.folder / name for name in names), "-Wl,--end-group"]
+        found = re.search(r"^LIBS = (.*)$", (self.folder / "Makefile").read_text(encoding="latin-1"), re.MULTILINE)
+        libraries += found[1].split() if found else ["-lm"]
+        options = ["-O2", "-w", "-fcommon", "-DHAVE_CONFIG_H"]
+        subprocess.run(["cc", *options, *includes, *files, "-o", made, *libraries], check=True)
+
+
+def matcher_of(folder: pathlib.Path, room: pathlib.Path, database: pathlib.Path) -> pathlib.Path | None:
     """GNU Go's matcher over a database, where its compiler of patterns takes it."""
     made, driver, matcher = room / "compared.c", room / "driver.c", room / "matcher"
     driver.write_text(DRIVER, encoding="ascii")
     command = [folder / "patterns/mkpat", "-b", "-i", database, "-o", made, "compared"]
     if subprocess.run(command, capture_output=True, check=False).returncode:
         return None
-    includes = [f"-I{folder / name}" for name in ("", "engine", "patterns", "utils", "sgf")]
-    names = ("engine/libengine.a", "patterns/libpatterns.a", "engine/libboard.a", "sgf/libsgf.a", "utils/libutils.a")
-    curses = ["-lcurses"] if "#define HAVE_CURSES_H 1" in (folder / "config.h").read_text(encoding="utf-8") else []
-    libraries = ["-Wl,--start-group", *(folder / name for name in names), "-Wl,--end-group", "-lm", *curses]
-    compiled = ["cc", "-O1", "-w", "-fcommon", "-DHAVE_CONFIG_H", *includes, driver, made, "-o", matcher, *libraries]
-    subprocess.run(compiled, check=True)
+    Build(folder, room).compile([driver, made], matcher)
     return matcher
 
 
 class Matched(NamedTuple):
-    """What gopat answers for a file: how many patterns it lists, and the matches on each position, black's and white's."""
+    """What gopat answers for a file: how many patterns it lists, and the matches on each position, black's and
+    white's."""
 
     listed: int
     lists: list[collections.Counter[str]]
@@ -161,7 +182,7 @@ def count(lists: list[collections.Counter[str]]) -> int:
     return sum(sum(found.values()) for found in lists)
 
 
-def main(gopat: str, folder: str, patterns: str, records: str, wanted: str = "100", seed: str = "1"):
+def main(gopat: str, folder: str, patterns: str, records: str, wanted: str = "100", seed: str = "1") -> int:
     luck = random.Random(int(seed))
     asked = [Position(one.size, stones_left(gopat, one)) for one in positions(pathlib.Path(records), int(wanted), luck)]
     totals = collections.Counter[str]()
@@ -172,11 +193,11 @@ def main(gopat: str, folder: str, patterns: str, records: str, wanted: str = "10
                 continue
             whole = by_gopat(gopat, path, asked)
             print(f"{path.name}: {whole.listed} listed, {count(whole.lists)} matches in {whole.seconds:.1f} s", end="")
-            entries = numbered(plain_entries(path))
+            entries = numbered(drawn.entry for drawn in drawn_entries(path) if not drawn.is_constrained)
             totals += collections.Counter(listed=whole.listed, whole=count(whole.lists), files=1)
             database = room / path.name
             database.write_bytes(b"".join(entries))
-            matcher = build(pathlib.Path(folder).resolve(), room, database) if entries else None
+            matcher = matcher_of(pathlib.Path(folder).resolve(), room, database) if entries else None
             if not matcher:
                 print("; none compared")
                 continue
@@ -191,9 +212,8 @@ def main(gopat: str, folder: str, patterns: str, records: str, wanted: str = "10
     print(f"{totals['files']} files, {patterns_and_matches} on {len(asked)} positions")
     compared, matches, differ = (totals[key] for key in ("compared", "matches", "differ"))
     print(f"{compared} patterns compared as diagrams, {matches} matches, {differ} lists differ")
+    return 1 if differ else 0
 
 
 if __name__ == "__main__":
-    if not 5 <= len(sys.argv) <= 7:
-        sys.exit(__doc__)
-    main(*sys.argv[1:])
+    command_line.run(main, __doc__)

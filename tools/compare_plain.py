@@ -1,23 +1,24 @@
-"""Asks gopat and a plain reader the same `attack` and `defend` questions on random dense boards, at small depths, and says how many
-answers differ. The plain reader is tools/plain_reader.c, a second program that follows the definitions with no pruning; it is
-compiled here, by `cc`.
+"""Asks gopat and a plain reader the same `attack` and `defend` questions on random dense boards, at small depths, and
+says how many answers differ. The plain reader is tools/plain_reader.c, a second program that follows the definitions
+with no pruning; it is compiled here, by `cc`.
 
 usage: python3 tools/compare_plain.py GOPAT QUESTIONS [SEED]
+
+The exit status is 1 where a reply differs.
 """
 
 import pathlib
 import random
 import subprocess
-import sys
 import tempfile
 from typing import Iterator
 
+import command_line
 import gtp
 
 # Plies and wide plies, so small that the whole tree is read in a moment. From 12 plies on gopat remembers nodes.
-DEPTHS = [(1, 0), (1, 1), (2, 0), (2, 2), (3, 1), (3, 3), (4, 0), (4, 2), (4, 4), (5, 0), (5, 1), (5, 2), (6, 0), (6, 1), (7, 0), (12, 0), (14, 0)]
-
-COLUMNS = "ABCDEFGHJ"
+SMALL = [(1, 0), (1, 1), (2, 0), (2, 2), (3, 1), (3, 3), (4, 0), (4, 2), (4, 4), (5, 0), (5, 1), (5, 2)]
+DEPTHS = [*SMALL, (6, 0), (6, 1), (7, 0), (12, 0), (14, 0)]
 
 
 def compiled(folder: str) -> str:
@@ -31,7 +32,7 @@ def compiled(folder: str) -> str:
 def board(choose: random.Random) -> Iterator[str]:
     """A position by random plays, the last of which may leave a ban, and questions on some of its points."""
     size = choose.choice([3, 4, 4, 5, 5, 6, 7])
-    vertices = [f"{COLUMNS[column]}{row + 1}" for column in range(size) for row in range(size)]
+    vertices = gtp.vertices(size)
     yield f"boardsize {size}"
     yield "clear_board"
     for _ in range(choose.randint(size * size // 2, size * size * 2)):
@@ -47,7 +48,7 @@ def is_question(line: str) -> bool:
     return line.startswith(("attack", "defend"))
 
 
-def main(gopat: str, questions: str, seed: str = "1"):
+def main(gopat: str, questions: str, seed: str = "1") -> int:
     choose = random.Random(int(seed))
     asked = differ = captured = refused = 0
     with tempfile.TemporaryDirectory() as folder:
@@ -65,9 +66,8 @@ def main(gopat: str, questions: str, seed: str = "1"):
                     refused += not one.ok
                     captured += one.ok and not one.text.startswith("0")
     print(f"{asked} questions, {captured} with a code above 0, {refused} on empty points; {differ} replies differ")
+    return 1 if differ else 0
 
 
 if __name__ == "__main__":
-    if not 3 <= len(sys.argv) <= 4:
-        sys.exit(__doc__)
-    main(*sys.argv[1:])
+    command_line.run(main, __doc__)

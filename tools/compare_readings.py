@@ -1,5 +1,5 @@
-"""Asks gopat the `attack` and `defend` questions of GNU Go's own regression suite, in the positions of its game records, and
-says how long that takes and how often both programs say that it can or cannot be done.
+"""Asks gopat the `attack` and `defend` questions of GNU Go's own regression suite, in the positions of its game
+records, and says how long that takes and how often both programs say that it can or cannot be done.
 
 usage: python3 tools/compare_readings.py GOPAT GNUGO REGRESSION PLIES WIDE [FILE]
 
@@ -7,11 +7,11 @@ REGRESSION is the folder with *.tst in GNU Go's source. With a file's name, gopa
 """
 
 import pathlib
-import re
-import sys
 from typing import Iterator, NamedTuple
 
+import command_line
 import gtp
+import run_cases
 
 
 class Asked(NamedTuple):
@@ -31,16 +31,16 @@ def suite(folder: pathlib.Path) -> Iterator[tuple[str, str]]:
         for line in path.read_text(encoding="latin-1").splitlines():
             if line.startswith("loadsgf "):
                 load = line.strip()
-            question = re.fullmatch(r"\d+ ((?:attack|defend) [A-T]\d+)", line.strip())
+            question = run_cases.CASE.fullmatch(line.strip())
             if load and question:
-                yield load, question[1]
+                yield load, question[2]
 
 
 def asked_of_gnugo(gnugo: str, folder: pathlib.Path) -> Iterator[Asked]:
     """The questions of the suite, with the position by GNU Go's reading of the record, and its answer."""
     for load, question in suite(folder):
         lines = [load, "query_boardsize", "list_stones black", "list_stones white", question]
-        replies, _ = gtp.session([gnugo, "--mode", "gtp", "--quiet"], lines, str(folder))
+        replies, _ = gtp.session(gtp.gnugo(gnugo), lines, str(folder))
         loaded, size, black, white, answer = replies
         if loaded.ok:
             yield Asked(int(size.text), black.text.split(), white.text.split(), question, answer)
@@ -79,6 +79,4 @@ def main(gopat: str, gnugo: str, regression: str, plies: str, wide: str, kept: s
 
 
 if __name__ == "__main__":
-    if not 6 <= len(sys.argv) <= 7:
-        sys.exit(__doc__)
-    main(*sys.argv[1:])
+    command_line.run(main, __doc__)

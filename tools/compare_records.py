@@ -1,17 +1,17 @@
-"""Plays game records in gopat and in GNU Go, and compares what they answer of the board: which plays they take, liberties,
-legal points, captures and stones, with moves taken back in between.
+"""Plays game records in gopat and in GNU Go, and compares what they answer of the board: which plays they take,
+liberties, legal points, captures and stones, with moves taken back in between.
 
 usage: python3 tools/compare_records.py GOPAT GNUGO FOLDER [SEED]
 
-The folder is searched for *.sgf. Records that take stones off the board are passed over.
+The folder is searched for *.sgf. Records that take stones off the board are passed over. The exit status is 1 where a
+reply differs.
 """
 
 import pathlib
 import random
-import re
-import sys
 from typing import Callable, NamedTuple
 
+import command_line
 import gtp
 import sgf
 
@@ -45,10 +45,7 @@ def stones(mark: str) -> Callable[[gtp.Reply], object]:
     """The vertices of a board's text that hold the mark."""
 
     def seen(reply: gtp.Reply):
-        rows = (line.split() for line in reply.text.splitlines() if re.match(r" *\d+ [.XO]", line))
-        return reply.ok, frozenset(
-            letter + row[0] for row in rows for letter, cell in zip(sgf.COLUMNS, row[1:]) if cell == mark
-        )
+        return reply.ok, frozenset(gtp.shown(reply.text).of(mark))
 
     return seen
 
@@ -84,7 +81,7 @@ def differences(gopat: str, gnugo: str, record: sgf.Record, luck: random.Random)
     """How many replies were compared, and those that differ."""
     asked = list(questions(record, luck))
     ours, _ = gtp.session([gopat], [question.ours for question in asked])
-    theirs, _ = gtp.session([gnugo, "--mode", "gtp", "--quiet"], [question.theirs for question in asked])
+    theirs, _ = gtp.session(gtp.gnugo(gnugo), [question.theirs for question in asked])
     return len(asked), [
         f"{question.ours}: {our.text[:60]!r}, {their.text[:60]!r}"
         for question, our, their in zip(asked, ours, theirs)
@@ -92,9 +89,9 @@ def differences(gopat: str, gnugo: str, record: sgf.Record, luck: random.Random)
     ]
 
 
-def main(gopat: str, gnugo: str, folder: str, seed: str = "1"):
+def main(gopat: str, gnugo: str, folder: str, seed: str = "1") -> int:
     luck = random.Random(int(seed))
-    records = replies = 0
+    records = replies = differ = 0
     for path in sorted(pathlib.Path(folder).rglob("*.sgf")):
         try:
             record = sgf.read(str(path))
@@ -103,13 +100,12 @@ def main(gopat: str, gnugo: str, folder: str, seed: str = "1"):
         if not record.moves or not 5 <= record.size <= 19:
             continue
         count, found = differences(gopat, gnugo, record, luck)
-        records, replies = records + 1, replies + count
+        records, replies, differ = records + 1, replies + count, differ + len(found)
         if found:
             print(f"{path}: {len(found)} differ, the first: {found[0]}")
-    print(f"{records} records, {replies} replies compared")
+    print(f"{records} records, {replies} replies compared, {differ} differ")
+    return 1 if differ else 0
 
 
 if __name__ == "__main__":
-    if not 4 <= len(sys.argv) <= 5:
-        sys.exit(__doc__)
-    main(*sys.argv[1:])
+    command_line.run(main, __doc__)

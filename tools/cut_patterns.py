@@ -11,15 +11,16 @@ Go's own before the first pattern is left out.
 import collections
 import pathlib
 import subprocess
-import sys
 import tempfile
 from typing import Iterator
+
+import command_line
 
 MOST_STATES = 1_000_000
 MOST_PATTERNS = 4096
 KINDS = (
-    "BadByte StrayLine NoName NoDiagram Ragged BadLetter MoveCount EdgePlace TooLarge NoColonLine BadMark BadClass BadItem "
-    "ConstraintShape ExprFault UnknownLabel UnknownHelper TooManyPatterns"
+    "BadByte StrayLine NoName NoDiagram Ragged BadLetter MoveCount EdgePlace TooLarge NoColonLine BadMark BadClass "
+    "BadItem ConstraintShape ExprFault UnknownLabel UnknownHelper TooManyPatterns"
 ).split()
 
 
@@ -85,6 +86,4 @@ def main(gopat: str, folder: str, out: str):
 
 
 if __name__ == "__main__":
-    if len(sys.argv) != 4:
-        sys.exit(__doc__)
-    main(*sys.argv[1:])
+    command_line.run(main, __doc__)

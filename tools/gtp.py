@@ -1,8 +1,41 @@
-"""Sessions of the Go Text Protocol with a program: all lines in and all replies out, or one line after the other."""
+"""Sessions of the Go Text Protocol with a program: all lines in and all replies out, or one line after the other. And
+what such lines speak of: vertices, and the board of a `showboard` reply."""
 
+import re
 import subprocess
 import time
 from typing import NamedTuple
+
+COLUMNS = "ABCDEFGHJKLMNOPQRSTUVWXYZ"
+
+
+def gnugo(program: str) -> list[str]:
+    """The command that starts GNU Go."""
+    return [program, "--mode", "gtp", "--quiet"]
+
+
+def vertices(size: int) -> list[str]:
+    """The vertices of a board, column by column, each from the first row up."""
+    return [f"{column}{row}" for column in COLUMNS[:size] for row in range(1, size + 1)]
+
+
+class Shown(NamedTuple):
+    """A board: its size, and the mark of each stone, X for black and O for white, by its vertex in reading order."""
+
+    size: int
+    stones: dict[str, str]
+
+    def of(self, mark: str) -> list[str]:
+        """The vertices of the stones with this mark."""
+        return [vertex for vertex, one in self.stones.items() if one == mark]
+
+
+def shown(text: str) -> Shown:
+    """The board of a `showboard` reply, gopat's or GNU Go's, which marks the handicap points by +."""
+    rows = [line.split() for line in text.splitlines() if re.match(r" *\d+ [.+XO]", line)]
+    size = len(rows)
+    stones = {column + row[0]: mark for row in rows for column, mark in zip(COLUMNS[:size], row[1:]) if mark in "XO"}
+    return Shown(size, stones)
 
 
 class Reply(NamedTuple):

@@ -1,5 +1,6 @@
-/* A plain tactical reader that speaks a few commands of the protocol: it follows the definitions of the candidates, the game tree and
- * the codes word for word, with no pruning, no order and no table, and shares nothing with gopat. compare_plain.py puts it beside gopat.
+/* A plain tactical reader that speaks a few commands of the protocol: it follows the definitions of the candidates, the
+ * game tree and the codes word for word, with no pruning, no order and no table, and shares nothing with gopat.
+ * compare_plain.py puts it beside gopat.
  *
  * commands: boardsize S, clear_board, depths PLIES WIDE, play C VERTEX, attack VERTEX, defend VERTEX, quit
  */
@@ -8,7 +9,8 @@
 #include <string.h>
 
 enum { EMPTY, BLACK, WHITE, POINTS = 81 };
-typedef struct { signed char cell[POINTS]; int ban, banned; } Position; /* the ban: a point (-1: none) and the colour that may not play there */
+/* the ban: a point (-1: none) and the colour that may not play there */
+typedef struct { signed char cell[POINTS]; int ban, banned; } Position;
 typedef struct { int target, defender, attacks, wide, attacker_ko, defender_ko; } Node;
 
 static int size = 9, points = 81, plies = 10, wide = 2;
@@ -94,7 +96,8 @@ static void candidates(const Position *pos, int target, int k, char *is) {
 
 /* where the mover's play at p leads; 0 where it cannot be played */
 static int child(const Node *node, const Position *pos, int p, Node *next, Position *new) {
-  int mover = node->attacks ? 3 - node->defender : node->defender, left = node->attacks ? node->attacker_ko : node->defender_ko;
+  int mover = node->attacks ? 3 - node->defender : node->defender;
+  int left = node->attacks ? node->attacker_ko : node->defender_ko;
   if (pos->cell[p] != EMPTY) return 0;
   if (is_banned(pos, mover, p)) { if (left == 0) return 0; left--; }
   if (!play_free(pos, mover, p, new)) return 0;
@@ -128,7 +131,8 @@ static int attacker_wins(int n, const Node *node, const Position *pos) {
   }
   candidates(pos, node->target, node->wide, is);
   for (int p = 0; p < points; p++)
-    if (is[p] && child(node, pos, p, &next, &new) && attacker_wins(n - 1, &next, &new) == node->attacks) return node->attacks;
+    if (is[p] && child(node, pos, p, &next, &new) && attacker_wins(n - 1, &next, &new) == node->attacks)
+      return node->attacks;
   return !node->attacks;
 }
 

@@ -6,8 +6,8 @@ usage: python3 tools/play_games.py GOPAT PATTERNS GNUGO EXAMPLES [LEVEL [SIZE ..
 
 EXAMPLES is the folder interface/gtp_examples of GNU Go's source, which has twogtp (Perl), twogtp.py (Python 2.7) and
 twogtp.pike (pike 8.0). A program that is missing is told and passed over. LEVEL is GNU Go's, by itself 1, with a fixed
-seed, so that each run plays the same games. gopat stands
-behind tools/as_player.py, and each side behind this file's own `--side`, which keeps what was said:
+seed, so that each run plays the same games. gopat stands behind tools/as_player.py, and each side behind this file's
+own `--side`, which keeps what was said:
 
        python3 tools/play_games.py --side NOTES COMMAND ..
 
@@ -28,7 +28,7 @@ import time
 from typing import Iterator, NamedTuple
 
 import as_player
-import compare_records
+import command_line
 import gtp
 
 CLIENTS = {"twogtp": "perl", "twogtp.py": "python2", "twogtp.pike": "pike"}
@@ -55,15 +55,9 @@ class Game(NamedTuple):
     handicap: int
 
 
-def stones(board: str, mark: str) -> list[str]:
-    """The points of a board's text with this mark, in one order for every program."""
-    _, found = compare_records.stones(mark)(gtp.Reply(True, board))
-    return sorted(found)
-
-
-def stand_between(path: str, command: list[str]) -> int:
+def stand_between(path: str, *command: str) -> int:
     """Passes lines on and keeps the notes of the last game."""
-    engine = gtp.Running(command)
+    engine = gtp.Running(list(command))
     plies, score, refused = 0, "", []
     for raw in iter(sys.stdin.buffer.readline, b""):
         line = as_player.read_line(raw)
@@ -78,8 +72,8 @@ def stand_between(path: str, command: list[str]) -> int:
         plies *= line.command != "clear_board"
         score = reply[1:].strip() if line.command == "final_score" else score
         refused += [] if reply[0] == "=" else [" ".join([line.command, *line.words])]
-    board = engine.ask("showboard").text
-    notes = Notes(stones(board, "X"), stones(board, "O"), plies, score, refused)
+    board = gtp.shown(engine.ask("showboard").text)
+    notes = Notes(board.of("X"), board.of("O"), plies, score, refused)
     pathlib.Path(path).write_text(json.dumps(notes._asdict()), encoding="ascii")
     with contextlib.suppress(BrokenPipeError):
         os.write(sys.stdout.fileno(), engine.pass_on(b"quit\n"))
@@ -161,7 +155,7 @@ def refusals(all_notes: list[Notes]) -> str:
 def main(gopat: str, patterns: str, gnugo: str, examples: str, level: str = "1", *sizes: str) -> int:
     tools = pathlib.Path(__file__).resolve().parent
     words = [sys.executable, str(tools / "as_player.py"), os.path.abspath(gopat), os.path.abspath(patterns)]
-    theirs = [os.path.abspath(shutil.which(gnugo) or gnugo), "--mode", "gtp", "--quiet", "--level", level, "--seed", "1"]
+    theirs = [*gtp.gnugo(os.path.abspath(shutil.which(gnugo) or gnugo)), "--level", level, "--seed", "1"]
     players = {"gopat": shlex.join(words), "gnugo": shlex.join(theirs)}
     for command in (words, theirs):
         gtp.session(command, ["protocol_version"])
@@ -187,7 +181,5 @@ def main(gopat: str, patterns: str, gnugo: str, examples: str, level: str = "1",
 
 if __name__ == "__main__":
     if len(sys.argv) >= 4 and sys.argv[1] == "--side":
-        sys.exit(stand_between(sys.argv[2], sys.argv[3:]))
-    if len(sys.argv) < 5:
-        sys.exit(__doc__)
-    sys.exit(main(*sys.argv[1:]))
+        sys.exit(stand_between(*sys.argv[2:]))
+    command_line.run(main, __doc__)

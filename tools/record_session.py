@@ -3,13 +3,14 @@ moves taken back and played again, and at the end all of them.
 
 usage: python3 tools/record_session.py RECORD.sgf [RECORD.sgf ...] | gopat
 
-What of a record is no row of plays is told on standard error, with the record and the move, and the next record follows;
-the exit status is then 1.
+A record that is no row of plays is told on standard error, with the move from which on it is none, and the next record
+follows; the exit status is then 1.
 """
 
 import itertools
 import sys
 
+import command_line
 import sgf
 
 
@@ -38,22 +39,20 @@ def back_and_forth(moves: list[sgf.Move], steps: int):
     yield from ["showboard", "captures black", "captures white"]
 
 
-def main(paths: list[str]) -> int:
-    """Prints the lines of all records, numbered through, and says how many records are no row of plays."""
-    numbers, refused = itertools.count(1), 0
-    for path in paths:
+def main(first: str, *more: str) -> int:
+    """Prints the lines of all records, numbered through."""
+    numbers, status = itertools.count(1), 0
+    for path in (first, *more):
         try:
             record = sgf.read(path)
         except sgf.NotPlayable as why:
             print(why, file=sys.stderr)
-            refused += 1
+            status = 1
             continue
         for line in lines(record):
             print(next(numbers), line)
-    return refused
+    return status
 
 
 if __name__ == "__main__":
-    if len(sys.argv) < 2:
-        sys.exit(__doc__)
-    sys.exit(1 if main(sys.argv[1:]) else 0)
+    command_line.run(main, __doc__)

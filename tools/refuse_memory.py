@@ -1,29 +1,33 @@
 """Refuses gopat's allocations one at a time, and checks what its contracts say of each.
 
-usage: refuse_memory.py GOPAT
+usage: python3 tools/refuse_memory.py GOPAT
 
-The proved program is run over four sessions: one line of each kind with ids, two readings with a distant move between them,
-a pattern file with constraints, and 200 generated lines. For each number N the Nth allocation is refused by a library that is
+The proved program is run over some sessions: lines of the board and of readings with ids, two readings with a distant
+move between them, a pattern file with constraints, a record with printed proofs and connections, chosen moves with
+commands of helpers, and 200 generated lines. For each number N the Nth allocation is refused by a library that is
 loaded before the C library (refusing_malloc.c, built with `cc`). Then one of these has to hold:
 
 - the program ends with status 3 and the note `out of memory`, before the first line;
-- one line is answered `out of memory`, and all other replies are those of a session without that line;
+- one line is answered `out of memory`, or `cannot load file` where it loads a record, and all other replies are those
+  of a session without that line;
 - all replies are as with ample memory, and one keeping of a reading is counted as refused, or none.
 
-It prints for each session how many allocations there are and what each kind gave, and ends with 1 where anything else came.
+It prints for each session how many allocations there are and what each kind gave. The exit status is 1 where anything
+else came.
 """
 
 import os
 import subprocess
-import sys
 import tempfile
 from collections import Counter
 from pathlib import Path
 from typing import NamedTuple
 
+import command_line
+import gtp
+
 HERE = Path(__file__).resolve().parent
 SIZE = 9
-COLUMNS = "ABCDEFGHJ"
 
 
 class Ran(NamedTuple):
@@ -50,7 +54,7 @@ def generated_lines(count: int) -> list[str]:
     for i in range(1, count + 1):
         x = (x * 1103515245 + 12345) % 2**31
         row, column = divmod(x // 65536 % (SIZE * SIZE), SIZE)
-        vertex = f"{COLUMNS[column]}{SIZE - row}"
+        vertex = f"{gtp.COLUMNS[column]}{SIZE - row}"
         colour = "b" if i % 2 else "w"
         by_place = {4: "undo", 8: f"attack {vertex}", 12: f"defend {vertex}", 0: f"match_patterns {colour}"}
         lines.append(by_place.get(i % 16, f"play {colour} {vertex}"))
@@ -58,32 +62,46 @@ def generated_lines(count: int) -> list[str]:
 
 
 GENERATE = ["--generate", "200"]
-HANE = (HERE.parent / "docs" / "examples" / "hane.db").read_text()
+EXAMPLES = HERE.parent / "docs" / "examples"
+HANE = (EXAMPLES / "hane.db").read_text()
+NAMED = "Pattern Named\nOX*\n:8,s,value(7),no_ban\n"
+
+
+def lines(text: str) -> list[str]:
+    """The lines of a text, where a semicolon parts them too."""
+    return [line.strip() for line in text.strip().replace("\n", ";").split(";")]
+
+
+def numbered(text: str) -> list[str]:
+    """The same with ids."""
+    return [f"{number} {line}" for number, line in enumerate(lines(text), start=1)]
+
+
+BOARD = """
+protocol_version; name; version; known_command play; list_commands; boardsize 9; komi 6.5; get_komi
+play b D4; play w C4; play w E4; play w D5; showboard; is_legal b D3; all_legal w; countlib D4; findlib D4
+captures white; attack D4; defend D4; undo; match_patterns b; list_patterns; depths 5 1; attack D4
+clear_board; play b D4; nonsense; quit
+"""
+READINGS = "play b D4; play w C4; play w E4; play w D5; attack D4; play b Q16; attack D4; undo; attack D4"
+PATTERNS = """
+list_patterns; boardsize 5; play w D3; play b C4; play b C3; match_patterns w; match_patterns b; undo; match_patterns w
+"""
+RECORD = f"""
+depths 3 2; loadsgf {EXAMPLES / "record.sgf"}; attack_proof D4; defend_proof D4; check_proof attack D4 3 W D3 .
+connect C4 D5; disconnect C4 D5; play b D3; undo; loadsgf {EXAMPLES / "hane.db"}; undo; showboard
+"""
+CHOICES = """
+boardsize 5; play w D3; play b C3; reg_genmove w; genmove w; helper_calls no_ban; helper_off no_ban; reg_genmove w
+helper_drop near_edge; helper_calls near_edge; helper_calls no_ban; showboard
+"""
 
 SESSIONS = [
-    Session(
-        "each kind of line",
-        ["--stats"],
-        [
-            "1 protocol_version", "2 name", "3 version", "4 known_command play", "5 list_commands", "6 boardsize 9", "7 komi 6.5", "8 get_komi",
-            "9 play b D4", "10 play w C4", "11 play w E4", "12 play w D5", "13 showboard", "14 is_legal b D3", "15 all_legal w", "16 countlib D4",
-            "17 findlib D4", "18 captures white", "19 attack D4", "20 defend D4", "21 undo", "22 match_patterns b", "23 list_patterns", "24 depths 5 1",
-            "25 attack D4", "26 clear_board", "27 play b D4", "28 nonsense", "29 quit",
-        ],
-        None,
-    ),
-    Session(
-        "two readings and a distant move",
-        ["--stats", "--depth", "3"],
-        ["play b D4", "play w C4", "play w E4", "play w D5", "attack D4", "play b Q16", "attack D4", "undo", "attack D4"],
-        None,
-    ),
-    Session(
-        "patterns with a constraint",
-        ["--stats"],
-        ["list_patterns", "boardsize 5", "play w D3", "play b C4", "play b C3", "match_patterns w", "match_patterns b", "undo", "match_patterns w"],
-        HANE,
-    ),
+    Session("the board and readings", ["--stats"], numbered(BOARD), None),
+    Session("two readings and a distant move", ["--stats", "--depth", "3"], lines(READINGS), None),
+    Session("patterns with a constraint", ["--stats"], lines(PATTERNS), HANE),
+    Session("a record, proofs and connections", ["--stats"], numbered(RECORD), None),
+    Session("chosen moves and helpers", ["--stats"], numbered(CHOICES), NAMED),
     Session("200 generated lines", ["--stats", *GENERATE], generated_lines(200), HANE),
 ]
 
@@ -110,9 +128,9 @@ def run(gopat: str, session: Session, folder: Path, library: Path | None, refuse
     return Ran(done.returncode, replies, done.stderr.splitlines())
 
 
-def is_out_of_memory(reply: str) -> bool:
-    """Whether the reply is the refusal for want of memory, with or without an id."""
-    return reply.startswith("?") and reply.endswith(" out of memory")
+def is_excuse(reply: str) -> bool:
+    """Whether the reply is a refusal that may come for want of memory, with or without an id."""
+    return reply.startswith("?") and reply.endswith((" out of memory", " cannot load file"))
 
 
 def counts(notes: list[str]) -> dict[str, int]:
@@ -138,7 +156,7 @@ def told(gopat: str, session: Session, folder: Path, ample: Ran, ran: Ran) -> tu
     if ran.status == 3:
         fits = not ran.replies and ran.notes == ["out of memory"]
         return "status 3", None if fits else f"{ran}"
-    refused = [i for i, reply in enumerate(ran.replies) if is_out_of_memory(reply)]
+    refused = [i for i, reply in enumerate(ran.replies) if is_excuse(reply)]
     if ran.status != 0 or len(refused) > 1:
         return "fault", f"status {ran.status}, {len(refused)} lines refused, {ran.notes}"
     if refused:
@@ -157,22 +175,20 @@ def tried(gopat: str, session: Session, folder: Path, library: Path) -> bool:
     ample = run(gopat, session, folder, library)
     number = int((folder / "count").read_text())
     kinds: Counter[str] = Counter()
-    right = True
+    right = number > 0
     for refuse in range(1, number + 1):
         kind, wrong = told(gopat, session, folder, ample, run(gopat, session, folder, library, refuse))
         kinds[kind] += 1
         if wrong is not None:
             right = False
             print(f"  allocation {refuse}: {wrong[:300]}")
-    print(f"{session.name}: {number} allocations; " + ", ".join(f"{kind} {count}" for kind, count in kinds.most_common()))
+    told_kinds = ", ".join(f"{kind} {count}" for kind, count in kinds.most_common())
+    print(f"{session.name}: {number} allocations; {told_kinds}")
     return right
 
 
-def main() -> int:
-    if len(sys.argv) != 2:
-        print(__doc__)
-        return 2
-    gopat = str(Path(sys.argv[1]).resolve())
+def main(program: str) -> int:
+    gopat = str(Path(program).resolve())
     with tempfile.TemporaryDirectory() as name:
         folder = Path(name)
         library = build_library(folder)
@@ -181,4 +197,4 @@ def main() -> int:
 
 
 if __name__ == "__main__":
-    sys.exit(main())
+    command_line.run(main, __doc__)

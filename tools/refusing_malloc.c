@@ -1,5 +1,5 @@
-/* Refuses one allocation of a program: the one whose number the variable REFUSE gives, counted from 1, or none where it is 0.
-   Where COUNT_FILE names a file, the number of allocations is written there when the program ends.
+/* Refuses one allocation of a program: the one whose number the variable REFUSE gives, counted from 1, or none where it
+   is 0. Where COUNT_FILE names a file, the number of allocations is written there when the program ends.
    Built by tools/refuse_memory.py as a library that is loaded before the C library's own. */
 #define _GNU_SOURCE
 #include <dlfcn.h>

@@ -16,6 +16,7 @@ import subprocess
 import sys
 from typing import Iterator, NamedTuple
 
+import command_line
 import sgf
 
 CASE = re.compile(r"(\d+) ((?:attack|defend) [A-T]\d+)")
@@ -131,6 +132,4 @@ def main(gopat: str, regression: str, out: str, plies: str, wide: str):
 
 
 if __name__ == "__main__":
-    if len(sys.argv) != 6:
-        sys.exit(__doc__)
-    main(*sys.argv[1:])
+    command_line.run(main, __doc__)

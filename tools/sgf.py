@@ -3,7 +3,7 @@
 import re
 from typing import Iterator, NamedTuple
 
-COLUMNS = "ABCDEFGHJKLMNOPQRSTUVWXYZ"
+import gtp
 
 TOKEN = re.compile(r"[()]|([A-Za-z]+)((?:\s*\[(?:\\.|[^\\\]])*\])+)", re.DOTALL)
 VALUE = re.compile(r"\[((?:\\.|[^\\\]])*)\]", re.DOTALL)
@@ -52,7 +52,8 @@ def read(path: str) -> Record:
 
 
 def main_line(text: str) -> Iterator[tuple[str, list[str]]]:
-    """The properties of the first variation, in order. In old records a name has small letters too, which do not count."""
+    """The properties of the first variation, in order. In old records a name has small letters too, which do not
+    count."""
     for token in TOKEN.finditer(text):
         if token[0] == ")":
             return
@@ -75,4 +76,4 @@ def vertex(point: str, size: int) -> str:
     if point == "" or (point == "tt" and size <= 19):
         return "PASS"
     column, row = (ord(letter) - ord("a") for letter in point)
-    return f"{COLUMNS[column]}{size - row}"
+    return f"{gtp.COLUMNS[column]}{size - row}"

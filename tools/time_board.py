@@ -6,9 +6,9 @@ Each group of lines is sent again and again (REPEATS, 2000 unless given) after t
 session that only makes these moves is taken off. Each session is run three times, and the shortest counts.
 """
 
-import sys
 from typing import NamedTuple
 
+import command_line
 import gtp
 import sgf
 
@@ -27,7 +27,7 @@ def groups(record: sgf.Record, repeats: int) -> list[Group]:
     start = [f"boardsize {record.size}", "clear_board"]
     there = start + plays
     stones = [move.vertex for move in record.moves[-20:] if move.vertex.lower() != "pass"]
-    points = [f"{letter}{row + 1}" for letter in sgf.COLUMNS[: record.size] for row in range(record.size)]
+    points = gtp.vertices(record.size)
     return [
         Group("play", start, (["clear_board"] + plays) * max(1, repeats // 20)),
         Group("play and undo", there[:-1], [plays[-1], "undo"] * (10 * repeats)),
@@ -53,11 +53,9 @@ def main(gopat: str, gnugo: str, path: str, repeats: str = "2000"):
     print(f"{len(record.moves)} moves on {record.size} by {record.size}")
     for group in groups(record, int(repeats)):
         ours = lines_a_second([gopat], group)
-        theirs = lines_a_second([gnugo, "--mode", "gtp", "--quiet"], group)
+        theirs = lines_a_second(gtp.gnugo(gnugo), group)
         print(f"{group.name:14} {ours:12,.0f} {theirs:12,.0f} lines a second: {ours / theirs:6.1f} times")
 
 
 if __name__ == "__main__":
-    if not 4 <= len(sys.argv) <= 5:
-        sys.exit(__doc__)
-    main(*sys.argv[1:])
+    command_line.run(main, __doc__)

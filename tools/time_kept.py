@@ -1,25 +1,26 @@
-"""Times questions that gopat and GNU Go answer from what they have kept, and measures the largest cache full of real readings.
+"""Times questions that gopat and GNU Go answer from what they have kept, and measures the largest cache full of real
+readings.
 
 usage: python3 tools/time_kept.py GOPAT GNUGO REGRESSION [QUESTIONS [REPEATS [ROUNDS]]]
 
-REGRESSION is the folder with *.tst in GNU Go's source: its attack and defend questions are asked in the positions of its game
-records, as tools/compare_readings.py finds them, QUESTIONS of them (all). Each is asked for the first time; REPEATS times again
-(1000); and after each of a row of moves that are far from its string, as many as find room there. The row is played in ROUNDS
-orders (10), each by chance, and taken back behind each, so that neither program meets a whole position again. The time of a
-session that makes the same moves and does not ask is taken off; all times are the processor's, and the shortest of three
-counts. Since that difference is small beside GNU Go's sessions, all stones of the same positions are also asked about, once
-and behind each of 30 moves that are far from them. Then questions about every stone of random boards, at several depths,
-fill a cache of 65,536 questions.
+REGRESSION is the folder with *.tst in GNU Go's source: its attack and defend questions are asked in the positions of
+its game records, as tools/compare_readings.py finds them, QUESTIONS of them (all). Each is asked for the first time;
+REPEATS times again (1000); and after each of a row of moves that are far from its string, as many as find room there.
+The row is played in ROUNDS orders (10), each by chance, and taken back behind each, so that neither program meets a
+whole position again. The time of a session that makes the same moves and does not ask is taken off; all times are the
+processor's, and the shortest of three counts. Since that difference is small beside GNU Go's sessions, all stones of
+the same positions are also asked about, once and behind each of 30 moves that are far from them. Then questions about
+every stone of random boards, at several depths, fill a cache of 65,536 questions.
 """
 
 import pathlib
 import random
-import sys
 from typing import Iterator, NamedTuple
 
+import command_line
 import compare_readings
 import cost
-import sgf
+import gtp
 
 LARGEST_CACHE = 65_536
 
@@ -33,15 +34,27 @@ class Timed(NamedTuple):
     questions: int
 
 
+def place(vertex: str) -> tuple[int, int]:
+    """The column, from 0 on, and the row of a vertex."""
+    return gtp.COLUMNS.index(vertex[0]), int(vertex[1:])
+
+
+def is_far(one: str, other: str, size: int) -> bool:
+    """Whether two vertices are more steps apart than the board has rows."""
+    return sum(abs(a - b) for a, b in zip(place(one), place(other))) > size
+
+
+def empty_points(asked: compare_readings.Asked) -> list[str]:
+    """The vertices without a stone."""
+    taken = set(asked.black) | set(asked.white)
+    return [vertex for vertex in gtp.vertices(asked.size) if vertex not in taken]
+
+
 def far_points(asked: compare_readings.Asked) -> list[str]:
     """Empty points that are far from the target, none beside another."""
-    taken = set(asked.black) | set(asked.white)
     target = asked.question.split()[1]
-    column, row = sgf.COLUMNS.index(target[0]), int(target[1:])
-    places = [(x, y) for x in range(asked.size) for y in range(1, asked.size + 1) if (x + y) % 2]
-    far = [at for at in places if abs(at[0] - column) + abs(at[1] - row) > asked.size]
-    vertices = [f"{sgf.COLUMNS[x]}{y}" for x, y in far]
-    return [vertex for vertex in vertices if vertex not in taken]
+    alternate = [vertex for vertex in empty_points(asked) if sum(place(vertex)) % 2]
+    return [vertex for vertex in alternate if is_far(vertex, target, asked.size)]
 
 
 def rounds_of_moves(luck: random.Random, asked: compare_readings.Asked, rounds: int) -> list[list[str]]:
@@ -53,17 +66,12 @@ def rounds_of_moves(luck: random.Random, asked: compare_readings.Asked, rounds: 
 
 def far_from(asked: compare_readings.Asked, vertex: str) -> list[str]:
     """One attack question for each stone that is far from the vertex."""
-    column, row = sgf.COLUMNS.index(vertex[0]), int(vertex[1:])
-    stones = asked.black + asked.white
-    far = [at for at in stones if abs(sgf.COLUMNS.index(at[0]) - column) + abs(int(at[1:]) - row) > asked.size]
-    return [f"attack {stone}" for stone in far]
+    return [f"attack {stone}" for stone in asked.black + asked.white if is_far(stone, vertex, asked.size)]
 
 
 def moves_far_from_many(luck: random.Random, asked: compare_readings.Asked) -> Iterator[tuple[str, list[str]]]:
     """Plays at 30 empty points, each with the questions about the stones that are far from it."""
-    taken = set(asked.black) | set(asked.white)
-    places = [f"{column}{row}" for column in sgf.COLUMNS[: asked.size] for row in range(1, asked.size + 1)]
-    empty = [vertex for vertex in places if vertex not in taken]
+    empty = empty_points(asked)
     for number, vertex in enumerate(luck.sample(empty, min(30, len(empty)))):
         yield f"play {'bw'[number % 2]} {vertex}", far_from(asked, vertex)
 
@@ -94,7 +102,7 @@ def joined(rows: Iterator[list[str]]) -> list[str]:
 def kinds_of_asking(questions: list[compare_readings.Asked], repeats: int, rounds: int) -> list[Timed]:
     """Each kind over all questions, in one session each."""
     luck = random.Random(1)
-    rows = [(compare_readings.set_up(asked), asked.question, rounds_of_moves(luck, asked, rounds)) for asked in questions]
+    rows = [(compare_readings.set_up(one), one.question, rounds_of_moves(luck, one, rounds)) for one in questions]
     first = joined(there + [text] for there, text, _ in rows)
     again = joined(there + [text] * (1 + repeats) for there, text, _ in rows)
     silent = joined(there + [text] + after_each(orders, []) for there, text, orders in rows)
@@ -114,13 +122,14 @@ def microseconds(command: list[str], kind: Timed) -> float:
 
 def full_board(luck: random.Random, size: int) -> list[str]:
     """The lines of a random board with stones on most of its points."""
-    points = [f"{sgf.COLUMNS[x]}{y + 1}" for x in range(size) for y in range(size)]
+    points = gtp.vertices(size)
     luck.shuffle(points)
     return [f"boardsize {size}", *(f"play {luck.choice('bw')} {point}" for point in points[: len(points) * 2 // 3])]
 
 
 def filling(luck: random.Random) -> Iterator[str]:
-    """Lines that ask attack and defend about every point of random boards, at depths that differ: more than the cache keeps."""
+    """Lines that ask attack and defend about every point of random boards, at depths that differ: more than the cache
+    keeps."""
     asked = 0
     while asked < 2 * LARGEST_CACHE:
         for size in range(19, 8, -1):
@@ -140,14 +149,12 @@ def main(gopat: str, gnugo: str, regression: str, wanted: str = "1000", repeats:
     print(f"{len(questions)} questions, at the depths of the options")
     for kind in [*kinds_of_asking(questions, int(repeats), int(rounds)), about_all_far_stones(questions)]:
         ours = microseconds([gopat], kind)
-        theirs = microseconds([gnugo, "--mode", "gtp", "--quiet"], kind)
+        theirs = microseconds(gtp.gnugo(gnugo), kind)
         print(f"{kind.name:22} {ours:9.2f} us by gopat, {theirs:9.2f} us by GNU Go: {ours / theirs:.2f} of its time")
     largest = [gopat, "--cache", str(LARGEST_CACHE)]
     full, empty = cost.of(largest, filling(random.Random(1))), cost.of(largest)
-    print(f"a cache of {LARGEST_CACHE}: {full.megabytes:.0f} MB when it is full, {empty.megabytes:.0f} MB when it is empty")
+    print(f"a cache of {LARGEST_CACHE}: {full.megabytes:.0f} MB when full, {empty.megabytes:.0f} MB when empty")
 
 
 if __name__ == "__main__":
-    if not 4 <= len(sys.argv) <= 7:
-        sys.exit(__doc__)
-    main(*sys.argv[1:])
+    command_line.run(main, __doc__)

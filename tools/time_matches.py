@@ -1,31 +1,32 @@
-"""Times gopat's matches and those of GNU Go's own automaton over the same patterns, in one run, and what both compilers take.
+"""Times gopat's matches and those of GNU Go's own automaton over the same patterns, in one run, and what both compilers
+take.
 
 usage: python3 tools/time_matches.py GOPAT TIMER BUILD PATTERNS.db RECORDS [POSITIONS [REPEATS [SEED]]]
 
-TIMER is the program of crates/matcher_timer, which calls `matches` as GNU Go's matcher is called here; BUILD is GNU Go's source after ./configure and make; RECORDS a folder that is searched for *.sgf. The entries are taken as
-diagrams alone with the class letter `s`, without their constraints, so that neither program reads; one with the mark O or
-without a stone is left out, as by tools/compare_matches.py. GNU Go's matcher is linked with a callback that only counts: it tests
-no legality and sorts nothing. gopat's time is that of its whole reply, without what a session takes that sets the positions up
-and asks nothing; and once more with the constraint `0` at each entry, which is false, so that the same matches are found, tried
-and sorted, and none is written. A call is one position and one colour; all times are the processor's, and of RUNS runs of each in
-turn the shortest and the middle one are told.
+TIMER is the program of crates/matcher_timer, which calls `matches` as GNU Go's matcher is called here; BUILD is GNU
+Go's source after ./configure and make; RECORDS a folder that is searched for *.sgf. The entries are taken as diagrams
+alone with the class letter `s`, without their constraints, so that neither program reads; one with the mark O or
+without a stone is left out, as by tools/compare_matches.py. GNU Go's matcher is linked with a callback that only
+counts: it tests no legality and sorts nothing. gopat's time is that of its whole reply, without what a session takes
+that sets the positions up and asks nothing; and once more with the constraint `0` at each entry, which is false, so
+that the same matches are found, tried and sorted, and none is written. A call is one position and one colour; all times
+are the processor's, and of nine runs of each in turn the shortest and the middle one are told.
 """
 
 import collections
 import pathlib
 import random
-import re
 import statistics
 import subprocess
-import sys
 import tempfile
-from typing import Iterator
 
+import command_line
 import compare_matches
 import cost
-import cut_patterns
+import gtp
 
-# Answers lines `size N`, `put b D4` and `match b N`, and at its end prints how many matches a call gives, and its microseconds.
+# Answers lines `size N`, `put b D4` and `match b N`, and at its end prints how many matches a call gives, and its
+# microseconds.
 DRIVER = r"""
 #include <stdio.h>
 #include <string.h>
@@ -68,20 +69,8 @@ int main(void) {
 # How often each program is run, in turn.
 RUNS = 9
 
-# GNU Go's compiler of patterns, and its libraries.
+# GNU Go's compiler of patterns.
 COMPILER = ["mkpat.c", "transform.c", "dfa.c"]
-LIBRARIES = ["engine/libengine.a", "patterns/libpatterns.a", "engine/libboard.a", "sgf/libsgf.a", "utils/libutils.a"]
-
-
-def diagrams_of(path: pathlib.Path) -> Iterator[bytes]:
-    """The entries as diagrams alone."""
-    for entry in cut_patterns.entries_of(path.read_bytes()):
-        lines = [line.rstrip() for line in entry.split(b"\n")]
-        colon = next(at for at, line in enumerate(lines) if line.startswith(b":"))
-        words = [line.split()[0] for line in lines[1:colon] if line.strip() and not line.startswith(b"#")]
-        mark = lines[colon][1:2]
-        if mark != b"O" and any(letter in word for word in words for letter in (b"O", b"X")):
-            yield b"\n".join([b" ".join(lines[0].split()[:2]), b"", *words, b"", b":" + mark + b",s", b"", b""])
 
 
 def unlisted(entry: bytes) -> bytes:
@@ -91,7 +80,8 @@ def unlisted(entry: bytes) -> bytes:
 
 
 def widened(folder: pathlib.Path, room: pathlib.Path):
-    """Copies what GNU Go's automata are made and read by, with numbers of 32 bits: 16 are too few for so many patterns."""
+    """Copies what GNU Go's automata are made and read by, with numbers of 32 bits: 16 are too few for so many
+    patterns."""
     for path in (*(folder / "patterns").glob("*.h"), *(folder / "patterns" / name for name in COMPILER)):
         text = path.read_text(encoding="latin-1")
         if path.name == "dfa.h":
@@ -101,20 +91,11 @@ def widened(folder: pathlib.Path, room: pathlib.Path):
         (room / path.name).write_text(text, encoding="latin-1")
 
 
-def compile_c(folder: pathlib.Path, room: pathlib.Path, files: list[pathlib.Path], names: list[str], made: pathlib.Path):
-    """Compiles files, with the copied headers before GNU Go's own, and links GNU Go's libraries of these names."""
-    includes = [f"-I{room}", *(f"-I{folder / name}" for name in ("", "engine", "patterns", "utils", "sgf"))]
-    libraries = ["-Wl,--start-group", *(folder / name for name in names), "-Wl,--end-group"]
-    found = re.search(r"^LIBS = (.*)$", (folder / "Makefile").read_text(encoding="latin-1"), re.MULTILINE)
-    libraries += found[1].split() if found else ["-lm"]
-    options = ["-O2", "-w", "-fcommon", "-DHAVE_CONFIG_H"]
-    subprocess.run(["cc", *options, *includes, *files, "-o", made, *libraries], check=True)
-
-
 def compiled_by_gnugo(folder: pathlib.Path, room: pathlib.Path, database: pathlib.Path) -> cost.Cost:
     """Makes GNU Go's automaton of the entries, as C, and says what its compiler of patterns took."""
     widened(folder, room)
-    compile_c(folder, room, [room / name for name in COMPILER], ["utils/libutils.a"], room / "mkpat")
+    build = compare_matches.Build(folder, room)
+    build.compile([room / name for name in COMPILER], room / "mkpat", ["utils/libutils.a"])
     command = [room / "mkpat", "-D", "-m", "-b", "-i", database, "-o", room / "timed.c", "timed"]
     return cost.of([str(word) for word in command])
 
@@ -123,11 +104,13 @@ def matcher_of(folder: pathlib.Path, room: pathlib.Path) -> pathlib.Path:
     """GNU Go's matcher over that automaton."""
     (room / "driver.c").write_text(DRIVER, encoding="ascii")
     files = [room / "driver.c", room / "timed.c", folder / "engine/matchpat.c"]
-    compile_c(folder, room, files, LIBRARIES, room / "matcher")
+    compare_matches.Build(folder, room).compile(files, room / "matcher")
     return room / "matcher"
 
 
-def microseconds_of_gnugo(matcher: pathlib.Path, asked: list[compare_matches.Position], repeats: int) -> tuple[int, float]:
+def microseconds_of_gnugo(
+    matcher: pathlib.Path, asked: list[compare_matches.Position], repeats: int
+) -> tuple[int, float]:
     """How many matches a call gives, and its microseconds."""
     lines = []
     for position in asked:
@@ -154,7 +137,7 @@ def drawing(one: compare_matches.Position) -> str:
     marks = ["."] * (one.size * one.size)
     for stone in one.stones:
         colour, vertex = str(stone).split()
-        row, column = one.size - int(vertex[1:]), "ABCDEFGHJKLMNOPQRST".index(vertex[0].upper())
+        row, column = one.size - int(vertex[1:]), gtp.COLUMNS.index(vertex[0].upper())
         marks[row * one.size + column] = "X" if colour == "b" else "O"
     return "".join(marks)
 
@@ -168,7 +151,8 @@ def microseconds_of_matches(timer: str, room: pathlib.Path, database: pathlib.Pa
 def told(found: list[float], theirs: list[float]) -> str:
     """The shortest and the middle time, and what they are of the other program's."""
     least, middle = min(found), statistics.median(found)
-    return f"{least:.1f} us, {middle:.1f} in the middle: {least / min(theirs):.2f} and {middle / statistics.median(theirs):.2f} times"
+    of_theirs = f"{least / min(theirs):.2f} and {middle / statistics.median(theirs):.2f} times"
+    return f"{least:.1f} us, {middle:.1f} in the middle: {of_theirs}"
 
 
 def matches_of_gopat(command: list[str], asked: list[compare_matches.Position]) -> int:
@@ -177,11 +161,21 @@ def matches_of_gopat(command: list[str], asked: list[compare_matches.Position]) 
     return compare_matches.count(found) // len(found)
 
 
-def main(gopat: str, timer: str, build: str, patterns: str, records: str, wanted: str = "120", repeats: str = "20", seed: str = "1"):
+def main(
+    gopat: str,
+    timer: str,
+    build: str,
+    patterns: str,
+    records: str,
+    wanted: str = "120",
+    repeats: str = "20",
+    seed: str = "1",
+):
     luck, folder = random.Random(int(seed)), pathlib.Path(build).resolve()
     places = compare_matches.positions(pathlib.Path(records), int(wanted), luck)
     asked = [compare_matches.Position(one.size, compare_matches.stones_left(gopat, one)) for one in places]
-    entries = compare_matches.numbered(diagrams_of(pathlib.Path(patterns)))
+    drawn = compare_matches.drawn_entries(pathlib.Path(patterns))
+    entries = compare_matches.numbered(one.entry for one in drawn)
     sizes = collections.Counter(one.size for one in asked)
     print(f"{len(entries)} patterns on {len(asked)} positions, {sizes[19]} of them 19 by 19")
     with tempfile.TemporaryDirectory() as name:
@@ -193,7 +187,8 @@ def main(gopat: str, timer: str, build: str, patterns: str, records: str, wanted
         command = [gopat, "--states", "1000000", str(database)]
         theirs = compiled_by_gnugo(folder, room, database)
         ours, empty = cost.of(command), cost.of([gopat])
-        print(f"compiled by gopat   {ours.seconds:.2f} s, {ours.megabytes:.1f} MB ({empty.megabytes:.1f} MB without patterns)")
+        without = f"{empty.megabytes:.1f} MB without patterns"
+        print(f"compiled by gopat   {ours.seconds:.2f} s, {ours.megabytes:.1f} MB ({without})")
         print(f"compiled by GNU Go  {theirs.seconds:.2f} s, {theirs.megabytes:.1f} MB")
         (room / "boards").write_text("".join(drawing(one) + "\n" for one in asked), encoding="ascii")
         matcher, many = matcher_of(folder, room), 4 * int(repeats)
@@ -205,7 +200,8 @@ def main(gopat: str, timer: str, build: str, patterns: str, records: str, wanted
             listed.append(microseconds_of_gopat(command, asked, int(repeats)))
             unlisted_ones.append(microseconds_of_gopat([*command[:-1], str(silent)], asked, int(repeats)))
         alone = microseconds_of_gopat([gopat], asked, int(repeats))
-        print(f"a call of GNU Go    {min(times):.1f} us, {statistics.median(times):.1f} in the middle, {matches} matches")
+        middle = statistics.median(times)
+        print(f"a call of GNU Go    {min(times):.1f} us, {middle:.1f} in the middle, {matches} matches")
         print(f"a call of `matches` {told(inner, times)}, {matches_of_gopat(command, asked)} matches")
         print(f"a line, listed      {told(listed, times)}")
         print(f"a line, none listed {told(unlisted_ones, times)}")
@@ -213,6 +209,4 @@ def main(gopat: str, timer: str, build: str, patterns: str, records: str, wanted
 
 
 if __name__ == "__main__":
-    if not 6 <= len(sys.argv) <= 9:
-        sys.exit(__doc__)
-    main(*sys.argv[1:])
+    command_line.run(main, __doc__)

@@ -9,7 +9,7 @@ use Rattle.pat_types.specs.declared.expr.Op.TheVariants.{Or, And, Eq, Ne, Lt, Le
 use Rattle.pat_types.specs.declared.expr.Function.{Function}
 use Rattle.pat_types.specs.declared.expr.Function.TheVariants as function
 use Rattle.pat_types.specs.declared.expr.Expr.{Expr, Num, Call, Not', Neg', Bin'}
-use Rattle.pat_types.specs.Labels.{arity_of, is_play}
+use Rattle.pat_types.specs.Labels.{arity_of, takes_moves}
 use Rattle.cons_eval.specs.declared.calls.Arguments.{Arguments}
 use Rattle.cons_eval.specs.declared.calls.Arguments.TheVariants.{Point, Pair, Points, Play}
 use Rattle.cons_eval.specs.Functions.{lib, xlib, olib, attack, defend, ko, safe_xmove, safe_omove, legal_xmove}
@@ -101,7 +101,7 @@ play_value m _ play = pos 0
 -- how the function takes its arguments
 abbrev pub arguments_of : Function → Arguments
 arguments_of f =
-    if is_play f then Play
+    if takes_moves f then Play
     else if (arity_of f).1 == 1 then Point
     else if (arity_of f).1 == 2 then Pair
     else Points

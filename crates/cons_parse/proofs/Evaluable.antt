@@ -10,7 +10,7 @@ use Rattle.pat_types.specs.declared.expr.Arg.TheVariants.{Label, Star, Nowhere}
 use Rattle.pat_types.specs.declared.expr.Function.{Function}
 use Rattle.pat_types.specs.declared.expr.Function.TheVariants as function
 use Rattle.pat_types.specs.declared.expr.Expr.{Expr, Num, Call, Not', Neg', Bin'}
-use Rattle.pat_types.specs.Labels.{names, arity_of, is_play, is_point, is_move, end_in_point, may_call, can_evaluate}
+use Rattle.pat_types.specs.Labels.{names, arity_of, takes_moves, is_point, is_move, end_in_point, may_call, can_evaluate}
 use Rattle.pat_types.specs.Labels.{leaf_count}
 use Rattle.cons_parse.specs.declared.token.Name.{Name}
 use Rattle.cons_parse.specs.declared.token.Name.TheVariants.{Letter, Known, Unknown}
@@ -156,7 +156,7 @@ call_may labels f args h k =
     and_from (nat_le (arity_of f).0 (length args) && nat_le (length args) (arity_of f).1) _
     (and_from (nat_le (arity_of f).0 (length args)) (nat_le (length args) (arity_of f).1)
     (le-leb (arity_of f).0 (length args) low) (le-leb (length args) (arity_of f).1 high))
-    (args_if labels (is_play f) args some p.1 k)
+    (args_if labels (takes_moves f) args some p.1 k)
 
 -- a call without faults can be evaluated
 named_may : (labels : List LabelAt) (name : Name) (args : List Arg) → is_unknown name ≡ false

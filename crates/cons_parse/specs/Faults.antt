@@ -6,7 +6,7 @@ use Rattle.pat_types.specs.declared.expr.Arg.{Arg}
 use Rattle.pat_types.specs.declared.expr.Arg.TheVariants.{Label, Star, Nowhere}
 use Rattle.pat_types.specs.declared.expr.Function.{Function}
 use Rattle.pat_types.specs.declared.pattern.LabelAt.{LabelAt}
-use Rattle.pat_types.specs.Labels.{names, arity_of, is_play}
+use Rattle.pat_types.specs.Labels.{names, arity_of, takes_moves}
 use Rattle.cons_parse.specs.declared.error.ConsError.{ConsError}
 use Rattle.cons_parse.specs.declared.error.ConsError.TheVariants.{TooDeep, UnknownFunction, Arity, UnknownLabel}
 use Rattle.cons_parse.specs.declared.token.Name.{Name}
@@ -51,7 +51,7 @@ ends_nowhere args = is_some_nowhere (slice_get args (length args - 1))
 
 -- a pass stands elsewhere than as a move of a play
 abbrev pub has_stray_pass : Function → List Arg → Bool
-has_stray_pass f args = if is_play f then ends_nowhere args else list_any is_nowhere args
+has_stray_pass f args = if takes_moves f then ends_nowhere args else list_any is_nowhere args
 
 -- the number of arguments is not that of the function, or a pass stands where no move may
 abbrev pub is_miscalled : Function → List Arg → Bool

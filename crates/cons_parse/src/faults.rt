@@ -2,7 +2,7 @@
 
 ghost use Rattle.std.specs.Prelude.{◌≡◌};
 ghost use Rattle.std.specs.List.{list_any};
-ghost use Rattle.pat_types.specs.Labels.{names, arity_of, is_play as plays};
+ghost use Rattle.pat_types.specs.Labels.{names, arity_of, takes_moves as with_moves};
 ghost use Rattle.cons_parse.specs.Faults.{is_nowhere as nowhere, ends_nowhere as last_is_nowhere};
 ghost use Rattle.cons_parse.specs.Faults.{has_stray_pass as stray_pass, is_miscalled as miscalled};
 ghost use Rattle.cons_parse.specs.Faults.{is_unknown_label as unknown_label, calls, is_unknown_call, misses};
@@ -42,8 +42,8 @@ fn arity(function: Function) -> (usize, usize)
 }
 
 /// Whether a function takes moves and then a point.
-fn is_play(function: Function) -> bool
-    ensures { result ≡ plays function }
+fn takes_moves(function: Function) -> bool
+    ensures { result ≡ with_moves function }
 {
     matches!(
         function,
@@ -85,7 +85,7 @@ fn has_nowhere(args: &[Arg]) -> bool
 fn has_stray_pass(function: Function, args: &[Arg]) -> bool
     ensures { result ≡ stray_pass function args.now }
 {
-    if is_play(function) {
+    if takes_moves(function) {
         ends_nowhere(args)
     } else {
         has_nowhere(args)

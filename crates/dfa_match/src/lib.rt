@@ -10,25 +10,20 @@
 //! After GNU Go Manual, "The DFA pattern matcher".
 #![tactic(auto)]
 
-ghost use Rattle.std.specs.Prelude.{◌≡◌, ◌↔◌, true, List, ℕ, ◌+◌, ◌<◌, ◌++◌, [], map, All, IfOk, OnOk};
+ghost use Rattle.std.specs.Prelude.{◌≡◌, ◌+◌, ◌<◌, ◌++◌, [], map, All, IfOk, OnOk};
 ghost use Rattle.go_rules.specs.Position.{BoardState};
 ghost use Rattle.go_rules.specs.Transform.{transformations};
-ghost use Rattle.dfa_core.specs.Automata.{Row};
-ghost use Rattle.dfa_match.specs.Sights.{word_at, AreSights};
+ghost use Rattle.dfa_match.specs.Sights.{AreSights};
 ghost use Rattle.go_rules.specs.declared.Colour.{Colour as ColourSeen};
-ghost use Rattle.pat_types.specs.declared.pattern.Pattern.{Pattern};
-ghost use Rattle.dfa_core.specs.Fits.{pattern_length};
-ghost use Rattle.dfa_core.specs.States.{is_matched, IsAutomatonOf};
 ghost use Rattle.dfa_shortcuts.specs.Openings.{AreOpenings};
 ghost use Rattle.dfa_shortcuts.specs.Shortcuts.{AreShortcuts};
-ghost use Rattle.dfa_match.specs.Fitting.{FitsAt, IsFit};
-ghost use Rattle.dfa_match.specs.declared.Hit.{Hit as HitSeen};
-ghost use Rattle.dfa_match.specs.Hits.{hits_at, IsHit, AreHits, AreHitsBefore, nothing_read};
+ghost use Rattle.dfa_match.specs.Hits.{hits_at, AreHits, AreHitsBefore, nothing_read};
 ghost use Rattle.dfa_match.specs.Rings.{ring_of};
 ghost use Rattle.dfa_match.specs.Steps.{AreSteps};
 ghost use Rattle.dfa_match.specs.Walks.{IsStanding, first_walks_of, second_walks_of};
 
 mod cursor;
+pub mod laws;
 mod rings;
 mod scanner;
 mod sights;
@@ -153,16 +148,3 @@ pub fn scan<L: Look>(
     }
     Ok(out)
 }
-
-/// A word that is read from an anchor matches a pattern exactly where the pattern fits with its anchor's cell there.
-pub fn matched_words_are_fits()
-    ensures { (p : Pattern) (pos : BoardState) (friend : ColourSeen) (t m : ℕ) →
-        (is_matched (word_at pos friend t m (pattern_length p)) p ≡ true) ↔ FitsAt p pos friend t m }
-{}
-
-/// The hits of the automaton of a list of patterns are where these patterns fit.
-pub fn hits_of_patterns_are_fits()
-    ensures { (patterns : List Pattern) (automaton : List Row) (pos : BoardState) (friend : ColourSeen)
-        (hit : HitSeen) →
-        IsAutomatonOf patterns automaton → IsHit automaton pos friend hit ↔ IsFit patterns pos friend hit }
-{}

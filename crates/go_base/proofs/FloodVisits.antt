@@ -10,7 +10,7 @@ use Rattle.go_rules.specs.declared.Cell.TheVariants.{Empty, Black, White}
 use Rattle.go_rules.specs.Board.{are_neighbours}
 use Rattle.go_rules.specs.Below.{set_below}
 use Rattle.go_rules.specs.Strings.{cell_at, same_cell, is_stone, is_in_string, is_liberty, liberty_points}
-use Rattle.go_rules.specs.Boundary.{is_enemy, is_beside_string}
+use Rattle.go_rules.specs.BesideStrings.{is_enemy, is_beside_string}
 use Rattle.go_rules.proofs.Counts.{any_below_gives, any_below_from}
 use Rattle.go_rules.proofs.Sets.{contains-set_below, contains-insert_nat, same_nat_set}
 use Rattle.go_rules.proofs.Paths.{path_on_board, IsInString-from_test, is_is_in_string-from_fact}

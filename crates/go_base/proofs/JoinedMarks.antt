@@ -20,7 +20,7 @@ larger_bit zero (suc (suc b)) h k = absurd (omega arith)
 larger_bit (suc zero) (suc (suc b)) h k = absurd (omega arith)
 
 -- a bit of two words together is set exactly where it is in one of them
-bit_of_both : (a b k : ℕ) → eqb (bit_at (bit_or a b) k) 1 ≡ (eqb (bit_at a k) 1 || eqb (bit_at b k) 1)
+pub bit_of_both : (a b k : ℕ) → eqb (bit_at (bit_or a b) k) 1 ≡ (eqb (bit_at a k) 1 || eqb (bit_at b k) 1)
 bit_of_both a b k =
     ap (λ n. eqb n 1) (bit_at_or a b k) ∙ larger_bit (bit_at a k) (bit_at b k) (bit_at-lt a k) (bit_at-lt b k)
 

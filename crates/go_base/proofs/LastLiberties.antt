@@ -8,12 +8,12 @@ use Rattle.std.specs.FinSet as sets
 use Rattle.go_rules.specs.declared.Cell.{Cell}
 use Rattle.go_rules.specs.Below.{count_below}
 use Rattle.go_rules.specs.Strings.{cell_at, is_in_string, string_at, is_liberty, liberties, liberty_points}
-use Rattle.go_rules.specs.Boundary.{is_enemy, is_beside_string}
+use Rattle.go_rules.specs.BesideStrings.{is_enemy, is_beside_string}
 use Rattle.go_rules.proofs.Counts.{any_below_gives, any_below_from, count_below_same}
 use Rattle.go_rules.proofs.Sets.{contains-set_below}
 use Rattle.go_rules.proofs.Paths.{IsLiberty-from_test, is_liberty-from_fact, IsInString-from_test}
 use Rattle.go_rules.proofs.Links.{liberty_moves}
-use Rattle.go_rules.proofs.Boundary.{is_in_string_on, string_back}
+use Rattle.go_rules.proofs.StringMembers.{is_in_string_on, string_back}
 use Rattle.go_rules.proofs.Tests.{same_tests}
 use Rattle.go_base.specs.Surroundings.{is_only_liberty, is_last_liberty_of_enemy, AddsLast, KnowsLast}
 use Rattle.go_base.specs.Floods.{Searches}

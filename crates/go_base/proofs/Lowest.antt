@@ -98,7 +98,7 @@ module _ (words : List ℕ) (p q end : ℕ) (low : p ≤ q)
   ]
 
 -- a point that is not marked is not in the set
-not_member : (words : List ℕ) (r : ℕ) → is_marked words r ≡ false → sets.contains (marked words) r ≡ false
+pub not_member : (words : List ℕ) (r : ℕ) → is_marked words r ≡ false → sets.contains (marked words) r ≡ false
 not_member words r h =
     contains-marked words r ∙ ap (λ b. ltb r largest_points && b) h ∙ and-false (ltb r largest_points)
 

@@ -240,3 +240,11 @@ len-remove_member s p member =
 -- a set without a member is the empty one
 pub no_members : (s : sets.FinSet nat_cmp) → ((q : ℕ) → sets.contains s q ≡ false) → s ≡ sets.empty
 no_members s none = same_nat_set _ _ (λ q. none q ∙ sym (sets.contains-empty nat_cmp q))
+
+-- a set without what is no member is the same set
+pub remove-absent : (s : sets.FinSet nat_cmp) (p : ℕ) → sets.contains s p ≡ false → s ≡ sets.remove s p
+remove-absent s p h = same_nat_set _ _ (λ q.
+    elim (cases_eq q p) as (λ _. sets.contains s q ≡ sets.contains (sets.remove s p) q) [
+      | inl e ↦ rw (e, contains-remove_nat s p p, eq-eqb p p refl) h
+      | inr ne ↦ rw (contains-remove_nat s p q, ne_eqb q p ne) refl
+    ])

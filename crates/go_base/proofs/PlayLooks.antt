@@ -18,7 +18,7 @@ use Rattle.go_rules.proofs.Counts.{any_below_gives, any_below_from}
 use Rattle.go_rules.proofs.Paths.{same_cell-true, IsInString-from_test, is_is_in_string-from_fact}
 use Rattle.go_rules.proofs.Links.{path_same, path_keeps}
 use Rattle.go_rules.proofs.Plays.{stone_is, enemy_differs, at_put_same, at_put_other}
-use Rattle.go_rules.proofs.Boundary.{string_self}
+use Rattle.go_rules.proofs.StringMembers.{string_self}
 use Rattle.go_base.specs.Views.{alone}
 use Rattle.go_base.specs.Takes.{near_taken}
 use Rattle.go_rules.proofs.InWords.{whole_strings_of-on_board}

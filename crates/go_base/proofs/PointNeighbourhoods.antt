@@ -6,7 +6,7 @@ use Rattle.go_rules.specs.Board.{are_neighbours}
 use Rattle.go_rules.specs.Strings.{cell_at, is_stone, is_in_string, Path}
 use Rattle.go_rules.specs.Neighbourhood.{whole_strings_of, neighbourhood_of}
 use Rattle.go_rules.proofs.Counts.{any_below_gives, any_below_from}
-use Rattle.go_rules.proofs.Boundary.{is_in_string_on}
+use Rattle.go_rules.proofs.StringMembers.{is_in_string_on}
 use Rattle.go_rules.proofs.InWords.{whole_strings_of-on_board, neighbourhood_of-on_board}
 use Rattle.go_rules.proofs.Paths.{is_is_in_string-from_fact}
 use Rattle.go_base.specs.Views.{alone, around}

@@ -7,7 +7,7 @@ use Rattle.go_rules.specs.declared.Cell.TheVariants.{Empty}
 use Rattle.go_rules.specs.Board.{are_neighbours}
 use Rattle.go_rules.specs.Below.{set_below}
 use Rattle.go_rules.specs.Strings.{cell_at, same_cell, string_at, liberty_points, liberties as liberties_at}
-use Rattle.go_rules.specs.Boundary.{is_enemy, is_beside_string}
+use Rattle.go_rules.specs.BesideStrings.{is_enemy, is_beside_string}
 use Rattle.go_base.specs.Sides.{neighbour_at}
 use Rattle.go_base.specs.declared.flood.Found.{Found}
 

@@ -5,7 +5,7 @@ use Rattle.std.specs.FinSet as set
 use Rattle.go_rules.specs.declared.Cell.{Cell}
 use Rattle.go_rules.specs.Below.{any_below}
 use Rattle.go_rules.specs.Strings.{cell_at, is_liberty, liberties}
-use Rattle.go_rules.specs.Boundary.{is_enemy, is_beside_string}
+use Rattle.go_rules.specs.BesideStrings.{is_enemy, is_beside_string}
 
 -- l is the one liberty of the string of q
 unfoldable pub is_only_liberty : ℕ → List Cell → ℕ → ℕ → Bool

@@ -161,6 +161,22 @@ impl PointBits {
         all_of_word(self.words[base as usize / 64] & below, base, &test)
     }
 
+    /// The least point whose bit is set, None exactly where there is none. Of the words, `used` notes those that have a
+    /// bit, so only the first of them is looked at.
+    #[inline(always)]
+    pub(crate) fn first_noted(&self, used: u16) -> Option<Point>
+        requires { IsNoteOf self.now used }
+        ensures some { IfSome result (λ q. (q < largest_points) × IsTrue (is_marked self.now q)
+            × ((r : ℕ) → r < q → is_marked self.now r ≡ false)) }
+        ensures none { IfNone result ((r : ℕ) → is_marked self.now r ≡ false) }
+    {
+        let word = lowest_bit(used as u64, 0);
+        if word >= WORD_BITS {
+            return None;
+        }
+        Some(word * WORD_BITS + lowest_bit(self.words[word as usize], 0))
+    }
+
     /// The least point from `first` on whose bit is set, None exactly where there is none. Of the words, `used` notes
     /// those that have a bit, and the others are passed over.
     pub(crate) fn first_in_use(&self, used: u16, first: u16) -> Option<Point>

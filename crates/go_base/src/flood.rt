@@ -31,7 +31,7 @@ pub struct Found {
 
 /// Nothing found yet.
 #[inline(always)]
-fn nothing_found() -> Found
+pub(crate) fn nothing_found() -> Found
     ensures stones { result.stones ≡ set.empty }
     ensures liberties { result.liberties ≡ set.empty }
     ensures enemies { result.enemies ≡ set.empty }
@@ -46,13 +46,14 @@ fn nothing_found() -> Found
 /// Puts a stone at r among the stones, and lets it wait to be visited, unless it was found before.
 #[inline(always)]
 fn add_stone(r: Point, stones: &mut PointSet, waiting: &mut PointSet)
-    requires { r < largest_points }
+    requires small { r < largest_points }
+    requires waits { set.contains waiting.old r ≡ true → set.contains stones.old r ≡ true }
     ensures stones { stones.new ≡ set.insert stones.old r }
     ensures waiting { waiting.new ≡ (if set.contains stones.old r then waiting.old else set.insert waiting.old r) }
 {
     if !stones.has(r) {
-        stones.add(r);
-        waiting.add(r);
+        stones.add_new(r);
+        waiting.add_new(r);
     }
 }
 
@@ -155,10 +156,40 @@ fn next_stone(waiting: &mut PointSet, seen: u16, most: u16) -> Option<Point>
     waiting.take_first()
 }
 
+/// Searches as `search` does, and writes what it finds where it stays. Nothing stands there before.
+pub(crate) fn search_into<V: View>(board: &mut V, p: Point, most: u16, found: &mut Found)
+    requires on_board { p < V.rows board.old * V.rows board.old }
+    requires stones { found.old.stones ≡ set.empty }
+    requires liberties { found.old.liberties ≡ set.empty }
+    requires enemies { found.old.enemies ≡ set.empty }
+    ensures looks { Looks V.cells V.asks board.old board.new anywhere }
+    ensures over { (pos : BoardState) → V.agrees board.new pos
+        → Searches (V.rows board.old) (V.cells board.old pos) p most found.new }
+    ensures few { set.len found.new.liberties ≤ largest_points }
+    ensures stones_on_board { (q : ℕ) → IsTrue (set.contains found.new.stones q)
+        → q < V.rows board.old * V.rows board.old }
+    ensures enemies_on_board { (q : ℕ) → IsTrue (set.contains found.new.enemies q)
+        → q < V.rows board.old * V.rows board.old }
+    ensures near { (pos : BoardState) → V.agrees board.new pos
+        → V.asks board.old board.new (neighbourhood_of (V.rows board.old) (V.cells board.old pos) (alone p)) }
+{
+    let mut waiting = PointSet::new();
+    let _ = board.size().points();
+    let own = board.at(p);
+    if own == Cell::Empty {
+        return;
+    }
+    add_stone(p, &mut found.stones, &mut waiting);
+    while let Some(q) = next_stone(&mut waiting, found.liberties.count(), most) {
+        spread(board, own, q, most, found, &mut waiting);
+    }
+}
+
 /// The string of p, its liberties and the enemy stones next to it, where it has at most `most` liberties; else some of
 /// each, with more liberties than `most`. It visits each stone once, the least that waits first, and nothing but the
 /// stones and their neighbours, and stops as soon as it has seen more liberties than `most`. All three sets are empty
 /// where p is.
+#[inline(always)]
 pub fn search<V: View>(board: &mut V, p: Point, most: u16) -> Found
     requires { p < V.rows board.old * V.rows board.old }
     ensures looks { Looks V.cells V.asks board.old board.new anywhere }
@@ -173,16 +204,7 @@ pub fn search<V: View>(board: &mut V, p: Point, most: u16) -> Found
         → V.asks board.old board.new (neighbourhood_of (V.rows board.old) (V.cells board.old pos) (alone p)) }
 {
     let mut found = nothing_found();
-    let mut waiting = PointSet::new();
-    let _ = board.size().points();
-    let own = board.at(p);
-    if own == Cell::Empty {
-        return found;
-    }
-    add_stone(p, &mut found.stones, &mut waiting);
-    while let Some(q) = next_stone(&mut waiting, found.liberties.count(), most) {
-        spread(board, own, q, most, &mut found, &mut waiting);
-    }
+    search_into(board, p, most, &mut found);
     found
 }
 

@@ -8,7 +8,6 @@
 
 pub mod ban;
 pub mod bits;
-pub mod boundary;
 pub mod bytes;
 pub mod capture;
 pub mod facts;

@@ -12,7 +12,7 @@ ghost use Rattle.go_base.specs.Surroundings.{is_last_liberty_of_enemy, AddsLast,
 ghost use Rattle.go_base.specs.Views.{Looks, anywhere, alone};
 
 use crate::bits::PointBits;
-use crate::flood::{Found, flood, search};
+use crate::flood::{Found, flood, nothing_found, search_into};
 use crate::points::PointSet;
 use crate::size::Point;
 use crate::view::View;
@@ -47,7 +47,8 @@ fn add_last_liberty<V: View>(board: &mut V, q: Point, seen: &mut PointBits, last
     if seen.has(q) {
         return;
     }
-    let found = search(board, q, IN_ATARI);
+    let mut found = nothing_found();
+    search_into(board, q, IN_ATARI, &mut found);
     found.stones.mark_in(seen);
     if found.liberties.count() == IN_ATARI {
         last.join(&found.liberties);

@@ -1,13 +1,11 @@
--- What the tests of strings, boundaries and neighbourhoods say in words.
+-- What the tests of strings and neighbourhoods say in words.
 use Rattle.std.proofs.Common.{◌≡◌, ◌↔◌, ℕ, ◌*◌, ◌<◌, Bool, true, List, ap, inl, inr, ◌∙◌}
-use Rattle.std.proofs.lemmas.Bool.{cases_Bool, lt-ltb, ltb-true, or_cases, or_left, or_right, and_parts, and_from}
-use Rattle.std.proofs.lemmas.Bool.{both_ways, not-true, not_from_false}
+use Rattle.std.proofs.lemmas.Bool.{lt-ltb, ltb-true, or_cases, or_left, or_right, and_parts, and_from}
 use Rattle.go_rules.specs.declared.Cell.{Cell}
-use Rattle.go_rules.specs.Strings.{cell_at, is_stone, is_in_string, IsInString, start}
-use Rattle.go_rules.specs.Boundary.{is_beside_string, is_boundary, IsBoundary}
+use Rattle.go_rules.specs.Strings.{cell_at, is_stone, IsInString, start}
 use Rattle.go_rules.specs.Neighbourhood.{whole_strings_of, neighbourhood_of, InWholeStrings, member, of_string}
 use Rattle.go_rules.specs.Neighbourhood.{InNeighbourhood, inside, next_to}
-use Rattle.go_rules.proofs.Counts.{any_below_gives, any_below_from, any_below_none, any_below_false}
+use Rattle.go_rules.proofs.Counts.{any_below_gives, any_below_from}
 use Rattle.go_rules.proofs.Paths.{path_on_board, IsInString-from_test, is_is_in_string-from_fact}
 use Rattle.go_rules.proofs.Links.{path_same, path_on, path_back}
 
@@ -30,43 +28,6 @@ string_onward s cells p q r h k = record { stone = h.stone; path = path_on s cel
 pub string_of_one_colour : (s : ℕ) (cells : List Cell) (p q : ℕ) → IsInString s cells p q
     → cell_at cells q ≡ cell_at cells p
 string_of_one_colour s cells p q h = path_same s cells p h.path
-
--- the test of the boundary is the fact
-pub is_boundary-is : (s : ℕ) (cells : List Cell) (p r : ℕ) → p < s * s → r < s * s
-    → (is_boundary s cells p r ≡ true) ↔ IsBoundary s cells p r
-unfolding is_boundary is_beside_string
-is_boundary-is s cells p r on r_on = (
-  λ t.
-      let parts = and_parts _ _ t in
-      let first = and_parts _ _ parts.0 in
-      let found = any_below_gives (s * s) _ parts.1 in
-      let both = and_parts _ _ found.2 in
-      let it = any_below_gives (s * s) _ both.1 in
-      let link = and_parts _ _ it.2 in
-      record {
-        enemy = first.0;
-        least = λ k l h. both_ways (is_in_string s cells r k)
-            (any_below_none r (is_in_string s cells r) k (not-true _ first.1) l)
-            (is_is_in_string-from_fact s cells r k r_on h);
-        beside = (
-          found.0,
-          IsInString-from_test s cells r found.0 both.0,
-          (it.0, IsInString-from_test s cells p it.0 link.0, link.1),
-        );
-      },
-  λ h.
-      let q = h.beside.0 in
-      let x = h.beside.2.0 in
-      and_from _ _ (and_from _ _ h.enemy (not_from_false _
-      (any_below_false r (is_in_string s cells r) (λ k l. elim (cases_Bool (is_in_string s cells r k)) [
-        | inl t ↦ absurd (h.least k l (IsInString-from_test s cells r k t))
-        | inr f ↦ f
-      ]))))
-      (any_below_from (s * s) _ q (path_on_board s cells r r_on h.beside.1.path)
-      (and_from _ _ (is_is_in_string-from_fact s cells r q r_on h.beside.1)
-      (any_below_from (s * s) _ x (path_on_board s cells p on h.beside.2.1.path)
-      (and_from _ _ (is_is_in_string-from_fact s cells p x on h.beside.2.1) h.beside.2.2)))),
-)
 
 -- what passes the test of whole strings is a point of the board
 pub whole_strings_of-on_board : (s : ℕ) (cells : List Cell) (S : ℕ → Bool) (q : ℕ) → whole_strings_of s cells S q ≡ true

@@ -2,7 +2,7 @@ pub mod Below
 pub mod Board
 pub mod Transform
 pub mod Strings
-pub mod Boundary
+pub mod BesideStrings
 pub mod Neighbourhood
 pub mod Position
 pub mod Play

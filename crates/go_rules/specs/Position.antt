@@ -24,6 +24,12 @@ abbrev pub stone_of : Colour → Cell
 stone_of black = Black
 stone_of white = White
 
+-- the colour of a stone
+abbrev pub colour_of : Cell → Colour
+colour_of Empty = black
+colour_of Black = black
+colour_of White = white
+
 -- the two colours are the same
 abbrev pub same_colour : Colour → Colour → Bool
 same_colour black black = true

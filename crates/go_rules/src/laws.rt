@@ -3,7 +3,7 @@
 //! the crates above; the laws tie them to paths, places and the rules as a Go book has them.
 
 ghost use Rattle.std.specs.Prelude.{◌≡◌, ◌≢◌, ◌⊎◌, ℕ, Ok, Err, Some, None, ◌+◌, ◌*◌, ◌<◌, ◌↔◌, Bool, IsTrue, true};
-ghost use Rattle.std.specs.Prelude.{List, [], ◌∷◌, ◌++◌, slice_set};
+ghost use Rattle.std.specs.Prelude.{List, [], ◌∷◌, ◌++◌, length, slice_set};
 ghost use Rattle.go_rules.specs.declared.Cell.{Cell};
 ghost use Rattle.go_rules.specs.declared.Colour.{Colour};
 ghost use Rattle.go_rules.specs.declared.Illegal.{Illegal};
@@ -11,11 +11,10 @@ ghost use Rattle.go_rules.specs.declared.Move.{Move};
 ghost use Rattle.go_rules.specs.Board.{IsSize, Place, IsOnBoard, point_at, place_of, are_neighbours, AreNeighbours};
 ghost use Rattle.go_rules.specs.Transform.{Offset, transformations, transformed, IsNear, AreOneStepApart};
 ghost use Rattle.go_rules.specs.Strings.{cell_at, is_stone, is_in_string, IsInString, is_liberty, IsLiberty};
-ghost use Rattle.go_rules.specs.Boundary.{is_boundary, IsBoundary};
 ghost use Rattle.go_rules.specs.Neighbourhood.{neighbourhood_of, InNeighbourhood};
 ghost use Rattle.go_rules.specs.Position.{BoardState, IsPosition, other, stone_of};
 ghost use Rattle.go_rules.specs.Play.{play, play_free, pass};
-ghost use Rattle.go_rules.specs.Rules.{IsCaptured, Follows, IsSuicide, LeavesBan, IsPositionInWords};
+ghost use Rattle.go_rules.specs.Rules.{IsCaptured, IsOnlyLiberty, Follows, IsSuicide, LeavesBan, IsPositionInWords};
 ghost use Rattle.go_rules.specs.Replay.{empty_board, moved, replay_from, replay, captures, stones_gone, IsLegalMove};
 ghost use Rattle.go_rules.specs.Replay.{IsLegalGame};
 
@@ -64,11 +63,8 @@ pub fn strings_are_classes()
         → IsLiberty s cells q l → IsLiberty s cells p l }
 {}
 
-/// The tests of the boundary of a string and of the neighbourhood of a set of points say what the words say, and a
-/// neighbourhood lies on the board.
-pub fn boundaries_are_in_words()
-    ensures boundary { (s : ℕ) (cells : List Cell) (p r : ℕ) → p < s * s → r < s * s
-        → IsTrue (is_boundary s cells p r) ↔ IsBoundary s cells p r }
+/// The test of the neighbourhood of a set of points says what the words say, and a neighbourhood lies on the board.
+pub fn neighbourhoods_are_in_words()
     ensures neighbourhood { (s : ℕ) (cells : List Cell) (S : ℕ → Bool) (q : ℕ)
         → IsTrue (neighbourhood_of s cells S q) ↔ InNeighbourhood s cells S q }
     ensures on_board { (s : ℕ) (cells : List Cell) (S : ℕ → Bool) (q : ℕ) → InNeighbourhood s cells S q → q < s * s }
@@ -100,6 +96,12 @@ pub fn plays_change_little()
         → q < pos.size * pos.size → q ≢ p → (cell_at new.cells q ≡ cell_at pos.cells q)
         ⊎ ((cell_at pos.cells q ≡ stone_of (other c)) × (cell_at new.cells q ≡ Cell.Empty)
         × IsCaptured pos.size (slice_set pos.cells p (stone_of c)) c q) }
+{}
+
+/// A stone that is put at the only liberty of an enemy string captures it.
+pub fn an_only_liberty_captures()
+    ensures { (s : ℕ) (cells : List Cell) (c : Colour) (l q : ℕ) → length cells ≡ s * s → IsOnlyLiberty s cells q l
+        → cell_at cells q ≡ stone_of (other c) → IsCaptured s (slice_set cells l (stone_of c)) c q }
 {}
 
 /// The ban that a play leaves is the one of the words, and it is always on the other colour.

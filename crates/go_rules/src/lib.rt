@@ -6,8 +6,8 @@
 //! column `c` from the left, both counted from 0.
 #![tactic(auto)]
 
-ghost use Rattle.std.specs.Prelude.{◌≡◌};
-ghost use Rattle.go_rules.specs.Position.{other, stone_of};
+ghost use Rattle.std.specs.Prelude.{◌≡◌, ◌≢◌};
+ghost use Rattle.go_rules.specs.Position.{other, stone_of, colour_of};
 
 pub mod laws;
 
@@ -62,6 +62,20 @@ impl Colour {
         match self {
             Colour::Black => Cell::Black,
             Colour::White => Cell::White,
+        }
+    }
+}
+
+impl Cell {
+    /// The colour of a stone.
+    pub fn colour(self) -> Colour
+        requires { self ≢ Cell.Empty }
+        ensures { result ≡ colour_of self }
+    {
+        match self {
+            Cell::Black => Colour::Black,
+            Cell::White => Colour::White,
+            Cell::Empty => unreachable!(),
         }
     }
 }

@@ -1,7 +1,8 @@
 //! What is told of a point by the strings that are kept.
 
-ghost use Rattle.std.specs.Prelude.{◌≡◌, ◌*◌, ◌<◌};
-ghost use Rattle.go_rules.specs.Strings.{string_at, liberty_points};
+ghost use Rattle.std.specs.Prelude.{◌≡◌, ◌*◌, ◌<◌, MatchOption};
+ghost use Rattle.go_rules.specs.Strings.{cell_at, string_at, liberty_points};
+ghost use Rattle.go_strings.specs.Named.{IsStringOf};
 ghost use Rattle.go_strings.specs.Stands.{cells_of, Stands};
 
 use crate::capture::points_of;
@@ -11,18 +12,30 @@ use crate::strings::KeptString;
 use go_base::points::PointSet;
 use go_base::{Cell, Point};
 
+/// The string that is kept of the stone at p, none where p is empty.
+fn kept_string_at<'a>(now: &Standing, strings: &'a [KeptString], p: Point) -> Option<&'a KeptString>
+    requires stands { Stands now.now.board now.now.names strings.now }
+    requires on_board { p < now.now.board.size * now.now.board.size }
+    ensures { MatchOption result (cell_at (cells_of now.now.board) p ≡ Cell.Empty)
+        (λ string. IsStringOf now.now.board.size (cells_of now.now.board) p string.now) }
+{
+    let _ = now.board.size.points();
+    if cell_on(&now.board, p) == Cell::Empty {
+        return None;
+    }
+    Some(&strings[now.names[p as usize] as usize])
+}
+
 /// The stones of the string at p, none where p is empty.
 pub fn stones_at(now: &Standing, strings: &[KeptString], p: Point) -> PointSet
     requires stands { Stands now.now.board now.now.names strings.now }
     requires on_board { p < now.now.board.size * now.now.board.size }
     ensures { result ≡ string_at now.now.board.size (cells_of now.now.board) p }
 {
-    let _ = now.board.size.points();
-    if cell_on(&now.board, p) == Cell::Empty {
-        return PointSet::new();
+    match kept_string_at(now, strings, p) {
+        Some(string) => points_of(&string.stones),
+        None => PointSet::new(),
     }
-    let string = &strings[now.names[p as usize] as usize];
-    points_of(&string.stones)
 }
 
 /// The liberties of the string at p, none where p is empty.
@@ -31,10 +44,8 @@ pub fn liberties_at(now: &Standing, strings: &[KeptString], p: Point) -> PointSe
     requires on_board { p < now.now.board.size * now.now.board.size }
     ensures { result ≡ liberty_points now.now.board.size (cells_of now.now.board) p }
 {
-    let _ = now.board.size.points();
-    if cell_on(&now.board, p) == Cell::Empty {
-        return PointSet::new();
+    match kept_string_at(now, strings, p) {
+        Some(string) => points_of(&string.liberties),
+        None => PointSet::new(),
     }
-    let string = &strings[now.names[p as usize] as usize];
-    points_of(&string.liberties)
 }

@@ -1,7 +1,6 @@
 -- The spans that a line names lie in it.
 use Rattle.std.proofs.Common.{◌≡◌, ℕ, ◌+◌, ◌≤◌, List, [], ◌∷◌, Option, Some, None, IfSome, length, take, drop, eqb}
 use Rattle.std.proofs.Common.{sym, subst, arith, length-take}
-use Rattle.std.specs.Option.{option_map}
 use Rattle.std.specs.List.{before_first, position_or_len}
 use Rattle.gtp_cmd.specs.Words.{number_of, hash}
 use Rattle.gtp_cmd.specs.Vertices.{vertex_of}

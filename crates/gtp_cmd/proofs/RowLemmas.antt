@@ -11,7 +11,7 @@ use Rattle.gtp_cmd.specs.CodeRows.{is_plain}
 use Rattle.gtp_cmd.specs.Commands.{Row}
 use Rattle.gtp_cmd.specs.Words.{kept}
 use Rattle.gtp_cmd.specs.declared.commands.CommandName.{CommandName}
-use Rattle.gtp_cmd.specs.declared.commands.Row.{Row as CodeRow}
+use Rattle.gtp_cmd.specs.declared.rows.Row.{Row as CodeRow}
 
 -- rows that are kept in another form have the command that a word names among them
 pub find-seen : {X : Type 0} (seen : X → Row) (is : List ℕ → Bool) (xs : List X)

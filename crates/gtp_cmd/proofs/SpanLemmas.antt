@@ -2,11 +2,9 @@
 use Rattle.std.proofs.Common.{◌≡◌, ℕ, ◌+◌, ◌<◌, ◌≤◌, Bool, true, false, cond, not, List, [], ◌∷◌, length, drop, get_or, refl, subst}
 use Rattle.std.proofs.Common.{sym, ap, ◌∙◌, arith}
 use Rattle.std.proofs.lemmas.List.{drop_more, drop_all}
-use Rattle.std.proofs.lemmas.Bool.Decides.{nat_tests}
 use Rattle.gtp_cmd.specs.Words.{is_kept}
 use Rattle.vertices.specs.RawWords.{is_parting, is_skipped}
-use Rattle.gtp_cmd.specs.Spans.{goes_on, span_between, spans_with, spans_from, spans_at, end_with, first_span, last_end, whole_span}
-use Rattle.gtp_cmd.specs.Spans.{IsSpanOf}
+use Rattle.gtp_cmd.specs.Spans.{goes_on, span_between, spans_with, spans_from, spans_at, end_with, last_end, whole_span}
 use Rattle.gtp_cmd.specs.declared.spans.Span.{Span}
 
 -- a byte that is skipped stands in no word

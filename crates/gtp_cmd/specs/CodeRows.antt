@@ -1,7 +1,7 @@
 -- The rows of commands that the code keeps.
 use Rattle.std.specs.Prelude.{Bool}
 use Rattle.std.specs.Str.{bytes_eq}
-use Rattle.gtp_cmd.specs.declared.commands.Row.{Row as CodeRow}
+use Rattle.gtp_cmd.specs.declared.rows.Row.{Row as CodeRow}
 use Rattle.gtp_cmd.specs.Words.{kept}
 use Rattle.gtp_cmd.specs.Commands.{Row}
 

@@ -6,6 +6,7 @@
 #![tactic(auto)]
 
 mod arguments;
+mod calls;
 mod commands;
 mod ids;
 mod komi;
@@ -13,13 +14,17 @@ pub mod laws;
 mod parser;
 mod refusals;
 mod replies;
+mod rows;
 mod spans;
+#[cfg(test)]
+mod tests;
 mod word_spans;
 
-pub use commands::{Command, CommandName, Parsed, names_text};
+pub use commands::{Command, CommandName, Parsed};
 pub use komi::KomiText;
 pub use parser::parse;
 pub use refusals::RefuseText;
 pub use replies::{refusal, short, success};
+pub use rows::names_text;
 pub use spans::{Span, text};
 pub use vertices::{Short, column_letter, vertex_text};

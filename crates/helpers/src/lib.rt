@@ -5,11 +5,13 @@
 //! off or taken out is not asked, and counts as one that says no.
 #![tactic(auto)]
 
+mod agreement;
 mod helper;
 mod near_edge;
 mod no_ban;
 mod slots;
 
+pub use agreement::all_agree;
 pub use helper::Helper;
 pub use near_edge::NearEdge;
 pub use no_ban::NoBan;

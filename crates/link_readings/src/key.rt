@@ -3,10 +3,9 @@
 ghost use Rattle.std.specs.Prelude.{◌≡◌, ◌≢◌, ◌*◌, ◌<◌};
 ghost use Rattle.go_rules.specs.Strings.{cell_at};
 ghost use Rattle.go_rules.specs.Position.{stone_of};
-ghost use Rattle.read_rules.specs.Answer.{colour_of};
 ghost use Rattle.link_rules.specs.Linkages.{asked_on};
 
-use go_base::{Cell, Colour, Point, Position};
+use go_base::{Cell, Point, Position};
 use link_rules::{LinkKind, LinkQuestion, Linkage};
 use read_cache::Question;
 
@@ -30,19 +29,6 @@ impl Question for LinkKey {
     ghost small = { lit< tt };
 }
 
-/// The colour of a stone.
-fn colour_of(cell: Cell) -> Colour
-    requires { cell ≢ Cell.Empty }
-    ensures value { result ≡ colour_of cell }
-    ensures stone { stone_of result ≡ cell }
-{
-    match cell {
-        Cell::Black => Colour::Black,
-        Cell::White => Colour::White,
-        Cell::Empty => unreachable!(),
-    }
-}
-
 /// The question of this kind about two stones of the position, of one colour.
 pub(crate) fn key_of(kind: LinkKind, position: &Position, a: Point, b: Point, plies: u8) -> LinkKey
     requires a_on { a < position.now.size * position.now.size }
@@ -56,7 +42,7 @@ pub(crate) fn key_of(kind: LinkKind, position: &Position, a: Point, b: Point, pl
             kind,
             a,
             b,
-            colour: colour_of(position.cell(a)),
+            colour: position.cell(a).colour(),
             plies,
         },
     }

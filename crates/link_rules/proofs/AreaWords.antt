@@ -8,7 +8,7 @@ use Rattle.go_rules.specs.Position.{BoardState}
 use Rattle.go_rules.specs.Play.{pass}
 use Rattle.go_rules.proofs.Paths.{same_cell-true, same_cell-from, is_is_in_string-from_fact}
 use Rattle.read_rules.specs.AreaInWords.{IsReachedIn}
-use Rattle.link_rules.proofs.AreaSteps.{steps_give, steps_from}
+use Rattle.read_rules.proofs.AreaSteps.{steps_give, steps_from}
 use Rattle.link_rules.specs.declared.link.Link.{Link}
 use Rattle.link_rules.specs.declared.question.LinkQuestion.{LinkQuestion}
 use Rattle.link_rules.specs.Connection.{is_one_string, mover_of}

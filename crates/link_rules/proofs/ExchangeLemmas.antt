@@ -8,7 +8,7 @@ use Rattle.go_rules.specs.Replay.{led_to}
 use Rattle.go_rules.specs.Strings.{cell_at, same_cell, is_liberty}
 use Rattle.go_rules.specs.Position.{BoardState, stone_of}
 use Rattle.go_rules.specs.Play.{play, pass}
-use Rattle.go_rules.proofs.Boundary.{string_back}
+use Rattle.go_rules.proofs.StringMembers.{string_back}
 use Rattle.go_rules.proofs.Counts.{any_below_same}
 use Rattle.go_rules.proofs.PlayLaws.{play_size}
 use Rattle.go_base.specs.Surroundings.{is_only_liberty, is_last_liberty_of_enemy}

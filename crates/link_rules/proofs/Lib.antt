@@ -1,4 +1,3 @@
-mod AreaSteps
 mod AreaWords
 mod ExchangeLemmas
 pub mod MoveLemmas

@@ -2,7 +2,7 @@
 use Rattle.std.proofs.Common.{◌≡◌, ℕ, zero, suc, Bool, true, false, cond, List, [], ◌∷◌, refl}
 use Rattle.std.specs.List.{list_any}
 use Rattle.helpers.specs.Asking.{HelperState, SlotState, has_name}
-use Rattle.helper_asking.specs.Rule.{asked_often, slot_asked_often, raised_from, raised}
+use Rattle.helpers.specs.Agreement.{asked_often, slot_asked_often, raised_from, raised}
 use Rattle.machine_rules.specs.Calls.{without_its_calls, without_calls}
 
 -- a helper without its calls

@@ -14,7 +14,7 @@ use Rattle.gtp_cmd.specs.declared.commands.Parsed.{Parsed}
 use Rattle.gtp_cmd.specs.declared.commands.Parsed.TheVariants as parsed
 use Rattle.gtp_cmd.specs.declared.refusals.RefuseText.{RefuseText}
 use Rattle.gtp_cmd.specs.declared.refusals.RefuseText.TheVariants.{VertexEmpty}
-use Rattle.helper_totals.specs.Totals.{asks_over}
+use Rattle.helpers.specs.Totals.{asks_over}
 use Rattle.match_rules.specs.Conditions.{all_yes}
 use Rattle.match_engine.specs.HelperCalls.{plays_of}
 use Rattle.machine_rules.specs.Machine.{Machine, position_of}

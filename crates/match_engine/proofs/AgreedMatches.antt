@@ -6,10 +6,10 @@ use Rattle.go_rules.specs.declared.Colour.{Colour}
 use Rattle.go_rules.specs.Position.{BoardState}
 use Rattle.pat_types.specs.declared.pattern.Pattern.{Pattern}
 use Rattle.helpers.specs.Asking.{SlotState, says_yes}
-use Rattle.helper_asking.specs.Fields.{helper_names}
-use Rattle.helper_asking.specs.Rule.{raised, IsAskedFor}
-use Rattle.helper_totals.specs.Totals.{asks_over}
-use Rattle.helper_totals.proofs.CallTotals.{answer_over-more, asked_over-more}
+use Rattle.helpers.specs.Fields.{helper_names}
+use Rattle.helpers.specs.Agreement.{raised, IsAskedFor}
+use Rattle.helpers.specs.Totals.{asks_over}
+use Rattle.helpers.proofs.CallTotals.{answer_over-more, asked_over-more}
 use Rattle.match_rules.specs.declared.found.Match.{Match}
 use Rattle.match_engine.specs.AutomatonMatches.{is_agreed_at}
 use Rattle.match_engine.specs.HelperCalls.{names_of, plays_of, after_matches}

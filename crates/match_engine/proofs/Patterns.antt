@@ -25,7 +25,7 @@ use Rattle.match_rules.specs.Match.{is_match, matches_of}
 use Rattle.match_engine.specs.AutomatonMatches.{has_hit, place_of_anchor, lies_on_board, is_found, found_by}
 use Rattle.match_engine.specs.AutomatonMatches.{is_automaton_match, automaton_matches, is_allowed_at, is_agreed_at}
 use Rattle.match_engine.specs.AutomatonMatches.{IsFoundThere}
-use Rattle.helper_asking.specs.Fields.{helper_names}
+use Rattle.helpers.specs.Fields.{helper_names}
 use Rattle.match_engine.proofs.Corners.{on_all}
 use Rattle.match_rules.proofs.InWords.{each_cell, all_cells, letter_from_cell}
 use Rattle.match_engine.proofs.ByAutomaton.{count_within, hit_of_accept, accept_of_hit, has_hit-true}

@@ -4,9 +4,9 @@ use Rattle.go_rules.specs.declared.Colour.{Colour}
 use Rattle.go_rules.specs.Position.{BoardState}
 use Rattle.pat_types.specs.declared.pattern.Pattern.{Pattern}
 use Rattle.helpers.specs.Asking.{SlotState}
-use Rattle.helper_asking.specs.Fields.{helper_names}
-use Rattle.helper_asking.specs.Rule.{raised}
-use Rattle.helper_totals.specs.Totals.{asks_over}
+use Rattle.helpers.specs.Fields.{helper_names}
+use Rattle.helpers.specs.Agreement.{raised}
+use Rattle.helpers.specs.Totals.{asks_over}
 use Rattle.match_rules.specs.declared.found.Match.{Match}
 
 -- the helpers that a pattern names, if there is one

@@ -8,8 +8,7 @@ ghost use Rattle.match_engine.specs.HelperCalls.{after_matches};
 
 use crate::finder::{keep, pattern_with};
 use go_base::{Colour, Position};
-use helper_asking::all_agree;
-use helpers::Helpers;
+use helpers::{Helpers, all_agree};
 use match_rules::Match;
 use pat_types::Pattern;
 

@@ -2,9 +2,9 @@
 
 ghost use Rattle.std.specs.Prelude.{◌≡◌, ◌≢◌, ◌*◌, ◌<◌};
 ghost use Rattle.go_rules.specs.Strings.{cell_at};
-ghost use Rattle.read_rules.specs.Answer.{asked_on, colour_of};
+ghost use Rattle.read_rules.specs.Answer.{asked_on};
 
-use go_base::{Cell, Colour, Point, Position};
+use go_base::{Cell, Point, Position};
 use read_cache::Question;
 use read_rules::{Answer, Depths, Kind, ReadingQuestion};
 
@@ -28,18 +28,6 @@ impl Question for Key {
     ghost small = { lit< tt };
 }
 
-/// The colour of a stone.
-fn colour_of(cell: Cell) -> Colour
-    requires { cell ≢ Cell.Empty }
-    ensures { result ≡ colour_of cell }
-{
-    match cell {
-        Cell::Black => Colour::Black,
-        Cell::White => Colour::White,
-        Cell::Empty => unreachable!(),
-    }
-}
-
 /// The question of this kind about a stone of the position.
 pub(crate) fn key_of(kind: Kind, position: &Position, target: Point, depths: Depths) -> Key
     requires on_board { target < position.now.size * position.now.size }
@@ -51,7 +39,7 @@ pub(crate) fn key_of(kind: Kind, position: &Position, target: Point, depths: Dep
             size: position.size(),
             kind,
             target,
-            colour: colour_of(position.cell(target)),
+            colour: position.cell(target).colour(),
             plies: depths.plies,
             wide: depths.wide,
         },

@@ -11,7 +11,7 @@ use Rattle.match_rules.specs.declared.found.Match.{Match}
 use Rattle.match_rules.specs.Fits.{fits}
 use Rattle.match_rules.specs.Match.{is_match, matches_of, IsMatch, AreMatches}
 use Rattle.match_rules.specs.Conditions.{Advice, is_allowed, do_helpers_agree, is_agreed}
-use Rattle.helper_asking.specs.Fields.{helper_names}
+use Rattle.helpers.specs.Fields.{helper_names}
 use Rattle.match_rules.proofs.ConditionTests.{allowed-true, allowed-from}
 use Rattle.match_rules.proofs.InWords.{fits-true, fits-from}
 use Rattle.match_rules.proofs.Lists.{passes_each, passes_all}

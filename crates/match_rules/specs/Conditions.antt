@@ -18,7 +18,7 @@ use Rattle.cons_eval.specs.Functions.{is_safe_move}
 use Rattle.cons_eval.specs.Meanings.{Meanings}
 use Rattle.cons_eval.specs.Values.{is_so, value_of}
 use Rattle.match_rules.specs.Fits.{place_of_cell}
-use Rattle.helper_asking.specs.Fields.{helper_names}
+use Rattle.helpers.specs.Fields.{helper_names}
 
 -- the class letter s: the stone that is played need not be safe
 abbrev pub unsafe_class : ℕ

@@ -14,7 +14,7 @@ use Rattle.cons_eval.specs.Readings.{Codes}
 use Rattle.cons_eval.specs.Values.{value_of}
 use Rattle.match_rules.specs.Fits.{fits, Fits}
 use Rattle.match_rules.specs.Conditions.{unsafe_class, enemy_class, IsSafePlay, Advice, meanings_at, is_agreed}
-use Rattle.helper_asking.specs.Fields.{helper_names}
+use Rattle.helpers.specs.Fields.{helper_names}
 
 -- whether the pattern matches at m under t: it fits there, the friend's play at m is legal, and its classes, its
 -- constraint and its helpers allow it

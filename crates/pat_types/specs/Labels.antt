@@ -53,12 +53,12 @@ abbrev pub are_between : ℕ → ℕ → List Arg → Bool
 are_between low high args = nat_le low (length args) && nat_le (length args) high
 
 -- a function takes moves and then a point, or points alone
-abbrev pub is_play : Function → Bool
-is_play OplayAttack = true
-is_play OplayDefend = true
-is_play XplayAttack = true
-is_play XplayDefend = true
-is_play _ = false
+abbrev pub takes_moves : Function → Bool
+takes_moves OplayAttack = true
+takes_moves OplayDefend = true
+takes_moves XplayAttack = true
+takes_moves XplayDefend = true
+takes_moves _ = false
 
 -- the least and the greatest number of arguments of a function
 abbrev pub arity_of : Function → ℕ × ℕ
@@ -88,7 +88,7 @@ arity_of XplayDefend = (2, 9)
 abbrev pub may_call : List LabelAt → Function → List Arg → Bool
 may_call labels f args =
     are_between (arity_of f).0 (arity_of f).1 args
-    && (if is_play f then end_in_point labels args else list_all (is_point labels) args)
+    && (if takes_moves f then end_in_point labels args else list_all (is_point labels) args)
 
 -- the numbers are at most 999,999, each function is called as it may be, and each label is one of these
 unfoldable pub can_evaluate : List LabelAt → Expr → Bool

@@ -7,12 +7,11 @@ use Rattle.std.proofs.lemmas.Bool.{both_ways, and_from, and_parts, eq-eqb}
 use Rattle.go_rules.specs.declared.Cell.{Cell}
 use Rattle.go_rules.specs.declared.Colour.{Colour}
 use Rattle.go_rules.specs.Strings.{cell_at}
-use Rattle.go_rules.specs.Position.{BoardState, stone_of}
+use Rattle.go_rules.specs.Position.{BoardState, stone_of, colour_of}
 use Rattle.go_rules.proofs.Paths.{same_cell-from}
 use Rattle.read_rules.specs.declared.question.Spot.{Spot}
 use Rattle.read_rules.specs.declared.question.Spot.TheVariants.{Pass}
 use Rattle.read_rules.specs.GameTree.{at_point}
-use Rattle.read_rules.specs.Answer.{colour_of}
 use Rattle.read_rules.specs.GoodMoves.{IsOnBoard}
 use Rattle.link_rules.specs.declared.link.Link.{Link}
 use Rattle.link_rules.specs.declared.question.LinkKind.{LinkKind}

@@ -7,7 +7,6 @@ ghost use Rattle.go_rules.specs.Strings.{cell_at};
 ghost use Rattle.go_base.specs.Facts.{Agrees, Grows, CellIs};
 ghost use Rattle.trial_board.specs.Trials.{Stays, most_moves, after};
 ghost use Rattle.read_rules.specs.ActiveArea.{AddsNear};
-ghost use Rattle.read_rules.specs.Answer.{colour_of};
 ghost use Rattle.read_rules.specs.GameTree.{at_point};
 ghost use Rattle.read_rules.specs.GoodMoves.{IsOnBoard};
 ghost use Rattle.link_rules.specs.Connection.{first_success, pass_parts};
@@ -21,7 +20,7 @@ use crate::told::LinkTold;
 use crate::tree::{attains, pass_parts};
 use go_base::flood::Found;
 use go_base::points::PointSet;
-use go_base::{Cell, Colour, Look, Point};
+use go_base::{Cell, Look, Point};
 use link_rules::{Link, LinkKind, LinkQuestion, LinkSpot, Linkage};
 use trial_board::Trial;
 
@@ -182,19 +181,6 @@ pub fn read<L: Look>(look: L, question: LinkQuestion) -> LinkTold<L>
     }
 }
 
-/// The colour of a stone.
-fn colour_of(cell: Cell) -> Colour
-    requires { cell ≢ Cell.Empty }
-    ensures value { result ≡ colour_of cell }
-    ensures stone { stone_of result ≡ cell }
-{
-    match cell {
-        Cell::Black => Colour::Black,
-        Cell::White => Colour::White,
-        Cell::Empty => unreachable!(),
-    }
-}
-
 /// Reads a question of this kind about two stones of the position shown.
 fn answered<L: Look>(look: L, kind: LinkKind, a: Point, b: Point, plies: u8) -> LinkTold<L>
     requires a_on { a < (L.shows look).size * (L.shows look).size }
@@ -215,7 +201,7 @@ fn answered<L: Look>(look: L, kind: LinkKind, a: Point, b: Point, plies: u8) -> 
         → AddsNear (L.seen look) (L.seen result.look) (InConnectionArea (asked_on (L.shows look) kind a b plies) pos) }
 {
     let mut view = look;
-    let colour = colour_of(view.cell(a));
+    let colour = view.cell(a).colour();
     let question = LinkQuestion {
         size: view.size(),
         kind,

@@ -9,18 +9,19 @@ use Rattle.std.specs.FinSet as sets
 use Rattle.go_rules.specs.declared.Cell.{Cell}
 use Rattle.go_rules.specs.declared.Cell.TheVariants.{Empty}
 use Rattle.go_rules.specs.declared.Colour.{Colour}
-use Rattle.go_rules.specs.declared.Colour.TheVariants.{Black as black, White as white}
 use Rattle.go_rules.specs.declared.Illegal.{Illegal}
 use Rattle.go_rules.specs.Board.{are_neighbours}
 use Rattle.go_rules.specs.Strings.{cell_at, is_stone, same_cell, Path, start, step, IsLiberty, is_liberty, liberties}
 use Rattle.go_rules.specs.Strings.{liberty_points}
 use Rattle.go_rules.specs.Position.{BoardState, IsPosition, other, stone_of}
 use Rattle.go_rules.specs.Play.{play_free, cells_after, is_taken}
-use Rattle.go_rules.proofs.Links.{liberty_moves, liberties_from, path_same, path_keeps}
+use Rattle.go_rules.specs.Rules.{IsCaptured}
+use Rattle.go_rules.proofs.Links.{liberty_moves, liberties_from, are_neighbours_comm}
 use Rattle.go_rules.proofs.Paths.{same_cell-true, same_cell-from, IsLiberty-from_test, is_liberty-from_fact}
-use Rattle.go_rules.proofs.Plays.{at_put_same, at_put_other, at_after, enemy_differs, own_not_taken, stone_is}
+use Rattle.go_rules.proofs.Plays.{at_put_same, at_put_other, at_after, own_not_taken, stone_is}
 use Rattle.go_rules.proofs.Plays.{taken_parts, alive_not_taken, taken_beside}
 use Rattle.go_rules.proofs.PlayLaws.{done_state, taken_by_words}
+use Rattle.go_rules.proofs.OnlyLiberties.{stone_not_empty, only_liberty_captures}
 use Rattle.go_rules.proofs.Results.{after_on, free_done}
 use Rattle.go_rules.proofs.Sets.{same_nat_set, contains-insert_nat}
 use Rattle.go_base.specs.Takes.{TakenBeside}
@@ -38,11 +39,6 @@ use Rattle.read_rules.proofs.OneMember.{one_member}
 use Rattle.go_rules.proofs.Tests.{same_tests}
 use Rattle.read_moves.proofs.OtherLiberties.{other_or_only}
 use Rattle.read_moves.proofs.SideLemmas.{not_its_own}
-
--- a stone of one colour is no empty point
-stone_not_empty : (c : Colour) → stone_of c ≡ Empty → ⊥
-stone_not_empty black e = cc
-stone_not_empty white e = cc
 
 -- a point that was empty, or is made empty, is empty
 empty_both : (b : Bool) (k : Cell) → k ≡ Empty → cond b Empty k ≡ Empty
@@ -106,37 +102,27 @@ module _ (s : ℕ) (cells : List Cell) (c : Colour) (l : ℕ) (whole : length ce
   -- Where the string of q, an enemy next to l, has no liberty but l.
   module _ (q : ℕ) (q_on : q < s * s) (beside : are_neighbours s l q ≡ true)
       (enemy : cell_at cells q ≡ stone_of (other c)) (only : (x : ℕ) → IsLiberty s cells q x → x ≡ l) where
-    -- q stands once the stone is put
-    put_enemy : cell_at put q ≡ stone_of (other c)
-    put_enemy = at_put_other cells l q (stone_of c) (off_point (other c) q enemy) ∙ enemy
-
-    -- its string has no liberty then
-    dead : (x : ℕ) → IsLiberty s put q x → ⊥
-    dead x h =
-        let back : (y : ℕ) → Path s put q y → y ≢ l =
-        λ y path e. enemy_differs c (sym put_enemy ∙ sym (path_same s put q path) ∙ ap (cell_at put) e ∙ put_here) in
-        let same : (y : ℕ) → Path s put q y → cell_at cells y ≡ cell_at put y =
-        λ y path. sym (at_put_other cells l y (stone_of c) (back y path)) in
-        let off : x ≢ l = λ e. stone_not_empty c (sym put_here ∙ ap (cell_at put) (sym e) ∙ h.is_empty) in
-        off (only x (record {
-          on_board = h.on_board;
-          is_empty = sym (at_put_other cells l x (stone_of c) off) ∙ h.is_empty;
-          beside = (
-            h.beside.0,
-            record {
-              stone = ap is_stone (same q start) ∙ h.beside.1.stone;
-              path = path_keeps s put cells q same h.beside.1.path;
-            },
-            h.beside.2,
-          );
-        }))
+    -- its string is captured
+    captured : IsCaptured s put c q
+    captured = only_liberty_captures s cells c l q whole (record {
+      its = record {
+        on_board = on;
+        is_empty = vacant;
+        beside = (
+          q,
+          record { stone = ap is_stone enemy ∙ stone_is (other c); path = start },
+          are_neighbours_comm s q l ∙ beside,
+        );
+      };
+      only = only;
+    }) enemy
 
     -- so it is taken, and the stone at l has a liberty where q stood
     pub freed : IsLiberty s gone l q
     freed = record {
       on_board = q_on;
       is_empty = at_after s put c q q_on ∙ ap (λ b. cond b Empty (cell_at put q))
-          (taken_by_words s put c q (record { enemy = put_enemy; dead = dead }));
+          (taken_by_words s put c q captured);
       beside = (l, record { stone = ap is_stone stone_here ∙ stone_is c; path = start }, beside);
     }
 

@@ -1,6 +1,6 @@
 -- The empty sides of a point.
 use Rattle.std.proofs.Common.{◌≡◌, ℕ, ◌+◌, ◌*◌, ◌/◌, ◌%◌, ◌<◌, ◌||◌, ◌&&◌, Bool, true, false, eqb, ltb, List, refl, sym}
-use Rattle.std.proofs.Common.{ap, subst, arith, inl, inr, ◌∙◌, Option, Some}
+use Rattle.std.proofs.Common.{ap, subst, arith, inl, inr, ◌∙◌}
 use Rattle.std.proofs.lemmas.Bool.{or_cases, eqb-true, and_parts, ltb-true}
 use Rattle.std.specs.Ordering.{nat_cmp}
 use Rattle.std.specs.FinSet as sets
@@ -10,7 +10,6 @@ use Rattle.go_rules.proofs.Counts.{any_below_gives}
 use Rattle.go_rules.proofs.Sets.{same_nat_set, contains-set_below, len-set_below}
 use Rattle.go_rules.specs.Below.{set_below, count_below}
 use Rattle.go_rules.proofs.Paths.{same_cell-true}
-use Rattle.go_base.specs.Sides.{neighbour_at}
 use Rattle.go_base.specs.Views.{alone, neighbours_of}
 use Rattle.go_base.proofs.PointNeighbourhoods.{whole_self, close_next, close_again, close_mono, alone_self}
 use Rattle.go_rules.specs.Neighbourhood.{neighbourhood_of}
@@ -84,8 +83,3 @@ string_near s cells l q on q_on beside r h =
     let first = neighbourhood_of s cells (alone l) in
     let q_near = close_next s cells (alone l) l q q_on (whole_self s cells (alone l) l on (alone_self l)) beside in
     close_mono s cells (alone q) first (λ x same. ap first (eqb-true x q same) ∙ q_near) r h
-
--- a side that was found on a board of the same size is one of this position
-pub side_at : (s l side q : ℕ) {shown size : ℕ} {found : Option ℕ} → s ≡ shown → size ≡ shown
-    → found ≡ neighbour_at size l side → found ≡ Some q → neighbour_at s l side ≡ Some q
-side_at s l side q e size value is = ap (λ n. neighbour_at n l side) (e ∙ sym size) ∙ sym value ∙ is

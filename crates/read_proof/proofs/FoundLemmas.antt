@@ -10,7 +10,7 @@ use Rattle.go_rules.specs.declared.Cell.TheVariants.{Empty}
 use Rattle.go_rules.specs.Below.{any_below}
 use Rattle.go_rules.specs.Board.{largest_points, are_neighbours}
 use Rattle.go_rules.specs.Strings.{cell_at, same_cell, is_liberty, liberties, liberty_points, string_at, is_in_string}
-use Rattle.go_rules.specs.Boundary.{is_beside_string}
+use Rattle.go_rules.specs.BesideStrings.{is_beside_string}
 use Rattle.go_rules.proofs.Counts.{any_below_gives, any_below_from, any_below_false, any_below_same}
 use Rattle.go_rules.proofs.Links.{are_neighbours_comm}
 use Rattle.go_rules.proofs.Sets.{contains-insert_nat, contains-set_below}

@@ -4,9 +4,9 @@ use Rattle.go_rules.specs.declared.Cell.{Cell}
 use Rattle.go_rules.specs.declared.Cell.TheVariants.{Empty}
 use Rattle.go_rules.specs.declared.Colour.{Colour}
 use Rattle.go_rules.specs.Strings.{cell_at}
-use Rattle.go_rules.specs.Position.{BoardState}
+use Rattle.go_rules.specs.Position.{BoardState, colour_of}
 use Rattle.read_rules.specs.declared.question.Kind.{Kind}
-use Rattle.read_rules.specs.Answer.{is_about, colour_of, asked_on}
+use Rattle.read_rules.specs.Answer.{is_about, asked_on}
 use Rattle.read_rules.proofs.AnswerLemmas.{stone-colour, about_from}
 
 -- a question on a stone of a position is about the position

@@ -4,7 +4,7 @@ ghost use Rattle.std.specs.Prelude.{◌≡◌, ℕ, ◌*◌, ◌<◌, ◌==◌, 
 ghost use Rattle.std.specs.FinSet as set;
 ghost use Rattle.go_rules.specs.Below.{any_below};
 ghost use Rattle.go_rules.specs.Board.{largest_points, are_neighbours};
-ghost use Rattle.go_rules.specs.Boundary.{is_enemy, is_beside_string};
+ghost use Rattle.go_rules.specs.BesideStrings.{is_enemy, is_beside_string};
 ghost use Rattle.go_rules.specs.Strings.{cell_at, same_cell, string_at, liberty_points};
 ghost use Rattle.go_base.specs.Sides.{neighbour_at};
 ghost use Rattle.go_base.specs.Surroundings.{is_only_liberty, is_last_liberty_of_enemy};

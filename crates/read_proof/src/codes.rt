@@ -1,7 +1,8 @@
 //! What a proof of a code claims, under each code from 3 down, and the nodes at which it does.
 
 ghost use Rattle.std.specs.Prelude.{◌≡◌, ◌*◌, ◌<◌, ◌==◌, if◌then◌else◌};
-ghost use Rattle.read_rules.specs.Answer.{asked_on, first_node, colour_of};
+ghost use Rattle.go_rules.specs.Position.{colour_of};
+ghost use Rattle.read_rules.specs.Answer.{asked_on, first_node};
 ghost use Rattle.read_proof.specs.ProofOf.{claim_under};
 
 use go_base::{Cell, Colour, Point, Position};

@@ -7,13 +7,13 @@ use Rattle.go_rules.specs.declared.Cell.TheVariants.{Empty, Black, White}
 use Rattle.go_rules.specs.declared.Colour.{Colour}
 use Rattle.go_rules.specs.declared.Colour.TheVariants.{Black as black, White as white}
 use Rattle.go_rules.specs.Strings.{cell_at, same_cell}
-use Rattle.go_rules.specs.Position.{BoardState, stone_of}
+use Rattle.go_rules.specs.Position.{BoardState, stone_of, colour_of}
 use Rattle.go_rules.proofs.Paths.{same_cell-true, same_cell-from}
 use Rattle.read_rules.specs.declared.question.Spot.{Spot}
 use Rattle.read_rules.specs.declared.question.ReadingQuestion.{ReadingQuestion}
 use Rattle.read_rules.specs.GameTree.{is_captured, attacker_wins, first_move}
 use Rattle.read_rules.specs.Answer.{is_attack, first_node, attains_code, is_about, code_of, first_move_of, move_of}
-use Rattle.read_rules.specs.Answer.{answer_of, colour_of}
+use Rattle.read_rules.specs.Answer.{answer_of}
 use Rattle.read_rules.specs.GoodMoves.{is_barred, good_move, Reads}
 use Rattle.read_rules.proofs.WinLemmas.{wins-attacker_move, wins-defender_move}
 

@@ -1,18 +1,13 @@
 -- The active area by steps from the target's string, and the nodes by the moves that lead to them.
-use Rattle.std.proofs.Common.{◌≡◌, ◌≢◌, ℕ, zero, suc, ◌+◌, ◌*◌, ◌<◌, ◌≤◌, ◌⊎◌, ◌↔◌, Bool, true, false, List}
+use Rattle.std.proofs.Common.{◌≡◌, ◌≢◌, ℕ, ◌+◌, ◌*◌, ◌<◌, ◌≤◌, ◌⊎◌, ◌↔◌, true, false, List}
 use Rattle.std.proofs.Common.{refl, sym, subst, arith, inl, inr}
 use Rattle.std.proofs.lemmas.Bool.{cases_Bool, cases_eq, both_ways}
 use Rattle.go_rules.specs.declared.Cell.{Cell}
 use Rattle.go_rules.specs.declared.Cell.TheVariants.{Empty}
-use Rattle.go_rules.specs.Strings.{cell_at, is_in_string, IsInString}
-use Rattle.go_rules.specs.Neighbourhood.{whole_strings_of, neighbourhood_of}
+use Rattle.go_rules.specs.Strings.{cell_at, is_in_string}
 use Rattle.go_rules.specs.Position.{BoardState}
 use Rattle.go_rules.specs.Play.{pass}
-use Rattle.go_rules.proofs.Boundary.{is_in_string_on}
-use Rattle.go_rules.proofs.InWords.{neighbourhood_of-on_board}
-use Rattle.go_rules.proofs.Paths.{IsInString-from_test, is_is_in_string-from_fact, same_cell-true, same_cell-from}
-use Rattle.go_base.proofs.PointNeighbourhoods.{whole_self, whole_string, whole_cases, close_whole, close_next}
-use Rattle.go_base.proofs.PointNeighbourhoods.{within, beside, closeness}
+use Rattle.go_rules.proofs.Paths.{same_cell-true, same_cell-from}
 use Rattle.read_rules.specs.declared.node.Node.{Node}
 use Rattle.read_rules.specs.declared.question.Kind.{Kind}
 use Rattle.read_rules.specs.declared.question.Kind.TheVariants.{Attack, Defend}
@@ -22,68 +17,17 @@ use Rattle.read_rules.specs.Rules.{HasManyLiberties, node_under}
 use Rattle.read_rules.specs.Answer.{first_node}
 use Rattle.read_rules.specs.ActiveArea.{reach_of, IsUndecided, IsNodeOf, first, by_play, by_pass}
 use Rattle.read_rules.specs.ActiveArea.{InActiveArea}
-use Rattle.read_rules.specs.AreaInWords.{IsOneStep, along, beyond, IsReachedIn, at_string, one_more, IsFirstOf}
+use Rattle.read_rules.specs.AreaInWords.{IsReachedIn, IsFirstOf}
 use Rattle.read_rules.specs.AreaInWords.{IsNextOf, IsLookedAt}
+use Rattle.read_rules.proofs.AreaSteps.{steps_give, steps_from}
 use Rattle.read_rules.proofs.RuleLemmas.{many_gives, many_from, child_gives, child_from}
 use Rattle.read_rules.proofs.LibertyLemmas.{child_free, play_size}
 
--- The steps on one board.
-module _ (s : ℕ) (cells : List Cell) where
-  -- what is in the whole strings of a set is a point of the set, or a stone of the string of one
-  with_whole : (S : ℕ → Bool) (y : ℕ) → whole_strings_of s cells S y ≡ true
-      → (q : ℕ) × (S q ≡ true) × ((y ≡ q) ⊎ IsInString s cells q y)
-  with_whole S y h = elim (whole_cases s cells S y h) [
-    | inl i ↦ (y, i, inl refl)
-    | inr w ↦ (w.0, w.2, inr (IsInString-from_test s cells w.0 y w.3))
-  ]
-
-  -- a point of the neighbourhood of a set is one step from a point of the set
-  step_gives : (S : ℕ → Bool) (p : ℕ) → neighbourhood_of s cells S p ≡ true
-      → (q : ℕ) × (S q ≡ true) × IsOneStep s cells q p
-  step_gives S p h = elim (closeness s cells S p h) [
-    | within w ↦ let found = with_whole S p w in (found.0, found.1, along found.2)
-    | beside y on w near ↦ let found = with_whole S y w in (found.0, found.1, beyond y found.2 on near)
-  ]
-
-  -- a point of a set, and each stone of its string, is in the whole strings of the set
-  whole_with : (S : ℕ → Bool) (q y : ℕ) → q < s * s → S q ≡ true → (y ≡ q) ⊎ IsInString s cells q y
-      → whole_strings_of s cells S y ≡ true
-  whole_with S q y on h (inl e) = subst (λ x. whole_strings_of s cells S x ≡ true) (sym e) (whole_self s cells S q on h)
-  whole_with S q y on h (inr i) = whole_string s cells S q y on h (is_is_in_string-from_fact s cells q y on i)
-
-  -- what is one step from a point of a set is in the neighbourhood of the set
-  step_from : (S : ℕ → Bool) (q p : ℕ) → q < s * s → S q ≡ true → IsOneStep s cells q p
-      → neighbourhood_of s cells S p ≡ true
-  step_from S q p on h (along w) = close_whole s cells S p (whole_with S q p on h w)
-  step_from S q p on h (beyond y w p_on near) = close_next s cells S y p p_on (whole_with S q y on h w) near
-
-  -- the neighbourhood of the string of t, taken n times
-  abbrev closed : ℕ → ℕ → ℕ → Bool
-  closed t zero = is_in_string s cells t
-  closed t (suc n) = neighbourhood_of s cells (closed t n)
-
-  -- its points are on the board
-  closed_on : (t n p : ℕ) → t < s * s → closed t n p ≡ true → p < s * s
-  closed_on t zero p on h = is_in_string_on s cells t p on h
-  closed_on t (suc n) p on h = neighbourhood_of-on_board s cells (closed t n) p h
-
-  -- its points are n steps from the string
-  steps_give : (t n p : ℕ) → closed t n p ≡ true → IsReachedIn s cells t n p
-  steps_give t zero p h = at_string (IsInString-from_test s cells t p h)
-  steps_give t (suc n) p h =
-      let found = step_gives (closed t n) p h in one_more (steps_give t n found.0 found.1) found.2
-
-  -- what is n steps from the string is one of its points
-  steps_from : (t : ℕ) → t < s * s → {n p : ℕ} → IsReachedIn s cells t n p → closed t n p ≡ true
-  steps_from t on {p = p} (at_string i) = is_is_in_string-from_fact s cells t p on i
-  steps_from t on (one_more {n} {q} {p} r step) =
-      let before = steps_from t on r in step_from (closed t n) q p (closed_on t n q on before) before step
-
-  -- the reach of a string is what five steps lead to
-  pub reach-is : (t p : ℕ) → t < s * s
-      → (reach_of s cells (is_in_string s cells t) p ≡ true) ↔ IsReachedIn s cells t 5 p
-  unfolding reach_of
-  reach-is t p on = (steps_give t 5 p, steps_from t on)
+-- the reach of a string is what five steps lead to
+reach-is : (s : ℕ) (cells : List Cell) (t p : ℕ) → t < s * s
+    → (reach_of s cells (is_in_string s cells t) p ≡ true) ↔ IsReachedIn s cells t 5 p
+unfolding reach_of
+reach-is s cells t p on = (steps_give s cells t 5 p, steps_from s cells t on)
 
 -- a target that stands is not an empty point
 stands_gives : (pos : BoardState) (t : ℕ) → is_captured pos t ≡ false → cell_at pos.cells t ≢ Empty

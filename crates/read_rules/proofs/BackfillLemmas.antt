@@ -10,7 +10,7 @@ use Rattle.go_rules.specs.Position.{BoardState}
 use Rattle.go_rules.specs.Play.{play_free}
 use Rattle.go_rules.proofs.Paths.{IsInString-from_test, is_is_in_string-from_fact}
 use Rattle.go_rules.proofs.Links.{path_same}
-use Rattle.go_rules.proofs.Boundary.{string_self}
+use Rattle.go_rules.proofs.StringMembers.{string_self}
 use Rattle.go_rules.proofs.PlayLaws.{others_stay, stone_after}
 use Rattle.go_base.specs.Views.{alone}
 use Rattle.go_base.proofs.PointNeighbourhoods.{whole_self, whole_string, whole_cases, close_whole, close_next}

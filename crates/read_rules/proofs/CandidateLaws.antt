@@ -6,13 +6,13 @@ use Rattle.go_rules.specs.declared.Cell.{Cell}
 use Rattle.go_rules.specs.declared.Colour.{Colour}
 use Rattle.go_rules.specs.declared.Illegal.{Illegal}
 use Rattle.go_rules.specs.Strings.{cell_at, is_liberty, liberties}
-use Rattle.go_rules.specs.Boundary.{is_beside_string}
+use Rattle.go_rules.specs.BesideStrings.{is_beside_string}
 use Rattle.go_rules.specs.Position.{BoardState}
 use Rattle.go_rules.specs.Play.{play_free}
 use Rattle.go_rules.proofs.Counts.{any_below_gives, any_below_from}
 use Rattle.go_rules.proofs.Paths.{same_cell-true, same_cell-from, IsInString-from_test, is_is_in_string-from_fact}
 use Rattle.go_rules.proofs.Paths.{IsLiberty-from_test, is_liberty-from_fact}
-use Rattle.go_rules.proofs.Boundary.{is_in_string_on}
+use Rattle.go_rules.proofs.StringMembers.{is_in_string_on}
 use Rattle.go_rules.proofs.PlayLaws.{done_state}
 use Rattle.go_base.specs.Surroundings.{is_only_liberty, is_last_liberty_of_enemy}
 use Rattle.read_rules.specs.Candidates.{attacker_of, is_empty_beside, leaves_only, is_backfilling, is_candidate}

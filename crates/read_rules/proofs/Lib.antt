@@ -10,4 +10,5 @@ pub mod AfterPlays
 pub mod LibertyLemmas
 pub mod StageLemmas
 pub mod OneMember
+pub mod AreaSteps
 pub mod AreaWords

@@ -10,7 +10,7 @@ use Rattle.go_rules.specs.declared.Illegal.{Illegal}
 use Rattle.go_rules.specs.Board.{are_neighbours}
 use Rattle.go_rules.specs.Below.{any_below}
 use Rattle.go_rules.specs.Strings.{cell_at, same_cell, is_liberty, liberties, IsInString, IsLiberty}
-use Rattle.go_rules.specs.Boundary.{is_enemy}
+use Rattle.go_rules.specs.BesideStrings.{is_enemy}
 use Rattle.go_rules.specs.Neighbourhood.{neighbourhood_of}
 use Rattle.go_rules.specs.Position.{BoardState}
 use Rattle.go_rules.specs.Play.{play_free}

@@ -8,12 +8,13 @@ use Rattle.go_rules.specs.declared.Cell.TheVariants.{Empty}
 use Rattle.go_rules.specs.declared.Colour.{Colour}
 use Rattle.go_rules.specs.declared.Colour.TheVariants.{Black as black, White as white}
 use Rattle.go_rules.specs.Board.{are_neighbours}
-use Rattle.go_rules.specs.Boundary.{is_enemy, is_beside_string}
+use Rattle.go_rules.specs.BesideStrings.{is_enemy, is_beside_string}
 use Rattle.go_rules.specs.Strings.{cell_at, is_stone, Path, start, step, IsInString, IsLiberty, is_liberty, liberties}
 use Rattle.go_rules.specs.Strings.{liberty_points}
 use Rattle.go_rules.specs.Position.{BoardState, IsPosition, other, stone_of, is_banned}
 use Rattle.go_rules.specs.Play.{play_free, pass}
 use Rattle.go_rules.specs.Rules.{IsCaptured}
+use Rattle.go_rules.proofs.OnlyLiberties.{stone_not_empty}
 use Rattle.go_rules.proofs.Counts.{any_below_from, count_below_mono, first_below_gives}
 use Rattle.go_rules.proofs.Links.{liberties_some}
 use Rattle.go_rules.proofs.Paths.{path_on_board, is_is_in_string-from_fact, IsLiberty-from_test, is_liberty-from_fact}
@@ -38,7 +39,7 @@ use Rattle.read_rules.specs.Candidates.{is_candidate}
 use Rattle.read_rules.proofs.CandidateLaws.{candidate_on}
 use Rattle.read_tree.proofs.AllowanceLemmas.{and_parts_not, and_false_right}
 use Rattle.read_rules.proofs.LibertyLemmas.{child_free, counts_but_one, play_size}
-use Rattle.read_tree.proofs.TakeLemmas.{not_empty, turn_at, taking_wins}
+use Rattle.read_tree.proofs.TakeLemmas.{turn_at, taking_wins}
 
 -- stones of the two colours are enemies
 are_enemies : (a b : Cell) (c : Colour) → a ≡ stone_of c → b ≡ stone_of (other c) → is_enemy a b ≡ true
@@ -75,7 +76,7 @@ module _ (here : BoardState) (c : Colour) (p : ℕ) (new : BoardState) (t : ℕ)
 
   -- a stone of c stood elsewhere
   apart : (x : ℕ) → cell_at here.cells x ≡ stone_of c → x ≢ p
-  apart x stone e = not_empty c (sym stone ∙ ap (cell_at here.cells) e ∙ vacant)
+  apart x stone e = stone_not_empty c (sym stone ∙ ap (cell_at here.cells) e ∙ vacant)
 
   -- a liberty of the string is elsewhere
   liberty_apart : (x : ℕ) → IsLiberty s here.cells t x → x ≢ p
@@ -109,7 +110,7 @@ module _ (here : BoardState) (c : Colour) (p : ℕ) (new : BoardState) (t : ℕ)
       let kept = elim (others_stay here c p new x legal x_on (beside_apart y x before near)) as
       (λ _. cell_at here.cells x ≡ cell_at here.cells t) [
         | inl kept ↦ sym kept ∙ same ∙ stands ∙ sym own
-        | inr taken ↦ absurd (not_empty c (sym (same ∙ stands) ∙ taken.1))
+        | inr taken ↦ absurd (stone_not_empty c (sym (same ∙ stands) ∙ taken.1))
       ] in
       step before x_on near kept
 
@@ -170,7 +171,7 @@ module _ (here : BoardState) (c : Colour) (p : ℕ) (new : BoardState) (t : ℕ)
             let at = eqb-true b.0 l (and_parts _ _ banned).0 in
             let parts = ban_parts here c p new p_on legal b.0 b.1 e in
             let taken = taken_parts s put c b.0 (first_below_gives (s * s) _ b.0 parts.4).1 in
-            absurd (not_empty (other c) (sym taken.0 ∙ ap (cell_at put) at
+            absurd (stone_not_empty (other c) (sym taken.0 ∙ ap (cell_at put) at
             ∙ at_put_other here.cells p l (stone_of c) (liberty_apart l lib) ∙ lib.is_empty))
       ]
 

@@ -197,8 +197,3 @@ carries Agreed turn p known here new (Some next) h played = λ pos a.
     carried_set (here pos) (other turn.defender) p
     (new pos) turn.target pos.size known next f.whole f.size f.point_on f.target_on (f.legal w.attacks)
     (w.enemy ∙ ap stone_of (sym (other_twice turn.defender))) f.known_is w.next_is
-
--- a set and its copy joined to none
-pub copied : (points none : sets.FinSet nat_cmp) → none ≡ sets.empty → sets.union none points ≡ points
-copied points none e = same_nat_set _ _ (λ q. sets.contains-union nat_cmp_total none points q
-    ∙ ap (λ b. b || sets.contains points q) (ap (λ k. sets.contains k q) e ∙ sets.contains-empty nat_cmp q))

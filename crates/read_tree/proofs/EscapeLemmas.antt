@@ -13,6 +13,7 @@ use Rattle.go_rules.specs.Strings.{cell_at, is_stone, step, IsInString, IsLibert
 use Rattle.go_rules.specs.Strings.{liberty_points}
 use Rattle.go_rules.specs.Position.{BoardState, other, stone_of}
 use Rattle.go_rules.specs.Play.{play, cells_after}
+use Rattle.go_rules.proofs.OnlyLiberties.{stone_not_empty}
 use Rattle.go_rules.proofs.Counts.{count_below_mono, any_below_gives, any_below_from}
 use Rattle.go_rules.proofs.Links.{are_neighbours_comm, path_same, path_back, path_keeps, liberty_moves, liberties_some}
 use Rattle.go_rules.proofs.Links.{liberties_from}
@@ -38,7 +39,7 @@ use Rattle.read_rules.specs.Bound.{outlasts}
 use Rattle.read_tree.specs.Escapes.{Escapes}
 use Rattle.read_rules.proofs.LibertyLemmas.{bounded, some_liberty, more_outlasts_attacker}
 use Rattle.read_tree.proofs.OrderLemmas.{order_near}
-use Rattle.read_tree.proofs.TakeLemmas.{not_empty, near_liberty}
+use Rattle.read_tree.proofs.TakeLemmas.{near_liberty}
 
 -- points that all pass the test are no more than those that do
 few_members : (n : ℕ) (test : ℕ → Bool) (points : sets.FinSet nat_cmp)
@@ -76,7 +77,7 @@ module _ (s : ℕ) (cells : List Cell) (c : Colour) (l t : ℕ) (whole : length 
   -- and one that stood before
   old_stands : (x : ℕ) → x < s * s → cell_at cells x ≡ stone_of c → cell_at gone x ≡ stone_of c
   old_stands x x_on stone = stands x x_on (at_put_other cells l x (stone_of c)
-      (λ e. not_empty c (sym stone ∙ ap (cell_at cells) e ∙ lib.is_empty)) ∙ stone)
+      (λ e. stone_not_empty c (sym stone ∙ ap (cell_at cells) e ∙ lib.is_empty)) ∙ stone)
 
   -- the new stone is of the string
   joined : IsInString s gone t l

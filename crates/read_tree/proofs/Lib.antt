@@ -10,3 +10,4 @@ pub mod AtariLemmas
 pub mod EscapeLemmas
 pub mod TableLemmas
 pub mod NodeLemmas
+mod BoundLemmas

@@ -19,10 +19,11 @@ use Rattle.go_rules.specs.Position.{BoardState, other, stone_of}
 use Rattle.go_rules.specs.Play.{play, cells_after, is_taken}
 use Rattle.go_rules.proofs.Links.{path_same, path_keeps, liberties_from, are_neighbours_comm}
 use Rattle.go_rules.proofs.Paths.{path_on_board, same_cell-from, IsLiberty-from_test, is_liberty-from_fact}
-use Rattle.go_rules.proofs.Plays.{at_put_same, at_put_other, at_after, enemy_differs, own_not_taken, taken_whole}
+use Rattle.go_rules.proofs.Plays.{at_put_same, at_put_other, at_after, own_not_taken, taken_whole}
 use Rattle.go_rules.proofs.Plays.{stone_is}
 use Rattle.go_rules.proofs.Results.{result_of, free_done, play_else}
 use Rattle.go_rules.proofs.PlayLaws.{taken_by_words}
+use Rattle.go_rules.proofs.OnlyLiberties.{stone_not_empty, only_liberty_captures}
 use Rattle.read_rules.specs.Candidates.{fills}
 use Rattle.read_rules.proofs.CandidateLaws.{candidate_from}
 use Rattle.read_rules.specs.declared.node.Node.{Node}
@@ -33,11 +34,6 @@ use Rattle.read_tree.specs.Allowances.{Ko, under}
 use Rattle.read_tree.specs.Steps.{IsTaken}
 use Rattle.read_rules.proofs.RuleLemmas.{attacker_from}
 use Rattle.read_rules.proofs.WinLemmas.{wins-captured}
-
--- a stone is no empty point
-pub not_empty : (c : Colour) → stone_of c ≡ Empty → ⊥
-not_empty black e = cc
-not_empty white e = cc
 
 -- The string of t, an enemy of c, has the only liberty l.
 module _ (s : ℕ) (cells : List Cell) (c : Colour) (l t : ℕ) (whole : length cells ≡ s * s) (on : t < s * s)
@@ -53,36 +49,12 @@ module _ (s : ℕ) (cells : List Cell) (c : Colour) (l t : ℕ) (whole : length 
 
   -- a stone of the enemy is not at l
   apart : (q : ℕ) → cell_at cells q ≡ stone_of (other c) → q ≢ l
-  apart q h e = not_empty (other c) (sym h ∙ ap (cell_at cells) e ∙ lib.is_empty)
-
-  -- the target holds the enemy's stone once the stone was put
-  put_target : cell_at put t ≡ stone_of (other c)
-  put_target = at_put_other cells l t (stone_of c) (apart t enemy) ∙ enemy
-
-  -- its string has no liberty once the stone is put
-  dead : (x : ℕ) → IsLiberty s put t x → ⊥
-  dead x h =
-      let back : (y : ℕ) → Path s put t y → y ≢ l =
-      λ y path e. enemy_differs c (sym put_target ∙ sym (path_same s put t path) ∙ ap (cell_at put) e ∙ put_at) in
-      let same : (y : ℕ) → Path s put t y → cell_at cells y ≡ cell_at put y =
-      λ y path. sym (at_put_other cells l y (stone_of c) (back y path)) in
-      let off : x ≢ l = λ e. not_empty c (sym put_at ∙ ap (cell_at put) (sym e) ∙ h.is_empty) in
-      off (only x (record {
-        on_board = h.on_board;
-        is_empty = sym (at_put_other cells l x (stone_of c) off) ∙ h.is_empty;
-        beside = (
-          h.beside.0,
-          record {
-            stone = ap is_stone (same t start) ∙ h.beside.1.stone;
-            path = path_keeps s put cells t same h.beside.1.path;
-          },
-          h.beside.2,
-        );
-      }))
+  apart q h e = stone_not_empty (other c) (sym h ∙ ap (cell_at cells) e ∙ lib.is_empty)
 
   -- the string of t is taken by the play at l
   taken : is_taken s put c t ≡ true
-  taken = taken_by_words s put c t (record { enemy = put_target; dead = dead })
+  taken = taken_by_words s put c t
+      (only_liberty_captures s cells c l t whole (record { its = lib; only = only }) enemy)
 
   -- what is taken is empty
   gone : (q : ℕ) → q < s * s → is_taken s put c q ≡ true → cell_at (cells_after s put c) q ≡ Empty

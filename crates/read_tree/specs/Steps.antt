@@ -3,13 +3,15 @@ use Rattle.std.specs.Prelude.{◌≡◌, ◌≢◌, ℕ, ◌<◌, ◌≤◌, ◌
 use Rattle.std.specs.Prelude.{if◌then◌else◌}
 use Rattle.std.specs.Ordering.{nat_cmp}
 use Rattle.std.specs.FinSet as set
-use Rattle.go_rules.specs.Strings.{cell_at, is_liberty, liberties}
+use Rattle.go_rules.specs.declared.Cell.{Cell}
+use Rattle.go_rules.specs.Strings.{cell_at, is_liberty, liberties, liberty_points}
 use Rattle.go_rules.specs.Position.{BoardState, IsPosition, other, stone_of, is_banned}
 use Rattle.read_tree.specs.declared.outlook.Outlook.{Outlook}
 use Rattle.read_tree.specs.declared.outlook.Outlook.TheVariants.{Safe, Taken, Open}
 use Rattle.trial_board.specs.declared.moves.TrialMove.{TrialMove}
 use Rattle.trial_board.specs.Trials.{tail}
 use Rattle.read_rules.specs.declared.node.Node.{Node}
+use Rattle.read_rules.specs.Bound.{outlasts}
 use Rattle.read_rules.specs.Candidates.{is_candidate}
 use Rattle.read_rules.specs.declared.question.ReadingQuestion.{ReadingQuestion}
 use Rattle.read_rules.specs.declared.question.Spot.{Spot}
@@ -30,6 +32,14 @@ abbrev pub tail_if : Made → List TrialMove → List TrialMove
 tail_if Not moves = moves
 tail_if Legal moves = tail moves
 tail_if Allowed moves = tail moves
+
+-- what was found of the target's liberties, with n plies left: more than are taken in time exactly where the target has
+-- more, and else all of them
+pub record TellsLiberties (turn : Turn) (n s : ℕ) (cells : List Cell) (found : set.FinSet nat_cmp) : Type 0 where
+  pub many : outlasts turn.attacker_to_play n turn.wide (set.len found)
+      ≡ outlasts turn.attacker_to_play n turn.wide (liberties s cells turn.target)
+  pub all : outlasts turn.attacker_to_play n turn.wide (set.len found) ≡ false
+      → found ≡ liberty_points s cells turn.target
 
 -- where the play at p leads from here, under each allowance: nowhere; to new, and the allowance is kept; or the mover's
 -- own allowance alone lets it be played, is spent, and it leads to new. Where the own allowance is not asked for,

@@ -1,31 +1,16 @@
-//! Sets of points made from others: all but one point, a copy.
+//! A set of points made from another: all but one point.
 
-ghost use Rattle.std.specs.Prelude.{◌≡◌, ℕ, ◌==◌, ◌&&◌, not};
+ghost use Rattle.std.specs.Prelude.{◌≡◌, ℕ, ◌<◌, ◌==◌, ◌&&◌, not};
 ghost use Rattle.std.specs.FinSet as set;
+ghost use Rattle.go_rules.specs.Board.{largest_points};
 
 use go_base::Point;
 use go_base::points::PointSet;
 
 /// The members but for p. It takes no memory.
 pub fn all_but(points: &PointSet, p: Point) -> PointSet
+    requires { p < largest_points }
     ensures { (q : ℕ) → set.contains result q ≡ (set.contains points.now q && not (q == p)) }
 {
-    let mut rest = PointSet::new();
-    let mut next = 0;
-    while let Some(q) = points.first_from(next) {
-        if q != p {
-            rest.add(q);
-        }
-        next = q + 1;
-    }
-    rest
-}
-
-/// The same set. It takes no memory.
-pub fn copy_of(points: &PointSet) -> PointSet
-    ensures { result ≡ points.now }
-{
-    let mut copy = PointSet::new();
-    copy.join(points);
-    copy
+    points.without(p)
 }

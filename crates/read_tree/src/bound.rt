@@ -1,6 +1,6 @@
 //! The bound on the target's liberties: with more, it is not captured.
 
-ghost use Rattle.std.specs.Prelude.{◌≡◌, ◌-◌, ◌&&◌, false};
+ghost use Rattle.std.specs.Prelude.{◌≡◌, ℕ, ◌-◌, ◌&&◌, ◌||◌, false, nat_lt};
 ghost use Rattle.std.specs.FinSet as set;
 ghost use Rattle.read_rules.specs.Bound.{most_by_wide, outlasts};
 
@@ -30,6 +30,32 @@ pub fn outlasts(attacker: bool, plies: u8, wide: u8, liberties: u16) -> bool
     } else {
         liberties > u16::from(plies) / 2 || liberties > most_by_wide(wide.saturating_sub(1))
     }
+}
+
+/// The lesser of two bounds.
+fn least(a: u16, b: u16) -> u16
+    ensures { (l : ℕ) → (nat_lt a l || nat_lt b l) ≡ nat_lt result l }
+{
+    if a < b { a } else { b }
+}
+
+/// The most liberties that are not too many for the plies and the wide plies that are left.
+#[tactic(auto, unfolding(read_rules::specs::Bound::outlasts))]
+fn most_within(attacker: bool, plies: u8, wide: u8) -> u16
+    ensures { (l : ℕ) → outlasts attacker plies wide l ≡ nat_lt result l }
+{
+    if attacker {
+        least((u16::from(plies) + 1) / 2, most_by_wide(wide))
+    } else {
+        least(u16::from(plies) / 2, most_by_wide(wide.saturating_sub(1)))
+    }
+}
+
+/// The most liberties with which the target is not too strong to be captured, with `plies` plies left.
+pub fn most_liberties(turn: Turn, plies: u8) -> u16
+    ensures { (l : ℕ) → outlasts turn.attacker_to_play plies turn.wide l ≡ nat_lt result l }
+{
+    most_within(turn.attacker_to_play, plies, turn.wide)
 }
 
 /// Whether the target has too many liberties to be captured, with `plies` plies left; its liberties are handed in.

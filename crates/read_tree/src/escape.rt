@@ -28,6 +28,7 @@ fn kept_at<L: Look>(board: &mut Trial<L>, l: Point, known: &PointSet) -> PointSe
     ensures near { (pos : BoardState) → Agrees (L.seen board.new.look) pos
         → AddsIn (L.seen board.old.look) (L.seen board.new.look) (neighbours_of pos.size l) }
 {
+    let _ = board.size().points();
     let mut kept = all_but(known, l);
     add_sides(board, l, &mut kept);
     kept

@@ -1,6 +1,6 @@
 //! What the target's liberties alone say of a node.
 
-ghost use Rattle.std.specs.Prelude.{◌≡◌, ◌*◌, ◌<◌, ◌||◌, true};
+ghost use Rattle.std.specs.Prelude.{◌≡◌, ◌*◌, ◌<◌, ◌||◌, true, false};
 ghost use Rattle.go_rules.specs.Neighbourhood.{neighbourhood_of};
 ghost use Rattle.go_rules.specs.Strings.{liberties, liberty_points};
 ghost use Rattle.std.specs.FinSet as set;
@@ -9,9 +9,9 @@ ghost use Rattle.go_base.specs.Facts.{Agrees, AddsIn};
 ghost use Rattle.go_base.specs.Views.{alone};
 ghost use Rattle.trial_board.specs.Trials.{Stays, after};
 ghost use Rattle.read_rules.specs.Bound.{outlasts};
-ghost use Rattle.read_tree.specs.Steps.{IsTaken, IsInAtari, is_safe};
+ghost use Rattle.read_tree.specs.Steps.{IsTaken, IsInAtari, TellsLiberties, is_safe};
 
-use crate::bound::has_too_many;
+use crate::bound::{has_too_many, most_liberties};
 use crate::turn::Turn;
 use go_base::points::PointSet;
 use go_base::{Cell, Colour, Look};
@@ -69,6 +69,21 @@ pub fn is_in_atari<L: Look>(board: &mut Trial<L>, turn: Turn, plies: u8, known: 
     board.cell(turn.target) == stone_of(turn.defender)
 }
 
+/// The liberties of the target, with `plies` plies left; where they are too many, a part of them that is too many
+/// already. No more of its string is searched once that is seen.
+pub fn liberties_within<L: Look>(board: &mut Trial<L>, turn: Turn, plies: u8) -> PointSet
+    requires { turn.target < (L.shows board.old.look).size * (L.shows board.old.look).size }
+    ensures stays { Stays L.shows L.seen board.old board.new }
+    ensures count { board.new.count ≡ board.old.count }
+    ensures over { (pos : BoardState) → Agrees (L.seen board.new.look) pos
+        → TellsLiberties turn plies pos.size (after pos board.old.moves).cells result }
+    ensures near { (pos : BoardState) → Agrees (L.seen board.new.look) pos
+        → AddsIn (L.seen board.old.look) (L.seen board.new.look)
+        (neighbourhood_of pos.size (after pos board.old.moves).cells (alone turn.target)) }
+{
+    board.some_liberties(turn.target, most_liberties(turn, plies))
+}
+
 /// What is known of a node by the target's liberties alone.
 #[derive(Clone, Copy, Debug, PartialEq, Eq)]
 pub enum Outlook {
@@ -80,15 +95,17 @@ pub enum Outlook {
     Open,
 }
 
-/// What is known of a node by the target's liberties, which are handed in, with `plies` plies left.
+/// What is known of a node by the target's liberties, with `plies` plies left. They are handed in, or too many of them.
 pub fn outlook_of<L: Look>(board: &mut Trial<L>, turn: Turn, plies: u8, known: &PointSet) -> Outlook
     requires target { turn.target < (L.shows board.old.look).size * (L.shows board.old.look).size }
     requires liberties { (pos : BoardState) → Agrees (L.seen board.old.look) pos
-        → known.now ≡ liberty_points pos.size (after pos board.old.moves).cells turn.target }
+        → TellsLiberties turn plies pos.size (after pos board.old.moves).cells known.now }
     ensures stays { Stays L.shows L.seen board.old board.new }
     ensures over { (pos : BoardState) → Agrees (L.seen board.new.look) pos
         → outlasts turn.attacker_to_play plies turn.wide
         (liberties pos.size (after pos board.old.moves).cells turn.target) ≡ is_safe result }
+    ensures all { (pos : BoardState) → Agrees (L.seen board.new.look) pos → is_safe result ≡ false
+        → known.now ≡ liberty_points pos.size (after pos board.old.moves).cells turn.target }
     ensures taken { (pos : BoardState) → Agrees (L.seen board.new.look) pos → result ≡ Outlook.Taken
         → IsTaken turn (after pos board.old.moves) }
     ensures near { (pos : BoardState) → Agrees (L.seen board.new.look) pos

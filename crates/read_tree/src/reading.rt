@@ -10,7 +10,7 @@ ghost use Rattle.trial_board.specs.Trials.{Stays, most_moves, after};
 ghost use Rattle.go_base.specs.Views.{nowhere, alone};
 ghost use Rattle.read_rules.specs.Candidates.{is_candidate};
 ghost use Rattle.read_rules.specs.ActiveArea.{InActiveArea, AddsNear};
-ghost use Rattle.read_rules.specs.Answer.{is_attack, answer_of, asked_on, colour_of};
+ghost use Rattle.read_rules.specs.Answer.{is_attack, answer_of, asked_on};
 ghost use Rattle.read_tree.specs.Allowances.{all_three};
 ghost use Rattle.read_rules.specs.Bound.{outlasts};
 ghost use Rattle.read_rules.specs.GoodMoves.{IsOnBoard};
@@ -22,12 +22,13 @@ ghost use Rattle.read_tree.specs.Walk.{IsPointOf, AreLibertiesOf, OnEachAgreeing
 use crate::allowances::Allowances;
 use crate::bound::has_too_many;
 use crate::memory::Memory;
+use crate::outlook::liberties_within;
 use crate::report::Report;
 use crate::table::{Entry, empty_table};
 use crate::tree::{pass_saves, succeeds};
 use crate::turn::Turn;
 use go_base::points::PointSet;
-use go_base::{Cell, Colour, Look, Point};
+use go_base::{Cell, Look, Point};
 use read_moves::candidates;
 use read_rules::{Answer, Depths, Kind, ReadingQuestion, Spot};
 use trial_board::Trial;
@@ -189,23 +190,11 @@ fn read_on<L: Look>(board: &mut Trial<L>, question: &ReadingQuestion) -> Answer
         (alone question.now.target)) }
 {
     let turn = first_turn(question);
-    let known = board.liberties(turn.target);
+    let known = liberties_within(board, turn, question.plies);
     if has_too_many(turn, question.plies, &known) {
         return unread(turn.attacker_to_play);
     }
     read_known(board, question, &known)
-}
-
-/// The colour of a stone.
-fn colour_of(cell: Cell) -> Colour
-    requires { cell ≢ Cell.Empty }
-    ensures { result ≡ colour_of cell }
-{
-    match cell {
-        Cell::Black => Colour::Black,
-        Cell::White => Colour::White,
-        Cell::Empty => unreachable!(),
-    }
 }
 
 /// Reads a question about a stone of the position that the view shows: the answer, how many plays were tried, and the
@@ -267,7 +256,7 @@ fn asked<L: Look>(look: &mut L, kind: Kind, target: Point, depths: Depths) -> Re
         size: look.size(),
         kind,
         target,
-        colour: colour_of(look.cell(target)),
+        colour: look.cell(target).colour(),
         plies: depths.plies,
         wide: depths.wide,
     }

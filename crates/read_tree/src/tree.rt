@@ -3,7 +3,6 @@
 ghost use Rattle.std.specs.Prelude.{◌≡◌, ◌+◌, ◌≤◌, ℕ, suc, true, false};
 ghost use Rattle.std.specs.Prelude.{IsTrue, IfSome, length, is_some, if◌then◌else◌};
 ghost use Rattle.go_rules.specs.Neighbourhood.{neighbourhood_of};
-ghost use Rattle.go_rules.specs.Strings.{liberty_points};
 ghost use Rattle.std.specs.FinSet as set;
 ghost use Rattle.go_rules.specs.Position.{BoardState};
 ghost use Rattle.go_base.specs.Facts.{Agrees, AddsIn};
@@ -16,20 +15,20 @@ ghost use Rattle.read_rules.specs.GameTree.{is_captured, attacker_wins, succeeds
 ghost use Rattle.read_tree.specs.Allowances.{Ko, under, next_turn, has_some, without, Tells};
 ghost use Rattle.read_rules.specs.GoodMoves.{good_move};
 ghost use Rattle.read_tree.specs.Steps.{has_way, AreNodesOf, TellsBy};
-ghost use Rattle.read_tree.specs.Steps.{is_off_liberties, IsCarried};
+ghost use Rattle.read_tree.specs.Steps.{is_off_liberties, IsCarried, TellsLiberties};
 ghost use Rattle.read_tree.specs.Table.{IsTrueTable};
 ghost use Rattle.read_tree.specs.Walk.{IsReady, IsPointOf, AreLibertiesOf, OnEachAgreeing};
 ghost use Rattle.read_tree.specs.Walk.{LooksNear, LooksNearWhere, LooksNearOrAt};
 
 use crate::allowances::Allowances;
-use crate::apart::{all_but, copy_of};
+use crate::apart::all_but;
 use crate::bound::leaves_too_many;
 use crate::candidates::{captures_of, others_of};
 use crate::escape::escapes;
 use crate::making::{Made, make};
 use crate::memory::Memory;
 use crate::order::{TryOrder, last_reply, next_to_try};
-use crate::outlook::{Outlook, is_in_atari, outlook_of, stone_of};
+use crate::outlook::{Outlook, is_in_atari, liberties_within, outlook_of, stone_of};
 use crate::table::AttackerNode;
 use crate::turn::Turn;
 use go_base::points::PointSet;
@@ -48,6 +47,7 @@ fn liberties_after<L: Look>(
     known: &PointSet,
 ) -> Option<PointSet>
     requires target { IsPointOf L.shows board.old turn.target }
+    requires on_board { IsPointOf L.shows board.old p }
     ensures stays { Stays L.shows L.seen board.old board.new }
     ensures over { OnEachAgreeing L.seen board.old board.new (λ here. IfSome result (IsCarried turn here p known.now)) }
     ensures near { AddsIn (L.seen board.old.look) (L.seen board.new.look) (alone turn.target) }
@@ -55,27 +55,30 @@ fn liberties_after<L: Look>(
     if !turn.attacker_to_play || board.cell(turn.target) != stone_of(turn.defender) {
         return None;
     }
+    let _ = board.size().points();
     Some(all_but(known, p))
 }
 
-/// The liberties of the target: those that are known, or else those that are found.
+/// The liberties of the target, with `plies` plies left: those that are known, or else those that are found, where they
+/// are not too many.
 fn liberties_known<L: Look>(
     board: &mut Trial<L>,
-    target: Point,
+    turn: Turn,
+    plies: u8,
     known: Option<PointSet>,
 ) -> PointSet
-    requires target { IsPointOf L.shows board.old target }
-    requires liberties { IfSome known (AreLibertiesOf L.seen board.old target) }
+    requires target { IsPointOf L.shows board.old turn.target }
+    requires liberties { IfSome known (AreLibertiesOf L.seen board.old turn.target) }
     ensures stays { Stays L.shows L.seen board.old board.new }
     ensures over { (pos : BoardState) → Agrees (L.seen board.new.look) pos
-        → result ≡ liberty_points pos.size (after pos board.old.moves).cells target }
+        → TellsLiberties turn plies pos.size (after pos board.old.moves).cells result }
     ensures near { (pos : BoardState) → Agrees (L.seen board.new.look) pos
         → AddsIn (L.seen board.old.look) (L.seen board.new.look)
-        (neighbourhood_of pos.size (after pos board.old.moves).cells (alone target)) }
+        (neighbourhood_of pos.size (after pos board.old.moves).cells (alone turn.target)) }
 {
     match known {
         Some(found) => found,
-        None => board.liberties(target),
+        None => liberties_within(board, turn, plies),
     }
 }
 
@@ -329,7 +332,7 @@ pub fn pass_saves<L: Look>(
         return Allowances::none();
     }
     board.pass();
-    let good = has_way(board, turn, plies, asked, Some(copy_of(known)), memory);
+    let good = has_way(board, turn, plies, asked, Some(known.copied()), memory);
     board.back();
     good
 }
@@ -392,7 +395,7 @@ pub fn attacker_wins<L: Look>(
     if plies == 0 {
         return Allowances::none();
     }
-    let known = liberties_known(board, turn.target, known);
+    let known = liberties_known(board, turn, plies, known);
     match outlook_of(board, turn, plies, &known) {
         Outlook::Safe => Allowances::none(),
         Outlook::Taken => asked,

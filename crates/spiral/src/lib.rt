@@ -7,12 +7,13 @@
 //! After GNU Go Manual, "The DFA pattern matcher"; the order within a ring is this project's own.
 #![tactic(auto)]
 
+pub mod laws;
 mod moving;
 mod numbering;
 mod ring;
 
 pub use moving::{place, place_beside, place_from};
-pub use numbering::{OFFSETS, following, index, offset, offsets_differ};
+pub use numbering::{OFFSETS, following, index, offset};
 
 #[cfg(test)]
 mod tests;

@@ -48,9 +48,3 @@ pub fn index(dr: i8, dc: i8) -> u16
         (dc as i16 + LAST_RING as i16) as u16,
     )
 }
-
-/// No two indices have one offset, and each index below `OFFSETS` has one, with both parts from -24 to 24.
-pub fn offsets_differ()
-    ensures differ { (i j : ℕ) → i < offset_count → j < offset_count → offset_at i ≡ offset_at j → i ≡ j }
-    ensures near { (i : ℕ) → i < offset_count → IsNear (offset_at i) }
-{}

@@ -4,7 +4,6 @@ ghost use Rattle.std.specs.Prelude.{◌≡◌, ℕ, ◌+◌, ◌*◌, ◌-◌, �
 ghost use Rattle.std.specs.Prelude.{[], ◌∷◌, length, ◌↔◌, IsNone, IfSome};
 ghost use Rattle.std.specs.FinSet as set;
 ghost use Rattle.go_rules.specs.Strings.{cell_at, string_at, liberty_points};
-ghost use Rattle.go_rules.specs.Boundary.{boundary_points};
 ghost use Rattle.go_rules.specs.Neighbourhood.{neighbourhood_of};
 ghost use Rattle.go_base.specs.Surroundings.{is_last_liberty_of_enemy};
 ghost use Rattle.go_base.specs.Views.{alone};
@@ -25,7 +24,6 @@ use crate::moves::{MAX_TRIAL_MOVES, TrialMove, TrialPlay, Tried};
 use crate::overlay::Overlay;
 use crate::undo::{Undo, nothing_kept};
 use go_base::ban::is_banned;
-use go_base::boundary::boundary_of;
 use go_base::capture::play_on;
 use go_base::flood::{Found, flood, liberties_of, search};
 use go_base::points::PointSet;
@@ -198,23 +196,6 @@ impl<L: Look> Trial<L> {
             enemies: _,
         } = search(&mut self.board, p, most);
         liberties
-    }
-
-    /// The least point of each enemy string next to the string of p, none where p is empty.
-    pub fn boundary(&mut self, p: Point) -> PointSet
-        requires { p < (L.shows self.old.look).size * (L.shows self.old.look).size }
-        ensures stays { Stays L.shows L.seen self.old self.new }
-        ensures count { self.new.count ≡ self.old.count }
-        ensures over { (pos : BoardState) → Agrees (L.seen self.new.look) pos
-            → result ≡ boundary_points pos.size (after pos self.old.moves).cells p }
-        ensures answer { result ≡ boundary_points (L.shows self.old.look).size
-            (after (L.shows self.old.look) self.old.moves).cells p }
-        ensures near { (pos : BoardState) → Agrees (L.seen self.new.look) pos
-            → AddsIn (L.seen self.old.look) (L.seen self.new.look)
-            (neighbourhood_twice pos.size (after pos self.old.moves).cells p) }
-        ensures no_ban { AddsNoBan (L.seen self.old.look) (L.seen self.new.look) }
-    {
-        boundary_of(&mut self.board, p)
     }
 
     /// The liberties of the string of p and the last liberties of the enemy strings next to it, both none where p is

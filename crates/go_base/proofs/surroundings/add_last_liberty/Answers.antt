@@ -23,8 +23,8 @@ returns-then-has-clause-adds g c =
 pub returns-then-count-eq-IN_ATARI-clause-adds : goal.returns-then-count-eq-IN_ATARI-clause-adds
 returns-then-count-eq-IN_ATARI-clause-adds g c = λ pos a knows.
     AddsLast-one (g.V.View.rows c.args.board.now)
-    (g.V.View.cells c.args.board.now pos) c.args.q c.count.result c.search-found.result c.args.last.now
-    (c.search-found.ensures.over pos a) c.count.ensures.value c.join.new.self
+    (g.V.View.cells c.args.board.now pos) c.args.q c.count.result c.search_into.new.found c.args.last.now
+    (c.search_into.ensures.over pos a) c.count.ensures.value c.join.new.self
     c.if-count-eq-IN_ATARI.true c.join.ensures
 
 -- the last liberties of the strings seen are known with it
@@ -33,19 +33,19 @@ returns-then-count-eq-IN_ATARI-clause-knows g c = λ pos a knows.
     let s = g.V.View.rows c.args.board.now in
     let cells = g.V.View.cells c.args.board.now pos in
     KnowsLast-join s cells c.args.q (marked c.args.seen.now)
-    (marked c.mark_in.new.bits) c.search-found.result.stones c.args.last.now
+    (marked c.mark_in.new.bits) c.search_into.new.found.stones c.args.last.now
     c.join.new.self c.requires.on_board
-    (c.search-found.ensures.over pos a).part c.mark_in.ensures knows
-    (AddsLast-one s cells c.args.q c.count.result c.search-found.result c.args.last.now
-    (c.search-found.ensures.over pos a) c.count.ensures.value c.join.new.self
+    (c.search_into.ensures.over pos a).part c.mark_in.ensures knows
+    (AddsLast-one s cells c.args.q c.count.result c.search_into.new.found c.args.last.now
+    (c.search_into.ensures.over pos a) c.count.ensures.value c.join.new.self
     c.if-count-eq-IN_ATARI.true c.join.ensures)
 
 -- a string with more liberties adds none
 pub returns-else-count-eq-IN_ATARI-clause-adds : goal.returns-else-count-eq-IN_ATARI-clause-adds
 returns-else-count-eq-IN_ATARI-clause-adds g c = λ pos a knows.
     AddsLast-none (g.V.View.rows c.args.board.now)
-    (g.V.View.cells c.args.board.now pos) c.args.q c.count.result c.search-found.result c.args.last.now
-    (c.search-found.ensures.over pos a) c.count.ensures.value c.if-count-eq-IN_ATARI.false
+    (g.V.View.cells c.args.board.now pos) c.args.q c.count.result c.search_into.new.found c.args.last.now
+    (c.search_into.ensures.over pos a) c.count.ensures.value c.if-count-eq-IN_ATARI.false
 
 -- the last liberties of the strings seen are known without it
 pub returns-else-count-eq-IN_ATARI-clause-knows : goal.returns-else-count-eq-IN_ATARI-clause-knows
@@ -53,7 +53,7 @@ returns-else-count-eq-IN_ATARI-clause-knows g c = λ pos a knows.
     let s = g.V.View.rows c.args.board.now in
     let cells = g.V.View.cells c.args.board.now pos in
     KnowsLast-join s cells c.args.q (marked c.args.seen.now)
-    (marked c.mark_in.new.bits) c.search-found.result.stones c.args.last.now
-    c.args.last.now c.requires.on_board (c.search-found.ensures.over pos a).part c.mark_in.ensures knows
-    (AddsLast-none s cells c.args.q c.count.result c.search-found.result c.args.last.now
-    (c.search-found.ensures.over pos a) c.count.ensures.value c.if-count-eq-IN_ATARI.false)
+    (marked c.mark_in.new.bits) c.search_into.new.found.stones c.args.last.now
+    c.args.last.now c.requires.on_board (c.search_into.ensures.over pos a).part c.mark_in.ensures knows
+    (AddsLast-none s cells c.args.q c.count.result c.search_into.new.found c.args.last.now
+    (c.search_into.ensures.over pos a) c.count.ensures.value c.if-count-eq-IN_ATARI.false)

@@ -1,32 +1,9 @@
-use Rattle.std.proofs.Common.{◌≡◌, true, get_or, sym, inl, inr, ◌∙◌}
-use Rattle.std.proofs.lemmas.Bool.{cases_Bool}
-use Rattle.std.proofs.lemmas.List.{get_or_read}
-use Rattle.go_rules.specs.Strings.{cell_at, is_stone}
-use Rattle.go_rules.proofs.Cells.{cells_same, cells_differ}
-use Rattle.go_rules.proofs.Plays.{empty_from}
-use Rattle.go_strings.specs.Named.{no_string}
+use Rattle.std.proofs.Common.{◌∙◌}
 use Rattle.go_strings.specs.Stands.{cells_of}
 use Rattle.go_strings.proofs.Outcomes.{liberties-none}
-use Rattle.go_strings.proofs.StringNames.{named_there}
 use Rattle.go_strings.proofs.asked.liberties_at.Goals as goal
 
--- the point is empty
-pub returns-then-eq : goal.returns-then-eq
-returns-then-eq c =
-    c.new.ensures ∙ liberties-none c.args.now.now.board.size (cells_of c.args.now.now.board) c.args.p
-    (sym c.cell_on.ensures ∙ cells_same _ _ _ c.eq.ensures c.if-eq.true)
-
--- the string that was read is that of the point
-pub returns : goal.returns
-returns c =
-    let cells = cells_of c.args.now.now.board in
-    let stone : is_stone (cell_at cells c.args.p) ≡ true = elim (cases_Bool (is_stone (cell_at cells c.args.p))) [
-      | inl t ↦ t
-      | inr f ↦ absurd (cells_differ _ _ _ c.eq.ensures c.if-eq.false (c.cell_on.ensures ∙ empty_from _ f))
-    ] in
-    let n = c.requires.stands.named c.args.p c.requires.on_board stone in
-    let there = named_there c.args.now.now.board.size cells c.args.strings.now c.args.now.now.names c.args.p
-    c.index-strings-now.result c.requires.stands.named c.requires.on_board stone
-    (get_or_read c.args.strings.now (get_or c.args.now.now.names c.args.p 0) _ n.in_list c.index-strings-now.is
-    no_string) in
-    c.points_of.ensures ∙ there.liberties
+-- an empty point has none
+pub returns-in-None : goal.returns-in-None
+returns-in-None c =
+    c.new.ensures ∙ liberties-none c.args.now.now.board.size (cells_of c.args.now.now.board) c.args.p c.in-None.ensures

@@ -1,10 +1,10 @@
 use Rattle.std.proofs.Common.{rules, ◌<◌, length, subst}
 use Rattle.std.proofs.lemmas.Option.{slice_get_within}
 use Rattle.helpers.specs.Slots.{states_of}
-use Rattle.helper_asking.specs.Fields.{helper_names}
-use Rattle.helper_asking.specs.Rule.{IsAskedFor}
+use Rattle.helpers.specs.Fields.{helper_names}
+use Rattle.helpers.specs.Agreement.{IsAskedFor}
 use Rattle.match_engine.specs.AutomatonMatches.{IsFoundThere}
-use Rattle.helper_totals.proofs.CallTotals.{asked_over-none}
+use Rattle.helpers.proofs.CallTotals.{asked_over-none}
 use Rattle.match_engine.proofs.AllowedMatches.{KeepsFirst-none, kept_next, kept_there, read_old}
 use Rattle.match_engine.proofs.AgreedMatches.{answer_is, calls_are}
 use Rattle.match_engine.proofs.agreeing.keep_agreed.Goals as goal

@@ -3,7 +3,7 @@ use Rattle.std.proofs.Common.{◌≡◌, ◌∙◌, ◌*◌, ◌<◌, ◌||◌, 
 use Rattle.std.specs.FinSet as set
 use Rattle.go_base.specs.Facts.{Agrees, agrees_before, Grows-refl, Grows-trans, same_size}
 use Rattle.go_rules.specs.Position.{BoardState}
-use Rattle.trial_board.specs.Trials.{after}
+use Rattle.trial_board.specs.Trials.{after, Stays-trans}
 use Rattle.trial_board.proofs.AfterLemmas.{size-after}
 use Rattle.read_rules.proofs.AreaLemmas.{AddsNear-in, AddsNear-trans}
 use Rattle.link_rules.specs.ConnectingMoves.{is_connecting_move}
@@ -90,11 +90,7 @@ loop-p-preserved g c =
     let first = c.in-Some.ensures.some in
     let later = c.attains.ensures.stays in
     record {
-      stays = record {
-        moves = later.moves ∙ i.stays.moves;
-        shown = later.shown ∙ i.stays.shown;
-        grows = Grows-trans i.stays.grows later.grows;
-      };
+      stays = Stays-trans i.stays later;
       grows = Grows-trans i.grows later.grows;
       near = λ pos a q root node.
           let a1 = agrees_before later.grows a in

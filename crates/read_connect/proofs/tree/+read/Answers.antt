@@ -5,9 +5,9 @@ use Rattle.std.proofs.lemmas.Bool.{and_parts}
 use Rattle.std.specs.FinSet as set
 use Rattle.go_rules.specs.Position.{BoardState}
 use Rattle.go_rules.specs.Play.{pass}
-use Rattle.go_base.specs.Facts.{Agrees, agrees_before, Grows-refl, Grows-trans, same_size}
+use Rattle.go_base.specs.Facts.{Agrees, agrees_before, Grows-refl, same_size}
 use Rattle.go_base.proofs.SidesOfPoints.{square_small}
-use Rattle.trial_board.specs.Trials.{after}
+use Rattle.trial_board.specs.Trials.{after, Stays-trans}
 use Rattle.trial_board.proofs.AfterLemmas.{size-after}
 use Rattle.read_rules.proofs.AreaLemmas.{AddsNear-in, AddsNear-trans}
 use Rattle.link_rules.specs.ConnectingMoves.{is_connecting_move}
@@ -26,7 +26,7 @@ use Rattle.read_connect.proofs.WalkLemmas.{none_first, none_next, none_left, tel
 use Rattle.read_connect.proofs.WalkLemmas.{near_a, near_b, near_a_once, near_b_once, near_surround}
 use Rattle.read_connect.proofs.WalkLemmas.{near_play, near_end, point_on, done_legal, refused_leads, one_more_move}
 use Rattle.read_connect.proofs.TurnLemmas.{own_by, parted_by, other_by}
-use Rattle.read_connect.proofs.WalkLemmas.{stays_on, ready_still, liberties_still, child_node, pass_node}
+use Rattle.read_connect.proofs.WalkLemmas.{ready_still, liberties_still, child_node, pass_node}
 use Rattle.read_connect.proofs.tree.+read.Goals as goal
 
 -- a play that is made and taken back: the side has its way where the tree says so of the position after it
@@ -136,11 +136,7 @@ some_of-loop-p-preserved g t c =
     let first = c.in-Some.ensures.some in
     let later = c.attains.ensures.stays in
     record {
-      stays = record {
-        moves = later.moves ∙ i.stays.moves;
-        shown = later.shown ∙ i.stays.shown;
-        grows = Grows-trans i.stays.grows later.grows;
-      };
+      stays = Stays-trans i.stays later;
       near = λ pos a q root node its.
           let a0 = agrees_before later.grows a in
           AddsNear-trans (i.near pos a0 q root node its)
@@ -513,7 +509,7 @@ some_move-some_of-requires-2 g t c κs within =
 pub some_move-captures_of-requires : goal.some_move-captures_of-requires
 some_move-captures_of-requires g t c =
     (ready_still g.L.Look.shows g.L.Look.seen c.args.board.now c.some_of-2.new.board c.args.link c.args.plies
-    (stays_on c.some_of.ensures.stays c.some_of-2.ensures.stays) c.requires.ready).on_board
+    (Stays-trans c.some_of.ensures.stays c.some_of-2.ensures.stays) c.requires.ready).on_board
 
 -- a capture is on the board
 pub some_move-some_of-requires-3 : goal.some_move-some_of-requires-3
@@ -521,8 +517,8 @@ some_move-some_of-requires-3 g t c κs within =
     let shown = g.L.Look.shows c.args.board.now.look in
     let link = c.args.link in
     let board = c.captures_of.new.board in
-    let before = stays_on c.some_of.ensures.stays c.some_of-2.ensures.stays in
-    let stays = stays_on before c.captures_of.ensures.stays in
+    let before = Stays-trans c.some_of.ensures.stays c.some_of-2.ensures.stays in
+    let stays = Stays-trans before c.captures_of.ensures.stays in
     let ready : IsReady g.L.Look.shows g.L.Look.seen board link c.args.plies =
     ready_still g.L.Look.shows g.L.Look.seen c.args.board.now board link c.args.plies stays c.requires.ready in
     let agrees = subst (Agrees (g.L.Look.seen board.look)) stays.shown (g.met.L.Look.holds board.look) in
@@ -593,8 +589,8 @@ some_move-returns-clause-over g t c = λ pos a.
     let here = after pos c.args.board.now.moves in
     let link = c.args.link in
     let size = size-after pos c.args.board.now.moves in
-    let before = stays_on c.some_of.ensures.stays c.some_of-2.ensures.stays in
-    let all = stays_on before c.captures_of.ensures.stays in
+    let before = Stays-trans c.some_of.ensures.stays c.some_of-2.ensures.stays in
+    let all = Stays-trans before c.captures_of.ensures.stays in
     let sized = c.size.ensures ∙ ap (λ (x : BoardState). x.size) c.some_of.ensures.stays.shown
     ∙ sym (same_size (g.met.L.Look.sized c.args.board.now.look) a0) in
     last_stage link pos.size here c.args.of_a.now c.args.of_b.now size (c.requires.liberties.a_liberties pos a0)
@@ -626,8 +622,8 @@ some_move-returns-clause-near g t c = λ pos a q root node.
     let a_on = point_on pos.size (g.L.Look.shows c.args.board.now.look).size link.a same c.requires.ready.on_board.a in
     let b_on = point_on pos.size (g.L.Look.shows c.args.board.now.look).size link.b same c.requires.ready.on_board.b in
     let und = c.requires.ready.undecided pos a0 in
-    let before = stays_on c.some_of.ensures.stays c.some_of-2.ensures.stays in
-    let all = stays_on before c.captures_of.ensures.stays in
+    let before = Stays-trans c.some_of.ensures.stays c.some_of-2.ensures.stays in
+    let all = Stays-trans before c.captures_of.ensures.stays in
     let a_is = c.requires.liberties.a_liberties pos a0 in
     let b_is = c.requires.liberties.b_liberties pos a0 in
     let sized = c.size.ensures ∙ ap (λ (x : BoardState). x.size) c.some_of.ensures.stays.shown ∙ sym same in

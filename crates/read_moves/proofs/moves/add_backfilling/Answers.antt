@@ -3,10 +3,9 @@ use Rattle.std.proofs.Common.{◌*◌, ◌<◌, ap, sym, subst, ◌∙◌}
 use Rattle.std.proofs.lemmas.Bool.{and_from}
 use Rattle.go_base.specs.Facts.{agrees_before, AddsIn-trans, AddsIn-mono, same_size}
 use Rattle.go_rules.proofs.Counts.{any_below_from}
-use Rattle.trial_board.specs.Trials.{after}
+use Rattle.trial_board.specs.Trials.{after, Stays-trans}
 use Rattle.read_moves.specs.Steps.{is_left}
 use Rattle.read_moves.proofs.BackfillingLemmas.{LeftBelow-next, LeftBelow-all}
-use Rattle.read_moves.proofs.StaysLemmas.{Stays-trans}
 use Rattle.read_moves.proofs.moves.add_backfilling.Goals as goal
 
 -- what the play at the next point leaves came

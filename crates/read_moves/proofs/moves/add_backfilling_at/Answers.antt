@@ -12,14 +12,13 @@ use Rattle.go_rules.proofs.Sets.{contains-insert_nat}
 use Rattle.go_base.specs.Facts.{Agrees, AddsIn, agrees_before, AddsIn-trans, AddsIn-mono, same_size}
 use Rattle.go_base.proofs.PointNeighbourhoods.{close_again, close_alone}
 use Rattle.trial_board.specs.Overlays.{neighbourhood_twice}
-use Rattle.trial_board.specs.Trials.{after}
+use Rattle.trial_board.specs.Trials.{after, Stays-trans}
 use Rattle.trial_board.proofs.AfterLemmas.{size-after}
 use Rattle.read_moves.specs.Steps.{AllLive, is_left}
 use Rattle.read_moves.specs.Reaches.{Reaches}
 use Rattle.read_moves.specs.declared.reach.Reach.{Reach}
 use Rattle.read_moves.proofs.ReachLemmas.{left_vacant, left_lives, unless_one, quiet_one}
 use Rattle.read_moves.proofs.moves.add_backfilling_at.Given.{Over}
-use Rattle.read_moves.proofs.StaysLemmas.{Stays-trans}
 use Rattle.read_moves.proofs.moves.add_backfilling_at.Goals as goal
 use Rattle.read_moves.proofs.moves.add_backfilling_at.Goals.{After-reach_of}
 

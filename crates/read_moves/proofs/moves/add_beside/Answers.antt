@@ -2,9 +2,8 @@ use Rattle.std.proofs.Common.{◌*◌, ◌<◌, ap, sym, subst, ◌∙◌}
 use Rattle.std.proofs.lemmas.Bool.{and_from}
 use Rattle.go_base.specs.Facts.{agrees_before, AddsIn-trans, AddsIn-mono, same_size}
 use Rattle.go_rules.proofs.Counts.{any_below_from}
-use Rattle.trial_board.specs.Trials.{after}
+use Rattle.trial_board.specs.Trials.{after, Stays-trans}
 use Rattle.read_moves.proofs.BesideLemmas.{BesideBelow-next, BesideBelow-all}
-use Rattle.read_moves.proofs.StaysLemmas.{Stays-trans}
 use Rattle.read_moves.proofs.moves.add_beside.Goals as goal
 
 -- the empty neighbours of the next point came

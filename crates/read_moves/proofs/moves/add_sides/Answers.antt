@@ -1,10 +1,10 @@
 use Rattle.std.proofs.Common.{◌*◌, ◌<◌, ap, sym, subst, ◌∙◌, arith}
-use Rattle.go_base.specs.Facts.{agrees_before, AddsIn-trans, AddsIn-mono, same_size}
+use Rattle.go_rules.specs.Position.{BoardState}
+use Rattle.go_base.specs.Facts.{Agrees, agrees_before, same_size}
 use Rattle.go_base.specs.Sides.{neighbour_at}
-use Rattle.trial_board.specs.Trials.{after}
-use Rattle.read_moves.proofs.BesideLemmas.{neighbours_of-side, AddsSides-skip, AddsSides-visit, AddsSides-all}
-use Rattle.read_moves.proofs.StaysLemmas.{Stays-trans}
-use Rattle.read_moves.proofs.SideLemmas.{side_at}
+use Rattle.trial_board.specs.Trials.{after, Stays-trans}
+use Rattle.read_moves.proofs.BesideLemmas.{AddsSides-skip, AddsSides-visit, AddsSides-all}
+use Rattle.read_moves.proofs.FoundSides.{side_found, side_looked}
 use Rattle.read_moves.proofs.moves.add_sides.Goals as goal
 use Rattle.read_moves.proofs.moves.add_sides.Goals.{in-Some, in_default}
 
@@ -15,27 +15,24 @@ loop-side-preserved g c =
     let side = c.loop-side.side in
     let i = c.loop-side.invariant in
     elim c.match-neighbour.branch [
-      | in-Some w ↦ record {
-        stays = rw w.board-is (Stays-trans i.stays w.add_empty.ensures.stays);
-        near = λ pos a.
-            let a1 = rw w.board-is at a in
-            let a0 = agrees_before w.add_empty.ensures.stays.grows a1 in
-            let e = same_size (g.met.L.Look.sized c.loop-side.board.look) a0 ∙ ap (λ x. x.size) i.stays.shown in
-            let on = subst (λ n. l < n * n) (sym e) c.requires in
-            let at = side_at pos.size l side w.in-Some.q e c.size-size.ensures c.neighbour.ensures.value w.in-Some.is in
-            rw w.board-is (AddsIn-trans (i.near pos a0)
-            (AddsIn-mono w.add_empty.ensures.near (λ r h.
-            neighbours_of-side pos.size l side w.in-Some.q r on at h)));
-        over = λ pos a.
-            let a1 = rw w.board-is at a in
-            let a0 = agrees_before w.add_empty.ensures.stays.grows a1 in
-            let e = same_size (g.met.L.Look.sized c.loop-side.board.look) a0 ∙ ap (λ x. x.size) i.stays.shown in
-            let on = subst (λ n. l < n * n) (sym e) c.requires in
-            let at = side_at pos.size l side w.in-Some.q e c.size-size.ensures c.neighbour.ensures.value w.in-Some.is in
-            let came = rw i.stays.moves at (w.add_empty.ensures.over pos a1) in
-            rw w.found-is (AddsSides-visit pos.size (after pos c.args.board.now.moves).cells l side w.in-Some.q
-            c.args.found.now c.loop-side.found w.add_empty.new.found (i.over pos a0) on at came);
-      }
+      | in-Some w ↦
+          let here = λ (pos : BoardState) (a : Agrees (g.L.Look.seen c.loop-side.board.look) pos).
+          side_found pos.size l side w.in-Some.q (same_size (g.met.L.Look.sized c.loop-side.board.look) a
+          ∙ ap (λ x. x.size) i.stays.shown) c.requires c.size-size.ensures c.neighbour.ensures.value w.in-Some.is in
+          record {
+            stays = rw w.board-is (Stays-trans i.stays w.add_empty.ensures.stays);
+            near = λ pos a.
+                let a1 = rw w.board-is at a in
+                let a0 = agrees_before w.add_empty.ensures.stays.grows a1 in
+                rw w.board-is (side_looked (here pos a0) (i.near pos a0) w.add_empty.ensures.near);
+            over = λ pos a.
+                let a1 = rw w.board-is at a in
+                let a0 = agrees_before w.add_empty.ensures.stays.grows a1 in
+                let came = rw i.stays.moves at (w.add_empty.ensures.over pos a1) in
+                rw w.found-is (AddsSides-visit pos.size (after pos c.args.board.now.moves).cells l side w.in-Some.q
+                c.args.found.now c.loop-side.found w.add_empty.new.found (i.over pos a0) (here pos a0).on_board
+                (here pos a0).at came);
+          }
       | in_default w ↦ record {
         stays = rw w.board-is i.stays;
         near = λ pos a. rw w.board-is (i.near pos (rw w.board-is at a));

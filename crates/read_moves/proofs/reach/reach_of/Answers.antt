@@ -1,16 +1,15 @@
 -- The empty sides are told first, then the strings at the sides, one after another.
 use Rattle.std.proofs.Common.{◌*◌, ◌<◌, ap, sym, subst, arith, ◌∙◌}
-use Rattle.go_base.specs.Facts.{agrees_before, AddsIn-trans, AddsIn-mono, same_size}
+use Rattle.go_rules.specs.Position.{BoardState}
+use Rattle.go_base.specs.Facts.{Agrees, agrees_before, AddsIn-mono, same_size}
 use Rattle.go_base.specs.Sides.{neighbour_at}
-use Rattle.go_base.proofs.SidesOfPoints.{neighbour_at-near}
-use Rattle.trial_board.specs.Trials.{after}
+use Rattle.trial_board.specs.Trials.{after, Stays-trans}
 use Rattle.read_rules.specs.Candidates.{IsEmptyNeighbour}
 use Rattle.read_moves.specs.Reaches.{IsReached}
-use Rattle.read_moves.proofs.SideLemmas.{sides_near, string_near}
+use Rattle.read_moves.proofs.SideLemmas.{sides_near}
 use Rattle.read_moves.proofs.TellLemmas.{IsSoFar, IsLibertyAtSide, SoFar-none, SoFar-skip, SoFar-next, Tells-more}
 use Rattle.read_moves.proofs.TellLemmas.{string_told, so_far_reached, strings_told}
-use Rattle.read_moves.proofs.StaysLemmas.{Stays-trans}
-use Rattle.read_moves.proofs.SideLemmas.{side_at}
+use Rattle.read_moves.proofs.FoundSides.{side_found, string_looked}
 use Rattle.read_moves.proofs.reach.reach_of.Goals as goal
 use Rattle.read_moves.proofs.reach.reach_of.Goals.{in-Some, in_default}
 
@@ -39,33 +38,27 @@ loop-side-preserved g c =
     let side = c.loop-side.side in
     let i = c.loop-side.invariant in
     elim c.match-neighbour.branch [
-      | in-Some w ↦ record {
-        stays = rw w.board-is (Stays-trans i.stays w.reach_of_string.ensures.stays);
-        near = λ pos a.
-            let a1 = rw w.board-is at a in
-            let a0 = agrees_before w.reach_of_string.ensures.stays.grows a1 in
-            let e = same_size (g.met.L.Look.sized c.loop-side.board.look) a0 ∙ ap (λ x. x.size) i.stays.shown in
-            let on = subst (λ n. l < n * n) (sym e) c.requires in
-            let at = side_at pos.size l side w.in-Some.beside e c.size-size.ensures
-            c.neighbour.ensures.value w.in-Some.is in
-            let beside = neighbour_at-near pos.size l side w.in-Some.beside on at in
-            let came = rw i.stays.moves at (w.reach_of_string.ensures.near pos a1) in
-            rw w.board-is (AddsIn-trans (i.near pos a0) (AddsIn-mono came
-            (string_near pos.size (after pos c.args.board.now.moves).cells l w.in-Some.beside on beside.0 beside.1)));
-        over = λ pos a.
-            let a1 = rw w.board-is at a in
-            let a0 = agrees_before w.reach_of_string.ensures.stays.grows a1 in
-            let e = same_size (g.met.L.Look.sized c.loop-side.board.look) a0 ∙ ap (λ y. y.size) i.stays.shown in
-            let on = subst (λ n. l < n * n) (sym e) c.requires in
-            let at = side_at pos.size l side w.in-Some.beside e c.size-size.ensures
-            c.neighbour.ensures.value w.in-Some.is in
-            let cells = (after pos c.args.board.now.moves).cells in
-            let one = w.reach_of_string.result in
-            let came = rw i.stays.moves at (w.reach_of_string.ensures.over pos a1) in
-            rw (w.reach-is, w.with-reach.ensures) (SoFar-next (IsEmptyNeighbour pos.size cells l)
-            (IsLibertyAtSide pos.size cells c.args.c l) side c.loop-side.reach one (i.over pos a0)
-            (string_told pos.size cells l on c.args.c side w.in-Some.beside one at came));
-      }
+      | in-Some w ↦
+          let here = λ (pos : BoardState) (a : Agrees (g.L.Look.seen c.loop-side.board.look) pos).
+          side_found pos.size l side w.in-Some.beside (same_size (g.met.L.Look.sized c.loop-side.board.look) a
+          ∙ ap (λ x. x.size) i.stays.shown) c.requires c.size-size.ensures c.neighbour.ensures.value w.in-Some.is in
+          record {
+            stays = rw w.board-is (Stays-trans i.stays w.reach_of_string.ensures.stays);
+            near = λ pos a.
+                let a1 = rw w.board-is at a in
+                let a0 = agrees_before w.reach_of_string.ensures.stays.grows a1 in
+                let came = rw i.stays.moves at (w.reach_of_string.ensures.near pos a1) in
+                rw w.board-is (string_looked (after pos c.args.board.now.moves).cells (here pos a0) (i.near pos a0) came);
+            over = λ pos a.
+                let a1 = rw w.board-is at a in
+                let a0 = agrees_before w.reach_of_string.ensures.stays.grows a1 in
+                let cells = (after pos c.args.board.now.moves).cells in
+                let one = w.reach_of_string.result in
+                let came = rw i.stays.moves at (w.reach_of_string.ensures.over pos a1) in
+                rw (w.reach-is, w.with-reach.ensures) (SoFar-next (IsEmptyNeighbour pos.size cells l)
+                (IsLibertyAtSide pos.size cells c.args.c l) side c.loop-side.reach one (i.over pos a0)
+                (string_told pos.size cells l (here pos a0).on_board c.args.c side w.in-Some.beside one (here pos a0).at came));
+          }
       | in_default w ↦ record {
         stays = rw w.board-is i.stays;
         near = λ pos a. rw w.board-is (i.near pos (rw w.board-is at a));

@@ -1,10 +1,7 @@
 -- What the liberties that were found say of the node.
-use Rattle.std.proofs.Common.{◌∙◌, ℕ, ap, sym}
-use Rattle.std.specs.FinSet as set
-use Rattle.go_base.proofs.Liberties.{len-liberty_points}
+use Rattle.std.proofs.Common.{◌∙◌, sym}
 use Rattle.go_base.specs.Facts.{agrees_before, AddsIn-mono, same_size}
 use Rattle.trial_board.specs.Trials.{after}
-use Rattle.read_tree.specs.Bound.{outlasts}
 use Rattle.read_tree.proofs.TakeLemmas.{near_liberty}
 use Rattle.read_rules.proofs.AreaLemmas.{target_on}
 use Rattle.read_tree.proofs.outlook.outlook_of.Goals as goal
@@ -12,28 +9,37 @@ use Rattle.read_tree.proofs.outlook.outlook_of.Goals as goal
 -- a target that is safe has too many liberties on each position that agrees
 pub returns-then-has_too_many-clause-over : goal.returns-then-has_too_many-clause-over
 returns-then-has_too_many-clause-over g c = λ pos a.
-    ap (λ (n : ℕ). outlasts c.args.turn.attacker_to_play c.args.plies c.args.turn.wide n)
-    (sym (ap set.len (c.requires.liberties pos a)
-    ∙ len-liberty_points pos.size (after pos c.args.board.now.moves).cells c.args.turn.target))
-    ∙ sym c.has_too_many.ensures ∙ c.if-has_too_many.true
+    sym (c.requires.liberties pos a).many ∙ sym c.has_too_many.ensures ∙ c.if-has_too_many.true
 
 -- a target that is taken has not too many liberties
 pub returns-then-can_take-clause-over : goal.returns-then-can_take-clause-over
 returns-then-can_take-clause-over g c = λ pos a.
-    let a0 = agrees_before c.can_take.ensures.stays.grows a in
-    ap (λ (n : ℕ). outlasts c.args.turn.attacker_to_play c.args.plies c.args.turn.wide n)
-    (sym (ap set.len (c.requires.liberties pos a0)
-    ∙ len-liberty_points pos.size (after pos c.args.board.now.moves).cells c.args.turn.target))
+    sym (c.requires.liberties pos (agrees_before c.can_take.ensures.stays.grows a)).many
     ∙ sym c.has_too_many.ensures ∙ c.if-has_too_many.false
 
 -- a target whose node is to be read has not too many liberties
 pub returns-clause-over : goal.returns-clause-over
 returns-clause-over g c = λ pos a.
-    let a0 = agrees_before c.can_take.ensures.stays.grows a in
-    ap (λ (n : ℕ). outlasts c.args.turn.attacker_to_play c.args.plies c.args.turn.wide n)
-    (sym (ap set.len (c.requires.liberties pos a0)
-    ∙ len-liberty_points pos.size (after pos c.args.board.now.moves).cells c.args.turn.target))
+    sym (c.requires.liberties pos (agrees_before c.can_take.ensures.stays.grows a)).many
     ∙ sym c.has_too_many.ensures ∙ c.if-has_too_many.false
+
+-- a target that is taken has all of its liberties known
+pub returns-then-can_take-clause-all : goal.returns-then-can_take-clause-all
+returns-then-can_take-clause-all g c = λ pos a few.
+    (c.requires.liberties pos (agrees_before c.can_take.ensures.stays.grows a)).all
+    (sym c.has_too_many.ensures ∙ c.if-has_too_many.false)
+
+-- and so has one whose node is to be read
+pub returns-clause-all : goal.returns-clause-all
+returns-clause-all g c = λ pos a few.
+    (c.requires.liberties pos (agrees_before c.can_take.ensures.stays.grows a)).all
+    (sym c.has_too_many.ensures ∙ c.if-has_too_many.false)
+
+-- whoever takes it by its only liberty takes it on each position where these are all
+pub returns-then-can_take-clause-taken : goal.returns-then-can_take-clause-taken
+returns-then-can_take-clause-taken g c = λ pos a is.
+    c.can_take.ensures.over pos a ((c.requires.liberties pos (agrees_before c.can_take.ensures.stays.grows a)).all
+    (sym c.has_too_many.ensures ∙ c.if-has_too_many.false)) c.if-can_take.true
 
 -- the target and its liberties lie in its neighbourhood
 pub returns-then-can_take-clause-near : goal.returns-then-can_take-clause-near
@@ -44,7 +50,8 @@ returns-then-can_take-clause-near g c = λ pos a.
     let on = target_on pos.size (g.L.Look.shows c.args.board.now.look).size t
     (same_size (g.met.L.Look.sized c.args.board.now.look) a0) c.requires.target in
     AddsIn-mono c.can_take.ensures.near (λ p h.
-    near_liberty pos.size cells t p c.args.known.now on (c.requires.liberties pos a0) h)
+    near_liberty pos.size cells t p c.args.known.now on ((c.requires.liberties pos a0).all
+    (sym c.has_too_many.ensures ∙ c.if-has_too_many.false)) h)
 
 -- at a node that is to be read the looks lie in the target's neighbourhood
 pub returns-clause-near : goal.returns-clause-near
@@ -55,11 +62,13 @@ returns-clause-near g c = λ pos a.
     let on = target_on pos.size (g.L.Look.shows c.args.board.now.look).size t
     (same_size (g.met.L.Look.sized c.args.board.now.look) a0) c.requires.target in
     AddsIn-mono c.can_take.ensures.near (λ p h.
-    near_liberty pos.size cells t p c.args.known.now on (c.requires.liberties pos a0) h)
+    near_liberty pos.size cells t p c.args.known.now on ((c.requires.liberties pos a0).all
+    (sym c.has_too_many.ensures ∙ c.if-has_too_many.false)) h)
 
 -- the position shown is one that agrees
 pub can_take-requires : goal.can_take-requires
 can_take-requires g c = record {
   target = c.requires.target;
-  liberties = c.requires.liberties (g.L.Look.shows c.args.board.now.look) (g.met.L.Look.holds c.args.board.now.look);
+  liberties = (c.requires.liberties (g.L.Look.shows c.args.board.now.look) (g.met.L.Look.holds c.args.board.now.look)).all
+      (sym c.has_too_many.ensures ∙ c.if-has_too_many.false);
 }

@@ -21,7 +21,7 @@ use Rattle.read_rules.specs.ActiveArea.{by_play, InActiveArea}
 use Rattle.read_tree.specs.declared.table.AttackerNode.{AttackerNode}
 use Rattle.read_tree.specs.Allowances.{Ko, under, next_turn, own_ko, neither_may, has, has_some, without}
 use Rattle.read_rules.specs.GoodMoves.{good_move}
-use Rattle.read_tree.specs.Steps.{AreNodesOf, is_off_liberties}
+use Rattle.read_tree.specs.Steps.{AreNodesOf, is_off_liberties, is_safe}
 use Rattle.read_rules.specs.GameTree.{has_many_liberties, attacker_wins, child_of, succeeds, first_success}
 use Rattle.read_tree.proofs.AllowanceLemmas.{some_of, success_some, good_by_success, suits_child, suits_none}
 use Rattle.read_tree.proofs.AllowanceLemmas.{Tells-same, Tells-own, Tells-good, Tells-attackers, Tells-all, Tells-none}
@@ -1065,7 +1065,6 @@ pub attacker_wins-has_good_move-good-requires : goal.attacker_wins-has_good_move
 attacker_wins-has_good_move-good-requires g t c κs within =
     let table = table_more c.requires.table (Grows-trans c.cell.ensures.stays.grows
     (Grows-trans c.liberties_known-known.ensures.stays.grows c.outlook_of.ensures.stays.grows)) in
-    let moves = c.outlook_of.ensures.stays.moves ∙ c.liberties_known-known.ensures.stays.moves in
     let same = c.outlook_of.ensures.stays.shown ∙ c.liberties_known-known.ensures.stays.shown
     ∙ c.cell.ensures.stays.shown in
     let target : c.args.turn.target
@@ -1074,7 +1073,7 @@ attacker_wins-has_good_move-good-requires g t c κs within =
     let liberties : (pos : BoardState) → Agrees (g.L.Look.seen c.outlook_of.new.board.look) pos
     → c.liberties_known-known.result
     ≡ liberty_points pos.size (after pos c.outlook_of.new.board.moves).cells c.args.turn.target =
-    λ pos a. rw moves (c.liberties_known-known.ensures.over pos (agrees_before c.outlook_of.ensures.stays.grows a)) in
+    λ pos a. rw c.outlook_of.ensures.stays.moves (c.outlook_of.ensures.all pos a (ap is_safe c.in-Open.is)) in
     search rules
 
 -- what the table knows is told
