@@ -1,5 +1,6 @@
 pub mod Sizes
 pub mod TokenLemmas
+pub mod ValueUnits
 pub mod Walks
 pub mod Fills
 pub mod Stones
