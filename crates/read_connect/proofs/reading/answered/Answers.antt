@@ -23,7 +23,7 @@ question g c = record {
   kind = c.args.kind;
   a = c.args.a;
   b = c.args.b;
-  colour = c.colour.result;
+  colour = c.colour-colour.result;
   plies = c.args.plies;
 }
 
@@ -39,8 +39,8 @@ first_cell g c = subst (λ (p : BoardState). cell_at p.cells c.args.a ≡ c.cell
 -- the two questions are one
 is_asked : (g : Over) (c : After-size g) → question g c ≡ asked g c
 is_asked g c = question_is (g.L.Look.shows c.args.look) c.size.result c.args.a c.args.b c.args.plies c.args.kind
-    c.cell.result c.colour.result (c.size.ensures ∙ ap (λ (p : BoardState). p.size) c.cell.ensures.same)
-    c.colour.ensures (sym (first_cell g c))
+    c.cell.result c.colour-colour.result (c.size.ensures ∙ ap (λ (p : BoardState). p.size) c.cell.ensures.same)
+    c.colour-colour.ensures (sym (first_cell g c))
 
 -- the answer is that of the question asked
 pub returns-clause-over : goal.returns-clause-over
