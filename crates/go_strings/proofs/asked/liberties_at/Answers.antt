@@ -4,10 +4,6 @@ use Rattle.go_strings.proofs.Outcomes.{liberties-none}
 use Rattle.go_strings.proofs.asked.liberties_at.Goals as goal
 
 -- an empty point has none
-pub returns-None : goal.returns-None
-returns-None c =
-    c.new.ensures ∙ liberties-none c.args.now.now.board.size (cells_of c.args.now.now.board) c.args.p c.None.ensures
-
--- the string that is kept is that of the point
-pub returns-Some : goal.returns-Some
-returns-Some c = c.points_of.ensures ∙ c.Some.ensures.liberties
+pub returns-in-None : goal.returns-in-None
+returns-in-None c =
+    c.new.ensures ∙ liberties-none c.args.now.now.board.size (cells_of c.args.now.now.board) c.args.p c.in-None.ensures
