@@ -3,6 +3,7 @@ use Rattle.std.proofs.Common.{◌≡◌, true, refl, ap, subst, ◌∙◌, rules
 use Rattle.go_rules.specs.Position.{BoardState}
 use Rattle.engine.specs.AskedLinks.{CountsFreshLinks}
 use Rattle.engine.specs.SessionState.{SessionState, machine_alone, machine_with}
+use Rattle.machine_rules.specs.Counting.{counted}
 use Rattle.machine_rules.specs.LinkCommands.{linkage_at, linkage_text}
 use Rattle.machine_rules.specs.LinkQuestions.{have_one_colour}
 use Rattle.engine.proofs.LineLinks.{LinksAs-once, linkage-here, told-linked}
@@ -18,7 +19,8 @@ returns-clause-links c =
     LinksAs-once old new c.args.kind c.args.a c.args.b one c.position-position.result c.ask-linkage.result c.self.inside.links
     c.ask-linkage.new.self c.position-position.ensures.value (ap (λ (k : SessionState). k.links) view)
     (c.self.invariant.plies ∙ ap (λ (k : SessionState). k.plies) view) c.count_link.ensures.links
-    c.ask-linkage.ensures.asked c.size.ensures.position c.ask-linkage.ensures.rest c.count_link.ensures.connections
+    c.ask-linkage.ensures.asked c.size.ensures.position c.ask-linkage.ensures.rest (c.count_link.ensures.connections
+    ∙ ap (λ (k : SessionState). counted k.counts.links.connections true) view)
     (subst CountsFreshLinks view refl) c.count_link.ensures.fresh
 
 -- its answer is told
