@@ -4,6 +4,7 @@ pub mod CommandReplies
 pub mod HelperAnswers
 pub mod LineAnswers
 pub mod LineCounts
+pub mod LineLinks
 pub mod LineTexts
 pub mod ListedMatches
 pub mod LoadAnswers

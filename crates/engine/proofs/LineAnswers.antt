@@ -13,15 +13,17 @@ use Rattle.machine_rules.specs.Counting.{counted, is_read, is_parsed_read, is_re
 use Rattle.machine_rules.specs.Effects.{replied}
 use Rattle.machine_rules.specs.Files.{Contents}
 use Rattle.machine_rules.specs.Heard.{heard, bytes_in}
+use Rattle.machine_rules.specs.LinkQuestions.{asks_link_of, asks_link_of_parsed, asks_link_of_line}
 use Rattle.machine_rules.specs.Loads.{parsed_load, load_in, missed_by, IsFileOf}
 use Rattle.machine_rules.specs.Machine.{Machine}
 use Rattle.machine_rules.specs.Questions.{asks_of, asks_of_parsed, asks_of_line}
 use Rattle.machine_rules.specs.Soundness.{IsWithoutWords}
 use Rattle.machine_rules.specs.Step.{Input, step, step_on, parsed_step, effect_of}
 use Rattle.machine_rules.specs.Matcher.{automaton_matcher}
-use Rattle.machine_rules.proofs.Soundness.{step-sound, read-heard, some_file}
+use Rattle.machine_rules.proofs.Soundness.{step-sound, read-heard, link-heard, some_file}
 use Rattle.machine_rules.proofs.WordLines.{parsed_of-none, none-parsed_of}
 use Rattle.engine.specs.AfterLine.{ReadsAs}
+use Rattle.engine.specs.AskedLinks.{LinksAs}
 use Rattle.engine.specs.AnsweredLines.{AnswersParsed, AnswersLine}
 use Rattle.engine.specs.Kept.{Kept, machine_of}
 use Rattle.engine.specs.Replies.{reply_bytes, reply_ends, reply_count}
@@ -32,7 +34,8 @@ use Rattle.engine.specs.declared.reply.Reply.TheVariants as reply
 use Rattle.engine.specs.declared.slow.Slow.{Slow}
 use Rattle.engine.specs.declared.slow.Work.{Work}
 use Rattle.engine.proofs.LineCounts.{counts_kept-line, few_fresh-line}
-use Rattle.engine.proofs.RefusedLines.{read-not_refused, refused-same}
+use Rattle.engine.proofs.LineLinks.{unasked-links}
+use Rattle.engine.proofs.RefusedLines.{read-not_refused, link-not_refused, refused-same}
 
 -- a line asks what it says
 asks-heard : (m : Machine) (line : RawLine) → asks_of_line m line ≡ asks_of_parsed m (heard m line)
@@ -70,6 +73,10 @@ module _ (contents : Contents) (old : Kept) (line : RawLine) (answer : Reply) (n
   line-read : ReadsAs (asks_of_line (machine_of old) line) old.engine new.engine
   line-read = subst (λ a. ReadsAs a old.engine new.engine) (sym (asks-heard (machine_of old) line)) is.read
 
+  -- of connections too
+  line-links : LinksAs (asks_link_of_line (machine_of old) line) old.engine new.engine
+  line-links = subst (λ a. LinksAs a old.engine new.engine) (sym (link-heard (machine_of old) line)) is.links
+
   -- the line was answered
   heard-answers : AnswersLine contents old line answer new
   heard-answers =
@@ -82,6 +89,7 @@ module _ (contents : Contents) (old : Kept) (line : RawLine) (answer : Reply) (n
         automaton = is.automaton;
         readings = line-readings;
         read = line-read;
+        links = line-links;
         missed = line-missed;
         few_fresh = few_fresh-line (machine_of old) line old.engine new.engine line-readings line-read;
         refused = λ refusal. (
@@ -90,6 +98,9 @@ module _ (contents : Contents) (old : Kept) (line : RawLine) (answer : Reply) (n
               line-reply.2 refusal,
           counts_kept-line (machine_of old) line old.engine new.engine line-read
               (read-not_refused (matcher_of old.engine) contents (machine_of old) line (reply_bytes answer)
+              (machine_of new) (reply_ends answer) line-reply refusal),
+          unasked-links old.engine new.engine (asks_link_of_line (machine_of old) line) line-links
+              (link-not_refused (matcher_of old.engine) contents (machine_of old) line (reply_bytes answer)
               (machine_of new) (reply_ends answer) line-reply refusal),
         );
       }
@@ -145,6 +156,7 @@ answers-nothing old input = record {
   automaton = refl;
   readings = refl;
   read = record { counts = refl; kept = refl };
+  links = record { counts = refl; answers = refl };
   missed = sym (append-nil old.missed);
 }
 
@@ -159,6 +171,7 @@ answers-refused old input id text = record {
   automaton = refl;
   readings = refl;
   read = record { counts = refl; kept = refl };
+  links = record { counts = refl; answers = refl };
   missed = sym (append-nil old.missed);
 }
 
@@ -177,9 +190,10 @@ pub answers-command : (old : Kept) (input : Input) (id : Option ℕ) (command : 
     → new.engine.automaton ≡ old.engine.automaton
     → new.engine.counts.readings ≡ counted old.engine.counts.readings (is_read (machine_of old) command)
     → ReadsAs (asks_of (machine_of old) command) old.engine new.engine
+    → LinksAs (asks_link_of (machine_of old) command) old.engine new.engine
     → new.missed ≡ old.missed ++ missed_by (parsed_load input.line (parsed.Command id command)) (reply_bytes answer)
     → AnswersParsed old input (parsed.Command id command) answer new
-answers-command old input id command answer new is bytes patterns automaton readings read missed = record {
+answers-command old input id command answer new is bytes patterns automaton readings read links missed = record {
   reply = is;
   nothing = ((λ none. absurd (some-reply answer bytes none)), (λ e. cc));
   bytes = λ _. bytes;
@@ -187,6 +201,7 @@ answers-command old input id command answer new is bytes patterns automaton read
   automaton = automaton;
   readings = readings;
   read = read;
+  links = links;
   missed = missed;
 }
 

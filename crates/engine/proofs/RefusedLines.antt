@@ -1,6 +1,6 @@
 -- What a session's reply to a line says of its machine.
-use Rattle.machine_rules.proofs.Soundness.{success_apart, read-line}
-use Rattle.std.proofs.Common.{◌≡◌, ℕ, Bool, true, List, [], ◌∷◌, Option, inl, inr, sym, ap, subst, ◌∙◌}
+use Rattle.machine_rules.proofs.Soundness.{success_apart, read-line, link-line}
+use Rattle.std.proofs.Common.{◌≡◌, ℕ, Bool, true, List, [], ◌∷◌, Option, Some, inl, inr, sym, ap, subst, ◌∙◌}
 use Rattle.gtp_rules.specs.Lines.{RawLine}
 use Rattle.gtp_rules.specs.Steps.{Fallback, Step}
 use Rattle.gtp_rules.specs.Transcript.{IsOneOf, MayGive, Answers}
@@ -8,6 +8,8 @@ use Rattle.machine_rules.specs.Calls.{AreSameButCalls, quiet}
 use Rattle.machine_rules.specs.Counting.{is_read_line}
 use Rattle.machine_rules.specs.Effects.{told, replied}
 use Rattle.machine_rules.specs.Files.{Contents}
+use Rattle.link_rules.specs.declared.question.LinkQuestion.{LinkQuestion}
+use Rattle.machine_rules.specs.LinkQuestions.{asks_link_of_line}
 use Rattle.machine_rules.specs.Machine.{Machine}
 use Rattle.machine_rules.specs.Matcher.{Matcher}
 use Rattle.machine_rules.specs.Soundness.{IsRefusal, AreExcuses, IsSound}
@@ -25,6 +27,14 @@ pub read-not_refused : (matcher : Matcher) (contents : Contents) (old : Machine)
     → is_read_line old line ≡ true → ⊥
 read-not_refused matcher contents old line bytes new ends (given, gives, may) refusal reads =
     let says = read-line matcher contents old line given gives reads in
+    told-not_refused old new says.0 says.1 bytes ends (subst (λ g. MayGive g bytes new ends) says.2 may) refusal
+
+-- nor one that asks about a connection
+pub link-not_refused : (matcher : Matcher) (contents : Contents) (old : Machine) (line : RawLine) (bytes : List ℕ)
+    (new : Machine) (ends : Bool) → Answers (step matcher contents) old line bytes new ends → IsRefusal bytes
+    → (q : LinkQuestion) → asks_link_of_line old line ≡ Some q → ⊥
+link-not_refused matcher contents old line bytes new ends (given, gives, may) refusal q asks =
+    let says = link-line matcher contents old line given gives q asks in
     told-not_refused old new says.0 says.1 bytes ends (subst (λ g. MayGive g bytes new ends) says.2 may) refusal
 
 -- an excuse keeps the machine but for the calls of helpers

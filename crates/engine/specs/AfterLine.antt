@@ -6,7 +6,9 @@ use Rattle.go_rules.specs.Position.{IsPosition}
 use Rattle.match_engine.specs.declared.keys.Key.{Key}
 use Rattle.match_engine.specs.Readings.{HasRead, AllRest}
 use Rattle.machine_rules.specs.Machine.{Machine}
-use Rattle.engine.specs.SessionState.{SessionState, board_of}
+use Rattle.engine.specs.SessionState.{SessionState, board_of, no_links}
+use Rattle.engine.specs.AskedLinks.{LinksAs}
+use Rattle.machine_rules.specs.LinkQuestions.{asks_link_of_line}
 use Rattle.engine.specs.Kept.{Kept, machine_of}
 use Rattle.machine_rules.specs.Loads.{missed_in}
 use Rattle.machine_rules.specs.Counting.{counted, is_read_line}
@@ -14,6 +16,10 @@ use Rattle.machine_rules.specs.Turns.{Turn}
 use Rattle.read_rules.specs.declared.question.Answer.{Answer}
 use Rattle.std.specs.Prelude.{◌<◌}
 use Rattle.run_notes.specs.declared.notes.Counts.{Counts}
+
+-- what is counted of readings, whatever is counted of connections
+abbrev pub of_readings : Counts → Counts
+of_readings counts = record counts { links = no_links }
 
 -- what is counted of the readings of lines is as before
 pub record KeepsCounts (old new : SessionState) : Type 0 where
@@ -51,7 +57,7 @@ pub record ReadsMany (old new : SessionState) : Type 0 where
 
 -- no reading was made, and what is kept stays
 pub record ReadsNothing (old new : SessionState) : Type 0 where
-  pub counts : new.counts ≡ old.counts
+  pub counts : of_readings new.counts ≡ of_readings old.counts
   pub kept : new.readings.kept ≡ old.readings.kept
 
 -- new is old after the readings that were asked for
@@ -61,12 +67,14 @@ ReadsAs (One key) old new = ReadsOnce key old new
 ReadsAs Many old new = ReadsMany old new
 
 -- A session that keeps old keeps new after a line that came to its machine: the line is counted where it asks for a
--- reading and is answered with a code, what it asks was read, and the file that it could not load is told as missed.
+-- reading and is answered with a code, what it asks was read, of connections too, and the file that it could not load is
+-- told as missed.
 pub record IsAfterLine (old : Kept) (turn : Turn Machine) (new : Kept) : Type 0 where
   pub machine : turn.machine ≡ machine_of old
   pub readings : new.engine.counts.readings
       ≡ counted old.engine.counts.readings (is_read_line turn.machine turn.line)
   pub read : ReadsAs (asks_of_line turn.machine turn.line) old.engine new.engine
+  pub links : LinksAs (asks_link_of_line turn.machine turn.line) old.engine new.engine
   pub missed : new.missed ≡ old.missed ++ missed_in turn
 
 -- no more readings were made afresh than were counted, which a u64 counts

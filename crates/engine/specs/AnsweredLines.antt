@@ -7,6 +7,7 @@ use Rattle.gtp_cmd.specs.declared.commands.Parsed.TheVariants as parsed
 use Rattle.machine_rules.specs.Calls.{AreSameButCalls}
 use Rattle.machine_rules.specs.Counting.{counted, is_parsed_read, is_read_line}
 use Rattle.machine_rules.specs.Files.{Contents}
+use Rattle.machine_rules.specs.LinkQuestions.{asks_link_of_parsed, asks_link_of_line}
 use Rattle.machine_rules.specs.Loads.{parsed_load, load_in, missed_by}
 use Rattle.machine_rules.specs.Questions.{asks_of_parsed, asks_of_line}
 use Rattle.machine_rules.specs.Soundness.{IsWithoutWords, IsRefusal}
@@ -14,6 +15,7 @@ use Rattle.machine_rules.specs.Step.{Input, parsed_step, step}
 use Rattle.engine.specs.SessionState.{matcher_of}
 use Rattle.engine.specs.Kept.{Kept, machine_of}
 use Rattle.engine.specs.AfterLine.{ReadsAs, KeepsCounts, HasFewFresh}
+use Rattle.engine.specs.AskedLinks.{LinksAs, LinksNothing}
 use Rattle.engine.specs.Replies.{reply_bytes, reply_ends, reply_count}
 use Rattle.engine.specs.declared.reply.Reply.{Reply}
 use Rattle.engine.specs.declared.reply.Reply.TheVariants as replies
@@ -29,6 +31,7 @@ pub record AnswersParsed (old : Kept) (input : Input) (said : Parsed) (answer : 
   pub readings : new.engine.counts.readings
       ≡ counted old.engine.counts.readings (is_parsed_read (machine_of old) said)
   pub read : ReadsAs (asks_of_parsed (machine_of old) said) old.engine new.engine
+  pub links : LinksAs (asks_link_of_parsed (machine_of old) said) old.engine new.engine
   pub missed : new.missed ≡ old.missed ++ missed_by (parsed_load input.line said) (reply_bytes answer)
 
 -- The session that kept old answered a line, where files have these contents, and keeps new.
@@ -45,6 +48,8 @@ pub record AnswersLine (contents : Contents) (old : Kept) (line : RawLine) (answ
   pub readings : new.engine.counts.readings ≡ counted old.engine.counts.readings (is_read_line (machine_of old) line)
   -- it makes one reading, which is kept or fresh; a line that asks for matches may make any, and no other line makes one
   pub read : ReadsAs (asks_of_line (machine_of old) line) old.engine new.engine
+  -- a line that asks about two stones of one colour asks the connections once, and is counted; no other line asks them
+  pub links : LinksAs (asks_link_of_line (machine_of old) line) old.engine new.engine
   -- the file that could not be loaded is told as missed, and no other name
   pub missed : new.missed ≡ old.missed ++ missed_by (load_in (machine_of old) line) (reply_bytes answer)
   pub few_fresh : HasFewFresh old.engine.counts → HasFewFresh new.engine.counts
@@ -52,3 +57,4 @@ pub record AnswersLine (contents : Contents) (old : Kept) (line : RawLine) (answ
   -- that of refused keepings may have risen
   pub refused : IsRefusal (reply_bytes answer)
       → AreSameButCalls (machine_of old) (machine_of new) × KeepsCounts old.engine new.engine
+      × LinksNothing old.engine new.engine

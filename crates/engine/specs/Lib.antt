@@ -1,5 +1,6 @@
 pub mod AfterLine
 pub mod AnsweredLines
+pub mod AskedLinks
 pub mod CommandAnswers
 pub mod Handed
 pub mod Kept

@@ -18,6 +18,7 @@ command_of (work.Match friend) = command.MatchPatterns friend
 command_of (work.Load span) = command.LoadSgf span
 command_of (work.AttackProof p) = command.AttackProof p
 command_of (work.DefendProof p) = command.DefendProof p
+command_of (work.CheckProof attack target code tokens) = command.CheckProof attack target code tokens
 command_of (work.Connect a b) = command.Connect a b
 command_of (work.Disconnect a b) = command.Disconnect a b
 command_of (work.GenMove friend) = command.GenMove friend

@@ -12,9 +12,11 @@ ghost use Rattle.machine_rules.specs.Counting.{counted, is_read};
 ghost use Rattle.machine_rules.specs.Heard.{heard, bytes_in};
 ghost use Rattle.machine_rules.specs.Loads.{load_of, parsed_load, IsFileOf};
 ghost use Rattle.machine_rules.specs.Questions.{asks_of};
+ghost use Rattle.machine_rules.specs.LinkQuestions.{asks_link_of};
 ghost use Rattle.machine_rules.specs.ProofCommands.{word_of};
 ghost use Rattle.machine_rules.specs.Step.{effect_of};
 ghost use Rattle.engine.specs.AfterLine.{ReadsAs};
+ghost use Rattle.engine.specs.AskedLinks.{LinksAs};
 ghost use Rattle.engine.specs.AnsweredLines.{AnswersParsed};
 ghost use Rattle.engine.specs.CommandAnswers.{IsAnswer, IsDone, missed_as};
 ghost use Rattle.engine.specs.Kept.{kept_with};
@@ -44,12 +46,13 @@ use gtp_cmd::{Command, KomiText, Parsed, RefuseText, names_text, parse};
 use gtp_io::Loader;
 use gtp_lex::Raw;
 use helpers::Helpers;
+use link_readings::Connections;
 use link_rules::LinkKind;
 use match_engine::Readings;
 use pat_types::Pattern;
 use read_moves::Depths;
 use read_tree::Kind;
-use run_notes::Counts;
+use run_notes::{Counts, Links};
 use std::alloc::Global;
 use std::marker::Model;
 
@@ -82,12 +85,15 @@ pub struct Engine {
     history: History,
     komi: KomiText,
     readings: Readings,
+    links: Connections,
     patterns: Vec<Pattern>,
     scanner: Scanner,
     counts: ReadingCounts,
+    connections: u64,
 }
 
 impl Model for Engine {
+    ghost use Rattle.std.specs.Prelude.{◌≡◌};
     ghost use Rattle.engine.specs.SessionState.{SessionState, NumbersPatterns};
     ghost use Rattle.pat_types.specs.contracts.expr.Expr as expr;
     ghost use Rattle.std.specs.Coded.{codes};
@@ -109,11 +115,16 @@ impl Model for Engine {
         fresh = s.counts.fresh;
         trials = s.counts.trials;
         refused = s.readings.refused;
+        links = record { connections = s.connections; fresh = s.links.answers.fresh };
       };
       readings = s.readings;
+      links = s.links;
     } };
 
-    ghost invariant = { λ s. NumbersPatterns s.scanner s.patterns.items };
+    ghost invariant = { λ s. record {
+      numbers : NumbersPatterns s.scanner s.patterns.items;
+      plies : s.links.plies ≡ s.readings.plies;
+    } };
 }
 
 /// `true` or `false`.
@@ -149,14 +160,17 @@ impl Engine {
                 Depths::new(options.depth, options.branch).unwrap(),
                 options.cache,
             )?,
+            links: Connections::new(alloc, options.depth, options.cache)?,
             patterns,
             scanner,
             counts: NO_COUNTS,
+            connections: 0,
         })
     }
 
     /// What the session counted: its lines that asked for a reading and were answered with a code, those of them that
-    /// were read afresh, the moves that these tried, and the readings that could not be kept for want of memory.
+    /// were read afresh, the moves that these tried, and the readings that could not be kept for want of memory; and
+    /// its lines that asked about a connection and were answered with a result, and those of them that were read afresh.
     pub(crate) fn stats(&self) -> Counts
         ensures { result ≡ self.now.counts }
     {
@@ -165,6 +179,10 @@ impl Engine {
             fresh: self.counts.fresh,
             trials: self.counts.trials,
             refused: self.readings.refused(),
+            links: Links {
+                connections: self.connections,
+                fresh: self.links.fresh(),
+            },
         }
     }
 
@@ -282,6 +300,7 @@ impl Engine {
         ensures readings { self.new.counts.readings ≡ counted self.old.counts.readings
             (is_read (machine_alone self.old) (command_of work)) }
         ensures read { ReadsAs (asks_of (machine_alone self.old) (command_of work)) self.old self.new }
+        ensures links { LinksAs (asks_link_of (machine_alone self.old) (command_of work)) self.old self.new }
     {
         match work {
             Work::Attack(p) => self.read(Kind::Attack, p),
@@ -290,6 +309,12 @@ impl Engine {
             Work::Load(span) => self.load_record(line, span, files),
             Work::AttackProof(p) => self.print_proof(Kind::Attack, p),
             Work::DefendProof(p) => self.print_proof(Kind::Defend, p),
+            Work::CheckProof {
+                attack,
+                target,
+                code,
+                tokens,
+            } => self.check_proof(attack, target, code, line, tokens),
             Work::Connect(a, b) => self.tell_link(LinkKind::Connect, a, b),
             Work::Disconnect(a, b) => self.tell_link(LinkKind::Disconnect, a, b),
             Work::GenMove(friend) => self.make_move(helpers, friend),
@@ -310,6 +335,7 @@ impl Engine {
         ensures readings { OnOk result (self.new.counts.readings ≡ counted self.old.counts.readings
             (is_read (machine_alone self.old) command)) }
         ensures read { OnOk result (ReadsAs (asks_of (machine_alone self.old) command) self.old self.new) }
+        ensures links { OnOk result (LinksAs (asks_link_of (machine_alone self.old) command) self.old self.new) }
         ensures loads { OnOk result ((id : Option ℕ) → load_of line.now id command ≡ None) }
         ensures slow { IfErr result (λ work. command ≡ command_of work) }
         ensures same { OnErr result (self.new ≡ self.old) }
@@ -347,9 +373,18 @@ impl Engine {
                 target,
                 code,
                 tokens,
-            } => Ok(self.check_proof(attack, target, code, line, tokens)),
-            Command::Connect(a, b) => Err(Work::Connect(a, b)),
-            Command::Disconnect(a, b) => Err(Work::Disconnect(a, b)),
+            } => Err(Work::CheckProof {
+                attack,
+                target,
+                code,
+                tokens,
+            }),
+            Command::Connect(a, b) => {
+                self.recall_link(LinkKind::Connect, a, b, Work::Connect(a, b))
+            }
+            Command::Disconnect(a, b) => {
+                self.recall_link(LinkKind::Disconnect, a, b, Work::Disconnect(a, b))
+            }
             Command::GenMove(friend) => Err(Work::GenMove(friend)),
             Command::RegGenMove(friend) => Err(Work::RegGenMove(friend)),
             Command::HelperOff(span) => Ok(self.switch_off(helpers, line, span)),

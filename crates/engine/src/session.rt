@@ -21,7 +21,7 @@ use gtp_io::Loader;
 use gtp_lex::Raw;
 use helpers::Helpers;
 use pat_types::Pattern;
-use run_notes::Counts;
+use run_notes::{Counts, Links};
 use std::alloc::Global;
 
 /// The bytes of a line; of one that is too long none count.
@@ -65,15 +65,25 @@ impl Session {
     }
 
     /// What the session counted: its lines that asked for a reading and were answered with a code, those of them that
-    /// were read afresh, the moves that these tried, and the readings that could not be kept for want of memory.
+    /// were read afresh, the moves that these tried, and the readings that could not be kept for want of memory; and
+    /// what `links` tells.
     pub fn stats(&self) -> Counts
         ensures { result ≡ self.now.engine.counts }
     {
         self.engine.stats()
     }
 
+    /// What the session counted of connections: its lines that asked about one and were answered with a result, and
+    /// those of them that were read afresh. Takes no memory.
+    pub fn links(&self) -> Links
+        ensures { result ≡ self.now.engine.counts.links }
+    {
+        self.engine.stats().links
+    }
+
     /// Answers one line, by the step of the machine that the session is, unless it may take long: a question that is
-    /// not kept, a list of matches, a chosen move, a game record, a printed proof, a connection. Then nothing is done, and `finish` answers it.
+    /// not kept, a list of matches, a chosen move, a game record, a printed proof or the check of one. Then nothing is
+    /// done, and `finish` answers it.
     ///
     /// Nothing comes exactly for a line without words. NoMemory comes only in place of a growing reply. It leaves the
     /// machine as it was, and so does a refused line; of the counts only that of refused keepings may have risen. The

@@ -17,9 +17,16 @@ pub enum Work {
     AttackProof(Point),
     /// The first proof of the code of a defence.
     DefendProof(Point),
-    /// Whether the strings of two points can be joined.
+    /// Whether the words in this part of the line are a proof of this code of an attack, or else of a defence.
+    CheckProof {
+        attack: bool,
+        target: Point,
+        code: u8,
+        tokens: Span,
+    },
+    /// Whether the strings of two points can be joined, where no kept answer stands.
     Connect(Point, Point),
-    /// Whether they can be kept apart.
+    /// Whether they can be kept apart, where no kept answer stands.
     Disconnect(Point, Point),
     /// The move for a friend that the patterns choose, which is played.
     GenMove(Colour),

@@ -125,6 +125,35 @@ impl Connections {
         }
     }
 
+    /// The answer to a question about two stones of the position, of one colour, at the present plies, where a kept
+    /// variant of the question stands on the position. Else nothing changes.
+    pub fn find_kept(
+        &mut self,
+        kind: LinkKind,
+        position: &Position,
+        a: Point,
+        b: Point,
+    ) -> Option<Linkage>
+        requires a_on { a < position.now.size * position.now.size }
+        requires b_on { b < position.now.size * position.now.size }
+        requires stone { cell_at position.now.cells a ≢ Cell.Empty }
+        requires one_colour { cell_at position.now.cells b ≡ cell_at position.now.cells a }
+        ensures answer { IfSome result (λ linkage. linkage
+            ≡ linkage_of (asked_on position.now kind a b self.old.plies) position.now) }
+        ensures on_board { IfSome result (λ linkage. IfSome linkage.at (IsOnBoard position.now.size)) }
+        ensures asked { IfSome result (λ linkage. HasAsked (key_on position.now kind a b self.old.plies) position.now
+            linkage self.old.answers self.new.answers) }
+        ensures rest { AllRest self.new.answers.kept }
+        ensures plies { self.new.plies ≡ self.old.plies }
+        ensures missing { IfNone result (IsMissing same_key (key_on position.now kind a b self.old.plies) position.now
+            self.old.answers.kept) }
+        ensures same { IfNone result (self.new ≡ self.old) }
+    {
+        let key = key_of(kind, position, a, b, self.plies);
+        let linkage = self.find(&key, position)?;
+        Some(linkage)
+    }
+
     /// The answer of a kept variant of the question that stands on the position.
     fn find(&mut self, key: &LinkKey, position: &Position) -> Option<Linkage>
         ensures found { IfSome result (λ linkage. WasKept same_key key.now position.now linkage

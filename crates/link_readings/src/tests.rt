@@ -67,6 +67,21 @@ fn ask(
     Ok(links.ask(kind, position, a, b))
 }
 
+/// The answer that is kept to the question whether the stones at C5 and E5 can be joined.
+fn find_kept(links: &mut Connections, position: &Position) -> Result<Option<Linkage>, Fail> {
+    let points = position.size().points();
+    if C5 >= points || E5 >= points {
+        return Err("the points are on the board")?;
+    }
+    if position.cell(C5) == Cell::Empty {
+        return Err("a stone stands there")?;
+    }
+    if position.cell(E5) != position.cell(C5) {
+        return Err("the stones are of one colour")?;
+    }
+    Ok(links.find_kept(LinkKind::Connect, position, C5, E5))
+}
+
 #[test]
 fn one_point_jump_connects(rt: HostRuntime) -> Result<(), Fail> {
     let mut links = Connections::new(rt.alloc(), 3, 8)?;
@@ -127,5 +142,20 @@ fn each_question_is_kept_for_itself(rt: HostRuntime) -> Result<(), Fail> {
         let _ = ask(&mut links, kind, &jump, a, b)?;
         assert_eq!(rt; links.fresh(), fresh, "{question}");
     }
+    Ok(())
+}
+
+#[test]
+fn only_what_stands_is_found_kept(rt: HostRuntime) -> Result<(), Fail> {
+    let mut links = Connections::new(rt.alloc(), 3, 8)?;
+    let jump = jump()?;
+    let cut = with_stone(&jump, Colour::White, D5)?;
+    assert_eq!(rt; find_kept(&mut links, &jump)?, None, "nothing was asked");
+    let _ = ask(&mut links, LinkKind::Connect, &jump, C5, E5)?;
+    assert_eq!(rt; find_kept(&mut links, &jump)?, Some(by(LinkSpot::At(D5))), "it was asked");
+    assert_eq!(rt; find_kept(&mut links, &cut)?, None, "a stone was played in the area");
+    links.set(2);
+    assert_eq!(rt; find_kept(&mut links, &jump)?, None, "it was asked at other plies");
+    assert_eq!(rt; links.fresh(), 1, "nothing more was read");
     Ok(())
 }

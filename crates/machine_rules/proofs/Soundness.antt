@@ -1,19 +1,19 @@
 -- What every step keeps: a refused line keeps the machine, what may stand in place of a reply is a refusal that keeps it
 -- but for the calls of helpers, and only a success ends the session.
 use Rattle.std.proofs.Common.{◌≡◌, ℕ, Bool, true, false, cond, List, [], ◌∷◌, map, Option, None, Some, Result, Ok, Err, get_or, arith}
-use Rattle.std.proofs.Common.{refl, sym, ap, subst, ◌∙◌}
+use Rattle.std.proofs.Common.{refl, sym, ap, subst, ◌∙◌, ◌&&◌}
 use Rattle.gtp_rules.specs.Lines.{RawLine, Line, TooLong}
 use Rattle.gtp_rules.specs.Steps.{Step}
 use Rattle.gtp_rules.specs.Transcript.{IsTotal}
 use Rattle.go_rules.specs.declared.Colour.{Colour}
 use Rattle.go_rules.specs.declared.Move.{Move}
-use Rattle.go_rules.specs.Strings.{cell_at, is_stone}
+use Rattle.go_rules.specs.Strings.{cell_at, is_stone, same_cell}
 use Rattle.go_rules.specs.Replay.{moved}
 use Rattle.gtp_cmd.specs.Replies.{success_text, refusal_text}
 use Rattle.gtp_cmd.specs.declared.commands.Parsed.{Parsed}
 use Rattle.gtp_cmd.specs.declared.commands.Parsed.TheVariants as parsed
 use Rattle.gtp_cmd.specs.declared.refusals.RefuseText.{RefuseText}
-use Rattle.gtp_cmd.specs.declared.refusals.RefuseText.TheVariants.{VertexEmpty}
+use Rattle.gtp_cmd.specs.declared.refusals.RefuseText.TheVariants.{VertexEmpty, ColoursDiffer}
 use Rattle.helpers.specs.Totals.{asks_over}
 use Rattle.match_rules.specs.Conditions.{all_yes}
 use Rattle.match_engine.specs.HelperCalls.{plays_of}
@@ -24,7 +24,10 @@ use Rattle.machine_rules.specs.Effects.{Excuse, Effect, refused, told, growing, 
 use Rattle.machine_rules.specs.Files.{Contents, IsContents}
 use Rattle.machine_rules.specs.Heard.{heard, bytes_in, word_at}
 use Rattle.machine_rules.specs.HelperCommands.{of_helper}
-use Rattle.machine_rules.specs.LinkCommands.{linked}
+use Rattle.machine_rules.specs.LinkCommands.{linked, linkage_at, linkage_text}
+use Rattle.machine_rules.specs.LinkQuestions.{have_one_colour, asks_link_at, asks_link_of, asks_link_of_parsed}
+use Rattle.machine_rules.specs.LinkQuestions.{asks_link_of_line}
+use Rattle.link_rules.specs.declared.question.LinkQuestion.{LinkQuestion}
 use Rattle.machine_rules.specs.ProofCommands.{proved}
 use Rattle.machine_rules.specs.RecordCommands.{is_utf8, recorded, loaded, loaded_by}
 use Rattle.sgf_rules.specs.declared.kind.FaultKind.{FaultKind}
@@ -37,7 +40,7 @@ use Rattle.machine_rules.specs.Loads.{Load, load_in, IsFileOf}
 use Rattle.machine_rules.specs.BoardCommands.{resized, played, taken_back, of_stone}
 use Rattle.machine_rules.specs.MatchingCommands.{after_asking, advised}
 use Rattle.machine_rules.specs.Step.{Input, effect_of, parsed_step, step_on, step}
-use Rattle.machine_rules.specs.Counting.{is_read, is_parsed_read, is_read_line}
+use Rattle.machine_rules.specs.Counting.{has_stone, is_read, is_parsed_read, is_read_line}
 use Rattle.machine_rules.specs.ReadingCommands.{answer_text, reading_of}
 use Rattle.machine_rules.specs.Soundness.{IsRefusal, IsSuccess, AreExcuses, IsSound}
 use Rattle.machine_rules.proofs.QuietHelpers.{raised-quiet}
@@ -305,3 +308,66 @@ pub read-line : (matcher : Matcher) (contents : Contents) (old : Machine) (line 
     → (id : Option ℕ) × (text : List ℕ) × (given ≡ replied id (told text old))
 read-line matcher contents old line given (file, of, is) reads =
     let said = read-line_on matcher old file line reads in (said.0, said.1, is ∙ said.2)
+
+-- what is tested one after another passes where all of it does
+all-pass : {T : Type 0} (a b c : Bool) (kept first second third : T) → (a && (b && c)) ≡ true
+    → cond a (cond b (cond c kept third) second) first ≡ kept
+all-pass true true true kept first second third pass = refl
+all-pass true true false kept first second third pass = absurd (let same : false ≡ true = pass in cc)
+all-pass true false c kept first second third pass = absurd (let same : false ≡ true = pass in cc)
+all-pass false b c kept first second third pass = absurd (let same : false ≡ true = pass in cc)
+
+-- what is found under a test passed it
+was-passed : {T : Type 0} (pass : Bool) (x y : T) → cond pass (Some x) None ≡ Some y → pass ≡ true
+was-passed true x y is = refl
+was-passed false x y is = absurd (let none : None ≡ Some y = is in cc)
+
+-- a question about two stones of one colour is answered with a result, which has no excuse
+pub linked-told : (old : Machine) (kind : LinkKind) (a b : ℕ) → have_one_colour old a b ≡ true
+    → linked old kind a b ≡ told (linkage_text old.base.size (linkage_at old kind a b)) old
+linked-told old kind a b one = all-pass (has_stone old a) (has_stone old b)
+    (same_cell (cell_at (position_of old).cells a) (cell_at (position_of old).cells b))
+    (told (linkage_text old.base.size (linkage_at old kind a b)) old) (refused old VertexEmpty) (refused old VertexEmpty)
+    (refused old ColoursDiffer) one
+
+-- the same of such a command
+link-at : (old : Machine) (kind : LinkKind) (a b : ℕ) (q : LinkQuestion) → asks_link_at old kind a b ≡ Some q
+    → (text : List ℕ) × (linked old kind a b ≡ told text old)
+link-at old kind a b q asks = (_, linked-told old kind a b (was-passed (have_one_colour old a b) _ q asks))
+
+-- a command that asks about a connection tells something
+link-effect : (matcher : Matcher) (old : Machine) (input : Input) (c : Command) (q : LinkQuestion)
+    → asks_link_of old c ≡ Some q → (text : List ℕ) × (effect_of matcher old input c ≡ told text old)
+link-effect matcher old input (command.Connect a b) q asks = link-at old Connect a b q asks
+link-effect matcher old input (command.Disconnect a b) q asks = link-at old Disconnect a b q asks
+link-effect matcher old input _ q none = absurd (let same : None ≡ Some q = none in cc)
+
+-- so does what a line says that asks about one
+link-parsed : (matcher : Matcher) (old : Machine) (input : Input) (p : Parsed) (q : LinkQuestion)
+    → asks_link_of_parsed old p ≡ Some q
+    → (id : Option ℕ) × (text : List ℕ) × (parsed_step matcher old input p ≡ replied id (told text old))
+link-parsed matcher old input (parsed.Command id c) q asks =
+    let said = link-effect matcher old input c q asks in (id, said.0, ap (replied id) said.1)
+link-parsed matcher old input _ q none = absurd (let same : None ≡ Some q = none in cc)
+
+-- a line asks about a connection what it says
+pub link-heard : (m : Machine) (line : RawLine) → asks_link_of_line m line ≡ asks_link_of_parsed m (heard m line)
+unfolding asks_link_of_line
+link-heard m TooLong = refl
+link-heard m (Line text) = refl
+
+-- the line on a text
+link-line_on : (matcher : Matcher) (old : Machine) (file : List ℕ) (line : RawLine) (q : LinkQuestion)
+    → asks_link_of_line old line ≡ Some q
+    → (id : Option ℕ) × (text : List ℕ) × (step_on matcher old file line ≡ replied id (told text old))
+unfolding step_on
+link-line_on matcher old file line q asks =
+    link-parsed matcher old (record { line = bytes_in line; file = file }) (heard old line) q
+    (sym (link-heard old line) ∙ asks)
+
+-- and the line
+pub link-line : (matcher : Matcher) (contents : Contents) (old : Machine) (line : RawLine) (given : Step Machine)
+    → step matcher contents old line given → (q : LinkQuestion) → asks_link_of_line old line ≡ Some q
+    → (id : Option ℕ) × (text : List ℕ) × (given ≡ replied id (told text old))
+link-line matcher contents old line given (file, of, is) q asks =
+    let said = link-line_on matcher old file line q asks in (said.0, said.1, is ∙ said.2)

@@ -9,6 +9,7 @@ pub mod Files
 pub mod Heard
 pub mod HelperCommands
 pub mod LinkCommands
+pub mod LinkQuestions
 pub mod Loads
 pub mod Machine
 pub mod MatchTexts

@@ -7,7 +7,7 @@
 mod notes;
 mod pieces;
 
-pub use notes::{Counts, Sent, put_notes};
+pub use notes::{Counts, Links, Sent, put_notes};
 
 #[cfg(test)]
 mod tests;

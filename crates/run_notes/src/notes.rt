@@ -1,14 +1,23 @@
 //! The notes of a run.
-ghost use Rattle.std.specs.Prelude.{Some, OnOk, OnErr};
+ghost use Rattle.std.specs.Prelude.{◌≡◌, ◌∷◌, [], Some, OnOk, OnErr};
 ghost use Rattle.std.specs.List.{concat};
 ghost use Rattle.std.specs.Io.KnownBytes.{Appends};
 ghost use Rattle.gtp_io.specs.Outside.{IsCounted};
-ghost use Rattle.run_notes.specs.Notes.{counts_line, notes_text, sent_line};
+ghost use Rattle.run_notes.specs.Notes.{counts_line, links_line, notes_text, sent_line};
 ghost use Rattle.run_notes.specs.Putting.{IsNoted, PutsFront};
 
 use crate::pieces::{labelled, put_pieces};
 use gtp_io::{Failed, Sink};
 use vertices::Short;
+
+/// The counts of a run's connections.
+#[derive(Clone, Copy, Debug, PartialEq, Eq)]
+pub struct Links {
+    /// How many lines asked whether two strings can be joined or kept apart, and were answered with a result.
+    pub connections: u64,
+    /// How many of these were read afresh.
+    pub fresh: u64,
+}
 
 /// The counts of a run.
 #[derive(Clone, Copy, Debug, PartialEq, Eq)]
@@ -21,6 +30,8 @@ pub struct Counts {
     pub trials: u64,
     /// How many readings were not kept for want of memory.
     pub refused: u64,
+    /// What was counted of connections.
+    pub links: Links,
 }
 
 /// What a run sent.
@@ -32,18 +43,36 @@ pub struct Sent {
     pub bytes: u64,
 }
 
-/// Puts the line of the counts.
+/// The line of connections, in three pieces, which are empty where there were none.
+fn link_pieces(links: Links) -> (Short, Short, Short)
+    ensures { concat (result.0 ∷ result.1 ∷ result.2 ∷ []) ≡ links_line links }
+{
+    if links.connections == 0 {
+        return (Short::new(), Short::new(), Short::new());
+    }
+    (
+        labelled(b"connections ", links.connections),
+        labelled(b" fresh ", links.fresh),
+        Short::of(b"\n"),
+    )
+}
+
+/// Puts the line of the counts, and behind it that of connections.
 fn put_counts<D: Sink>(notes: &mut D, counts: Counts) -> Result<(), Failed>
     ensures ok { OnOk result (Appends (D.written notes.old) (D.written notes.new) (counts_line (Some counts))) }
     ensures part { OnErr result (PutsFront (D.written notes.old) (D.written notes.new) (counts_line (Some counts))) }
     ensures cause { IsCounted (D.faults notes.old) (D.faults notes.new) result }
 {
+    let (connections, fresh, end) = link_pieces(counts.links);
     let pieces = [
         labelled(b"readings ", counts.readings),
         labelled(b" fresh ", counts.fresh),
         labelled(b" trials ", counts.trials),
         labelled(b" refused ", counts.refused),
         Short::of(b"\n"),
+        connections,
+        fresh,
+        end,
     ];
     put_pieces(notes, &pieces)
 }
@@ -62,7 +91,7 @@ fn put_sent<D: Sink>(notes: &mut D, sent: Sent) -> Result<(), Failed>
     put_pieces(notes, &pieces)
 }
 
-/// Puts the line of the counts where they are asked for.
+/// Puts the lines of the counts where they are asked for.
 fn put_some_counts<D: Sink>(notes: &mut D, counts: Option<Counts>) -> Result<(), Failed>
     ensures ok { OnOk result (Appends (D.written notes.old) (D.written notes.new) (counts_line counts)) }
     ensures part { OnErr result (PutsFront (D.written notes.old) (D.written notes.new) (counts_line counts)) }

@@ -24,6 +24,7 @@ plain-first patterns rows plies wide capacity room accepts = record {
   machine = λ helpers. refl;
   counts = refl;
   kept = refl;
+  links = refl;
   room = room;
   matches = λ i. record {
     patterns = patterns;

@@ -1,4 +1,5 @@
 -- The counts that a run tells are those of the lines that it answered.
+use Rattle.std.proofs.Common.{◌⊎◌, ⊎_elim}
 use Rattle.std.proofs.Common.{◌≡◌, ℕ, suc, ◌+◌, ◌^◌, ◌<◌, ◌≤◌, Bool, true, false, cond, List, [], ◌∷◌, ◌++◌, length, Option}
 use Rattle.std.proofs.Common.{Some, None, refl, sym, ap, subst, ◌∙◌, arith, inl, inr}
 use Rattle.std.specs.Prelude.{◌==◌}
@@ -10,16 +11,24 @@ use Rattle.gtp_rules.specs.Steps.{Step}
 use Rattle.gtp_lex.specs.Held.{lines_from, held_from, held_line, longer}
 use Rattle.gtp_lex.proofs.HeldLemmas.{lines_with_rest-lines_from}
 use Rattle.run_notes.specs.declared.notes.Counts.{Counts}
+use Rattle.run_notes.specs.declared.notes.Links.{Links}
+use Rattle.link_rules.specs.declared.question.LinkQuestion.{LinkQuestion}
+use Rattle.link_rules.specs.declared.question.Linkage.{Linkage}
+use Rattle.link_readings.specs.Connections.{HasAsked}
+use Rattle.link_readings.specs.declared.key.LinkKey.{LinkKey}
+use Rattle.read_cache.specs.Keeping.{Keeping, raised, first_keeping}
 use Rattle.match_engine.specs.Readings.{KeptReadings, nothing_kept}
 use Rattle.machine_rules.specs.Machine.{Machine}
 use Rattle.engine.specs.Kept.{Kept}
-use Rattle.engine.specs.SessionState.{no_counts}
+use Rattle.engine.specs.AskedLinks.{LinksAs}
+use Rattle.engine.specs.SessionState.{SessionState, board_of, no_counts}
+use Rattle.machine_rules.specs.LinkQuestions.{asks_link_of_line, connections_in}
 use Rattle.machine_rules.specs.Counting.{counted, is_read_line, readings_in}
 use Rattle.machine_rules.specs.Questions.{Asks, Nothing, One, Many, AskNothing}
 use Rattle.engine.specs.AfterLine.{ReadsAs, ReadsNothing, IsAfterLine}
 use Rattle.machine_rules.specs.Questions.{asks_of_line}
 use Rattle.engine.specs.AfterLine.{after_trials}
-use Rattle.engine.specs.AfterLine.{HasFewFresh}
+use Rattle.engine.specs.AfterLine.{HasFewFresh, of_readings}
 use Rattle.machine_rules.specs.Turns.{Turn, IsAlong}
 use Rattle.session.specs.Tallies.{Tally, IsTallied, BreaksOff, one_turn}
 use Rattle.session.specs.Ends.{Streams, Serves, AreTallied, IsRight, most_taken}
@@ -186,25 +195,78 @@ untried_along (turn ∷ turns) a b (mid, first, rest) unfresh =
     let here = untried_by turn a mid later.0 (asks_of_line turn.machine turn.line) first.read in
     (here.0, later.1 ∙ here.1)
 
--- where no line asks for anything, all is counted that was
+-- where no line asks for anything, all is counted of readings that was
 idle_along : (turns : List (Turn Machine)) (a b : Kept) → IsAlong IsAfterLine a turns b → AskNothing turns
-    → b.engine.counts ≡ a.engine.counts
-idle_along [] a b along idle = ap (λ (k : Kept). k.engine.counts) along
+    → of_readings b.engine.counts ≡ of_readings a.engine.counts
+idle_along [] a b along idle = ap (λ (k : Kept). of_readings k.engine.counts) along
 idle_along (turn ∷ turns) a b (mid, first, rest) idle =
     let nothing : ReadsNothing a.engine mid.engine = subst (λ asks. ReadsAs asks a.engine mid.engine) (idle 0 turn (omega arith)) first.read in
     idle_along turns mid b rest (λ k d low. idle (suc k) d (omega (arith, low))) ∙ nothing.counts
 
+-- What a line counts of connections, by what it asks about them: it is counted where it asks, and is fresh at most then.
+module _ (old new : SessionState) where
+  -- one more that is fresh, or none
+  fresh_by : (q : LinkQuestion) (answer : Linkage) (before after : Keeping LinkKey Linkage)
+      → HasAsked (record { question = q }) (board_of old) answer before after
+      → (after.fresh ≡ raised before.fresh 1) ⊎ (after.fresh ≡ before.fresh)
+  fresh_by q answer before after (inl fresh) = inl fresh.fresh
+  fresh_by q answer before after (inr kept) = inr kept.fresh
+
+  -- by what is asked
+  links_by : (asks : Option LinkQuestion) → LinksAs asks old new
+      → old.counts.links.fresh ≤ old.counts.links.connections → old.counts.links.connections + 1 < 2 ^ 64
+      → (new.counts.links.connections ≡ old.counts.links.connections + cond (is_some asks) 1 0)
+      × (new.counts.links.fresh ≤ new.counts.links.connections)
+  links_by None links few small =
+      let connections = ap (λ (l : Links). l.connections) links.counts in
+      let fresh = ap (λ (l : Links). l.fresh) links.counts in
+      (omega (arith, connections), omega (arith, connections, fresh, few))
+  links_by (Some q) links few small =
+      let was = links.fresh_before in
+      let is = links.fresh in
+      let more = links.connections in
+      let rose = fresh_by q links.answer old.links.answers new.links.answers links.asked in
+      (omega (arith, more, small), ⊎_elim
+      (λ fresh. omega (arith, fresh, was, is, more, few, small))
+      (λ kept. omega (arith, kept, was, is, more, few, small)) rose)
+
+-- the lines that ask about connections are counted, and no more are fresh
+links_along : (turns : List (Turn Machine)) (a b : Kept) → IsAlong IsAfterLine a turns b
+    → a.engine.counts.links.fresh ≤ a.engine.counts.links.connections
+    → a.engine.counts.links.connections + length turns < 2 ^ 64
+    → (b.engine.counts.links.connections ≡ a.engine.counts.links.connections + connections_in turns)
+    × (b.engine.counts.links.fresh ≤ b.engine.counts.links.connections)
+links_along [] a b along few small =
+    let connections = ap (λ (k : Kept). k.engine.counts.links.connections) along in
+    let fresh = ap (λ (k : Kept). k.engine.counts.links.fresh) along in
+    (omega (arith, connections), omega (arith, connections, fresh, few))
+links_along (turn ∷ turns) a b (mid, first, rest) few small =
+    let counts = sum_by-cons (λ (t : Turn Machine). cond (is_some (asks_link_of_line t.machine t.line)) 1 0) turn turns in
+    let asks = asks_link_of_line turn.machine turn.line in
+    let here = links_by a.engine mid.engine asks first.links few (omega (arith, small)) in
+    let one = one-at-most (is_some asks) in
+    let later = links_along turns mid b rest here.1 (omega (arith, small, here.0, one)) in
+    (omega (arith, counts, here.0, later.0), later.1)
+  where
+    one-at-most : (asked : Bool) → cond asked 1 0 ≤ 1
+    one-at-most true = omega arith
+    one-at-most false = omega arith
+
 -- the counts of a session that has answered few lines since it had counted nothing
 pub counts_of : (capacity : ℕ) (first last : Kept) (turns : List (Turn Machine)) → IsAlong IsAfterLine first turns last
     → first.engine.counts ≡ no_counts
-    → first.engine.readings.kept ≡ nothing_kept capacity → 8 ≤ capacity → length turns ≤ most_taken + 1
+    → first.engine.readings.kept ≡ nothing_kept capacity → first.engine.links.answers ≡ first_keeping capacity
+    → 8 ≤ capacity → length turns ≤ most_taken + 1
     → AreCountsOf capacity turns last.engine.counts
-counts_of capacity first last turns along none kept room few =
+counts_of capacity first last turns along none kept unasked room few =
     let open_room = subst (λ (k : KeptReadings). 8 ≤ k.1) (sym kept) room in
     let readings = ap (λ (c : Counts). c.readings) none in
     let fresh = ap (λ (c : Counts). c.fresh) none in
     let small : first.engine.counts.readings + length turns < 2 ^ 64 = omega (arith, readings, few) in
     let all = readings_along turns first last along small in
+    let unlinked = ap (λ (c : Counts). c.links.connections) none in
+    let stale = ap (λ (c : Counts). c.links.fresh) none in
+    let linked = links_along turns first last along (omega (arith, unlinked, stale)) (omega (arith, unlinked, few)) in
     let start : HasFewFresh first.engine.counts =
     record { few = omega (arith, readings, fresh); small = omega (arith, readings) } in
     record {
@@ -213,12 +275,15 @@ counts_of capacity first last turns along none kept room few =
       hits = λ unrefused n hits. (let law = hits_are_kept first [] turns first last 0 n refl along open_room unrefused hits
           (omega (arith, readings, fresh)) small in omega (arith, law));
       untried = λ unfresh. (untried_along turns first last along unfresh).1 ∙ ap (λ (c : Counts). c.trials) none;
-      idle = λ idle. idle_along turns first last along idle ∙ none;
+      idle = λ idle. idle_along turns first last along idle ∙ ap of_readings none;
+      connections = omega (arith, unlinked, linked.0);
+      fresh_links = linked.1;
       rose = record {
         first = first;
         last = last;
         uncounted = none;
         kept = kept;
+        links = unasked;
         along = along;
         same = refl;
       };

@@ -73,7 +73,7 @@ came-served helpers slots contents options session lines missed now before after
     let lines = served-few (step (matcher_of session) contents) options.generate
     (machine_with slots session) before after end counting.tally counting.serves in
     let are = counts_of options.cache (kept_with slots missed session) kept counting.tally.turns counting.advances.along
-    opens.plain.counts opens.plain.kept opens.plain.room lines in
+    opens.plain.counts opens.plain.kept opens.plain.links opens.plain.room lines in
     subst (CameBy helpers options contents missed now before after told noted) (sym is) (record {
       patterns = opens.patterns;
       opened = opens.opened;

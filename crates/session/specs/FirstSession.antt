@@ -16,6 +16,7 @@ use Rattle.session.specs.Ends.{Streams}
 use Rattle.session.specs.Headline.{ServesLines, IsServed, IsUntouched}
 use Rattle.machine_rules.specs.Turns.{Turn}
 use Rattle.match_engine.specs.Readings.{nothing_kept}
+use Rattle.read_cache.specs.Keeping.{first_keeping}
 use Rattle.session.specs.Tallies.{Tally, Progress, Advances}
 use Rattle.session.specs.Serving.{progress_of}
 use Rattle.gtp_rules.specs.Lines.{RawLine}
@@ -26,11 +27,12 @@ use Rattle.run_notes.specs.declared.notes.Sent.{Sent}
 
 -- the session is the first machine with these helpers, plies and wide plies, its matcher finds the matches of these
 -- patterns as the plain one does, it has counted and kept nothing, and may keep this many questions, which are eight and
--- more
+-- more, and as many about connections
 pub record IsPlainWith (patterns : List Pattern) (plies wide capacity : ℕ) (session : SessionState) : Type 0 where
   pub machine : (helpers : List SlotState) → machine_with helpers session ≡ first_machine helpers plies wide
   pub counts : session.counts ≡ no_counts
   pub kept : session.readings.kept ≡ nothing_kept capacity
+  pub links : session.links.answers ≡ first_keeping capacity
   pub room : 8 ≤ capacity
   pub matches : matcher_of session ≡ plain_matcher patterns
 

@@ -7,6 +7,7 @@ use Rattle.gtp_rules.specs.Lines.{RawLine}
 use Rattle.gtp_rules.specs.Steps.{Step}
 use Rattle.pat_types.specs.declared.pattern.Pattern.{Pattern}
 use Rattle.helpers.specs.Asking.{SlotState}
+use Rattle.machine_rules.specs.LinkQuestions.{connections_in}
 use Rattle.machine_rules.specs.Loads.{missed_in}
 use Rattle.machine_rules.specs.Files.{Contents}
 use Rattle.machine_rules.specs.Machine.{Machine, first_machine}
@@ -14,9 +15,10 @@ use Rattle.machine_rules.specs.Matcher.{plain_matcher}
 use Rattle.machine_rules.specs.Step.{step}
 use Rattle.machine_rules.specs.Turns.{Turn, IsAlong}
 use Rattle.match_engine.specs.Readings.{nothing_kept}
+use Rattle.read_cache.specs.Keeping.{first_keeping}
 use Rattle.machine_rules.specs.Counting.{readings_in}
 use Rattle.machine_rules.specs.Questions.{AskNothing}
-use Rattle.engine.specs.AfterLine.{IsAfterLine}
+use Rattle.engine.specs.AfterLine.{IsAfterLine, of_readings}
 use Rattle.engine.specs.Kept.{Kept}
 use Rattle.engine.specs.SessionState.{no_counts}
 use Rattle.machine_rules.specs.CertainHit.{HaveCertainHits}
@@ -80,25 +82,30 @@ abbrev pub ServesLines : {M : Type 0} → Option ℕ → (M → RawLine → Step
 ServesLines None step first before after end tally = Serves step first before after end tally
 ServesLines (Some n) step first before after end tally = ServesGenerated n step first before after end tally
 
--- A session that had counted and kept nothing, and may keep this many questions, counts this after the lines.
+-- A session that had counted and kept nothing, and may keep this many questions, and as many about connections, counts
+-- this after the lines.
 pub record RoseAlong (capacity : ℕ) (turns : List (Turn Machine)) (counts : Counts) : Type 0 where
   pub first : Kept
   pub last : Kept
   pub uncounted : first.engine.counts ≡ no_counts
   pub kept : first.engine.readings.kept ≡ nothing_kept capacity
+  pub links : first.engine.links.answers ≡ first_keeping capacity
   pub along : IsAlong IsAfterLine first turns last
   pub same : counts ≡ last.engine.counts
 
 -- The counts are those of these lines: each that asks for a reading and is answered with a code is counted, and no more
 -- are fresh. Where no keeping was refused, a certain hit is not fresh: n of them leave only the other readings to be.
--- Without a fresh reading no play was tried, and where no line asks for a reading or for matches nothing is counted. The
+-- Without a fresh reading no play was tried, and where no line asks for a reading or for matches nothing is counted of
+-- readings. Each line that asks about a connection and is answered with a result is counted, and no more are fresh. The
 -- counts rose line by line, as those of a session that may keep this many questions.
 pub record AreCountsOf (capacity : ℕ) (turns : List (Turn Machine)) (counts : Counts) : Type 0 where
   pub readings : counts.readings ≡ readings_in turns
   pub fresh : counts.fresh ≤ counts.readings
   pub hits : counts.refused ≡ 0 → (n : ℕ) → HaveCertainHits [] turns n → counts.fresh + n ≤ counts.readings
   pub untried : counts.fresh ≡ 0 → counts.trials ≡ 0
-  pub idle : AskNothing turns → counts ≡ no_counts
+  pub idle : AskNothing turns → of_readings counts ≡ no_counts
+  pub connections : counts.links.connections ≡ connections_in turns
+  pub fresh_links : counts.links.fresh ≤ counts.links.connections
   pub rose : RoseAlong capacity turns counts
 
 -- the counts are told where they are asked for: those of the lines of the tally

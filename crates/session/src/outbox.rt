@@ -8,7 +8,7 @@ ghost use Rattle.session.specs.Waiting.{none_wait, outbox_room, most_marks, gone
 ghost use Rattle.session.specs.Waiting.{MayStop, Sends, Stays};
 
 use gtp_io::Sink;
-use run_notes::{Counts, Sent};
+use run_notes::{Counts, Links, Sent};
 use std::marker::Model;
 use vertices::write_at;
 
@@ -35,6 +35,10 @@ const NO_MARK: ReplyMark = ReplyMark {
         fresh: 0,
         trials: 0,
         refused: 0,
+        links: Links {
+            connections: 0,
+            fresh: 0,
+        },
     },
 };
 

@@ -9,6 +9,7 @@ ghost use Rattle.engine.specs.SessionState.{board_of, machine_with};
 ghost use Rattle.machine_rules.specs.BoardCommands.{digit_of, resized, cleared, komi_kept, played, taken_back, shown};
 ghost use Rattle.machine_rules.specs.BoardCommands.{allowed, all_allowed, liberties_counted, liberties_found};
 ghost use Rattle.machine_rules.specs.BoardCommands.{captures_counted};
+ghost use Rattle.engine.specs.AskedLinks.{LinksNothing};
 ghost use Rattle.engine.specs.CommandAnswers.{IsAnswer};
 
 use crate::answer::{Answer, grown, told, told_number};
@@ -48,6 +49,7 @@ impl Engine {
         ensures same { self.new.automaton ≡ self.old.automaton }
         ensures counts { self.new.counts ≡ self.old.counts }
         ensures kept { self.new.readings.kept ≡ self.old.readings.kept }
+        ensures links { LinksNothing self.old self.new }
     {
         let Some(size) = size else {
             return Answer::Refused(RefuseText::UnacceptableSize);
@@ -63,6 +65,7 @@ impl Engine {
         ensures same { self.new.automaton ≡ self.old.automaton }
         ensures counts { self.new.counts ≡ self.old.counts }
         ensures kept { self.new.readings.kept ≡ self.old.readings.kept }
+        ensures links { LinksNothing self.old self.new }
     {
         self.history.clear();
         told(b"")
@@ -76,6 +79,7 @@ impl Engine {
         ensures same { self.new.automaton ≡ self.old.automaton }
         ensures counts { self.new.counts ≡ self.old.counts }
         ensures kept { self.new.readings.kept ≡ self.old.readings.kept }
+        ensures links { LinksNothing self.old self.new }
     {
         self.komi = komi;
         told(b"")
@@ -89,6 +93,7 @@ impl Engine {
         ensures same { self.new.automaton ≡ self.old.automaton }
         ensures counts { self.new.counts ≡ self.old.counts }
         ensures kept { self.new.readings.kept ≡ self.old.readings.kept }
+        ensures links { LinksNothing self.old self.new }
     {
         match self.history.play(m) {
             Ok(()) => told(b""),
@@ -106,6 +111,7 @@ impl Engine {
         ensures same { self.new.automaton ≡ self.old.automaton }
         ensures counts { self.new.counts ≡ self.old.counts }
         ensures kept { self.new.readings.kept ≡ self.old.readings.kept }
+        ensures links { LinksNothing self.old self.new }
     {
         match self.history.undo() {
             Ok(()) => told(b""),

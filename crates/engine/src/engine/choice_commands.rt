@@ -13,6 +13,7 @@ ghost use Rattle.machine_rules.specs.MatchTexts.{SameDepths};
 ghost use Rattle.machine_rules.specs.Questions.{asks_of};
 ghost use Rattle.gtp_cmd.specs.declared.commands.Command.TheVariants as command;
 ghost use Rattle.engine.specs.AfterLine.{ReadsAs, ReadsMany};
+ghost use Rattle.engine.specs.AskedLinks.{LinksNothing};
 ghost use Rattle.engine.specs.CommandAnswers.{IsAnswer};
 ghost use Rattle.engine.specs.SessionState.{NumbersPatterns, machine_alone, machine_with, matcher_of};
 
@@ -80,6 +81,7 @@ impl Engine {
         ensures patterns { self.new.patterns ≡ self.old.patterns }
         ensures same { self.new.automaton ≡ self.old.automaton }
         ensures read { ReadsMany self.old self.new }
+        ensures links { LinksNothing self.old self.new }
     {
         let position = self.position();
         point_by(
@@ -101,6 +103,7 @@ impl Engine {
         ensures patterns { self.new.patterns ≡ self.old.patterns }
         ensures same { self.new.automaton ≡ self.old.automaton }
         ensures read { ReadsMany self.old self.new }
+        ensures links { LinksNothing self.old self.new }
     {
         let size = self.history.size();
         match self.chosen_point(helpers, friend) {
@@ -117,6 +120,7 @@ impl Engine {
         ensures patterns { self.new.patterns ≡ self.old.patterns }
         ensures same { self.new.automaton ≡ self.old.automaton }
         ensures read { ReadsAs (asks_of (machine_alone self.old) (command.GenMove friend)) self.old self.new }
+        ensures links { LinksNothing self.old self.new }
     {
         if self.history.full() {
             return Answer::Refused(RefuseText::HistoryFull);

@@ -4,6 +4,7 @@ ghost use Rattle.helpers.specs.Asking.{SlotState};
 ghost use Rattle.helpers.specs.Slots.{states_of};
 ghost use Rattle.engine.specs.SessionState.{machine_with, matcher_of};
 ghost use Rattle.machine_rules.specs.MatchingCommands.{matches_listed, patterns_listed};
+ghost use Rattle.engine.specs.AskedLinks.{LinksNothing};
 ghost use Rattle.engine.specs.CommandAnswers.{IsAnswer};
 ghost use Rattle.engine.specs.AfterLine.{ReadsMany};
 
@@ -22,6 +23,7 @@ impl Engine {
         ensures patterns { self.new.patterns ≡ self.old.patterns }
         ensures same { self.new.automaton ≡ self.old.automaton }
         ensures read { ReadsMany self.old self.new }
+        ensures links { LinksNothing self.old self.new }
     {
         let position = self.position();
         grown(matches_text(

@@ -4,6 +4,7 @@ ghost use Rattle.helpers.specs.Asking.{SlotState};
 ghost use Rattle.engine.specs.SessionState.{machine_alone, machine_with};
 ghost use Rattle.machine_rules.specs.ReadingCommands.{read, deepened};
 ghost use Rattle.gtp_cmd.specs.Within.{AreDepths};
+ghost use Rattle.engine.specs.AskedLinks.{LinksNothing};
 ghost use Rattle.engine.specs.CommandAnswers.{IsAnswer};
 ghost use Rattle.machine_rules.specs.Counting.{counted, has_stone};
 ghost use Rattle.engine.specs.AfterLine.{ReadsAs, CountsRefused, after_trials};
@@ -30,6 +31,7 @@ impl Engine {
         ensures trials { self.new.counts.trials ≡ after_trials self.old.counts.trials tried }
         ensures kept { self.new.readings ≡ self.old.readings }
         ensures refused { CountsRefused self.new }
+        ensures links { LinksNothing self.old self.new }
     {
         self.counts.readings = self.counts.readings.saturating_add(1);
         if let Some(trials) = tried {
@@ -49,6 +51,7 @@ impl Engine {
         ensures readings { self.new.counts.readings ≡ counted self.old.counts.readings
             (has_stone (machine_alone self.old) p) }
         ensures read { ReadsAs (asks_at (machine_alone self.old) kind p) self.old self.new }
+        ensures links { LinksNothing self.old self.new }
     {
         if !has_stone(self.board(), p) {
             return Answer::Refused(RefuseText::VertexEmpty);
@@ -70,6 +73,7 @@ impl Engine {
         ensures readings { OnOk result (self.new.counts.readings ≡ counted self.old.counts.readings
             (has_stone (machine_alone self.old) p)) }
         ensures read { OnOk result (ReadsAs (asks_at (machine_alone self.old) kind p) self.old self.new) }
+        ensures links { OnOk result (LinksNothing self.old self.new) }
         ensures slow { IfErr result (λ left. left ≡ work) }
         ensures same { OnErr result (self.new ≡ self.old) }
     {
@@ -94,8 +98,10 @@ impl Engine {
         ensures same { self.new.automaton ≡ self.old.automaton }
         ensures counts { self.new.counts ≡ self.old.counts }
         ensures kept { self.new.readings.kept ≡ self.old.readings.kept }
+        ensures links { LinksNothing self.old self.new }
     {
         self.readings.set(Depths::new(plies, wide).unwrap());
+        self.links.set(plies);
         told(b"")
     }
 }

@@ -6,6 +6,7 @@ ghost use Rattle.machine_rules.specs.Heard.{word_at};
 ghost use Rattle.machine_rules.specs.Loads.{named_load, IsFileOf};
 ghost use Rattle.machine_rules.specs.RecordCommands.{loaded_by, recorded};
 ghost use Rattle.sgf_rules.specs.Game.{game_of};
+ghost use Rattle.engine.specs.AskedLinks.{LinksNothing};
 ghost use Rattle.engine.specs.CommandAnswers.{IsAnswer, missed_as};
 ghost use Rattle.engine.specs.SessionState.{machine_with};
 
@@ -38,6 +39,7 @@ impl Engine {
         ensures same { self.new.automaton ≡ self.old.automaton }
         ensures counts { self.new.counts ≡ self.old.counts }
         ensures kept { self.new.readings.kept ≡ self.old.readings.kept }
+        ensures links { LinksNothing self.old self.new }
     {
         let Ok(word) = text(line, span, Bytes::new(self.alloc)) else {
             return Answer::NoMemory;
@@ -60,6 +62,7 @@ impl Engine {
         ensures same { self.new.automaton ≡ self.old.automaton }
         ensures counts { self.new.counts ≡ self.old.counts }
         ensures kept { self.new.readings.kept ≡ self.old.readings.kept }
+        ensures links { LinksNothing self.old self.new }
     {
         match read(contents) {
             Ok(position) => {

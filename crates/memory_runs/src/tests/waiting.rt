@@ -48,6 +48,64 @@ fn counts_at_a_fault_are_those_of_the_line_whose_reply_is_cut(rt: HostRuntime) -
     Ok(())
 }
 
+/// The same of a session with connections: which call fails, and the notes up to the outcome.
+const CUT_CONNECTIONS: [(&str, u64, &[u8]); 7] = [
+    (
+        "the last byte before the first connection's reply",
+        3,
+        b"readings 0 fresh 0 trials 0 refused 0\noutput failed\n",
+    ),
+    (
+        "the first byte of that reply",
+        4,
+        b"readings 0 fresh 0 trials 0 refused 0\nconnections 1 fresh 1\noutput failed\n",
+    ),
+    (
+        "the last byte of it",
+        13,
+        b"readings 0 fresh 0 trials 0 refused 0\nconnections 1 fresh 1\noutput failed\n",
+    ),
+    (
+        "the first byte of the kept one's reply",
+        14,
+        b"readings 0 fresh 0 trials 0 refused 0\nconnections 2 fresh 1\noutput failed\n",
+    ),
+    (
+        "the first byte of a reply that waits behind it",
+        24,
+        b"readings 0 fresh 0 trials 0 refused 0\nconnections 2 fresh 1\noutput failed\n",
+    ),
+    (
+        "the first byte of another connection's reply",
+        33,
+        b"readings 0 fresh 0 trials 0 refused 0\nconnections 3 fresh 2\noutput failed\n",
+    ),
+    (
+        "no byte is missing",
+        38,
+        b"readings 0 fresh 0 trials 0 refused 0\nconnections 3 fresh 2\n",
+    ),
+];
+
+// A connection counts also where its own reply is cut, and one whose line was answered behind the cut does not.
+#[test]
+fn connections_at_a_fault_are_those_up_to_the_line_whose_reply_is_cut(rt: HostRuntime) -> Result<(), Fail> {
+    let replies = b"=\n\n= 1 PASS\n\n= 1 PASS\n\n= gopat\n\n= 0\n\n".as_slice();
+    for (what, call, notes) in CUT_CONNECTIONS {
+        let way = Way {
+            sink_takes: 1,
+            sink_fails: call,
+            ..WHOLE
+        };
+        let input = b"play b D4\nconnect D4 D4\nconnect D4 D4\nname\ndisconnect D4 D4\n";
+        let ran = go_with(&rt, rt.alloc(), &["--stats"], &[], input, way)?;
+        assert!(rt; replies.starts_with(ran.output.bytes()), "{what}");
+        assert_eq!(rt; ran.output.bytes().len() as u64 + 1, call, "{what}");
+        assert_eq!(rt; ran.notes.bytes(), notes, "{what}");
+    }
+    Ok(())
+}
+
 // Boards of more bytes than may wait, and more short replies than may wait, each between others; whole pieces, in which
 // replies wait, give the same as pieces of some bytes, in which none does.
 #[test]
@@ -77,7 +135,7 @@ const PATTERN: &[File<'static>] = &[File {
 }];
 
 /// Lines that come together, the call of the output that fails, and what is out then.
-const CALLS_OF_THE_OUTPUT: [(&str, &[u8], u64, &[u8]); 14] = [
+const CALLS_OF_THE_OUTPUT: [(&str, &[u8], u64, &[u8]); 18] = [
     (
         "what waits goes out before a fresh reading of an attack",
         b"name\nplay b D4\nattack D4\nname\n",
@@ -97,8 +155,20 @@ const CALLS_OF_THE_OUTPUT: [(&str, &[u8], u64, &[u8]); 14] = [
         b"= gopat\n\n=\n\n",
     ),
     (
-        "before a connection",
+        "before the check of a proof",
+        b"name\nplay b D4\ncheck_proof attack D4 3 W D3 .\nname\n",
+        2,
+        b"= gopat\n\n=\n\n",
+    ),
+    (
+        "before a fresh connection",
         b"name\nplay b D4\nconnect D4 D4\nname\n",
+        2,
+        b"= gopat\n\n=\n\n",
+    ),
+    (
+        "and before a fresh cut",
+        b"name\nplay b D4\ndisconnect D4 D4\nname\n",
         2,
         b"= gopat\n\n=\n\n",
     ),
@@ -139,6 +209,12 @@ const CALLS_OF_THE_OUTPUT: [(&str, &[u8], u64, &[u8]); 14] = [
         b"=\n\n= 0\n\n= gopat\n\n= 0\n\n= gopat\n\n",
     ),
     (
+        "a kept connection's reply waits with quick ones",
+        b"play b D4\nconnect D4 D4\nname\nconnect D4 D4\nname\n",
+        4,
+        b"=\n\n= 1 PASS\n\n= gopat\n\n= 1 PASS\n\n= gopat\n\n",
+    ),
+    (
         "what waits goes out before matches are sought",
         b"boardsize 2\nplay b A1\nmatch_patterns b\nname\n",
         2,
@@ -155,6 +231,12 @@ const CALLS_OF_THE_OUTPUT: [(&str, &[u8], u64, &[u8]); 14] = [
         b"attack D4\nname\n",
         2,
         b"? vertex must not be empty\n\n= gopat\n\n",
+    ),
+    (
+        "nor is one about two stones of different colours",
+        b"play b D4\nplay w E4\nconnect D4 E4\nname\n",
+        2,
+        b"=\n\n=\n\n? colours differ\n\n= gopat\n\n",
     ),
     (
         "the last reply goes out before the end",

@@ -6,4 +6,4 @@ use Rattle.engine.proofs.engine.Engine.chosen_point.Goals as goal
 -- each number that the session's automaton accepts is that of one of its patterns
 pub point_by-requires : goal.point_by-requires
 point_by-requires g c = subst (λ patterns. NumbersPatterns c.self.inside.scanner patterns)
-    (sym c.deref.ensures.value) c.self.invariant
+    (sym c.deref.ensures.value) c.self.invariant.numbers

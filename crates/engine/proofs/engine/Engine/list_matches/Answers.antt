@@ -11,7 +11,7 @@ use Rattle.engine.proofs.engine.Engine.list_matches.Goals as goal
 -- each number that the session's automaton accepts is that of one of its patterns
 pub matches_text-requires : goal.matches_text-requires
 matches_text-requires g c = subst (λ patterns. NumbersPatterns c.self.inside.scanner patterns)
-    (sym c.deref.ensures.value) c.self.invariant
+    (sym c.deref.ensures.value) c.self.invariant.numbers
 
 -- the list is told, or there was no memory for it
 pub returns-clause-answer : goal.returns-clause-answer
@@ -33,8 +33,10 @@ returns-clause-answer g c =
         fresh = inside.counts.fresh;
         trials = inside.counts.trials;
         refused = readings.refused;
+        links = record { connections = inside.connections; fresh = inside.links.answers.fresh };
       };
       readings = readings;
+      links = inside.links;
     } in
     let before = states_of (λ z. (goal.Helper-dyn g z).state z.1) c.args.helpers.now in
     let after = states_of (λ z. (goal.Helper-dyn g z).state z.1) c.matches_text.new.helpers in

@@ -28,11 +28,23 @@ returns-in-Defend-clause-answer g c = λ file.
     (machine_with helpers c.recall-in-Defend.new.self))) (sym c.in-Defend.is)
     (c.recall-in-Defend.ensures.answer helpers)
 
--- the check of a proof
-pub returns-in-CheckProof-clause-answer : goal.returns-in-CheckProof-clause-answer
-returns-in-CheckProof-clause-answer g c = λ file.
+-- a connection
+pub returns-in-Connect-clause-answer : goal.returns-in-Connect-clause-answer
+returns-in-Connect-clause-answer g c = λ file.
     let helpers = states_of (λ z. (goal.Helper-dyn g z).state z.1) c.args.helpers.now in
     let input : Input = record { line = c.args.line.now; file = file } in
     let old = c.args.self.now in
-    subst (λ (k : Command). IsAnswer (effect_of (matcher_of old) (machine_with helpers old) input k)
-    c.check_proof.result (machine_with helpers old)) (sym c.in-CheckProof.is) (c.check_proof.ensures helpers)
+    subst (λ (k : Command). IfOk c.recall_link.result (λ answer. IsAnswer
+    (effect_of (matcher_of old) (machine_with helpers old) input k) answer
+    (machine_with helpers c.recall_link.new.self))) (sym c.in-Connect.is) (c.recall_link.ensures.answer helpers)
+
+-- a cut
+pub returns-in-Disconnect-clause-answer : goal.returns-in-Disconnect-clause-answer
+returns-in-Disconnect-clause-answer g c = λ file.
+    let helpers = states_of (λ z. (goal.Helper-dyn g z).state z.1) c.args.helpers.now in
+    let input : Input = record { line = c.args.line.now; file = file } in
+    let old = c.args.self.now in
+    subst (λ (k : Command). IfOk c.recall_link-in-Disconnect.result (λ answer. IsAnswer
+    (effect_of (matcher_of old) (machine_with helpers old) input k) answer
+    (machine_with helpers c.recall_link-in-Disconnect.new.self))) (sym c.in-Disconnect.is)
+    (c.recall_link-in-Disconnect.ensures.answer helpers)

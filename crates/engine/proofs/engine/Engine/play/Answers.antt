@@ -24,8 +24,10 @@ returns-clause-answer c = λ helpers.
         fresh = c.self.inside.counts.fresh;
         trials = c.self.inside.counts.trials;
         refused = c.self.inside.readings.refused;
+        links = record { connections = c.self.inside.connections; fresh = c.self.inside.links.answers.fresh };
       };
       readings = c.self.inside.readings;
+      links = c.self.inside.links;
     }) in
     let new = c.play.new.self in
     let family : SessionState → Type 0 = λ old. IsAnswer

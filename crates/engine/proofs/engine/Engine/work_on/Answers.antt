@@ -100,6 +100,27 @@ returns-in-DefendProof-clause-missed g c =
     (machine_with (states_of (λ z. (goal.Helper-dyn g z).state z.1) c.args.helpers.now) c.args.self.now)
     c.args.work (work.DefendProof c.in-DefendProof.p) c.in-DefendProof.is refl _
 
+-- the check of a proof
+pub returns-in-CheckProof-clause-answer : goal.returns-in-CheckProof-clause-answer
+returns-in-CheckProof-clause-answer g c =
+    let helpers = (states_of (λ z. (goal.Helper-dyn g z).state z.1) c.args.helpers.now) in
+    let old = c.args.self.now in
+    let said = c.in-CheckProof in
+    done-unloaded (g.L.Loader.contents c.args.files.now) (matcher_of old) (machine_with helpers old) c.args.line.now
+    c.check_proof.result
+    (machine_with helpers old) c.args.work (work.CheckProof said.attack said.target said.code said.tokens) said.is refl
+    (λ file. c.check_proof.ensures helpers)
+
+-- it misses no file
+pub returns-in-CheckProof-clause-missed : goal.returns-in-CheckProof-clause-missed
+returns-in-CheckProof-clause-missed g c =
+    let said = c.in-CheckProof in
+    missed-unloaded (g.L.Loader.contents c.args.files.now) (matcher_of c.args.self.now)
+    (machine_with (states_of (λ z. (goal.Helper-dyn g z).state z.1) c.args.helpers.now) c.args.self.now)
+    c.args.line.now c.check_proof.result
+    (machine_with (states_of (λ z. (goal.Helper-dyn g z).state z.1) c.args.helpers.now) c.args.self.now)
+    c.args.work (work.CheckProof said.attack said.target said.code said.tokens) said.is refl _
+
 -- a connection
 pub returns-in-Connect-clause-answer : goal.returns-in-Connect-clause-answer
 returns-in-Connect-clause-answer g c =
@@ -107,7 +128,7 @@ returns-in-Connect-clause-answer g c =
     let old = c.args.self.now in
     done-unloaded (g.L.Loader.contents c.args.files.now) (matcher_of old) (machine_with helpers old) c.args.line.now
     c.tell_link.result
-    (machine_with helpers old) c.args.work (work.Connect c.in-Connect.a c.in-Connect.b) c.in-Connect.is refl (λ file. c.tell_link.ensures helpers)
+    (machine_with helpers c.tell_link.new.self) c.args.work (work.Connect c.in-Connect.a c.in-Connect.b) c.in-Connect.is refl (λ file. c.tell_link.ensures.answer helpers)
 
 -- it misses no file
 pub returns-in-Connect-clause-missed : goal.returns-in-Connect-clause-missed
@@ -125,7 +146,7 @@ returns-in-Disconnect-clause-answer g c =
     let old = c.args.self.now in
     done-unloaded (g.L.Loader.contents c.args.files.now) (matcher_of old) (machine_with helpers old) c.args.line.now
     c.tell_link-in-Disconnect.result
-    (machine_with helpers old) c.args.work (work.Disconnect c.in-Disconnect.a c.in-Disconnect.b) c.in-Disconnect.is refl (λ file. c.tell_link-in-Disconnect.ensures helpers)
+    (machine_with helpers c.tell_link-in-Disconnect.new.self) c.args.work (work.Disconnect c.in-Disconnect.a c.in-Disconnect.b) c.in-Disconnect.is refl (λ file. c.tell_link-in-Disconnect.ensures.answer helpers)
 
 -- it misses no file
 pub returns-in-Disconnect-clause-missed : goal.returns-in-Disconnect-clause-missed

@@ -1,0 +1,83 @@
+-- What a line asks of a session's connections, and what is told of that.
+use Rattle.std.proofs.Common.{◌≡◌, ℕ, Bool, true, false, cond, List, Option, Some, None, refl, sym, ap, subst, ◌∙◌}
+use Rattle.go_rules.specs.Position.{BoardState, IsPosition}
+use Rattle.link_rules.specs.Linkages.{asked_on, linkage_of}
+use Rattle.link_rules.specs.declared.question.LinkKind.{LinkKind}
+use Rattle.link_rules.specs.declared.question.LinkQuestion.{LinkQuestion}
+use Rattle.link_rules.specs.declared.question.Linkage.{Linkage}
+use Rattle.link_readings.specs.Connections.{ConnectionsView, HasAsked, AllRest, key_on}
+use Rattle.machine_rules.specs.Counting.{counted}
+use Rattle.machine_rules.specs.Effects.{told}
+use Rattle.machine_rules.specs.LinkCommands.{linked, linkage_at, linkage_text}
+use Rattle.machine_rules.specs.LinkQuestions.{have_one_colour, asks_link_at}
+use Rattle.machine_rules.specs.Machine.{Machine}
+use Rattle.machine_rules.proofs.Soundness.{linked-told}
+use Rattle.engine.specs.AskedLinks.{LinksAs, LinksOnce, LinksNothing, CountsFreshLinks}
+use Rattle.engine.specs.CommandAnswers.{IsAnswer}
+use Rattle.engine.specs.SessionState.{SessionState, board_of, machine_alone}
+use Rattle.engine.specs.declared.answer.Answer.{Answer}
+use Rattle.engine.specs.declared.answer.Answer.TheVariants as answer
+
+-- where no question about a connection was asked, what is kept and counted of them stays
+pub unasked-links : (old new : SessionState) (asks : Option LinkQuestion) → LinksAs asks old new
+    → ((q : LinkQuestion) → asks ≡ Some q → ⊥) → LinksNothing old new
+unasked-links old new None links never = links
+unasked-links old new (Some q) links never = absurd (never q refl)
+
+-- a question that is refused asks nothing
+pub LinksAs-refused : (session : SessionState) (kind : LinkKind) (a b : ℕ)
+    → have_one_colour (machine_alone session) a b ≡ false
+    → LinksAs (asks_link_at (machine_alone session) kind a b) session session
+LinksAs-refused session kind a b apart =
+    let question = asked_on (board_of session) kind a b session.plies in
+    subst (λ one. LinksAs (cond one (Some question) None) session session) (sym apart)
+    (record { counts = refl; answers = refl })
+
+-- The connections were asked once on the board of a session, where stones of one colour stand at both points.
+module _ (old new : SessionState) (kind : LinkKind) (a b : ℕ)
+    (one : have_one_colour (machine_alone old) a b ≡ true) where
+  -- that is what was asked
+  pub LinksAs-once : (pos : BoardState) (linkage : Linkage) (before after : ConnectionsView)
+      → pos ≡ board_of old → before ≡ old.links → before.plies ≡ old.plies → new.links ≡ after
+      → HasAsked (key_on pos kind a b before.plies) pos linkage before.answers after.answers
+      → IsPosition pos → AllRest after.answers.kept
+      → new.counts.links.connections ≡ counted old.counts.links.connections true
+      → CountsFreshLinks old → CountsFreshLinks new
+      → LinksAs (asks_link_at (machine_alone old) kind a b) old new
+  LinksAs-once pos linkage before after board was plies is asked sound rest connections fresh_before fresh =
+      let question = asked_on (board_of old) kind a b old.plies in
+      let family : ConnectionsView → ConnectionsView → BoardState → ℕ → Type 0 =
+      λ v w p n. HasAsked (key_on p kind a b n) p linkage v.answers w.answers in
+      let here : family old.links new.links (board_of old) old.plies =
+      subst (λ v. family v new.links (board_of old) old.plies) was
+      (subst (λ n. family before new.links (board_of old) n) plies
+      (subst (λ p. family before new.links p before.plies) board
+      (subst (λ w. family before w pos before.plies) (sym is) asked))) in
+      subst (λ o. LinksAs (cond o (Some question) None) old new) (sym one) (record {
+        answer = linkage;
+        asked = here;
+        board = subst IsPosition board sound;
+        rest = subst (λ (v : ConnectionsView). AllRest v.answers.kept) (sym is) rest;
+        connections = connections;
+        fresh_before = fresh_before;
+        fresh = fresh;
+      })
+
+-- the answer to a question on the board of a session, at its plies, is that of its machine
+pub linkage-here : (session : SessionState) (kind : LinkKind) (a b : ℕ) (pos : BoardState) (n : ℕ) (linkage : Linkage)
+    → linkage ≡ linkage_of (asked_on pos kind a b n) pos → pos ≡ board_of session → n ≡ session.plies
+    → linkage ≡ linkage_at (machine_alone session) kind a b
+linkage-here session kind a b pos n linkage is board plies =
+    is ∙ ap (λ p. linkage_of (asked_on p kind a b n) p) board
+    ∙ ap (λ k. linkage_of (asked_on (board_of session) kind a b k) (board_of session)) plies
+
+-- where stones of one colour stand at both points, what is told of their strings is an answer
+pub told-linked : (machine : Machine) (kind : LinkKind) (a b : ℕ) (result : List ℕ) (said : Answer) (new : Machine)
+    → have_one_colour machine a b ≡ true → said ≡ answer.Told result
+    → result ≡ linkage_text machine.base.size (linkage_at machine kind a b) → new ≡ machine
+    → IsAnswer (linked machine kind a b) said new
+told-linked machine kind a b result said new one says same keeps =
+    let effect = told (linkage_text machine.base.size (linkage_at machine kind a b)) machine in
+    subst (λ e. IsAnswer e said new) (sym (linked-told machine kind a b one))
+    (subst (λ s. IsAnswer effect s new) (sym says)
+    (record { allowed = refl; told = sym same; next = keeps; goes_on = refl }))

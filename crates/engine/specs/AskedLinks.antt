@@ -1,0 +1,34 @@
+-- What a session has asked of its connections after a line, and what it counted of that.
+use Rattle.std.specs.Prelude.{◌≡◌, true, Option, Some, None}
+use Rattle.go_rules.specs.Position.{IsPosition}
+use Rattle.link_rules.specs.declared.question.LinkQuestion.{LinkQuestion}
+use Rattle.link_rules.specs.declared.question.Linkage.{Linkage}
+use Rattle.link_readings.specs.Connections.{HasAsked, AllRest}
+use Rattle.machine_rules.specs.Counting.{counted}
+use Rattle.engine.specs.SessionState.{SessionState, board_of}
+
+-- the session counts as many fresh connections as those that it keeps
+abbrev pub CountsFreshLinks : SessionState → Type 0
+CountsFreshLinks session = session.counts.links.fresh ≡ session.links.answers.fresh
+
+-- The connections were asked once, this question, and the line is counted. The answer was kept, or it was fresh, and is
+-- kept first or refused; fresh answers are counted exactly where the connections say so. The board is a position, and
+-- each kept answer rests on its facts.
+pub record LinksOnce (question : LinkQuestion) (old new : SessionState) : Type 0 where
+  pub answer : Linkage
+  pub asked : HasAsked (record { question = question }) (board_of old) answer old.links.answers new.links.answers
+  pub board : IsPosition (board_of old)
+  pub rest : AllRest new.links.answers.kept
+  pub connections : new.counts.links.connections ≡ counted old.counts.links.connections true
+  pub fresh_before : CountsFreshLinks old
+  pub fresh : CountsFreshLinks new
+
+-- nothing was asked of the connections: what is kept and counted of them stays
+pub record LinksNothing (old new : SessionState) : Type 0 where
+  pub counts : new.counts.links ≡ old.counts.links
+  pub answers : new.links.answers ≡ old.links.answers
+
+-- new is old after the question about a connection that was asked, if one was
+abbrev pub LinksAs : Option LinkQuestion → SessionState → SessionState → Type 0
+LinksAs None old new = LinksNothing old new
+LinksAs (Some question) old new = LinksOnce question old new
