@@ -152,10 +152,22 @@ fn only_what_stands_is_found_kept(rt: HostRuntime) -> Result<(), Fail> {
     let cut = with_stone(&jump, Colour::White, D5)?;
     assert_eq!(rt; find_kept(&mut links, &jump)?, None, "nothing was asked");
     let _ = ask(&mut links, LinkKind::Connect, &jump, C5, E5)?;
-    assert_eq!(rt; find_kept(&mut links, &jump)?, Some(by(LinkSpot::At(D5))), "it was asked");
-    assert_eq!(rt; find_kept(&mut links, &cut)?, None, "a stone was played in the area");
+    assert_eq!(rt;
+        find_kept(&mut links, &jump)?,
+        Some(by(LinkSpot::At(D5))),
+        "it was asked"
+    );
+    assert_eq!(rt;
+        find_kept(&mut links, &cut)?,
+        None,
+        "a stone was played in the area"
+    );
     links.set(2);
-    assert_eq!(rt; find_kept(&mut links, &jump)?, None, "it was asked at other plies");
+    assert_eq!(rt;
+        find_kept(&mut links, &jump)?,
+        None,
+        "it was asked at other plies"
+    );
     assert_eq!(rt; links.fresh(), 1, "nothing more was read");
     Ok(())
 }

@@ -225,10 +225,12 @@ module _ (old new : SessionState) where
       let was = links.fresh_before in
       let is = links.fresh in
       let more = links.connections in
-      let rose = fresh_by q links.answer old.links.answers new.links.answers links.asked in
-      (omega (arith, more, small), ⊎_elim
-      (λ fresh. omega (arith, fresh, was, is, more, few, small))
-      (λ kept. omega (arith, kept, was, is, more, few, small)) rose)
+      let rose = fresh_by q links.answer old.links.answers new.links.answers links.asked in (
+        omega (arith, more, small),
+        ⊎_elim
+            (λ fresh. omega (arith, fresh, was, is, more, few, small))
+            (λ kept. omega (arith, kept, was, is, more, few, small)) rose,
+      )
 
 -- the lines that ask about connections are counted, and no more are fresh
 links_along : (turns : List (Turn Machine)) (a b : Kept) → IsAlong IsAfterLine a turns b

@@ -89,7 +89,9 @@ const CUT_CONNECTIONS: [(&str, u64, &[u8]); 7] = [
 
 // A connection counts also where its own reply is cut, and one whose line was answered behind the cut does not.
 #[test]
-fn connections_at_a_fault_are_those_up_to_the_line_whose_reply_is_cut(rt: HostRuntime) -> Result<(), Fail> {
+fn connections_at_a_fault_are_those_up_to_the_line_whose_reply_is_cut(
+    rt: HostRuntime,
+) -> Result<(), Fail> {
     let replies = b"=\n\n= 1 PASS\n\n= 1 PASS\n\n= gopat\n\n= 0\n\n".as_slice();
     for (what, call, notes) in CUT_CONNECTIONS {
         let way = Way {
