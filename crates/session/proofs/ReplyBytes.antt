@@ -37,7 +37,7 @@ module _ (contents : Contents) (old new : Kept) (line : RawLine) (reply : Reply)
       → IsAlong IsAfterLine old (one_turn (machine_of old) line sent) new
   along sent same =
       subst (λ l. IsAlong IsAfterLine old (one_turn (machine_of old) line l) new) (sym same)
-      (new, record { machine = refl; readings = is.readings; read = is.read; missed = is.missed }, refl)
+      (new, record { machine = refl; readings = is.readings; read = is.read; links = is.links; missed = is.missed }, refl)
 
   module _ (w0 w1 : Option (List ℕ)) (s0 s1 : Sent) where
     -- the bytes went out whole
