@@ -4,8 +4,7 @@ ghost use Rattle.std.specs.Prelude.{◌≡◌, ℕ, ◌*◌, ◌<◌, ◌==◌, 
 ghost use Rattle.std.specs.FinSet as set;
 ghost use Rattle.go_rules.specs.Below.{any_below};
 ghost use Rattle.go_rules.specs.Board.{largest_points, are_neighbours};
-ghost use Rattle.go_rules.specs.BesideStrings.{is_enemy, is_beside_string};
-ghost use Rattle.go_rules.specs.Strings.{cell_at, same_cell, string_at, liberty_points};
+ghost use Rattle.go_rules.specs.Strings.{cell_at, same_cell, liberty_points};
 ghost use Rattle.go_base.specs.Sides.{neighbour_at};
 ghost use Rattle.go_base.specs.Surroundings.{is_only_liberty, is_last_liberty_of_enemy};
 ghost use Rattle.read_rules.specs.Candidates.{attacker_of, is_empty_beside, is_candidate};
@@ -13,6 +12,7 @@ ghost use Rattle.read_rules.specs.Stages.{is_wide_candidate};
 ghost use Rattle.read_rules.specs.Candidates.{is_left};
 
 use go_base::sides::neighbour;
+use go_base::surroundings::{Surroundings, surroundings_of};
 use go_base::{Cell, Colour, Point, PointSet, Position, Size};
 
 /// How many liberties a string in atari has.
@@ -63,54 +63,14 @@ fn only_liberty(pos: &Position, q: Point) -> Option<Point>
     liberties.first_from(0)
 }
 
-/// Whether the two cells hold stones of two colours.
-fn is_enemy(cell: Cell, other: Cell) -> bool
-    ensures { result ≡ is_enemy cell other }
-{
-    match (cell, other) {
-        (Cell::Black, Cell::White) | (Cell::White, Cell::Black) => true,
-        _ => false,
-    }
-}
-
-/// Adds the one liberty of the string of q, where that is an enemy string in atari next to the target's string.
-fn add_last_liberty(
-    pos: &Position,
-    target: Point,
-    string: &PointSet,
-    q: Point,
-    found: &mut PointSet,
-)
-    requires target { target < pos.now.size * pos.now.size }
-    requires on_board { q < pos.now.size * pos.now.size }
-    requires string { string.now ≡ string_at pos.now.size pos.now.cells target }
-    ensures { (p : ℕ) → set.contains found.new p ≡ (set.contains found.old p
-        || (is_enemy (cell_at pos.now.cells target) (cell_at pos.now.cells q)
-        && is_beside_string pos.now.size pos.now.cells target q
-        && is_only_liberty pos.now.size pos.now.cells q p)) }
-{
-    if !is_enemy(pos.cell(target), pos.cell(q)) {
-        return;
-    }
-    if !is_beside(pos, string, q) {
-        return;
-    }
-    if let Some(p) = only_liberty(pos, q) {
-        found.add(p);
-    }
-}
-
-/// The last liberties of the enemy strings next to the target's string.
-fn last_liberties(pos: &Position, target: Point) -> PointSet
+/// The liberties of the target, and the last liberties of the enemy strings next to it.
+fn surroundings(pos: &Position, target: Point) -> Surroundings
     requires { target < pos.now.size * pos.now.size }
-    ensures { (p : ℕ) → set.contains result p ≡ is_last_liberty_of_enemy pos.now.size pos.now.cells target p }
+    ensures liberties { result.liberties ≡ liberty_points pos.now.size pos.now.cells target }
+    ensures last_liberties { (p : ℕ) → set.contains result.last_liberties p
+        ≡ is_last_liberty_of_enemy pos.now.size pos.now.cells target p }
 {
-    let string = pos.string(target);
-    let mut found = PointSet::new();
-    for q in 0..pos.size().points() {
-        add_last_liberty(pos, target, &string, q, &mut found);
-    }
-    found
+    surroundings_of(&mut pos.board(), target)
 }
 
 /// Adds p where it is empty.
@@ -207,11 +167,23 @@ pub fn candidates(pos: &Position, target: Point, wide: u8) -> PointSet
     ensures value { (p : ℕ) → set.contains result p ≡ is_candidate pos.now target wide p }
     ensures on_board { (p : ℕ) → IsTrue (set.contains result p) → p < pos.now.size * pos.now.size }
 {
-    let liberties = pos.liberty_points(target);
-    let mut found = last_liberties(pos, target);
+    let Surroundings {
+        liberties,
+        last_liberties: mut found,
+    } = surroundings(pos, target);
     found.join(&liberties);
     if wide > 0 {
         found.join(&wide_candidates(pos, target, &liberties));
     }
     found
+}
+
+/// Whether p is a candidate of the target, with `wide` wide plies left. Its liberties are looked at first, since most
+/// moves are at one of them.
+pub fn is_candidate(pos: &Position, target: Point, wide: u8, p: Point) -> bool
+    requires target { target < pos.now.size * pos.now.size }
+    requires small { p < largest_points }
+    ensures { result ≡ is_candidate pos.now target wide p }
+{
+    pos.liberty_points(target).has(p) || candidates(pos, target, wide).has(p)
 }

@@ -5,7 +5,7 @@ ghost use Rattle.go_rules.specs.Play.{play};
 ghost use Rattle.read_rules.specs.GameTree.{mover_of, child_of};
 ghost use Rattle.read_proof.specs.Proves.{passed, child_after};
 
-use crate::candidates::candidates;
+use crate::candidates::is_candidate;
 use crate::turns::{allowance, mover, next};
 use go_base::{Illegal, Point, Position};
 use read_rules::{Node, Spot};
@@ -73,7 +73,7 @@ pub fn child_after(pos: &Position, node: Node, spot: Spot) -> Option<(Node, Posi
             if p >= pos.size().points() {
                 return None;
             }
-            if !candidates(pos, node.target, node.wide).has(p) {
+            if !is_candidate(pos, node.target, node.wide, p) {
                 return None;
             }
             child_of(pos, node, p)

@@ -1,6 +1,6 @@
 //! What may prove a claim at a node, by the target's liberties and by whose turn it is.
 
-ghost use Rattle.std.specs.Prelude.{◌≡◌, ◌*◌, ◌<◌};
+ghost use Rattle.std.specs.Prelude.{◌≡◌, ◌*◌, ◌<◌, ◌==◌, ◌&&◌, ◌||◌, nat_lt};
 ghost use Rattle.read_rules.specs.GameTree.{is_captured, has_many_liberties};
 ghost use Rattle.read_proof.specs.Proves.{is_settled, has_too_many, is_wanted, move_may_prove, each_may_prove};
 
@@ -15,25 +15,31 @@ pub fn is_captured(pos: &Position, node: Node) -> bool
     pos.cell(node.target) == Cell::Empty
 }
 
+/// Whether these are more liberties than the attacker may play at, with `wide` wide plies left.
+fn are_many(liberties: u16, wide: u8) -> bool
+    ensures { result ≡ (nat_lt 4 liberties || ((wide == 0) && nat_lt 2 liberties)) }
+{
+    liberties > 4 || (wide == 0 && liberties > 2)
+}
+
 /// Whether the target has more liberties than the attacker may play at.
 #[tactic(auto, unfolding(read_rules::specs::GameTree::has_many_liberties))]
 pub fn has_many_liberties(pos: &Position, node: Node) -> bool
     requires { node.target < pos.now.size * pos.now.size }
     ensures { result ≡ has_many_liberties pos.now node.target node.wide }
 {
-    let liberties = pos.liberties(node.target);
-    liberties > 4 || (node.wide == 0 && liberties > 2)
+    are_many(pos.liberties(node.target), node.wide)
 }
 
 /// Whether the target has more liberties than the attacker can fill with `plies` plies left, or than he may play at.
-#[tactic(auto, unfolding(crate::specs::Proves::has_too_many))]
+#[tactic(auto, unfolding(crate::specs::Proves::has_too_many, read_rules::specs::GameTree::has_many_liberties))]
 fn has_too_many(pos: &Position, node: Node, plies: u8) -> bool
     requires { node.target < pos.now.size * pos.now.size }
     ensures { result ≡ has_too_many plies node pos.now }
 {
     let liberties = pos.liberties(node.target);
     if node.attacker_to_play {
-        liberties > (u16::from(plies) + 1) / 2 || has_many_liberties(pos, node)
+        liberties > (u16::from(plies) + 1) / 2 || are_many(liberties, node.wide)
     } else {
         liberties > u16::from(plies) / 2
     }

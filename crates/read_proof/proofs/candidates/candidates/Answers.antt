@@ -9,11 +9,11 @@ use Rattle.read_proof.proofs.candidates.candidates.Goals as goal
 -- a wide ply is left
 pub returns-then-wide-gt0-clause-value : goal.returns-then-wide-gt0-clause-value
 returns-then-wide-gt0-clause-value c = λ p.
-    let libs = c.liberty_points-liberties.result in
-    let last = c.last_liberties-found.result in
+    let libs = c.surroundings-liberties.result.liberties in
+    let last = c.surroundings-liberties.result.last_liberties in
     let wide = c.wide_candidates.result in
-    candidate_wide c.args.pos.now c.args.target c.args.wide p libs last c.liberty_points-liberties.ensures
-    (c.last_liberties-found.ensures p) (set.contains c.join-then-wide-gt0.new.self p) (set.contains wide p)
+    candidate_wide c.args.pos.now c.args.target c.args.wide p libs last c.surroundings-liberties.ensures.liberties
+    (c.surroundings-liberties.ensures.last_liberties p) (set.contains c.join-then-wide-gt0.new.self p) (set.contains wide p)
     (lt-ltb 0 c.args.wide c.if-wide-gt0.true) (c.wide_candidates.ensures p)
     (ap (λ t. set.contains t p) c.join-then-wide-gt0.ensures
     ∙ set.contains-union nat_cmp_total c.join.new.self wide p
@@ -23,10 +23,10 @@ returns-then-wide-gt0-clause-value c = λ p.
 -- none is
 pub returns-else-wide-gt0-clause-value : goal.returns-else-wide-gt0-clause-value
 returns-else-wide-gt0-clause-value c = λ p.
-    let libs = c.liberty_points-liberties.result in
-    let last = c.last_liberties-found.result in
-    candidate_plain c.args.pos.now c.args.target c.args.wide p libs last c.liberty_points-liberties.ensures
-    (c.last_liberties-found.ensures p) (set.contains c.join.new.self p) (le-ltb 0 c.args.wide c.if-wide-gt0.false)
+    let libs = c.surroundings-liberties.result.liberties in
+    let last = c.surroundings-liberties.result.last_liberties in
+    candidate_plain c.args.pos.now c.args.target c.args.wide p libs last c.surroundings-liberties.ensures.liberties
+    (c.surroundings-liberties.ensures.last_liberties p) (set.contains c.join.new.self p) (le-ltb 0 c.args.wide c.if-wide-gt0.false)
     (ap (λ t. set.contains t p) c.join.ensures ∙ set.contains-union nat_cmp_total last libs p)
 
 -- a candidate is on the board
