@@ -151,7 +151,7 @@ letter_taken false next e = absurd cc
 
 -- an action line that is taken leads to actions, and comes neither at the start nor in a main diagram
 action_taken : (stage next : Stage) (byte : ℕ) → table stage Action byte ≡ Next next → (next ≡ Actions)
-    × (stage ≢ Diagram) × (stage ≢ Start)
+    × (stage ≢ Start) × (stage ≢ Diagram)
 action_taken Start next byte e = absurd cc
 action_taken Diagram next byte e = absurd cc
 action_taken Labels next byte e = (cc, (λ same. absurd cc), (λ same. absurd cc))
@@ -503,16 +503,6 @@ module _ (helpers : List (List ℕ)) where
       })
       (block.colon, block.closed, block.judged)
 
-  -- an action line behind a block that is whole so far
-  after_block : (stage : Stage) (front : List KeptLine) (done : List Block) (now : Option Block) (line : KeptLine)
-      → Stands (parts stage front done now) → IsLineOf Action line
-      → gathered_fault line.number stage now ≡ None → stage ≢ Diagram → stage ≢ Start
-      → Goes (parts stage front done now) (placed line Actions (parts stage front done now) Action) line
-  after_block stage front done None line stands action none left begun = absurd (begun stands.fits.0)
-  after_block stage front done (Some b) line stands action none left begun =
-      to_actions stage front done b line stands action
-      (whole_block line.number stage b stands.fits.0 stands.fits.1 none left)
-
   -- a line that the table takes stands at the end, by its kind and the stage
   by_kind : (kind : LineKind) (stage next : Stage) (front : List KeptLine) (done : List Block) (now : Option Block)
       (line : KeptLine)
@@ -550,11 +540,15 @@ module _ (helpers : List (List ℕ)) where
   by_kind Semicolon Start next front done now line stands of_kind e closing own = absurd cc
   by_kind Semicolon Diagram next front done now line stands of_kind e closing own = absurd cc
   by_kind Semicolon Actions next front done now line stands of_kind e closing own = absurd cc
-  by_kind Action stage next front done now line stands of_kind e closing own =
+  by_kind Action stage next front done None line stands of_kind e closing own =
+      absurd ((action_taken stage next (slice_index line.bytes 0) e).1 stands.fits.0)
+  by_kind Action stage next front done (Some b) line stands of_kind e closing own =
+      let s = parts stage front done (Some b) in
       let taken = action_taken stage next (slice_index line.bytes 0) e in
-      let none = gathered_where_closed line.number (Some Action) stage front done now (refl, refl) closing in
-      subst (λ t. Goes (parts stage front done now) (placed line t (parts stage front done now) Action) line)
-      (sym taken.0) (after_block stage front done now line stands of_kind none taken.1 taken.2)
+      let none = gathered_where_closed line.number (Some Action) stage front done (Some b) (refl, refl) closing in
+      let block = whole_block line.number stage b stands.fits.0 stands.fits.1 none taken.2 in
+      subst (λ t. Goes s (placed line t s Action) line) (sym taken.0)
+      (to_actions stage front done b line stands of_kind block)
   by_kind Other Start next front done None line stands of_kind e closing own =
       let s = parts Start front done None in
       let letter = letter_taken (is_ascii_letter (slice_index line.bytes 0)) next e in
