@@ -66,7 +66,7 @@ abbrev pub if_there : {A : Type 0} → (A → ℤ) → Option A → ℤ
 if_there f None = pos 0
 if_there f (Some a) = f a
 
--- the functions of one point
+-- the value of a function of one point, at a
 abbrev pub point_value : Meanings → PointFunction → ℕ → ℤ
 point_value m point.Lib a = pos (lib m.position a)
 point_value m point.Xlib a = pos (xlib m.position m.friend a)
@@ -79,7 +79,7 @@ point_value m point.SafeOmove a = worth (safe_omove m.code m.position m.friend a
 point_value m point.LegalXmove a = worth (legal_xmove m.position m.friend a)
 point_value m point.LegalOmove a = worth (legal_omove m.position m.friend a)
 
--- the functions of two points
+-- the value of a function of two points, at these
 abbrev pub pair_value : Meanings → PairFunction → ℕ × ℕ → ℤ
 pair_value m pair.SameWorm ab = worth (same_worm m.position ab.0 ab.1)
 pair_value m pair.DoesAttack ab = does_attack m.code m.position ab.0 ab.1
@@ -87,12 +87,12 @@ pair_value m pair.DoesDefend ab = does_defend m.code m.position ab.0 ab.1
 pair_value m pair.OdefendAgainst ab = worth (odefend_against m.code m.position m.friend ab.0 ab.1)
 pair_value m pair.XdefendAgainst ab = worth (xdefend_against m.code m.position m.friend ab.0 ab.1)
 
--- the functions of one to eight points
+-- the value of a function of one to eight points, at these
 abbrev pub points_value : Meanings → PointsFunction → List (Option ℕ) → ℤ
 points_value m points.OSomewhere at = worth (o_somewhere m.position m.friend at)
 points_value m points.XSomewhere at = worth (x_somewhere m.position m.friend at)
 
--- the functions of one to eight moves and a point
+-- the value of a function of one to eight moves and a point, after these and there
 abbrev pub moves_value : Meanings → MovesFunction → List (Option ℕ) × ℕ → ℤ
 moves_value m moves.OplayAttack play = pos (oplay_attack m.code m.position m.friend play.0 play.1)
 moves_value m moves.OplayDefend play = pos (oplay_defend m.code m.position m.friend play.0 play.1)

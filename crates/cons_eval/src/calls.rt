@@ -266,9 +266,9 @@ pub fn call<E: Env>(env: &mut E, function: Function, args: &[Arg]) -> i64
     ensures quiet { is_reading function ≡ false → (E.view env.new).counts ≡ (E.view env.old).counts }
 {
     match function {
-        Function::OfPoint(of_one) => of_point(env, of_one, args),
-        Function::OfPair(of_two) => of_pair(env, of_two, args),
-        Function::OfPoints(of_many) => of_points(env, of_many, args),
-        Function::OfMoves(of_turns) => of_moves(env, of_turns, args),
+        Function::OfPoint(which) => of_point(env, which, args),
+        Function::OfPair(which) => of_pair(env, which, args),
+        Function::OfPoints(which) => of_points(env, which, args),
+        Function::OfMoves(which) => of_moves(env, which, args),
     }
 }

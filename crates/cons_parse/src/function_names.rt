@@ -5,6 +5,7 @@ ghost use Rattle.std.specs.Str.{bytes_eq};
 ghost use Rattle.cons_parse.specs.CodeRows.{row_seen};
 ghost use Rattle.cons_parse.specs.FunctionNames.{function_in, function_named as function_of};
 
+use pat_types::Function::{OfMoves, OfPair, OfPoint, OfPoints};
 use pat_types::{Function, MovesFunction, PairFunction, PointFunction, PointsFunction};
 
 /// A name, and the function that it names.
@@ -12,51 +13,27 @@ type Row = (&'static [u8], Function);
 
 /// The functions, by the arguments that they take.
 const TABLE: [Row; 21] = [
-    (b"lib", Function::OfPoint(PointFunction::Lib)),
-    (b"xlib", Function::OfPoint(PointFunction::Xlib)),
-    (b"olib", Function::OfPoint(PointFunction::Olib)),
-    (b"attack", Function::OfPoint(PointFunction::Attack)),
-    (b"defend", Function::OfPoint(PointFunction::Defend)),
-    (b"ko", Function::OfPoint(PointFunction::Ko)),
-    (b"safe_xmove", Function::OfPoint(PointFunction::SafeXmove)),
-    (b"safe_omove", Function::OfPoint(PointFunction::SafeOmove)),
-    (b"legal_xmove", Function::OfPoint(PointFunction::LegalXmove)),
-    (b"legal_omove", Function::OfPoint(PointFunction::LegalOmove)),
-    (b"same_worm", Function::OfPair(PairFunction::SameWorm)),
-    (b"does_attack", Function::OfPair(PairFunction::DoesAttack)),
-    (b"does_defend", Function::OfPair(PairFunction::DoesDefend)),
-    (
-        b"odefend_against",
-        Function::OfPair(PairFunction::OdefendAgainst),
-    ),
-    (
-        b"xdefend_against",
-        Function::OfPair(PairFunction::XdefendAgainst),
-    ),
-    (
-        b"o_somewhere",
-        Function::OfPoints(PointsFunction::OSomewhere),
-    ),
-    (
-        b"x_somewhere",
-        Function::OfPoints(PointsFunction::XSomewhere),
-    ),
-    (
-        b"oplay_attack",
-        Function::OfMoves(MovesFunction::OplayAttack),
-    ),
-    (
-        b"oplay_defend",
-        Function::OfMoves(MovesFunction::OplayDefend),
-    ),
-    (
-        b"xplay_attack",
-        Function::OfMoves(MovesFunction::XplayAttack),
-    ),
-    (
-        b"xplay_defend",
-        Function::OfMoves(MovesFunction::XplayDefend),
-    ),
+    (b"lib", OfPoint(PointFunction::Lib)),
+    (b"xlib", OfPoint(PointFunction::Xlib)),
+    (b"olib", OfPoint(PointFunction::Olib)),
+    (b"attack", OfPoint(PointFunction::Attack)),
+    (b"defend", OfPoint(PointFunction::Defend)),
+    (b"ko", OfPoint(PointFunction::Ko)),
+    (b"safe_xmove", OfPoint(PointFunction::SafeXmove)),
+    (b"safe_omove", OfPoint(PointFunction::SafeOmove)),
+    (b"legal_xmove", OfPoint(PointFunction::LegalXmove)),
+    (b"legal_omove", OfPoint(PointFunction::LegalOmove)),
+    (b"same_worm", OfPair(PairFunction::SameWorm)),
+    (b"does_attack", OfPair(PairFunction::DoesAttack)),
+    (b"does_defend", OfPair(PairFunction::DoesDefend)),
+    (b"odefend_against", OfPair(PairFunction::OdefendAgainst)),
+    (b"xdefend_against", OfPair(PairFunction::XdefendAgainst)),
+    (b"o_somewhere", OfPoints(PointsFunction::OSomewhere)),
+    (b"x_somewhere", OfPoints(PointsFunction::XSomewhere)),
+    (b"oplay_attack", OfMoves(MovesFunction::OplayAttack)),
+    (b"oplay_defend", OfMoves(MovesFunction::OplayDefend)),
+    (b"xplay_attack", OfMoves(MovesFunction::XplayAttack)),
+    (b"xplay_defend", OfMoves(MovesFunction::XplayDefend)),
 ];
 
 /// The function of the first of these rows that has this name.
