@@ -7,7 +7,8 @@ use Rattle.pat_types.specs.declared.expr.Function.TheVariants.{OfPoint, OfPair, 
 use Rattle.pat_types.specs.declared.expr.PointFunction.{PointFunction}
 use Rattle.pat_types.specs.declared.expr.PointFunction.TheVariants.{Attack, Defend, SafeXmove, SafeOmove}
 use Rattle.pat_types.specs.declared.expr.PairFunction.{PairFunction}
-use Rattle.pat_types.specs.declared.expr.PairFunction.TheVariants.{DoesAttack, DoesDefend, OdefendAgainst, XdefendAgainst}
+use Rattle.pat_types.specs.declared.expr.PairFunction.TheVariants.{DoesAttack, DoesDefend, OdefendAgainst}
+use Rattle.pat_types.specs.declared.expr.PairFunction.TheVariants.{XdefendAgainst}
 use Rattle.pat_types.specs.declared.expr.Expr.{Expr, Num, Call, Not', Neg', Bin'}
 use Rattle.std.specs.Prelude.{ℤ}
 use Rattle.cons_eval.specs.Meanings.{Meanings}

@@ -254,7 +254,7 @@ fn of_moves<E: Env>(env: &mut E, function: MovesFunction, args: &[Arg]) -> i64
 }
 
 /// The value of a call, 0 where the arguments are not as the function takes them.
-#[tactic(auto, using(crate::proofs::CallCounts::stays_same))]
+#[tactic(auto, using(crate::proofs::CallCounts::stays_same), unfolding(crate::specs::Values::call_value, crate::specs::Questions::call_readings))]
 pub fn call<E: Env>(env: &mut E, function: Function, args: &[Arg]) -> i64
     requires { are_on_board (E.view env.old).meanings.position.size (E.view env.old).meanings.point args.now ≡ true }
     ensures value { result ≡ call_value (E.view env.old).meanings function

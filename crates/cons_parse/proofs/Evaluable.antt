@@ -10,8 +10,8 @@ use Rattle.pat_types.specs.declared.expr.Arg.TheVariants.{Label, Star, Nowhere}
 use Rattle.pat_types.specs.declared.expr.Function.{Function}
 use Rattle.pat_types.specs.declared.expr.Function.TheVariants.{OfPoint, OfPair, OfPoints, OfMoves}
 use Rattle.pat_types.specs.declared.expr.Expr.{Expr, Num, Call, Not', Neg', Bin'}
-use Rattle.pat_types.specs.Labels.{names, arity_of, takes_moves, is_point, is_move, end_in_point, may_call, can_evaluate}
-use Rattle.pat_types.specs.Labels.{leaf_count}
+use Rattle.pat_types.specs.Labels.{names, arity_of, takes_moves, is_point, is_move, end_in_point, may_call}
+use Rattle.pat_types.specs.Labels.{can_evaluate, leaf_count}
 use Rattle.cons_parse.specs.declared.token.Name.{Name}
 use Rattle.cons_parse.specs.declared.token.Name.TheVariants.{Letter, Known, Unknown}
 use Rattle.cons_parse.specs.declared.calls.Item.{Item}

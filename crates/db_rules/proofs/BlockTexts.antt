@@ -515,7 +515,8 @@ module _ (helpers : List (List ℕ)) where
       let s = parts stage front done now in
       let taken = pattern_taken stage next (slice_index line.bytes 0) e in
       subst (λ t. Goes s (placed line t s Pattern) line) (sym taken.0)
-      (to_block s line stands of_kind (gathered_where_closed line.number (Some Pattern) stage front done now (refl, refl) closing) own taken.1)
+      (to_block s line stands of_kind
+      (gathered_where_closed line.number (Some Pattern) stage front done now (refl, refl) closing) own taken.1)
   by_kind Colon Diagram next front done None line stands of_kind e closing own = absurd (cc stands.fits.0)
   by_kind Colon Diagram next front done (Some b) line stands of_kind e closing own =
       let s = parts Diagram front done (Some b) in
@@ -612,7 +613,8 @@ module _ (helpers : List (List ℕ)) where
   whole_at_end number s stands none =
       let both = or_none (closing_fault number None s) (at_line number (end_refused s.stage)) none in
       all_whole number s.stage s.done s.now stands.done stands.fits
-      (gathered_where_closed number None s.stage s.front s.done s.now (refl, refl) both.0) (not_in_diagram number s.stage both.1)
+      (gathered_where_closed number None s.stage s.front s.done s.now (refl, refl) both.0)
+      (not_in_diagram number s.stage both.1)
 
 -- a text without a fault is a database
 pub faultless_is_database : (helpers : List (List ℕ)) (text : List ℕ) → first_fault helpers text ≡ None
