@@ -1,13 +1,10 @@
--- The points of a call's arguments, and its value by how the function takes them.
+-- The points of a call's arguments are on the board.
 use Rattle.std.proofs.Common.{◌≡◌, ℕ, ◌*◌, ◌<◌, true, ◌&&◌, List, [], ◌∷◌, map, Option, Some, None, ap, subst}
 use Rattle.std.proofs.lemmas.Option.{same_Some}
 use Rattle.std.proofs.lemmas.Bool.{ltb-true}
 use Rattle.pat_types.specs.declared.expr.Arg.{Arg}
-use Rattle.pat_types.specs.declared.expr.Function.{Function}
-use Rattle.cons_eval.specs.declared.calls.Arguments.{Arguments}
-use Rattle.cons_eval.specs.Meanings.{Meanings, is_on_board, are_on_board}
-use Rattle.cons_eval.specs.Questions.{readings_by, call_readings}
-use Rattle.cons_eval.specs.Values.{only_point, both_points, two_points, arguments_of, value_by, call_value}
+use Rattle.cons_eval.specs.Meanings.{is_on_board, are_on_board}
+use Rattle.cons_eval.specs.Values.{only_point, both_points, two_points}
 use Rattle.cons_eval.proofs.Parts.{first_of, second_of}
 
 -- a point that an argument has is on the board
@@ -44,15 +41,3 @@ two_on_board s point (x ∷ y ∷ []) a b e h =
       on_board_at s (point y) b each.1 (first_of (is_on_board s (point y)) true rest),
     )
 two_on_board s point (x ∷ y ∷ z ∷ more) a b e h = cc
-
--- the value of a call is that by how its function takes the arguments
-pub call_by : (m : Meanings) (f : Function) (points : List (Option ℕ)) (how : Arguments) → arguments_of f ≡ how
-    → call_value m f points ≡ value_by m f points how
-unfolding call_value
-call_by m f points how h = ap (value_by m f points) h
-
--- how many readings a call asks for, by how its function takes the arguments
-pub call_readings_by : (m : Meanings) (f : Function) (points : List (Option ℕ)) (how : Arguments)
-    → arguments_of f ≡ how → call_readings m f points ≡ readings_by m f points how
-unfolding call_readings
-call_readings_by m f points how h = ap (readings_by m f points) h

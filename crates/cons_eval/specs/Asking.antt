@@ -3,39 +3,39 @@ use Rattle.std.specs.Prelude.{Bool, true, false, ◌&&◌, ◌||◌, not}
 use Rattle.pat_types.specs.declared.expr.Op.{Op}
 use Rattle.pat_types.specs.declared.expr.Op.TheVariants.{Or, And, Eq, Ne, Lt, Le, Gt, Ge, Add, Sub}
 use Rattle.pat_types.specs.declared.expr.Function.{Function}
-use Rattle.pat_types.specs.declared.expr.Function.TheVariants.{Lib, Xlib, Olib, Attack, Defend, Ko, SafeXmove}
-use Rattle.pat_types.specs.declared.expr.Function.TheVariants.{SafeOmove, LegalXmove, LegalOmove, OSomewhere}
-use Rattle.pat_types.specs.declared.expr.Function.TheVariants.{XSomewhere, SameWorm, DoesAttack, DoesDefend}
-use Rattle.pat_types.specs.declared.expr.Function.TheVariants.{OdefendAgainst, XdefendAgainst, OplayAttack, OplayDefend}
-use Rattle.pat_types.specs.declared.expr.Function.TheVariants.{XplayAttack, XplayDefend}
+use Rattle.pat_types.specs.declared.expr.Function.TheVariants.{OfPoint, OfPair, OfPoints, OfMoves}
+use Rattle.pat_types.specs.declared.expr.PointFunction.{PointFunction}
+use Rattle.pat_types.specs.declared.expr.PointFunction.TheVariants.{Attack, Defend, SafeXmove, SafeOmove}
+use Rattle.pat_types.specs.declared.expr.PairFunction.{PairFunction}
+use Rattle.pat_types.specs.declared.expr.PairFunction.TheVariants.{DoesAttack, DoesDefend, OdefendAgainst}
+use Rattle.pat_types.specs.declared.expr.PairFunction.TheVariants.{XdefendAgainst}
 use Rattle.pat_types.specs.declared.expr.Expr.{Expr, Num, Call, Not', Neg', Bin'}
 use Rattle.std.specs.Prelude.{ℤ}
 use Rattle.cons_eval.specs.Meanings.{Meanings}
 use Rattle.cons_eval.specs.Values.{is_so, value_of}
 
--- the value of the function may rest on a reading
+-- the value of the function of one point may rest on a reading
+abbrev pub is_point_reading : PointFunction → Bool
+is_point_reading Attack = true
+is_point_reading Defend = true
+is_point_reading SafeXmove = true
+is_point_reading SafeOmove = true
+is_point_reading _ = false
+
+-- the value of the function of two points may rest on a reading
+abbrev pub is_pair_reading : PairFunction → Bool
+is_pair_reading DoesAttack = true
+is_pair_reading DoesDefend = true
+is_pair_reading OdefendAgainst = true
+is_pair_reading XdefendAgainst = true
+is_pair_reading _ = false
+
+-- the value of the function may rest on a reading, as that of each function of moves may and of none of points
 abbrev pub is_reading : Function → Bool
-is_reading Lib = false
-is_reading Xlib = false
-is_reading Olib = false
-is_reading Attack = true
-is_reading Defend = true
-is_reading Ko = false
-is_reading SafeXmove = true
-is_reading SafeOmove = true
-is_reading LegalXmove = false
-is_reading LegalOmove = false
-is_reading OSomewhere = false
-is_reading XSomewhere = false
-is_reading SameWorm = false
-is_reading DoesAttack = true
-is_reading DoesDefend = true
-is_reading OdefendAgainst = true
-is_reading XdefendAgainst = true
-is_reading OplayAttack = true
-is_reading OplayDefend = true
-is_reading XplayAttack = true
-is_reading XplayDefend = true
+is_reading (OfPoint f) = is_point_reading f
+is_reading (OfPair f) = is_pair_reading f
+is_reading (OfPoints f) = false
+is_reading (OfMoves f) = true
 
 -- the right side is needed, where this is the value of the left one
 abbrev pub needs_right : Op → ℤ → Bool

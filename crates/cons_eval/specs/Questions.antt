@@ -6,14 +6,18 @@ use Rattle.go_rules.specs.Position.{BoardState, other}
 use Rattle.go_rules.specs.Strings.{cell_at, is_stone}
 use Rattle.go_rules.specs.Play.{play}
 use Rattle.pat_types.specs.declared.expr.Function.{Function}
-use Rattle.pat_types.specs.declared.expr.Function.TheVariants as function
+use Rattle.pat_types.specs.declared.expr.Function.TheVariants.{OfPoint, OfPair, OfPoints, OfMoves}
+use Rattle.pat_types.specs.declared.expr.PointFunction.{PointFunction}
+use Rattle.pat_types.specs.declared.expr.PointFunction.TheVariants as point
+use Rattle.pat_types.specs.declared.expr.PairFunction.{PairFunction}
+use Rattle.pat_types.specs.declared.expr.PairFunction.TheVariants as pair
+use Rattle.pat_types.specs.declared.expr.MovesFunction.{MovesFunction}
+use Rattle.pat_types.specs.declared.expr.MovesFunction.TheVariants as moves
 use Rattle.pat_types.specs.declared.expr.Expr.{Expr, Num, Call, Not', Neg', Bin'}
-use Rattle.cons_eval.specs.declared.calls.Arguments.{Arguments}
-use Rattle.cons_eval.specs.declared.calls.Arguments.TheVariants.{Point, Pair, Points, Play}
 use Rattle.cons_eval.specs.Asking.{needs_right}
 use Rattle.cons_eval.specs.Functions.{after_play, after_moves, colour_of, of_stone}
 use Rattle.cons_eval.specs.Meanings.{Meanings}
-use Rattle.cons_eval.specs.Values.{only_point, two_points, moves_and_point, arguments_of, value_of}
+use Rattle.cons_eval.specs.Values.{only_point, two_points, moves_and_point, value_of}
 
 -- one reading where a stone stands at p, and none where it is empty
 abbrev pub readings_at : BoardState → ℕ → ℕ
@@ -28,11 +32,11 @@ unfoldable pub readings_against : BoardState → Colour → ℕ → ℕ → ℕ
 readings_against pos c a b = after_play 0 (λ next. readings_after next (other c) b b) (play pos c a)
 
 -- how many readings a function of one point asks for
-abbrev pub point_readings : Meanings → Function → ℕ → ℕ
-point_readings m function.Attack a = readings_at m.position a
-point_readings m function.Defend a = readings_at m.position a
-point_readings m function.SafeXmove a = readings_after m.position (other m.friend) a a
-point_readings m function.SafeOmove a = readings_after m.position m.friend a a
+abbrev pub point_readings : Meanings → PointFunction → ℕ → ℕ
+point_readings m point.Attack a = readings_at m.position a
+point_readings m point.Defend a = readings_at m.position a
+point_readings m point.SafeXmove a = readings_after m.position (other m.friend) a a
+point_readings m point.SafeOmove a = readings_after m.position m.friend a a
 point_readings m _ a = 0
 
 -- the reading of the string at b after the other colour plays at a; none where b is empty or the play is illegal
@@ -44,36 +48,31 @@ abbrev pub defence_readings : BoardState → ℕ → ℕ → ℕ
 defence_readings pos a b = of_stone 0 (λ c. readings_after pos c a b) (colour_of (cell_at pos.cells b))
 
 -- how many readings a function of two points asks for
-abbrev pub pair_readings : Meanings → Function → ℕ × ℕ → ℕ
-pair_readings m function.DoesAttack ab = attack_readings m.position ab.0 ab.1
-pair_readings m function.DoesDefend ab = defence_readings m.position ab.0 ab.1
-pair_readings m function.OdefendAgainst ab = readings_against m.position m.friend ab.0 ab.1
-pair_readings m function.XdefendAgainst ab = readings_against m.position (other m.friend) ab.0 ab.1
+abbrev pub pair_readings : Meanings → PairFunction → ℕ × ℕ → ℕ
+pair_readings m pair.DoesAttack ab = attack_readings m.position ab.0 ab.1
+pair_readings m pair.DoesDefend ab = defence_readings m.position ab.0 ab.1
+pair_readings m pair.OdefendAgainst ab = readings_against m.position m.friend ab.0 ab.1
+pair_readings m pair.XdefendAgainst ab = readings_against m.position (other m.friend) ab.0 ab.1
 pair_readings m _ ab = 0
 
 -- how many readings a function of moves and a point asks for
-abbrev pub play_readings : Meanings → Function → List (Option ℕ) × ℕ → ℕ
-play_readings m function.OplayAttack play = readings_at (after_moves m.position m.friend play.0) play.1
-play_readings m function.OplayDefend play = readings_at (after_moves m.position m.friend play.0) play.1
-play_readings m function.XplayAttack play = readings_at (after_moves m.position (other m.friend) play.0) play.1
-play_readings m function.XplayDefend play = readings_at (after_moves m.position (other m.friend) play.0) play.1
-play_readings m _ play = 0
+abbrev pub moves_readings : Meanings → MovesFunction → List (Option ℕ) × ℕ → ℕ
+moves_readings m moves.OplayAttack play = readings_at (after_moves m.position m.friend play.0) play.1
+moves_readings m moves.OplayDefend play = readings_at (after_moves m.position m.friend play.0) play.1
+moves_readings m moves.XplayAttack play = readings_at (after_moves m.position (other m.friend) play.0) play.1
+moves_readings m moves.XplayDefend play = readings_at (after_moves m.position (other m.friend) play.0) play.1
 
 -- how many there are at what is there, and none where nothing is
 abbrev pub many_there : {A : Type 0} → (A → ℕ) → Option A → ℕ
 many_there f None = 0
 many_there f (Some a) = f a
 
--- how many readings a call asks for, by how the function takes its arguments
-abbrev pub readings_by : Meanings → Function → List (Option ℕ) → Arguments → ℕ
-readings_by m f points Point = many_there (point_readings m f) (only_point points)
-readings_by m f points Pair = many_there (pair_readings m f) (two_points points)
-readings_by m f points Points = 0
-readings_by m f points Play = many_there (play_readings m f) (moves_and_point points)
-
 -- how many readings a call asks for at the points of its arguments
 unfoldable pub call_readings : Meanings → Function → List (Option ℕ) → ℕ
-call_readings m f points = readings_by m f points (arguments_of f)
+call_readings m (OfPoint f) args = many_there (point_readings m f) (only_point args)
+call_readings m (OfPair f) args = many_there (pair_readings m f) (two_points args)
+call_readings m (OfPoints f) args = 0
+call_readings m (OfMoves f) args = many_there (moves_readings m f) (moves_and_point args)
 
 -- how many readings an expression asks for: those of its calls, a right side's only where it is needed
 unfoldable pub readings_of : Meanings → Expr → ℕ

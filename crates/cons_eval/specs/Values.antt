@@ -1,17 +1,22 @@
 -- The values of expressions: whole numbers. A comparison, `!`, `&&` and `||` are worth 1 or 0, and any value but 0
 -- counts as true.
-use Rattle.std.specs.Prelude.{ℕ, ◌==◌, Bool, true, false, ◌&&◌, ◌||◌, not, if◌then◌else◌, List, [], ◌∷◌, map, Option}
+use Rattle.std.specs.Prelude.{ℕ, Bool, true, false, ◌&&◌, ◌||◌, not, List, [], ◌∷◌, map, Option}
 use Rattle.std.specs.Prelude.{Some, None, ℤ, pos, ◌+ℤ◌, ◌-ℤ◌, neg_ℤ, int_lt, int_le}
 use Rattle.std.specs.Option.{option_map}
 use Rattle.std.specs.Ordering.{int_eq}
 use Rattle.pat_types.specs.declared.expr.Op.{Op}
 use Rattle.pat_types.specs.declared.expr.Op.TheVariants.{Or, And, Eq, Ne, Lt, Le, Gt, Ge, Add, Sub}
 use Rattle.pat_types.specs.declared.expr.Function.{Function}
-use Rattle.pat_types.specs.declared.expr.Function.TheVariants as function
+use Rattle.pat_types.specs.declared.expr.Function.TheVariants.{OfPoint, OfPair, OfPoints, OfMoves}
+use Rattle.pat_types.specs.declared.expr.PointFunction.{PointFunction}
+use Rattle.pat_types.specs.declared.expr.PointFunction.TheVariants as point
+use Rattle.pat_types.specs.declared.expr.PairFunction.{PairFunction}
+use Rattle.pat_types.specs.declared.expr.PairFunction.TheVariants as pair
+use Rattle.pat_types.specs.declared.expr.PointsFunction.{PointsFunction}
+use Rattle.pat_types.specs.declared.expr.PointsFunction.TheVariants as points
+use Rattle.pat_types.specs.declared.expr.MovesFunction.{MovesFunction}
+use Rattle.pat_types.specs.declared.expr.MovesFunction.TheVariants as moves
 use Rattle.pat_types.specs.declared.expr.Expr.{Expr, Num, Call, Not', Neg', Bin'}
-use Rattle.pat_types.specs.Labels.{arity_of, takes_moves}
-use Rattle.cons_eval.specs.declared.calls.Arguments.{Arguments}
-use Rattle.cons_eval.specs.declared.calls.Arguments.TheVariants.{Point, Pair, Points, Play}
 use Rattle.cons_eval.specs.Functions.{lib, xlib, olib, attack, defend, ko, safe_xmove, safe_omove, legal_xmove}
 use Rattle.cons_eval.specs.Functions.{legal_omove, o_somewhere, x_somewhere, same_worm, does_attack, does_defend}
 use Rattle.cons_eval.specs.Functions.{odefend_against, xdefend_against, oplay_attack, oplay_defend, xplay_attack}
@@ -61,62 +66,46 @@ abbrev pub if_there : {A : Type 0} → (A → ℤ) → Option A → ℤ
 if_there f None = pos 0
 if_there f (Some a) = f a
 
--- the functions of one point
-abbrev pub point_value : Meanings → Function → ℕ → ℤ
-point_value m function.Lib a = pos (lib m.position a)
-point_value m function.Xlib a = pos (xlib m.position m.friend a)
-point_value m function.Olib a = pos (olib m.position m.friend a)
-point_value m function.Attack a = pos (attack m.code m.position a)
-point_value m function.Defend a = pos (defend m.code m.position a)
-point_value m function.Ko a = worth (ko m.position a)
-point_value m function.SafeXmove a = worth (safe_xmove m.code m.position m.friend a)
-point_value m function.SafeOmove a = worth (safe_omove m.code m.position m.friend a)
-point_value m function.LegalXmove a = worth (legal_xmove m.position m.friend a)
-point_value m function.LegalOmove a = worth (legal_omove m.position m.friend a)
-point_value m _ a = pos 0
+-- the value of a function of one point, at a
+abbrev pub point_value : Meanings → PointFunction → ℕ → ℤ
+point_value m point.Lib a = pos (lib m.position a)
+point_value m point.Xlib a = pos (xlib m.position m.friend a)
+point_value m point.Olib a = pos (olib m.position m.friend a)
+point_value m point.Attack a = pos (attack m.code m.position a)
+point_value m point.Defend a = pos (defend m.code m.position a)
+point_value m point.Ko a = worth (ko m.position a)
+point_value m point.SafeXmove a = worth (safe_xmove m.code m.position m.friend a)
+point_value m point.SafeOmove a = worth (safe_omove m.code m.position m.friend a)
+point_value m point.LegalXmove a = worth (legal_xmove m.position m.friend a)
+point_value m point.LegalOmove a = worth (legal_omove m.position m.friend a)
 
--- the functions of one to eight points
-abbrev pub points_value : Meanings → Function → List (Option ℕ) → ℤ
-points_value m function.OSomewhere points = worth (o_somewhere m.position m.friend points)
-points_value m function.XSomewhere points = worth (x_somewhere m.position m.friend points)
-points_value m _ points = pos 0
+-- the value of a function of two points, at these
+abbrev pub pair_value : Meanings → PairFunction → ℕ × ℕ → ℤ
+pair_value m pair.SameWorm ab = worth (same_worm m.position ab.0 ab.1)
+pair_value m pair.DoesAttack ab = does_attack m.code m.position ab.0 ab.1
+pair_value m pair.DoesDefend ab = does_defend m.code m.position ab.0 ab.1
+pair_value m pair.OdefendAgainst ab = worth (odefend_against m.code m.position m.friend ab.0 ab.1)
+pair_value m pair.XdefendAgainst ab = worth (xdefend_against m.code m.position m.friend ab.0 ab.1)
 
--- the functions of two points
-abbrev pub pair_value : Meanings → Function → ℕ × ℕ → ℤ
-pair_value m function.SameWorm ab = worth (same_worm m.position ab.0 ab.1)
-pair_value m function.DoesAttack ab = does_attack m.code m.position ab.0 ab.1
-pair_value m function.DoesDefend ab = does_defend m.code m.position ab.0 ab.1
-pair_value m function.OdefendAgainst ab = worth (odefend_against m.code m.position m.friend ab.0 ab.1)
-pair_value m function.XdefendAgainst ab = worth (xdefend_against m.code m.position m.friend ab.0 ab.1)
-pair_value m _ ab = pos 0
+-- the value of a function of one to eight points, at these
+abbrev pub points_value : Meanings → PointsFunction → List (Option ℕ) → ℤ
+points_value m points.OSomewhere at = worth (o_somewhere m.position m.friend at)
+points_value m points.XSomewhere at = worth (x_somewhere m.position m.friend at)
 
--- the functions of one to eight moves and a point
-abbrev pub play_value : Meanings → Function → List (Option ℕ) × ℕ → ℤ
-play_value m function.OplayAttack play = pos (oplay_attack m.code m.position m.friend play.0 play.1)
-play_value m function.OplayDefend play = pos (oplay_defend m.code m.position m.friend play.0 play.1)
-play_value m function.XplayAttack play = pos (xplay_attack m.code m.position m.friend play.0 play.1)
-play_value m function.XplayDefend play = pos (xplay_defend m.code m.position m.friend play.0 play.1)
-play_value m _ play = pos 0
-
--- how the function takes its arguments
-abbrev pub arguments_of : Function → Arguments
-arguments_of f =
-    if takes_moves f then Play
-    else if (arity_of f).1 == 1 then Point
-    else if (arity_of f).1 == 2 then Pair
-    else Points
-
--- the value of a call by how the function takes its arguments
-abbrev pub value_by : Meanings → Function → List (Option ℕ) → Arguments → ℤ
-value_by m f points Point = if_there (point_value m f) (only_point points)
-value_by m f points Pair = if_there (pair_value m f) (two_points points)
-value_by m f points Points = points_value m f points
-value_by m f points Play = if_there (play_value m f) (moves_and_point points)
+-- the value of a function of one to eight moves and a point, after these and there
+abbrev pub moves_value : Meanings → MovesFunction → List (Option ℕ) × ℕ → ℤ
+moves_value m moves.OplayAttack play = pos (oplay_attack m.code m.position m.friend play.0 play.1)
+moves_value m moves.OplayDefend play = pos (oplay_defend m.code m.position m.friend play.0 play.1)
+moves_value m moves.XplayAttack play = pos (xplay_attack m.code m.position m.friend play.0 play.1)
+moves_value m moves.XplayDefend play = pos (xplay_defend m.code m.position m.friend play.0 play.1)
 
 -- the value of a call at the points of its arguments; 0 where these are not as the function takes them, which no
 -- pattern has
 unfoldable pub call_value : Meanings → Function → List (Option ℕ) → ℤ
-call_value m f points = value_by m f points (arguments_of f)
+call_value m (OfPoint f) args = if_there (point_value m f) (only_point args)
+call_value m (OfPair f) args = if_there (pair_value m f) (two_points args)
+call_value m (OfPoints f) args = points_value m f args
+call_value m (OfMoves f) args = if_there (moves_value m f) (moves_and_point args)
 
 -- the value of two values with an operator between them
 abbrev pub joined_value : Op → ℤ → ℤ → ℤ

@@ -7,18 +7,17 @@ ghost use Rattle.cons_eval.specs.Meanings.{Stays, is_on_board, are_on_board};
 ghost use Rattle.cons_eval.specs.Readings.{code_at as code_there};
 ghost use Rattle.cons_eval.specs.Functions.{holds_stone as holds, after_moves as moves_then};
 ghost use Rattle.cons_eval.specs.Values.{worth, only_point as only, two_points as two, point_value, pair_value};
-ghost use Rattle.cons_eval.specs.Values.{points_value, play_value, call_value, if_there, moves_and_point};
-ghost use Rattle.cons_eval.specs.Values.{arguments_of as taken_by};
-ghost use Rattle.cons_eval.specs.Asking.{is_reading};
+ghost use Rattle.cons_eval.specs.Values.{points_value, moves_value, call_value, if_there, moves_and_point};
+ghost use Rattle.cons_eval.specs.Asking.{is_reading, is_point_reading, is_pair_reading};
 ghost use Rattle.cons_eval.specs.Questions.{counted, readings_at as readings_there, many_there, point_readings};
-ghost use Rattle.cons_eval.specs.Questions.{pair_readings, play_readings, call_readings};
+ghost use Rattle.cons_eval.specs.Questions.{pair_readings, moves_readings, call_readings};
 
 use crate::env::Env;
 use crate::readings::{code_at, does_attack, does_defend, is_defended_against, is_safe_move};
 use crate::rules::{after_move, is_ko, is_legal, is_same_string, liberties_after};
 use go_base::{Point, Position};
 use go_rules::Colour;
-use pat_types::{Arg, Function};
+use pat_types::{Arg, Function, MovesFunction, PairFunction, PointFunction, PointsFunction};
 use read_rules::Kind;
 
 /// What a test is worth.
@@ -51,38 +50,55 @@ fn two_points<E: Env>(env: &E, args: &[Arg]) -> Option<(Point, Point)>
     }
 }
 
-/// The value of a function of one point.
+/// The value of a function of one point, at this.
 #[tactic(auto, using(crate::proofs::CallCounts::stays_same))]
-fn of_point<E: Env>(env: &mut E, function: Function, a: Point) -> i64
+fn value_at<E: Env>(env: &mut E, function: PointFunction, a: Point) -> i64
     requires { a < (E.view env.old).meanings.position.size * (E.view env.old).meanings.position.size }
     ensures value { result ≡ point_value (E.view env.old).meanings function a }
     ensures small { IsWithin most result }
     ensures asked { (E.view env.new).asked ≡ counted (point_readings (E.view env.old).meanings function a)
         (E.view env.old).asked }
     ensures stays { Stays (E.view env.old) (E.view env.new) }
-    ensures quiet { is_reading function ≡ false → (E.view env.new).counts ≡ (E.view env.old).counts }
+    ensures quiet { is_point_reading function ≡ false → (E.view env.new).counts ≡ (E.view env.old).counts }
 {
     let position = env.position();
     let friend = env.friend();
     let enemy = friend.other();
     match function {
-        Function::Lib => i64::from(position.liberties(a)),
-        Function::Xlib => i64::from(liberties_after(&position, enemy, a)),
-        Function::Olib => i64::from(liberties_after(&position, friend, a)),
-        Function::Attack => i64::from(code_at(env, Kind::Attack, &position, a)),
-        Function::Defend => i64::from(code_at(env, Kind::Defend, &position, a)),
-        Function::Ko => worth_of(is_ko(&position, a)),
-        Function::SafeXmove => worth_of(is_safe_move(env, &position, enemy, a)),
-        Function::SafeOmove => worth_of(is_safe_move(env, &position, friend, a)),
-        Function::LegalXmove => worth_of(is_legal(&position, enemy, a)),
-        Function::LegalOmove => worth_of(is_legal(&position, friend, a)),
-        _ => 0,
+        PointFunction::Lib => i64::from(position.liberties(a)),
+        PointFunction::Xlib => i64::from(liberties_after(&position, enemy, a)),
+        PointFunction::Olib => i64::from(liberties_after(&position, friend, a)),
+        PointFunction::Attack => i64::from(code_at(env, Kind::Attack, &position, a)),
+        PointFunction::Defend => i64::from(code_at(env, Kind::Defend, &position, a)),
+        PointFunction::Ko => worth_of(is_ko(&position, a)),
+        PointFunction::SafeXmove => worth_of(is_safe_move(env, &position, enemy, a)),
+        PointFunction::SafeOmove => worth_of(is_safe_move(env, &position, friend, a)),
+        PointFunction::LegalXmove => worth_of(is_legal(&position, enemy, a)),
+        PointFunction::LegalOmove => worth_of(is_legal(&position, friend, a)),
     }
 }
 
-/// The value of a function of two points.
+/// The value of a function of one point, 0 where the arguments are not one with a point.
 #[tactic(auto, using(crate::proofs::CallCounts::stays_same))]
-fn of_pair<E: Env>(env: &mut E, function: Function, a: Point, b: Point) -> i64
+fn of_point<E: Env>(env: &mut E, function: PointFunction, args: &[Arg]) -> i64
+    requires { are_on_board (E.view env.old).meanings.position.size (E.view env.old).meanings.point args.now ≡ true }
+    ensures value { result ≡ if_there (point_value (E.view env.old).meanings function)
+        (only (map (E.view env.old).meanings.point args.now)) }
+    ensures small { IsWithin most result }
+    ensures asked { (E.view env.new).asked ≡ counted (many_there (point_readings (E.view env.old).meanings function)
+        (only (map (E.view env.old).meanings.point args.now))) (E.view env.old).asked }
+    ensures stays { Stays (E.view env.old) (E.view env.new) }
+    ensures quiet { is_point_reading function ≡ false → (E.view env.new).counts ≡ (E.view env.old).counts }
+{
+    match only_point(env, args) {
+        Some(a) => value_at(env, function, a),
+        None => 0,
+    }
+}
+
+/// The value of a function of two points, at these.
+#[tactic(auto, using(crate::proofs::CallCounts::stays_same))]
+fn value_at_pair<E: Env>(env: &mut E, function: PairFunction, a: Point, b: Point) -> i64
     requires a_on_board { a < (E.view env.old).meanings.position.size * (E.view env.old).meanings.position.size }
     requires b_on_board { b < (E.view env.old).meanings.position.size * (E.view env.old).meanings.position.size }
     ensures value { result ≡ pair_value (E.view env.old).meanings function (a, b) }
@@ -90,18 +106,35 @@ fn of_pair<E: Env>(env: &mut E, function: Function, a: Point, b: Point) -> i64
     ensures asked { (E.view env.new).asked ≡ counted (pair_readings (E.view env.old).meanings function (a, b))
         (E.view env.old).asked }
     ensures stays { Stays (E.view env.old) (E.view env.new) }
-    ensures quiet { is_reading function ≡ false → (E.view env.new).counts ≡ (E.view env.old).counts }
+    ensures quiet { is_pair_reading function ≡ false → (E.view env.new).counts ≡ (E.view env.old).counts }
 {
     let position = env.position();
     let friend = env.friend();
     let enemy = friend.other();
     match function {
-        Function::SameWorm => worth_of(is_same_string(&position, a, b)),
-        Function::DoesAttack => does_attack(env, &position, a, b),
-        Function::DoesDefend => does_defend(env, &position, a, b),
-        Function::OdefendAgainst => worth_of(is_defended_against(env, &position, friend, a, b)),
-        Function::XdefendAgainst => worth_of(is_defended_against(env, &position, enemy, a, b)),
-        _ => 0,
+        PairFunction::SameWorm => worth_of(is_same_string(&position, a, b)),
+        PairFunction::DoesAttack => does_attack(env, &position, a, b),
+        PairFunction::DoesDefend => does_defend(env, &position, a, b),
+        PairFunction::OdefendAgainst => worth_of(is_defended_against(env, &position, friend, a, b)),
+        PairFunction::XdefendAgainst => worth_of(is_defended_against(env, &position, enemy, a, b)),
+    }
+}
+
+/// The value of a function of two points, 0 where the arguments are not two with points.
+#[tactic(auto, using(crate::proofs::CallCounts::stays_same))]
+fn of_pair<E: Env>(env: &mut E, function: PairFunction, args: &[Arg]) -> i64
+    requires { are_on_board (E.view env.old).meanings.position.size (E.view env.old).meanings.point args.now ≡ true }
+    ensures value { result ≡ if_there (pair_value (E.view env.old).meanings function)
+        (two (map (E.view env.old).meanings.point args.now)) }
+    ensures small { IsWithin most result }
+    ensures asked { (E.view env.new).asked ≡ counted (many_there (pair_readings (E.view env.old).meanings function)
+        (two (map (E.view env.old).meanings.point args.now))) (E.view env.old).asked }
+    ensures stays { Stays (E.view env.old) (E.view env.new) }
+    ensures quiet { is_pair_reading function ≡ false → (E.view env.new).counts ≡ (E.view env.old).counts }
+{
+    match two_points(env, args) {
+        Some((a, b)) => value_at_pair(env, function, a, b),
+        None => 0,
     }
 }
 
@@ -130,7 +163,7 @@ fn is_somewhere<E: Env>(env: &E, position: &Position, colour: Colour, args: &[Ar
 }
 
 /// The value of a function of one to eight points.
-fn of_points<E: Env>(env: &E, function: Function, args: &[Arg]) -> i64
+fn of_points<E: Env>(env: &E, function: PointsFunction, args: &[Arg]) -> i64
     requires { are_on_board (E.view env.now).meanings.position.size (E.view env.now).meanings.point args.now ≡ true }
     ensures value { result ≡ points_value (E.view env.now).meanings function
         (map (E.view env.now).meanings.point args.now) }
@@ -140,9 +173,8 @@ fn of_points<E: Env>(env: &E, function: Function, args: &[Arg]) -> i64
     let friend = env.friend();
     let enemy = friend.other();
     match function {
-        Function::OSomewhere => worth_of(is_somewhere(env, &position, friend, args)),
-        Function::XSomewhere => worth_of(is_somewhere(env, &position, enemy, args)),
-        _ => 0,
+        PointsFunction::OSomewhere => worth_of(is_somewhere(env, &position, friend, args)),
+        PointsFunction::XSomewhere => worth_of(is_somewhere(env, &position, enemy, args)),
     }
 }
 
@@ -180,84 +212,49 @@ fn code_after<E: Env>(env: &mut E, kind: Kind, first: Colour, moves: &[Arg], at:
 
 /// The value of a function of moves and a point, at these.
 #[tactic(auto, using(crate::proofs::CallCounts::stays_same))]
-fn of_moves<E: Env>(env: &mut E, function: Function, moves: &[Arg], at: Point) -> i64
+fn value_after<E: Env>(env: &mut E, function: MovesFunction, moves: &[Arg], at: Point) -> i64
     requires at_on_board { at < (E.view env.old).meanings.position.size * (E.view env.old).meanings.position.size }
     requires moves_on_board { are_on_board (E.view env.old).meanings.position.size (E.view env.old).meanings.point
         moves.now ≡ true }
-    ensures value { result ≡ play_value (E.view env.old).meanings function
+    ensures value { result ≡ moves_value (E.view env.old).meanings function
         (map (E.view env.old).meanings.point moves.now, at) }
     ensures small { IsWithin most result }
-    ensures asked { (E.view env.new).asked ≡ counted (play_readings (E.view env.old).meanings function
+    ensures asked { (E.view env.new).asked ≡ counted (moves_readings (E.view env.old).meanings function
         (map (E.view env.old).meanings.point moves.now, at)) (E.view env.old).asked }
     ensures stays { Stays (E.view env.old) (E.view env.new) }
-    ensures quiet { is_reading function ≡ false → (E.view env.new).counts ≡ (E.view env.old).counts }
 {
     let friend = env.friend();
     let enemy = friend.other();
     match function {
-        Function::OplayAttack => i64::from(code_after(env, Kind::Attack, friend, moves, at)),
-        Function::OplayDefend => i64::from(code_after(env, Kind::Defend, friend, moves, at)),
-        Function::XplayAttack => i64::from(code_after(env, Kind::Attack, enemy, moves, at)),
-        Function::XplayDefend => i64::from(code_after(env, Kind::Defend, enemy, moves, at)),
-        _ => 0,
+        MovesFunction::OplayAttack => i64::from(code_after(env, Kind::Attack, friend, moves, at)),
+        MovesFunction::OplayDefend => i64::from(code_after(env, Kind::Defend, friend, moves, at)),
+        MovesFunction::XplayAttack => i64::from(code_after(env, Kind::Attack, enemy, moves, at)),
+        MovesFunction::XplayDefend => i64::from(code_after(env, Kind::Defend, enemy, moves, at)),
     }
 }
 
 /// The value of a function of moves and a point, 0 where the last argument has no point.
 #[tactic(auto, using(crate::proofs::CallCounts::stays_same))]
-fn of_play<E: Env>(env: &mut E, function: Function, args: &[Arg]) -> i64
+fn of_moves<E: Env>(env: &mut E, function: MovesFunction, args: &[Arg]) -> i64
     requires { are_on_board (E.view env.old).meanings.position.size (E.view env.old).meanings.point args.now ≡ true }
-    ensures value { result ≡ if_there (play_value (E.view env.old).meanings function)
+    ensures value { result ≡ if_there (moves_value (E.view env.old).meanings function)
         (moves_and_point (map (E.view env.old).meanings.point args.now)) }
     ensures small { IsWithin most result }
-    ensures asked { (E.view env.new).asked ≡ counted (many_there (play_readings (E.view env.old).meanings function)
+    ensures asked { (E.view env.new).asked ≡ counted (many_there (moves_readings (E.view env.old).meanings function)
         (moves_and_point (map (E.view env.old).meanings.point args.now))) (E.view env.old).asked }
     ensures stays { Stays (E.view env.old) (E.view env.new) }
-    ensures quiet { is_reading function ≡ false → (E.view env.new).counts ≡ (E.view env.old).counts }
 {
     match args {
         [moves @ .., last] => match env.point(*last) {
-            Some(at) => of_moves(env, function, moves, at),
+            Some(at) => value_after(env, function, moves, at),
             None => 0,
         },
         [] => 0,
     }
 }
 
-/// How a function takes its arguments.
-#[derive(Clone, Copy)]
-pub enum Arguments {
-    /// One point.
-    Point,
-    /// Two points.
-    Pair,
-    /// One to eight points.
-    Points,
-    /// One to eight moves and a point.
-    Play,
-}
-
-/// How a function takes its arguments.
-fn arguments_of(function: Function) -> Arguments
-    ensures { result ≡ taken_by function }
-{
-    match function {
-        Function::OSomewhere | Function::XSomewhere => Arguments::Points,
-        Function::SameWorm
-        | Function::DoesAttack
-        | Function::DoesDefend
-        | Function::OdefendAgainst
-        | Function::XdefendAgainst => Arguments::Pair,
-        Function::OplayAttack
-        | Function::OplayDefend
-        | Function::XplayAttack
-        | Function::XplayDefend => Arguments::Play,
-        _ => Arguments::Point,
-    }
-}
-
 /// The value of a call, 0 where the arguments are not as the function takes them.
-#[tactic(auto, using(crate::proofs::CallCounts::stays_same))]
+#[tactic(auto, using(crate::proofs::CallCounts::stays_same), unfolding(crate::specs::Values::call_value, crate::specs::Questions::call_readings))]
 pub fn call<E: Env>(env: &mut E, function: Function, args: &[Arg]) -> i64
     requires { are_on_board (E.view env.old).meanings.position.size (E.view env.old).meanings.point args.now ≡ true }
     ensures value { result ≡ call_value (E.view env.old).meanings function
@@ -268,16 +265,10 @@ pub fn call<E: Env>(env: &mut E, function: Function, args: &[Arg]) -> i64
     ensures stays { Stays (E.view env.old) (E.view env.new) }
     ensures quiet { is_reading function ≡ false → (E.view env.new).counts ≡ (E.view env.old).counts }
 {
-    match arguments_of(function) {
-        Arguments::Point => match only_point(env, args) {
-            Some(a) => of_point(env, function, a),
-            None => 0,
-        },
-        Arguments::Pair => match two_points(env, args) {
-            Some((a, b)) => of_pair(env, function, a, b),
-            None => 0,
-        },
-        Arguments::Points => of_points(env, function, args),
-        Arguments::Play => of_play(env, function, args),
+    match function {
+        Function::OfPoint(which) => of_point(env, which, args),
+        Function::OfPair(which) => of_pair(env, which, args),
+        Function::OfPoints(which) => of_points(env, which, args),
+        Function::OfMoves(which) => of_moves(env, which, args),
     }
 }

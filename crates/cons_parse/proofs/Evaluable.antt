@@ -8,10 +8,10 @@ use Rattle.pat_types.specs.declared.pattern.LabelAt.{LabelAt}
 use Rattle.pat_types.specs.declared.expr.Arg.{Arg}
 use Rattle.pat_types.specs.declared.expr.Arg.TheVariants.{Label, Star, Nowhere}
 use Rattle.pat_types.specs.declared.expr.Function.{Function}
-use Rattle.pat_types.specs.declared.expr.Function.TheVariants as function
+use Rattle.pat_types.specs.declared.expr.Function.TheVariants.{OfPoint, OfPair, OfPoints, OfMoves}
 use Rattle.pat_types.specs.declared.expr.Expr.{Expr, Num, Call, Not', Neg', Bin'}
-use Rattle.pat_types.specs.Labels.{names, arity_of, takes_moves, is_point, is_move, end_in_point, may_call, can_evaluate}
-use Rattle.pat_types.specs.Labels.{leaf_count}
+use Rattle.pat_types.specs.Labels.{names, arity_of, takes_moves, is_point, is_move, end_in_point, may_call}
+use Rattle.pat_types.specs.Labels.{can_evaluate, leaf_count}
 use Rattle.cons_parse.specs.declared.token.Name.{Name}
 use Rattle.cons_parse.specs.declared.token.Name.TheVariants.{Letter, Known, Unknown}
 use Rattle.cons_parse.specs.declared.calls.Item.{Item}
@@ -121,27 +121,10 @@ args_if labels false args l h k = all_points labels args h k
 
 -- each function has an argument
 least_arity : (f : Function) → 1 ≤ (arity_of f).0
-least_arity function.Lib = omega arith
-least_arity function.Xlib = omega arith
-least_arity function.Olib = omega arith
-least_arity function.Attack = omega arith
-least_arity function.Defend = omega arith
-least_arity function.Ko = omega arith
-least_arity function.SafeXmove = omega arith
-least_arity function.SafeOmove = omega arith
-least_arity function.LegalXmove = omega arith
-least_arity function.LegalOmove = omega arith
-least_arity function.OSomewhere = omega arith
-least_arity function.XSomewhere = omega arith
-least_arity function.SameWorm = omega arith
-least_arity function.DoesAttack = omega arith
-least_arity function.DoesDefend = omega arith
-least_arity function.OdefendAgainst = omega arith
-least_arity function.XdefendAgainst = omega arith
-least_arity function.OplayAttack = omega arith
-least_arity function.OplayDefend = omega arith
-least_arity function.XplayAttack = omega arith
-least_arity function.XplayDefend = omega arith
+least_arity (OfPoint f) = omega arith
+least_arity (OfPair f) = omega arith
+least_arity (OfPoints f) = omega arith
+least_arity (OfMoves f) = omega arith
 
 -- a function without faults may be called so
 call_may : (labels : List LabelAt) (f : Function) (args : List Arg) → is_miscalled f args ≡ false

@@ -1,13 +1,12 @@
 -- The tokens of an expression, each as long as possible, with blanks between them.
 use Rattle.std.specs.Prelude.{ℕ, zero, suc, ◌+◌, ◌-◌, ◌*◌, Bool, ◌&&◌, ◌||◌, ◌==◌, nat_le, nat_lt, List, [], ◌∷◌, take}
-use Rattle.std.specs.Prelude.{Option, Some, None, if◌then◌else◌, codes}
-use Rattle.std.specs.List.{find, prefix_len}
+use Rattle.std.specs.Prelude.{Option, Some, None, if◌then◌else◌}
+use Rattle.std.specs.List.{prefix_len}
 use Rattle.std.specs.Option.{option_map, option_and_then}
-use Rattle.std.specs.Str.{bytes_eq}
 use Rattle.db_lex.specs.Lines.{is_blank}
 use Rattle.pat_types.specs.declared.expr.Op.TheVariants.{Or, And, Eq, Ne, Lt, Le, Gt, Ge, Add, Sub}
 use Rattle.pat_types.specs.declared.expr.Function.{Function}
-use Rattle.pat_types.specs.declared.expr.Function.TheVariants as function
+use Rattle.cons_parse.specs.FunctionNames.{function_named}
 use Rattle.cons_parse.specs.declared.token.Token.{Token}
 use Rattle.cons_parse.specs.declared.token.Token.TheVariants.{Number, Called, Operator, Bang, Open, Close, Comma}
 use Rattle.cons_parse.specs.declared.token.Token.TheVariants.{Asterisk, Question}
@@ -34,25 +33,6 @@ value_after n (d ∷ ds) = value_after (n * 10 + (d - 48)) ds
 -- the value of digits
 abbrev pub value_of : List ℕ → ℕ
 value_of digits = value_after 0 digits
-
--- the name of each function
-abbrev pub functions : List (List ℕ × Function)
-functions =
-    (codes "lib", function.Lib) ∷ (codes "xlib", function.Xlib) ∷ (codes "olib", function.Olib)
-    ∷ (codes "attack", function.Attack) ∷ (codes "defend", function.Defend) ∷ (codes "ko", function.Ko)
-    ∷ (codes "safe_xmove", function.SafeXmove) ∷ (codes "safe_omove", function.SafeOmove)
-    ∷ (codes "legal_xmove", function.LegalXmove) ∷ (codes "legal_omove", function.LegalOmove)
-    ∷ (codes "o_somewhere", function.OSomewhere) ∷ (codes "x_somewhere", function.XSomewhere)
-    ∷ (codes "same_worm", function.SameWorm)
-    ∷ (codes "does_attack", function.DoesAttack) ∷ (codes "does_defend", function.DoesDefend)
-    ∷ (codes "odefend_against", function.OdefendAgainst) ∷ (codes "xdefend_against", function.XdefendAgainst)
-    ∷ (codes "oplay_attack", function.OplayAttack) ∷ (codes "oplay_defend", function.OplayDefend)
-    ∷ (codes "xplay_attack", function.XplayAttack) ∷ (codes "xplay_defend", function.XplayDefend)
-    ∷ []
-
--- the function of a name
-abbrev pub function_named : List ℕ → Option Function
-function_named name = option_map (λ row. row.1) (find (λ row. bytes_eq name row.0) functions)
 
 -- the name of a function, or of none
 abbrev pub known_as : Option Function → Name

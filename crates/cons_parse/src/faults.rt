@@ -18,26 +18,10 @@ fn arity(function: Function) -> (usize, usize)
     ensures { result ≡ arity_of function }
 {
     match function {
-        Function::Lib
-        | Function::Xlib
-        | Function::Olib
-        | Function::Attack
-        | Function::Defend
-        | Function::Ko
-        | Function::SafeXmove
-        | Function::SafeOmove
-        | Function::LegalXmove
-        | Function::LegalOmove => (1, 1),
-        Function::OSomewhere | Function::XSomewhere => (1, 8),
-        Function::SameWorm
-        | Function::DoesAttack
-        | Function::DoesDefend
-        | Function::OdefendAgainst
-        | Function::XdefendAgainst => (2, 2),
-        Function::OplayAttack
-        | Function::OplayDefend
-        | Function::XplayAttack
-        | Function::XplayDefend => (2, 9),
+        Function::OfPoint(_) => (1, 1),
+        Function::OfPair(_) => (2, 2),
+        Function::OfPoints(_) => (1, 8),
+        Function::OfMoves(_) => (2, 9),
     }
 }
 
@@ -45,13 +29,7 @@ fn arity(function: Function) -> (usize, usize)
 fn takes_moves(function: Function) -> bool
     ensures { result ≡ with_moves function }
 {
-    matches!(
-        function,
-        Function::OplayAttack
-            | Function::OplayDefend
-            | Function::XplayAttack
-            | Function::XplayDefend
-    )
+    matches!(function, Function::OfMoves(_))
 }
 
 /// Whether an argument is a pass.

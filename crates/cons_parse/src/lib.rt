@@ -12,6 +12,7 @@ mod build;
 mod calls;
 mod error;
 mod faults;
+mod function_names;
 pub mod laws;
 mod parsing;
 mod scan;

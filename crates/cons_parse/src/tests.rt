@@ -1,7 +1,7 @@
 //! What texts come to: the expression, printed with all parentheses, or the first fault.
 
 use crate::{ConsError, parse};
-use pat_types::{Arg, Expr, LabelAt, Op};
+use pat_types::{Arg, Expr, Function, LabelAt, Op};
 use std::alloc::{AllocError, Global};
 use std::test::Fail;
 
@@ -33,6 +33,16 @@ fn sign(op: Op) -> &'static str {
     }
 }
 
+/// The word of a function in the code.
+fn word_of(alloc: Global, function: Function) -> Result<String, AllocError> {
+    match function {
+        Function::OfPoint(f) => format!(in alloc; "{f:?}"),
+        Function::OfPair(f) => format!(in alloc; "{f:?}"),
+        Function::OfPoints(f) => format!(in alloc; "{f:?}"),
+        Function::OfMoves(f) => format!(in alloc; "{f:?}"),
+    }
+}
+
 /// Writes an expression with all of its parentheses.
 fn show(alloc: Global, out: &mut String, e: &Expr) -> Result<(), AllocError> {
     match e {
@@ -41,7 +51,7 @@ fn show(alloc: Global, out: &mut String, e: &Expr) -> Result<(), AllocError> {
             out.push_str(text.as_str())
         }
         Expr::Call(function, args) => {
-            let text = format!(in alloc; "{function:?}")?;
+            let text = word_of(alloc, *function)?;
             out.push_str(text.as_str())?;
             for arg in args.as_slice() {
                 match arg {

@@ -4,12 +4,13 @@ ghost use Rattle.std.specs.Prelude.{◌≡◌, ◌≤◌, ◌<◌, ◌+◌, ◌=
 ghost use Rattle.std.specs.Prelude.{true, slice_index};
 ghost use Rattle.std.specs.List.{prefix_len};
 ghost use Rattle.cons_parse.specs.Tokens.{is_letter as letter, is_digit as digit, is_name_byte as name_byte};
-ghost use Rattle.cons_parse.specs.Tokens.{value_of as value, function_named as function_of, name_of as name_in};
+ghost use Rattle.cons_parse.specs.Tokens.{value_of as value, name_of as name_in};
 ghost use Rattle.cons_parse.specs.Tokens.{two_at as two, one_at as one, first_sign, first_token};
 ghost use Rattle.cons_parse.specs.Tokens.{tokens_of as all_tokens};
 ghost use Rattle.cons_parse.specs.Answers.{Gives};
 
 use crate::error::ConsError;
+use crate::function_names::function_named;
 use db_lex::is_blank;
 use pat_types::{Function, Op};
 use std::alloc::Global;
@@ -116,57 +117,6 @@ fn value_of(digits: &[u8]) -> u32
         n = n * 10 + (*d - 48) as u32;
     }
     n
-}
-
-/// The function that a name is.
-fn function_named(name: &[u8]) -> Option<Function>
-    ensures { result ≡ function_of name.now }
-{
-    if name == b"lib".as_slice() {
-        Some(Function::Lib)
-    } else if name == b"xlib".as_slice() {
-        Some(Function::Xlib)
-    } else if name == b"olib".as_slice() {
-        Some(Function::Olib)
-    } else if name == b"attack".as_slice() {
-        Some(Function::Attack)
-    } else if name == b"defend".as_slice() {
-        Some(Function::Defend)
-    } else if name == b"ko".as_slice() {
-        Some(Function::Ko)
-    } else if name == b"safe_xmove".as_slice() {
-        Some(Function::SafeXmove)
-    } else if name == b"safe_omove".as_slice() {
-        Some(Function::SafeOmove)
-    } else if name == b"legal_xmove".as_slice() {
-        Some(Function::LegalXmove)
-    } else if name == b"legal_omove".as_slice() {
-        Some(Function::LegalOmove)
-    } else if name == b"o_somewhere".as_slice() {
-        Some(Function::OSomewhere)
-    } else if name == b"x_somewhere".as_slice() {
-        Some(Function::XSomewhere)
-    } else if name == b"same_worm".as_slice() {
-        Some(Function::SameWorm)
-    } else if name == b"does_attack".as_slice() {
-        Some(Function::DoesAttack)
-    } else if name == b"does_defend".as_slice() {
-        Some(Function::DoesDefend)
-    } else if name == b"odefend_against".as_slice() {
-        Some(Function::OdefendAgainst)
-    } else if name == b"xdefend_against".as_slice() {
-        Some(Function::XdefendAgainst)
-    } else if name == b"oplay_attack".as_slice() {
-        Some(Function::OplayAttack)
-    } else if name == b"oplay_defend".as_slice() {
-        Some(Function::OplayDefend)
-    } else if name == b"xplay_attack".as_slice() {
-        Some(Function::XplayAttack)
-    } else if name == b"xplay_defend".as_slice() {
-        Some(Function::XplayDefend)
-    } else {
-        None
-    }
 }
 
 /// The name that these bytes are.

@@ -29,7 +29,7 @@ use Rattle.db_rules.specs.Blocks.{Block, SoFar, blocks_of, lines_in, words_in, b
 use Rattle.db_rules.specs.Blocks.{with_cell, after_line, end_refused, at_start}
 use Rattle.db_rules.specs.Faults.{or_else, at_line, first_number, most_entries, is_unnamed, expression_kind}
 use Rattle.db_rules.specs.Faults.{pattern_fault, own_fault, table_fault, gathered_fault, closing_fault, found}
-use Rattle.db_rules.specs.Faults.{found_at_end, first_fault, end_number}
+use Rattle.db_rules.specs.Faults.{found_at_end, first_fault, end_number, closes}
 use Rattle.db_rules.specs.Database.{IsLineOf, IsInFront, IsColonLine, IsBlock, IsDatabase}
 use Rattle.db_rules.proofs.Walk.{walk, first_fault-walk}
 
@@ -149,25 +149,31 @@ letter_taken : (letter : Bool) (next : Stage) → cond letter (Next Start) (Refu
 letter_taken true next e = (refl, cc)
 letter_taken false next e = absurd cc
 
--- what a Pattern line closes has no fault where it is found to have none
-gathered_at_pattern : (number : ℕ) (stage : Stage) (front : List KeptLine) (done : List Block) (now : Option Block)
-    → closing_fault number (Some Pattern) (parts stage front done now) ≡ None → gathered_fault number stage now ≡ None
-gathered_at_pattern number stage front done None none = refl
-gathered_at_pattern number Start front done (Some b) none = refl
-gathered_at_pattern number Diagram front done (Some b) none = refl
-gathered_at_pattern number Labels front done (Some b) none = none
-gathered_at_pattern number Expression front done (Some b) none = none
-gathered_at_pattern number Actions front done (Some b) none = refl
+-- an action line that is taken leads to actions, and comes neither at the start nor in a main diagram
+action_taken : (stage next : Stage) (byte : ℕ) → table stage Action byte ≡ Next next → (next ≡ Actions)
+    × (stage ≢ Start) × (stage ≢ Diagram)
+action_taken Start next byte e = absurd cc
+action_taken Diagram next byte e = absurd cc
+action_taken Labels next byte e = (cc, (λ same. absurd cc), (λ same. absurd cc))
+action_taken Expression next byte e = (cc, (λ same. absurd cc), (λ same. absurd cc))
+action_taken Actions next byte e = (cc, (λ same. absurd cc), (λ same. absurd cc))
 
--- what the end closes has no fault where it is found to have none
-gathered_at_end : (number : ℕ) (stage : Stage) (front : List KeptLine) (done : List Block) (now : Option Block)
-    → closing_fault number None (parts stage front done now) ≡ None → gathered_fault number stage now ≡ None
-gathered_at_end number stage front done None none = refl
-gathered_at_end number Start front done (Some b) none = refl
-gathered_at_end number Diagram front done (Some b) none = refl
-gathered_at_end number Labels front done (Some b) none = none
-gathered_at_end number Expression front done (Some b) none = none
-gathered_at_end number Actions front done (Some b) none = refl
+-- a kind of line, or the end, that closes a constraint diagram and an expression
+abbrev ClosesBoth : Option LineKind → Type 0
+ClosesBoth kind = (closes Labels kind ≡ true) × (closes Expression kind ≡ true)
+
+-- what is closed has no fault where it is found to have none
+gathered_where_closed : (number : ℕ) (kind : Option LineKind) (stage : Stage) (front : List KeptLine)
+    (done : List Block) (now : Option Block) → ClosesBoth kind
+    → closing_fault number kind (parts stage front done now) ≡ None → gathered_fault number stage now ≡ None
+gathered_where_closed number kind stage front done None both none = refl
+gathered_where_closed number kind Start front done (Some b) both none = refl
+gathered_where_closed number kind Diagram front done (Some b) both none = refl
+gathered_where_closed number kind Labels front done (Some b) both none =
+    sym (ap (λ t. cond t (gathered_fault number Labels (Some b)) None) both.0) ∙ none
+gathered_where_closed number kind Expression front done (Some b) both none =
+    sym (ap (λ t. cond t (gathered_fault number Expression (Some b)) None) both.1) ∙ none
+gathered_where_closed number kind Actions front done (Some b) both none = refl
 
 -- a text whose end is not refused does not end in a main diagram
 not_in_diagram : (number : ℕ) (stage : Stage) → at_line number (end_refused stage) ≡ None → stage ≢ Diagram
@@ -509,7 +515,8 @@ module _ (helpers : List (List ℕ)) where
       let s = parts stage front done now in
       let taken = pattern_taken stage next (slice_index line.bytes 0) e in
       subst (λ t. Goes s (placed line t s Pattern) line) (sym taken.0)
-      (to_block s line stands of_kind (gathered_at_pattern line.number stage front done now closing) own taken.1)
+      (to_block s line stands of_kind
+      (gathered_where_closed line.number (Some Pattern) stage front done now (refl, refl) closing) own taken.1)
   by_kind Colon Diagram next front done None line stands of_kind e closing own = absurd (cc stands.fits.0)
   by_kind Colon Diagram next front done (Some b) line stands of_kind e closing own =
       let s = parts Diagram front done (Some b) in
@@ -534,26 +541,15 @@ module _ (helpers : List (List ℕ)) where
   by_kind Semicolon Start next front done now line stands of_kind e closing own = absurd cc
   by_kind Semicolon Diagram next front done now line stands of_kind e closing own = absurd cc
   by_kind Semicolon Actions next front done now line stands of_kind e closing own = absurd cc
-  by_kind Action Labels next front done None line stands of_kind e closing own = absurd (cc stands.fits.0)
-  by_kind Action Labels next front done (Some b) line stands of_kind e closing own =
-      let s = parts Labels front done (Some b) in
-      let block = whole_block line.number Labels b stands.fits.0 stands.fits.1 closing (λ same. absurd cc) in
-      subst (λ t. Goes s (placed line t s Action) line) (next_is Actions next e)
-      (to_actions Labels front done b line stands of_kind block)
-  by_kind Action Expression next front done None line stands of_kind e closing own = absurd (cc stands.fits.0)
-  by_kind Action Expression next front done (Some b) line stands of_kind e closing own =
-      let s = parts Expression front done (Some b) in
-      let block = whole_block line.number Expression b stands.fits.0 stands.fits.1 closing (λ same. absurd cc) in
-      subst (λ t. Goes s (placed line t s Action) line) (next_is Actions next e)
-      (to_actions Expression front done b line stands of_kind block)
-  by_kind Action Actions next front done None line stands of_kind e closing own = absurd (cc stands.fits.0)
-  by_kind Action Actions next front done (Some b) line stands of_kind e closing own =
-      let s = parts Actions front done (Some b) in
-      let block = whole_block line.number Actions b stands.fits.0 stands.fits.1 refl (λ same. absurd cc) in
-      subst (λ t. Goes s (placed line t s Action) line) (next_is Actions next e)
-      (to_actions Actions front done b line stands of_kind block)
-  by_kind Action Start next front done now line stands of_kind e closing own = absurd cc
-  by_kind Action Diagram next front done now line stands of_kind e closing own = absurd cc
+  by_kind Action stage next front done None line stands of_kind e closing own =
+      absurd ((action_taken stage next (slice_index line.bytes 0) e).1 stands.fits.0)
+  by_kind Action stage next front done (Some b) line stands of_kind e closing own =
+      let s = parts stage front done (Some b) in
+      let taken = action_taken stage next (slice_index line.bytes 0) e in
+      let none = gathered_where_closed line.number (Some Action) stage front done (Some b) (refl, refl) closing in
+      let block = whole_block line.number stage b stands.fits.0 stands.fits.1 none taken.2 in
+      subst (λ t. Goes s (placed line t s Action) line) (sym taken.0)
+      (to_actions stage front done b line stands of_kind block)
   by_kind Other Start next front done None line stands of_kind e closing own =
       let s = parts Start front done None in
       let letter = letter_taken (is_ascii_letter (slice_index line.bytes 0)) next e in
@@ -617,7 +613,8 @@ module _ (helpers : List (List ℕ)) where
   whole_at_end number s stands none =
       let both = or_none (closing_fault number None s) (at_line number (end_refused s.stage)) none in
       all_whole number s.stage s.done s.now stands.done stands.fits
-      (gathered_at_end number s.stage s.front s.done s.now both.0) (not_in_diagram number s.stage both.1)
+      (gathered_where_closed number None s.stage s.front s.done s.now (refl, refl) both.0)
+      (not_in_diagram number s.stage both.1)
 
 -- a text without a fault is a database
 pub faultless_is_database : (helpers : List (List ℕ)) (text : List ℕ) → first_fault helpers text ≡ None

@@ -7,11 +7,7 @@ use Rattle.pat_types.specs.declared.expr.Expr.{Expr, Num, Call, Not', Neg', Bin'
 use Rattle.pat_types.specs.declared.expr.Arg.{Arg}
 use Rattle.pat_types.specs.declared.expr.Arg.TheVariants.{Label, Star, Nowhere}
 use Rattle.pat_types.specs.declared.expr.Function.{Function}
-use Rattle.pat_types.specs.declared.expr.Function.TheVariants.{Lib, Xlib, Olib, Attack, Defend, Ko, SafeXmove}
-use Rattle.pat_types.specs.declared.expr.Function.TheVariants.{SafeOmove, LegalXmove, LegalOmove, OSomewhere}
-use Rattle.pat_types.specs.declared.expr.Function.TheVariants.{XSomewhere, SameWorm, DoesAttack, DoesDefend}
-use Rattle.pat_types.specs.declared.expr.Function.TheVariants.{OdefendAgainst, XdefendAgainst, OplayAttack, OplayDefend}
-use Rattle.pat_types.specs.declared.expr.Function.TheVariants.{XplayAttack, XplayDefend}
+use Rattle.pat_types.specs.declared.expr.Function.TheVariants.{OfPoint, OfPair, OfPoints, OfMoves}
 
 -- the label lies in a diagram of so many rows and columns
 abbrev pub is_in : ℕ → ℕ → LabelAt → Bool
@@ -54,35 +50,15 @@ are_between low high args = nat_le low (length args) && nat_le (length args) hig
 
 -- a function takes moves and then a point, or points alone
 abbrev pub takes_moves : Function → Bool
-takes_moves OplayAttack = true
-takes_moves OplayDefend = true
-takes_moves XplayAttack = true
-takes_moves XplayDefend = true
+takes_moves (OfMoves f) = true
 takes_moves _ = false
 
 -- the least and the greatest number of arguments of a function
 abbrev pub arity_of : Function → ℕ × ℕ
-arity_of Lib = (1, 1)
-arity_of Xlib = (1, 1)
-arity_of Olib = (1, 1)
-arity_of Attack = (1, 1)
-arity_of Defend = (1, 1)
-arity_of Ko = (1, 1)
-arity_of SafeXmove = (1, 1)
-arity_of SafeOmove = (1, 1)
-arity_of LegalXmove = (1, 1)
-arity_of LegalOmove = (1, 1)
-arity_of OSomewhere = (1, 8)
-arity_of XSomewhere = (1, 8)
-arity_of SameWorm = (2, 2)
-arity_of DoesAttack = (2, 2)
-arity_of DoesDefend = (2, 2)
-arity_of OdefendAgainst = (2, 2)
-arity_of XdefendAgainst = (2, 2)
-arity_of OplayAttack = (2, 9)
-arity_of OplayDefend = (2, 9)
-arity_of XplayAttack = (2, 9)
-arity_of XplayDefend = (2, 9)
+arity_of (OfPoint f) = (1, 1)
+arity_of (OfPair f) = (2, 2)
+arity_of (OfPoints f) = (1, 8)
+arity_of (OfMoves f) = (2, 9)
 
 -- the function may be called so
 abbrev pub may_call : List LabelAt → Function → List Arg → Bool

@@ -16,7 +16,9 @@ mod mark;
 mod pattern;
 
 pub use cell::{Drawn, Strip, anchor, drawn_in};
-pub use expr::{Arg, Expr, Function, Op};
+pub use expr::{
+    Arg, Expr, Function, MovesFunction, Op, PairFunction, PointFunction, PointsFunction,
+};
 pub use go_base::{Bytes, NoMemory};
 pub use laws::cells_are_drawn_as_seen;
 pub use letter::{Letter, letter_fits};

@@ -3,15 +3,15 @@ use Rattle.std.proofs.Common.{◌≡◌, suc, ◌-◌, ◌∙◌, ap, sym, lengt
 use Rattle.std.proofs.lemmas.Int.{to_z-of_z}
 use Rattle.std.specs.Option.{option_map}
 use Rattle.pat_types.specs.declared.expr.Arg.TheVariants.{Label}
-use Rattle.cons_eval.specs.Questions.{many_there, play_readings, counted}
-use Rattle.cons_eval.specs.Values.{if_there, play_value}
+use Rattle.cons_eval.specs.Questions.{many_there, moves_readings, counted}
+use Rattle.cons_eval.specs.Values.{if_there, moves_value}
 use Rattle.cons_eval.proofs.Moves.{none_last, last_point}
-use Rattle.cons_eval.proofs.calls.of_play.Goals as goal
+use Rattle.cons_eval.proofs.calls.of_moves.Goals as goal
 
 -- no arguments have no last one
 pub returns-in-empty-clause-value : goal.returns-in-empty-clause-value
 returns-in-empty-clause-value g c =
-    sym (ap (if_there (play_value (g.E.Env.view c.args.env.now).meanings c.args.function))
+    sym (ap (if_there (moves_value (g.E.Env.view c.args.env.now).meanings c.args.function))
     (none_last (g.E.Env.view c.args.env.now).meanings.point c.args.args.now c.in-empty.len_below))
 
 -- the last argument has a point
@@ -20,9 +20,9 @@ returns-in-Some-clause-value g c =
     let point = (g.E.Env.view c.args.env.now).meanings.point in
     let some = c.in-len1-up.len_at_least in
     let last : length c.args.args.now ≡ suc (length c.args.args.now - 1) = omega arith in
-    to_z-of_z w64 c.of_moves.result (record { sfits = c.of_moves.type_inv })
-    ∙ (c.of_moves.ensures.value
-    ∙ sym (ap (if_there (play_value (g.E.Env.view c.args.env.now).meanings c.args.function))
+    to_z-of_z w64 c.value_after.result (record { sfits = c.value_after.type_inv })
+    ∙ (c.value_after.ensures.value
+    ∙ sym (ap (if_there (moves_value (g.E.Env.view c.args.env.now).meanings c.args.function))
     (last_point point c.args.args.now (length c.args.args.now - 1) (Label 0) last
     ∙ ap (λ (p : Option ℕ). option_map (λ p. (map point (take (length c.args.args.now - 1) c.args.args.now), p)) p)
     (sym c.point.ensures ∙ c.in-Some.is))))
@@ -33,7 +33,7 @@ returns-in-None-clause-value g c =
     let point = (g.E.Env.view c.args.env.now).meanings.point in
     let some = c.in-len1-up.len_at_least in
     let last : length c.args.args.now ≡ suc (length c.args.args.now - 1) = omega arith in
-    sym (ap (if_there (play_value (g.E.Env.view c.args.env.now).meanings c.args.function))
+    sym (ap (if_there (moves_value (g.E.Env.view c.args.env.now).meanings c.args.function))
     (last_point point c.args.args.now (length c.args.args.now - 1) (Label 0) last
     ∙ ap (λ (p : Option ℕ). option_map (λ p. (map point (take (length c.args.args.now - 1) c.args.args.now), p)) p)
     (sym c.point.ensures ∙ c.in-None.is)))
@@ -43,7 +43,7 @@ pub returns-in-empty-clause-asked : goal.returns-in-empty-clause-asked
 returns-in-empty-clause-asked g c =
     let old = g.E.Env.view c.args.env.now in
     sym (ap (λ (o : Option (List (Option ℕ) × ℕ)).
-    counted (many_there (play_readings old.meanings c.args.function) o) old.asked)
+    counted (many_there (moves_readings old.meanings c.args.function) o) old.asked)
     (none_last old.meanings.point c.args.args.now c.in-empty.len_below))
 
 -- with a point the function asks for its own
@@ -53,9 +53,9 @@ returns-in-Some-clause-asked g c =
     let point = old.meanings.point in
     let some = c.in-len1-up.len_at_least in
     let last : length c.args.args.now ≡ suc (length c.args.args.now - 1) = omega arith in
-    c.of_moves.ensures.asked
+    c.value_after.ensures.asked
     ∙ sym (ap (λ (o : Option (List (Option ℕ) × ℕ)).
-    counted (many_there (play_readings old.meanings c.args.function) o) old.asked)
+    counted (many_there (moves_readings old.meanings c.args.function) o) old.asked)
     (last_point point c.args.args.now (length c.args.args.now - 1) (Label 0) last
     ∙ ap (λ (p : Option ℕ). option_map (λ p. (map point (take (length c.args.args.now - 1) c.args.args.now), p)) p)
     (sym c.point.ensures ∙ c.in-Some.is)))
@@ -68,7 +68,7 @@ returns-in-None-clause-asked g c =
     let some = c.in-len1-up.len_at_least in
     let last : length c.args.args.now ≡ suc (length c.args.args.now - 1) = omega arith in
     sym (ap (λ (o : Option (List (Option ℕ) × ℕ)).
-    counted (many_there (play_readings old.meanings c.args.function) o) old.asked)
+    counted (many_there (moves_readings old.meanings c.args.function) o) old.asked)
     (last_point point c.args.args.now (length c.args.args.now - 1) (Label 0) last
     ∙ ap (λ (p : Option ℕ). option_map (λ p. (map point (take (length c.args.args.now - 1) c.args.args.now), p)) p)
     (sym c.point.ensures ∙ c.in-None.is)))
