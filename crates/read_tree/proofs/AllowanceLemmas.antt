@@ -231,6 +231,14 @@ fewer_nodes fewer tree h = record { each = λ ko a. tree.each ko (h ko a) }
 pub without_less : (a b : Allowances) (ko : Ko) → has (without a b) ko ≡ true → has a ko ≡ true
 without_less a b ko h = (and_parts_not _ _ (sym (has-without a b ko) ∙ h)).0
 
+-- a node of the allowances that another set leaves of those asked
+pub left_nodes : {q : ReadingQuestion} {root here : BoardState} {n : ℕ} {turn : Turn} {asked missing : Allowances}
+    (found : Allowances) → AreNodesOf q root n turn asked here → missing ≡ without asked found
+    → AreNodesOf q root n turn missing here
+left_nodes {asked} found tree is = record {
+  each = λ ko h. tree.each ko (without_less asked found ko (sym (ap (λ s. has s ko) is) ∙ h));
+}
+
 -- where the first test gives the second
 pub and_true : (a b : Bool) → (a ≡ true → b ≡ true) → a ≡ (a && b)
 and_true true b h = sym (h refl)

@@ -1,9 +1,8 @@
 -- The target's liberties after an attacker's play that does not take it: those before, but for the point of the play.
-use Rattle.std.proofs.Common.{◌≡◌, ◌≢◌, ℕ, ◌*◌, ◌<◌, ◌&&◌, ◌||◌, true, not, cond, eqb, List, length, Option, Some, None}
+use Rattle.std.proofs.Common.{◌≡◌, ◌≢◌, ℕ, ◌*◌, ◌<◌, ◌&&◌, Bool, true, not, cond, eqb, List, length, Option, Some, None}
 use Rattle.std.proofs.Common.{IfSome, Ok, refl, sym, ap, subst, ◌∙◌, inl, inr, set}
 use Rattle.std.proofs.lemmas.Bool.{cases_eq, eq-eqb, ne_eqb, and_parts, and_from, both_ways}
 use Rattle.std.specs.Ordering.{nat_cmp}
-use Rattle.std.specs.Cmp.{nat_cmp_total}
 use Rattle.std.specs.FinSet as sets
 use Rattle.go_rules.specs.declared.Cell.{Cell}
 use Rattle.go_rules.specs.declared.Cell.TheVariants.{Empty}
@@ -29,6 +28,14 @@ use Rattle.read_tree.specs.Steps.{IsCarried}
 use Rattle.read_rules.proofs.AfterPlays.{after_liberty}
 use Rattle.read_rules.proofs.LibertyLemmas.{child_free}
 use Rattle.read_tree.proofs.TakeLemmas.{other_twice}
+use Rattle.go_base.specs.Facts.{Fact, SizeIs, Agrees, Grows, agrees_before, same_size}
+use Rattle.trial_board.specs.Trials.{Trying, Stays, after}
+use Rattle.trial_board.proofs.AfterLemmas.{size-after}
+use Rattle.read_moves.proofs.WholeBoards.{whole_after}
+use Rattle.read_rules.proofs.AreaLemmas.{target_on}
+use Rattle.read_tree.specs.declared.allowances.Allowances.{Allowances}
+use Rattle.read_tree.specs.declared.table.Entry.{Entry}
+use Rattle.read_tree.specs.Walk.{IsReady, IsPointOf, AreLibertiesOf, OnEachAgreeing}
 
 -- a stone of one colour is no stone of the other
 colours_differ : (c : Colour) → stone_of c ≡ stone_of (other c) → ⊥
@@ -197,3 +204,28 @@ carries Agreed turn p known here new (Some next) h played = λ pos a.
     carried_set (here pos) (other turn.defender) p
     (new pos) turn.target pos.size known next f.whole f.size f.point_on f.target_on (f.legal w.attacks)
     (w.enemy ∙ ap stone_of (sym (other_twice turn.defender))) f.known_is w.next_is
+
+-- what is carried along after a play that leads to a node under some allowance is what the looks afterwards know
+pub carried_on : {L : Type 0} {shows : L → BoardState} {seen : L → Fact → Bool} {old made next : Trying L} {turn : Turn}
+    {n : ℕ} {asked : Allowances} {known : sets.FinSet nat_cmp} {entries : List Entry}
+    → IsReady shows seen old turn n asked known entries → seen old.look (SizeIs (shows old.look).size) ≡ true
+    → (p : ℕ) → IsPointOf shows old p → Grows (seen old.look) (seen made.look) → Stays shows seen made next
+    → (found : Option (sets.FinSet nat_cmp))
+    → OnEachAgreeing seen made next (λ here. IfSome found (IsCarried turn here p known)) → (ko : Ko) (node : Node)
+    → ((pos : BoardState) → Agrees (seen made.look) pos
+    → child_of (under turn ko) (after pos old.moves) p ≡ Some (node, after pos made.moves))
+    → IfSome found (AreLibertiesOf seen next turn.target)
+carried_on {shows} {seen} {old} {made} {next} {turn} {known} ready told p on grows stays found carried ko node leads =
+    rw stays.moves (carries (Agrees (seen next.look)) turn p known (λ pos. after pos old.moves)
+    (λ pos. after pos made.moves) found carried (λ pos a.
+    let a1 = agrees_before stays.grows a in
+    let a0 = agrees_before grows a1 in
+    let size = same_size told a0 in
+    record {
+      size = size-after pos old.moves;
+      whole = whole_after pos old.moves a.sound.cells;
+      point_on = target_on pos.size (shows old.look).size p size on;
+      target_on = target_on pos.size (shows old.look).size turn.target size ready.target;
+      legal = made_free turn ko (after pos old.moves) p node (after pos made.moves) (leads pos a1);
+      known_is = ready.liberties pos a0;
+    }))

@@ -1,20 +1,19 @@
 -- The defender's play at a liberty of the target keeps the other liberties, and gains the empty sides of its point;
 -- with too many of them the target is saved.
-use Rattle.std.proofs.Common.{◌≡◌, ◌≢◌, ℕ, ◌-◌, ◌*◌, ◌<◌, ◌≤◌, ◌⊎◌, ◌&&◌, ◌||◌, Bool, true, false, not, cond, List}
+use Rattle.std.proofs.Common.{◌≡◌, ◌≢◌, ℕ, ◌-◌, ◌*◌, ◌<◌, ◌≤◌, ◌⊎◌, Bool, true, false, not, cond, List}
 use Rattle.std.proofs.Common.{length, refl, sym, ap, subst, ◌∙◌, arith, inl, inr, set}
-use Rattle.std.proofs.lemmas.Bool.{and_from, and_parts, or_cases, or_left, or_right, eqb-true, lt-ltb}
+use Rattle.std.proofs.lemmas.Bool.{and_from, and_parts, lt-ltb}
 use Rattle.std.specs.Ordering.{nat_cmp}
 use Rattle.std.specs.FinSet as sets
 use Rattle.go_rules.specs.declared.Cell.{Cell}
 use Rattle.go_rules.specs.declared.Cell.TheVariants.{Empty}
 use Rattle.go_rules.specs.declared.Colour.{Colour}
-use Rattle.go_rules.specs.Below.{count_below, set_below, any_below}
+use Rattle.go_rules.specs.Below.{count_below, set_below}
 use Rattle.go_rules.specs.Strings.{cell_at, is_stone, step, IsInString, IsLiberty, is_liberty, liberties}
-use Rattle.go_rules.specs.Strings.{liberty_points}
 use Rattle.go_rules.specs.Position.{BoardState, other, stone_of}
 use Rattle.go_rules.specs.Play.{play, cells_after}
 use Rattle.go_rules.proofs.OnlyLiberties.{stone_not_empty}
-use Rattle.go_rules.proofs.Counts.{count_below_mono, any_below_gives, any_below_from}
+use Rattle.go_rules.proofs.Counts.{count_below_mono}
 use Rattle.go_rules.proofs.Links.{are_neighbours_comm, path_same, path_back, path_keeps, liberty_moves, liberties_some}
 use Rattle.go_rules.proofs.Links.{liberties_from}
 use Rattle.go_rules.proofs.Paths.{path_on_board, IsLiberty-from_test, is_liberty-from_fact}
@@ -26,20 +25,13 @@ use Rattle.read_moves.specs.Reaches.{IsReached, by_side, by_string}
 use Rattle.read_moves.proofs.WholeBoards.{IsWhole}
 use Rattle.read_moves.proofs.ReachLemmas.{gained}
 use Rattle.read_rules.specs.Candidates.{IsEmptyNeighbour}
-use Rattle.go_base.specs.Views.{alone, neighbours_of}
-use Rattle.read_rules.specs.declared.node.Node.{Node}
-use Rattle.read_rules.specs.declared.question.ReadingQuestion.{ReadingQuestion}
-use Rattle.read_rules.specs.ActiveArea.{IsNodeOf, InActiveArea}
-use Rattle.read_rules.specs.GameTree.{is_captured, allowance_of, next_node, child_of, suits, succeeds}
-use Rattle.read_rules.proofs.AreaLemmas.{area_once}
+use Rattle.read_rules.specs.GameTree.{allowance_of, next_node, child_of, suits, succeeds}
 use Rattle.read_rules.proofs.RuleLemmas.{child_from}
 use Rattle.read_tree.specs.declared.turn.Turn.{Turn}
 use Rattle.read_tree.specs.Allowances.{Ko, under}
 use Rattle.read_rules.specs.Bound.{outlasts}
 use Rattle.read_tree.specs.Escapes.{Escapes}
 use Rattle.read_rules.proofs.LibertyLemmas.{bounded, some_liberty, more_outlasts_attacker}
-use Rattle.read_tree.proofs.OrderLemmas.{order_near}
-use Rattle.read_tree.proofs.TakeLemmas.{near_liberty}
 
 -- points that all pass the test are no more than those that do
 few_members : (n : ℕ) (test : ℕ → Bool) (points : sets.FinSet nat_cmp)
@@ -172,26 +164,3 @@ escape_succeeds n turn here known whole on defends its e ko =
     let lost = bounded n node new on
     (ap (λ b. outlasts (not b) n (turn.wide - 1) (liberties s new.cells t)) defends ∙ many) in
     ap (λ b. suits n b (child_of (under turn ko) here l)) defends ∙ ap (suits n false) child ∙ ap not lost
-
--- where an escape is looked for is in the active area of each question that has the node in its trees
-pub escape_near : (q : ReadingQuestion) (root here : BoardState) (n : ℕ) (node : Node) → IsNodeOf q root n node here
-    → (s : ℕ) → here.size ≡ s → node.target < s * s → is_captured here node.target ≡ false
-    → (known : sets.FinSet nat_cmp) → known ≡ liberty_points s here.cells node.target → (r : ℕ)
-    → (alone node.target r
-    || any_below (s * s) (λ l. sets.contains known l && (alone l r || neighbours_of s l r))) ≡ true
-    → InActiveArea q root r
-escape_near q root here n node tree s size on stands known is r h =
-    let t = node.target in
-    let once : (alone t r || sets.contains known r) ≡ true → InActiveArea q root r =
-    λ w. area_once q root here n node tree s size on stands r (near_liberty s here.cells t r known on is w) in
-    elim (or_cases (alone t r) _ h) [
-      | inl self ↦ once (or_left _ _ self)
-      | inr some ↦
-          let l = any_below_gives (s * s) _ some in
-          let both = and_parts (sets.contains known l.0) _ l.2 in
-          elim (or_cases (alone l.0 r) (neighbours_of s l.0 r) both.1) [
-            | inl at ↦ once (or_right (alone t r) _ (ap (sets.contains known) (eqb-true r l.0 at) ∙ both.0))
-            | inr side ↦ order_near q root here n node tree s size on stands known is r
-                (any_below_from (s * s) _ l.0 l.1 (and_from _ _ both.0 side))
-          ]
-    ]

@@ -6,6 +6,8 @@ pub mod TakeLemmas
 pub mod StageLemmas
 pub mod CarryLemmas
 pub mod OrderLemmas
+pub mod ReadyLemmas
+pub mod StandingNodes
 pub mod AtariLemmas
 pub mod EscapeLemmas
 pub mod TableLemmas

@@ -74,7 +74,7 @@ told_by (suc zero) (suc d) found test won few told is = absurd (omega (arith, fe
 told_by (suc (suc a)) d found test won few told is = absurd (omega (arith, few))
 
 -- the node of a turn under an allowance has the allowance's numbers
-under_by : (turn : Turn) (ko : Ko) (a d : ℕ) → attacker_ko_of ko ≡ a → defender_ko_of ko ≡ d
+pub under_by : (turn : Turn) (ko : Ko) (a d : ℕ) → attacker_ko_of ko ≡ a → defender_ko_of ko ≡ d
     → under turn ko ≡ record {
       target = turn.target;
       defender = turn.defender;

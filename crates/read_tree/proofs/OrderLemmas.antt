@@ -8,14 +8,6 @@ use Rattle.go_rules.specs.Below.{count_below, any_below}
 use Rattle.go_rules.proofs.Counts.{count_below_less, any_below_from}
 use Rattle.go_rules.proofs.Sets.{contains-insert_nat}
 use Rattle.go_base.specs.Views.{neighbours_of}
-use Rattle.go_rules.specs.Strings.{liberty_points}
-use Rattle.go_rules.specs.Position.{BoardState}
-use Rattle.read_rules.specs.declared.node.Node.{Node}
-use Rattle.read_rules.specs.declared.question.ReadingQuestion.{ReadingQuestion}
-use Rattle.read_rules.specs.GameTree.{is_captured}
-use Rattle.read_rules.specs.ActiveArea.{IsNodeOf, InActiveArea}
-use Rattle.read_rules.proofs.AreaLemmas.{area_candidates}
-use Rattle.read_moves.proofs.CandidateLemmas.{near_liberties}
 
 -- nothing is in the empty set
 pub none_tried : (tried : sets.FinSet nat_cmp) → tried ≡ sets.empty → (q : ℕ) → sets.contains tried q ≡ false
@@ -62,12 +54,3 @@ none_left points tried each q yet = elim (cases_Bool (points q)) [
       (each q t))
   | inr f ↦ f
 ]
-
--- the sides of the liberties are in the active area of each question that has the node in its trees
-pub order_near : (q : ReadingQuestion) (root here : BoardState) (n : ℕ) (node : Node) → IsNodeOf q root n node here
-    → (s : ℕ) → here.size ≡ s
-    → node.target < s * s → is_captured here node.target ≡ false → (known : sets.FinSet nat_cmp)
-    → known ≡ liberty_points s here.cells node.target
-    → (r : ℕ) → any_below (s * s) (λ l. sets.contains known l && neighbours_of s l r) ≡ true → InActiveArea q root r
-order_near q root here n node tree s size on stands known is r h =
-    area_candidates q root here n node tree s size on stands r (near_liberties s here.cells node.target on known r is h)

@@ -1,9 +1,7 @@
 -- Stages of candidates: the liberties of the target, and then the others.
-use Rattle.std.proofs.Common.{◌≡◌, ℕ, ◌+◌, ◌-◌, ◌*◌, ◌<◌, ◌≤◌, Bool, true, false, not, ◌&&◌, ◌||◌, ltb, List, Option}
+use Rattle.std.proofs.Common.{◌≡◌, ℕ, ◌-◌, ◌*◌, ◌<◌, ◌≤◌, Bool, true, false, not, ◌&&◌, ◌||◌, ltb, List, Option}
 use Rattle.std.proofs.Common.{Some, None, is_some, refl, sym, ap, subst, ◌∙◌, arith, inl, inr}
-use Rattle.std.proofs.lemmas.Bool.{cases_Bool, cases_eq, cases_lt, both_ways, and_parts, and_from, or_left, or_right}
-use Rattle.std.proofs.lemmas.Bool.{lt-ltb, le-ltb, eq-eqb, ne_eqb}
-use Rattle.go_rules.proofs.Sets.{contains-insert_nat}
+use Rattle.std.proofs.lemmas.Bool.{cases_Bool, both_ways, and_parts, and_from, or_left, or_right}
 use Rattle.std.specs.Ordering.{nat_cmp}
 use Rattle.std.specs.FinSet as sets
 use Rattle.go_rules.specs.declared.Cell.{Cell}
@@ -14,14 +12,10 @@ use Rattle.go_base.proofs.Liberties.{len-liberty_points}
 use Rattle.go_rules.specs.Position.{BoardState}
 use Rattle.read_rules.specs.declared.node.Node.{Node}
 use Rattle.read_rules.specs.Candidates.{is_candidate}
-use Rattle.read_rules.specs.GameTree.{is_captured, attacker_wins, child_of, mover_of, next_node, some_child, suits}
+use Rattle.read_rules.specs.GameTree.{attacker_wins, child_of, mover_of, next_node, some_child, suits}
 use Rattle.read_rules.specs.GameTree.{succeeds, first_success}
 use Rattle.go_base.specs.Facts.{Fact}
-use Rattle.read_rules.specs.declared.question.ReadingQuestion.{ReadingQuestion}
-use Rattle.read_rules.specs.ActiveArea.{AddsNear, IsNodeOf, InActiveArea}
-use Rattle.read_rules.proofs.AreaLemmas.{area_candidates}
-use Rattle.read_moves.proofs.CandidateLemmas.{near_twice}
-use Rattle.trial_board.specs.Overlays.{neighbourhood_twice}
+use Rattle.read_rules.specs.ActiveArea.{AddsNear}
 use Rattle.read_rules.proofs.CandidateLaws.{candidate_on}
 use Rattle.read_rules.proofs.RuleLemmas.{child_gives}
 use Rattle.read_rules.proofs.WinLemmas.{first_success-none}
@@ -368,10 +362,3 @@ module _ (turn : Turn) (here : BoardState) (q : ℕ) where
       split true false = refl
       split false true = refl
       split false false = refl
-
--- where captures are looked for is in the active area of each question that has the node in its trees
-pub captures_near : (q : ReadingQuestion) (root here : BoardState) (n : ℕ) (node : Node) → IsNodeOf q root n node here
-    → (s : ℕ) → here.size ≡ s → node.target < s * s → is_captured here node.target ≡ false
-    → (r : ℕ) → neighbourhood_twice s here.cells node.target r ≡ true → InActiveArea q root r
-captures_near q root here n node tree s size on stands r h =
-    area_candidates q root here n node tree s size on stands r (near_twice s here.cells node.target on r h)

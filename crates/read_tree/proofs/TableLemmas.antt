@@ -49,7 +49,7 @@ found {seen} {target} {defender} table i other node h same t =
     (All-get_or (λ (e : Entry). IsTrueOf seen target defender e.node e.verdict) table i other h t.all)
 
 -- those that are in both sets
-has_both : (a b : Allowances) (ko : Ko) → has (both a b) ko ≡ (has a ko && has b ko)
+pub has_both : (a b : Allowances) (ko : Ko) → has (both a b) ko ≡ (has a ko && has b ko)
 has_both a b defender_may = refl
 has_both a b neither_may = refl
 has_both a b attacker_may = refl

@@ -13,7 +13,7 @@ use Rattle.go_rules.specs.declared.Cell.{Cell}
 use Rattle.go_rules.specs.declared.Cell.TheVariants.{Empty}
 use Rattle.go_rules.specs.declared.Colour.{Colour}
 use Rattle.go_rules.specs.declared.Colour.TheVariants.{Black as black, White as white}
-use Rattle.go_rules.specs.Strings.{cell_at, is_stone, same_cell, Path, start, IsLiberty, is_liberty, liberties}
+use Rattle.go_rules.specs.Strings.{cell_at, is_stone, same_cell, start, IsLiberty, is_liberty, liberties}
 use Rattle.go_rules.specs.Strings.{liberty_points}
 use Rattle.go_rules.specs.Position.{BoardState, other, stone_of}
 use Rattle.go_rules.specs.Play.{play, cells_after, is_taken}

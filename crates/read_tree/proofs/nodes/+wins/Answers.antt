@@ -1,22 +1,19 @@
 -- The walk over the moves of a node answers what the tree says, over every position that agrees with what was seen.
-use Rattle.std.proofs.Common.{◌≡◌, ◌∙◌, ◌*◌, ◌<◌, ◌&&◌, ℕ, true, List, ap, sym, subst, inl, inr, arith, rules}
+use Rattle.std.proofs.Common.{◌∙◌, ◌&&◌, ap, sym, inl, inr, arith, rules}
 use Rattle.std.specs.FinSet as set
 use Rattle.std.proofs.lemmas.Bool.{cases_eq}
 use Rattle.go_base.specs.Facts.{agrees_before, Grows-refl, Grows-trans}
 use Rattle.go_rules.specs.declared.Cell.TheVariants.{Empty}
 use Rattle.go_rules.proofs.Cells.{eq_is_same_cell}
-use Rattle.go_rules.specs.Position.{BoardState}
-use Rattle.trial_board.specs.declared.moves.TrialMove.{TrialMove}
 use Rattle.trial_board.specs.Trials.{after}
-use Rattle.trial_board.proofs.AfterLemmas.{size-after}
-use Rattle.read_rules.specs.Candidates.{is_candidate}
 use Rattle.read_rules.specs.GameTree.{succeeds}
-use Rattle.read_rules.proofs.CandidateLaws.{candidate_on}
 use Rattle.read_rules.proofs.WinLemmas.{wins-captured, wins-no_plies, wins-by_move, none_before, first_success-found}
 use Rattle.read_rules.proofs.WinLemmas.{first_success-none}
 use Rattle.read_tree.proofs.TableLemmas.{table_more}
 use Rattle.read_tree.proofs.NodeLemmas.{play_made, play_refused, no_pass, pass_made, first_pass, first_point, good_barred}
 use Rattle.read_tree.proofs.NodeLemmas.{good_first}
+use Rattle.trial_board.specs.Trials.{Stays-trans}
+use Rattle.read_tree.proofs.ReadyLemmas.{candidate_inside, point_after}
 use Rattle.read_tree.proofs.nodes.+wins.Goals as goal
 
 -- the play is made
@@ -45,12 +42,6 @@ pass_saves-returns-clause-over g t c = λ pos a.
     (rw (c.pass.ensures, c.next.ensures, c.allowance.ensures) at
     (c.wins_at-won.ensures.over pos (rw c.back.ensures.moves at a)))
 
--- a candidate is on the board
-candidate_inside : (shown : BoardState) (moves : List TrialMove) (target wide p : ℕ)
-    → is_candidate (after shown moves) target wide p ≡ true → p < shown.size * shown.size
-candidate_inside shown moves target wide p h =
-    subst (λ n. p < n * n) (size-after shown moves) (candidate_on (after shown moves) target wide p h)
-
 -- no candidate was tried yet
 pub first_success-plays-init : goal.first_success-plays-init
 first_success-plays-init g t c = record {
@@ -63,15 +54,11 @@ first_success-plays-init g t c = record {
 -- the next candidate and the target are on the board
 pub first_success-succeeds-requires : goal.first_success-succeeds-requires
 first_success-succeeds-requires g t c κs within =
-    let inside = candidate_inside (g.L.Look.shows c.args.board.now.look) c.args.board.now.moves c.args.node.target
-    c.args.node.wide c.in-Some.p (sym (c.candidates-candidates.ensures.answer c.in-Some.p)
-    ∙ c.in-Some.ensures.some.2) in
     let i = c.plays.invariant in
-    let still : (p : ℕ) → p < (g.L.Look.shows c.args.board.now.look).size * (g.L.Look.shows c.args.board.now.look).size
-    → p < (g.L.Look.shows c.plays.board.look).size * (g.L.Look.shows c.plays.board.look).size =
-    λ p h. subst (λ (pos : BoardState). p < pos.size * pos.size) (sym i.stays.shown) h in
-    let on = still c.in-Some.p inside in
-    let target = still c.args.node.target c.requires.target in
+    let on = point_after i.stays c.in-Some.p (candidate_inside (g.L.Look.shows c.args.board.now.look)
+    c.args.board.now.moves c.args.node.target c.args.node.wide c.in-Some.p
+    (sym (c.candidates-candidates.ensures.answer c.in-Some.p) ∙ c.in-Some.ensures.some.2)) in
+    let target = point_after i.stays c.args.node.target c.requires.target in
     search rules
 
 -- it does not succeed, and none before it did
@@ -81,11 +68,7 @@ first_success-plays-preserved g t c =
     let later = c.succeeds.ensures.stays in
     let found = c.in-Some.ensures.some in
     record {
-      stays = record {
-        moves = later.moves ∙ i.stays.moves;
-        shown = later.shown ∙ i.stays.shown;
-        grows = Grows-trans i.stays.grows later.grows;
-      };
+      stays = Stays-trans i.stays later;
       grows = Grows-trans i.grows later.grows;
       table = c.succeeds.ensures.table;
       none = λ pos a q below.

@@ -4,12 +4,40 @@ use Rattle.go_base.specs.Facts.{agrees_before, AddsIn-mono, same_size}
 use Rattle.trial_board.specs.Trials.{after}
 use Rattle.read_tree.proofs.TakeLemmas.{near_liberty}
 use Rattle.read_rules.proofs.AreaLemmas.{target_on}
+use Rattle.std.proofs.Common.{◌≡◌}
+use Rattle.go_base.specs.Facts.{Agrees, AddsIn}
+use Rattle.go_base.specs.Views.{alone}
+use Rattle.go_rules.specs.Neighbourhood.{neighbourhood_of}
+use Rattle.go_rules.specs.Position.{BoardState}
+use Rattle.go_rules.specs.Strings.{liberty_points}
+use Rattle.read_tree.proofs.outlook.outlook_of.Given.{Over}
+use Rattle.read_tree.proofs.outlook.outlook_of.Goals.{After-can_take}
 use Rattle.read_tree.proofs.outlook.outlook_of.Goals as goal
 
 -- a target that is safe has too many liberties on each position that agrees
 pub returns-then-has_too_many-clause-over : goal.returns-then-has_too_many-clause-over
 returns-then-has_too_many-clause-over g c = λ pos a.
     sym (c.requires.liberties pos a).many ∙ sym c.has_too_many.ensures ∙ c.if-has_too_many.true
+
+-- The liberties that are known are not too many.
+module _ (g : Over) (c : After-can_take g) (pos : BoardState)
+    (a : Agrees (g.L.Look.seen c.can_take.new.board.look) pos) where
+  -- a position that agrees now agreed before
+  before : Agrees (g.L.Look.seen c.args.board.now.look) pos
+  before = agrees_before c.can_take.ensures.stays.grows a
+
+  -- they are all liberties of the target
+  all_known : c.args.known.now ≡ liberty_points pos.size (after pos c.args.board.now.moves).cells c.args.turn.target
+  all_known = (c.requires.liberties pos before).all (sym c.has_too_many.ensures ∙ c.if-has_too_many.false)
+
+  -- the target and its liberties lie in its neighbourhood
+  looks_near : AddsIn (g.L.Look.seen c.args.board.now.look) (g.L.Look.seen c.can_take.new.board.look)
+      (neighbourhood_of pos.size (after pos c.args.board.now.moves).cells (alone c.args.turn.target))
+  looks_near =
+      let on = target_on pos.size (g.L.Look.shows c.args.board.now.look).size c.args.turn.target
+      (same_size (g.met.L.Look.sized c.args.board.now.look) before) c.requires.target in
+      AddsIn-mono c.can_take.ensures.near (λ p h. near_liberty pos.size (after pos c.args.board.now.moves).cells
+      c.args.turn.target p c.args.known.now on all_known h)
 
 -- a target that is taken has not too many liberties
 pub returns-then-can_take-clause-over : goal.returns-then-can_take-clause-over
@@ -25,45 +53,25 @@ returns-clause-over g c = λ pos a.
 
 -- a target that is taken has all of its liberties known
 pub returns-then-can_take-clause-all : goal.returns-then-can_take-clause-all
-returns-then-can_take-clause-all g c = λ pos a few.
-    (c.requires.liberties pos (agrees_before c.can_take.ensures.stays.grows a)).all
-    (sym c.has_too_many.ensures ∙ c.if-has_too_many.false)
+returns-then-can_take-clause-all g c = λ pos a few. all_known g (goal.at.returns-then-can_take-clause-all g c).After-can_take pos a
 
 -- and so has one whose node is to be read
 pub returns-clause-all : goal.returns-clause-all
-returns-clause-all g c = λ pos a few.
-    (c.requires.liberties pos (agrees_before c.can_take.ensures.stays.grows a)).all
-    (sym c.has_too_many.ensures ∙ c.if-has_too_many.false)
+returns-clause-all g c = λ pos a few. all_known g (goal.at.returns-clause-all g c).After-can_take pos a
 
 -- whoever takes it by its only liberty takes it on each position where these are all
 pub returns-then-can_take-clause-taken : goal.returns-then-can_take-clause-taken
 returns-then-can_take-clause-taken g c = λ pos a is.
-    c.can_take.ensures.over pos a ((c.requires.liberties pos (agrees_before c.can_take.ensures.stays.grows a)).all
-    (sym c.has_too_many.ensures ∙ c.if-has_too_many.false)) c.if-can_take.true
+    c.can_take.ensures.over pos a (all_known g (goal.at.returns-then-can_take-clause-taken g c).After-can_take pos a)
+    c.if-can_take.true
 
--- the target and its liberties lie in its neighbourhood
+-- where it is taken the looks lie in its neighbourhood
 pub returns-then-can_take-clause-near : goal.returns-then-can_take-clause-near
-returns-then-can_take-clause-near g c = λ pos a.
-    let a0 = agrees_before c.can_take.ensures.stays.grows a in
-    let cells = (after pos c.args.board.now.moves).cells in
-    let t = c.args.turn.target in
-    let on = target_on pos.size (g.L.Look.shows c.args.board.now.look).size t
-    (same_size (g.met.L.Look.sized c.args.board.now.look) a0) c.requires.target in
-    AddsIn-mono c.can_take.ensures.near (λ p h.
-    near_liberty pos.size cells t p c.args.known.now on ((c.requires.liberties pos a0).all
-    (sym c.has_too_many.ensures ∙ c.if-has_too_many.false)) h)
+returns-then-can_take-clause-near g c = λ pos a. looks_near g (goal.at.returns-then-can_take-clause-near g c).After-can_take pos a
 
 -- at a node that is to be read the looks lie in the target's neighbourhood
 pub returns-clause-near : goal.returns-clause-near
-returns-clause-near g c = λ pos a.
-    let a0 = agrees_before c.can_take.ensures.stays.grows a in
-    let cells = (after pos c.args.board.now.moves).cells in
-    let t = c.args.turn.target in
-    let on = target_on pos.size (g.L.Look.shows c.args.board.now.look).size t
-    (same_size (g.met.L.Look.sized c.args.board.now.look) a0) c.requires.target in
-    AddsIn-mono c.can_take.ensures.near (λ p h.
-    near_liberty pos.size cells t p c.args.known.now on ((c.requires.liberties pos a0).all
-    (sym c.has_too_many.ensures ∙ c.if-has_too_many.false)) h)
+returns-clause-near g c = λ pos a. looks_near g (goal.at.returns-clause-near g c).After-can_take pos a
 
 -- the position shown is one that agrees
 pub can_take-requires : goal.can_take-requires

@@ -20,17 +20,19 @@ use Rattle.read_rules.proofs.AnswerLemmas.{about_stands}
 use Rattle.read_rules.proofs.AreaLemmas.{AddsNear-trans, undecided_defender}
 use Rattle.read_tree.proofs.BestLemmas.{best_nothing, best_pass, best_three, best_answer, first_nodes}
 use Rattle.read_tree.proofs.TurnBounds.{undecided_at}
+use Rattle.read_rules.specs.ActiveArea.{InActiveArea, AddsNear}
+use Rattle.read_rules.specs.Answer.{is_about}
+use Rattle.read_tree.specs.Steps.{IsBest}
+use Rattle.read_tree.specs.Walk.{OnEachAgreeing}
+use Rattle.read_tree.proofs.AllowanceLemmas.{and_false_right}
+use Rattle.read_tree.proofs.reading.read_by.Given.{Over}
+use Rattle.read_tree.proofs.reading.read_by.Goals.{After-better-best}
 use Rattle.read_tree.proofs.reading.read_by.Goals as goal
 
 -- two tests do not both pass where the first fails
 and_off : (a b : Bool) → a ≡ false → (a && b) ≡ false
 and_off true b e = cc
 and_off false b e = refl
-
--- two tests do not both pass where the second fails
-and_off_right : (a b : Bool) → b ≡ false → (a && b) ≡ false
-and_off_right true b e = e
-and_off_right false b e = refl
 
 -- whose turn the first is
 turn_of : {turn first : Turn} {b : Bool} → turn ≡ first → turn.attacker_to_play ≡ b → first.attacker_to_play ≡ b
@@ -61,7 +63,7 @@ returns-then-turn g c = record {
       let und = undecided_at q.plies (first_turn q) here pos.size (size-after pos c.args.board.now.moves)
       (about_stands q here about) few in
       best_answer q here c.best_point.result some about
-      (and_off_right (is_attack q.kind) _ ((und neither_may).few attacks))
+      (and_false_right (is_attack q.kind) _ ((und neither_may).few attacks))
       ((rw c.first_turn-turn.ensures at (c.best_point.ensures.over pos a))
       (best_nothing (q.plies - 1) (first_turn q) here attacks));
   near = λ pos a about.
@@ -76,80 +78,81 @@ returns-then-turn g c = record {
       (about_stands q here about) few);
 }
 
+-- The defender's pass was read.
+module _ (g : Over) (c : After-better-best g) where
+  -- the first turn is not the attacker's
+  defends : (first_turn c.args.question.now).attacker_to_play ≡ false
+  defends = turn_of c.first_turn-turn.ensures c.if-turn.false
+
+  -- it is the best so far, on each position that agrees
+  pass_best : OnEachAgreeing g.L.Look.seen c.args.board.now c.pass_saves-saved.new.board (λ here.
+      IsBest (c.args.question.now.plies - 1) (first_turn c.args.question.now) here nowhere c.better-best.result)
+  pass_best pos a =
+      let q = c.args.question.now in
+      let saved = rw (c.all.ensures, c.first_turn-turn.ensures) at (c.pass_saves-saved.ensures.over pos a) in
+      rw (c.better-best.ensures.is, c.first_turn-turn.ensures)
+      (best_pass (q.plies - 1) (first_turn q) (after pos c.args.board.now.moves) c.pass_saves-saved.result saved)
+
+  -- the looks after it lie in the active area
+  pass_near : OnEachAgreeing g.L.Look.seen c.args.board.now c.pass_saves-saved.new.board (λ here.
+      is_about c.args.question.now here ≡ true → AddsNear (g.L.Look.seen c.args.board.now.look)
+      (g.L.Look.seen c.pass_saves-saved.new.board.look) (InActiveArea c.args.question.now here))
+  pass_near pos a about =
+      let q = c.args.question.now in
+      let here = after pos c.args.board.now.moves in
+      let some : q.plies ≢ 0 = omega (arith, c.requires.ready.plies) in
+      (rw (c.all.ensures, c.first_turn-turn.ensures) at (c.pass_saves-saved.ensures.near pos a q here))
+      (first_nodes q here some) (about_stands q here about)
+
 -- the defender's pass saves under each allowance, and the looks after it lie in the active area
 pub returns-then-best-eq3 : goal.returns-then-best-eq3
-returns-then-best-eq3 g c = record {
-  stays = search rules;
-  code = search rules;
-  none = search rules;
-  on_board = search rules;
-  over = λ pos a about.
-      let q = c.args.question.now in
-      let here = after pos c.args.board.now.moves in
-      let some : q.plies ≢ 0 = omega (arith, c.requires.ready.plies) in
-      let saved = rw (
-        c.all.ensures,
-        c.first_turn-turn.ensures,
-      ) at (c.pass_saves-saved.ensures.over pos a) in
-      best_answer q here c.better-best.result some about
-      (and_off (is_attack q.kind) _ (turn_of c.first_turn-turn.ensures c.if-turn.false))
-      (best_three (q.plies - 1) (first_turn q) here nowhere c.better-best.result
-      (rw (c.better-best.ensures.is, c.first_turn-turn.ensures)
-      (best_pass (q.plies - 1) (first_turn q) here c.pass_saves-saved.result saved)) c.if-best-eq3.true
-      (is_candidate here q.target q.wide));
-  near = λ pos a about.
-      let q = c.args.question.now in
-      let here = after pos c.args.board.now.moves in
-      let some : q.plies ≢ 0 = omega (arith, c.requires.ready.plies) in
-      (rw (
-        c.all.ensures,
-        c.first_turn-turn.ensures,
-      ) at (c.pass_saves-saved.ensures.near pos a q here)) (first_nodes q here some)
-      (about_stands q here about);
-}
+returns-then-best-eq3 g c =
+    let d = (goal.at.returns-then-best-eq3 g c).After-better-best in
+    record {
+      stays = search rules;
+      code = search rules;
+      none = search rules;
+      on_board = search rules;
+      over = λ pos a about.
+          let q = c.args.question.now in
+          let here = after pos c.args.board.now.moves in
+          let some : q.plies ≢ 0 = omega (arith, c.requires.ready.plies) in
+          best_answer q here c.better-best.result some about (and_off (is_attack q.kind) _ (defends g d))
+          (best_three (q.plies - 1) (first_turn q) here nowhere c.better-best.result (pass_best g d pos a)
+          c.if-best-eq3.true (is_candidate here q.target q.wide));
+      near = pass_near g d;
+    }
 
 -- the pass, and then the defender's plays: their looks lie in the active area
 pub returns : goal.returns
-returns g c = record {
-  stays = search rules;
-  code = search rules;
-  none = search rules;
-  on_board = search rules;
-  over = λ pos a about.
-      let q = c.args.question.now in
-      let here = after pos c.args.board.now.moves in
-      let some : q.plies ≢ 0 = omega (arith, c.requires.ready.plies) in
-      let a1 = agrees_before c.best_point-2.ensures.stays.grows a in
-      let saved = rw (
-        c.all.ensures,
-        c.first_turn-turn.ensures,
-      ) at (c.pass_saves-saved.ensures.over pos a1) in
-      best_answer q here c.best_point-2.result some about
-      (and_off (is_attack q.kind) _ (turn_of c.first_turn-turn.ensures c.if-turn.false))
-      ((rw (
-        c.pass_saves-saved.ensures.stays.moves,
-        c.first_turn-turn.ensures,
-      ) at (c.best_point-2.ensures.over pos a))
-      (rw (c.better-best.ensures.is, c.first_turn-turn.ensures)
-      (best_pass (q.plies - 1) (first_turn q) here c.pass_saves-saved.result saved)));
-  near = λ pos a about.
-      let q = c.args.question.now in
-      let here = after pos c.args.board.now.moves in
-      let some : q.plies ≢ 0 = omega (arith, c.requires.ready.plies) in
-      let a1 = agrees_before c.best_point-2.ensures.stays.grows a in
-      let stands = about_stands q here about in
-      AddsNear-trans
-      ((rw (
-        c.all.ensures,
-        c.first_turn-turn.ensures,
-      ) at (c.pass_saves-saved.ensures.near pos a1 q here))
-      (first_nodes q here some) stands)
-      ((rw (
-        c.pass_saves-saved.ensures.stays.moves,
-        c.first_turn-turn.ensures,
-      ) at (c.best_point-2.ensures.near pos a q here))
-      (first_nodes q here some) (λ ko. undecided_defender stands (turn_of c.first_turn-turn.ensures c.if-turn.false)));
-}
+returns g c =
+    let d = (goal.at.returns g c).After-better-best in
+    record {
+      stays = search rules;
+      code = search rules;
+      none = search rules;
+      on_board = search rules;
+      over = λ pos a about.
+          let q = c.args.question.now in
+          let some : q.plies ≢ 0 = omega (arith, c.requires.ready.plies) in
+          let a1 = agrees_before c.best_point-2.ensures.stays.grows a in
+          best_answer q (after pos c.args.board.now.moves) c.best_point-2.result some about
+          (and_off (is_attack q.kind) _ (defends g d))
+          ((rw (
+            c.pass_saves-saved.ensures.stays.moves,
+            c.first_turn-turn.ensures,
+          ) at (c.best_point-2.ensures.over pos a)) (pass_best g d pos a1));
+      near = λ pos a about.
+          let q = c.args.question.now in
+          let here = after pos c.args.board.now.moves in
+          let some : q.plies ≢ 0 = omega (arith, c.requires.ready.plies) in
+          AddsNear-trans (pass_near g d pos (agrees_before c.best_point-2.ensures.stays.grows a) about)
+          ((rw (
+            c.pass_saves-saved.ensures.stays.moves,
+            c.first_turn-turn.ensures,
+          ) at (c.best_point-2.ensures.near pos a q here))
+          (first_nodes q here some) (λ ko. undecided_defender (about_stands q here about) (defends g d)));
+    }
 
 -- what the table tells is of the first turn's target
 pub best_point-requires-clause-table : goal.best_point-requires-clause-table

@@ -1,0 +1,55 @@
+-- What a function of the walk needs is still so after looks.
+use Rattle.std.proofs.Common.{◌≡◌, ℕ, ◌*◌, ◌<◌, Bool, true, List, sym, subst}
+use Rattle.std.specs.Ordering.{nat_cmp}
+use Rattle.std.specs.FinSet as sets
+use Rattle.go_rules.specs.Position.{BoardState}
+use Rattle.go_base.specs.Facts.{Fact, SizeIs, Agrees, agrees_before, same_size}
+use Rattle.trial_board.specs.declared.moves.TrialMove.{TrialMove}
+use Rattle.trial_board.specs.Trials.{Trying, Stays, after}
+use Rattle.trial_board.proofs.AfterLemmas.{size-after}
+use Rattle.read_rules.specs.Candidates.{is_candidate}
+use Rattle.read_rules.proofs.AreaLemmas.{target_on}
+use Rattle.read_rules.proofs.CandidateLaws.{candidate_on}
+use Rattle.read_tree.specs.declared.table.Entry.{Entry}
+use Rattle.read_tree.specs.declared.turn.Turn.{Turn}
+use Rattle.read_tree.specs.declared.allowances.Allowances.{Allowances}
+use Rattle.read_tree.specs.Allowances.{has_some}
+use Rattle.read_tree.specs.Table.{IsTrueTable}
+use Rattle.read_tree.specs.Walk.{IsReady, IsPointOf, AreLibertiesOf}
+
+-- a candidate is on the board
+pub candidate_inside : (shown : BoardState) (moves : List TrialMove) (target wide p : ℕ)
+    → is_candidate (after shown moves) target wide p ≡ true → p < shown.size * shown.size
+candidate_inside shown moves target wide p h =
+    subst (λ n. p < n * n) (size-after shown moves) (candidate_on (after shown moves) target wide p h)
+
+-- a point that lies on the board lies on it after the moves, on a position that agrees with what was seen
+pub on_after : {seen : Fact → Bool} {pos : BoardState} {t : ℕ} (s : ℕ) → seen (SizeIs s) ≡ true → Agrees seen pos
+    → (moves : List TrialMove) → t < s * s → t < (after pos moves).size * (after pos moves).size
+on_after {pos} {t} s told agrees moves on =
+    target_on (after pos moves).size pos.size t (size-after pos moves)
+    (target_on pos.size s t (same_size told agrees) on)
+
+-- Looks that leave the moves and the position shown.
+module _ {L : Type 0} {shows : L → BoardState} {seen : L → Fact → Bool} {old new : Trying L}
+    (stays : Stays shows seen old new) where
+  -- a point of the board is still one
+  pub point_after : (p : ℕ) → IsPointOf shows old p → IsPointOf shows new p
+  point_after p on = subst (λ (pos : BoardState). p < pos.size * pos.size) (sym stays.shown) on
+
+  -- the liberties that are known are still the target's
+  pub liberties_after : (target : ℕ) (points : sets.FinSet nat_cmp) → AreLibertiesOf seen old target points
+      → AreLibertiesOf seen new target points
+  liberties_after target points its = λ pos a. rw stays.moves (its pos (agrees_before stays.grows a))
+
+  -- the walk may go on, where some allowance is left, by a table that is true of what is seen
+  pub ready_after : {turn : Turn} {n : ℕ} {asked : Allowances} {points : sets.FinSet nat_cmp}
+      {entries later : List Entry} (left : Allowances) → IsReady shows seen old turn n asked points entries → has_some left ≡ true
+      → IsTrueTable (seen new.look) turn.target turn.defender later → IsReady shows seen new turn n left points later
+  ready_after {turn} {points} left ready some table = record {
+    room = rw stays.moves ready.room;
+    target = point_after turn.target ready.target;
+    some = some;
+    liberties = liberties_after turn.target points ready.liberties;
+    table = table;
+  }
