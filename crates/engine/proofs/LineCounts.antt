@@ -14,7 +14,8 @@ use Rattle.read_rules.specs.declared.question.Kind.{Kind}
 use Rattle.read_rules.specs.declared.question.Kind.TheVariants.{Attack, Defend}
 use Rattle.run_notes.specs.declared.notes.Counts.{Counts}
 use Rattle.match_engine.specs.declared.keys.Key.{Key}
-use Rattle.match_engine.specs.Readings.{ReadingsView, HasRead, AllRest}
+use Rattle.read_cache.specs.Kept.{HoldsOfEach}
+use Rattle.match_engine.specs.Readings.{ReadingsView, HasRead, Rests}
 use Rattle.machine_rules.specs.Machine.{Machine}
 use Rattle.engine.specs.SessionState.{SessionState, board_of, machine_alone}
 use Rattle.machine_rules.specs.Counting.{counted, has_stone, is_read, is_parsed_read, is_read_line}
@@ -144,7 +145,7 @@ module _ (old new : SessionState) (kind : Kind) (p : ℕ) (pos : BoardState) (an
   -- where a stone stands at the point, it is what was asked
   pub ReadsAs-once : HasRead
       (record { question = asked_on pos kind p before.plies before.wide }) pos answer before after
-      → IsPosition pos → AllRest after.kept → CountsRefused old → CountsRefused new
+      → IsPosition pos → HoldsOfEach Rests after.answers.kept → CountsRefused old → CountsRefused new
       → new.counts.fresh ≡ counted old.counts.fresh (is_some new.readings.last)
       → new.counts.trials ≡ after_trials old.counts.trials new.readings.last → has_stone (machine_alone old) p ≡ true
       → ReadsAs (asks_at (machine_alone old) kind p) old new
@@ -154,7 +155,7 @@ module _ (old new : SessionState) (kind : Kind) (p : ℕ) (pos : BoardState) (an
         answer = answer;
         read = read_here has;
         board = subst IsPosition board sound;
-        rest = subst (λ (r : ReadingsView). AllRest r.kept) (sym is) rest;
+        rest = subst (λ (r : ReadingsView). HoldsOfEach Rests r.answers.kept) (sym is) rest;
         refused_before = earlier;
         refused = later;
         fresh = fresh;

@@ -5,7 +5,8 @@ use Rattle.link_rules.specs.Linkages.{asked_on, linkage_of}
 use Rattle.link_rules.specs.declared.question.LinkKind.{LinkKind}
 use Rattle.link_rules.specs.declared.question.LinkQuestion.{LinkQuestion}
 use Rattle.link_rules.specs.declared.question.Linkage.{Linkage}
-use Rattle.link_readings.specs.Connections.{ConnectionsView, HasAsked, AllRest, key_on}
+use Rattle.read_cache.specs.Kept.{HoldsOfEach}
+use Rattle.link_readings.specs.Connections.{ConnectionsView, Rests, HasAsked, key_on}
 use Rattle.machine_rules.specs.Counting.{counted}
 use Rattle.machine_rules.specs.Effects.{told}
 use Rattle.machine_rules.specs.LinkCommands.{linked, linkage_at, linkage_text}
@@ -40,7 +41,7 @@ module _ (old new : SessionState) (kind : LinkKind) (a b : ℕ)
   pub LinksAs-once : (pos : BoardState) (linkage : Linkage) (before after : ConnectionsView)
       → pos ≡ board_of old → before ≡ old.links → before.plies ≡ old.plies → new.links ≡ after
       → HasAsked (key_on pos kind a b before.plies) pos linkage before.answers after.answers
-      → IsPosition pos → AllRest after.answers.kept
+      → IsPosition pos → HoldsOfEach Rests after.answers.kept
       → new.counts.links.connections ≡ counted old.counts.links.connections true
       → CountsFreshLinks old → CountsFreshLinks new
       → LinksAs (asks_link_at (machine_alone old) kind a b) old new
@@ -57,7 +58,7 @@ module _ (old new : SessionState) (kind : LinkKind) (a b : ℕ)
         answer = linkage;
         asked = here;
         board = subst IsPosition board sound;
-        rest = subst (λ (v : ConnectionsView). AllRest v.answers.kept) (sym is) rest;
+        rest = subst (λ (v : ConnectionsView). HoldsOfEach Rests v.answers.kept) (sym is) rest;
         connections = connections;
         fresh_before = fresh_before;
         fresh = fresh;

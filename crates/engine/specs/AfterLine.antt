@@ -4,7 +4,8 @@ use Rattle.std.specs.Prelude.{◌≡◌, ℕ, ◌+◌, ◌-◌, ◌^◌, ◌≤�
 use Rattle.std.specs.Option.{is_some}
 use Rattle.go_rules.specs.Position.{IsPosition}
 use Rattle.match_engine.specs.declared.keys.Key.{Key}
-use Rattle.match_engine.specs.Readings.{HasRead, AllRest}
+use Rattle.read_cache.specs.Kept.{HoldsOfEach}
+use Rattle.match_engine.specs.Readings.{HasRead, Rests}
 use Rattle.machine_rules.specs.Machine.{Machine}
 use Rattle.engine.specs.SessionState.{SessionState, board_of, no_links}
 use Rattle.engine.specs.AskedLinks.{LinksAs}
@@ -35,7 +36,7 @@ after_trials count (Some n) = min (count + n) (2 ^ 64 - 1)
 
 -- the session counts as many refused keepings as its readings
 abbrev pub CountsRefused : SessionState → Type 0
-CountsRefused session = session.counts.refused ≡ session.readings.refused
+CountsRefused session = session.counts.refused ≡ session.readings.answers.refused
 
 -- One call of the readings was made, for this question. It counts as fresh, with its trial plays, exactly where the
 -- readings say so. The board is a position, and each kept answer rests on its facts.
@@ -43,7 +44,7 @@ pub record ReadsOnce (key : Key) (old new : SessionState) : Type 0 where
   pub answer : Answer
   pub read : HasRead key (board_of old) answer old.readings new.readings
   pub board : IsPosition (board_of old)
-  pub rest : AllRest new.readings.kept
+  pub rest : HoldsOfEach Rests new.readings.answers.kept
   pub refused_before : CountsRefused old
   pub refused : CountsRefused new
   pub fresh : new.counts.fresh ≡ counted old.counts.fresh (is_some new.readings.last)
@@ -53,12 +54,12 @@ pub record ReadsOnce (key : Key) (old new : SessionState) : Type 0 where
 -- as before.
 pub record ReadsMany (old new : SessionState) : Type 0 where
   pub counts : KeepsCounts old new
-  pub capacity : new.readings.kept.1 ≡ old.readings.kept.1
+  pub capacity : new.readings.answers.kept.1 ≡ old.readings.answers.kept.1
 
 -- no reading was made, and what is kept stays
 pub record ReadsNothing (old new : SessionState) : Type 0 where
   pub counts : of_readings new.counts ≡ of_readings old.counts
-  pub kept : new.readings.kept ≡ old.readings.kept
+  pub kept : new.readings.answers.kept ≡ old.readings.answers.kept
 
 -- new is old after the readings that were asked for
 abbrev pub ReadsAs : Asks → SessionState → SessionState → Type 0

@@ -3,7 +3,8 @@ use Rattle.std.specs.Prelude.{◌≡◌, true, Option, Some, None}
 use Rattle.go_rules.specs.Position.{IsPosition}
 use Rattle.link_rules.specs.declared.question.LinkQuestion.{LinkQuestion}
 use Rattle.link_rules.specs.declared.question.Linkage.{Linkage}
-use Rattle.link_readings.specs.Connections.{HasAsked, AllRest}
+use Rattle.read_cache.specs.Kept.{HoldsOfEach}
+use Rattle.link_readings.specs.Connections.{HasAsked, Rests}
 use Rattle.machine_rules.specs.Counting.{counted}
 use Rattle.engine.specs.SessionState.{SessionState, board_of}
 
@@ -18,7 +19,7 @@ pub record LinksOnce (question : LinkQuestion) (old new : SessionState) : Type 0
   pub answer : Linkage
   pub asked : HasAsked (record { question = question }) (board_of old) answer old.links.answers new.links.answers
   pub board : IsPosition (board_of old)
-  pub rest : AllRest new.links.answers.kept
+  pub rest : HoldsOfEach Rests new.links.answers.kept
   pub connections : new.counts.links.connections ≡ counted old.counts.links.connections true
   pub fresh_before : CountsFreshLinks old
   pub fresh : CountsFreshLinks new

@@ -114,7 +114,7 @@ impl Model for Engine {
         readings = s.counts.readings;
         fresh = s.counts.fresh;
         trials = s.counts.trials;
-        refused = s.readings.refused;
+        refused = s.readings.answers.refused;
         links = record { connections = s.connections; fresh = s.links.answers.fresh };
       };
       readings = s.readings;

@@ -86,8 +86,8 @@ pub(crate) fn matches_text(
         (automaton_matches (codes_of readings.old) (says_yes (states_of state helpers.old)) scanner.now patterns.now
         position.now friend)) }
     ensures depths { SameDepths readings.old readings.new }
-    ensures refused { readings.old.refused ≤ readings.new.refused }
-    ensures capacity { readings.new.kept.1 ≡ readings.old.kept.1 }
+    ensures refused { readings.old.answers.refused ≤ readings.new.answers.refused }
+    ensures capacity { readings.new.answers.kept.1 ≡ readings.old.answers.kept.1 }
     ensures calls { (states_of state helpers.new ≡ after_matches (states_of state helpers.old) patterns.now
         (automaton_matches (codes_of readings.old) all_yes scanner.now patterns.now position.now friend) position.now
         friend)

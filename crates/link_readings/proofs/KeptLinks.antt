@@ -1,15 +1,14 @@
--- An answer that was kept, and one that was fresh.
+-- An answer that was kept.
 use Rattle.std.proofs.Common.{◌≡◌, sym, subst, Option, Some, None, IfSome, IfNone}
 use Rattle.go_rules.specs.Position.{BoardState}
-use Rattle.go_base.specs.declared.facts.Facts.{Facts}
 use Rattle.link_rules.specs.declared.question.Linkage.{Linkage}
-use Rattle.read_cache.specs.Kept.{Kept, IsFound, kept_first}
-use Rattle.read_cache.proofs.Each.{found_holds, HoldsOfEach-found, HoldsOfEach-kept}
+use Rattle.read_cache.specs.Kept.{Kept, HoldsOfEach, IsFound}
+use Rattle.read_cache.proofs.Each.{found_holds, HoldsOfEach-found}
 use Rattle.link_readings.specs.declared.key.LinkKey.{LinkKey}
 use Rattle.link_readings.specs.Keys.{same_key, same_key-is}
-use Rattle.link_readings.specs.Connections.{Answers, Rests, AllRest}
+use Rattle.link_readings.specs.Connections.{Answers, Rests}
 
-module _ (key : LinkKey) (pos : BoardState) (old new : Kept LinkKey Linkage) (rest : AllRest old) where
+module _ (key : LinkKey) (pos : BoardState) (old new : Kept LinkKey Linkage) (rest : HoldsOfEach Rests old) where
   -- what was found answers the question
   found_right : (answer : Linkage) → IsFound same_key key pos old new answer → Answers key pos answer
   found_right answer found =
@@ -23,18 +22,8 @@ module _ (key : LinkKey) (pos : BoardState) (old new : Kept LinkKey Linkage) (re
   Answers-found (Some answer) found = found_right answer found
 
   -- and whether anything is found or not, each kept variant rests on its facts afterwards
-  pub AllRest-asked : (answer : Option Linkage) → IfSome answer (IsFound same_key key pos old new)
-      → IfNone answer (new ≡ old) → AllRest new
-  AllRest-asked None found same = subst AllRest (sym same) rest
-  AllRest-asked (Some answer) found same =
+  pub each_rests-asked : (answer : Option Linkage) → IfSome answer (IsFound same_key key pos old new)
+      → IfNone answer (new ≡ old) → HoldsOfEach Rests new
+  each_rests-asked None found same = subst (HoldsOfEach Rests) (sym same) rest
+  each_rests-asked (Some answer) found same =
       HoldsOfEach-found Rests same_key same_key-is key pos old new answer rest found
-
--- each kept variant rests on its facts after a fresh answer was kept
-pub AllRest-kept : (key : LinkKey) (facts : Facts) (answer : Linkage) (old new : Kept LinkKey Linkage)
-    → Rests key (record { facts = facts; answer = answer }) → AllRest old
-    → new ≡ kept_first same_key key (record { facts = facts; answer = answer }) old → AllRest new
-AllRest-kept key facts answer old new rests rest is =
-    subst AllRest (sym is) (HoldsOfEach-kept Rests same_key same_key-is key (record {
-      facts = facts;
-      answer = answer;
-    }) old rest rests)

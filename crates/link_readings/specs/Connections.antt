@@ -10,7 +10,6 @@ use Rattle.link_rules.specs.declared.question.Linkage.{Linkage}
 use Rattle.link_rules.specs.Linkages.{asked_on, linkage_of}
 use Rattle.link_rules.specs.ConnectionArea.{InConnectionArea}
 use Rattle.read_cache.specs.declared.variants.Variant.{Variant}
-use Rattle.read_cache.specs.Kept.{Kept, HoldsOfEach}
 use Rattle.read_cache.specs.Keeping.{Keeping, WasAsked}
 use Rattle.link_readings.specs.declared.key.LinkKey.{LinkKey}
 use Rattle.link_readings.specs.Keys.{same_key}
@@ -36,10 +35,6 @@ pub record Rests (key : LinkKey) (variant : Variant Linkage) : Type 0 where
   pub answers : (pos : BoardState) → Agrees (told variant.facts) pos → Answers key pos variant.answer
   pub near : (pos : BoardState) → Agrees (told variant.facts) pos → (fact : Fact) → IsTrue (told variant.facts fact)
       → IsAboutOne (InConnectionArea key.question pos) fact
-
--- each kept variant rests on its facts
-abbrev pub AllRest : Kept LinkKey Linkage → Type 0
-AllRest kept = HoldsOfEach Rests kept
 
 -- the question about two stones of the position
 abbrev pub key_on : BoardState → LinkKind → ℕ → ℕ → ℕ → LinkKey

@@ -8,10 +8,10 @@ ghost use Rattle.go_base.specs.AmongFacts.{told};
 ghost use Rattle.trial_board.specs.Trials.{most_moves};
 ghost use Rattle.read_rules.specs.GoodMoves.{IsOnBoard};
 ghost use Rattle.link_rules.specs.Linkages.{asked_on, linkage_of};
-ghost use Rattle.read_cache.specs.Kept.{IsMissing};
+ghost use Rattle.read_cache.specs.Kept.{IsMissing, HoldsOfEach};
 ghost use Rattle.link_readings.specs.Keys.{same_key};
 ghost use Rattle.read_cache.specs.Keeping.{WasKept, WasFresh, first_keeping};
-ghost use Rattle.link_readings.specs.Connections.{ConnectionsView, Answers, Rests, AllRest, HasAsked};
+ghost use Rattle.link_readings.specs.Connections.{ConnectionsView, Answers, Rests, HasAsked};
 ghost use Rattle.link_readings.specs.Connections.{key_on};
 
 use crate::key::{LinkKey, key_of};
@@ -37,7 +37,8 @@ pub struct Connections {
 impl Model for Connections {
     ghost use Rattle.std.specs.Prelude.{◌≤◌};
     ghost use Rattle.trial_board.specs.Trials.{most_moves};
-    ghost use Rattle.link_readings.specs.Connections.{ConnectionsView, AllRest};
+    ghost use Rattle.read_cache.specs.Kept.{HoldsOfEach};
+    ghost use Rattle.link_readings.specs.Connections.{ConnectionsView, Rests};
 
     ghost Value = { ConnectionsView };
 
@@ -49,7 +50,7 @@ impl Model for Connections {
     ghost invariant = { λ c. record {
       some_plies : 1 ≤ c.plies;
       few_plies : c.plies ≤ most_moves;
-      rest : AllRest c.cache;
+      rest : HoldsOfEach Rests c.cache;
     } };
 }
 
@@ -115,7 +116,7 @@ impl Connections {
             self.old.answers self.new.answers }
 
         // Each kept variant rests on its facts.
-        ensures rest { AllRest self.new.answers.kept }
+        ensures rest { HoldsOfEach Rests self.new.answers.kept }
         ensures plies { self.new.plies ≡ self.old.plies }
     {
         let key = key_of(kind, position, a, b, self.plies);
@@ -143,7 +144,7 @@ impl Connections {
         ensures on_board { IfSome result (λ linkage. IfSome linkage.at (IsOnBoard position.now.size)) }
         ensures asked { IfSome result (λ linkage. HasAsked (key_on position.now kind a b self.old.plies) position.now
             linkage self.old.answers self.new.answers) }
-        ensures rest { AllRest self.new.answers.kept }
+        ensures rest { HoldsOfEach Rests self.new.answers.kept }
         ensures plies { self.new.plies ≡ self.old.plies }
         ensures missing { IfNone result (IsMissing same_key (key_on position.now kind a b self.old.plies) position.now
             self.old.answers.kept) }
@@ -162,7 +163,7 @@ impl Connections {
         ensures same { IfNone result (self.new ≡ self.old) }
         ensures plies { self.new.plies ≡ self.old.plies }
         ensures right { IfSome result (Answers key.now position.now) }
-        ensures rest { AllRest self.new.answers.kept }
+        ensures rest { HoldsOfEach Rests self.new.answers.kept }
     {
         self.cache.find(key, position)
     }
@@ -181,7 +182,7 @@ impl Connections {
         requires missing { IsMissing same_key key position.now self.old.answers.kept }
         ensures right { Answers key position.now result }
         ensures fresh { WasFresh same_key key Rests position.now result self.old.answers self.new.answers }
-        ensures rest { AllRest self.new.answers.kept }
+        ensures rest { HoldsOfEach Rests self.new.answers.kept }
         ensures plies { self.new.plies ≡ self.old.plies }
     {
         let read = read_afresh(&key, position);

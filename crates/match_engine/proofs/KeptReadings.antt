@@ -1,20 +1,18 @@
 -- A reading that was kept, and one that was fresh.
-use Rattle.std.proofs.Common.{◌≡◌, ℕ, ◌≤◌, IsTrue, ◌∙◌, sym, subst, IfSome}
+use Rattle.std.proofs.Common.{◌≡◌, ℕ, ◌≤◌, IsTrue, ◌∙◌, inl, inr, sym, subst, IfSome}
 use Rattle.go_rules.specs.Position.{BoardState}
-use Rattle.go_base.specs.Facts.{Agrees}
-use Rattle.go_base.specs.AmongFacts.{told}
-use Rattle.go_base.specs.declared.facts.Facts.{Facts}
 use Rattle.read_rules.specs.declared.question.Answer.{Answer}
 use Rattle.read_rules.specs.declared.question.ReadingQuestion.{ReadingQuestion}
 use Rattle.read_rules.specs.GoodMoves.{IsOnBoard}
 use Rattle.read_cache.specs.declared.variants.Variant.{Variant}
-use Rattle.read_cache.specs.Kept.{IsFound, kept_first}
-use Rattle.read_cache.proofs.Each.{found_holds, HoldsOfEach-found, HoldsOfEach-kept}
+use Rattle.read_cache.specs.Kept.{Kept, HoldsOfEach, IsFound}
+use Rattle.read_cache.specs.Keeping.{WasAsked}
+use Rattle.read_cache.proofs.Each.{found_holds, HoldsOfEach-found}
 use Rattle.match_engine.specs.declared.keys.Key.{Key}
 use Rattle.match_engine.specs.Keys.{same_key, same_key-is}
-use Rattle.match_engine.specs.Readings.{KeptReadings, Rests, AllRest, Answers, is_untried}
+use Rattle.match_engine.specs.Readings.{ReadingsView, Rests, Answers, is_untried, HasRead}
 
-module _ (key : Key) (pos : BoardState) (old new : KeptReadings) (answer : Answer) (rest : AllRest old)
+module _ (key : Key) (pos : BoardState) (old new : Kept Key Answer) (answer : Answer) (rest : HoldsOfEach Rests old)
     (found : IsFound same_key key pos old new answer) where
   -- what was found answers the question
   pub Answers-found : Answers key pos answer
@@ -28,23 +26,16 @@ module _ (key : Key) (pos : BoardState) (old new : KeptReadings) (answer : Answe
       }
 
   -- and each kept variant rests on its facts afterwards
-  pub AllRest-found : AllRest new
-  AllRest-found = HoldsOfEach-found Rests same_key same_key-is key pos old new answer rest found
+  pub each_rests-found : HoldsOfEach Rests new
+  each_rests-found = HoldsOfEach-found Rests same_key same_key-is key pos old new answer rest found
 
-module _ (key : Key) (facts : Facts) (answer : Answer)
-    (rests : Rests key (record { facts = facts; answer = answer })) where
-  -- a fresh reading answers the question
-  pub Answers-fresh : (pos : BoardState) → Agrees (told facts) pos → Answers key pos answer
-  Answers-fresh pos holds = record { right = rests.answers pos holds; code = rests.code; on_board = rests.on_board }
-
-  -- each kept variant rests on its facts after it was kept
-  pub AllRest-kept : (old new : KeptReadings) → AllRest old
-      → new ≡ kept_first same_key key (record { facts = facts; answer = answer }) old → AllRest new
-  AllRest-kept old new rest is =
-      subst AllRest (sym is) (HoldsOfEach-kept Rests same_key same_key-is key (record {
-        facts = facts;
-        answer = answer;
-      }) old rest rests)
+-- after one reading, whatever was tried for it, its question was asked
+pub WasAsked-read : (key : Key) (pos : BoardState) (answer : Answer) (old new : ReadingsView)
+    → HasRead key pos answer old new → WasAsked same_key key Rests pos answer old.answers new.answers
+WasAsked-read key pos answer old new has = elim has.read [
+  | inl fresh ↦ inl fresh.fresh
+  | inr found ↦ inr found.kept
+]
 
 -- the same question at depths that are the same
 pub as_asked : (key : Key) (asked : ReadingQuestion) (variant : Variant Answer) → key.question ≡ asked

@@ -1,5 +1,6 @@
 -- Readings after one another.
 use Rattle.std.proofs.Common.{◌≡◌, ap, ◌∙◌, arith}
+use Rattle.read_cache.proofs.KeepingLemmas.{Follows-trans as keeping_follows-trans}
 use Rattle.match_engine.specs.Readings.{ReadingsView, codes_at, codes_of, Follows}
 
 -- readings after readings
@@ -7,10 +8,8 @@ pub Follows-trans : (a b c : ReadingsView) → Follows a b → Follows b c → F
 Follows-trans a b c first next = record {
   plies = next.plies ∙ first.plies;
   wide = next.wide ∙ first.wide;
-  capacity = next.capacity ∙ first.capacity;
-  fresh = omega (arith, first.fresh, next.fresh);
+  answers = keeping_follows-trans a.answers b.answers c.answers first.answers next.answers;
   trials = omega (arith, first.trials, next.trials);
-  refused = omega (arith, first.refused, next.refused);
 }
 
 -- the codes are those of before

@@ -5,12 +5,15 @@ use Rattle.go_base.specs.Facts.{Fact, SizeIs, CellIs, BanIs, IsFactOf}
 use Rattle.read_rules.specs.declared.question.Answer.{Answer}
 use Rattle.read_rules.specs.ActiveArea.{InActiveArea, AgreeOn, IsAboutOne}
 use Rattle.read_cache.specs.Variants.{Stands}
+use Rattle.read_cache.specs.Kept.{Kept, HoldsOfEach}
+use Rattle.read_cache.specs.Keeping.{raised}
 use Rattle.read_cache.specs.declared.variants.Variant.{Variant}
 use Rattle.read_cache.proofs.LastingVariants.{IsAmongFirst, of_first, IsAmongFirst-stands, IsAmongFirst-kept}
 use Rattle.read_cache.proofs.LastingVariants.{IsAmongFirst-found, IsAmongFirst-first, IsAmongFirst-again}
 use Rattle.match_engine.specs.declared.keys.Key.{Key}
 use Rattle.match_engine.specs.Keys.{same_key, same_key-is}
-use Rattle.match_engine.specs.Readings.{ReadingsView, KeptReadings, raised, Rests, AllRest, HasRead}
+use Rattle.match_engine.specs.Readings.{ReadingsView, Rests, HasRead}
+use Rattle.match_engine.proofs.KeptReadings.{WasAsked-read}
 
 -- a question equals itself
 same_key-self : (q : Key) → same_key q q ≡ true
@@ -35,7 +38,7 @@ Stands-agree key variant a b rests stands sound agree = record {
 
 -- an answer to the question that stands on the position and rests on its facts is among its first n, and the question
 -- among the first n
-pub record IsAtHand (key : Key) (pos : BoardState) (n : ℕ) (kept : KeptReadings) : Type 0 where
+pub record IsAtHand (key : Key) (pos : BoardState) (n : ℕ) (kept : Kept Key Answer) : Type 0 where
   pub variant : Variant Answer
   pub rests : Rests key variant
   pub stands : Stands pos variant
@@ -47,9 +50,9 @@ raised-some count none = omega (arith, none)
 
 -- where no keeping was refused, the question that was read is the first, and its answer the first of its answers
 pub IsAtHand-first : (key : Key) (pos : BoardState) (answer : Answer) (old new : ReadingsView)
-    → HasRead key pos answer old new → AllRest new.kept
-    → new.refused ≡ 0 → IsAtHand key pos 1 new.kept
-IsAtHand-first key pos answer old new has rest none = elim has.read [
+    → HasRead key pos answer old new → HoldsOfEach Rests new.answers.kept
+    → new.answers.refused ≡ 0 → IsAtHand key pos 1 new.answers.kept
+IsAtHand-first key pos answer old new has rest none = elim (WasAsked-read key pos answer old new has) [
   | inl fresh ↦ elim fresh.keeping [
     | inl first ↦ record {
       variant = record { facts = first.facts; answer = answer };
@@ -57,16 +60,17 @@ IsAtHand-first key pos answer old new has rest none = elim has.read [
       stands = first.holds;
       among = subst (IsAmongFirst same_key key (record { facts = first.facts; answer = answer }) 1) (sym first.kept)
           (IsAmongFirst-first same_key same_key-is same_key-self key
-          (record { facts = first.facts; answer = answer }) old.kept);
+          (record { facts = first.facts; answer = answer }) old.answers.kept);
     }
-    | inr refused ↦ absurd (raised-some old.refused (sym refused.refused ∙ none))
+    | inr refused ↦ absurd (raised-some old.answers.refused (sym refused.refused ∙ none))
   ]
   | inr kept ↦
       let found = kept.found.brought.first.found in
-      let among = IsAmongFirst-again same_key same_key-is same_key-self key pos old.kept new.kept answer kept.found in
+      let among = IsAmongFirst-again same_key same_key-is same_key-self key pos old.answers.kept new.answers.kept
+      answer kept.found in
       record {
         variant = found;
-        rests = of_first same_key Rests same_key-is key found 1 new.kept rest among;
+        rests = of_first same_key Rests same_key-is key found 1 new.answers.kept rest among;
         stands = kept.found.brought.first.stands;
         among = among;
       }
@@ -75,62 +79,63 @@ IsAtHand-first key pos answer old new has rest none = elim has.read [
 -- another reading moves it back by one place at most
 pub IsAtHand-later : (key : Key) (pos : BoardState) (n : ℕ) (other : Key) (there : BoardState) (answer : Answer)
     (old new : ReadingsView)
-    → HasRead other there answer old new → new.refused ≡ 0 → n ≤ 3 → 8 ≤ old.kept.1 → IsAtHand key pos n old.kept
-    → IsAtHand key pos (suc n) new.kept
-IsAtHand-later key pos n other there answer old new has none few room hand = elim has.read [
-  | inl fresh ↦ elim fresh.keeping [
-    | inl first ↦ record {
-      variant = hand.variant;
-      rests = hand.rests;
-      stands = hand.stands;
-      among = subst (IsAmongFirst same_key key hand.variant (suc n)) (sym first.kept)
-          (IsAmongFirst-kept same_key same_key-is same_key-self other key
-          (record { facts = first.facts; answer = answer }) hand.variant old.kept n few
-          (omega (arith, few, room)) hand.among);
-    }
-    | inr refused ↦ absurd (raised-some old.refused (sym refused.refused ∙ none))
-  ]
-  | inr kept ↦ record {
-    variant = hand.variant;
-    rests = hand.rests;
-    stands = hand.stands;
-    among = IsAmongFirst-found same_key same_key-is same_key-self other key there old.kept new.kept answer
-        hand.variant n
-        (omega (arith, few, room)) hand.among kept.found;
-  }
-]
+    → HasRead other there answer old new → new.answers.refused ≡ 0 → n ≤ 3 → 8 ≤ old.answers.kept.1
+    → IsAtHand key pos n old.answers.kept
+    → IsAtHand key pos (suc n) new.answers.kept
+IsAtHand-later key pos n other there answer old new has none few room hand =
+    elim (WasAsked-read other there answer old new has) [
+      | inl fresh ↦ elim fresh.keeping [
+        | inl first ↦ record {
+          variant = hand.variant;
+          rests = hand.rests;
+          stands = hand.stands;
+          among = subst (IsAmongFirst same_key key hand.variant (suc n)) (sym first.kept)
+              (IsAmongFirst-kept same_key same_key-is same_key-self other key
+              (record { facts = first.facts; answer = answer }) hand.variant old.answers.kept n few
+              (omega (arith, few, room)) hand.among);
+        }
+        | inr refused ↦ absurd (raised-some old.answers.refused (sym refused.refused ∙ none))
+      ]
+      | inr kept ↦ record {
+        variant = hand.variant;
+        rests = hand.rests;
+        stands = hand.stands;
+        among = IsAmongFirst-found same_key same_key-is same_key-self other key there old.answers.kept
+            new.answers.kept answer hand.variant n (omega (arith, few, room)) hand.among kept.found;
+      }
+    ]
 
 -- where the active area is the same, a reading of the question is not fresh
 pub IsAtHand-kept : (key : Key) (pos : BoardState) (n : ℕ) (here : BoardState) (answer : Answer)
-    (old new : ReadingsView) → IsAtHand key pos n old.kept
+    (old new : ReadingsView) → IsAtHand key pos n old.answers.kept
     → IsPosition here → AgreeOn (InActiveArea key.question pos) pos here → HasRead key here answer old new
     → new.last ≡ None
 IsAtHand-kept key pos n here answer old new hand sound agree has = elim has.read [
-  | inl fresh ↦ absurd (IsAmongFirst-stands same_key key hand.variant n old.kept here hand.among
-      (Stands-agree key hand.variant pos here hand.rests hand.stands sound agree) fresh.missing)
+  | inl fresh ↦ absurd (IsAmongFirst-stands same_key key hand.variant n old.answers.kept here hand.among
+      (Stands-agree key hand.variant pos here hand.rests hand.stands sound agree) fresh.fresh.missing)
   | inr kept ↦ kept.last
 ]
 
 -- as many questions may be kept after a reading as before
 pub HasRead-capacity : (key : Key) (pos : BoardState) (answer : Answer) (old new : ReadingsView)
     → HasRead key pos answer old new
-    → new.kept.1 ≡ old.kept.1
-HasRead-capacity key pos answer old new has = elim has.read [
+    → new.answers.kept.1 ≡ old.answers.kept.1
+HasRead-capacity key pos answer old new has = elim (WasAsked-read key pos answer old new has) [
   | inl fresh ↦ elim fresh.keeping [
-    | inl first ↦ ap (λ (k : KeptReadings). k.1) first.kept
-    | inr refused ↦ ap (λ (k : KeptReadings). k.1) refused.kept
+    | inl first ↦ ap (λ (k : Kept Key Answer). k.1) first.kept
+    | inr refused ↦ ap (λ (k : Kept Key Answer). k.1) refused.kept
   ]
-  | inr kept ↦ ap (λ (k : KeptReadings). k.1) kept.found.new_is
+  | inr kept ↦ ap (λ (k : Kept Key Answer). k.1) kept.found.new_is
 ]
 
 -- where no keeping is counted as refused after a reading, none was before
 pub HasRead-refused : (key : Key) (pos : BoardState) (answer : Answer) (old new : ReadingsView)
     → HasRead key pos answer old new
-    → new.refused ≡ 0 → old.refused ≡ 0
-HasRead-refused key pos answer old new has none = elim has.read [
+    → new.answers.refused ≡ 0 → old.answers.refused ≡ 0
+HasRead-refused key pos answer old new has none = elim (WasAsked-read key pos answer old new has) [
   | inl fresh ↦ elim fresh.keeping [
     | inl first ↦ sym first.refused ∙ none
-    | inr refused ↦ absurd (raised-some old.refused (sym refused.refused ∙ none))
+    | inr refused ↦ absurd (raised-some old.answers.refused (sym refused.refused ∙ none))
   ]
   | inr kept ↦ sym kept.refused ∙ none
 ]

@@ -15,9 +15,9 @@ use Rattle.match_engine.specs.Readings.{ReadingsView, codes_of}
 abbrev pub asked : Pattern → BoardState → Colour → ℕ → ℕ → ℕ → ReadingsView → ℕ → EnvView
 asked p board friend t m name r often = record {
   meanings = meanings_at (codes_of r) p board friend t m;
-  fixed = name ∷ r.plies ∷ r.wide ∷ r.kept.1 ∷ [];
+  fixed = name ∷ r.plies ∷ r.wide ∷ r.answers.kept.1 ∷ [];
   asked = often;
-  counts = r.fresh ∷ r.trials ∷ r.refused ∷ [];
+  counts = r.answers.fresh ∷ r.trials ∷ r.answers.refused ∷ [];
 }
 
 -- what is asked of a match, and by which readings

@@ -6,8 +6,8 @@ ghost use Rattle.go_base.specs.AmongFacts.{told};
 ghost use Rattle.read_rules.specs.Answer.{answer_of, asked_on};
 ghost use Rattle.read_rules.specs.GoodMoves.{IsOnBoard};
 ghost use Rattle.match_engine.specs.Keys.{same_key};
-ghost use Rattle.read_cache.specs.Kept.{IsMissing};
-ghost use Rattle.match_engine.specs.Readings.{HasRead, WasFresh, WasKept, Follows, AllRest, Rests, Answers};
+ghost use Rattle.read_cache.specs.Kept.{IsMissing, HoldsOfEach};
+ghost use Rattle.match_engine.specs.Readings.{HasRead, ReadAfresh, FoundKept, Follows, Rests, Answers};
 ghost use Rattle.match_engine.specs.Readings.{first_readings, with_depths, is_untried};
 
 use crate::keys::{Key, key_of};
@@ -33,21 +33,20 @@ pub struct Readings {
 }
 
 impl Model for Readings {
-    ghost use Rattle.match_engine.specs.Readings.{ReadingsView, AllRest};
+    ghost use Rattle.read_cache.specs.Kept.{HoldsOfEach};
+    ghost use Rattle.match_engine.specs.Readings.{ReadingsView, Rests};
 
     ghost Value = { ReadingsView };
 
     ghost view = { λ r. record {
       plies = r.depths.plies;
       wide = r.depths.wide;
-      fresh = r.fresh;
       trials = r.trials;
-      refused = r.refused;
       last = r.last;
-      kept = r.cache;
+      answers = record { fresh = r.fresh; refused = r.refused; kept = r.cache };
     } };
 
-    ghost invariant = { λ r. AllRest r.cache };
+    ghost invariant = { λ r. HoldsOfEach Rests r.cache };
 }
 
 /// A fresh reading: its answer, how many trial plays it made, and the facts that it rests on.
@@ -115,7 +114,7 @@ impl Readings {
         ensures read { HasRead (record { question = asked_on position.now kind target self.old.plies self.old.wide })
             position.now result self.old self.new }
         // Each kept variant rests on its facts.
-        ensures rest { AllRest self.new.kept }
+        ensures rest { HoldsOfEach Rests self.new.answers.kept }
         // The depths are as before, and no count has fallen.
         ensures follows { Follows self.old self.new }
     {
@@ -137,7 +136,7 @@ impl Readings {
         ensures read { IfSome result (λ answer. HasRead
             (record { question = asked_on position.now kind target self.old.plies self.old.wide }) position.now answer
             self.old self.new) }
-        ensures rest { AllRest self.new.kept }
+        ensures rest { HoldsOfEach Rests self.new.answers.kept }
         ensures same { IfNone result (self.new ≡ self.old) }
     {
         let key = key_of(kind, position, target, self.depths);
@@ -147,13 +146,13 @@ impl Readings {
 
     /// The answer of a kept variant of the question that stands on the position.
     fn find(&mut self, key: &Key, position: &Position) -> Option<Answer>
-        ensures found { IfSome result (λ answer. WasKept key.now position.now answer self.old self.new) }
-        ensures missing { IfNone result (IsMissing same_key key.now position.now self.old.kept) }
+        ensures found { IfSome result (λ answer. FoundKept key.now position.now answer self.old self.new) }
+        ensures missing { IfNone result (IsMissing same_key key.now position.now self.old.answers.kept) }
         ensures same { IfNone result (self.new ≡ self.old) }
         ensures plies { self.new.plies ≡ self.old.plies }
         ensures wide { self.new.wide ≡ self.old.wide }
         ensures right { IfSome result (λ answer. Answers key.now position.now answer) }
-        ensures rest { AllRest self.new.kept }
+        ensures rest { HoldsOfEach Rests self.new.answers.kept }
     {
         let answer = self.cache.find(key, position)?;
         self.last = None;
@@ -167,10 +166,10 @@ impl Readings {
         requires on_board { target < position.now.size * position.now.size }
         requires stone { cell_at position.now.cells target ≢ Cell.Empty }
         requires key { key.question ≡ asked_on position.now kind target self.old.plies self.old.wide }
-        requires missing { IsMissing same_key key position.now self.old.kept }
+        requires missing { IsMissing same_key key position.now self.old.answers.kept }
         ensures right { Answers key position.now result }
-        ensures fresh { WasFresh key position.now result self.old self.new }
-        ensures rest { AllRest self.new.kept }
+        ensures fresh { ReadAfresh key position.now result self.old self.new }
+        ensures rest { HoldsOfEach Rests self.new.answers.kept }
         ensures plies { self.new.plies ≡ self.old.plies }
         ensures wide { self.new.wide ≡ self.old.wide }
     {
@@ -201,7 +200,7 @@ impl Readings {
 
     /// How many readings were fresh, as far as a `u64` counts.
     pub fn fresh(&self) -> u64
-        ensures { result ≡ self.now.fresh }
+        ensures { result ≡ self.now.answers.fresh }
     {
         self.fresh
     }
@@ -215,7 +214,7 @@ impl Readings {
 
     /// How many readings could not be kept for want of memory.
     pub fn refused(&self) -> u64
-        ensures { result ≡ self.now.refused }
+        ensures { result ≡ self.now.answers.refused }
     {
         self.refused
     }

@@ -1,10 +1,10 @@
--- What holds after a question was asked through a cache.
-use Rattle.std.proofs.Common.{◌≡◌, ◌∙◌, Bool, true, sym, subst, arith, inl, inr}
-use Rattle.go_rules.specs.Position.{BoardState}
+-- What holds after questions were asked through a cache.
+use Rattle.std.proofs.Common.{◌≡◌, ◌∙◌, Bool, true, sym, subst, arith}
+use Rattle.go_base.specs.declared.facts.Facts.{Facts}
 use Rattle.read_cache.specs.declared.variants.Variant.{Variant}
-use Rattle.read_cache.specs.Kept.{HoldsOfEach}
-use Rattle.read_cache.specs.Keeping.{Keeping, WasFresh, WasAsked, Follows}
-use Rattle.read_cache.proofs.Each.{HoldsOfEach-found, HoldsOfEach-kept}
+use Rattle.read_cache.specs.Kept.{Kept, HoldsOfEach, kept_first}
+use Rattle.read_cache.specs.Keeping.{Keeping, Follows}
+use Rattle.read_cache.proofs.Each.{HoldsOfEach-kept}
 
 -- questions after questions
 pub Follows-trans : {Q A : Type 0} (a b c : Keeping Q A) → Follows a b → Follows b c → Follows a c
@@ -14,18 +14,11 @@ Follows-trans a b c first next = record {
   refused = omega (arith, first.refused, next.refused);
 }
 
-module _ {Q A : Type 0} (Rests : Q → Variant A → Type 0) (eq : Q → Q → Bool)
-    (one : (p q : Q) → eq p q ≡ true → p ≡ q) (q : Q) (pos : BoardState) (answer : A) (old new : Keeping Q A) where
-  -- where each kept variant rests on its facts, each does after a fresh answer
-  fresh_rests : HoldsOfEach Rests old.kept → WasFresh eq q Rests pos answer old new → HoldsOfEach Rests new.kept
-  fresh_rests rest was = elim was.keeping [
-    | inl k ↦ subst (HoldsOfEach Rests) (sym k.kept)
-        (HoldsOfEach-kept Rests eq one q (record { facts = k.facts; answer = answer }) old.kept rest k.rests)
-    | inr r ↦ subst (HoldsOfEach Rests) (sym r.kept) rest
-  ]
-
-  -- and after the question was asked
-  pub AllRest-asked : HoldsOfEach Rests old.kept → WasAsked eq q Rests pos answer old new → HoldsOfEach Rests new.kept
-  AllRest-asked rest (inl was) = fresh_rests rest was
-  AllRest-asked rest (inr was) =
-      HoldsOfEach-found Rests eq one q pos old.kept new.kept answer rest was.found
+-- where each kept variant rests on its facts, each does after one that does was kept first
+pub each_rests-kept : {Q A : Type 0} (Rests : Q → Variant A → Type 0) (eq : Q → Q → Bool)
+    (one : (p q : Q) → eq p q ≡ true → p ≡ q) (q : Q) (facts : Facts) (answer : A) (old new : Kept Q A)
+    → Rests q (record { facts = facts; answer = answer }) → HoldsOfEach Rests old
+    → new ≡ kept_first eq q (record { facts = facts; answer = answer }) old → HoldsOfEach Rests new
+each_rests-kept Rests eq one q facts answer old new rests rest is =
+    subst (HoldsOfEach Rests) (sym is)
+    (HoldsOfEach-kept Rests eq one q (record { facts = facts; answer = answer }) old rest rests)

@@ -8,7 +8,8 @@ use Rattle.read_rules.specs.ActiveArea.{InActiveArea, AgreeOn}
 use Rattle.gtp_cmd.specs.declared.commands.CommandName.{CommandName}
 use Rattle.run_notes.specs.declared.notes.Counts.{Counts}
 use Rattle.match_engine.specs.declared.keys.Key.{Key}
-use Rattle.match_engine.specs.Readings.{KeptReadings}
+use Rattle.read_cache.specs.Kept.{Kept as KeptQuestions}
+use Rattle.read_rules.specs.declared.question.Answer.{Answer}
 use Rattle.match_engine.proofs.RepeatedQuestions.{IsAtHand, IsAtHand-first, IsAtHand-later, IsAtHand-kept}
 use Rattle.match_engine.proofs.RepeatedQuestions.{HasRead-capacity, HasRead-refused}
 use Rattle.machine_rules.specs.Machine.{Machine, position_of}
@@ -25,7 +26,7 @@ use Rattle.session.proofs.TallyLemmas.{IsAlong-append, IsAlong-split}
 
 -- how many questions may be kept
 abbrev room_of : SessionState → ℕ
-room_of session = session.readings.kept.1
+room_of session = session.readings.answers.kept.1
 
 -- 1 where a test is passed
 abbrev one_if : Bool → ℕ
@@ -48,7 +49,7 @@ module _ (old new : SessionState) where
 
   -- as many questions may be kept after a line as before it
   same_room : (asks : Asks) → ReadsAs asks old new → room_of new ≡ room_of old
-  same_room Nothing read = ap (λ (k : KeptReadings). k.1) read.kept
+  same_room Nothing read = ap (λ (k : KeptQuestions Key Answer). k.1) read.kept
   same_room (One key) read =
       HasRead-capacity key (board_of old) read.answer old.readings new.readings read.read
   same_room Many read = read.capacity
@@ -58,8 +59,8 @@ module _ (old new : SessionState) where
   still_at_hand : (key : Key) (pos : BoardState) (n : ℕ) (asks : Asks) (name : Option CommandName)
       → ReadsAs asks old new → Fits asks name
       → is_matching name ≡ false → new.counts.refused ≡ 0 → n + one_if (is_reading name) ≤ 4 → 8 ≤ room_of old
-      → IsAtHand key pos n old.readings.kept
-      → (m : ℕ) × (m ≤ n + one_if (is_reading name)) × IsAtHand key pos m new.readings.kept
+      → IsAtHand key pos n old.readings.answers.kept
+      → (m : ℕ) × (m ≤ n + one_if (is_reading name)) × IsAtHand key pos m new.readings.answers.kept
   still_at_hand key pos n Nothing name read fits apart none few room hand =
       (n, omega arith, subst (IsAtHand key pos n) (sym read.kept) hand)
   still_at_hand key pos n (One other) name read fits apart none few room hand =
@@ -103,10 +104,10 @@ reading_lines-cons turn turns = sum_by-cons (λ (t : Turn Machine). cond (is_rea
 at_hand_along : (key : Key) (pos : BoardState) (turns : List (Turn Machine)) (n : ℕ) (a b : Kept)
     → IsAlong IsAfterLine a turns b
     → b.engine.counts.refused ≡ 0 → 8 ≤ room_of a.engine → matching_lines turns ≡ 0 → n + reading_lines turns ≤ 4
-    → IsAtHand key pos n a.engine.readings.kept
-    → (m : ℕ) × IsAtHand key pos m b.engine.readings.kept
+    → IsAtHand key pos n a.engine.readings.answers.kept
+    → (m : ℕ) × IsAtHand key pos m b.engine.readings.answers.kept
 at_hand_along key pos [] n a b along none room apart few hand =
-    (n, subst (λ (k : Kept). IsAtHand key pos n k.engine.readings.kept) (sym along) hand)
+    (n, subst (λ (k : Kept). IsAtHand key pos n k.engine.readings.answers.kept) (sym along) hand)
 at_hand_along key pos (turn ∷ turns) n a b (mid, first, rest) none room apart few hand =
     let here = matching_lines-cons turn turns apart in
     let count = reading_lines-cons turn turns in

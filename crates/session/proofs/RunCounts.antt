@@ -17,7 +17,9 @@ use Rattle.link_rules.specs.declared.question.Linkage.{Linkage}
 use Rattle.link_readings.specs.Connections.{HasAsked}
 use Rattle.link_readings.specs.declared.key.LinkKey.{LinkKey}
 use Rattle.read_cache.specs.Keeping.{Keeping, raised, first_keeping}
-use Rattle.match_engine.specs.Readings.{KeptReadings, nothing_kept}
+use Rattle.read_cache.specs.Kept.{Kept as KeptQuestions, no_questions}
+use Rattle.read_rules.specs.declared.question.Answer.{Answer}
+use Rattle.match_engine.specs.declared.keys.Key.{Key}
 use Rattle.machine_rules.specs.Machine.{Machine}
 use Rattle.engine.specs.Kept.{Kept}
 use Rattle.engine.specs.AskedLinks.{LinksAs}
@@ -257,11 +259,11 @@ links_along (turn ∷ turns) a b (mid, first, rest) few small =
 -- the counts of a session that has answered few lines since it had counted nothing
 pub counts_of : (capacity : ℕ) (first last : Kept) (turns : List (Turn Machine)) → IsAlong IsAfterLine first turns last
     → first.engine.counts ≡ no_counts
-    → first.engine.readings.kept ≡ nothing_kept capacity → first.engine.links.answers ≡ first_keeping capacity
+    → first.engine.readings.answers.kept ≡ no_questions capacity → first.engine.links.answers ≡ first_keeping capacity
     → 8 ≤ capacity → length turns ≤ most_taken + 1
     → AreCountsOf capacity turns last.engine.counts
 counts_of capacity first last turns along none kept unasked room few =
-    let open_room = subst (λ (k : KeptReadings). 8 ≤ k.1) (sym kept) room in
+    let open_room = subst (λ (k : KeptQuestions Key Answer). 8 ≤ k.1) (sym kept) room in
     let readings = ap (λ (c : Counts). c.readings) none in
     let fresh = ap (λ (c : Counts). c.fresh) none in
     let small : first.engine.counts.readings + length turns < 2 ^ 64 = omega (arith, readings, few) in

@@ -15,7 +15,7 @@ use Rattle.session.specs.Outcomes.{Phase, NotTaken, NotOpened, Served}
 use Rattle.session.specs.Ends.{Streams}
 use Rattle.session.specs.Headline.{ServesLines, IsServed, IsUntouched}
 use Rattle.machine_rules.specs.Turns.{Turn}
-use Rattle.match_engine.specs.Readings.{nothing_kept}
+use Rattle.read_cache.specs.Kept.{no_questions}
 use Rattle.read_cache.specs.Keeping.{first_keeping}
 use Rattle.session.specs.Tallies.{Tally, Progress, Advances}
 use Rattle.session.specs.Serving.{progress_of}
@@ -31,7 +31,7 @@ use Rattle.run_notes.specs.declared.notes.Sent.{Sent}
 pub record IsPlainWith (patterns : List Pattern) (plies wide capacity : ℕ) (session : SessionState) : Type 0 where
   pub machine : (helpers : List SlotState) → machine_with helpers session ≡ first_machine helpers plies wide
   pub counts : session.counts ≡ no_counts
-  pub kept : session.readings.kept ≡ nothing_kept capacity
+  pub kept : session.readings.answers.kept ≡ no_questions capacity
   pub links : session.links.answers ≡ first_keeping capacity
   pub room : 8 ≤ capacity
   pub matches : matcher_of session ≡ plain_matcher patterns

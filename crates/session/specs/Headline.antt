@@ -14,7 +14,7 @@ use Rattle.machine_rules.specs.Machine.{Machine, first_machine}
 use Rattle.machine_rules.specs.Matcher.{plain_matcher}
 use Rattle.machine_rules.specs.Step.{step}
 use Rattle.machine_rules.specs.Turns.{Turn, IsAlong}
-use Rattle.match_engine.specs.Readings.{nothing_kept}
+use Rattle.read_cache.specs.Kept.{no_questions}
 use Rattle.read_cache.specs.Keeping.{first_keeping}
 use Rattle.machine_rules.specs.Counting.{readings_in}
 use Rattle.machine_rules.specs.Questions.{AskNothing}
@@ -88,7 +88,7 @@ pub record RoseAlong (capacity : ℕ) (turns : List (Turn Machine)) (counts : Co
   pub first : Kept
   pub last : Kept
   pub uncounted : first.engine.counts ≡ no_counts
-  pub kept : first.engine.readings.kept ≡ nothing_kept capacity
+  pub kept : first.engine.readings.answers.kept ≡ no_questions capacity
   pub links : first.engine.links.answers ≡ first_keeping capacity
   pub along : IsAlong IsAfterLine first turns last
   pub same : counts ≡ last.engine.counts

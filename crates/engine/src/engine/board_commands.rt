@@ -48,7 +48,7 @@ impl Engine {
         ensures patterns { self.new.patterns ≡ self.old.patterns }
         ensures same { self.new.automaton ≡ self.old.automaton }
         ensures counts { self.new.counts ≡ self.old.counts }
-        ensures kept { self.new.readings.kept ≡ self.old.readings.kept }
+        ensures kept { self.new.readings.answers.kept ≡ self.old.readings.answers.kept }
         ensures links { LinksNothing self.old self.new }
     {
         let Some(size) = size else {
@@ -64,7 +64,7 @@ impl Engine {
         ensures patterns { self.new.patterns ≡ self.old.patterns }
         ensures same { self.new.automaton ≡ self.old.automaton }
         ensures counts { self.new.counts ≡ self.old.counts }
-        ensures kept { self.new.readings.kept ≡ self.old.readings.kept }
+        ensures kept { self.new.readings.answers.kept ≡ self.old.readings.answers.kept }
         ensures links { LinksNothing self.old self.new }
     {
         self.history.clear();
@@ -78,7 +78,7 @@ impl Engine {
         ensures patterns { self.new.patterns ≡ self.old.patterns }
         ensures same { self.new.automaton ≡ self.old.automaton }
         ensures counts { self.new.counts ≡ self.old.counts }
-        ensures kept { self.new.readings.kept ≡ self.old.readings.kept }
+        ensures kept { self.new.readings.answers.kept ≡ self.old.readings.answers.kept }
         ensures links { LinksNothing self.old self.new }
     {
         self.komi = komi;
@@ -92,7 +92,7 @@ impl Engine {
         ensures patterns { self.new.patterns ≡ self.old.patterns }
         ensures same { self.new.automaton ≡ self.old.automaton }
         ensures counts { self.new.counts ≡ self.old.counts }
-        ensures kept { self.new.readings.kept ≡ self.old.readings.kept }
+        ensures kept { self.new.readings.answers.kept ≡ self.old.readings.answers.kept }
         ensures links { LinksNothing self.old self.new }
     {
         match self.history.play(m) {
@@ -110,7 +110,7 @@ impl Engine {
         ensures patterns { self.new.patterns ≡ self.old.patterns }
         ensures same { self.new.automaton ≡ self.old.automaton }
         ensures counts { self.new.counts ≡ self.old.counts }
-        ensures kept { self.new.readings.kept ≡ self.old.readings.kept }
+        ensures kept { self.new.readings.answers.kept ≡ self.old.readings.answers.kept }
         ensures links { LinksNothing self.old self.new }
     {
         match self.history.undo() {

@@ -97,7 +97,7 @@ impl Engine {
         ensures patterns { self.new.patterns ≡ self.old.patterns }
         ensures same { self.new.automaton ≡ self.old.automaton }
         ensures counts { self.new.counts ≡ self.old.counts }
-        ensures kept { self.new.readings.kept ≡ self.old.readings.kept }
+        ensures kept { self.new.readings.answers.kept ≡ self.old.readings.answers.kept }
         ensures links { LinksNothing self.old self.new }
     {
         self.readings.set(Depths::new(plies, wide).unwrap());

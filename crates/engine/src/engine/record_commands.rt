@@ -38,7 +38,7 @@ impl Engine {
         ensures patterns { self.new.patterns ≡ self.old.patterns }
         ensures same { self.new.automaton ≡ self.old.automaton }
         ensures counts { self.new.counts ≡ self.old.counts }
-        ensures kept { self.new.readings.kept ≡ self.old.readings.kept }
+        ensures kept { self.new.readings.answers.kept ≡ self.old.readings.answers.kept }
         ensures links { LinksNothing self.old self.new }
     {
         let Ok(word) = text(line, span, Bytes::new(self.alloc)) else {
@@ -61,7 +61,7 @@ impl Engine {
         ensures patterns { self.new.patterns ≡ self.old.patterns }
         ensures same { self.new.automaton ≡ self.old.automaton }
         ensures counts { self.new.counts ≡ self.old.counts }
-        ensures kept { self.new.readings.kept ≡ self.old.readings.kept }
+        ensures kept { self.new.readings.answers.kept ≡ self.old.readings.answers.kept }
         ensures links { LinksNothing self.old self.new }
     {
         match read(contents) {

@@ -32,7 +32,7 @@ returns-clause-answer g c =
         readings = inside.counts.readings;
         fresh = inside.counts.fresh;
         trials = inside.counts.trials;
-        refused = readings.refused;
+        refused = readings.answers.refused;
         links = record { connections = inside.connections; fresh = inside.links.answers.fresh };
       };
       readings = readings;

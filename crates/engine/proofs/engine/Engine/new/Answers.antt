@@ -23,7 +23,7 @@ kept_of patterns game komi rows readings links = record {
     readings = 0;
     fresh = 0;
     trials = 0;
-    refused = readings.refused;
+    refused = readings.answers.refused;
     links = record { connections = 0; fresh = links.answers.fresh };
   };
   readings = readings;

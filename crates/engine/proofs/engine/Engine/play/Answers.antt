@@ -23,7 +23,7 @@ returns-clause-answer c = λ helpers.
         readings = c.self.inside.counts.readings;
         fresh = c.self.inside.counts.fresh;
         trials = c.self.inside.counts.trials;
-        refused = c.self.inside.readings.refused;
+        refused = c.self.inside.readings.answers.refused;
         links = record { connections = c.self.inside.connections; fresh = c.self.inside.links.answers.fresh };
       };
       readings = c.self.inside.readings;

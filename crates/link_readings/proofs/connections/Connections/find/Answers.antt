@@ -1,4 +1,4 @@
-use Rattle.link_readings.proofs.KeptLinks.{Answers-found, AllRest-asked}
+use Rattle.link_readings.proofs.KeptLinks.{Answers-found, each_rests-asked}
 use Rattle.link_readings.proofs.connections.Connections.find.Goals as goal
 
 -- what is kept is as it was, but for its order
@@ -6,7 +6,7 @@ pub invariant_of-self : goal.invariant_of-self
 invariant_of-self c = record {
   some_plies = c.self.invariant.some_plies;
   few_plies = c.self.invariant.few_plies;
-  rest = AllRest-asked c.args.key.now c.args.position.now c.self.inside.cache c.find.new.self c.self.invariant.rest
+  rest = each_rests-asked c.args.key.now c.args.position.now c.self.inside.cache c.find.new.self c.self.invariant.rest
       c.find.result c.find.ensures.found c.find.ensures.same;
 }
 
@@ -17,5 +17,5 @@ returns-clause-right c = Answers-found c.args.key.now c.args.position.now c.self
 
 -- each kept answer still rests on its facts
 pub returns-clause-rest : goal.returns-clause-rest
-returns-clause-rest c = AllRest-asked c.args.key.now c.args.position.now c.self.inside.cache c.find.new.self
+returns-clause-rest c = each_rests-asked c.args.key.now c.args.position.now c.self.inside.cache c.find.new.self
     c.self.invariant.rest c.find.result c.find.ensures.found c.find.ensures.same

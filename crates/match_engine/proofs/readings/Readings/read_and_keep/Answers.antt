@@ -1,9 +1,10 @@
 use Rattle.std.proofs.Common.{refl, inl, inr, sym, ap, subst, ◌∙◌}
 use Rattle.read_rules.specs.Answer.{asked_on}
-use Rattle.read_cache.specs.Kept.{IsMissing}
-use Rattle.match_engine.specs.Keys.{same_key}
-use Rattle.match_engine.specs.Readings.{ReadingsView, AllRest, WasFresh}
-use Rattle.match_engine.proofs.KeptReadings.{AllRest-kept, as_asked, untried_as_asked}
+use Rattle.read_cache.specs.Kept.{IsMissing, HoldsOfEach}
+use Rattle.read_cache.proofs.KeepingLemmas.{each_rests-kept}
+use Rattle.match_engine.specs.Keys.{same_key, same_key-is}
+use Rattle.match_engine.specs.Readings.{ReadingsView, Rests, ReadAfresh}
+use Rattle.match_engine.proofs.KeptReadings.{as_asked, untried_as_asked}
 use Rattle.match_engine.proofs.readings.Readings.read_and_keep.Goals as goal
 use Rattle.match_engine.proofs.readings.Readings.read_and_keep.Goals.{in-Err, in_default}
 
@@ -15,8 +16,8 @@ invariant_of-self-in_default c =
     ∙ sym (ap (λ (r : ReadingsView). asked_on c.args.position.now c.args.kind c.args.target r.plies r.wide)
     c.self.view_is) in
     let rests = as_asked c.args.key _ _ asked c.read_afresh-read.ensures.rests in
-    AllRest-kept c.args.key read.facts read.answer rests c.self.inside.cache c.keep.new.self c.self.invariant
-    c.in_default.ensures.kept
+    each_rests-kept Rests same_key same_key-is c.args.key read.facts read.answer c.self.inside.cache c.keep.new.self
+    rests c.self.invariant c.in_default.ensures.kept
 
 -- it is counted, and kept or refused
 pub returns-clause-fresh : goal.returns-clause-fresh
@@ -28,49 +29,51 @@ returns-clause-fresh c =
     ∙ sym (ap (λ (r : ReadingsView). asked_on pos c.args.kind c.args.target r.plies r.wide) c.self.view_is) in
     let rests = as_asked key _ _ asked c.read_afresh-read.ensures.rests in
     let untried = untried_as_asked key _ pos read.trials asked c.read_afresh-read.ensures.untried in
-    let missing = subst (λ (r : ReadingsView). IsMissing same_key key pos r.kept)
+    let missing = subst (λ (r : ReadingsView). IsMissing same_key key pos r.answers.kept)
     (sym c.self.view_is) c.requires.missing in
     let inside = c.self.inside in
     let before : ReadingsView = record {
       plies = inside.depths.plies;
       wide = inside.depths.wide;
-      fresh = inside.fresh;
       trials = inside.trials;
-      refused = inside.refused;
       last = inside.last;
-      kept = inside.cache;
+      answers = record { fresh = inside.fresh; refused = inside.refused; kept = inside.cache };
     } in
-    subst (λ (old : ReadingsView). WasFresh key pos read.answer old c.match-keep.self) c.self.view_is
-    (elim c.match-keep.branch as (λ _. WasFresh key pos read.answer before c.match-keep.self) [
-      | in-Err w ↦ subst (λ (new : ReadingsView). WasFresh key pos read.answer before new) (sym w.self-is)
+    subst (λ (old : ReadingsView). ReadAfresh key pos read.answer old c.match-keep.self) c.self.view_is
+    (elim c.match-keep.branch as (λ _. ReadAfresh key pos read.answer before c.match-keep.self) [
+      | in-Err w ↦ subst (λ (new : ReadingsView). ReadAfresh key pos read.answer before new) (sym w.self-is)
           (record {
-            missing = missing;
+            fresh = record {
+              missing = missing;
+              fresh = c.saturating_add-self-inside.ensures;
+              keeping = inr (record {
+                not_kept = w.in-Err.ensures.not_kept;
+                kept = w.in-Err.ensures.refused;
+                refused = w.saturating_add-self-inside-in-Err.ensures;
+              });
+            };
             trials_of_last = read.trials;
             last = refl;
-            fresh = c.saturating_add-self-inside.ensures;
             trials = c.saturating_add-self-inside-2.ensures;
             untried = untried;
-            keeping = inr (record {
-              not_kept = w.in-Err.ensures.not_kept;
-              kept = w.in-Err.ensures.refused;
-              refused = w.saturating_add-self-inside-in-Err.ensures;
-            });
           })
-      | in_default w ↦ subst (λ (new : ReadingsView). WasFresh key pos read.answer before new) (sym w.self-is)
+      | in_default w ↦ subst (λ (new : ReadingsView). ReadAfresh key pos read.answer before new) (sym w.self-is)
           (record {
-            missing = missing;
+            fresh = record {
+              missing = missing;
+              fresh = c.saturating_add-self-inside.ensures;
+              keeping = inl (record {
+                facts = read.facts;
+                holds = c.read_afresh-read.ensures.holds;
+                rests = rests;
+                kept = w.in_default.ensures.kept;
+                refused = refl;
+              });
+            };
             trials_of_last = read.trials;
             last = refl;
-            fresh = c.saturating_add-self-inside.ensures;
             trials = c.saturating_add-self-inside-2.ensures;
             untried = untried;
-            keeping = inl (record {
-              facts = read.facts;
-              holds = c.read_afresh-read.ensures.holds;
-              rests = rests;
-              kept = w.in_default.ensures.kept;
-              refused = refl;
-            });
           })
     ])
 
@@ -82,10 +85,10 @@ returns-clause-rest c =
     ∙ sym (ap (λ (r : ReadingsView). asked_on c.args.position.now c.args.kind c.args.target r.plies r.wide)
     c.self.view_is) in
     let rests = as_asked c.args.key _ _ asked c.read_afresh-read.ensures.rests in
-    elim c.match-keep.branch as (λ _. AllRest c.match-keep.self.kept) [
-      | in-Err w ↦ subst AllRest (sym (ap (λ (r : ReadingsView). r.kept) w.self-is ∙ w.in-Err.ensures.refused))
-          c.self.invariant
-      | in_default w ↦ subst (λ (r : ReadingsView). AllRest r.kept) (sym w.self-is)
-          (AllRest-kept c.args.key read.facts read.answer rests c.self.inside.cache c.keep.new.self c.self.invariant
-          w.in_default.ensures.kept)
+    elim c.match-keep.branch as (λ _. HoldsOfEach Rests c.match-keep.self.answers.kept) [
+      | in-Err w ↦ subst (HoldsOfEach Rests)
+          (sym (ap (λ (r : ReadingsView). r.answers.kept) w.self-is ∙ w.in-Err.ensures.refused)) c.self.invariant
+      | in_default w ↦ subst (λ (r : ReadingsView). HoldsOfEach Rests r.answers.kept) (sym w.self-is)
+          (each_rests-kept Rests same_key same_key-is c.args.key read.facts read.answer c.self.inside.cache
+          c.keep.new.self rests c.self.invariant w.in_default.ensures.kept)
     ]
