@@ -6,6 +6,7 @@ ghost use Rattle.gtp_io.specs.Loading.{IsReadUpTo, longest_file};
 use crate::loader::place_for;
 use crate::{LoadError, Loader};
 use std::alloc::Global;
+use std::fs::OpenFile;
 use std::io::Read;
 use std::marker::Model;
 use std::rt::Files;
@@ -47,12 +48,17 @@ fn read_up_to<R: Read + Drop>(reader: R, most: usize, into: &mut Vec<u8>) -> io:
     Ok(count <= most)
 }
 
-/// Reads a file behind the bytes, and says whether it was read whole.
+/// Reads a file behind the bytes, and says whether it was read whole. Room for the length that the system tells is made
+/// first, so that what is read is not moved, and takes no more than it has.
 fn read_file<R: Files>(files: &R, name: &str, most: usize, into: &mut Vec<u8>) -> io::Result<bool>
     requires { most ≤ longest_file }
     ensures { StartsWith into.new.items into.old.items }
 {
-    read_up_to(fs::open(files, name)?, most, into)
+    let file = fs::open(files, name)?;
+    if let Ok(told) = file.metadata() {
+        into.reserve_exact(told.len().min(most as u64) as usize)?;
+    }
+    read_up_to(file, most, into)
 }
 
 impl<'a, R: Files> FileLoader<'a, R> {
