@@ -4,23 +4,16 @@ use Rattle.std.proofs.Common.{replicate, sym, ap, ◌∙◌, subst, arith, inl, 
 use Rattle.std.proofs.lemmas.Bool.{and_parts, cases_eq, not-true}
 use Rattle.std.proofs.lemmas.List.{length-replicate, length-set, get_or-replicate, get_or-set_same, get_or-set_other}
 use Rattle.dfa_core.specs.declared.automaton.Seen.{Seen}
-use Rattle.dfa_core.specs.declared.automaton.Seen.TheVariants.{Friend, Enemy, Empty, Off}
+use Rattle.dfa_core.specs.declared.automaton.Seen.TheVariants.{Friend}
 use Rattle.dfa_core.specs.Automata.{Row, step_at}
 use Rattle.dfa_core.specs.Entries.{entry_with, row_of, AreEntries}
 use Rattle.dfa_core.specs.RowKinds.{kind_at}
 use Rattle.dfa_core.specs.Words.{letter_number}
-use Rattle.dfa_core.proofs.Entries.{row_of-entry}
+use Rattle.dfa_core.proofs.Entries.{row_of-entry, letter_below}
 use Rattle.dfa_shortcuts.specs.Shortcuts.{is_accepting_entry, is_dead_entry, has_one_target, is_passed}
 use Rattle.dfa_shortcuts.specs.Shortcuts.{IsOfRow, LeadsOn, AreShortcuts}
 use Rattle.dfa_shortcuts.proofs.EntryRows.{silent_row}
 use Rattle.dfa_shortcuts.proofs.PassedLetters.{LeadsOn-none, LeadsOn-passed}
-
--- there are four letters
-letter_below : (x : Seen) → letter_number x < 4
-letter_below Friend = omega arith
-letter_below Enemy = omega arith
-letter_below Empty = omega arith
-letter_below Off = omega arith
 
 -- the entries of an automaton are shortcuts that pass over no letter
 pub AreShortcuts-none : (rows : List Row) (from : List ℕ) → AreEntries rows from
