@@ -131,18 +131,22 @@ fn append(numbers: &mut Vec<u16>, more: &[u16])
 }
 
 impl Table {
-    /// A table without rows. Takes memory.
-    pub fn new(alloc: Global) -> Result<Table, NoMemory>
+    /// A table without rows, with room for so many. Takes memory.
+    pub fn with_room(alloc: Global, rows: u32) -> Result<Table, NoMemory>
         ensures { IfOk result (λ t. t ≡ []) }
     {
-        let mut starts = Vec::new(alloc);
+        let rows = rows as usize;
+        let mut starts = Vec::with_capacity(alloc, rows + 1)?;
         starts.push(0)?;
+        let targets = Vec::with_capacity(alloc, 4 * rows)?;
+        let depths = Vec::with_capacity(alloc, rows)?;
+        let kinds = Vec::with_capacity(alloc, rows)?;
         Ok(Table {
-            targets: Vec::new(alloc),
+            targets,
             starts,
             numbers: Vec::new(alloc),
-            depths: Vec::new(alloc),
-            kinds: Vec::new(alloc),
+            depths,
+            kinds,
         })
     }
 
