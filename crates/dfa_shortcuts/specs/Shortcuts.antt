@@ -1,5 +1,6 @@
 -- Rows to which a letter leads, and those behind it that are passed over.
-use Rattle.std.specs.Prelude.{◌≡◌, ℕ, ◌+◌, ◌*◌, ◌%◌, ◌<◌, ◌≤◌, Bool, not, ◌&&◌, ◌==◌, List, [], length, slice_index_or, All}
+use Rattle.std.specs.Prelude.{◌≡◌, ℕ, ◌+◌, ◌*◌, ◌%◌, ◌<◌, ◌≤◌, Bool, not, ◌&&◌, ◌==◌, List, [], length}
+use Rattle.std.specs.Prelude.{slice_index_or, All}
 use Rattle.dfa_core.specs.declared.automaton.Seen.{Seen}
 use Rattle.dfa_core.specs.declared.kind.RowKind.TheVariants.{Accepting, Dead}
 use Rattle.dfa_core.specs.Automata.{Row, row_at, step_at, reach_from}

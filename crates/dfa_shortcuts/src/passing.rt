@@ -25,8 +25,8 @@ fn is_passed_over(entries: &[u32], entry: u32) -> bool
     !is_accepting(entry) && !is_dead(entry) && leads_one_way(entries, row_in(entry))
 }
 
-/// Makes one shortcut longer where the row to which its letter leads is passed over: it leads then to where the shortcut
-/// from that row leads, unless this passes over as many letters as a byte counts.
+/// Makes one shortcut longer where the row to which its letter leads is passed over: it leads then to where the
+/// shortcut from that row leads, unless this passes over as many letters as a byte counts.
 fn lengthen(from: &[u32], entries: &mut [u32], passed: &mut [u8], place: usize)
     requires rows { HaveRows from.now }
     requires place { place < length from.now }

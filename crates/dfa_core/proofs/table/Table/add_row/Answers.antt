@@ -2,7 +2,7 @@ use Rattle.std.proofs.Common.{◌≡◌, ◌∙◌, ◌++◌, ◌∷◌, [], sym
 use Rattle.std.proofs.lemmas.List.{length_push}
 use Rattle.dfa_core.specs.Automata.{Row}
 use Rattle.dfa_core.specs.Tables.{Flat, rows_in, IsFlat}
-use Rattle.dfa_core.specs.RowKinds.{kind_with}
+use Rattle.dfa_core.specs.RowKinds.{kind_with, AreKinds}
 use Rattle.dfa_core.proofs.Tables.{flat_with, rows_in-grown, IsFlat-grown, length-rows}
 use Rattle.dfa_core.proofs.RowKinds.{AreKinds-more}
 use Rattle.dfa_core.proofs.table.Table.add_row.Goals.{After-push_reserved-3}
@@ -56,24 +56,29 @@ flat c =
     (c.append.ensures.items ∙ ap (λ xs. xs ++ c.args.first.now) c.in_ok-make_room.ensures.numbers)
     c.append-2.ensures.items (one_depth c)
 
+-- the row has its kind
+kinds : (c : After-push_reserved-3) → AreKinds (rows_in (new_table c)) c.push_reserved-3.new.self.items
+kinds c =
+    let kind = c.kind_of-kind.result in
+    AreKinds-more (rows_in (old_table c)) (rows_in (new_table c)) (row_of c) c.self.inside.kinds.items
+    c.push_reserved-3.new.self.items kind c.self.invariant.of_rows (one_more c)
+    (c.push_reserved-3.ensures.items ∙ ap (λ xs. xs ++ kind ∷ []) c.in_ok-make_room.ensures.kinds)
+    (c.kind_of-kind.ensures ∙ ap (λ n. kind_with n c.args.targets_of_row (c.args.first.now ++ c.args.second.now))
+    (c.len-2.ensures ∙ c.self.inside.depths.ok.0 ∙ sym (length-rows (old_table c))))
+
 -- the new row comes behind those of the table before
 pub returns-clause-added : goal.returns-clause-added
 returns-clause-added c =
     let at = (goal.at.returns-clause-added c).After-push_reserved-3 in
     one_more at ∙ ap (λ rows. rows ++ row_of at ∷ []) c.self.view_is
 
--- the lists belong together, and the row has its kind
+-- the lists belong together, each row has its kind, and there are not too many
 pub invariant_of-self-2 : goal.invariant_of-self-2
 invariant_of-self-2 c =
     let at = (goal.at.invariant_of-self-2 c).After-push_reserved-3 in
     record {
       flat = flat at;
-      of_rows = AreKinds-more (rows_in (old_table at)) (rows_in (new_table at))
-          (row_of at) c.self.inside.kinds.items c.push_reserved-3.new.self.items c.kind_of-kind.result
-          c.self.invariant.of_rows (one_more at)
-          (c.push_reserved-3.ensures.items ∙ ap (λ xs. xs ++ c.kind_of-kind.result ∷ []) c.in_ok-make_room.ensures.kinds)
-          (c.kind_of-kind.ensures ∙ ap (λ n. kind_with n c.args.targets_of_row (c.args.first.now ++ c.args.second.now))
-          (c.len-2.ensures ∙ c.self.inside.depths.ok.0 ∙ sym (length-rows (old_table at))));
+      of_rows = kinds at;
       few = omega (
         arith,
         c.if-len-ge-MOST_ROWS.false,
