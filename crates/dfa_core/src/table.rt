@@ -1,6 +1,7 @@
 //! The flat table of an automaton: five vectors for all rows. It grows row by row, and then it is closed.
 ghost use Rattle.std.specs.Prelude.{◌≡◌, ◌+◌, ◌*◌, ◌<◌, ◌≤◌, ◌++◌, ◌∷◌, [], length, take, slice_index_or, map};
-ghost use Rattle.std.specs.Prelude.{All, IfOk};
+ghost use Rattle.std.specs.Prelude.{All, IfOk, OnOk, OnErr, vec_capacity};
+ghost use Rattle.std.specs.Vec.{vec_len};
 ghost use Rattle.dfa_core.specs.Automata.{Row, row_at, step_at, IsAutomaton, HaveFourTargets};
 ghost use Rattle.dfa_core.specs.Words.{letter_number};
 ghost use Rattle.dfa_core.specs.Tables.{part_of, numbers_of};
@@ -80,61 +81,111 @@ fn between(numbers: &[u16], from: usize, to: usize) -> &[u16]
     &numbers[from..to]
 }
 
+/// Makes room in the five vectors of a table for a row with so many numbers. What they hold stays.
+fn make_room(
+    targets: &mut Vec<u32>,
+    starts: &mut Vec<usize>,
+    numbers: &mut Vec<u16>,
+    depths: &mut Vec<u16>,
+    kinds: &mut Vec<RowKind>,
+    more: usize,
+) -> Result<(), NoMemory>
+    ensures targets { targets.new.items ≡ targets.old.items }
+    ensures starts { starts.new.items ≡ starts.old.items }
+    ensures numbers { numbers.new.items ≡ numbers.old.items }
+    ensures depths { depths.new.items ≡ depths.old.items }
+    ensures kinds { kinds.new.items ≡ kinds.old.items }
+    ensures room_for_targets { OnOk result (vec_len targets.new + 4 ≤ vec_capacity targets.new) }
+    ensures room_for_start { OnOk result (vec_len starts.new < vec_capacity starts.new) }
+    ensures room_for_numbers { OnOk result (vec_len numbers.new + more ≤ vec_capacity numbers.new) }
+    ensures room_for_depth { OnOk result (vec_len depths.new < vec_capacity depths.new) }
+    ensures room_for_kind { OnOk result (vec_len kinds.new < vec_capacity kinds.new) }
+{
+    targets.reserve(4)?;
+    starts.reserve(1)?;
+    numbers.reserve(more)?;
+    depths.reserve(1)?;
+    kinds.reserve(1)?;
+    Ok(())
+}
+
+/// Appends the targets of a row, for which there is room.
+fn append_targets(targets: &mut Vec<u32>, of_row: [u32; 4])
+    requires { vec_len targets.old + 4 ≤ vec_capacity targets.old }
+    ensures { targets.new.items ≡ targets.old.items ++ of_row }
+{
+    targets.extend_from_slice(&of_row).unwrap();
+}
+
+/// Appends numbers for which there is room. Most rows have none.
+fn append(numbers: &mut Vec<u16>, more: &[u16])
+    requires { vec_len numbers.old + length more.now ≤ vec_capacity numbers.old }
+    ensures items { numbers.new.items ≡ numbers.old.items ++ more.now }
+    ensures len { vec_len numbers.new ≡ vec_len numbers.old + length more.now }
+    ensures capacity { vec_capacity numbers.old ≤ vec_capacity numbers.new }
+{
+    if more.is_empty() {
+        return;
+    }
+    numbers.extend_from_slice(more).unwrap();
+}
+
 impl Table {
-    /// A table without rows. Takes memory.
-    pub fn new(alloc: Global) -> Result<Table, NoMemory>
+    /// A table without rows, with room for so many. Takes memory.
+    pub fn with_room(alloc: Global, rows: u32) -> Result<Table, NoMemory>
         ensures { IfOk result (λ t. t ≡ []) }
     {
-        let mut starts = Vec::new(alloc);
+        let rows = rows as usize;
+        let mut starts = Vec::with_capacity(alloc, rows + 1)?;
         starts.push(0)?;
+        let targets = Vec::with_capacity(alloc, 4 * rows)?;
+        let depths = Vec::with_capacity(alloc, rows)?;
+        let kinds = Vec::with_capacity(alloc, rows)?;
         Ok(Table {
-            targets: Vec::new(alloc),
+            targets,
             starts,
             numbers: Vec::new(alloc),
-            depths: Vec::new(alloc),
-            kinds: Vec::new(alloc),
+            depths,
+            kinds,
         })
     }
 
-    /// The table with one row more, which accepts the numbers of both lists, one list after the other. Takes memory;
-    /// for more than 2^30 rows there is none.
-    pub fn with_row(
-        self,
+    /// Adds a row that accepts the numbers of both lists, one list after the other. Takes memory; for more than 2^30
+    /// rows there is none. Where there is none, no row is added.
+    pub fn add_row(
+        &mut self,
         targets_of_row: [u32; 4],
         first: &[u16],
         second: &[u16],
         depth: u16,
-    ) -> Result<Table, NoMemory>
-        ensures { IfOk result (λ t. t ≡ self ++ (record {
+    ) -> Result<(), NoMemory>
+        ensures added { OnOk result (self.new ≡ self.old ++ (record {
           targets = targets_of_row;
           numbers = first.now ++ second.now;
           depth = depth;
         }) ∷ []) }
+        ensures same { OnErr result (self.new ≡ self.old) }
     {
         let Table {
-            mut targets,
-            mut starts,
-            mut numbers,
-            mut depths,
-            mut kinds,
-        } = self;
-        if depths.len() >= MOST_ROWS {
-            return Err(NoMemory);
-        }
-        let kind = kind_of(depths.len(), targets_of_row, first, second);
-        targets.extend_from_slice(&targets_of_row)?;
-        numbers.extend_from_slice(first)?;
-        numbers.extend_from_slice(second)?;
-        starts.push(numbers.len())?;
-        depths.push(depth)?;
-        kinds.push(kind)?;
-        Ok(Table {
             targets,
             starts,
             numbers,
             depths,
             kinds,
-        })
+        } = self;
+        if depths.len() >= MOST_ROWS {
+            return Err(NoMemory);
+        }
+        let kind = kind_of(depths.len(), targets_of_row, first, second);
+        let more = first.len() + second.len();
+        make_room(targets, starts, numbers, depths, kinds, more)?;
+        append_targets(targets, targets_of_row);
+        append(numbers, first);
+        append(numbers, second);
+        starts.push_reserved(numbers.len());
+        depths.push_reserved(depth);
+        kinds.push_reserved(kind);
+        Ok(())
     }
 
     /// How many rows it has.

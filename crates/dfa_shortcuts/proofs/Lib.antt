@@ -1,7 +1,7 @@
 pub mod Words
 pub mod EntryRows
 pub mod PassedLetters
-pub mod FirstShortcuts
+pub mod LongerShortcuts
 pub mod LongerOpenings
 pub mod ShortcutRows
 pub mod OpeningRows

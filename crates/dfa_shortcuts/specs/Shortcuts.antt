@@ -1,5 +1,6 @@
 -- Rows to which a letter leads, and those behind it that are passed over.
-use Rattle.std.specs.Prelude.{◌≡◌, ℕ, ◌+◌, ◌*◌, ◌%◌, ◌<◌, ◌≤◌, Bool, ◌&&◌, ◌==◌, List, [], length, slice_index_or, All}
+use Rattle.std.specs.Prelude.{◌≡◌, ℕ, ◌+◌, ◌*◌, ◌%◌, ◌<◌, ◌≤◌, Bool, not, ◌&&◌, ◌==◌, List, [], length}
+use Rattle.std.specs.Prelude.{slice_index_or, All}
 use Rattle.dfa_core.specs.declared.automaton.Seen.{Seen}
 use Rattle.dfa_core.specs.declared.kind.RowKind.TheVariants.{Accepting, Dead}
 use Rattle.dfa_core.specs.Automata.{Row, row_at, step_at, reach_from}
@@ -20,6 +21,11 @@ abbrev pub has_one_target : List ℕ → ℕ → Bool
 has_one_target entries r = (slice_index_or entries (4 * r + 1) 0 == slice_index_or entries (4 * r) 0) &&
     (slice_index_or entries (4 * r + 2) 0 == slice_index_or entries (4 * r) 0) &&
     (slice_index_or entries (4 * r + 3) 0 == slice_index_or entries (4 * r) 0)
+
+-- whether the row of the entry is passed over: it accepts nothing, it is not dead, and its four entries are one
+abbrev pub is_passed : List ℕ → ℕ → Bool
+is_passed entries entry = not (is_accepting_entry entry) && not (is_dead_entry entry)
+    && has_one_target entries (row_of entry)
 
 -- the entry is that of one of the rows
 pub record IsEntryOfRow (rows : List Row) (entry : ℕ) : Type 0 where
@@ -44,13 +50,5 @@ pub record AreShortcuts (rows : List Row) (entries passed : List ℕ) : Type 0 w
   pub many : length entries ≡ 4 * length rows
   pub counted : length passed ≡ 4 * length rows
   pub each : (r : ℕ) (x : Seen) → r < length rows
-      → LeadsOn rows (step_at rows r x) (slice_index_or passed (4 * r + letter_number x) 0)
-      (slice_index_or entries (4 * r + letter_number x) 0)
-
--- the lists have the first n shortcuts, in the order of the automaton's entries
-pub record AreFirstShortcuts (rows : List Row) (n : ℕ) (entries passed : List ℕ) : Type 0 where
-  pub many : length entries ≡ n
-  pub counted : length passed ≡ n
-  pub each : (r : ℕ) (x : Seen) → 4 * r + letter_number x < n
       → LeadsOn rows (step_at rows r x) (slice_index_or passed (4 * r + letter_number x) 0)
       (slice_index_or entries (4 * r + letter_number x) 0)

@@ -17,7 +17,7 @@ mod passing;
 pub use crate::entries::{is_accepting, is_dead};
 pub use crate::openings::OPENING_LETTERS;
 use crate::openings::{UNKNOWN, openings_of};
-use crate::passing::{Passed, passed_from};
+use crate::passing::lengthen_all;
 use dfa_core::{Automaton, Seen};
 use go_base::NoMemory;
 use std::alloc::Global;
@@ -44,15 +44,10 @@ impl Shortcuts {
         let _ = automaton.rows();
         let from = automaton.entries();
         let mut entries = Vec::with_capacity(alloc, from.len())?;
-        let mut passed = Vec::with_capacity(alloc, from.len())?;
-        'entries: for entry in from {
-            let Passed {
-                entry: behind,
-                letters,
-            } = passed_from(from, *entry);
-            entries.push(behind)?;
-            passed.push(letters)?;
-        }
+        entries.extend_from_slice(from)?;
+        let mut passed = Vec::new(alloc);
+        passed.resize(from.len(), 0)?;
+        lengthen_all(from, &mut entries, &mut passed);
         Ok(Shortcuts {
             entries,
             passed,

@@ -1,20 +1,11 @@
 //! Letters that are passed over, since each of them leads on to one row.
-ghost use Rattle.std.specs.Prelude.{◌≡◌, ◌+◌, ◌*◌, ◌≤◌, List, length};
+ghost use Rattle.std.specs.Prelude.{◌≡◌, ◌+◌, ◌*◌, ◌<◌, ◌≤◌, List, length};
 ghost use Rattle.dfa_core.specs.Automata.{Row};
-ghost use Rattle.dfa_core.specs.Entries.{AreEntries, row_of, entry_with};
-ghost use Rattle.dfa_core.specs.RowKinds.{kind_at};
-ghost use Rattle.dfa_shortcuts.specs.Shortcuts.{LeadsOn, IsOfRow, HaveRows, has_one_target};
+ghost use Rattle.dfa_core.specs.Entries.{AreEntries};
+ghost use Rattle.dfa_shortcuts.specs.Shortcuts.{IsOfRow, HaveRows, AreShortcuts, has_one_target, is_passed};
 
 use crate::entries::{is_accepting, is_dead};
 use dfa_core::row_in;
-
-/// The entry to which letters that are passed over lead, and how many they are.
-pub struct Passed {
-    /// The entry.
-    pub entry: u32,
-    /// How many letters are passed over.
-    pub letters: u8,
-}
 
 /// Whether each letter leads from a row to one and the same row.
 fn leads_one_way(entries: &[u32], row: u32) -> bool
@@ -26,24 +17,53 @@ fn leads_one_way(entries: &[u32], row: u32) -> bool
     entries[first + 1] == entry && entries[first + 2] == entry && entries[first + 3] == entry
 }
 
-/// Passes over the letters from the row of an entry on, as long as each of them leads to one row and nothing is
-/// accepted, and no more of them than a byte counts.
-pub fn passed_from(entries: &[u32], entry: u32) -> Passed
-    requires row { IsOfRow entries.now entry }
-    requires rows { HaveRows entries.now }
-    ensures { (automaton : List Row) → AreEntries automaton entries.now
-        → entry ≡ entry_with (kind_at automaton (row_of entry)) (row_of entry)
-        → LeadsOn automaton (row_of entry) result.letters result.entry }
+/// Whether the row of an entry is passed over: it accepts nothing, it is not dead, and each letter leads on to one row.
+fn is_passed_over(entries: &[u32], entry: u32) -> bool
+    requires { IsOfRow entries.now entry }
+    ensures { result ≡ is_passed entries.now entry }
 {
-    let mut entry = entry;
-    'letters: for letters in 0..u8::MAX {
-        if is_accepting(entry) || is_dead(entry) || !leads_one_way(entries, row_in(entry)) {
-            return Passed { entry, letters };
-        }
-        entry = entries[4 * row_in(entry) as usize];
+    !is_accepting(entry) && !is_dead(entry) && leads_one_way(entries, row_in(entry))
+}
+
+/// Makes one shortcut longer where the row to which its letter leads is passed over: it leads then to where the
+/// shortcut from that row leads, unless this passes over as many letters as a byte counts.
+fn lengthen(from: &[u32], entries: &mut [u32], passed: &mut [u8], place: usize)
+    requires rows { HaveRows from.now }
+    requires place { place < length from.now }
+    requires entries { length entries.old ≡ length from.now }
+    requires passed { length passed.old ≡ length from.now }
+    ensures entries { length entries.new ≡ length from.now }
+    ensures passed { length passed.new ≡ length from.now }
+    ensures shortcuts { (automaton : List Row) → AreEntries automaton from.now
+        → AreShortcuts automaton entries.old passed.old → AreShortcuts automaton entries.new passed.new }
+{
+    let entry = from[place];
+    if !is_passed_over(from, entry) {
+        return;
     }
-    Passed {
-        entry,
-        letters: u8::MAX,
+    let first = 4 * row_in(entry) as usize;
+    let letters = passed[first];
+    if letters == u8::MAX {
+        return;
+    }
+    entries[place] = entries[first];
+    passed[place] = letters + 1;
+}
+
+/// Makes all shortcuts longer, from the last one on: most letters lead to a row behind, whose own are then as long as
+/// they become.
+pub fn lengthen_all(from: &[u32], entries: &mut [u32], passed: &mut [u8])
+    requires rows { HaveRows from.now }
+    requires entries { length entries.old ≡ length from.now }
+    requires passed { length passed.old ≡ length from.now }
+    ensures entries { length entries.new ≡ length from.now }
+    ensures passed { length passed.new ≡ length from.now }
+    ensures shortcuts { (automaton : List Row) → AreEntries automaton from.now
+        → AreShortcuts automaton entries.old passed.old → AreShortcuts automaton entries.new passed.new }
+{
+    let mut place = from.len();
+    'places: while place > 0 {
+        place -= 1;
+        lengthen(from, entries, passed, place);
     }
 }

@@ -2,13 +2,13 @@ use Rattle.std.proofs.Common.{◌++◌, max, ◌∙◌, ap, sym, subst, length}
 use Rattle.std.proofs.lemmas.List.{length_push}
 use Rattle.dfa_join.specs.Pairs.{IsReached, AreRowsOf, IsRowOf}
 use Rattle.dfa_join.proofs.Products.{AreRowsOf-push}
-use Rattle.dfa_join.proofs.product.with_row_of.Goals as goal
+use Rattle.dfa_join.proofs.product.add_row_of.Goals as goal
 
 -- some word reaches the pair
 pub expand-requires-clause-reached : goal.expand-requires-clause-reached
 expand-requires-clause-reached c =
     subst (IsReached c.args.a.now c.args.b.now) c.requires.pair
-    (c.requires.made.work.reached (length c.args.rows) c.requires.next)
+    (c.requires.made.work.reached (length c.args.rows.now) c.requires.next)
 
 -- the pairs so far are different and reached
 pub expand-requires-clause-work : goal.expand-requires-clause-work
@@ -17,8 +17,8 @@ expand-requires-clause-work c = c.requires.made.work
 -- the row is that of the pair
 pub returns-in-Ok-clause-made : goal.returns-in-Ok-clause-made
 returns-in-Ok-clause-made c =
-    subst (AreRowsOf c.args.a.now c.args.b.now c.args.limit c.expand.new.pairs.keys) (sym c.in-Ok.ensures)
-    (AreRowsOf-push c.args.a.now c.args.b.now c.args.limit c.args.pairs.now.keys c.expand.new.pairs.keys c.args.rows
+    subst (AreRowsOf c.args.a.now c.args.b.now c.args.limit c.expand.new.pairs.keys) (sym c.in-Ok.ensures.added)
+    (AreRowsOf-push c.args.a.now c.args.b.now c.args.limit c.args.pairs.now.keys c.expand.new.pairs.keys c.args.rows.now
     (record {
       targets = c.in_ok-targets.targets;
       numbers = c.accepts.result.now ++ c.accepts-2.result.now;
@@ -41,4 +41,4 @@ returns-in-Ok-clause-made c =
 
 -- there is one row more
 pub returns-in-Ok-clause-more : goal.returns-in-Ok-clause-more
-returns-in-Ok-clause-more c = ap length c.in-Ok.ensures ∙ length_push c.args.rows _
+returns-in-Ok-clause-more c = ap length c.in-Ok.ensures.added ∙ length_push c.args.rows.now _
