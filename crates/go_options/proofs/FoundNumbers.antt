@@ -1,6 +1,6 @@
 -- What a parse of the command line finds for an option that has a number.
 use Rattle.std.proofs.Common.{◌≡◌, ◌∙◌, ◌<◌, ap, subst, ℕ, Bool, true, false, zero, suc, List, [], ◌∷◌, length, Option}
-use Rattle.std.proofs.Common.{Some, None, refl, sym, inl, inr, arith, true≢false, codes}
+use Rattle.std.proofs.Common.{Some, None, refl, sym, inl, inr, arith, true≢false}
 use Rattle.std.specs.Prelude.{find, option_map, pos, slice_get}
 use Rattle.std.proofs.lemmas.Option.{none-some, same_Some}
 use Rattle.std.specs.List.{All, slice_index_or}
@@ -27,13 +27,13 @@ use Rattle.clap.specs.declared.parser.matches.Found.{Found}
 use Rattle.clap.specs.declared.parser.matches.MatchedArg.{MatchedArg}
 use Rattle.clap.proofs.CallerLemmas.{default_present, entry_by_id, same_rules_by_id}
 use Rattle.clap.proofs.SimpleLemmas.{all_simple, plain_fields, simple_groups}
-use Rattle.go_options.specs.CommandLine.{command_line, number_rule, whole_from}
+use Rattle.go_options.specs.CommandLine.{command_line, number_rule, range_of}
 use Rattle.go_options.specs.NumberOptions.{NumberOption, depth_option, branch_option, cache_option, states_option}
 use Rattle.go_options.specs.NumberOptions.{generate_option}
 use Rattle.std.proofs.lemmas.List.{length-map}
 use Rattle.go_options.specs.Numbers.{HasNumbers, IsGiven, IsWhole, MayBeGiven}
 use Rattle.go_options.proofs.Values.{whole_read}
-use Rattle.go_options.proofs.NamedArguments.{IsNumberOf, number_named}
+use Rattle.go_options.proofs.NamedArguments.{IsNumberOf, IsOption, number_named}
 
 -- the first of some values, of which all pass
 first_of_all : (P : Bor Text → Type 0) (vs : List (Bor Text)) → 0 < length vs → All P vs
@@ -82,8 +82,12 @@ module _ (old : Command) (m : ArgMatches) (p : IsParsedFrom old m) (is : app_of 
   parsed : IsParsed p.built (found_of m) (has_subcommand m)
   parsed = p.parsed (p.from.globals ∙ (plain_fields old plain).globals)
 
-  module _ (option : NumberOption) (n : IsNumberOf old option) where
-    -- each argument of this id in the command that was built has the rules of the number's
+  module _ (option : NumberOption) (has : IsOption option) where
+    -- the argument of the option
+    n : IsNumberOf old option
+    n = number_named old option is has
+
+    -- each argument of the option's name in the command that was built has the rules of the option's
     same_rules : (j : ℕ) (y : Arg) → j < length (args_of p.built) → slice_index_or (args_of p.built) j y ≡ y
         → bytes_eq y.id.now option.name ≡ true
         → SameRules n.alone.arg y
@@ -142,12 +146,13 @@ module _ (old : Command) (m : ArgMatches) (p : IsParsedFrom old m) (is : app_of 
       ]
 
       -- a value that the option's parser takes is a whole number in the option's range
-      passes : (v : Bor Text) → PassesArg p.built entry.0.0.now v.now → IsSignedIn (pos option.least) (pos option.greatest) v.now
+      passes : (v : Bor Text) → PassesArg p.built entry.0.0.now v.now
+          → IsSignedIn (pos option.least) (pos option.greatest) v.now
       passes v any =
           let rules = same_rules any.0 any.1 any.2 any.3
           (subst (λ (t : Text). bytes_eq any.1.id.now t ≡ true) key any.4.0) in
-          let q : parser_of any.1 ≡ whole_from option.least option.greatest =
-          ap parser_of_value (rules.parser (whole_from option.least option.greatest) n.parser) in
+          let q : parser_of any.1 ≡ range_of option =
+          ap parser_of_value (rules.parser (range_of option) n.parser) in
           subst (λ (w : ValueParser). Accepts any.1.ignore_case w v.now) q any.4.1
 
       -- the value is read in the way that the option's parser reads one
@@ -157,8 +162,8 @@ module _ (old : Command) (m : ArgMatches) (p : IsParsedFrom old m) (is : app_of 
         | inr any ↦
             let rules = same_rules any.0 any.1 any.2 any.3
             (subst (λ (t : Text). bytes_eq any.1.id.now t ≡ true) key any.4.0) in
-            let q : parser_of any.1 ≡ whole_from option.least option.greatest =
-            ap parser_of_value (rules.parser (whole_from option.least option.greatest) n.parser) in
+            let q : parser_of any.1 ≡ range_of option =
+            ap parser_of_value (rules.parser (range_of option) n.parser) in
             ap (λ (y : MatchedArg). y.reading) (sym entry.1) ∙ (sym any.4.1 ∙ ap reading_of q)
       ]
 
@@ -183,7 +188,8 @@ module _ (old : Command) (m : ArgMatches) (p : IsParsedFrom old m) (is : app_of 
     pub only_number : MayBeGiven (found_of m) option
     only_number text one = go (matched_of (found_of m) option.name) refl
       where
-        go : (o : Option MatchedArg) → matched_of (found_of m) option.name ≡ o → IsWhole option.least option.greatest text
+        go : (o : Option MatchedArg) → matched_of (found_of m) option.name ≡ o
+            → IsWhole option.least option.greatest text
         go None e =
             let bad : None ≡ Some text = rw e at one in
             absurd (none-some text bad)
@@ -200,18 +206,19 @@ module _ (old : Command) (m : ArgMatches) (p : IsParsedFrom old m) (is : app_of 
         let some : 0 < length (items_of n.alone.arg.default_vals) = omega arith in
         let wants : WantsDefault (slice_index_or (args_of old) n.alone.place n.alone.arg) =
         subst WantsDefault (sym n.alone.at) (n.default_ifs, some) in
-        let has = default_present old m p (plain_fields old plain).globals n.alone.place n.alone.arg n.alone.within wants in
+        let present = default_present old m p (plain_fields old plain).globals
+        n.alone.place n.alone.arg n.alone.within wants in
         let entry = entry_found (found_of m).entries.items option.name
         (subst (λ (t : Text). HasIn (found_of m).entries.items t)
-        (ap (λ (a : Arg). a.id.now) n.alone.at ∙ n.id_is) has) in
+        (ap (λ (a : Arg). a.id.now) n.alone.at ∙ n.id_is) present) in
         number_found entry.0 entry.1
 
-  -- each number of the command line is found in its range
+  -- each number of the command line is found in its range: that its rule stands under its name is computed
   pub numbers_found : HasNumbers (found_of m)
   numbers_found = record {
-    depth = default_number depth_option (number_named old depth_option is refl) (omega arith);
-    branch = default_number branch_option (number_named old branch_option is refl) (omega arith);
-    cache = default_number cache_option (number_named old cache_option is refl) (omega arith);
-    states = default_number states_option (number_named old states_option is refl) (omega arith);
-    generate = only_number generate_option (number_named old generate_option is refl);
+    depth = default_number depth_option refl (omega arith);
+    branch = default_number branch_option refl (omega arith);
+    cache = default_number cache_option refl (omega arith);
+    states = default_number states_option refl (omega arith);
+    generate = only_number generate_option refl;
   }

@@ -1,6 +1,7 @@
 -- The argument of a command that alone has a name, and what it says where it is that of an option with a number.
 use Rattle.std.proofs.Common.{◌≡◌, ◌∙◌, ◌<◌, ◌&&◌, ap, subst, ℕ, Bool, true, false, not, zero, suc, List, [], ◌∷◌}
-use Rattle.std.proofs.Common.{cond, length, map, Option, Some, None, is_some, refl, sym, inl, inr, arith, codes, true≢false}
+use Rattle.std.proofs.Common.{cond, length, map, Option, Some, None, is_some, refl, sym, inl, inr, arith, codes}
+use Rattle.std.proofs.Common.{true≢false}
 use Rattle.std.specs.List.{slice_index_or}
 use Rattle.std.specs.Str.{bytes_eq}
 use Rattle.std.proofs.lemmas.Option.{none-some, same_Some}
@@ -14,7 +15,7 @@ use Rattle.clap.specs.declared.builder.arg.Arg.{Arg}
 use Rattle.clap.specs.declared.builder.command.Command.{Command}
 use Rattle.clap.proofs.SimpleLemmas.{is_false, is_nil}
 use Rattle.clap.proofs.WalkLemmas.{both}
-use Rattle.go_options.specs.CommandLine.{command_line, number_rule, the_rules, whole_from}
+use Rattle.go_options.specs.CommandLine.{command_line, number_rule, range_of, the_rules}
 use Rattle.go_options.specs.NumberOptions.{NumberOption}
 
 -- ---- the rule of a name
@@ -61,8 +62,8 @@ alone_here x xs name none =
     only (suc j) e lt same = absurd (absent xs name none j e (omega arith) same)
 
 -- an argument of another name in front changes only the place
-alone_later : (x : Arg) (xs : List Arg) (name : Text) (r : Rule) → bytes_eq x.id.now name ≡ false → IsAlone xs name r
-    → IsAlone (x ∷ xs) name r
+alone_later : (x : Arg) (xs : List Arg) (name : Text) (r : Rule) → bytes_eq x.id.now name ≡ false
+    → IsAlone xs name r → IsAlone (x ∷ xs) name r
 alone_later x xs name r other one = record {
   place = suc one.place;
   arg = one.arg;
@@ -108,15 +109,14 @@ simple_arg a e =
 
 -- ---- the argument of a number
 
--- one argument of the command alone has the option's name, and it has one value, a number in the option's range, and the
--- option's default
+-- one argument of the command alone has the option's name, with one value in the option's range and its default
 pub record IsNumberOf (old : Command) (option : NumberOption) : Type 0 where
   pub alone : IsAlone (args_of old) option.name (number_rule option)
   pub id_is : alone.arg.id.now ≡ option.name
   pub action : alone.arg.action ≡ Some Set
   pub delimiter : alone.arg.val_delim ≡ None
   pub range : alone.arg.num_vals ≡ None
-  pub parser : alone.arg.value_parser ≡ Some (whole_from option.least option.greatest)
+  pub parser : alone.arg.value_parser ≡ Some (range_of option)
   pub default_ifs : alone.arg.default_vals_ifs.items ≡ []
   pub default_vals : texts (items_of alone.arg.default_vals) ≡ (number_rule option).defaults
   pub named : option.name ≡ [] → ⊥
@@ -126,19 +126,19 @@ pub record IsNumberOf (old : Command) (option : NumberOption) : Type 0 where
 abbrev pub IsOption : NumberOption → Type 0
 IsOption option = rule_named option.name the_rules ≡ Some (number_rule option)
 
--- an option has no name for which the command line has no rule
+-- an option does not have a name for which the command line has no rule
 not_named : (option : NumberOption) (name : Text) → IsOption option → rule_named name the_rules ≡ None
     → option.name ≡ name → ⊥
 not_named option name is none same =
     none-some (number_rule option) (sym none ∙ (ap (λ n. rule_named n the_rules) (sym same) ∙ is))
 
--- the command has an argument for each option of the command line, which is found by its name
+-- an option of the command line has an argument in the command, which its name finds
 pub number_named : (old : Command) (option : NumberOption) → app_of old ≡ command_line → IsOption option
     → IsNumberOf old option
 unfolding command_line
 number_named old option is has =
     let rules : the_rules ≡ map rule_of (args_of old) = sym (ap (λ (a : App). a.top.rules) is) in
-    let one : IsAlone (args_of old) option.name (number_rule option) = alone (args_of old) option.name (number_rule option)
+    let one = alone (args_of old) option.name (number_rule option)
     (subst (λ rs. rule_named option.name rs ≡ Some (number_rule option)) rules has) in
     let facts = simple_arg one.arg (ap (λ (x : Rule). x.is_simple) one.rule) in
     let id : one.arg.id.now ≡ option.name = ap (λ (x : Rule). x.id) one.rule in

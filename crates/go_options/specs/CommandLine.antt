@@ -22,9 +22,13 @@ option_rule name values = record (new_rule name) { long = Some name; action = So
 abbrev pub default_rule : Text → ValueParser → Text → Rule
 default_rule name values text = record (option_rule name values) { defaults = text ∷ [] }
 
--- the rule of an option that has a number
+-- the numbers in the range of the option
+abbrev pub range_of : NumberOption → ValueParser
+range_of option = whole_from option.least option.greatest
+
+-- the rule of an option that has a number: one value in its range, and its default where it has one
 abbrev pub number_rule : NumberOption → Rule
-number_rule option = record (option_rule option.name (whole_from option.least option.greatest)) {
+number_rule option = record (option_rule option.name (range_of option)) {
   defaults = unwrap_or (option_map (λ text. text ∷ []) option.default) [];
 }
 

@@ -2,8 +2,7 @@
 use Rattle.std.specs.Prelude.{ℕ, Option, Some, None, codes}
 use Rattle.clap.specs.Walk.{Text}
 
--- an option of this name, whose number lies from the least to the greatest, and which has this text for a default, where
--- it has a default
+-- an option of this name has a number from the least to the greatest, and this text stands where it is not given
 pub record NumberOption : Type 0 where
   pub name : Text
   pub least : ℕ

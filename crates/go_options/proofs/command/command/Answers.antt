@@ -2,14 +2,14 @@ use Rattle.std.proofs.Common.{◌≡◌, ◌∙◌, Some, ap, ap₂}
 use Rattle.clap.specs.Simple.{with_rule}
 use Rattle.clap.specs.Walk.{Rule}
 use Rattle.clap.specs.declared.builder.value_parser.ValueParser.{ValueParser}
-use Rattle.go_options.specs.CommandLine.{command_line, number_rule, whole_from}
+use Rattle.go_options.specs.CommandLine.{command_line, number_rule, range_of}
 use Rattle.go_options.specs.NumberOptions.{NumberOption, depth_option, branch_option, cache_option, states_option}
 use Rattle.go_options.specs.NumberOptions.{generate_option}
 use Rattle.go_options.proofs.command.command.Goals as goal
 
 -- a parser that takes the numbers of the option's range
 abbrev Takes : NumberOption → ValueParser → Type 0
-Takes option values = values ≡ whole_from option.least option.greatest
+Takes option values = values ≡ range_of option
 
 -- the rule with the option's name and default over this parser
 abbrev rule_over : NumberOption → ValueParser → Rule
