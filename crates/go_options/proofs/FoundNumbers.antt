@@ -1,6 +1,6 @@
 -- What a parse of the command line finds for an option that has a number.
 use Rattle.std.proofs.Common.{◌≡◌, ◌∙◌, ◌<◌, ap, subst, ℕ, Bool, true, false, zero, suc, List, [], ◌∷◌, length, Option}
-use Rattle.std.proofs.Common.{Some, None, refl, sym, inl, inr, arith, true≢false, codes}
+use Rattle.std.proofs.Common.{Some, None, refl, sym, inl, inr, arith, true≢false}
 use Rattle.std.specs.Prelude.{find, option_map, pos, slice_get}
 use Rattle.std.proofs.lemmas.Option.{none-some, same_Some}
 use Rattle.std.specs.List.{All, slice_index_or}
@@ -27,11 +27,13 @@ use Rattle.clap.specs.declared.parser.matches.Found.{Found}
 use Rattle.clap.specs.declared.parser.matches.MatchedArg.{MatchedArg}
 use Rattle.clap.proofs.CallerLemmas.{default_present, entry_by_id, same_rules_by_id}
 use Rattle.clap.proofs.SimpleLemmas.{all_simple, plain_fields, simple_groups}
-use Rattle.go_options.specs.CommandLine.{command_line, default_rule, option_rule, whole_from}
+use Rattle.go_options.specs.CommandLine.{command_line, number_rule, range_of}
+use Rattle.go_options.specs.NumberOptions.{NumberOption, depth_option, branch_option, cache_option, states_option}
+use Rattle.go_options.specs.NumberOptions.{generate_option}
 use Rattle.std.proofs.lemmas.List.{length-map}
-use Rattle.go_options.specs.Numbers.{HasNumber, HasNumbers, HasOnlyNumber, IsWhole}
+use Rattle.go_options.specs.Numbers.{HasNumbers, IsGiven, IsWhole, MayBeGiven}
 use Rattle.go_options.proofs.Values.{whole_read}
-use Rattle.go_options.proofs.Places.{IsNumberAt, number_at}
+use Rattle.go_options.proofs.NamedArguments.{IsNumberOf, IsOption, number_named}
 
 -- the first of some values, of which all pass
 first_of_all : (P : Bor Text → Type 0) (vs : List (Bor Text)) → 0 < length vs → All P vs
@@ -80,29 +82,33 @@ module _ (old : Command) (m : ArgMatches) (p : IsParsedFrom old m) (is : app_of 
   parsed : IsParsed p.built (found_of m) (has_subcommand m)
   parsed = p.parsed (p.from.globals ∙ (plain_fields old plain).globals)
 
-  module _ (k : ℕ) (id : Text) (low high : ℕ) (defaults : List Text) (n : IsNumberAt old k id low high defaults) where
-    -- each argument of this id in the command that was built has the rules of the number's
+  module _ (option : NumberOption) (has : IsOption option) where
+    -- the argument of the option
+    n : IsNumberOf old option
+    n = number_named old option is has
+
+    -- each argument of the option's name in the command that was built has the rules of the option's
     same_rules : (j : ℕ) (y : Arg) → j < length (args_of p.built) → slice_index_or (args_of p.built) j y ≡ y
-        → bytes_eq y.id.now id ≡ true
-        → SameRules n.arg y
+        → bytes_eq y.id.now option.name ≡ true
+        → SameRules n.alone.arg y
     same_rules j y within at same =
-        subst (λ (a : Arg). SameRules a y) n.at (same_rules_by_id old m p k n.arg n.within
-        (λ i e lt h. n.only i e lt
+        subst (λ (a : Arg). SameRules a y) n.alone.at (same_rules_by_id old m p n.alone.place n.alone.arg n.alone.within
+        (λ i e lt h. n.alone.only i e lt
         (subst (λ (t : Text). bytes_eq (slice_index_or (args_of old) i e).id.now t ≡ true) there h))
-        (λ auto. n.own (subst IsAuto n.at auto))
+        (λ auto. n.own (subst IsAuto n.alone.at auto))
         j y within at (subst (λ (t : Text). bytes_eq y.id.now t ≡ true) (sym there) same))
       where
-        there : (slice_index_or (args_of old) k n.arg).id.now ≡ id
-        there = ap (λ (a : Arg). a.id.now) n.at ∙ n.id_is
+        there : (slice_index_or (args_of old) n.alone.place n.alone.arg).id.now ≡ option.name
+        there = ap (λ (a : Arg). a.id.now) n.alone.at ∙ n.id_is
 
-    module _ (x : MatchedArg) (found : matched_of (found_of m) id ≡ Some x) where
+    module _ (x : MatchedArg) (found : matched_of (found_of m) option.name ≡ Some x) where
       -- what was found for the option is an entry of its name
-      entry : (e : Entry) × (e.1 ≡ x) × (bytes_eq e.0.now id ≡ true) × EntryPasses p.built e
-      entry = entry_by_id (EntryPasses p.built) (found_of m).entries.items id x parsed.values found
+      entry : (e : Entry) × (e.1 ≡ x) × (bytes_eq e.0.now option.name ≡ true) × EntryPasses p.built e
+      entry = entry_by_id (EntryPasses p.built) (found_of m).entries.items option.name x parsed.values found
 
       -- the entry has the name of the option
-      key : entry.0.0.now ≡ id
-      key = (bytes_eq-Decides entry.0.0.now id).0 entry.2
+      key : entry.0.0.now ≡ option.name
+      key = (bytes_eq-Decides entry.0.0.now option.name).0 entry.2
 
       -- the entry is not that of a group, since the command has none
       no_group : entry.0.1.is_group ≡ true → ⊥
@@ -130,7 +136,7 @@ module _ (old : Command) (m : ArgMatches) (p : IsParsedFrom old m) (is : app_of 
             (subst (λ (t : Text). bytes_eq none.1.id.now t ≡ true) key none.4.0) in
             elim none.4.1 [
               | inl zero_least ↦
-                  let one : least_values n.arg ≡ 1 = ap (λ r. (unwrap_or_range r).start_inclusive) n.range in
+                  let one : least_values n.alone.arg ≡ 1 = ap (λ r. (unwrap_or_range r).start_inclusive) n.range in
                   let least = rules.least n.action (omega arith) in
                   absurd (omega arith)
               | inr delimited ↦
@@ -140,12 +146,13 @@ module _ (old : Command) (m : ArgMatches) (p : IsParsedFrom old m) (is : app_of 
       ]
 
       -- a value that the option's parser takes is a whole number in the option's range
-      passes : (v : Bor Text) → PassesArg p.built entry.0.0.now v.now → IsSignedIn (pos low) (pos high) v.now
+      passes : (v : Bor Text) → PassesArg p.built entry.0.0.now v.now
+          → IsSignedIn (pos option.least) (pos option.greatest) v.now
       passes v any =
           let rules = same_rules any.0 any.1 any.2 any.3
           (subst (λ (t : Text). bytes_eq any.1.id.now t ≡ true) key any.4.0) in
-          let q : parser_of any.1 ≡ whole_from low high =
-          ap parser_of_value (rules.parser (whole_from low high) n.parser) in
+          let q : parser_of any.1 ≡ range_of option =
+          ap parser_of_value (rules.parser (range_of option) n.parser) in
           subst (λ (w : ValueParser). Accepts any.1.ignore_case w v.now) q any.4.1
 
       -- the value is read in the way that the option's parser reads one
@@ -155,8 +162,8 @@ module _ (old : Command) (m : ArgMatches) (p : IsParsedFrom old m) (is : app_of 
         | inr any ↦
             let rules = same_rules any.0 any.1 any.2 any.3
             (subst (λ (t : Text). bytes_eq any.1.id.now t ≡ true) key any.4.0) in
-            let q : parser_of any.1 ≡ whole_from low high =
-            ap parser_of_value (rules.parser (whole_from low high) n.parser) in
+            let q : parser_of any.1 ≡ range_of option =
+            ap parser_of_value (rules.parser (range_of option) n.parser) in
             ap (λ (y : MatchedArg). y.reading) (sym entry.1) ∙ (sym any.4.1 ∙ ap reading_of q)
       ]
 
@@ -169,64 +176,49 @@ module _ (old : Command) (m : ArgMatches) (p : IsParsedFrom old m) (is : app_of 
       ]
 
       -- an option that has an entry has a number
-      pub number_found : HasNumber (found_of m) id low high
+      pub number_found : IsGiven (found_of m) option
       number_found =
           let first = first_of_all (λ v. PassesArg p.built entry.0.0.now v.now) x.vals.items has_value values in (
             read_as WithoutMinus first.0.now,
-            text_at (found_of m) id x WithoutMinus first.0 found reading first.1,
-            whole_read low high first.0.now (passes first.0 first.2),
+            text_at (found_of m) option.name x WithoutMinus first.0 found reading first.1,
+            whole_read option.least option.greatest first.0.now (passes first.0 first.2),
           )
 
     -- a value of the option is a number
-    pub only_number : HasOnlyNumber (found_of m) id low high
-    only_number text one = go (matched_of (found_of m) id) refl
+    pub only_number : MayBeGiven (found_of m) option
+    only_number text one = go (matched_of (found_of m) option.name) refl
       where
-        go : (o : Option MatchedArg) → matched_of (found_of m) id ≡ o → IsWhole low high text
+        go : (o : Option MatchedArg) → matched_of (found_of m) option.name ≡ o
+            → IsWhole option.least option.greatest text
         go None e =
             let bad : None ≡ Some text = rw e at one in
             absurd (none-some text bad)
         go (Some x) e =
             let number = number_found x e in
             let same : number.0 ≡ text = same_Some number.0 text (sym number.1 ∙ one) in
-            subst (IsWhole low high) same number.2
+            subst (IsWhole option.least option.greatest) same number.2
 
     -- an option with a default has a number
-    pub default_number : 0 < length defaults → HasNumber (found_of m) id low high
+    pub default_number : 0 < length (number_rule option).defaults → IsGiven (found_of m) option
     default_number more =
-        let same : length (items_of n.arg.default_vals) ≡ length defaults =
-        sym (length-map (items_of n.arg.default_vals) (λ (t : Bor Text). t.now)) ∙ ap length n.default_vals in
-        let some : 0 < length (items_of n.arg.default_vals) = omega arith in
-        let wants : WantsDefault (slice_index_or (args_of old) k n.arg) =
-        subst WantsDefault (sym n.at) (n.default_ifs, some) in
-        let has = default_present old m p (plain_fields old plain).globals k n.arg n.within wants in
-        let entry = entry_found (found_of m).entries.items id
+        let same : length (items_of n.alone.arg.default_vals) ≡ length (number_rule option).defaults =
+        sym (length-map (items_of n.alone.arg.default_vals) (λ (t : Bor Text). t.now)) ∙ ap length n.default_vals in
+        let some : 0 < length (items_of n.alone.arg.default_vals) = omega arith in
+        let wants : WantsDefault (slice_index_or (args_of old) n.alone.place n.alone.arg) =
+        subst WantsDefault (sym n.alone.at) (n.default_ifs, some) in
+        let present = default_present old m p (plain_fields old plain).globals
+        n.alone.place n.alone.arg n.alone.within wants in
+        let entry = entry_found (found_of m).entries.items option.name
         (subst (λ (t : Text). HasIn (found_of m).entries.items t)
-        (ap (λ (a : Arg). a.id.now) n.at ∙ n.id_is) has) in
+        (ap (λ (a : Arg). a.id.now) n.alone.at ∙ n.id_is) present) in
         number_found entry.0 entry.1
 
--- each number of the command line is found in its range
-pub numbers_found : (old : Command) (m : ArgMatches) → IsParsedFrom old m → app_of old ≡ command_line
-    → HasNumbers (found_of m)
-numbers_found old m p is =
-    let depth = number_at old 0
-    (default_rule (codes "depth") (whole_from 1 200)
-    (codes "10")) 1 200 is refl refl refl refl refl refl refl refl refl in
-    let branch = number_at old 1
-    (default_rule (codes "branch") (whole_from 0 12)
-    (codes "2")) 0 12 is refl refl refl refl refl refl refl refl refl in
-    let cache = number_at old 2
-    (default_rule (codes "cache") (whole_from 8 65536)
-    (codes "4096")) 8 65536 is refl refl refl refl refl refl refl refl refl in
-    let states = number_at old 3
-    (default_rule (codes "states") (whole_from 1 1000000)
-    (codes "100000")) 1 1000000 is refl refl refl refl refl refl refl refl refl in
-    let generate = number_at old 4
-    (option_rule (codes "generate")
-    (whole_from 1 100000)) 1 100000 is refl refl refl refl refl refl refl refl refl in
-    record {
-      depth = default_number old m p is 0 (codes "depth") 1 200 (codes "10" ∷ []) depth (omega arith);
-      branch = default_number old m p is 1 (codes "branch") 0 12 (codes "2" ∷ []) branch (omega arith);
-      cache = default_number old m p is 2 (codes "cache") 8 65536 (codes "4096" ∷ []) cache (omega arith);
-      states = default_number old m p is 3 (codes "states") 1 1000000 (codes "100000" ∷ []) states (omega arith);
-      generate = only_number old m p is 4 (codes "generate") 1 100000 [] generate;
-    }
+  -- each number of the command line is found in its range: that its rule stands under its name is computed
+  pub numbers_found : HasNumbers (found_of m)
+  numbers_found = record {
+    depth = default_number depth_option refl (omega arith);
+    branch = default_number branch_option refl (omega arith);
+    cache = default_number cache_option refl (omega arith);
+    states = default_number states_option refl (omega arith);
+    generate = only_number generate_option refl;
+  }

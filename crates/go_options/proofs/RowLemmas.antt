@@ -10,8 +10,9 @@ use Rattle.clap.specs.Matches.{ReadsOne, first_value, matched_of, one_text, raw_
 use Rattle.clap.specs.Walk.{Text, rows_of}
 use Rattle.clap.specs.declared.parser.matches.Found.{Found}
 use Rattle.clap.proofs.WalkLemmas.{first_value-rows, one_text-rows, raw_values-rows}
-use Rattle.go_options.specs.Found.{IsFrom, flag_in, number_in, number_of, words_in}
-use Rattle.go_options.specs.Numbers.{HasNumber, HasOnlyNumber, IsWhole, largest}
+use Rattle.go_options.specs.Found.{IsIn, flag_in, number_in, number_of, words_in}
+use Rattle.go_options.specs.Numbers.{HasOnlyNumber, IsGiven, IsWhole, MayBeGiven, largest}
+use Rattle.go_options.specs.NumberOptions.{NumberOption}
 
 -- the number of an option is that of its text
 pub number_of_text : (f : Found) (id : Text) (text : Text) → one_text f id ≡ Some text
@@ -34,10 +35,10 @@ number_read {E} G f id r only whole none value = go (one_text f id) refl
     go (Some t) e = reads t r (value t e) (whole t e) ∙ sym (number_of_text f id t e)
 
 -- a number that an option has lies in its range
-pub number_from : (f : Found) (id : Text) (low high n : ℕ) → HasNumber f id low high → number_in id (rows_of f) ≡ Some n
-    → IsFrom low high n
-number_from f id low high n has is =
-    let same : number_of has.0 ≡ n = same_Some _ _ (sym (number_of_text f id has.0 has.1) ∙ is) in
+pub number_from : (f : Found) (option : NumberOption) (n : ℕ) → IsGiven f option
+    → number_in option.name (rows_of f) ≡ Some n → IsIn option n
+number_from f option n has is =
+    let same : number_of has.0 ≡ n = same_Some _ _ (sym (number_of_text f option.name has.0 has.1) ∙ is) in
     (omega (arith, has.2.1.0), omega (arith, has.2.1.1))
 
 -- whether a flag is set, by the text that `get_str` gives
@@ -51,17 +52,18 @@ pub words_read : (f : Found) (id : Text) (o : Option (List Text)) → o ≡ opti
     → unwrap_or o [] ≡ words_in id (rows_of f)
 words_read f id o is = ap (λ (w : Option (List Text)). unwrap_or w []) (is ∙ raw_values-rows f id)
 
+-- a number lies in the range of the option, or there is none
+abbrev IsInOrNone : NumberOption → Option ℕ → Type 0
+IsInOrNone option number = MatchOption number (Unit {0}) (IsIn option)
+
 -- a number that an option may have lies in its range where it is there
-pub only_from : (f : Found) (id : Text) (low high : ℕ) (o : Option ℕ) → HasOnlyNumber f id low high
-    → o ≡ number_in id (rows_of f)
-    → MatchOption o (Unit {0}) (IsFrom low high)
-only_from f id low high o only is =
-    subst (λ (n : Option ℕ). MatchOption n (Unit {0}) (IsFrom low high)) (sym is) (go (one_text f id) refl)
+pub only_from : (f : Found) (option : NumberOption) (o : Option ℕ) → MayBeGiven f option
+    → o ≡ number_in option.name (rows_of f) → IsInOrNone option o
+only_from f option o only is = subst (IsInOrNone option) (sym is) (go (one_text f option.name) refl)
   where
-    go : (t : Option Text) → one_text f id ≡ t → MatchOption (number_in id (rows_of f)) (Unit {0}) (IsFrom low high)
+    go : (t : Option Text) → one_text f option.name ≡ t → IsInOrNone option (number_in option.name (rows_of f))
     go None e =
-        let none : number_in id (rows_of f) ≡ None = ap (option_map number_of) (sym (one_text-rows f id) ∙ e) in
-        subst (λ (n : Option ℕ). MatchOption n (Unit {0}) (IsFrom low high)) (sym none) tt
-    go (Some t) e =
-        subst (λ (n : Option ℕ). MatchOption n (Unit {0}) (IsFrom low high)) (sym (number_of_text f id t e))
-        (only t e).1
+        let none : number_in option.name (rows_of f) ≡ None =
+        ap (option_map number_of) (sym (one_text-rows f option.name) ∙ e) in
+        subst (IsInOrNone option) (sym none) tt
+    go (Some t) e = subst (IsInOrNone option) (sym (number_of_text f option.name t e)) (only t e).1

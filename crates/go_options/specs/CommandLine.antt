@@ -1,5 +1,5 @@
 -- The command line of the program as one value of `clap`, and what `clap`'s definitions make of words over it.
-use Rattle.std.specs.Prelude.{ℕ, pos, Bool, true, List, [], ◌∷◌, Some, codes}
+use Rattle.std.specs.Prelude.{ℕ, pos, Bool, true, List, [], ◌∷◌, Some, codes, option_map, unwrap_or}
 use Rattle.clap.specs.Lexer.{usize_max}
 use Rattle.clap.specs.Walk.{Row, Rule, Text, is_empty}
 use Rattle.clap.specs.Simple.{App, matches_of, new_app, new_rule, on_top}
@@ -7,6 +7,8 @@ use Rattle.clap.specs.Faults.{fault_of}
 use Rattle.clap.specs.declared.builder.action.ArgAction.TheVariants.{Set, Append, SetTrue}
 use Rattle.clap.specs.declared.builder.value_parser.ValueParser.{ValueParser}
 use Rattle.clap.specs.declared.builder.value_parser.ValueParser.TheVariants as parser
+use Rattle.go_options.specs.NumberOptions.{NumberOption, depth_option, branch_option, cache_option, states_option}
+use Rattle.go_options.specs.NumberOptions.{generate_option}
 
 -- a whole number from low to high
 abbrev pub whole_from : ℕ → ℕ → ValueParser
@@ -19,6 +21,16 @@ option_rule name values = record (new_rule name) { long = Some name; action = So
 -- the same with a value that stands where the option does not
 abbrev pub default_rule : Text → ValueParser → Text → Rule
 default_rule name values text = record (option_rule name values) { defaults = text ∷ [] }
+
+-- the numbers in the range of the option
+abbrev pub range_of : NumberOption → ValueParser
+range_of option = whole_from option.least option.greatest
+
+-- the rule of an option that has a number: one value in its range, and its default where it has one
+abbrev pub number_rule : NumberOption → Rule
+number_rule option = record (option_rule option.name (range_of option)) {
+  defaults = unwrap_or (option_map (λ text. text ∷ []) option.default) [];
+}
 
 -- a flag of this name
 abbrev pub flag_rule : Text → Rule
@@ -38,11 +50,11 @@ bare_command name = on_top
 
 -- the rules of the command line, in their order
 abbrev pub the_rules : List Rule
-the_rules = default_rule (codes "depth") (whole_from 1 200) (codes "10")
-    ∷ default_rule (codes "branch") (whole_from 0 12) (codes "2")
-    ∷ default_rule (codes "cache") (whole_from 8 65536) (codes "4096")
-    ∷ default_rule (codes "states") (whole_from 1 1000000) (codes "100000")
-    ∷ option_rule (codes "generate") (whole_from 1 100000)
+the_rules = number_rule depth_option
+    ∷ number_rule branch_option
+    ∷ number_rule cache_option
+    ∷ number_rule states_option
+    ∷ number_rule generate_option
     ∷ flag_rule (codes "stats")
     ∷ words_rule (codes "files")
     ∷ []

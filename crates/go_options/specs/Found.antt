@@ -5,6 +5,8 @@ use Rattle.std.specs.Option.{option_map_or}
 use Rattle.std.specs.Str.{bytes_eq}
 use Rattle.std.specs.Str.Parse.{digits_value, without_leading_plus}
 use Rattle.clap.specs.Walk.{Row, Text, all_of, first_of, one_of}
+use Rattle.go_options.specs.NumberOptions.{NumberOption, depth_option, branch_option, cache_option, states_option}
+use Rattle.go_options.specs.NumberOptions.{generate_option}
 use Rattle.go_options.specs.declared.options.Options.{Options}
 
 -- the number that decimal digits write, where a plus may stand first
@@ -25,11 +27,11 @@ words_in name rows = unwrap_or (all_of name rows) []
 
 -- the options are those that the rows have
 pub record AreFound (rows : List Row) (options : Options) : Type 0 where
-  pub depth : number_in (codes "depth") rows ≡ Some options.depth
-  pub branch : number_in (codes "branch") rows ≡ Some options.branch
-  pub cache : number_in (codes "cache") rows ≡ Some options.cache
-  pub states : number_in (codes "states") rows ≡ Some options.states
-  pub generate : number_in (codes "generate") rows ≡ options.generate
+  pub depth : number_in depth_option.name rows ≡ Some options.depth
+  pub branch : number_in branch_option.name rows ≡ Some options.branch
+  pub cache : number_in cache_option.name rows ≡ Some options.cache
+  pub states : number_in states_option.name rows ≡ Some options.states
+  pub generate : number_in generate_option.name rows ≡ options.generate
   pub stats : flag_in (codes "stats") rows ≡ options.stats
   pub files : words_in (codes "files") rows ≡ options.files
 
@@ -37,10 +39,14 @@ pub record AreFound (rows : List Row) (options : Options) : Type 0 where
 abbrev pub IsFrom : ℕ → ℕ → ℕ → Type 0
 IsFrom low high n = (low ≤ n) × (n ≤ high)
 
+-- the number lies in the range of the option
+abbrev pub IsIn : NumberOption → ℕ → Type 0
+IsIn option = IsFrom option.least option.greatest
+
 -- each number of the options lies in its range
 pub record AreInRange (options : Options) : Type 0 where
-  pub depth : IsFrom 1 200 options.depth
-  pub branch : IsFrom 0 12 options.branch
-  pub cache : IsFrom 8 65536 options.cache
-  pub states : IsFrom 1 1000000 options.states
-  pub generate : MatchOption options.generate (Unit {0}) (IsFrom 1 100000)
+  pub depth : IsIn depth_option options.depth
+  pub branch : IsIn branch_option options.branch
+  pub cache : IsIn cache_option options.cache
+  pub states : IsIn states_option options.states
+  pub generate : MatchOption options.generate (Unit {0}) (IsIn generate_option)

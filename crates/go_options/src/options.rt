@@ -13,20 +13,20 @@ use clap::ArgMatches;
 use clap::error::ErrorKind;
 use std::alloc::Global;
 
-/// What the words of the command line ask for.
+/// What the words of the command line ask for. Each number lies in the range that its option has in `command`.
 #[derive(Debug, Drop)]
 pub struct Options {
-    /// How many plies a reading goes deep, from 1 to 200.
+    /// How many plies a reading goes deep.
     pub depth: u8,
-    /// How many plies of a reading look wide, from 0 to 12.
+    /// How many plies of a reading look wide.
     pub branch: u8,
-    /// How many questions are kept at most, from 8 to 65536.
+    /// How many questions are kept at most.
     pub cache: u32,
-    /// The most states of the automaton, from 1 to 1000000.
+    /// The most states of the automaton.
     pub states: u32,
     /// Whether the counts are noted at the end.
     pub stats: bool,
-    /// How many lines are generated in place of the input, from 1 to 100000.
+    /// How many lines are generated in place of the input.
     pub generate: Option<u32>,
     /// The names of the pattern files.
     pub files: Files,

@@ -1,5 +1,6 @@
-use Rattle.std.proofs.Common.{arith, codes}
+use Rattle.std.proofs.Common.{arith}
 use Rattle.clap.specs.Matches.{found_of}
+use Rattle.go_options.specs.NumberOptions.{depth_option, branch_option, cache_option, states_option, generate_option}
 use Rattle.go_options.proofs.RowLemmas.{number_from, only_from}
 use Rattle.go_options.proofs.options.options_in.Goals as goal
 
@@ -9,7 +10,7 @@ overflow_cast-result c =
     omega (
       arith,
       (number_from (found_of c.args.matches.now)
-          (codes "depth") 1 200 c.given_number.result c.requires.depth c.given_number.ensures).1,
+          depth_option c.given_number.result c.requires.depth c.given_number.ensures).1,
     )
 
 -- a branch is at most 12, and so it is a byte
@@ -18,7 +19,7 @@ overflow_cast-result-2 c =
     omega (
       arith,
       (number_from (found_of c.args.matches.now)
-          (codes "branch") 0 12 c.given_number-2.result c.requires.branch c.given_number-2.ensures).1,
+          branch_option c.given_number-2.result c.requires.branch c.given_number-2.ensures).1,
     )
 
 -- each number is the one that was found, which lies in its range
@@ -26,12 +27,12 @@ pub returns-clause-ranges : goal.returns-clause-ranges
 returns-clause-ranges c =
     let found = found_of c.args.matches.now in
     record {
-      depth = number_from found (codes "depth") 1 200 c.given_number.result c.requires.depth c.given_number.ensures;
+      depth = number_from found depth_option c.given_number.result c.requires.depth c.given_number.ensures;
       branch = number_from found
-          (codes "branch") 0 12 c.given_number-2.result c.requires.branch c.given_number-2.ensures;
+          branch_option c.given_number-2.result c.requires.branch c.given_number-2.ensures;
       cache = number_from found
-          (codes "cache") 8 65536 c.given_number-3.result c.requires.cache c.given_number-3.ensures;
+          cache_option c.given_number-3.result c.requires.cache c.given_number-3.ensures;
       states = number_from found
-          (codes "states") 1 1000000 c.given_number-4.result c.requires.states c.given_number-4.ensures;
-      generate = only_from found (codes "generate") 1 100000 c.number.result c.requires.generate c.number.ensures;
+          states_option c.given_number-4.result c.requires.states c.given_number-4.ensures;
+      generate = only_from found generate_option c.number.result c.requires.generate c.number.ensures;
     }

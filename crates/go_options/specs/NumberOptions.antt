@@ -1,0 +1,30 @@
+-- The options that have a number: each stands here once, with its name, its range and its default.
+use Rattle.std.specs.Prelude.{ℕ, Option, Some, None, codes}
+use Rattle.clap.specs.Walk.{Text}
+
+-- an option of this name has a number from the least to the greatest, and this text stands where it is not given
+pub record NumberOption : Type 0 where
+  pub name : Text
+  pub least : ℕ
+  pub greatest : ℕ
+  pub default : Option Text
+
+-- how many plies a reading goes deep
+abbrev pub depth_option : NumberOption
+depth_option = record { name = codes "depth"; least = 1; greatest = 200; default = Some (codes "10") }
+
+-- how many plies of a reading look wide
+abbrev pub branch_option : NumberOption
+branch_option = record { name = codes "branch"; least = 0; greatest = 12; default = Some (codes "2") }
+
+-- how many questions are kept at most
+abbrev pub cache_option : NumberOption
+cache_option = record { name = codes "cache"; least = 8; greatest = 65536; default = Some (codes "4096") }
+
+-- the most states of the automaton
+abbrev pub states_option : NumberOption
+states_option = record { name = codes "states"; least = 1; greatest = 1000000; default = Some (codes "100000") }
+
+-- how many lines are generated in place of the input
+abbrev pub generate_option : NumberOption
+generate_option = record { name = codes "generate"; least = 1; greatest = 100000; default = None }
