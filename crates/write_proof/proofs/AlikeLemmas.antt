@@ -59,7 +59,8 @@ left_of : (a b : Allowances) → has_some (without a b) ≡ true
     → (ko : Ko) × (has a ko ≡ true) × (has b ko ≡ false)
 left_of a b some =
     let one = some_of (without a b) some in
-    (one.0, and_parts_not _ _ (sym (has-without a b one.0) ∙ one.1))
+    let parts = and_parts_not _ _ (sym (has-without a b one.0) ∙ one.1) in
+    (one.0, parts.0, parts.1)
 
 -- the own allowance is in its set
 has_own : (attacker : Bool) → has (own_where attacker true) (own_ko attacker) ≡ true
@@ -86,8 +87,8 @@ pub own_alone : (attacker : Bool) (asked : Allowances) → IsOne asked → has a
 own_alone attacker asked one there = elim (cases_Bool (has_some (without asked (own_where attacker true)))) [
   | inl some ↦
       let other = left_of asked (own_where attacker true) some in
-      let same = one other.0 (own_ko attacker) other.1.0 there in
-      absurd (both_ways (has (own_where attacker true) other.0) other.1.1
+      let same = one other.0 (own_ko attacker) other.1 there in
+      absurd (both_ways (has (own_where attacker true) other.0) other.2
       (ap (has (own_where attacker true)) same ∙ has_own attacker))
   | inr none ↦ none
 ]
@@ -146,10 +147,10 @@ one_put asked ko old new words r is puts one =
     puts (one (subst IsOne (sym is) (only_one ko))) ko (ap (λ (s : Allowances). has s ko) is ∙ only_has ko)
 
 -- why they were not is the same whatever else would have been answered
-pub puts_why : {T U : Type 0} (old more new : List ℕ) (e : ProofError) → Puts {T = T} old more new (Err e)
+pub puts_why : (T U : Type 0) (old more new : List ℕ) (e : ProofError) → Puts {T = T} old more new (Err e)
     → Puts {T = U} old more new (Err e)
-puts_why old more new TooLong h = h
-puts_why old more new NoMemory h = tt
+puts_why T U old more new TooLong h = h
+puts_why T U old more new NoMemory h = tt
 
 -- of one allowance it is not told that a move is good under some alone
 pub told_one : (asked good : Allowances) → IsOne asked → has_some (without asked good) ≡ true
@@ -158,7 +159,7 @@ told_one asked good one without_it with_it =
     let a = left_of asked good without_it in
     let b = some_of (both asked good) with_it in
     let in_both = and_parts _ _ (sym (has_both asked good b.0) ∙ b.1) in
-    both_ways (has good a.0) a.1.1 (ap (has good) (one a.0 b.0 a.1.0 in_both.0) ∙ in_both.1)
+    both_ways (has good a.0) a.2 (ap (has good) (one a.0 b.0 a.1 in_both.0) ∙ in_both.1)
 
 -- what is told of the asked allowances is told of each
 pub told_each : (asked found : Allowances) (test : Ko → Bool) → Tells asked found test → (ko : Ko)

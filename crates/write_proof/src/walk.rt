@@ -41,7 +41,8 @@ fn node_of(turn: Turn) -> Node
 /// Writes that a claim is settled, which it then is under each allowance.
 fn put_dot(out: &mut Bytes) -> Result<bool, ProofError>
     requires { length out.old ≤ most_bytes }
-    ensures { Puts out.old (behind_blanks (codes "." ∷ [])) out.new result }
+    ensures puts { Puts out.old (behind_blanks (codes "." ∷ [])) out.new result }
+    ensures told { result ≢ Ok false }
 {
     put_word(out, b".")?;
     Ok(true)

@@ -40,5 +40,5 @@ returns-in-Ok-clause-puts g c =
 
 -- it was not
 pub returns-in-Err-clause-puts : goal.returns-in-Err-clause-puts
-returns-in-Err-clause-puts g c = puts_why {T = Bool} c.args.out.now _ c.write_claim.new.out c.in-Err.why
+returns-in-Err-clause-puts g c = puts_why Bool (Unit {0}) c.args.out.now _ c.write_claim.new.out c.in-Err.why
     (rw c.in-Err.is at (claim_put g (goal.at.returns-in-Err-clause-puts g c).After-write_claim))

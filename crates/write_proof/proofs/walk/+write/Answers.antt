@@ -80,8 +80,8 @@ write_play-returns-then-not-is_own_alone-clause-one g t c = λ one e.
     (sym c.has_own.ensures ∙ c.make.ensures.own c.in-Allowed.is)))
 
 -- the own allowance alone is asked for, and it is spent
-pub write_play-returns-in-Allowed-clause-puts : goal.write_play-returns-in-Allowed-clause-puts
-write_play-returns-in-Allowed-clause-puts g t c = λ same ko asked.
+pub write_play-returns-else-not-is_own_alone-clause-puts : goal.write_play-returns-else-not-is_own_alone-clause-puts
+write_play-returns-else-not-is_own_alone-clause-puts g t c = λ same ko asked.
     let shown = g.L.Look.shows c.args.board.now.look in
     let here = position_on g.L.Look.shows c.args.board.now in
     let agrees = subst (Agrees (g.L.Look.seen c.make.new.board.look)) c.make.ensures.shown
@@ -91,14 +91,14 @@ write_play-returns-in-Allowed-clause-puts g t c = λ same ko asked.
     let own = alone_own turn.attacker_to_play c.args.asked
     (not_false _ (sym c.is_own_alone.ensures ∙ c.if-not-is_own_alone.false)) ko asked in
     subst (λ (k : Ko). Puts c.args.out.now (behind_blanks (write_each (first_words c.args.plies c.args.won)
-    (option_to_list (child_of (under turn k) here c.args.p)))) c.write-done-2.new.out c.write-done-2.result) (sym own)
+    (option_to_list (child_of (under turn k) here c.args.p)))) c.write-done-in-Allowed.new.out c.write-done-in-Allowed.result) (sym own)
     (play_written c.args.plies c.args.won (under turn (own_ko turn.attacker_to_play)) here c.args.p (Some next) next
-    (after shown c.make.new.board.moves) c.args.out.now c.write-done-2.new.out c.write-done-2.result
+    (after shown c.make.new.board.moves) c.args.out.now c.write-done-in-Allowed.new.out c.write-done-in-Allowed.result
     (rw c.in-Allowed.is at (c.make.ensures.over shown agrees)).0 refl
     (subst (λ (p : BoardState). Puts c.args.out.now (behind_blanks (first_words c.args.plies c.args.won next
-    (after p c.make.new.board.moves))) c.write-done-2.new.out c.write-done-2.result) c.make.ensures.shown
-    (rw (c.next-2.ensures, c.neither_alone-neither.ensures) at
-    (c.write-done-2.ensures.puts same neither_may (ap (λ s. has s neither_may) c.neither_alone-neither.ensures)))))
+    (after p c.make.new.board.moves))) c.write-done-in-Allowed.new.out c.write-done-in-Allowed.result) c.make.ensures.shown
+    (rw c.next-in-Allowed.ensures at
+    (c.write-done-in-Allowed.ensures.puts same neither_may (ap (λ s. has s neither_may) c.neither_alone-neither.ensures)))))
 
 -- it cannot be made
 pub write_play-returns-in-Not-clause-puts : goal.write_play-returns-in-Not-clause-puts
@@ -302,7 +302,7 @@ write_move-returns-in-Pass-clause-puts g t c = λ same ko asked.
 pub write-returns-then-plies-eq0-clause-puts : goal.write-returns-then-plies-eq0-clause-puts
 write-returns-then-plies-eq0-clause-puts g t c = λ same ko asked.
     rw (dot_words c.args.plies c.args.won (under c.args.turn ko) (position_on g.L.Look.shows c.args.board.now)
-    (inl c.if-plies-eq0.true)) c.put_dot.ensures
+    (inl c.if-plies-eq0.true)) c.put_dot.ensures.puts
 
 -- the target is on the board
 pub write-is_settled-requires : goal.write-is_settled-requires
@@ -317,7 +317,7 @@ write-returns-then-is_settled-clause-puts g t c = λ same ko asked.
     let here = position_on g.L.Look.shows c.args.board.now in
     rw (dot_words c.args.plies c.args.won (under c.args.turn ko) here
     (inr (sym (settled_alike c.args.plies c.args.won c.args.turn ko here c.node_of-node.result c.node_of-node.ensures)
-    ∙ sym c.is_settled.ensures.answer ∙ c.if-is_settled.true))) c.put_dot-then-is_settled.ensures
+    ∙ sym c.is_settled.ensures.answer ∙ c.if-is_settled.true))) c.put_dot-then-is_settled.ensures.puts
 
 -- the side to play wants the claim
 pub write-returns-then-is_wanted-clause-puts : goal.write-returns-then-is_wanted-clause-puts
