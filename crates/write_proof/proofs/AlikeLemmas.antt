@@ -1,6 +1,6 @@
 -- What is the same under each of the asked ko allowances.
-use Rattle.std.proofs.Common.{◌≡◌, ◌≢◌, ◌∙◌, ℕ, Bool, true, false, not, cond, eqb, ◌&&◌, List, [], ◌∷◌, ◌++◌, Some, Result}
-use Rattle.std.proofs.Common.{Ok, Err, refl, sym, ap, subst, arith, inl, inr}
+use Rattle.std.proofs.Common.{◌≡◌, ◌≢◌, ◌∙◌, ℕ, Bool, true, false, not, cond, eqb, ◌&&◌, List, [], ◌∷◌, ◌++◌}
+use Rattle.std.proofs.Common.{Some, Result, Ok, Err, refl, sym, ap, subst, arith, inl, inr}
 use Rattle.std.proofs.lemmas.Bool.{cases_Bool, both_ways, and_parts, eqb-true, ne_eqb}
 use Rattle.std.specs.Result.{IsErrAnd}
 use Rattle.go_rules.specs.Position.{BoardState}
@@ -10,8 +10,8 @@ use Rattle.read_tree.specs.declared.allowances.Allowances.{Allowances}
 use Rattle.read_rules.specs.declared.question.ReadingQuestion.{ReadingQuestion}
 use Rattle.read_rules.specs.Answer.{is_attack, first_node}
 use Rattle.read_rules.specs.GameTree.{pass_saves, first_success, first_move, at_point}
-use Rattle.read_tree.specs.Allowances.{Ko, defender_may, neither_may, attacker_may, all_three, has, has_some, under, Tells}
-use Rattle.read_tree.specs.Allowances.{own_ko, own_where, without, both, attacker_ko_of, defender_ko_of}
+use Rattle.read_tree.specs.Allowances.{Ko, defender_may, neither_may, attacker_may, all_three, has, has_some}
+use Rattle.read_tree.specs.Allowances.{under, Tells, own_ko, own_where, without, both, attacker_ko_of, defender_ko_of}
 use Rattle.read_tree.specs.Steps.{first_turn}
 use Rattle.read_tree.proofs.AllowanceLemmas.{some_of, none_of, has-without, and_parts_not, has_all}
 use Rattle.read_tree.proofs.TableLemmas.{has_both}
@@ -234,7 +234,7 @@ part_by q pos more none =
 -- The first proof of code 0, where its three parts are the same.
 module _ (q : ReadingQuestion) (pos : BoardState) where
   -- what was written for one part makes up the whole when it stands there three times
-  pub thrice_whole : (piece : List ℕ) → ((ko : Ko) → piece ≡ behind_blanks (claim_words q pos (claim_under q 0 3) ko))
+  thrice_whole : (piece : List ℕ) → ((ko : Ko) → piece ≡ behind_blanks (claim_words q pos (claim_under q 0 3) ko))
       → piece ++ (piece ++ piece) ≡ behind_blanks (first_words_of q pos 0 (codes_down_to 0))
   thrice_whole piece is =
       let e = λ (more : ℕ) (none : eqb more 0 ≡ false).
@@ -244,42 +244,52 @@ module _ (q : ReadingQuestion) (pos : BoardState) where
       ∙ ap (λ t. part q pos 0 3 ++ (part q pos 0 2 ++ t)) (e 1 refl)
       ∙ sym (whole_one q pos 0 (λ w. cc) (λ w. cc))
 
+  -- under each allowance the part was put, or why it was not
+  each_put : (piece : List ℕ) (r s : Result Bool ProofError) → r ≡ s → s ≢ Ok false
+      → PutsAlike all_three [] (claim_words q pos (claim_under q 0 3)) piece r
+      → (ko : Ko) → Puts [] (behind_blanks (claim_words q pos (claim_under q 0 3) ko)) piece s
+  each_put piece r s is same puts ko =
+      subst (λ t. PutsAlike all_three [] (claim_words q pos (claim_under q 0 3)) piece t) is puts same ko (has_all ko)
+
+  -- three times the part that was put is the whole
+  three_put : (piece : List ℕ) (r : Result Bool ProofError) → r ≡ Ok true
+      → PutsAlike all_three [] (claim_words q pos (claim_under q 0 3)) piece r
+      → piece ++ (piece ++ piece) ≡ behind_blanks (first_words_of q pos 0 (codes_down_to 0))
+  three_put piece r told puts =
+      thrice_whole piece (λ ko. (each_put piece r (Ok true) told (yes_told true refl) puts ko).0)
+
   -- where the first part was not written, nor was the whole
-  pub part_refused : (out : List ℕ) (e : ProofError)
+  part_refused : (out : List ℕ) (e : ProofError)
       → ((ko : Ko) → Puts {T = Bool} [] (behind_blanks (claim_words q pos (claim_under q 0 3) ko)) out (Err e))
       → Writes (behind_blanks (first_words_of q pos 0 (codes_down_to 0))) (Err e)
   part_refused out e h =
       let first = whole_first q pos 0 in
-      not_written {T = Unit {0}} [] (part q pos 0 3 ++ first.0) (behind_blanks (first_words_of q pos 0 (codes_down_to 0))) out (Err e) e
-      refl (sym first.1) refl
+      not_written {T = Unit {0}} [] (part q pos 0 3 ++ first.0)
+      (behind_blanks (first_words_of q pos 0 (codes_down_to 0))) out (Err e) e refl (sym first.1) refl
       (puts_fails {T = Bool} {U = Unit {0}} [] out out (part q pos 0 3) first.0 (Err e) (Err e) e refl refl
       (subst (λ t. Puts {T = Bool} [] t out (Err e)) (sym (part_by q pos 3 refl))
       (h (ko_under (is_attack q.kind) 3))))
 
   -- the part was written, and then three of it
-  pub maybe_written : (part words : List ℕ) (r : Result Bool ProofError) (s : Result (List ℕ) ProofError) → r ≡ Ok true
-      → PutsAlike all_three [] (claim_words q pos (claim_under q 0 3)) part r → s ≡ Ok words → Writes (part ++ (part ++ part)) s
+  pub maybe_written : (piece words : List ℕ) (r : Result Bool ProofError) (s : Result (List ℕ) ProofError) → r ≡ Ok true
+      → PutsAlike all_three [] (claim_words q pos (claim_under q 0 3)) piece r → s ≡ Ok words
+      → Writes (piece ++ (piece ++ piece)) s
       → WritesMaybe (behind_blanks (first_words_of q pos 0 (codes_down_to 0))) (Ok (Some words))
-  maybe_written part words r s told puts is h =
-      let each : PutsAlike all_three [] (claim_words q pos (claim_under q 0 3)) part (Ok true) = subst (PutsAlike all_three [] (claim_words q pos (claim_under q 0 3)) part) told puts in
-      let done : Writes (part ++ (part ++ part)) (Ok words) = subst (Writes (part ++ (part ++ part))) is h in (
-        done.0 ∙ thrice_whole part (λ ko. (each (yes_told true refl) ko (has_all ko)).0),
-        done.1,
-      )
+  maybe_written piece words r s told puts is h =
+      let done : Writes (piece ++ (piece ++ piece)) (Ok words) = subst (Writes (piece ++ (piece ++ piece))) is h in
+      (done.0 ∙ three_put piece r told puts, done.1)
 
   -- the part was written, and three of it were not
-  pub maybe_refused : (part : List ℕ) (e : ProofError) (r : Result Bool ProofError) (s : Result (List ℕ) ProofError)
-      → r ≡ Ok true → PutsAlike all_three [] (claim_words q pos (claim_under q 0 3)) part r → s ≡ Err e → Writes (part ++ (part ++ part)) s
+  pub maybe_refused : (piece : List ℕ) (e : ProofError) (r : Result Bool ProofError) (s : Result (List ℕ) ProofError)
+      → r ≡ Ok true → PutsAlike all_three [] (claim_words q pos (claim_under q 0 3)) piece r → s ≡ Err e
+      → Writes (piece ++ (piece ++ piece)) s
       → WritesMaybe (behind_blanks (first_words_of q pos 0 (codes_down_to 0))) (Err e)
-  maybe_refused part e r s told puts is h =
-      let each : PutsAlike all_three [] (claim_words q pos (claim_under q 0 3)) part (Ok true) = subst (PutsAlike all_three [] (claim_words q pos (claim_under q 0 3)) part) told puts in
-      subst (λ bytes. Writes bytes (Err e)) (thrice_whole part (λ ko. (each (yes_told true refl) ko (has_all ko)).0))
-      (subst (Writes (part ++ (part ++ part))) is h)
+  maybe_refused piece e r s told puts is h =
+      subst (λ bytes. Writes bytes (Err e)) (three_put piece r told puts)
+      (subst (Writes (piece ++ (piece ++ piece))) is h)
 
   -- the part was not written
-  pub maybe_none : (part : List ℕ) (e : ProofError) (r : Result Bool ProofError) → r ≡ Err e
-      → PutsAlike all_three [] (claim_words q pos (claim_under q 0 3)) part r
+  pub maybe_none : (piece : List ℕ) (e : ProofError) (r : Result Bool ProofError) → r ≡ Err e
+      → PutsAlike all_three [] (claim_words q pos (claim_under q 0 3)) piece r
       → WritesMaybe (behind_blanks (first_words_of q pos 0 (codes_down_to 0))) (Err e)
-  maybe_none part e r is puts =
-      let each : PutsAlike all_three [] (claim_words q pos (claim_under q 0 3)) part (Err e) = subst (PutsAlike all_three [] (claim_words q pos (claim_under q 0 3)) part) is puts in
-      part_refused part e (λ ko. each (λ w. cc) ko (has_all ko))
+  maybe_none piece e r is puts = part_refused piece e (each_put piece r (Err e) is (λ w. cc) puts)

@@ -1,6 +1,6 @@
 -- What is the same under each of the asked ko allowances, and what is written once for all of them.
-use Rattle.std.specs.Prelude.{◌≡◌, ◌≢◌, ℕ, ◌≤◌, Bool, true, false, List, ◌∷◌, Option, Some, None, Result, Ok, Err, length, if◌then◌else◌}
-use Rattle.std.specs.Prelude.{not, ◌==◌}
+use Rattle.std.specs.Prelude.{◌≡◌, ◌≢◌, ℕ, ◌≤◌, Bool, true, false, List, ◌∷◌, Option, Some, None}
+use Rattle.std.specs.Prelude.{Result, Ok, Err, length, if◌then◌else◌, not, ◌==◌}
 use Rattle.go_rules.specs.Position.{BoardState}
 use Rattle.read_rules.specs.declared.question.ReadingQuestion.{ReadingQuestion}
 use Rattle.read_rules.specs.declared.question.Spot.{Spot}
@@ -28,8 +28,8 @@ only defender_may = record { defender = true; neither = false; attacker = false 
 only neither_may = record { defender = false; neither = true; attacker = false }
 only attacker_may = record { defender = false; neither = false; attacker = true }
 
--- the allowance of a code, for a question of this kind: under code 3 the other side may ignore the ban, under code 1 the
--- side that is asked about, and under others neither
+-- the allowance of a code, for a question of this kind: under code 3 the other side may ignore the ban, under code 1
+-- the side that is asked about, and under others neither
 abbrev pub ko_under : Bool → ℕ → Ko
 ko_under attack code = if code == 3 then own_ko (not attack) else if code == 1 then own_ko attack else neither_may
 

@@ -53,8 +53,8 @@ fn allowance_under(attack: bool, code: u8) -> Allowances
     }
 }
 
-/// Writes the letter and the first proof of a claim, where it is the same under each asked ko allowance. Else it answers
-/// false.
+/// Writes the letter and the first proof of a claim, where it is the same under each asked ko allowance. Else it
+/// answers false.
 pub fn write_claim<L: Look>(
     board: &mut Trial<L>,
     question: &ReadingQuestion,
@@ -75,7 +75,15 @@ pub fn write_claim<L: Look>(
     ensures one { IsOne asked → result ≢ Ok false }
 {
     put_word(out, letter(won))?;
-    write(board, turn_of(question), asked, question.plies, won, memory, out)
+    write(
+        board,
+        turn_of(question),
+        asked,
+        question.plies,
+        won,
+        memory,
+        out,
+    )
 }
 
 /// Writes the letter and the first proof of what a proof of the code claims under the allowances of another code.

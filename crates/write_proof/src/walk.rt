@@ -1,5 +1,5 @@
-//! The first proof of a claim at a node under each of the asked ko allowances, where it is the same under all of them: it is
-//! written once, on one board with trial moves from its first word to its last.
+//! The first proof of a claim at a node under each of the asked ko allowances, where it is the same under all of them.
+//! It is written once, on one board with trial moves from its first word to its last.
 
 ghost use Rattle.std.specs.Prelude.{◌≡◌, ◌≢◌, ◌+◌, ◌<◌, ◌≤◌, [], ◌∷◌, codes, length, Ok, true, false};
 ghost use Rattle.std.specs.Option.{option_to_list};
@@ -19,9 +19,9 @@ use crate::text::{ProofError, put_move, put_word};
 use go_base::{Bytes, Look, Point};
 use read_moves::candidates;
 use read_rules::{Node, Spot};
-use read_tree::{Allowances, Turn};
 use read_tree::making::{Made, make};
 use read_tree::memory::Memory;
+use read_tree::{Allowances, Turn};
 use trial_board::Trial;
 
 /// The node of a turn where neither side may ignore the ban.

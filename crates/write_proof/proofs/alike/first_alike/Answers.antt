@@ -1,4 +1,4 @@
-use Rattle.std.proofs.Common.{◌≡◌, ◌∙◌, true, false, ap, sym, subst, rules}
+use Rattle.std.proofs.Common.{◌≡◌, ◌∙◌, true, false, sym, subst, rules}
 use Rattle.go_rules.specs.Position.{BoardState}
 use Rattle.trial_board.specs.Trials.{Stays-trans}
 use Rattle.read_rules.specs.GameTree.{pass_saves, first_success, at_point}

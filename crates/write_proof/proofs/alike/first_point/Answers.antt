@@ -1,15 +1,8 @@
-use Rattle.std.proofs.Common.{◌≡◌, ◌∙◌, ◌*◌, ◌<◌, ◌&&◌, ℕ, true, false, List, ap, sym, subst, inl, inr, arith, rules}
+use Rattle.std.proofs.Common.{◌≡◌, ◌∙◌, ◌&&◌, true, false, ap, sym, subst, inl, inr, arith, rules}
 use Rattle.std.specs.FinSet as set
 use Rattle.std.proofs.lemmas.Bool.{cases_eq}
-use Rattle.go_base.specs.Facts.{Agrees, agrees_before, Grows-trans}
 use Rattle.go_rules.specs.Position.{BoardState}
-use Rattle.go_rules.specs.Strings.{liberty_points}
-use Rattle.trial_board.specs.declared.moves.TrialMove.{TrialMove}
-use Rattle.trial_board.specs.Trials.{after}
-use Rattle.trial_board.proofs.AfterLemmas.{size-after}
-use Rattle.read_rules.specs.Candidates.{is_candidate}
 use Rattle.read_rules.specs.GameTree.{succeeds}
-use Rattle.read_rules.proofs.CandidateLaws.{candidate_on}
 use Rattle.read_rules.proofs.WinLemmas.{none_before, first_success-found}
 use Rattle.read_tree.specs.Allowances.{under}
 use Rattle.read_tree.proofs.TableLemmas.{table_more}
@@ -72,7 +65,8 @@ returns-in-Always-clause-first g c = λ ko asked.
     let here = position_on g.L.Look.shows c.args.board.now in
     let node = under c.args.turn ko in
     let same = here_stays g.L.Look.shows g.L.Look.seen c.args.board.now c.plays.board i.stays in
-    ap at_point (first_success-found c.args.plies node here c.plays.next c.in-Some.p (set.contains c.candidates-candidates.result)
+    ap at_point (first_success-found c.args.plies node here c.plays.next c.in-Some.p
+    (set.contains c.candidates-candidates.result)
     c.candidates-candidates.ensures.answer (i.none ko asked) found.3 found.2
     (sym (subst (λ (pos : BoardState). succeeds c.args.plies node pos c.in-Some.p ≡ true) same
     ((rw c.in-Always.is at c.play_told.ensures.told) ko asked))))

@@ -1,4 +1,4 @@
-use Rattle.std.proofs.Common.{ap, sym, subst}
+use Rattle.std.proofs.Common.{sym, subst}
 use Rattle.go_base.specs.Facts.{Agrees}
 use Rattle.read_rules.specs.GameTree.{pass_saves}
 use Rattle.read_tree.specs.Allowances.{has, under}

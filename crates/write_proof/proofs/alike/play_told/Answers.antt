@@ -1,4 +1,4 @@
-use Rattle.std.proofs.Common.{ap, subst}
+use Rattle.std.proofs.Common.{subst}
 use Rattle.go_base.specs.Facts.{Agrees}
 use Rattle.read_rules.specs.GameTree.{succeeds}
 use Rattle.read_tree.specs.Allowances.{has, under}

@@ -1,4 +1,4 @@
-use Rattle.std.proofs.Common.{◌∙◌, ap, not, sym}
+use Rattle.std.proofs.Common.{◌∙◌, ap, sym}
 use Rattle.read_tree.specs.Allowances.{has, has_some}
 use Rattle.read_tree.proofs.AllowanceLemmas.{none_of, has-without}
 use Rattle.read_tree.proofs.TableLemmas.{has_both}

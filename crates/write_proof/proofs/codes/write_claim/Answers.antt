@@ -12,7 +12,8 @@ use Rattle.write_proof.proofs.codes.write_claim.Goals as goal
 pub returns-in_err-put_word-clause-puts : goal.returns-in_err-put_word-clause-puts
 returns-in_err-put_word-clause-puts g c = λ same ko asked.
     let q = c.args.question.now in
-    let proof = first_words q.plies c.args.won (under (first_turn q) ko) (position_on g.L.Look.shows c.args.board.now) in
+    let pos = position_on g.L.Look.shows c.args.board.now in
+    let proof = first_words q.plies c.args.won (under (first_turn q) ko) pos in
     let letter = behind_blanks (c.letter.result.now ∷ []) in
     puts_same c.args.out.now c.args.out.now c.put_word.new.out (letter ++ behind_blanks proof) _ c.from_residual.result
     (ap (λ w. c.args.out.now ++ (behind_blanks (w ∷ []) ++ behind_blanks proof)) c.letter.ensures

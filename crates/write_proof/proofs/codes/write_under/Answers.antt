@@ -1,9 +1,7 @@
-use Rattle.std.proofs.Common.{◌≡◌, ◌∙◌, Bool, ap, sym, subst}
+use Rattle.std.proofs.Common.{◌≡◌, ◌∙◌, Bool, ap, subst}
 use Rattle.read_tree.specs.declared.turn.Turn.{Turn}
-use Rattle.read_tree.specs.declared.allowances.Allowances.{Allowances}
 use Rattle.read_rules.specs.Answer.{is_attack}
 use Rattle.read_tree.specs.Allowances.{has_some}
-use Rattle.read_proof.specs.ProofOf.{claim_under}
 use Rattle.write_proof.specs.Alike.{only, ko_under, claim_words}
 use Rattle.write_proof.specs.Printed.{behind_blanks, Puts, position_on}
 use Rattle.write_proof.proofs.PutLemmas.{part}

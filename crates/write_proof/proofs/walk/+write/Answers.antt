@@ -1,12 +1,12 @@
 -- What is written for the asked allowances at once is the first proof under each of them.
-use Rattle.std.proofs.Common.{◌≡◌, ◌∙◌, ◌+◌, ◌-◌, ◌*◌, ◌<◌, ◌≤◌, ◌++◌, ℕ, length, true, List, [], ◌∷◌, ap, sym, refl, subst}
-use Rattle.std.proofs.Common.{inl, inr, codes, append_assoc, rules, Bool, Err, Option, None, Some, IfSome}
+use Rattle.std.proofs.Common.{◌≡◌, ◌∙◌, ◌+◌, ◌-◌, ◌*◌, ◌<◌, ◌≤◌, ◌++◌, length, Bool, not}
+use Rattle.std.proofs.Common.{[], ◌∷◌, ap, sym, refl, subst, inl, inr, codes, append_assoc, rules, Ok, Err}
+use Rattle.std.proofs.Common.{None, Some}
 use Rattle.std.specs.List.{filter_map, filter, range_with_len}
 use Rattle.std.specs.Option.{option_to_list}
-use Rattle.go_base.specs.Facts.{Agrees, Grows-trans}
+use Rattle.go_base.specs.Facts.{Agrees}
 use Rattle.go_rules.specs.Position.{BoardState}
 use Rattle.go_rules.specs.Play.{pass}
-use Rattle.trial_board.specs.declared.moves.TrialMove.{TrialMove}
 use Rattle.trial_board.specs.Trials.{after}
 use Rattle.trial_board.proofs.AfterLemmas.{size-after}
 use Rattle.read_rules.specs.declared.node.Node.{Node}
@@ -24,10 +24,9 @@ use Rattle.read_proof.specs.FirstProof.{write_each, write_move, move_word, first
 use Rattle.write_proof.specs.Printed.{behind_blanks, most_bytes, Puts, position_on}
 use Rattle.write_proof.proofs.PutLemmas.{puts_both, puts_up, puts_same, dot_words, move_words, each_words, walk_words}
 use Rattle.write_proof.proofs.PutLemmas.{walk_written}
-use Rattle.write_proof.proofs.WriteLemmas.{here_stays, nothing_put, no_move_written, play_written, refused_written, no_pass_written}
-use Rattle.write_proof.proofs.WriteLemmas.{pass_written, move_written, move_refused, play_child, pass_child, all_left}
+use Rattle.write_proof.proofs.WriteLemmas.{here_stays, nothing_put, no_move_written, play_written, refused_written}
+use Rattle.write_proof.proofs.WriteLemmas.{no_pass_written, pass_written, move_written, move_refused, play_child, pass_child, all_left}
 use Rattle.write_proof.proofs.AlikeLemmas.{puts_up_told, yes_told, settled_alike, own_alone, alone_own, not_false}
-use Rattle.std.proofs.Common.{not, false, Ok}
 use Rattle.std.proofs.lemmas.Bool.{both_ways}
 use Rattle.trial_board.specs.Trials.{Stays-trans}
 use Rattle.read_tree.specs.Allowances.{has, own_ko}
@@ -90,15 +89,16 @@ write_play-returns-else-not-is_own_alone-clause-puts g t c = λ same ko asked.
     let next = under (next_turn turn) neither_may in
     let own = alone_own turn.attacker_to_play c.args.asked
     (not_false _ (sym c.is_own_alone.ensures ∙ c.if-not-is_own_alone.false)) ko asked in
+    let done = c.write-done-in-Allowed in
+    let there = ap (λ s. has s neither_may) c.neither_alone-neither.ensures in
     subst (λ (k : Ko). Puts c.args.out.now (behind_blanks (write_each (first_words c.args.plies c.args.won)
-    (option_to_list (child_of (under turn k) here c.args.p)))) c.write-done-in-Allowed.new.out c.write-done-in-Allowed.result) (sym own)
+    (option_to_list (child_of (under turn k) here c.args.p)))) done.new.out done.result) (sym own)
     (play_written c.args.plies c.args.won (under turn (own_ko turn.attacker_to_play)) here c.args.p (Some next) next
-    (after shown c.make.new.board.moves) c.args.out.now c.write-done-in-Allowed.new.out c.write-done-in-Allowed.result
+    (after shown c.make.new.board.moves) c.args.out.now done.new.out done.result
     (rw c.in-Allowed.is at (c.make.ensures.over shown agrees)).0 refl
     (subst (λ (p : BoardState). Puts c.args.out.now (behind_blanks (first_words c.args.plies c.args.won next
-    (after p c.make.new.board.moves))) c.write-done-in-Allowed.new.out c.write-done-in-Allowed.result) c.make.ensures.shown
-    (rw c.next-in-Allowed.ensures at
-    (c.write-done-in-Allowed.ensures.puts same neither_may (ap (λ s. has s neither_may) c.neither_alone-neither.ensures)))))
+    (after p c.make.new.board.moves))) done.new.out done.result) c.make.ensures.shown
+    (rw c.next-in-Allowed.ensures at (done.ensures.puts same neither_may there))))
 
 -- it cannot be made
 pub write_play-returns-in-Not-clause-puts : goal.write_play-returns-in-Not-clause-puts
@@ -414,4 +414,5 @@ write-returns-clause-puts g t c = λ same ko asked.
     (subst (λ (p : BoardState). c.write_pass.new.out ≡ c.put_word.new.out ++ behind_blanks (write_each write
     (pass_children node p))) settled first.0)
     (subst (λ (p : BoardState). Puts c.write_pass.new.out (behind_blanks (write_each write
-    (play_children node p))) c.write_plays.new.out c.write_plays.result) passed (c.write_plays.ensures.puts same ko asked))))
+    (play_children node p))) c.write_plays.new.out c.write_plays.result) passed
+    (c.write_plays.ensures.puts same ko asked))))

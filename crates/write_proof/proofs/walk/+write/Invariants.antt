@@ -31,8 +31,8 @@ decreases-write_plays g l = 4 * l.plies + 2
 abbrev pub decreases-write_move : goal.decreases-write_move
 decreases-write_move g l = 4 * l.plies + 2
 
--- under each asked allowance, what is written so far, and what is left to write from the next candidate on, are what was to be
--- written
+-- under each asked allowance, what is written so far, and what is left to write from the next candidate on, are what
+-- was to be written
 abbrev pub invariant-write_plays-plays : goal.invariant-write_plays-plays
 invariant-write_plays-plays g l = record {
   stays : Stays g.L.Look.shows g.L.Look.seen l.fn.board l.board;
