@@ -19,7 +19,8 @@ pass_told-requires g c =
     let found = c.liberties-known.ensures in
     let target = point_after found.stays c.args.turn.target c.requires.target in
     let table = table_more c.requires.table found.stays.grows in
-    let liberties : AreLibertiesOf g.L.Look.seen c.liberties-known.new.self c.args.turn.target c.liberties-known.result =
+    let known = c.liberties-known in
+    let liberties : AreLibertiesOf g.L.Look.seen known.new.self c.args.turn.target known.result =
     λ pos a. rw found.stays.moves (found.over pos a) in
     search rules
 

@@ -25,7 +25,8 @@ use Rattle.write_proof.specs.Printed.{behind_blanks, most_bytes, Puts, position_
 use Rattle.write_proof.proofs.PutLemmas.{puts_both, puts_up, puts_same, dot_words, move_words, each_words, walk_words}
 use Rattle.write_proof.proofs.PutLemmas.{walk_written}
 use Rattle.write_proof.proofs.WriteLemmas.{here_stays, nothing_put, no_move_written, play_written, refused_written}
-use Rattle.write_proof.proofs.WriteLemmas.{no_pass_written, pass_written, move_written, move_refused, play_child, pass_child, all_left}
+use Rattle.write_proof.proofs.WriteLemmas.{no_pass_written, pass_written, move_written, move_refused, play_child}
+use Rattle.write_proof.proofs.WriteLemmas.{pass_child, all_left}
 use Rattle.write_proof.proofs.AlikeLemmas.{puts_up_told, yes_told, settled_alike, own_alone, alone_own, not_false}
 use Rattle.std.proofs.lemmas.Bool.{both_ways}
 use Rattle.trial_board.specs.Trials.{Stays-trans}
