@@ -1,33 +1,65 @@
--- What is the same under each ko allowance, and what is written once for all three.
-use Rattle.std.specs.Prelude.{◌≡◌, ◌≢◌, ℕ, ◌≤◌, Bool, true, false, List, ◌∷◌, length, Option, None, Some, Result, Ok, Err}
+-- What is the same under each of the asked ko allowances, and what is written once for all of them.
+use Rattle.std.specs.Prelude.{◌≡◌, ◌≢◌, ℕ, ◌≤◌, Bool, true, false, List, ◌∷◌, Option, Some, None}
+use Rattle.std.specs.Prelude.{Result, Ok, Err, length, if◌then◌else◌, not, ◌==◌}
 use Rattle.go_rules.specs.Position.{BoardState}
 use Rattle.read_rules.specs.declared.question.ReadingQuestion.{ReadingQuestion}
-use Rattle.read_tree.specs.Allowances.{Ko, under}
+use Rattle.read_rules.specs.declared.question.Spot.{Spot}
+use Rattle.read_rules.specs.GoodMoves.{IsOnBoard}
+use Rattle.read_tree.specs.declared.allowances.Allowances.{Allowances}
+use Rattle.read_tree.specs.Allowances.{Ko, defender_may, neither_may, attacker_may, has, own_ko, under}
 use Rattle.read_tree.specs.Steps.{first_turn}
 use Rattle.read_proof.specs.Tokens.{Word}
-use Rattle.read_proof.specs.ProofOf.{claim_under, letter_of}
+use Rattle.read_proof.specs.ProofOf.{letter_of}
 use Rattle.read_proof.specs.FirstProof.{first_words}
 use Rattle.write_proof.specs.declared.alike.Told.{Told}
 use Rattle.write_proof.specs.declared.alike.Told.TheVariants.{Always, Never, Differs}
+use Rattle.write_proof.specs.declared.alike.Common.{Common}
+use Rattle.write_proof.specs.declared.alike.Common.TheVariants.{Move, Nothing, Differs as differs}
 use Rattle.write_proof.specs.declared.text.ProofError.{ProofError}
 use Rattle.write_proof.specs.Printed.{most_bytes, behind_blanks, Puts, Writes}
 
--- the test is true of each allowance, or of none; nothing is said where it may differ
-abbrev pub IsTold : Told → (Ko → Bool) → Type 0
-IsTold Always test = (ko : Ko) → test ko ≡ true
-IsTold Never test = (ko : Ko) → test ko ≡ false
-IsTold Differs test = Unit {0}
+-- no two allowances are in the set
+abbrev pub IsOne : Allowances → Type 0
+IsOne asked = (ko other : Ko) → has asked ko ≡ true → has asked other ≡ true → ko ≡ other
 
--- unless it was told that they are not the same, the words that were put are those under each allowance, each behind a
--- blank
-abbrev pub PutsAlike : List ℕ → (Ko → List Word) → List ℕ → Result Bool ProofError → Type 0
-PutsAlike old words new result = result ≢ Ok false → (ko : Ko) → Puts old (behind_blanks (words ko)) new result
+-- the set of one allowance
+abbrev pub only : Ko → Allowances
+only defender_may = record { defender = true; neither = false; attacker = false }
+only neither_may = record { defender = false; neither = true; attacker = false }
+only attacker_may = record { defender = false; neither = false; attacker = true }
 
--- the words of one part of the first proof of code 0, which claims the same under each code: the letter of the claim, and
--- its first proof under this allowance
-abbrev pub part_words : ReadingQuestion → BoardState → Ko → List Word
-part_words q pos ko =
-    letter_of (claim_under q 0 3) ∷ first_words q.plies (claim_under q 0 3) (under (first_turn q) ko) pos
+-- the allowance of a code, for a question of this kind: under code 3 the other side may ignore the ban, under code 1
+-- the side that is asked about, and under others neither
+abbrev pub ko_under : Bool → ℕ → Ko
+ko_under attack code = if code == 3 then own_ko (not attack) else if code == 1 then own_ko attack else neither_may
+
+-- the test is true of each asked allowance, or of none; nothing is said where it may differ
+abbrev pub IsTold : Allowances → Told → (Ko → Bool) → Type 0
+IsTold asked Always test = (ko : Ko) → has asked ko ≡ true → test ko ≡ true
+IsTold asked Never test = (ko : Ko) → has asked ko ≡ true → test ko ≡ false
+IsTold asked Differs test = Unit {0}
+
+-- under each asked allowance this is the first move, or there is none; nothing is said where it may differ
+abbrev pub IsCommon : Allowances → Common → (Ko → Option Spot) → Type 0
+IsCommon asked (Move spot) first = (ko : Ko) → has asked ko ≡ true → Some spot ≡ first ko
+IsCommon asked Nothing first = (ko : Ko) → has asked ko ≡ true → None ≡ first ko
+IsCommon asked differs first = Unit {0}
+
+-- a move that was found is on a board of this size
+abbrev pub IsMoveOn : ℕ → Common → Type 0
+IsMoveOn size (Move spot) = IsOnBoard size spot
+IsMoveOn size Nothing = Unit {0}
+IsMoveOn size differs = Unit {0}
+
+-- unless it was told that they are not the same, the words that were put are those under each asked allowance, each
+-- behind a blank
+abbrev pub PutsAlike : Allowances → List ℕ → (Ko → List Word) → List ℕ → Result Bool ProofError → Type 0
+PutsAlike asked old words new result = result ≢ Ok false → (ko : Ko) → has asked ko ≡ true
+    → Puts old (behind_blanks (words ko)) new result
+
+-- the words of a claim under an allowance: its letter, and its first proof
+abbrev pub claim_words : ReadingQuestion → BoardState → Bool → Ko → List Word
+claim_words q pos won ko = letter_of won ∷ first_words q.plies won (under (first_turn q) ko) pos
 
 -- the bytes were written; or it is not told what they are; or they would be too many; or there was no memory
 abbrev pub WritesMaybe : List ℕ → Result (Option (List ℕ)) ProofError → Type 0

@@ -1,14 +1,13 @@
-//! The first move of a node under each ko allowance at once, where it is the same under all three.
+//! The first move of a node under each of the asked ko allowances at once, where it is the same under all of them.
 
-ghost use Rattle.std.specs.Prelude.{◌≡◌, ◌+◌, ◌<◌, Some, IfSome, length};
+ghost use Rattle.std.specs.Prelude.{◌≡◌, ◌≢◌, ◌+◌, ◌<◌, true, not, length};
 ghost use Rattle.trial_board.specs.Trials.{Stays, most_moves};
-ghost use Rattle.read_rules.specs.GameTree.{pass_saves, succeeds, first_success, first_move};
-ghost use Rattle.read_rules.specs.GoodMoves.{IsOnBoard};
-ghost use Rattle.read_tree.specs.Allowances.{Ko, under, has};
+ghost use Rattle.read_rules.specs.GameTree.{pass_saves, succeeds, first_success, first_move, at_point};
+ghost use Rattle.read_tree.specs.Allowances.{under, has, has_some, without, own_where};
 ghost use Rattle.read_tree.specs.Table.{IsTrueTable};
 ghost use Rattle.read_tree.specs.Walk.{IsPointOf, AreLibertiesOf};
 ghost use Rattle.write_proof.specs.Printed.{position_on};
-ghost use Rattle.write_proof.specs.Alike.{IsTold};
+ghost use Rattle.write_proof.specs.Alike.{IsTold, IsCommon, IsOne, IsMoveOn};
 
 use go_base::points::PointSet;
 use go_base::{Look, Point};
@@ -19,7 +18,7 @@ use read_tree::tree::{pass_saves, succeeds};
 use read_tree::{Allowances, Turn};
 use trial_board::Trial;
 
-/// What the three allowances tell of a move together.
+/// What the asked allowances tell of a move together.
 #[derive(Clone, Copy, Debug, PartialEq, Eq)]
 pub enum Told {
     /// It gives the side to play its way under each.
@@ -30,14 +29,35 @@ pub enum Told {
     Differs,
 }
 
-/// What the three tell, by those under which the move gives the side to play its way.
-fn told_by(good: Allowances) -> Told
-    ensures { IsTold result (has good) }
+/// What the asked allowances have in common.
+#[derive(Clone, Copy, Debug, PartialEq, Eq)]
+pub enum Common {
+    /// Under each of them this is the first move.
+    Move(Spot),
+    /// There is none under any.
+    Nothing,
+    /// It is not the same under all.
+    Differs,
+}
+
+/// Whether the only one of the asked is that of the side to play, the attacker or not.
+pub fn is_own_alone(asked: Allowances, attacker: bool) -> bool
+    ensures { result ≡ not (has_some (without asked (own_where attacker true))) }
 {
-    if good.defender && good.neither && good.attacker {
+    !asked
+        .without(Allowances::own_where(attacker, true))
+        .has_some()
+}
+
+/// What the asked tell, by those under which the move gives the side to play its way.
+fn told_by(asked: Allowances, good: Allowances) -> Told
+    ensures told { IsTold asked result (has good) }
+    ensures one { IsOne asked → result ≢ Told.Differs }
+{
+    if !asked.without(good).has_some() {
         return Told::Always;
     }
-    if good.has_some() {
+    if asked.both(good).has_some() {
         return Told::Differs;
     }
     Told::Never
@@ -47,6 +67,7 @@ fn told_by(good: Allowances) -> Told
 fn pass_told<L: Look>(
     board: &mut Trial<L>,
     turn: Turn,
+    asked: Allowances,
     plies: u8,
     known: &PointSet,
     memory: &mut Memory,
@@ -54,21 +75,25 @@ fn pass_told<L: Look>(
     requires room { length board.old.moves + plies < most_moves }
     requires target { IsPointOf L.shows board.old turn.target }
     requires liberties { AreLibertiesOf L.seen board.old turn.target known.now }
+    requires some { has_some asked ≡ true }
     requires table { IsTrueTable (L.seen board.old.look) turn.target turn.defender memory.old.table.now }
     ensures stays { Stays L.shows L.seen board.old board.new }
     ensures table { IsTrueTable (L.seen board.new.look) turn.target turn.defender memory.new.table.now }
-    ensures told { IsTold result (λ ko. pass_saves plies (under turn ko) (position_on L.shows board.old)) }
+    ensures told { IsTold asked result (λ ko. pass_saves plies (under turn ko) (position_on L.shows board.old)) }
+    ensures one { IsOne asked → result ≢ Told.Differs }
 {
     if turn.attacker_to_play {
         return Told::Never;
     }
-    told_by(pass_saves(board, turn, plies, Allowances::all(), known, memory))
+    let good = pass_saves(board, turn, plies, asked, known, memory);
+    told_by(asked, good)
 }
 
 /// What they tell of a play at p.
 fn play_told<L: Look>(
     board: &mut Trial<L>,
     turn: Turn,
+    asked: Allowances,
     p: Point,
     plies: u8,
     known: &PointSet,
@@ -78,69 +103,75 @@ fn play_told<L: Look>(
     requires target { IsPointOf L.shows board.old turn.target }
     requires on_board { IsPointOf L.shows board.old p }
     requires liberties { AreLibertiesOf L.seen board.old turn.target known.now }
+    requires some { has_some asked ≡ true }
     requires table { IsTrueTable (L.seen board.old.look) turn.target turn.defender memory.old.table.now }
     ensures stays { Stays L.shows L.seen board.old board.new }
     ensures table { IsTrueTable (L.seen board.new.look) turn.target turn.defender memory.new.table.now }
-    ensures told { IsTold result (λ ko. succeeds plies (under turn ko) (position_on L.shows board.old) p) }
+    ensures told { IsTold asked result (λ ko. succeeds plies (under turn ko) (position_on L.shows board.old) p) }
+    ensures one { IsOne asked → result ≢ Told.Differs }
 {
-    told_by(succeeds(board, turn, p, plies, Allowances::all(), known, memory))
+    let good = succeeds(board, turn, p, plies, asked, known, memory);
+    told_by(asked, good)
 }
 
-/// The first candidate in reading order that gives the side to play its way under each allowance, where none before it
-/// does under any.
+/// The first candidate in reading order that gives the side to play its way, where it is the same under each of the
+/// asked.
 fn first_point<L: Look>(
     board: &mut Trial<L>,
     turn: Turn,
+    asked: Allowances,
     plies: u8,
     known: &PointSet,
     memory: &mut Memory,
-) -> Option<Point>
+) -> Common
     requires room { length board.old.moves + plies < most_moves }
     requires target { IsPointOf L.shows board.old turn.target }
     requires liberties { AreLibertiesOf L.seen board.old turn.target known.now }
+    requires some { has_some asked ≡ true }
     requires table { IsTrueTable (L.seen board.old.look) turn.target turn.defender memory.old.table.now }
     ensures stays { Stays L.shows L.seen board.old board.new }
     ensures table { IsTrueTable (L.seen board.new.look) turn.target turn.defender memory.new.table.now }
-    ensures first { IfSome result (λ p. (ko : Ko)
-        → Some p ≡ first_success plies (under turn ko) (position_on L.shows board.old)) }
-    ensures on_board { IfSome result (IsPointOf L.shows board.old) }
+    ensures first { IsCommon asked result (λ ko.
+        at_point (first_success plies (under turn ko) (position_on L.shows board.old))) }
+    ensures one { IsOne asked → result ≢ Common.Differs }
+    ensures on_board { IsMoveOn (L.shows board.old.look).size result }
 {
     let candidates = candidates(board, turn.target, turn.wide);
     let mut next = 0;
     'plays: while let Some(p) = candidates.first_from(next) {
-        match play_told(board, turn, p, plies, known, memory) {
-            Told::Always => return Some(p),
-            Told::Differs => return None,
+        match play_told(board, turn, asked, p, plies, known, memory) {
+            Told::Always => return Common::Move(Spot::At(p)),
+            Told::Differs => return Common::Differs,
             Told::Never => next = p + 1,
         }
     }
-    None
+    Common::Nothing
 }
 
 /// The first move that gives the side to play its way with `plies` plies left after it, where it is the same under each
-/// allowance: the defender's pass before all points, and then the candidates in reading order.
+/// of the asked: the defender's pass before all points, and then the candidates in reading order.
 pub fn first_alike<L: Look>(
     board: &mut Trial<L>,
     turn: Turn,
+    asked: Allowances,
     plies: u8,
     memory: &mut Memory,
-) -> Option<Spot>
+) -> Common
     requires room { length board.old.moves + plies < most_moves }
     requires target { IsPointOf L.shows board.old turn.target }
+    requires some { has_some asked ≡ true }
     requires table { IsTrueTable (L.seen board.old.look) turn.target turn.defender memory.old.table.now }
     ensures stays { Stays L.shows L.seen board.old board.new }
     ensures table { IsTrueTable (L.seen board.new.look) turn.target turn.defender memory.new.table.now }
-    ensures first { IfSome result (λ spot. (ko : Ko)
-        → Some spot ≡ first_move plies (under turn ko) (position_on L.shows board.old)) }
-    ensures on_board { IfSome result (IsOnBoard (L.shows board.old.look).size) }
+    ensures first { IsCommon asked result (λ ko.
+        first_move plies (under turn ko) (position_on L.shows board.old)) }
+    ensures one { IsOne asked → result ≢ Common.Differs }
+    ensures on_board { IsMoveOn (L.shows board.old.look).size result }
 {
     let known = board.liberties(turn.target);
-    match pass_told(board, turn, plies, &known, memory) {
-        Told::Always => Some(Spot::Pass),
-        Told::Differs => None,
-        Told::Never => match first_point(board, turn, plies, &known, memory) {
-            Some(p) => Some(Spot::At(p)),
-            None => None,
-        },
+    match pass_told(board, turn, asked, plies, &known, memory) {
+        Told::Always => Common::Move(Spot::Pass),
+        Told::Differs => Common::Differs,
+        Told::Never => first_point(board, turn, asked, plies, &known, memory),
     }
 }

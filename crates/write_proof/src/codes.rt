@@ -1,19 +1,23 @@
 //! The first proof of a code: a letter and the first proof of a claim for each code from 3 down.
 
-ghost use Rattle.std.specs.Prelude.{◌≡◌, ◌+◌, ◌*◌, ◌<◌, ◌≤◌, [], ◌∷◌, length};
+ghost use Rattle.std.specs.Prelude.{◌≡◌, ◌≢◌, ◌+◌, ◌*◌, ◌<◌, ◌≤◌, [], ◌∷◌, length, Ok, true, false};
 ghost use Rattle.trial_board.specs.Trials.{Stays, most_moves};
+ghost use Rattle.read_tree.specs.Allowances.{has_some};
+ghost use Rattle.read_tree.specs.Steps.{first_turn};
 ghost use Rattle.read_tree.specs.Table.{IsTrueTable};
 ghost use Rattle.read_tree.specs.Walk.{IsPointOf};
 ghost use Rattle.read_proof.specs.ProofOf.{codes_down_to, letter_of};
 ghost use Rattle.read_proof.specs.FirstProof.{first_words_of};
 ghost use Rattle.write_proof.specs.Printed.{behind_blanks, most_bytes, Puts, position_on};
+ghost use Rattle.write_proof.specs.Alike.{only, ko_under, claim_words, IsOne, PutsAlike};
 
 use crate::text::{ProofError, put_word};
 use crate::walk::write;
 use go_base::{Bytes, Look};
-use read_proof::codes::{claim_under, first_node};
-use read_rules::ReadingQuestion;
+use read_proof::codes::claim_under;
+use read_rules::{Kind, ReadingQuestion};
 use read_tree::memory::Memory;
+use read_tree::{Allowances, Turn};
 use trial_board::Trial;
 
 /// The letter of a claim.
@@ -21,6 +25,65 @@ pub fn letter(won: bool) -> &'static [u8]
     ensures { result.now ≡ letter_of won }
 {
     if won { b"W" } else { b"N" }
+}
+
+/// The turn at which the question begins.
+fn turn_of(question: &ReadingQuestion) -> Turn
+    ensures { result ≡ first_turn question.now }
+{
+    Turn {
+        target: question.target,
+        defender: question.colour,
+        attacker_to_play: match question.kind {
+            Kind::Attack => true,
+            Kind::Defend => false,
+        },
+        wide: question.wide,
+    }
+}
+
+/// The allowance of a code, for a question of this kind, alone.
+fn allowance_under(attack: bool, code: u8) -> Allowances
+    ensures { result ≡ only (ko_under attack code) }
+{
+    match code {
+        3 => Allowances::own_where(!attack, true),
+        1 => Allowances::own_where(attack, true),
+        _ => Allowances::neither_alone(),
+    }
+}
+
+/// Writes the letter and the first proof of a claim, where it is the same under each asked ko allowance. Else it
+/// answers false.
+pub fn write_claim<L: Look>(
+    board: &mut Trial<L>,
+    question: &ReadingQuestion,
+    asked: Allowances,
+    won: bool,
+    memory: &mut Memory,
+    out: &mut Bytes,
+) -> Result<bool, ProofError>
+    requires room { length board.old.moves + question.now.plies ≤ most_moves }
+    requires target { IsPointOf L.shows board.old question.now.target }
+    requires some { has_some asked ≡ true }
+    requires table { IsTrueTable (L.seen board.old.look) question.now.target question.now.colour memory.old.table.now }
+    requires bytes { length out.old ≤ most_bytes }
+    ensures stays { Stays L.shows L.seen board.old board.new }
+    ensures table { IsTrueTable (L.seen board.new.look) question.now.target question.now.colour memory.new.table.now }
+    ensures puts { PutsAlike asked out.old (claim_words question.now (position_on L.shows board.old) won) out.new
+        result }
+    ensures one { IsOne asked → result ≢ Ok false }
+{
+    put_word(out, letter(won))?;
+    write(
+        board,
+        turn_of(question),
+        asked,
+        question.plies,
+        won,
+        memory,
+        out,
+    )
 }
 
 /// Writes the letter and the first proof of what a proof of the code claims under the allowances of another code.
@@ -41,16 +104,12 @@ fn write_under<L: Look>(
     ensures puts { Puts out.old
         (behind_blanks (first_words_of question.now (position_on L.shows board.old) code (more ∷ []))) out.new result }
 {
+    let asked = allowance_under(turn_of(question).attacker_to_play, more);
     let won = claim_under(question, code, more);
-    put_word(out, letter(won))?;
-    write(
-        board,
-        first_node(question, more),
-        question.plies,
-        won,
-        memory,
-        out,
-    )
+    match write_claim(board, question, asked, won, memory, out) {
+        Ok(_) => Ok(()),
+        Err(why) => Err(why),
+    }
 }
 
 /// Writes the first proof of the code: what is claimed under the codes from 3 down to it, or to 1.

@@ -1,24 +1,26 @@
 //! The first proof of the code of a question, as it is printed.
 
-ghost use Rattle.std.specs.Prelude.{◌≡◌, ◌≢◌, ◌↔◌, ◌*◌, ◌<◌, ◌≤◌, Bool, IfOk, Err, length, drop};
+ghost use Rattle.std.specs.Prelude.{◌≡◌, ◌≢◌, ◌↔◌, ◌+◌, ◌*◌, ◌<◌, ◌≤◌, Bool, IfOk, Err, length, drop};
 ghost use Rattle.go_rules.specs.Strings.{cell_at};
 ghost use Rattle.go_base.specs.Facts.{Fact};
+ghost use Rattle.trial_board.specs.Trials.{Stays, most_moves};
+ghost use Rattle.read_tree.specs.Walk.{IsPointOf};
 ghost use Rattle.read_rules.specs.Answer.{answer_of, asked_on};
 ghost use Rattle.read_tree.specs.Table.{IsTrueTable};
 ghost use Rattle.read_proof.specs.ProofOf.{codes_down_to, IsProofOf};
 ghost use Rattle.read_proof.specs.FirstProof.{first_words_of, first_text};
-ghost use Rattle.write_proof.specs.Printed.{behind_blanks, Writes};
+ghost use Rattle.write_proof.specs.Printed.{behind_blanks, Writes, position_on};
 ghost use Rattle.write_proof.specs.Alike.{WritesMaybe};
 
-use crate::codes::write_all;
+use crate::codes::{write_all, write_claim};
 use crate::text::ProofError;
-use crate::thrice::{thrice, write_part};
-use go_base::{Bytes, Cell, NoMemory, Point, Position, Watch};
-use read_proof::codes::question_on;
+use crate::thrice::thrice;
+use go_base::{Bytes, Cell, Look, NoMemory, Point, Position, Watch};
+use read_proof::codes::{claim_under, question_on};
 use read_rules::{Depths, Kind, ReadingQuestion};
 use read_tree::memory::Memory;
 use read_tree::table::{Entry, empty_table};
-use read_tree::{attack, defend};
+use read_tree::{Allowances, attack, defend};
 use std::alloc::Global;
 use trial_board::Trial;
 
@@ -48,8 +50,79 @@ fn code_of(pos: &Position, of: Kind, target: Point, depths: Depths) -> u8
     }
 }
 
-/// The words of the first proof of the code, each behind a blank, code by code. The table remembers the nodes of the
-/// whole proof.
+/// The words of the first proof of code 0, each behind a blank, where its three parts are the same.
+fn alike_words<L: Look>(
+    alloc: Global,
+    board: &mut Trial<L>,
+    question: &ReadingQuestion,
+    memory: &mut Memory,
+) -> Result<Option<Bytes>, ProofError>
+    requires room { length board.old.moves + question.now.plies ≤ most_moves }
+    requires target { IsPointOf L.shows board.old question.now.target }
+    requires table { IsTrueTable (L.seen board.old.look) question.now.target question.now.colour memory.old.table.now }
+    ensures stays { Stays L.shows L.seen board.old board.new }
+    ensures table { IsTrueTable (L.seen board.new.look) question.now.target question.now.colour memory.new.table.now }
+    ensures words { WritesMaybe
+        (behind_blanks (first_words_of question.now (position_on L.shows board.old) 0 (codes_down_to 0))) result }
+{
+    let won = claim_under(question, 0, 3);
+    let mut part = Bytes::new(alloc);
+    match write_claim(board, question, Allowances::all(), won, memory, &mut part) {
+        Ok(true) => match thrice(alloc, part.as_slice()) {
+            Ok(words) => Ok(Some(words)),
+            Err(why) => Err(why),
+        },
+        Ok(false) => Ok(None),
+        Err(why) => Err(why),
+    }
+}
+
+/// The words of the first proof of the code, each behind a blank, code by code.
+fn words_by_codes<L: Look>(
+    alloc: Global,
+    board: &mut Trial<L>,
+    question: &ReadingQuestion,
+    code: u8,
+    memory: &mut Memory,
+) -> Result<Bytes, ProofError>
+    requires room { length board.old.moves + question.now.plies ≤ most_moves }
+    requires target { IsPointOf L.shows board.old question.now.target }
+    requires table { IsTrueTable (L.seen board.old.look) question.now.target question.now.colour memory.old.table.now }
+    ensures { Writes
+        (behind_blanks (first_words_of question.now (position_on L.shows board.old) code (codes_down_to code))) result }
+{
+    let mut out = Bytes::new(alloc);
+    match write_all(board, question, code, memory, &mut out) {
+        Ok(()) => Ok(out),
+        Err(why) => Err(why),
+    }
+}
+
+/// The same; of code 0 at once, where its parts are the same.
+fn words_on<L: Look>(
+    alloc: Global,
+    board: &mut Trial<L>,
+    question: &ReadingQuestion,
+    code: u8,
+    memory: &mut Memory,
+) -> Result<Bytes, ProofError>
+    requires room { length board.old.moves + question.now.plies ≤ most_moves }
+    requires target { IsPointOf L.shows board.old question.now.target }
+    requires table { IsTrueTable (L.seen board.old.look) question.now.target question.now.colour memory.old.table.now }
+    ensures { Writes
+        (behind_blanks (first_words_of question.now (position_on L.shows board.old) code (codes_down_to code))) result }
+{
+    if code == 0 {
+        match alike_words(alloc, board, question, memory) {
+            Ok(Some(words)) => return Ok(words),
+            Ok(None) => {}
+            Err(why) => return Err(why),
+        }
+    }
+    words_by_codes(alloc, board, question, code, memory)
+}
+
+/// The same for a position. The table remembers the nodes of the whole proof.
 fn words_with(
     alloc: Global,
     pos: &Position,
@@ -67,13 +140,9 @@ fn words_with(
         reply: question.target,
         table,
     };
-    let mut out = Bytes::new(alloc);
-    let done = write_all(&mut board, question, code, &mut memory, &mut out);
+    let words = words_on(alloc, &mut board, question, code, &mut memory);
     board.finish();
-    match done {
-        Ok(()) => Ok(out),
-        Err(why) => Err(why),
-    }
+    words
 }
 
 /// The same with a table, which is made here: it is large, and a short proof is not to pay for it.
@@ -92,8 +161,8 @@ fn words_with_table(
     words_with(alloc, pos, question, code, &mut table)
 }
 
-/// The same with a table where there are plies enough.
-fn words_by_codes(
+/// The same with a table where there are plies enough, and else without one.
+fn words_of(
     alloc: Global,
     pos: &Position,
     question: &ReadingQuestion,
@@ -107,88 +176,6 @@ fn words_by_codes(
         return words_with(alloc, pos, question, code, &mut []);
     }
     words_with_table(alloc, pos, question, code)
-}
-
-/// The words of the first proof of code 0, each behind a blank, where its three parts are the same.
-fn alike_words_with(
-    alloc: Global,
-    pos: &Position,
-    question: &ReadingQuestion,
-    table: &mut [Entry],
-) -> Result<Option<Bytes>, ProofError>
-    requires plies { question.now.plies ≤ 200 }
-    requires target { question.now.target < pos.now.size * pos.now.size }
-    requires table { (seen : Fact → Bool) → IsTrueTable seen question.now.target question.now.colour table.old }
-    ensures { WritesMaybe (behind_blanks (first_words_of question.now pos.now 0 (codes_down_to 0))) result }
-{
-    let mut board = Trial::new(Watch::new(pos));
-    let mut memory = Memory {
-        reply: question.target,
-        table,
-    };
-    let mut part = Bytes::new(alloc);
-    let done = write_part(&mut board, question, &mut memory, &mut part);
-    board.finish();
-    match done {
-        Ok(true) => match thrice(alloc, part.as_slice()) {
-            Ok(words) => Ok(Some(words)),
-            Err(why) => Err(why),
-        },
-        Ok(false) => Ok(None),
-        Err(why) => Err(why),
-    }
-}
-
-/// The same with a table.
-#[inline(never)]
-fn alike_words_with_table(
-    alloc: Global,
-    pos: &Position,
-    question: &ReadingQuestion,
-) -> Result<Option<Bytes>, ProofError>
-    requires plies { question.now.plies ≤ 200 }
-    requires target { question.now.target < pos.now.size * pos.now.size }
-    ensures { WritesMaybe (behind_blanks (first_words_of question.now pos.now 0 (codes_down_to 0))) result }
-{
-    let mut table = empty_table();
-    alike_words_with(alloc, pos, question, &mut table)
-}
-
-/// The same with a table where there are plies enough.
-fn alike_words_of(
-    alloc: Global,
-    pos: &Position,
-    question: &ReadingQuestion,
-) -> Result<Option<Bytes>, ProofError>
-    requires plies { question.now.plies ≤ 200 }
-    requires target { question.now.target < pos.now.size * pos.now.size }
-    ensures { WritesMaybe (behind_blanks (first_words_of question.now pos.now 0 (codes_down_to 0))) result }
-{
-    if question.plies < PLIES_WITH_TABLE {
-        return alike_words_with(alloc, pos, question, &mut []);
-    }
-    alike_words_with_table(alloc, pos, question)
-}
-
-/// The words of the first proof of the code, each behind a blank.
-fn words_of(
-    alloc: Global,
-    pos: &Position,
-    question: &ReadingQuestion,
-    code: u8,
-) -> Result<Bytes, ProofError>
-    requires plies { question.now.plies ≤ 200 }
-    requires target { question.now.target < pos.now.size * pos.now.size }
-    ensures { Writes (behind_blanks (first_words_of question.now pos.now code (codes_down_to code))) result }
-{
-    if code == 0 {
-        match alike_words_of(alloc, pos, question) {
-            Ok(Some(words)) => return Ok(words),
-            Ok(None) => {}
-            Err(why) => return Err(why),
-        }
-    }
-    words_by_codes(alloc, pos, question, code)
 }
 
 /// The text without its first byte.

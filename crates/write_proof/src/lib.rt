@@ -5,7 +5,6 @@
 #![tactic(auto)]
 
 mod alike;
-mod alike_walk;
 mod codes;
 mod first;
 mod settled;

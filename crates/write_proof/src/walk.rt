@@ -1,82 +1,127 @@
-//! The first proof of a claim at a node, written on one board with trial moves from its first word to its last.
+//! The first proof of a claim at a node under each of the asked ko allowances, where it is the same under all of them.
+//! It is written once, on one board with trial moves from its first word to its last.
 
-ghost use Rattle.std.specs.Prelude.{◌≡◌, ◌+◌, ◌*◌, ◌<◌, ◌≤◌, length};
+ghost use Rattle.std.specs.Prelude.{◌≡◌, ◌≢◌, ◌+◌, ◌<◌, ◌≤◌, [], ◌∷◌, codes, length, Ok, true, false};
 ghost use Rattle.std.specs.Option.{option_to_list};
 ghost use Rattle.trial_board.specs.Trials.{Stays, most_moves};
 ghost use Rattle.read_rules.specs.GameTree.{child_of, first_move};
+ghost use Rattle.read_tree.specs.Allowances.{under, neither_may, has_some};
 ghost use Rattle.read_tree.specs.Table.{IsTrueTable};
 ghost use Rattle.read_tree.specs.Walk.{IsPointOf};
 ghost use Rattle.read_proof.specs.Proves.{pass_children, play_children};
 ghost use Rattle.read_proof.specs.FirstProof.{write_each, write_move, first_words};
 ghost use Rattle.write_proof.specs.Printed.{behind_blanks, most_bytes, Puts, position_on};
+ghost use Rattle.write_proof.specs.Alike.{IsOne, PutsAlike};
 
+use crate::alike::{Common, first_alike, is_own_alone};
 use crate::settled::{is_settled, is_wanted};
 use crate::text::{ProofError, put_move, put_word};
 use go_base::{Bytes, Look, Point};
 use read_moves::candidates;
 use read_rules::{Node, Spot};
+use read_tree::making::{Made, make};
 use read_tree::memory::Memory;
-use read_tree::nodes::{first_move, make_at};
+use read_tree::{Allowances, Turn};
 use trial_board::Trial;
 
-/// Writes the first proof of the claim at the child after the defender's pass.
+/// The node of a turn where neither side may ignore the ban.
+fn node_of(turn: Turn) -> Node
+    ensures { result ≡ under turn neither_may }
+{
+    Node {
+        target: turn.target,
+        defender: turn.defender,
+        attacker_to_play: turn.attacker_to_play,
+        wide: turn.wide,
+        attacker_ko: 0,
+        defender_ko: 0,
+    }
+}
+
+/// Writes that a claim is settled, which it then is under each allowance.
+fn put_dot(out: &mut Bytes) -> Result<bool, ProofError>
+    requires { length out.old ≤ most_bytes }
+    ensures puts { Puts out.old (behind_blanks (codes "." ∷ [])) out.new result }
+    ensures told { result ≢ Ok false }
+{
+    put_word(out, b".")?;
+    Ok(true)
+}
+
+/// Writes the first proof of the claim at the child after the defender's pass, or tells that it is not the same under
+/// each asked allowance.
 #[cycle(write)]
 fn write_pass<L: Look>(
     board: &mut Trial<L>,
-    node: Node,
+    turn: Turn,
+    asked: Allowances,
     plies: u8,
     won: bool,
     memory: &mut Memory,
     out: &mut Bytes,
-) -> Result<(), ProofError>
+) -> Result<bool, ProofError>
     requires room { length board.old.moves + plies < most_moves }
-    requires target { IsPointOf L.shows board.old node.target }
-    requires table { IsTrueTable (L.seen board.old.look) node.target node.defender memory.old.table.now }
+    requires target { IsPointOf L.shows board.old turn.target }
+    requires some { has_some asked ≡ true }
+    requires table { IsTrueTable (L.seen board.old.look) turn.target turn.defender memory.old.table.now }
     requires bytes { length out.old ≤ most_bytes }
     ensures stays { Stays L.shows L.seen board.old board.new }
-    ensures table { IsTrueTable (L.seen board.new.look) node.target node.defender memory.new.table.now }
-    ensures puts { Puts out.old
-        (behind_blanks (write_each (first_words plies won) (pass_children node (position_on L.shows board.old))))
-        out.new result }
+    ensures table { IsTrueTable (L.seen board.new.look) turn.target turn.defender memory.new.table.now }
+    ensures puts { PutsAlike asked out.old (λ ko. write_each (first_words plies won)
+        (pass_children (under turn ko) (position_on L.shows board.old))) out.new result }
+    ensures one { IsOne asked → result ≢ Ok false }
 {
-    if node.attacker_to_play {
-        return Ok(());
+    if turn.attacker_to_play {
+        return Ok(true);
     }
     board.pass();
-    let done = write(board, node.next(node.allowance()), plies, won, memory, out);
+    let done = write(board, turn.next(), asked, plies, won, memory, out);
     board.back();
     done
 }
 
-/// Writes that at the child after the play at p, where it can be played.
+/// Writes that at the child after the play at p, where it can be played. A play that the ban alone forbids leads to a
+/// child under one allowance alone.
 #[cycle(write)]
 fn write_play<L: Look>(
     board: &mut Trial<L>,
-    node: Node,
+    turn: Turn,
+    asked: Allowances,
     p: Point,
     plies: u8,
     won: bool,
     memory: &mut Memory,
     out: &mut Bytes,
-) -> Result<(), ProofError>
+) -> Result<bool, ProofError>
     requires room { length board.old.moves + plies < most_moves }
-    requires target { IsPointOf L.shows board.old node.target }
+    requires target { IsPointOf L.shows board.old turn.target }
     requires on_board { IsPointOf L.shows board.old p }
-    requires table { IsTrueTable (L.seen board.old.look) node.target node.defender memory.old.table.now }
+    requires some { has_some asked ≡ true }
+    requires table { IsTrueTable (L.seen board.old.look) turn.target turn.defender memory.old.table.now }
     requires bytes { length out.old ≤ most_bytes }
     ensures stays { Stays L.shows L.seen board.old board.new }
-    ensures table { IsTrueTable (L.seen board.new.look) node.target node.defender memory.new.table.now }
-    ensures puts { Puts out.old (behind_blanks
-        (write_each (first_words plies won) (option_to_list (child_of node (position_on L.shows board.old) p))))
-        out.new result }
+    ensures table { IsTrueTable (L.seen board.new.look) turn.target turn.defender memory.new.table.now }
+    ensures puts { PutsAlike asked out.old (λ ko. write_each (first_words plies won)
+        (option_to_list (child_of (under turn ko) (position_on L.shows board.old) p))) out.new result }
+    ensures one { IsOne asked → result ≢ Ok false }
 {
-    match make_at(board, node, p) {
-        Some(next) => {
-            let done = write(board, next, plies, won, memory, out);
+    match make(board, turn, p, asked.has_own(turn.attacker_to_play)) {
+        Made::Legal => {
+            let done = write(board, turn.next(), asked, plies, won, memory, out);
             board.back();
             done
         }
-        None => Ok(()),
+        Made::Allowed => {
+            if !is_own_alone(asked, turn.attacker_to_play) {
+                board.back();
+                return Ok(false);
+            }
+            let neither = Allowances::neither_alone();
+            let done = write(board, turn.next(), neither, plies, won, memory, out);
+            board.back();
+            done
+        }
+        Made::Not => Ok(true),
     }
 }
 
@@ -84,92 +129,110 @@ fn write_play<L: Look>(
 #[cycle(write)]
 fn write_plays<L: Look>(
     board: &mut Trial<L>,
-    node: Node,
+    turn: Turn,
+    asked: Allowances,
     plies: u8,
     won: bool,
     memory: &mut Memory,
     out: &mut Bytes,
-) -> Result<(), ProofError>
+) -> Result<bool, ProofError>
     requires room { length board.old.moves + plies < most_moves }
-    requires target { IsPointOf L.shows board.old node.target }
-    requires table { IsTrueTable (L.seen board.old.look) node.target node.defender memory.old.table.now }
+    requires target { IsPointOf L.shows board.old turn.target }
+    requires some { has_some asked ≡ true }
+    requires table { IsTrueTable (L.seen board.old.look) turn.target turn.defender memory.old.table.now }
     requires bytes { length out.old ≤ most_bytes }
     ensures stays { Stays L.shows L.seen board.old board.new }
-    ensures table { IsTrueTable (L.seen board.new.look) node.target node.defender memory.new.table.now }
-    ensures puts { Puts out.old
-        (behind_blanks (write_each (first_words plies won) (play_children node (position_on L.shows board.old))))
-        out.new result }
+    ensures table { IsTrueTable (L.seen board.new.look) turn.target turn.defender memory.new.table.now }
+    ensures puts { PutsAlike asked out.old (λ ko. write_each (first_words plies won)
+        (play_children (under turn ko) (position_on L.shows board.old))) out.new result }
+    ensures one { IsOne asked → result ≢ Ok false }
 {
-    let candidates = candidates(board, node.target, node.wide);
+    let candidates = candidates(board, turn.target, turn.wide);
     let mut from = 0;
     'plays: while let Some(p) = candidates.first_from(from) {
-        write_play(board, node, p, plies, won, memory, out)?;
+        let alike = write_play(board, turn, asked, p, plies, won, memory, out)?;
+        if !alike {
+            return Ok(false);
+        }
         from = p + 1;
     }
-    Ok(())
+    Ok(true)
 }
 
 /// Writes the word of the first move that will do and the first proof of the claim at the child to which it leads.
 #[cycle(write)]
 fn write_move<L: Look>(
     board: &mut Trial<L>,
-    node: Node,
+    turn: Turn,
+    asked: Allowances,
     plies: u8,
     won: bool,
     memory: &mut Memory,
     out: &mut Bytes,
-) -> Result<(), ProofError>
+) -> Result<bool, ProofError>
     requires room { length board.old.moves + plies < most_moves }
-    requires target { IsPointOf L.shows board.old node.target }
-    requires table { IsTrueTable (L.seen board.old.look) node.target node.defender memory.old.table.now }
+    requires target { IsPointOf L.shows board.old turn.target }
+    requires some { has_some asked ≡ true }
+    requires table { IsTrueTable (L.seen board.old.look) turn.target turn.defender memory.old.table.now }
     requires bytes { length out.old ≤ most_bytes }
     ensures stays { Stays L.shows L.seen board.old board.new }
-    ensures table { IsTrueTable (L.seen board.new.look) node.target node.defender memory.new.table.now }
-    ensures puts { Puts out.old (behind_blanks (write_move (first_words plies won) node (position_on L.shows board.old)
-        (first_move plies node (position_on L.shows board.old)))) out.new result }
+    ensures table { IsTrueTable (L.seen board.new.look) turn.target turn.defender memory.new.table.now }
+    ensures puts { PutsAlike asked out.old (λ ko. write_move (first_words plies won) (under turn ko)
+        (position_on L.shows board.old) (first_move plies (under turn ko) (position_on L.shows board.old)))
+        out.new result }
+    ensures one { IsOne asked → result ≢ Ok false }
 {
-    match first_move(board, node, plies, memory) {
-        Some(spot) => {
+    match first_alike(board, turn, asked, plies, memory) {
+        Common::Move(spot) => {
             put_move(out, board.size(), spot)?;
             match spot {
-                Spot::At(p) => write_play(board, node, p, plies, won, memory, out),
-                Spot::Pass => write_pass(board, node, plies, won, memory, out),
+                Spot::At(p) => write_play(board, turn, asked, p, plies, won, memory, out),
+                Spot::Pass => write_pass(board, turn, asked, plies, won, memory, out),
             }
         }
-        None => Ok(()),
+        Common::Nothing => Ok(true),
+        Common::Differs => Ok(false),
     }
 }
 
-/// Writes the first proof of the claim at the node, with `plies` plies left, each word behind a blank. The table
+/// Writes the first proof of the claim at the node, with `plies` plies left, each word behind a blank, where it is the
+/// same under each asked ko allowance. Else it answers false, and what is written then counts for nothing. The table
 /// remembers attacker's nodes over the position that the view shows.
 #[cycle(write)]
 pub fn write<L: Look>(
     board: &mut Trial<L>,
-    node: Node,
+    turn: Turn,
+    asked: Allowances,
     plies: u8,
     won: bool,
     memory: &mut Memory,
     out: &mut Bytes,
-) -> Result<(), ProofError>
+) -> Result<bool, ProofError>
     requires room { length board.old.moves + plies ≤ most_moves }
-    requires target { IsPointOf L.shows board.old node.target }
-    requires table { IsTrueTable (L.seen board.old.look) node.target node.defender memory.old.table.now }
+    requires target { IsPointOf L.shows board.old turn.target }
+    requires some { has_some asked ≡ true }
+    requires table { IsTrueTable (L.seen board.old.look) turn.target turn.defender memory.old.table.now }
     requires bytes { length out.old ≤ most_bytes }
     ensures stays { Stays L.shows L.seen board.old board.new }
-    ensures table { IsTrueTable (L.seen board.new.look) node.target node.defender memory.new.table.now }
-    ensures puts { Puts out.old (behind_blanks (first_words plies won node (position_on L.shows board.old))) out.new
-        result }
+    ensures table { IsTrueTable (L.seen board.new.look) turn.target turn.defender memory.new.table.now }
+    ensures puts { PutsAlike asked out.old (λ ko. first_words plies won (under turn ko) (position_on L.shows board.old))
+        out.new result }
+    ensures one { IsOne asked → result ≢ Ok false }
 {
     if plies == 0 {
-        return put_word(out, b".");
+        return put_dot(out);
     }
+    let node = node_of(turn);
     if is_settled(board, node, plies, won) {
-        return put_word(out, b".");
+        return put_dot(out);
     }
     if is_wanted(node, won) {
-        return write_move(board, node, plies - 1, won, memory, out);
+        return write_move(board, turn, asked, plies - 1, won, memory, out);
     }
     put_word(out, b"*")?;
-    write_pass(board, node, plies - 1, won, memory, out)?;
-    write_plays(board, node, plies - 1, won, memory, out)
+    let alike = write_pass(board, turn, asked, plies - 1, won, memory, out)?;
+    if !alike {
+        return Ok(false);
+    }
+    write_plays(board, turn, asked, plies - 1, won, memory, out)
 }

@@ -1,51 +1,36 @@
-use Rattle.std.proofs.Common.{◌≡◌, ◌∙◌, ◌*◌, ◌<◌, ◌&&◌, ℕ, true, false, List, ap, sym, subst, inl, inr, arith, rules}
+use Rattle.std.proofs.Common.{◌≡◌, ◌∙◌, ◌&&◌, true, false, ap, sym, subst, inl, inr, arith, rules}
 use Rattle.std.specs.FinSet as set
 use Rattle.std.proofs.lemmas.Bool.{cases_eq}
-use Rattle.go_base.specs.Facts.{Agrees, agrees_before, Grows-trans}
 use Rattle.go_rules.specs.Position.{BoardState}
-use Rattle.go_rules.specs.Strings.{liberty_points}
-use Rattle.trial_board.specs.declared.moves.TrialMove.{TrialMove}
-use Rattle.trial_board.specs.Trials.{after}
-use Rattle.trial_board.proofs.AfterLemmas.{size-after}
-use Rattle.read_rules.specs.Candidates.{is_candidate}
 use Rattle.read_rules.specs.GameTree.{succeeds}
-use Rattle.read_rules.proofs.CandidateLaws.{candidate_on}
 use Rattle.read_rules.proofs.WinLemmas.{none_before, first_success-found}
 use Rattle.read_tree.specs.Allowances.{under}
 use Rattle.read_tree.proofs.TableLemmas.{table_more}
 use Rattle.write_proof.specs.Printed.{position_on}
 use Rattle.write_proof.proofs.WriteLemmas.{here_stays}
+use Rattle.trial_board.specs.Trials.{Stays-trans}
+use Rattle.read_rules.specs.GameTree.{at_point}
+use Rattle.read_rules.proofs.WinLemmas.{first_success-none}
+use Rattle.read_tree.proofs.ReadyLemmas.{candidate_inside, point_after, liberties_after}
 use Rattle.write_proof.proofs.alike.first_point.Goals as goal
-
--- a candidate is on the board
-candidate_inside : (shown : BoardState) (moves : List TrialMove) (target wide p : ℕ)
-    → is_candidate (after shown moves) target wide p ≡ true → p < shown.size * shown.size
-candidate_inside shown moves target wide p h =
-    subst (λ n. p < n * n) (size-after shown moves) (candidate_on (after shown moves) target wide p h)
 
 -- no candidate was tried yet
 pub plays-init : goal.plays-init
 plays-init g c = record {
   stays = c.candidates-candidates.ensures.stays;
   table = table_more c.requires.table c.candidates-candidates.ensures.stays.grows;
-  none = λ ko q below. absurd (omega (arith, below));
+  none = λ ko asked q below. absurd (omega (arith, below));
 }
 
 -- the next candidate and the target are on the board, and the liberties of the target are those that are known
 pub play_told-requires : goal.play_told-requires
 play_told-requires g c =
-    let inside = candidate_inside (g.L.Look.shows c.args.board.now.look) c.args.board.now.moves c.args.turn.target
-    c.args.turn.wide c.in-Some.p (sym (c.candidates-candidates.ensures.answer c.in-Some.p)
-    ∙ c.in-Some.ensures.some.2) in
     let i = c.plays.invariant in
-    let still : (p : ℕ) → p < (g.L.Look.shows c.args.board.now.look).size * (g.L.Look.shows c.args.board.now.look).size
-    → p < (g.L.Look.shows c.plays.board.look).size * (g.L.Look.shows c.plays.board.look).size =
-    λ p h. subst (λ (pos : BoardState). p < pos.size * pos.size) (sym i.stays.shown) h in
-    let on = still c.in-Some.p inside in
-    let target = still c.args.turn.target c.requires.target in
-    let liberties : (pos : BoardState) → Agrees (g.L.Look.seen c.plays.board.look) pos
-    → c.args.known.now ≡ liberty_points pos.size (after pos c.plays.board.moves).cells c.args.turn.target =
-    λ pos a. rw i.stays.moves (c.requires.liberties pos (agrees_before i.stays.grows a)) in
+    let on = point_after i.stays c.in-Some.p (candidate_inside (g.L.Look.shows c.args.board.now.look)
+    c.args.board.now.moves c.args.turn.target c.args.turn.wide c.in-Some.p
+    (sym (c.candidates-candidates.ensures.answer c.in-Some.p) ∙ c.in-Some.ensures.some.2)) in
+    let target = point_after i.stays c.args.turn.target c.requires.target in
+    let liberties = liberties_after i.stays c.args.turn.target c.args.known.now c.requires.liberties in
     search rules
 
 -- it succeeds under none of the allowances, and none before it did
@@ -57,37 +42,34 @@ plays-preserved g c =
     let here = position_on g.L.Look.shows c.args.board.now in
     let same = here_stays g.L.Look.shows g.L.Look.seen c.args.board.now c.plays.board i.stays in
     record {
-      stays = record {
-        moves = later.moves ∙ i.stays.moves;
-        shown = later.shown ∙ i.stays.shown;
-        grows = Grows-trans i.stays.grows later.grows;
-      };
+      stays = Stays-trans i.stays later;
       table = c.play_told.ensures.table;
-      none = λ ko q below.
+      none = λ ko asked q below.
           let node = under c.args.turn ko in
           let fails = subst (λ (pos : BoardState). succeeds c.args.plies node pos c.in-Some.p ≡ false) same
-          ((rw c.in-Never.is at c.play_told.ensures.told) ko) in
+          ((rw c.in-Never.is at c.play_told.ensures.told) ko asked) in
           elim (cases_eq q c.in-Some.p) [
             | inl is ↦ ap (λ k. set.contains c.candidates-candidates.result k && succeeds c.args.plies node here k) is
                 ∙ ap (λ b. b && succeeds c.args.plies node here c.in-Some.p) found.2
                 ∙ fails
             | inr ne ↦ none_before (set.contains c.candidates-candidates.result) (succeeds c.args.plies node here)
-                c.plays.next c.in-Some.p (i.none ko) found.3 q (omega (arith, below, ne))
+                c.plays.next c.in-Some.p (i.none ko asked) found.3 q (omega (arith, below, ne))
           ];
     }
 
 -- it is the first that succeeds under each
 pub returns-in-Always-clause-first : goal.returns-in-Always-clause-first
-returns-in-Always-clause-first g c = λ ko.
+returns-in-Always-clause-first g c = λ ko asked.
     let i = c.plays.invariant in
     let found = c.in-Some.ensures.some in
     let here = position_on g.L.Look.shows c.args.board.now in
     let node = under c.args.turn ko in
     let same = here_stays g.L.Look.shows g.L.Look.seen c.args.board.now c.plays.board i.stays in
-    first_success-found c.args.plies node here c.plays.next c.in-Some.p (set.contains c.candidates-candidates.result)
-    c.candidates-candidates.ensures.answer (i.none ko) found.3 found.2
+    ap at_point (first_success-found c.args.plies node here c.plays.next c.in-Some.p
+    (set.contains c.candidates-candidates.result)
+    c.candidates-candidates.ensures.answer (i.none ko asked) found.3 found.2
     (sym (subst (λ (pos : BoardState). succeeds c.args.plies node pos c.in-Some.p ≡ true) same
-    ((rw c.in-Always.is at c.play_told.ensures.told) ko)))
+    ((rw c.in-Always.is at c.play_told.ensures.told) ko asked))))
 
 -- and is on the board
 pub returns-in-Always-clause-on_board : goal.returns-in-Always-clause-on_board
@@ -95,3 +77,14 @@ returns-in-Always-clause-on_board g c =
     candidate_inside (g.L.Look.shows c.args.board.now.look) c.args.board.now.moves c.args.turn.target
     c.args.turn.wide c.in-Some.p (sym (c.candidates-candidates.ensures.answer c.in-Some.p)
     ∙ c.in-Some.ensures.some.2)
+
+-- of one allowance it is not told that it differs
+pub returns-in-Differs-clause-one : goal.returns-in-Differs-clause-one
+returns-in-Differs-clause-one g c = λ one e. c.play_told.ensures.one one c.in-Differs.is
+
+-- no candidate is left
+pub returns-clause-first : goal.returns-clause-first
+returns-clause-first g c = λ ko asked.
+    ap at_point (first_success-none c.args.plies (under c.args.turn ko)
+    (position_on g.L.Look.shows c.args.board.now) c.plays.next (set.contains c.candidates-candidates.result)
+    c.candidates-candidates.ensures.answer (c.plays.invariant.none ko asked) c.in_default.ensures.none)

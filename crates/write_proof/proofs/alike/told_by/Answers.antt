@@ -1,12 +1,28 @@
-use Rattle.std.proofs.Common.{◌∙◌, sym}
-use Rattle.read_tree.proofs.AllowanceLemmas.{none_of}
-use Rattle.write_proof.proofs.AlikeLemmas.{has_each}
+use Rattle.std.proofs.Common.{◌∙◌, ap, sym}
+use Rattle.read_tree.specs.Allowances.{has, has_some}
+use Rattle.read_tree.proofs.AllowanceLemmas.{none_of, has-without}
+use Rattle.read_tree.proofs.TableLemmas.{has_both}
+use Rattle.read_tree.specs.Allowances.{without, both}
+use Rattle.write_proof.proofs.AlikeLemmas.{in_other, not_both, told_one}
 use Rattle.write_proof.proofs.alike.told_by.Goals as goal
 
--- all three are in the set
-pub returns-then-good-3 : goal.returns-then-good-3
-returns-then-good-3 c = has_each c.args.good c.if-good.true c.if-good-2.true c.if-good-3.true
+-- none is left without those
+pub returns-then-not-has_some-clause-told : goal.returns-then-not-has_some-clause-told
+returns-then-not-has_some-clause-told c = λ ko asked.
+    in_other (has c.args.asked ko) (has c.args.good ko) asked (sym (has-without c.args.asked c.args.good ko)
+    ∙ none_of (without c.args.asked c.args.good) ko
+    (ap has_some (sym c.without.ensures) ∙ sym c.has_some.ensures ∙ c.if-not-has_some.true))
 
--- none is
-pub returns : goal.returns
-returns c = λ ko. none_of c.args.good ko (sym c.has_some.ensures ∙ c.if-has_some.false)
+-- of one allowance some alone cannot be told
+pub returns-then-has_some-clause-one : goal.returns-then-has_some-clause-one
+returns-then-has_some-clause-one c = λ one e.
+    told_one c.args.asked c.args.good one
+    (ap has_some (sym c.without.ensures) ∙ sym c.has_some.ensures ∙ c.if-not-has_some.false)
+    (ap has_some (sym c.both.ensures) ∙ sym c.has_some-2.ensures ∙ c.if-has_some.true)
+
+-- none of those is asked for
+pub returns-clause-told : goal.returns-clause-told
+returns-clause-told c = λ ko asked.
+    not_both (has c.args.asked ko) (has c.args.good ko) asked (sym (has_both c.args.asked c.args.good ko)
+    ∙ none_of (both c.args.asked c.args.good) ko
+    (ap has_some (sym c.both.ensures) ∙ sym c.has_some-2.ensures ∙ c.if-has_some.false))

@@ -1,5 +1,5 @@
 use Rattle.write_proof.proofs.first.words_with.Goals as goal
 
 -- the table tells nothing false
-pub write_all-done-requires-clause-table : goal.write_all-done-requires-clause-table
-write_all-done-requires-clause-table c = c.requires.table _
+pub words_on-words-requires-clause-table : goal.words_on-words-requires-clause-table
+words_on-words-requires-clause-table c = c.requires.table _

@@ -1,9 +1,10 @@
-use Rattle.std.proofs.Common.{◌≡◌, ◌+◌, ◌-◌, ◌*◌, ◌≤◌, ◌++◌, length}
+use Rattle.std.proofs.Common.{◌≡◌, ◌+◌, ◌-◌, ◌*◌, ◌≤◌, ◌++◌, length, true}
 use Rattle.std.specs.List.{filter_map, filter, range_with_len}
 use Rattle.go_rules.specs.Board.{largest_points}
 use Rattle.trial_board.specs.Trials.{Stays}
 use Rattle.read_rules.specs.Candidates.{is_candidate}
 use Rattle.read_rules.specs.GameTree.{child_of}
+use Rattle.read_tree.specs.Allowances.{Ko, has, under}
 use Rattle.read_tree.specs.Table.{IsTrueTable}
 use Rattle.read_proof.specs.Proves.{play_children}
 use Rattle.read_proof.specs.FirstProof.{write_each, first_words}
@@ -30,18 +31,19 @@ decreases-write_plays g l = 4 * l.plies + 2
 abbrev pub decreases-write_move : goal.decreases-write_move
 decreases-write_move g l = 4 * l.plies + 2
 
--- what is written so far, and what is left to write from the next candidate on, are what was to be written
+-- under each asked allowance, what is written so far, and what is left to write from the next candidate on, are what
+-- was to be written
 abbrev pub invariant-write_plays-plays : goal.invariant-write_plays-plays
 invariant-write_plays-plays g l = record {
   stays : Stays g.L.Look.shows g.L.Look.seen l.fn.board l.board;
-  table : IsTrueTable (g.L.Look.seen l.board.look) l.node.target l.node.defender l.memory.table.now;
-  text : l.out ++ behind_blanks (write_each (first_words l.plies l.won)
-      (filter_map (child_of l.node (position_on g.L.Look.shows l.fn.board))
-      (filter (is_candidate (position_on g.L.Look.shows l.fn.board) l.node.target l.node.wide)
+  table : IsTrueTable (g.L.Look.seen l.board.look) l.turn.target l.turn.defender l.memory.table.now;
+  text : (ko : Ko) → has l.asked ko ≡ true → l.out ++ behind_blanks (write_each (first_words l.plies l.won)
+      (filter_map (child_of (under l.turn ko) (position_on g.L.Look.shows l.fn.board))
+      (filter (is_candidate (position_on g.L.Look.shows l.fn.board) l.turn.target l.turn.wide)
       (range_with_len l.from ((position_on g.L.Look.shows l.fn.board).size
       * (position_on g.L.Look.shows l.fn.board).size - l.from)))))
       ≡ l.fn.out ++ behind_blanks (write_each (first_words l.plies l.won)
-      (play_children l.node (position_on g.L.Look.shows l.fn.board)));
+      (play_children (under l.turn ko) (position_on g.L.Look.shows l.fn.board)));
   bytes : length l.out ≤ most_bytes;
 }
 

@@ -1,5 +1,5 @@
 use Rattle.std.proofs.lemmas.List.Elements.{All-nil}
-use Rattle.write_proof.proofs.first.words_by_codes.Goals as goal
+use Rattle.write_proof.proofs.first.words_of.Goals as goal
 
 -- a table of no entries tells nothing
 pub words_with-requires-clause-table : goal.words_with-requires-clause-table
