@@ -1,10 +1,9 @@
 -- The reply to a command, by its answer.
-use Rattle.std.proofs.Common.{◌≡◌, ℕ, false, List, [], ◌∷◌, map, Option, None, Some, inl, inr, refl, sym, ap, subst}
+use Rattle.std.proofs.Common.{◌≡◌, ℕ, false, List, [], ◌∷◌, map, Option, inl, inr, refl, sym, ap, subst}
 use Rattle.std.proofs.Common.{◌∙◌}
 use Rattle.gtp_rules.specs.Transcript.{IsOneOf, MayGive}
 use Rattle.gtp_cmd.specs.Replies.{success_text, refusal_text}
 use Rattle.gtp_cmd.specs.declared.refusals.RefuseText.{RefuseText}
-use Rattle.gtp_cmd.specs.declared.refusals.RefuseText.TheVariants.{OutOfMemory}
 use Rattle.machine_rules.specs.Machine.{Machine}
 use Rattle.machine_rules.specs.Effects.{Excuse, Effect, IsExcused, fallback, reply_text, replied}
 use Rattle.engine.specs.CommandAnswers.{Succeeds, IsAnswer}

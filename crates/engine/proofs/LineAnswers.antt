@@ -1,5 +1,5 @@
 -- A line is answered as what it says.
-use Rattle.std.proofs.Common.{◌≡◌, ◌↔◌, inl, ℕ, Bool, false, List, [], ◌∷◌, ◌++◌, Option, Result, Ok, Err, IfOk, IfErr}
+use Rattle.std.proofs.Common.{◌≡◌, ◌↔◌, inl, ℕ, false, List, ◌++◌, Option, Result, Ok, Err, IfOk, IfErr}
 use Rattle.std.proofs.Common.{refl, sym, ap, subst, ◌∙◌, append-nil}
 use Rattle.gtp_rules.specs.Lines.{RawLine, Line, TooLong}
 use Rattle.gtp_rules.specs.Transcript.{MayGive, Answers}
@@ -9,16 +9,16 @@ use Rattle.gtp_cmd.specs.declared.commands.Command.{Command}
 use Rattle.gtp_cmd.specs.declared.commands.Parsed.{Parsed}
 use Rattle.gtp_cmd.specs.declared.commands.Parsed.TheVariants as parsed
 use Rattle.gtp_cmd.specs.declared.refusals.RefuseText.{RefuseText}
-use Rattle.machine_rules.specs.Counting.{counted, is_read, is_parsed_read, is_read_line}
+use Rattle.machine_rules.specs.Counting.{counted, is_read, is_read_line}
 use Rattle.machine_rules.specs.Effects.{replied}
 use Rattle.machine_rules.specs.Files.{Contents}
 use Rattle.machine_rules.specs.Heard.{heard, bytes_in}
-use Rattle.machine_rules.specs.LinkQuestions.{asks_link_of, asks_link_of_parsed, asks_link_of_line}
+use Rattle.machine_rules.specs.LinkQuestions.{asks_link_of, asks_link_of_line}
 use Rattle.machine_rules.specs.Loads.{parsed_load, load_in, missed_by, IsFileOf}
 use Rattle.machine_rules.specs.Machine.{Machine}
 use Rattle.machine_rules.specs.Questions.{asks_of, asks_of_parsed, asks_of_line}
 use Rattle.machine_rules.specs.Soundness.{IsWithoutWords}
-use Rattle.machine_rules.specs.Step.{Input, step, step_on, parsed_step, effect_of}
+use Rattle.machine_rules.specs.Step.{Input, step, step_on, effect_of}
 use Rattle.machine_rules.specs.Matcher.{automaton_matcher}
 use Rattle.machine_rules.proofs.Soundness.{step-sound, read-heard, link-heard, some_file}
 use Rattle.machine_rules.proofs.WordLines.{parsed_of-none, none-parsed_of}
@@ -27,7 +27,7 @@ use Rattle.engine.specs.AskedLinks.{LinksAs}
 use Rattle.engine.specs.AnsweredLines.{AnswersParsed, AnswersLine}
 use Rattle.engine.specs.Kept.{Kept, machine_of}
 use Rattle.engine.specs.Replies.{reply_bytes, reply_ends, reply_count}
-use Rattle.engine.specs.SessionState.{SessionState, matcher_of}
+use Rattle.engine.specs.SessionState.{matcher_of}
 use Rattle.engine.specs.SlowLines.{command_of, said_by, IsLeft}
 use Rattle.engine.specs.declared.reply.Reply.{Reply}
 use Rattle.engine.specs.declared.reply.Reply.TheVariants as reply
@@ -51,7 +51,8 @@ nothing-heard m (Line text) = (parsed_of-none text m.base.size, none-parsed_of t
 -- What a line says was answered, on a text that is the contents of the file that it loads.
 module _ (contents : Contents) (old : Kept) (line : RawLine) (answer : Reply) (new : Kept) (file : List ℕ)
     (of : IsFileOf contents (parsed_load (bytes_in line) (heard (machine_of old) line)) file)
-    (is : AnswersParsed old (record { line = bytes_in line; file = file }) (heard (machine_of old) line) answer new) where
+    (is : AnswersParsed old (record { line = bytes_in line; file = file })
+    (heard (machine_of old) line) answer new) where
   -- the step gives the reply
   line-reply : Answers (step (matcher_of old.engine) contents) (machine_of old) line (reply_bytes answer)
       (machine_of new) (reply_ends answer)
@@ -141,7 +142,8 @@ answers-line-at contents old line said answer new bytes are same is =
 
 -- whether a line was answered or left, the matcher stays
 pub same-matcher : (old new : Kept) (input : Input) (said : Parsed) (result : Result Reply Slow)
-    → IfOk result (λ answer. AnswersParsed old input said answer new) → IfErr result (λ slow. IsLeft old input.line said slow new)
+    → IfOk result (λ answer. AnswersParsed old input said answer new)
+    → IfErr result (λ slow. IsLeft old input.line said slow new)
     → matcher_of new.engine ≡ matcher_of old.engine
 same-matcher old new input said (Ok answer) is left = λ i. automaton_matcher (is.patterns i) (is.automaton i)
 same-matcher old new input said (Err slow) is left = ap (λ (k : Kept). matcher_of k.engine) left.same

@@ -1,5 +1,5 @@
 -- What a line asks of a session's connections, and what is told of that.
-use Rattle.std.proofs.Common.{◌≡◌, ℕ, Bool, true, false, cond, List, Option, Some, None, refl, sym, ap, subst, ◌∙◌}
+use Rattle.std.proofs.Common.{◌≡◌, ℕ, true, false, cond, List, Option, Some, None, refl, sym, ap, subst, ◌∙◌}
 use Rattle.go_rules.specs.Position.{BoardState, IsPosition}
 use Rattle.link_rules.specs.Linkages.{asked_on, linkage_of}
 use Rattle.link_rules.specs.declared.question.LinkKind.{LinkKind}
@@ -13,7 +13,7 @@ use Rattle.machine_rules.specs.LinkCommands.{linked, linkage_at, linkage_text}
 use Rattle.machine_rules.specs.LinkQuestions.{have_one_colour, asks_link_at}
 use Rattle.machine_rules.specs.Machine.{Machine}
 use Rattle.machine_rules.proofs.Soundness.{linked-told}
-use Rattle.engine.specs.AskedLinks.{LinksAs, LinksOnce, LinksNothing, CountsFreshLinks}
+use Rattle.engine.specs.AskedLinks.{LinksAs, LinksNothing, CountsFreshLinks}
 use Rattle.engine.specs.CommandAnswers.{IsAnswer}
 use Rattle.engine.specs.SessionState.{SessionState, board_of, machine_alone}
 use Rattle.engine.specs.declared.answer.Answer.{Answer}

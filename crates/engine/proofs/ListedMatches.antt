@@ -1,5 +1,5 @@
 -- The helpers were asked about the matches of a session's patterns on its board, and the matches were listed.
-use Rattle.std.proofs.Common.{◌≡◌, ◌⊎◌, ℕ, Bool, true, false, List, Option, Result, Ok, Err, IfOk, is_err, inl, inr}
+use Rattle.std.proofs.Common.{◌≡◌, ◌⊎◌, ℕ, true, false, List, Result, Ok, Err, IfOk, is_err, inl, inr}
 use Rattle.std.proofs.Common.{refl, sym, ap, subst, ◌∙◌}
 use Rattle.go_rules.specs.declared.Colour.{Colour}
 use Rattle.go_rules.specs.Position.{BoardState}

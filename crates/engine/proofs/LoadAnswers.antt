@@ -1,5 +1,5 @@
 -- What a line loads, and whether it missed that.
-use Rattle.std.proofs.Common.{◌≡◌, ℕ, Bool, true, false, cond, eqb, List, [], ◌∷◌, ◌++◌, Option, None, Some, refl, sym}
+use Rattle.std.proofs.Common.{◌≡◌, ℕ, Bool, true, false, cond, List, [], ◌∷◌, ◌++◌, Option, None, Some, refl, sym}
 use Rattle.std.proofs.Common.{ap, subst, ◌∙◌, append-nil, append_assoc, codes, nat_eq, ◌&&◌, arith}
 use Rattle.std.proofs.lemmas.Bool.Decides.{nat_tests}
 use Rattle.std.specs.Str.{bytes_eq}
@@ -11,11 +11,11 @@ use Rattle.gtp_cmd.specs.declared.refusals.RefuseText.{RefuseText}
 use Rattle.gtp_cmd.specs.declared.refusals.RefuseText.TheVariants as refusal
 use Rattle.machine_rules.specs.Files.{Contents}
 use Rattle.machine_rules.specs.Heard.{word_at}
-use Rattle.machine_rules.specs.Loads.{Load, load_by, load_of, parsed_load, IsFileOf, missed_by}
+use Rattle.machine_rules.specs.Loads.{load_of, parsed_load, IsFileOf, missed_by}
 use Rattle.machine_rules.specs.Machine.{Machine}
 use Rattle.machine_rules.specs.Matcher.{Matcher}
 use Rattle.machine_rules.specs.RecordCommands.{is_utf8}
-use Rattle.machine_rules.specs.Step.{Input, effect_of}
+use Rattle.machine_rules.specs.Step.{effect_of}
 use Rattle.engine.specs.CommandAnswers.{IsAnswer, IsDone, named, missed_as}
 use Rattle.engine.specs.SlowLines.{command_of}
 use Rattle.engine.specs.declared.answer.Answer.{Answer}

@@ -48,10 +48,12 @@ module _ (game : Game) (kept : Machine) (m : Move) where
   played-legal legal room =
       ap (λ t. cond t (cond (eqb (length game.moves) most_moves) (refused old HistoryFull) (grown old [] with_move))
       (refused old IllegalMove)) legal
-      ∙ ap (λ t. cond t (refused old HistoryFull) (grown old [] with_move)) (not_equal (length game.moves) most_moves room)
+      ∙ ap (λ t. cond t (refused old HistoryFull) (grown old [] with_move))
+      (not_equal (length game.moves) most_moves room)
 
   -- the move is legal, and the list is full
-  played-full : IsOk (moved (position_of old) m) → length game.moves ≡ most_moves → played old m ≡ refused old HistoryFull
+  played-full : IsOk (moved (position_of old) m) → length game.moves ≡ most_moves
+      → played old m ≡ refused old HistoryFull
   played-full legal full =
       ap (λ t. cond t (cond (eqb (length game.moves) most_moves) (refused old HistoryFull) (grown old [] with_move))
       (refused old IllegalMove)) legal
@@ -60,7 +62,8 @@ module _ (game : Game) (kept : Machine) (m : Move) where
   -- the move is illegal
   played-illegal : (e : Illegal) → moved (position_of old) m ≡ Err e → played old m ≡ refused old IllegalMove
   played-illegal e forbidden =
-      ap (λ r. cond (is_ok r) (cond (eqb (length game.moves) most_moves) (refused old HistoryFull) (grown old [] with_move))
+      ap (λ r. cond (is_ok r)
+      (cond (eqb (length game.moves) most_moves) (refused old HistoryFull) (grown old [] with_move))
       (refused old IllegalMove)) forbidden
 
   -- the answer says what the game answered, and new is the game after it

@@ -68,8 +68,8 @@ ReadsAs (One key) old new = ReadsOnce key old new
 ReadsAs Many old new = ReadsMany old new
 
 -- A session that keeps old keeps new after a line that came to its machine: the line is counted where it asks for a
--- reading and is answered with a code, what it asks was read, of connections too, and the file that it could not load is
--- told as missed.
+-- reading and is answered with a code, what it asks was read, of connections too, and the file that it could not load
+-- is told as missed.
 pub record IsAfterLine (old : Kept) (turn : Turn Machine) (new : Kept) : Type 0 where
   pub machine : turn.machine ≡ machine_of old
   pub readings : new.engine.counts.readings

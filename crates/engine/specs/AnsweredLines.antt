@@ -1,5 +1,5 @@
 -- What an answered line leaves of a session.
-use Rattle.std.specs.Prelude.{◌≡◌, ◌≢◌, ◌↔◌, ℕ, List, ◌++◌}
+use Rattle.std.specs.Prelude.{◌≡◌, ◌≢◌, ◌↔◌, ◌++◌}
 use Rattle.gtp_rules.specs.Lines.{RawLine}
 use Rattle.gtp_rules.specs.Transcript.{MayGive, Answers}
 use Rattle.gtp_cmd.specs.declared.commands.Parsed.{Parsed}
@@ -46,7 +46,8 @@ pub record AnswersLine (contents : Contents) (old : Kept) (line : RawLine) (answ
   pub automaton : new.engine.automaton ≡ old.engine.automaton
   -- a line that asks for a reading and is answered with a code is counted
   pub readings : new.engine.counts.readings ≡ counted old.engine.counts.readings (is_read_line (machine_of old) line)
-  -- it makes one reading, which is kept or fresh; a line that asks for matches may make any, and no other line makes one
+  -- it makes one reading, which is kept or fresh; a line that asks for matches may make any number, and no other line
+  -- makes one
   pub read : ReadsAs (asks_of_line (machine_of old) line) old.engine new.engine
   -- a line that asks about two stones of one colour asks the connections once, and is counted; no other line asks them
   pub links : LinksAs (asks_link_of_line (machine_of old) line) old.engine new.engine

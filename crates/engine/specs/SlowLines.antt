@@ -5,7 +5,7 @@ use Rattle.gtp_cmd.specs.declared.commands.Command.{Command}
 use Rattle.gtp_cmd.specs.declared.commands.Command.TheVariants as command
 use Rattle.gtp_cmd.specs.declared.commands.Parsed.{Parsed}
 use Rattle.gtp_cmd.specs.declared.commands.Parsed.TheVariants as parsed
-use Rattle.engine.specs.Kept.{Kept, machine_of}
+use Rattle.engine.specs.Kept.{Kept}
 use Rattle.engine.specs.declared.slow.Slow.{Slow}
 use Rattle.engine.specs.declared.slow.Work.{Work}
 use Rattle.engine.specs.declared.slow.Work.TheVariants as work

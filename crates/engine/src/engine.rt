@@ -170,7 +170,8 @@ impl Engine {
 
     /// What the session counted: its lines that asked for a reading and were answered with a code, those of them that
     /// were read afresh, the moves that these tried, and the readings that could not be kept for want of memory; and
-    /// its lines that asked about a connection and were answered with a result, and those of them that were read afresh.
+    /// its lines that asked about a connection and were answered with a result, and those of them that were read
+    /// afresh.
     pub(crate) fn stats(&self) -> Counts
         ensures { result ≡ self.now.counts }
     {
@@ -189,7 +190,8 @@ impl Engine {
     /// What a line says: one that is too long is refused.
     pub(crate) fn heard(&self, raw: Raw<'_>) -> Parsed
         requires { length (bytes_in (raw_line raw)) ≤ longest_line }
-        ensures said { (helpers : List SlotState) → result ≡ heard (machine_with helpers self.now) (raw_line raw.entry) }
+        ensures said { (helpers : List SlotState)
+            → result ≡ heard (machine_with helpers self.now) (raw_line raw.entry) }
         ensures within { SaysWithin self.now.base.size result }
         ensures spans { SaysWithinLine (bytes_in (raw_line raw.entry)) result }
     {
@@ -205,7 +207,8 @@ impl Engine {
         }
     }
 
-    /// Answers what a line says, by the step of the machine that this is, unless it may take long. Then nothing is done.
+    /// Answers what a line says, by the step of the machine that this is, unless it may take long. Then nothing is
+    /// done.
     ///
     /// NoMemory comes only in place of a growing reply. It leaves the machine as it was.
     pub(crate) fn try_answer(

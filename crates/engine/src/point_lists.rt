@@ -2,7 +2,8 @@
 ghost use Rattle.std.specs.Prelude.{◌≡◌, ◌-◌, ◌*◌, ◌<◌, ◌++◌, ◌∷◌, [], OnOk, IfOk, decimal, slice_index};
 ghost use Rattle.go_strings.specs.Games.{reached};
 ghost use Rattle.gtp_cmd.specs.Vertices.{vertex_text, column_letters};
-ghost use Rattle.machine_rules.specs.PointLists.{in_reading_order, legal_list, liberty_list, vertices_text, blank_after};
+ghost use Rattle.machine_rules.specs.PointLists.{in_reading_order, legal_list, liberty_list};
+ghost use Rattle.machine_rules.specs.PointLists.{vertices_text, blank_after};
 
 use go_base::{Bytes, Colour, NoMemory, Point, PointSet, Size};
 use go_strings::StringBoard;

@@ -1,5 +1,5 @@
 -- One call of the readings was made on the session's board, and was counted.
-use Rattle.std.proofs.Common.{◌≡◌, true, List, ℕ, refl, ap, subst, ◌∙◌, rules}
+use Rattle.std.proofs.Common.{◌≡◌, true, refl, ap, subst, ◌∙◌, rules}
 use Rattle.engine.specs.SessionState.{SessionState, machine_alone, machine_with}
 use Rattle.machine_rules.specs.Counting.{has_stone}
 use Rattle.engine.specs.AfterLine.{CountsRefused}
@@ -32,7 +32,8 @@ returns-clause-answer c = λ helpers.
     let text : c.answer_text.result ≡ answer_text c.args.self.now.base.size (reading_of (machine_alone c.args.self.now)
     c.args.kind c.args.p) = search rules in
     let keeps : machine_with helpers c.count_reading.new.self ≡ machine_with helpers c.args.self.now =
-    c.count_reading.ensures.machine helpers ∙ depths-kept _ _ _ c.read-answer.ensures.read.plies c.read-answer.ensures.read.wide
+    c.count_reading.ensures.machine helpers ∙ depths-kept _ _ _ c.read-answer.ensures.read.plies
+    c.read-answer.ensures.read.wide
     ∙ ap (machine_with helpers) c.self.view_is in
     told-of_stone old c.args.p (answer_text old.base.size (reading_of old c.args.kind c.args.p)) c.answer_text.result
     c.told_text.result (machine_with helpers c.count_reading.new.self) stone c.told_text.ensures text

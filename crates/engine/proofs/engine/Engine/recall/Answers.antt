@@ -1,5 +1,5 @@
 -- An answer that was kept is one call of the readings, on the session's board, and was counted.
-use Rattle.std.proofs.Common.{◌≡◌, true, List, ℕ, refl, ap, subst, ◌∙◌, rules}
+use Rattle.std.proofs.Common.{◌≡◌, true, refl, ap, subst, ◌∙◌, rules}
 use Rattle.engine.specs.SessionState.{SessionState, machine_alone, machine_with}
 use Rattle.machine_rules.specs.Counting.{has_stone}
 use Rattle.engine.specs.AfterLine.{CountsRefused}

@@ -16,7 +16,8 @@ returns-clause-links c =
     let new = c.count_link.new.self in
     let view = c.self.view_is in
     let one : have_one_colour (machine_alone old) c.args.a c.args.b ≡ true = search rules in
-    LinksAs-once old new c.args.kind c.args.a c.args.b one c.position-position.result c.in-Some-find_kept.linkage c.self.inside.links
+    LinksAs-once old new c.args.kind c.args.a c.args.b one c.position-position.result c.in-Some-find_kept.linkage
+    c.self.inside.links
     c.find_kept.new.self c.position-position.ensures.value (ap (λ (k : SessionState). k.links) view)
     (c.self.invariant.plies ∙ ap (λ (k : SessionState). k.plies) view) c.count_link.ensures.links
     c.in-Some-find_kept.ensures.asked c.size.ensures.position c.find_kept.ensures.rest (c.count_link.ensures.connections
@@ -33,7 +34,8 @@ returns-clause-answer c = λ helpers.
     let size : c.size.result ≡ old.base.size =
     c.size.ensures.value ∙ ap (λ (p : BoardState). p.size) board ∙ c.position-position.ensures.size in
     let same = linkage-here old c.args.kind c.args.a c.args.b c.position-position.result c.self.inside.links.plies
-    c.in-Some-find_kept.linkage c.in-Some-find_kept.ensures.answer board (c.self.invariant.plies ∙ ap (λ (k : SessionState). k.plies) view) in
+    c.in-Some-find_kept.linkage c.in-Some-find_kept.ensures.answer board
+    (c.self.invariant.plies ∙ ap (λ (k : SessionState). k.plies) view) in
     let text : c.linkage_text.result ≡ linkage_text old.base.size (linkage_at (machine_alone old) c.args.kind c.args.a
     c.args.b) = c.linkage_text.ensures.text ∙ ap (λ s. linkage_text s c.in-Some-find_kept.linkage) size
     ∙ ap (linkage_text old.base.size) same in

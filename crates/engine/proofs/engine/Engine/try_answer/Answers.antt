@@ -44,5 +44,6 @@ returns-in-Command-clause-left g c = λ missed.
     let old = kept_with (states_of (λ z. (goal.Helper-dyn g z).state z.1) c.args.helpers.now) missed c.args.self.now in
     let new = kept_with (states_of (λ z. (goal.Helper-dyn g z).state z.1) c.try_command.new.helpers) missed
     c.try_command.new.self in
-    subst (λ (p : Parsed). IfErr c.try_command.result (λ slow. IsLeft old c.args.line.now p slow new)) (sym c.in-Command.is)
+    subst (λ (p : Parsed). IfErr c.try_command.result (λ slow. IsLeft old c.args.line.now p slow new))
+    (sym c.in-Command.is)
     (c.try_command.ensures.left missed)

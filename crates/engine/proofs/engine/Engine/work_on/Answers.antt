@@ -17,7 +17,8 @@ returns-in-Attack-clause-answer g c =
     let old = c.args.self.now in
     done-unloaded (g.L.Loader.contents c.args.files.now) (matcher_of old) (machine_with helpers old) c.args.line.now
     c.read.result
-    (machine_with helpers c.read.new.self) c.args.work (work.Attack c.in-Attack.p) c.in-Attack.is refl (λ file. c.read.ensures.answer helpers)
+    (machine_with helpers c.read.new.self) c.args.work (work.Attack c.in-Attack.p) c.in-Attack.is refl
+    (λ file. c.read.ensures.answer helpers)
 
 -- it misses no file
 pub returns-in-Attack-clause-missed : goal.returns-in-Attack-clause-missed
@@ -35,7 +36,8 @@ returns-in-Defend-clause-answer g c =
     let old = c.args.self.now in
     done-unloaded (g.L.Loader.contents c.args.files.now) (matcher_of old) (machine_with helpers old) c.args.line.now
     c.read-in-Defend.result
-    (machine_with helpers c.read-in-Defend.new.self) c.args.work (work.Defend c.in-Defend.p) c.in-Defend.is refl (λ file. c.read-in-Defend.ensures.answer helpers)
+    (machine_with helpers c.read-in-Defend.new.self) c.args.work (work.Defend c.in-Defend.p) c.in-Defend.is refl
+    (λ file. c.read-in-Defend.ensures.answer helpers)
 
 -- it misses no file
 pub returns-in-Defend-clause-missed : goal.returns-in-Defend-clause-missed
@@ -53,7 +55,8 @@ returns-in-Match-clause-answer g c =
     let old = c.args.self.now in
     done-unloaded (g.L.Loader.contents c.args.files.now) (matcher_of old) (machine_with helpers old) c.args.line.now
     c.list_matches.result
-    (machine_with (states_of (λ z. (goal.Helper-dyn g z).state z.1) c.list_matches.new.helpers) c.list_matches.new.self) c.args.work (work.Match c.in-Match.friend) c.in-Match.is refl (λ file. c.list_matches.ensures.answer)
+    (machine_with (states_of (λ z. (goal.Helper-dyn g z).state z.1) c.list_matches.new.helpers) c.list_matches.new.self)
+    c.args.work (work.Match c.in-Match.friend) c.in-Match.is refl (λ file. c.list_matches.ensures.answer)
 
 -- it misses no file
 pub returns-in-Match-clause-missed : goal.returns-in-Match-clause-missed
@@ -71,7 +74,8 @@ returns-in-AttackProof-clause-answer g c =
     let old = c.args.self.now in
     done-unloaded (g.L.Loader.contents c.args.files.now) (matcher_of old) (machine_with helpers old) c.args.line.now
     c.print_proof.result
-    (machine_with helpers old) c.args.work (work.AttackProof c.in-AttackProof.p) c.in-AttackProof.is refl (λ file. c.print_proof.ensures helpers)
+    (machine_with helpers old) c.args.work (work.AttackProof c.in-AttackProof.p) c.in-AttackProof.is refl
+    (λ file. c.print_proof.ensures helpers)
 
 -- it misses no file
 pub returns-in-AttackProof-clause-missed : goal.returns-in-AttackProof-clause-missed
@@ -89,7 +93,8 @@ returns-in-DefendProof-clause-answer g c =
     let old = c.args.self.now in
     done-unloaded (g.L.Loader.contents c.args.files.now) (matcher_of old) (machine_with helpers old) c.args.line.now
     c.print_proof-in-DefendProof.result
-    (machine_with helpers old) c.args.work (work.DefendProof c.in-DefendProof.p) c.in-DefendProof.is refl (λ file. c.print_proof-in-DefendProof.ensures helpers)
+    (machine_with helpers old) c.args.work (work.DefendProof c.in-DefendProof.p) c.in-DefendProof.is refl
+    (λ file. c.print_proof-in-DefendProof.ensures helpers)
 
 -- it misses no file
 pub returns-in-DefendProof-clause-missed : goal.returns-in-DefendProof-clause-missed
@@ -128,7 +133,8 @@ returns-in-Connect-clause-answer g c =
     let old = c.args.self.now in
     done-unloaded (g.L.Loader.contents c.args.files.now) (matcher_of old) (machine_with helpers old) c.args.line.now
     c.tell_link.result
-    (machine_with helpers c.tell_link.new.self) c.args.work (work.Connect c.in-Connect.a c.in-Connect.b) c.in-Connect.is refl (λ file. c.tell_link.ensures.answer helpers)
+    (machine_with helpers c.tell_link.new.self) c.args.work (work.Connect c.in-Connect.a c.in-Connect.b) c.in-Connect.is
+    refl (λ file. c.tell_link.ensures.answer helpers)
 
 -- it misses no file
 pub returns-in-Connect-clause-missed : goal.returns-in-Connect-clause-missed
@@ -146,7 +152,9 @@ returns-in-Disconnect-clause-answer g c =
     let old = c.args.self.now in
     done-unloaded (g.L.Loader.contents c.args.files.now) (matcher_of old) (machine_with helpers old) c.args.line.now
     c.tell_link-in-Disconnect.result
-    (machine_with helpers c.tell_link-in-Disconnect.new.self) c.args.work (work.Disconnect c.in-Disconnect.a c.in-Disconnect.b) c.in-Disconnect.is refl (λ file. c.tell_link-in-Disconnect.ensures.answer helpers)
+    (machine_with helpers c.tell_link-in-Disconnect.new.self) c.args.work
+    (work.Disconnect c.in-Disconnect.a c.in-Disconnect.b) c.in-Disconnect.is refl
+    (λ file. c.tell_link-in-Disconnect.ensures.answer helpers)
 
 -- it misses no file
 pub returns-in-Disconnect-clause-missed : goal.returns-in-Disconnect-clause-missed
@@ -164,7 +172,8 @@ returns-in-GenMove-clause-answer g c =
     let old = c.args.self.now in
     done-unloaded (g.L.Loader.contents c.args.files.now) (matcher_of old) (machine_with helpers old) c.args.line.now
     c.make_move.result
-    (machine_with (states_of (λ z. (goal.Helper-dyn g z).state z.1) c.make_move.new.helpers) c.make_move.new.self) c.args.work (work.GenMove c.in-GenMove.friend) c.in-GenMove.is refl (λ file. c.make_move.ensures.answer)
+    (machine_with (states_of (λ z. (goal.Helper-dyn g z).state z.1) c.make_move.new.helpers) c.make_move.new.self)
+    c.args.work (work.GenMove c.in-GenMove.friend) c.in-GenMove.is refl (λ file. c.make_move.ensures.answer)
 
 -- it misses no file
 pub returns-in-GenMove-clause-missed : goal.returns-in-GenMove-clause-missed
@@ -182,7 +191,8 @@ returns-in-RegGenMove-clause-answer g c =
     let old = c.args.self.now in
     done-unloaded (g.L.Loader.contents c.args.files.now) (matcher_of old) (machine_with helpers old) c.args.line.now
     c.tell_move.result
-    (machine_with (states_of (λ z. (goal.Helper-dyn g z).state z.1) c.tell_move.new.helpers) c.tell_move.new.self) c.args.work (work.RegGenMove c.in-RegGenMove.friend) c.in-RegGenMove.is refl (λ file. c.tell_move.ensures.answer)
+    (machine_with (states_of (λ z. (goal.Helper-dyn g z).state z.1) c.tell_move.new.helpers) c.tell_move.new.self)
+    c.args.work (work.RegGenMove c.in-RegGenMove.friend) c.in-RegGenMove.is refl (λ file. c.tell_move.ensures.answer)
 
 -- it misses no file
 pub returns-in-RegGenMove-clause-missed : goal.returns-in-RegGenMove-clause-missed

@@ -1,5 +1,5 @@
 -- A line is answered at once, or by what was left of it.
-use Rattle.std.proofs.Common.{◌≡◌, sym, ap, subst, ◌∙◌}
+use Rattle.std.proofs.Common.{ap, subst, ◌∙◌}
 use Rattle.gtp_lex.specs.Raw.{raw_line}
 use Rattle.machine_rules.specs.Heard.{heard}
 use Rattle.engine.specs.AnsweredLines.{AnswersLine}

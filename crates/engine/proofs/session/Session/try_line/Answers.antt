@@ -14,7 +14,8 @@ returns-clause-answers g c = λ contents missed.
     let new = kept_with (states_of (λ z. (goal.Helper-dyn g z).state z.1) c.try_answer.new.helpers) missed
     c.try_answer.new.self in
     if_ok_map c.try_answer.result
-    (λ answer is. answers-line-at contents old (raw_line c.args.raw) c.heard-said.result answer new c.bytes_of.result.now
+    (λ answer is. answers-line-at contents old (raw_line c.args.raw) c.heard-said.result answer new
+    c.bytes_of.result.now
     c.bytes_of.ensures (sym (c.heard-said.ensures.said helpers)) is)
     (c.try_answer.ensures.answers missed (file_for contents c.bytes_of.result.now c.heard-said.result))
 
