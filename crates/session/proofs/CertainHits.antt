@@ -14,7 +14,7 @@ use Rattle.match_engine.proofs.RepeatedQuestions.{IsAtHand, IsAtHand-first, IsAt
 use Rattle.match_engine.proofs.RepeatedQuestions.{HasRead-capacity, HasRead-refused}
 use Rattle.machine_rules.specs.Machine.{Machine, position_of}
 use Rattle.engine.specs.SessionState.{SessionState, board_of}
-use Rattle.engine.specs.Kept.{Kept, machine_of}
+use Rattle.engine.specs.Kept.{Kept}
 use Rattle.machine_rules.specs.Counting.{counted, is_read_line}
 use Rattle.machine_rules.specs.Questions.{Asks, Nothing, One, Many, asks_of_line}
 use Rattle.engine.specs.AfterLine.{ReadsAs, ReadsOnce, IsAfterLine}
@@ -79,7 +79,8 @@ unrefused_along : (turns : List (Turn Machine)) (a b : Kept) → IsAlong IsAfter
     → a.engine.counts.refused ≡ 0
 unrefused_along [] a b along none = subst (λ (k : Kept). k.engine.counts.refused ≡ 0) along none
 unrefused_along (turn ∷ turns) a b (mid, first, rest) none =
-    unrefused a.engine mid.engine (asks_of_line turn.machine turn.line) first.read (unrefused_along turns mid b rest none)
+    unrefused a.engine mid.engine (asks_of_line turn.machine turn.line) first.read
+    (unrefused_along turns mid b rest none)
 
 -- as many questions may be kept after some lines as before them
 same_room_along : (turns : List (Turn Machine)) (a b : Kept) → IsAlong IsAfterLine a turns b
@@ -115,7 +116,8 @@ at_hand_along key pos (turn ∷ turns) n a b (mid, first, rest) none room apart 
     let later = still_at_hand a.engine mid.engine key pos n asks (named_in turn.line) first.read
     (Fits-line turn.machine turn.line) here.0
     (unrefused_along turns mid b rest none) (omega (arith, few, count)) room hand in
-    at_hand_along key pos turns later.0 mid b rest none (omega (arith, room, same_room a.engine mid.engine asks first.read)) here.1
+    at_hand_along key pos turns later.0 mid b rest none
+    (omega (arith, room, same_room a.engine mid.engine asks first.read)) here.1
     (omega (arith, few, count, later.1)) later.2
 
 -- what is asked of two machines that are one
@@ -130,9 +132,12 @@ module _ (k0 k new : Kept) (before : List (Turn Machine)) (now : Turn Machine)
       (subst (λ ts. IsAlong IsAfterLine k0 ts k) hit.place along) in
       let a = parts.0 in
       let b = parts.2.0 in
-      let read : ReadsOnce key a.engine b.engine = subst (λ asks. ReadsAs asks a.engine b.engine) hit.asked parts.2.1.read in
-      let again : ReadsOnce key k.engine new.engine = subst (λ asks. ReadsAs asks k.engine new.engine) hit.again line.read in
-      let unrefused_now : k.engine.counts.refused ≡ 0 = unrefused k.engine new.engine (asks_of_line now.machine now.line) line.read none in
+      let read : ReadsOnce key a.engine b.engine =
+      subst (λ asks. ReadsAs asks a.engine b.engine) hit.asked parts.2.1.read in
+      let again : ReadsOnce key k.engine new.engine =
+      subst (λ asks. ReadsAs asks k.engine new.engine) hit.again line.read in
+      let unrefused_now : k.engine.counts.refused ≡ 0 =
+      unrefused k.engine new.engine (asks_of_line now.machine now.line) line.read none in
       let unrefused_then : b.engine.counts.refused ≡ 0 = unrefused_along hit.between b k parts.2.2 unrefused_now in
       let there = board_of a.engine in
       let hand = IsAtHand-first key there read.answer a.engine.readings b.engine.readings read.read read.rest
@@ -161,9 +166,11 @@ module _ (k0 k new : Kept) (before : List (Turn Machine)) (now : Turn Machine)
 -- A line that is counted may be fresh; no other is.
 module _ (old new : Kept) (m : ℕ) where
   -- by what is asked
-  gap_by : (asks : Asks) (counts : Bool) → ((key : Key) → asks ≡ One key → counts ≡ true) → ReadsAs asks old.engine new.engine
+  gap_by : (asks : Asks) (counts : Bool) → ((key : Key) → asks ≡ One key → counts ≡ true)
+      → ReadsAs asks old.engine new.engine
       → new.engine.counts.readings ≡ counted old.engine.counts.readings counts → old.engine.counts.readings + 1 < 2 ^ 64
-      → old.engine.counts.fresh + m ≤ old.engine.counts.readings → (new.engine.counts.fresh + m ≤ new.engine.counts.readings)
+      → old.engine.counts.fresh + m ≤ old.engine.counts.readings
+      → (new.engine.counts.fresh + m ≤ new.engine.counts.readings)
       × (new.engine.counts.readings ≤ old.engine.counts.readings + 1)
   gap_by Nothing counts one read readings small gap =
       let fresh = ap (λ (c : Counts). c.fresh) read.counts in
@@ -186,7 +193,8 @@ module _ (old new : Kept) (m : ℕ) where
 
   -- after a line as many readings are not fresh as before it
   gap_after : (turn : Turn Machine) → IsAfterLine old turn new → old.engine.counts.readings + 1 < 2 ^ 64
-      → old.engine.counts.fresh + m ≤ old.engine.counts.readings → (new.engine.counts.fresh + m ≤ new.engine.counts.readings)
+      → old.engine.counts.fresh + m ≤ old.engine.counts.readings
+      → (new.engine.counts.fresh + m ≤ new.engine.counts.readings)
       × (new.engine.counts.readings ≤ old.engine.counts.readings + 1)
   gap_after turn line small gap =
       gap_by (asks_of_line turn.machine turn.line) (is_read_line turn.machine turn.line)
@@ -196,7 +204,8 @@ module _ (old new : Kept) (m : ℕ) where
 -- n certain hits among the lines leave n readings more that are not fresh
 pub hits_are_kept : (k0 : Kept) (before turns : List (Turn Machine)) (k b : Kept) (m n : ℕ)
     → IsAlong IsAfterLine k0 before k
-    → IsAlong IsAfterLine k turns b → 8 ≤ room_of k0.engine → b.engine.counts.refused ≡ 0 → HaveCertainHits before turns n
+    → IsAlong IsAfterLine k turns b → 8 ≤ room_of k0.engine → b.engine.counts.refused ≡ 0
+    → HaveCertainHits before turns n
     → k.engine.counts.fresh + m ≤ k.engine.counts.readings → k.engine.counts.readings + length turns < 2 ^ 64
     → b.engine.counts.fresh + (m + n) ≤ b.engine.counts.readings
 hits_are_kept k0 before [] k b m n earlier along room none hits gap small =

@@ -42,7 +42,8 @@ pub ServesLines-plain : (patterns : List Pattern) (plies wide capacity : ℕ) (s
     tally
 ServesLines-plain patterns plies wide capacity session slots helpers contents generate before after end tally plain same
     serves =
-    let by_plain = subst (λ k. ServesLines generate (step k contents) (machine_with slots session) before after end tally)
+    let by_plain =
+    subst (λ k. ServesLines generate (step k contents) (machine_with slots session) before after end tally)
     plain.matches serves in
     subst (λ m. ServesLines generate (step (plain_matcher patterns) contents) m before after end tally)
     (plain.machine helpers)

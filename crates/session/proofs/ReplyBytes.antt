@@ -1,7 +1,6 @@
 -- A reply as it is put on the output.
-use Rattle.std.proofs.Common.{◌≡◌, ⊎_elim, ℕ, false, List, [], ◌∷◌, ◌++◌, length, Option, refl, sym, ap, subst, ◌∙◌}
+use Rattle.std.proofs.Common.{◌≡◌, ⊎_elim, ℕ, false, List, [], ◌∷◌, ◌++◌, Option, refl, sym, ap, subst, ◌∙◌}
 use Rattle.std.proofs.Common.{inl, inr}
-use Rattle.std.specs.Io.KnownBytes.{Appends}
 use Rattle.std.proofs.KnownBytes.{Appends-nil}
 use Rattle.gtp_rules.specs.Lines.{RawLine}
 use Rattle.gtp_rules.specs.Steps.{Step}
@@ -36,8 +35,11 @@ module _ (contents : Contents) (old new : Kept) (line : RawLine) (reply : Reply)
   along : (sent : List ℕ) → sent ≡ reply_bytes reply
       → IsAlong IsAfterLine old (one_turn (machine_of old) line sent) new
   along sent same =
-      subst (λ l. IsAlong IsAfterLine old (one_turn (machine_of old) line l) new) (sym same)
-      (new, record { machine = refl; readings = is.readings; read = is.read; links = is.links; missed = is.missed }, refl)
+      subst (λ l. IsAlong IsAfterLine old (one_turn (machine_of old) line l) new) (sym same) (
+        new,
+        record { machine = refl; readings = is.readings; read = is.read; links = is.links; missed = is.missed },
+        refl,
+      )
 
   module _ (w0 w1 : Option (List ℕ)) (s0 s1 : Sent) where
     -- the bytes went out whole

@@ -1,7 +1,7 @@
 -- The counts that a run tells are those of the lines that it answered.
 use Rattle.std.proofs.Common.{◌⊎◌, ⊎_elim}
-use Rattle.std.proofs.Common.{◌≡◌, ℕ, suc, ◌+◌, ◌^◌, ◌<◌, ◌≤◌, Bool, true, false, cond, List, [], ◌∷◌, ◌++◌, length, Option}
-use Rattle.std.proofs.Common.{Some, None, refl, sym, ap, subst, ◌∙◌, arith, inl, inr}
+use Rattle.std.proofs.Common.{◌≡◌, ℕ, suc, ◌+◌, ◌^◌, ◌<◌, ◌≤◌, Bool, true, false, cond, List, [], ◌∷◌, ◌++◌, length}
+use Rattle.std.proofs.Common.{Option, Some, None, refl, sym, ap, subst, ◌∙◌, arith, inl, inr}
 use Rattle.std.specs.Prelude.{◌==◌}
 use Rattle.std.specs.Option.{is_some}
 use Rattle.std.proofs.lemmas.List.{length-append}
@@ -162,7 +162,8 @@ readings_along (turn ∷ turns) a b (mid, first, rest) small =
     omega (arith, counts, here.0, later)
   where
     by : (reads : Bool) → mid.engine.counts.readings ≡ counted a.engine.counts.readings reads
-        → (mid.engine.counts.readings ≡ a.engine.counts.readings + cond reads 1 0) × (mid.engine.counts.readings ≤ a.engine.counts.readings + 1)
+        → (mid.engine.counts.readings ≡ a.engine.counts.readings + cond reads 1 0)
+        × (mid.engine.counts.readings ≤ a.engine.counts.readings + 1)
     by true is = (omega (arith, is, small), omega (arith, is))
     by false is = (omega (arith, is), omega (arith, is))
 
@@ -175,7 +176,8 @@ few_along (turn ∷ turns) a b (mid, first, rest) few =
 
 -- where no reading was fresh, none was before, and no more plays were tried than before
 module _ (turn : Turn Machine) (a b : Kept) (unfresh : b.engine.counts.fresh ≡ 0) where
-  untried_by : (asks : Asks) → ReadsAs asks a.engine b.engine → (a.engine.counts.fresh ≡ 0) × (b.engine.counts.trials ≡ a.engine.counts.trials)
+  untried_by : (asks : Asks) → ReadsAs asks a.engine b.engine
+      → (a.engine.counts.fresh ≡ 0) × (b.engine.counts.trials ≡ a.engine.counts.trials)
   untried_by Nothing read =
       (ap (λ (c : Counts). c.fresh) (sym read.counts) ∙ unfresh, ap (λ (c : Counts). c.trials) read.counts)
   untried_by (One key) read = by b.engine.readings.last read.fresh read.trials
@@ -202,10 +204,12 @@ idle_along : (turns : List (Turn Machine)) (a b : Kept) → IsAlong IsAfterLine 
     → of_readings b.engine.counts ≡ of_readings a.engine.counts
 idle_along [] a b along idle = ap (λ (k : Kept). of_readings k.engine.counts) along
 idle_along (turn ∷ turns) a b (mid, first, rest) idle =
-    let nothing : ReadsNothing a.engine mid.engine = subst (λ asks. ReadsAs asks a.engine mid.engine) (idle 0 turn (omega arith)) first.read in
+    let nothing : ReadsNothing a.engine mid.engine =
+    subst (λ asks. ReadsAs asks a.engine mid.engine) (idle 0 turn (omega arith)) first.read in
     idle_along turns mid b rest (λ k d low. idle (suc k) d (omega (arith, low))) ∙ nothing.counts
 
--- What a line counts of connections, by what it asks about them: it is counted where it asks, and is fresh at most then.
+-- What a line counts of connections, by what it asks about them: it is counted where it asks, and is fresh at most
+-- then.
 module _ (old new : SessionState) where
   -- one more that is fresh, or none
   fresh_by : (q : LinkQuestion) (answer : Linkage) (before after : Keeping LinkKey Linkage)
@@ -245,7 +249,8 @@ links_along [] a b along few small =
     let fresh = ap (λ (k : Kept). k.engine.counts.links.fresh) along in
     (omega (arith, connections), omega (arith, connections, fresh, few))
 links_along (turn ∷ turns) a b (mid, first, rest) few small =
-    let counts = sum_by-cons (λ (t : Turn Machine). cond (is_some (asks_link_of_line t.machine t.line)) 1 0) turn turns in
+    let counts =
+    sum_by-cons (λ (t : Turn Machine). cond (is_some (asks_link_of_line t.machine t.line)) 1 0) turn turns in
     let asks = asks_link_of_line turn.machine turn.line in
     let here = links_by a.engine mid.engine asks first.links few (omega (arith, small)) in
     let one = one-at-most (is_some asks) in
@@ -276,8 +281,8 @@ counts_of capacity first last turns along none kept unasked room few =
     record {
       readings = omega (arith, readings, all);
       fresh = (few_along turns first last along start).few;
-      hits = λ unrefused n hits. (let law = hits_are_kept first [] turns first last 0 n refl along open_room unrefused hits
-          (omega (arith, readings, fresh)) small in omega (arith, law));
+      hits = λ unrefused n hits. (let law = hits_are_kept first [] turns first last 0 n refl along open_room unrefused
+          hits (omega (arith, readings, fresh)) small in omega (arith, law));
       untried = λ unfresh. (untried_along turns first last along unfresh).1 ∙ ap (λ (c : Counts). c.trials) none;
       idle = λ idle. idle_along turns first last along idle ∙ ap of_readings none;
       connections = omega (arith, unlinked, linked.0);

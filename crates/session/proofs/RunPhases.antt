@@ -78,8 +78,8 @@ came-served helpers slots contents options session lines missed now before after
       patterns = opens.patterns;
       opened = opens.opened;
       tally = counting.tally;
-      serves = ServesLines-plain opens.patterns options.depth options.branch options.cache session slots helpers contents
-          options.generate before after end counting.tally opens.plain opens.same counting.serves;
+      serves = ServesLines-plain opens.patterns options.depth options.branch options.cache session slots helpers
+          contents options.generate before after end counting.tally opens.plain opens.same counting.serves;
       names = ends.names
           ∙ missed_along counting.tally.turns (kept_with slots missed session) kept counting.advances.along;
       counted = subst (λ o. AreCounts options.stats options.cache o counting.tally)
@@ -95,8 +95,8 @@ pub came-served-after : (helpers slots : List SlotState) (contents contents' : C
     (before after : Streams) (end : End) (counts : Counts) (w0 w1 : Option (List ℕ)) (sent : Sent)
     (told : Option Counts) (noted : Option Sent)
     (phase : Phase) → contents' ≡ contents → missed' ≡ missed → Opens helpers contents options session slots lines
-    → EndsCounting options.generate (step (matcher_of session) contents') IsAfterLine (machine_with slots session) before
-    after end counts now
+    → EndsCounting options.generate (step (matcher_of session) contents') IsAfterLine (machine_with slots session)
+    before after end counts now
     (progress_of w0 (kept_with slots missed' session) (record { lines = 0; bytes = 0 })) w1 sent
     → told ≡ cond options.stats (Some counts) None → noted ≡ option_map (λ _. sent) options.generate
     → phase ≡ Served end → CameBy helpers options contents missed now before after told noted phase
@@ -191,12 +191,12 @@ pub ends-generated : {M : Type 0} (n : ℕ) (step : M → RawLine → Step M →
     (end : End) (counts : Counts) (missed : List (List ℕ)) (old : Progress) (written : Option (List ℕ)) (sent : Sent)
     (generate : Option ℕ) → generate ≡ Some n → n ≤ 100000 → text ≡ generated_text n → EndsCounting None step goes first
     (record { left = Some text; piece = p; input_faults = f0; written = w0; output_faults = c0 })
-    (record { left = Some rest; piece = last; input_faults = f1; written = w1; output_faults = c1 }) end counts missed old
-    written sent
+    (record { left = Some rest; piece = last; input_faults = f1; written = w1; output_faults = c1 }) end counts missed
+    old written sent
     → EndsCounting generate step goes first
     (record { left = left; piece = piece; input_faults = faults; written = w0; output_faults = c0 })
-    (record { left = left; piece = piece; input_faults = faults; written = w1; output_faults = c1 }) end counts missed old
-    written sent
+    (record { left = left; piece = piece; input_faults = faults; written = w1; output_faults = c1 }) end counts missed
+    old written sent
 ends-generated n step goes first left piece faults w0 w1 c0 c1 f0 f1 p text rest last end counts missed old written sent
     generate some few is ends = record {
       kept = ends.kept;

@@ -486,7 +486,8 @@ module _ (M : Type 0) (step : M → RawLine → Step M → Type 0) (goes : Kept 
     -- where the output may fail after it
     pub stops-line : OnOk result ((stop : Stop) → IsStop w1 s1 b1 stop
         → MayCut step goes from (line ∷ []) w0 kept0 s0 b0 stop missed)
-        → OnOk result ((stop : Stop) → IsStop w1 s1 b1 stop → MayCut step goes from (held ∷ []) w0 kept0 s0 b0 stop missed)
+        → OnOk result ((stop : Stop) → IsStop w1 s1 b1 stop
+        → MayCut step goes from (held ∷ []) w0 kept0 s0 b0 stop missed)
     stops-line stops = subst (λ (l : RawLine). OnOk result ((stop : Stop) → IsStop w1 s1 b1 stop
         → MayCut step goes from (l ∷ []) w0 kept0 s0 b0 stop missed)) (sym same) stops
 

@@ -69,7 +69,8 @@ pub record IsCutOff {M : Type 0} (step : M → RawLine → Step M → Type 0) (f
   pub has_feed : (length cut.before < length (lines_of taken)) ⊎ (IsAtEnd left × (piece ≡ 0))
 
 -- by its end, what a run took and put; left is what the source has left, and piece how many bytes it gave last
-abbrev pub IsRight : {M : Type 0} → (M → RawLine → Step M → Type 0) → M → Option (List ℕ) → List ℕ → List ℕ → ℕ → End → Type 0
+abbrev pub IsRight : {M : Type 0} → (M → RawLine → Step M → Type 0) → M → Option (List ℕ) → List ℕ → List ℕ → ℕ
+    → End → Type 0
 IsRight step first left taken put piece Done = IsReadToEnd step first left taken put piece
     ⊎ IsEnded step first taken put piece
 IsRight step first left taken put piece InputFault = GoesOn step first (lines_of taken) put

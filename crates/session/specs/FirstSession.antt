@@ -26,8 +26,8 @@ use Rattle.run_notes.specs.declared.notes.Counts.{Counts}
 use Rattle.run_notes.specs.declared.notes.Sent.{Sent}
 
 -- the session is the first machine with these helpers, plies and wide plies, its matcher finds the matches of these
--- patterns as the plain one does, it has counted and kept nothing, and may keep this many questions, which are eight and
--- more, and as many about connections
+-- patterns as the plain one does, it has counted and kept nothing, and may keep this many questions, which are eight
+-- and more, and as many about connections
 pub record IsPlainWith (patterns : List Pattern) (plies wide capacity : ℕ) (session : SessionState) : Type 0 where
   pub machine : (helpers : List SlotState) → machine_with helpers session ≡ first_machine helpers plies wide
   pub counts : session.counts ≡ no_counts

@@ -1,6 +1,6 @@
 -- The claim of `run`: by its outcome, what its files are, what it took from its source, put on its output and noted.
-use Rattle.std.specs.Prelude.{◌≡◌, ◌≢◌, ◌⊎◌, ℕ, ◌+◌, ◌<◌, ◌≤◌, Bool, true, false, MatchBool, List, [], ◌++◌, length, Option}
-use Rattle.std.specs.Prelude.{Some, None, IsSomeAnd, MatchOption, Result, Ok, Err, codes}
+use Rattle.std.specs.Prelude.{◌≡◌, ◌≢◌, ◌⊎◌, ℕ, ◌+◌, ◌<◌, ◌≤◌, Bool, true, false, MatchBool, List, [], ◌++◌, length}
+use Rattle.std.specs.Prelude.{Option, Some, None, IsSomeAnd, MatchOption, Result, Ok, Err, codes}
 use Rattle.std.specs.List.{flat_map}
 use Rattle.gtp_io.specs.Outside.{Rose}
 use Rattle.gtp_rules.specs.Lines.{RawLine}
@@ -66,8 +66,8 @@ IsUnopened helpers words contents error =
 
 -- Generated lines were served in place of the source, which stays as it was. They are fewer bytes than the longest
 -- input.
-pub record ServesGenerated {M : Type 0} (n : ℕ) (step : M → RawLine → Step M → Type 0) (first : M) (before after : Streams)
-    (end : End) (tally : Tally M) : Type 0 where
+pub record ServesGenerated {M : Type 0} (n : ℕ) (step : M → RawLine → Step M → Type 0) (first : M)
+    (before after : Streams) (end : End) (tally : Tally M) : Type 0 where
   pub left : after.left ≡ before.left
   pub piece : after.piece ≡ before.piece
   pub input_faults : after.input_faults ≡ before.input_faults
@@ -77,8 +77,8 @@ pub record ServesGenerated {M : Type 0} (n : ℕ) (step : M → RawLine → Step
   pub not_too_long : end ≢ InputTooLong
 
 -- the lines of the source were served, or where so many lines are to be generated, these
-abbrev pub ServesLines : {M : Type 0} → Option ℕ → (M → RawLine → Step M → Type 0) → M → Streams → Streams → End → Tally M
-    → Type 0
+abbrev pub ServesLines : {M : Type 0} → Option ℕ → (M → RawLine → Step M → Type 0) → M → Streams → Streams → End
+    → Tally M → Type 0
 ServesLines None step first before after end tally = Serves step first before after end tally
 ServesLines (Some n) step first before after end tally = ServesGenerated n step first before after end tally
 

@@ -212,8 +212,8 @@ fn put_ran<D: Sink>(notes: &mut D, ran: Ran)
 /// fails, the first fault of the joined files, or a further state ends the run there. Where lines are to be generated
 /// the input is not called, and these lines go through the same loop. Replies of one read wait for each other, up to
 /// some thousand bytes, but none waits while a line is answered that may take long, and no read is made before every
-/// line that has ended is answered and every reply is out. Nothing more is read or answered after the first failure of the
-/// input or the output, after a line that ends the session, and after 2^32 bytes. The notes get the counts and what
+/// line that has ended is answered and every reply is out. Nothing more is read or answered after the first failure of
+/// the input or the output, after a line that ends the session, and after 2^32 bytes. The notes get the counts and what
 /// was sent, where these are asked for, and how the run ended; a failure of the notes changes no outcome.
 pub fn run<L: Loader, S: Source, K: Sink, D: Sink>(
     alloc: Global,

@@ -1,7 +1,6 @@
 -- The automaton accepts the patterns' numbers alone, and by it and the helpers the session is plain.
 use Rattle.std.proofs.Common.{sym, subst}
 use Rattle.dfa_core.specs.States.{IsAutomatonOf}
-use Rattle.helpers.specs.Slots.{states_of}
 use Rattle.engine.specs.SessionState.{NumbersPatterns}
 use Rattle.session.specs.FirstSession.{IsPlainWith}
 use Rattle.session.proofs.MatcherSessions.{plain-first}

@@ -29,7 +29,8 @@ returns-in_ok-put-in-Text-clause-ok g c =
 -- a reply that took memory broke off, or one before it
 pub returns-in_err-put-in-Text-clause-part : goal.returns-in_err-put-in-Text-clause-part
 returns-in_err-put-in-Text-clause-part g c =
-    passed_up c.from_residual-in_err-put-in-Text.result c.in_err-put-in-Text.field-0.0 _ c.from_residual-in_err-put-in-Text.ensures.1
+    passed_up c.from_residual-in_err-put-in-Text.result c.in_err-put-in-Text.field-0.0 _
+    c.from_residual-in_err-put-in-Text.ensures.1
     (may-stop-is _ _ _ _ _ _ _ (c.as_slice-in-Text.ensures ∙ ap reply_bytes (sym c.in-Text.is))
     c.in_err-put-in-Text.ensures.part)
 
@@ -38,11 +39,14 @@ pub returns-in_ok-put-in-NoMemory-clause-ok : goal.returns-in_ok-put-in-NoMemory
 returns-in_ok-put-in-NoMemory-clause-ok g c =
     sends-reply _ _ _ _ _ _ c.args.reply c.args.counts c.as_slice-in-NoMemory.result.now
     (λ none. (let never = sym c.in-NoMemory.is ∙ none in cc))
-    (c.as_slice-in-NoMemory.ensures ∙ c.refusal-text.ensures ∙ ap reply_bytes (sym c.in-NoMemory.is)) c.in_ok-put-in-NoMemory.ensures.ok
+    (c.as_slice-in-NoMemory.ensures ∙ c.refusal-text.ensures ∙ ap reply_bytes (sym c.in-NoMemory.is))
+    c.in_ok-put-in-NoMemory.ensures.ok
 
 -- the refusal in place of a growing reply broke off, or one before it
 pub returns-in_err-put-in-NoMemory-clause-part : goal.returns-in_err-put-in-NoMemory-clause-part
 returns-in_err-put-in-NoMemory-clause-part g c =
-    passed_up c.from_residual-in_err-put-in-NoMemory.result c.in_err-put-in-NoMemory.field-0.0 _ c.from_residual-in_err-put-in-NoMemory.ensures.1
-    (may-stop-is _ _ _ _ _ _ _ (c.as_slice-in-NoMemory.ensures ∙ c.refusal-text.ensures ∙ ap reply_bytes (sym c.in-NoMemory.is))
+    passed_up c.from_residual-in_err-put-in-NoMemory.result c.in_err-put-in-NoMemory.field-0.0 _
+    c.from_residual-in_err-put-in-NoMemory.ensures.1
+    (may-stop-is _ _ _ _ _ _ _
+    (c.as_slice-in-NoMemory.ensures ∙ c.refusal-text.ensures ∙ ap reply_bytes (sym c.in-NoMemory.is))
     c.in_err-put-in-NoMemory.ensures.part)
