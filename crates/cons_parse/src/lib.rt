@@ -22,6 +22,3 @@ pub use calls::Item;
 pub use error::ConsError;
 pub use parsing::parse;
 pub use token::{Name, Token};
-
-#[cfg(test)]
-mod tests;

@@ -11,8 +11,6 @@ mod error;
 mod names;
 mod reader;
 mod stages;
-#[cfg(test)]
-mod tests;
 
 pub use error::DbError;
 pub use reader::read;

@@ -1,7 +1,7 @@
 -- What is told where no helper has the name.
 use Rattle.std.proofs.Common.{◌≡◌, Bool, true, false, cond, List, ℕ, [], ◌∷◌, Option, Some, None, find, option_map}
 use Rattle.std.proofs.Common.{is_some, inl, refl, sym, subst}
-use Rattle.helpers.specs.Asking.{SlotState, has_name, named, change_first, remove_first}
+use Rattle.helpers.specs.HelperStates.{SlotState, has_name, named, change_first, remove_first}
 use Rattle.helpers.proofs.Firsts.{PassesNone, none, other, change_first-none, remove_first-none}
 use Rattle.gtp_cmd.specs.declared.refusals.RefuseText.TheVariants.{NoSuchHelper}
 use Rattle.machine_rules.specs.Machine.{Machine}

@@ -24,10 +24,10 @@ use Rattle.machine_rules.proofs.Soundness.{step-sound, read-heard, link-heard, s
 use Rattle.machine_rules.proofs.WordLines.{parsed_of-none, none-parsed_of}
 use Rattle.engine.specs.AfterLine.{ReadsAs}
 use Rattle.engine.specs.AskedLinks.{LinksAs}
-use Rattle.engine.specs.AnsweredLines.{AnswersParsed, AnswersLine}
+use Rattle.engine.specs.LineAnswers.{AnswersParsed, AnswersLine}
 use Rattle.engine.specs.Kept.{Kept, machine_of}
 use Rattle.engine.specs.Replies.{reply_bytes, reply_ends, reply_count}
-use Rattle.engine.specs.SessionState.{matcher_of}
+use Rattle.engine.specs.EngineView.{matcher_of}
 use Rattle.engine.specs.SlowLines.{command_of, said_by, IsLeft}
 use Rattle.engine.specs.declared.reply.Reply.{Reply}
 use Rattle.engine.specs.declared.reply.Reply.TheVariants as reply

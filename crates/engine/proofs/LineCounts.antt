@@ -17,7 +17,7 @@ use Rattle.match_engine.specs.declared.keys.Key.{Key}
 use Rattle.read_cache.specs.Kept.{HoldsOfEach}
 use Rattle.match_engine.specs.Readings.{ReadingsView, HasRead, Rests}
 use Rattle.machine_rules.specs.Machine.{Machine}
-use Rattle.engine.specs.SessionState.{SessionState, board_of, machine_alone}
+use Rattle.engine.specs.EngineView.{EngineView, board_of, machine_alone}
 use Rattle.machine_rules.specs.Counting.{counted, has_stone, is_read, is_parsed_read, is_read_line}
 use Rattle.machine_rules.specs.ChoiceCommands.{is_full}
 use Rattle.machine_rules.specs.Questions.{Nothing, One, Many, key_at}
@@ -25,7 +25,7 @@ use Rattle.engine.specs.AfterLine.{ReadsAs, ReadsNothing, KeepsCounts, CountsRef
 use Rattle.machine_rules.specs.Questions.{asks_at, asks_of, asks_of_parsed, asks_of_line}
 use Rattle.engine.specs.AfterLine.{HasFewFresh}
 
-module _ (old new : SessionState) where
+module _ (old new : EngineView) where
   -- no reading was made, and so the counts are as before
   nothing-kept : ReadsNothing old new → KeepsCounts old new
   nothing-kept none = record {
@@ -109,7 +109,7 @@ module _ (old new : SessionState) where
     few_fresh-parsed _ readings read few = few-kept (nothing-kept read) few
 
 -- and of the line
-pub counts_kept-line : (machine : Machine) (line : RawLine) (old new : SessionState)
+pub counts_kept-line : (machine : Machine) (line : RawLine) (old new : EngineView)
     → ReadsAs (asks_of_line machine line) old new → (is_read_line machine line ≡ true → ⊥) → KeepsCounts old new
 unfolding asks_of_line is_read_line
 counts_kept-line machine TooLong old new read never = nothing-kept old new read
@@ -117,7 +117,7 @@ counts_kept-line machine (Line text) old new read never =
     counts_kept-parsed old new machine (parsed_of text machine.base.size) read never
 
 -- after any line, too long or not, still no more readings are fresh than the session counted
-pub few_fresh-line : (machine : Machine) (line : RawLine) (old new : SessionState)
+pub few_fresh-line : (machine : Machine) (line : RawLine) (old new : EngineView)
     → new.counts.readings ≡ counted old.counts.readings (is_read_line machine line)
     → ReadsAs (asks_of_line machine line) old new → HasFewFresh old.counts → HasFewFresh new.counts
 unfolding asks_of_line is_read_line
@@ -126,7 +126,7 @@ few_fresh-line machine (Line text) old new readings read few =
     few_fresh-parsed old new machine (parsed_of text machine.base.size) readings read few
 
 -- one call of the readings was made on the board of a session
-module _ (old new : SessionState) (kind : Kind) (p : ℕ) (pos : BoardState) (answer : Answer)
+module _ (old new : EngineView) (kind : Kind) (p : ℕ) (pos : BoardState) (answer : Answer)
     (before after : ReadingsView)
     (board : pos ≡ board_of old) (was : before ≡ old.readings) (plies : before.plies ≡ old.plies)
     (wide : before.wide ≡ old.wide) (is : new.readings ≡ after) where

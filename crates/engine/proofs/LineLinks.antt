@@ -1,6 +1,7 @@
 -- What a line asks of a session's connections, and what is told of that.
 use Rattle.std.proofs.Common.{◌≡◌, ℕ, true, false, cond, List, Option, Some, None, refl, sym, ap, subst, ◌∙◌}
 use Rattle.go_rules.specs.Position.{BoardState, IsPosition}
+use Rattle.helpers.specs.HelperStates.{SlotState}
 use Rattle.link_rules.specs.Linkages.{asked_on, linkage_of}
 use Rattle.link_rules.specs.declared.question.LinkKind.{LinkKind}
 use Rattle.link_rules.specs.declared.question.LinkQuestion.{LinkQuestion}
@@ -15,18 +16,18 @@ use Rattle.machine_rules.specs.Machine.{Machine}
 use Rattle.machine_rules.proofs.Soundness.{linked-told}
 use Rattle.engine.specs.AskedLinks.{LinksAs, LinksNothing, CountsFreshLinks}
 use Rattle.engine.specs.CommandAnswers.{IsAnswer}
-use Rattle.engine.specs.SessionState.{SessionState, board_of, machine_alone}
+use Rattle.engine.specs.EngineView.{EngineView, board_of, machine_alone, machine_with}
 use Rattle.engine.specs.declared.answer.Answer.{Answer}
 use Rattle.engine.specs.declared.answer.Answer.TheVariants as answer
 
 -- where no question about a connection was asked, what is kept and counted of them stays
-pub unasked-links : (old new : SessionState) (asks : Option LinkQuestion) → LinksAs asks old new
+pub unasked-links : (old new : EngineView) (asks : Option LinkQuestion) → LinksAs asks old new
     → ((q : LinkQuestion) → asks ≡ Some q → ⊥) → LinksNothing old new
 unasked-links old new None links never = links
 unasked-links old new (Some q) links never = absurd (never q refl)
 
 -- a question that is refused asks nothing
-pub LinksAs-refused : (session : SessionState) (kind : LinkKind) (a b : ℕ)
+pub LinksAs-refused : (session : EngineView) (kind : LinkKind) (a b : ℕ)
     → have_one_colour (machine_alone session) a b ≡ false
     → LinksAs (asks_link_at (machine_alone session) kind a b) session session
 LinksAs-refused session kind a b apart =
@@ -35,7 +36,7 @@ LinksAs-refused session kind a b apart =
     (record { counts = refl; answers = refl })
 
 -- The connections were asked once on the board of a session, where stones of one colour stand at both points.
-module _ (old new : SessionState) (kind : LinkKind) (a b : ℕ)
+module _ (old new : EngineView) (kind : LinkKind) (a b : ℕ)
     (one : have_one_colour (machine_alone old) a b ≡ true) where
   -- that is what was asked
   pub LinksAs-once : (pos : BoardState) (linkage : Linkage) (before after : ConnectionsView)
@@ -65,20 +66,27 @@ module _ (old new : SessionState) (kind : LinkKind) (a b : ℕ)
       })
 
 -- the answer to a question on the board of a session, at its plies, is that of its machine
-pub linkage-here : (session : SessionState) (kind : LinkKind) (a b : ℕ) (pos : BoardState) (n : ℕ) (linkage : Linkage)
+linkage-here : (session : EngineView) (kind : LinkKind) (a b : ℕ) (pos : BoardState) (n : ℕ) (linkage : Linkage)
     → linkage ≡ linkage_of (asked_on pos kind a b n) pos → pos ≡ board_of session → n ≡ session.plies
     → linkage ≡ linkage_at (machine_alone session) kind a b
 linkage-here session kind a b pos n linkage is board plies =
     is ∙ ap (λ p. linkage_of (asked_on p kind a b n) p) board
     ∙ ap (λ k. linkage_of (asked_on (board_of session) kind a b k) (board_of session)) plies
 
--- where stones of one colour stand at both points, what is told of their strings is an answer
-pub told-linked : (machine : Machine) (kind : LinkKind) (a b : ℕ) (result : List ℕ) (said : Answer) (new : Machine)
-    → have_one_colour machine a b ≡ true → said ≡ answer.Told result
-    → result ≡ linkage_text machine.base.size (linkage_at machine kind a b) → new ≡ machine
-    → IsAnswer (linked machine kind a b) said new
-told-linked machine kind a b result said new one says same keeps =
-    let effect = told (linkage_text machine.base.size (linkage_at machine kind a b)) machine in
+-- where stones of one colour stand at both points of the board of a session, what is told of their linkage there is an
+-- answer, whoever the helpers are
+pub told-linked : (session : EngineView) (helpers : List SlotState) (kind : LinkKind) (a b : ℕ) (pos : BoardState)
+    (n size : ℕ) (linkage : Linkage) (result : List ℕ) (said : Answer) (new : Machine)
+    → have_one_colour (machine_alone session) a b ≡ true → said ≡ answer.Told result
+    → result ≡ linkage_text size linkage → size ≡ pos.size → (board_of session).size ≡ session.base.size
+    → pos ≡ board_of session → n ≡ session.plies → linkage ≡ linkage_of (asked_on pos kind a b n) pos
+    → new ≡ machine_with helpers session → IsAnswer (linked (machine_with helpers session) kind a b) said new
+told-linked session helpers kind a b pos n size linkage result said new one says text is own board plies links keeps =
+    let machine = machine_with helpers session in
+    let effect = told (linkage_text session.base.size (linkage_at machine kind a b)) machine in
+    let same : result ≡ linkage_text session.base.size (linkage_at machine kind a b) =
+    text ∙ ap (λ s. linkage_text s linkage) (is ∙ ap (λ (p : BoardState). p.size) board ∙ own)
+    ∙ ap (linkage_text session.base.size) (linkage-here session kind a b pos n linkage links board plies) in
     subst (λ e. IsAnswer e said new) (sym (linked-told machine kind a b one))
     (subst (λ s. IsAnswer effect s new) (sym says)
     (record { allowed = refl; told = sym same; next = keeps; goes_on = refl }))

@@ -6,62 +6,34 @@ use Rattle.go_rules.specs.Position.{BoardState}
 use Rattle.gtp_cmd.specs.declared.refusals.RefuseText.TheVariants.{OutOfMemory}
 use Rattle.pat_types.specs.declared.pattern.Pattern.{Pattern}
 use Rattle.dfa_core.specs.Automata.{Row}
-use Rattle.helpers.specs.Asking.{SlotState, says_yes}
+use Rattle.helpers.specs.HelperStates.{SlotState, says_yes}
 use Rattle.match_rules.specs.Conditions.{all_yes}
 use Rattle.match_engine.specs.AutomatonMatches.{automaton_matches}
 use Rattle.match_engine.specs.HelperCalls.{after_matches}
 use Rattle.match_engine.specs.Readings.{ReadingsView, codes_at, codes_of}
 use Rattle.machine_rules.specs.Effects.{IsExcused}
 use Rattle.machine_rules.specs.MatchTexts.{matches_text}
-use Rattle.machine_rules.specs.MatchingCommands.{after_asking, matches_found, matches_listed}
+use Rattle.machine_rules.specs.MatchingCommands.{after_asking, matches_listed}
 use Rattle.engine.specs.CommandAnswers.{Succeeds}
-use Rattle.engine.specs.SessionState.{SessionState, board_of, machine_with, matcher_of}
-
--- helpers that were asked by these patterns, rows and readings on this board were asked by what a session keeps
-pub asked-is : (kept : SessionState) (friend : Colour) (patterns : List Pattern) (rows : List Row)
-    (board : BoardState) (readings : ReadingsView) (before after : List SlotState)
-    → patterns ≡ kept.patterns → rows ≡ kept.automaton → board ≡ board_of kept
-    → readings.plies ≡ kept.plies → readings.wide ≡ kept.wide
-    → after ≡ after_matches before patterns (automaton_matches (codes_of readings) all_yes rows patterns board friend)
-    board friend
-    → machine_with after kept ≡ after_asking (matcher_of kept) (machine_with before kept) friend
-asked-is kept friend patterns rows board readings before after same_patterns same_rows same_board plies wide rose =
-    let family : List Pattern → List Row → BoardState → ℕ → ℕ → Type 0 =
-    λ ps r b n k. after ≡ after_matches before ps (automaton_matches (codes_at n k) all_yes r ps b friend) b friend in
-    let here : family kept.patterns kept.automaton (board_of kept) kept.plies kept.wide =
-    subst (λ k. family kept.patterns kept.automaton (board_of kept) kept.plies k) wide
-    (subst (λ n. family kept.patterns kept.automaton (board_of kept) n readings.wide) plies
-    (subst (λ b. family kept.patterns kept.automaton b readings.plies readings.wide) same_board
-    (subst (λ r. family kept.patterns r board readings.plies readings.wide) same_rows
-    (subst (λ ps. family ps rows board readings.plies readings.wide) same_patterns rose)))) in
-    ap (λ helpers. machine_with helpers kept) here
-
--- the text that was made of them lists what a session finds
-text-is : (kept : SessionState) (friend : Colour) (patterns : List Pattern) (rows : List Row)
-    (board : BoardState) (readings : ReadingsView) (before : List SlotState) (text : List ℕ)
-    → patterns ≡ kept.patterns → rows ≡ kept.automaton → board ≡ board_of kept
-    → readings.plies ≡ kept.plies → readings.wide ≡ kept.wide
-    → text ≡ matches_text patterns board.size
-    (automaton_matches (codes_of readings) (says_yes before) rows patterns board friend)
-    → matches_text kept.patterns (board_of kept).size
-    (matches_found (matcher_of kept) (machine_with before kept) friend) ≡ text
-text-is kept friend patterns rows board readings before text same_patterns same_rows same_board plies wide is =
-    let family : List Pattern → List Row → BoardState → ℕ → ℕ → Type 0 =
-    λ ps r b n k. text ≡ matches_text ps b.size (automaton_matches (codes_at n k) (says_yes before) r ps b friend) in
-    let here : family kept.patterns kept.automaton (board_of kept) kept.plies kept.wide =
-    subst (λ k. family kept.patterns kept.automaton (board_of kept) kept.plies k) wide
-    (subst (λ n. family kept.patterns kept.automaton (board_of kept) n readings.wide) plies
-    (subst (λ b. family kept.patterns kept.automaton b readings.plies readings.wide) same_board
-    (subst (λ r. family kept.patterns r board readings.plies readings.wide) same_rows
-    (subst (λ ps. family ps rows board readings.plies readings.wide) same_patterns is)))) in
-    sym here
+use Rattle.engine.specs.EngineView.{EngineView, board_of, machine_with, matcher_of}
 
 -- The matches of a session's patterns were listed by these readings, or there was no memory for that.
-module _ (kept new : SessionState) (friend : Colour) (patterns : List Pattern) (rows : List Row) (board : BoardState)
+module _ (kept new : EngineView) (friend : Colour) (patterns : List Pattern) (rows : List Row) (board : BoardState)
     (readings : ReadingsView) (before after : List SlotState)
     (same_patterns : patterns ≡ kept.patterns) (same_rows : rows ≡ kept.automaton) (same_board : board ≡ board_of kept)
     (plies : readings.plies ≡ kept.plies) (wide : readings.wide ≡ kept.wide)
     (keeps : machine_with after new ≡ machine_with after kept) where
+  -- what is so of these patterns, rows, board and depths is so of what the session keeps
+  of_session : (family : List Pattern → List Row → BoardState → ℕ → ℕ → Type 0)
+      → family patterns rows board readings.plies readings.wide
+      → family kept.patterns kept.automaton (board_of kept) kept.plies kept.wide
+  of_session family is =
+      subst (λ k. family kept.patterns kept.automaton (board_of kept) kept.plies k) wide
+      (subst (λ n. family kept.patterns kept.automaton (board_of kept) n readings.wide) plies
+      (subst (λ b. family kept.patterns kept.automaton b readings.plies readings.wide) same_board
+      (subst (λ r. family kept.patterns r board readings.plies readings.wide) same_rows
+      (subst (λ ps. family ps rows board readings.plies readings.wide) same_patterns is))))
+
   -- what the helpers are after they were asked
   abbrev Asked : Type 0
   Asked = after ≡ after_matches before patterns
@@ -69,8 +41,8 @@ module _ (kept new : SessionState) (friend : Colour) (patterns : List Pattern) (
 
   -- the machine is that after asking
   now-asked : Asked → machine_with after new ≡ after_asking (matcher_of kept) (machine_with before kept) friend
-  now-asked asked = keeps ∙ asked-is kept friend patterns rows board readings before after same_patterns same_rows
-      same_board plies wide asked
+  now-asked asked = keeps ∙ ap (λ helpers. machine_with helpers kept) (of_session (λ ps r b n k. after
+      ≡ after_matches before ps (automaton_matches (codes_at n k) all_yes r ps b friend) b friend) asked)
 
   -- where the text was made, the list is told
   pub listed-told : {T E : Type 0} (view : T → List ℕ) (result : Result T E)
@@ -83,8 +55,8 @@ module _ (kept new : SessionState) (friend : Colour) (patterns : List Pattern) (
   listed-told view (Ok text) is (inr none) = absurd (let same : false ≡ true = none.0 in cc)
   listed-told view (Ok text) is (inl asked) = record {
     allowed = refl;
-    told = text-is kept friend patterns rows board readings before (view text) same_patterns same_rows same_board plies
-        wide is;
+    told = sym (of_session (λ ps r b n k. view text
+        ≡ matches_text ps b.size (automaton_matches (codes_at n k) (says_yes before) r ps b friend)) is);
     next = now-asked asked;
     goes_on = refl;
   }

@@ -58,19 +58,22 @@ missed-told line id (command.LoadSgf span) bytes said told =
     missed-named id (is_utf8 (word_at line span)) (word_at line span) bytes said told
 missed-told line id _ bytes said told = refl
 
--- What a done command's work answered.
-module _ (contents : Contents) (matcher : Matcher) (old : Machine) (line : List ℕ) (said : Answer)
-    (new : Machine) (work done : Work) (is : work ≡ done) (none : load_of line None (command_of done) ≡ None) where
-  -- it loads nothing, and its answer is what it tells
-  pub done-unloaded : ((file : List ℕ) → IsAnswer (effect_of matcher old (record { line = line; file = file })
-      (command_of done)) said new) → IsDone contents matcher old line (command_of work) said new
-  done-unloaded answers = subst (λ (w : Work). IsDone contents matcher old line (command_of w) said new) (sym is)
+-- What was answered to a work that loads nothing.
+module _ {work done : Work} (is : work ≡ done) where
+  -- it is what the command tells
+  pub done-unloaded : (contents : Contents) (matcher : Matcher) (old : Machine) (line : List ℕ) (said : Answer)
+      (new : Machine) → load_of line None (command_of done) ≡ None → ((file : List ℕ)
+      → IsAnswer (effect_of matcher old (record { line = line; file = file }) (command_of done)) said new)
+      → IsDone contents matcher old line (command_of work) said new
+  done-unloaded contents matcher old line said new none answers =
+      subst (λ (w : Work). IsDone contents matcher old line (command_of w) said new) (sym is)
       ([], subst (λ load. IsFileOf contents load []) (sym none) tt, answers [])
 
   -- and it misses nothing
-  pub missed-unloaded : (missed : List (List ℕ))
+  pub missed-unloaded : (line : List ℕ) (said : Answer) (missed : List (List ℕ))
+      → load_of line None (command_of done) ≡ None
       → missed ≡ missed ++ missed_as (load_of line None (command_of work)) said
-  missed-unloaded missed =
+  missed-unloaded line said missed none =
       subst (λ (w : Work). missed ≡ missed ++ missed_as (load_of line None (command_of w)) said) (sym is)
       (subst (λ load. missed ≡ missed ++ missed_as load said) (sym none) (sym (append-nil missed)))
 

@@ -1,8 +1,10 @@
 -- Texts that grow by one number of a range after another.
 use Rattle.std.proofs.Common.{◌≡◌, ℕ, zero, suc, ◌+◌, Bool, true, false, cond, List, [], ◌∷◌, ◌++◌, map, filter, refl}
-use Rattle.std.proofs.Common.{sym, ap, ◌∙◌, append_assoc, append-nil, arith, ◌-◌, slice_index, decimal}
+use Rattle.std.proofs.Common.{sym, ap, ◌∙◌, append_assoc, append-nil, arith, ◌-◌, ◌<◌, ◌≤◌, slice_index, decimal}
 use Rattle.std.proofs.lemmas.List.{map-append}
 use Rattle.std.proofs.lemmas.List.Elements.{filter-append}
+use Rattle.std.specs.Ordering.{nat_cmp}
+use Rattle.std.specs.FinSet as sets
 use Rattle.std.specs.List.{flat_map, join_with_byte, range_with_len}
 use Rattle.std.proofs.lemmas.Grind.{flat_map-append}
 use Rattle.gtp_cmd.specs.Words.{blank}
@@ -73,27 +75,47 @@ vertices_text-next s (q ∷ points) p =
     ∙ sym (append_assoc text (blank ∷ []) vertex)
     ∙ ap (λ b. (text ++ b) ++ vertex) (sym (ap blank_after starts.1))
 
--- The points below n that pass a test, and the point n.
+-- The points below n that pass a test, and the next one, p.
 module _ (s n : ℕ) (test : ℕ → Bool) (text : List ℕ)
     (so_far : text ≡ vertices_text s (filter test (range_with_len 0 n))) where
-  -- the points below n + 1 that pass
-  filter-next : filter test (range_with_len 0 (n + 1)) ≡ filter test (range_with_len 0 n) ++ cond (test n) (n ∷ []) []
-  filter-next = ap (filter test) (range_with_len-next n) ∙ filter-append test (range_with_len 0 n) (n ∷ [])
+  -- the points below a point, of which none from n on passes
+  filter-skip : (k : ℕ) → ((q : ℕ) → n ≤ q → q < n + k → test q ≡ false) → filter test (range_with_len 0 (n + k))
+      ≡ filter test (range_with_len 0 n)
+  filter-skip zero none = ap (λ m. filter test (range_with_len 0 m)) (omega arith)
+  filter-skip (suc k) none =
+      ap (λ m. filter test (range_with_len 0 m)) (omega arith)
+      ∙ ap (filter test) (range_with_len-next (n + k)) ∙ filter-append test (range_with_len 0 (n + k)) ((n + k) ∷ [])
+      ∙ ap (λ b. filter test (range_with_len 0 (n + k)) ++ cond b ((n + k) ∷ []) [])
+      (none (n + k) (omega arith) (omega arith))
+      ∙ append-nil (filter test (range_with_len 0 (n + k)))
+      ∙ filter-skip k (λ q from below. none q from (omega arith))
 
-  -- n passes, and its vertex was put
-  pub vertices-passes : (new : List ℕ) → test n ≡ true → new ≡ (text ++ blank_after text) ++ vertex_text s n → new
-      ≡ vertices_text s (filter test (range_with_len 0 (n + 1)))
-  vertices-passes new passes put =
-      put ∙ ap (λ t. (t ++ blank_after t) ++ vertex_text s n) so_far
-      ∙ sym (vertices_text-next s (filter test (range_with_len 0 n)) n)
-      ∙ ap (vertices_text s) (sym (filter-next ∙ ap
-      (λ b. filter test (range_with_len 0 n) ++ cond b (n ∷ []) []) passes))
+  -- the same, by the last of them
+  filter-upto : (p : ℕ) → n ≤ p → ((q : ℕ) → n ≤ q → q < p → test q ≡ false) → filter test (range_with_len 0 p)
+      ≡ filter test (range_with_len 0 n)
+  filter-upto p from none =
+      let same : n + (p - n) ≡ p = omega (arith, from) in
+      ap (λ m. filter test (range_with_len 0 m)) (sym same)
+      ∙ filter-skip (p - n) (λ q low below. none q low (omega (arith, below, same)))
 
-  -- n does not pass, and nothing was put
-  pub vertices-fails : (new : List ℕ) → test n ≡ false → new ≡ text → new ≡ vertices_text s
-      (filter test (range_with_len 0 (n + 1)))
-  vertices-fails new fails same =
-      same ∙ so_far
-      ∙ ap (vertices_text s) (sym (filter-next ∙ ap
-      (λ b. filter test (range_with_len 0 n) ++ cond b (n ∷ []) []) fails ∙ append-nil
-      (filter test (range_with_len 0 n))))
+  -- p is the next point that passes, and its vertex was put
+  pub vertices-passes : (p : ℕ) (new : List ℕ) → n ≤ p → ((q : ℕ) → n ≤ q → q < p → test q ≡ false) → test p ≡ true
+      → new ≡ (text ++ blank_after text) ++ vertex_text s p → new ≡ vertices_text s (filter test
+      (range_with_len 0 (p + 1)))
+  vertices-passes p new from none passes put =
+      put ∙ ap (λ t. (t ++ blank_after t) ++ vertex_text s p) so_far
+      ∙ sym (vertices_text-next s (filter test (range_with_len 0 n)) p)
+      ∙ ap (vertices_text s) (sym (ap (filter test) (range_with_len-next p)
+      ∙ filter-append test (range_with_len 0 p) (p ∷ [])
+      ∙ ap (λ b. filter test (range_with_len 0 p) ++ cond b (p ∷ []) []) passes
+      ∙ ap (λ l. l ++ p ∷ []) (filter-upto p from none)))
+
+  -- no point below the end passes any more
+  pub vertices-end : (end : ℕ) → n ≤ end → ((q : ℕ) → n ≤ q → q < end → test q ≡ false)
+      → text ≡ vertices_text s (filter test (range_with_len 0 end))
+  vertices-end end from none = so_far ∙ ap (vertices_text s) (sym (filter-upto end from none))
+
+-- the members below a point were put, which is no later than the end
+pub record SoFar (s : ℕ) (points : sets.FinSet nat_cmp) (end next : ℕ) (text : List ℕ) : Type 0 where
+  pub inside : next ≤ end
+  pub text_is : text ≡ vertices_text s (filter (sets.contains points) (range_with_len 0 next))

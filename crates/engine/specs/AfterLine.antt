@@ -1,13 +1,14 @@
 -- What a session has read and counted after a line.
 use Rattle.machine_rules.specs.Questions.{Asks, Nothing, One, Many, asks_of_line}
-use Rattle.std.specs.Prelude.{◌≡◌, ℕ, ◌+◌, ◌-◌, ◌^◌, ◌≤◌, ◌++◌, min, Option, Some, None}
+use Rattle.std.specs.Prelude.{◌≡◌, ℕ, ◌^◌, ◌<◌, ◌≤◌, ◌++◌, Option, Some, None}
 use Rattle.std.specs.Option.{is_some}
 use Rattle.go_rules.specs.Position.{IsPosition}
 use Rattle.match_engine.specs.declared.keys.Key.{Key}
 use Rattle.read_cache.specs.Kept.{HoldsOfEach}
+use Rattle.read_cache.specs.Keeping.{raised}
 use Rattle.match_engine.specs.Readings.{HasRead, Rests}
 use Rattle.machine_rules.specs.Machine.{Machine}
-use Rattle.engine.specs.SessionState.{SessionState, board_of, no_links}
+use Rattle.engine.specs.EngineView.{EngineView, board_of, no_links}
 use Rattle.engine.specs.AskedLinks.{LinksAs}
 use Rattle.machine_rules.specs.LinkQuestions.{asks_link_of_line}
 use Rattle.engine.specs.Kept.{Kept, machine_of}
@@ -15,7 +16,6 @@ use Rattle.machine_rules.specs.Loads.{missed_in}
 use Rattle.machine_rules.specs.Counting.{counted, is_read_line}
 use Rattle.machine_rules.specs.Turns.{Turn}
 use Rattle.read_rules.specs.declared.question.Answer.{Answer}
-use Rattle.std.specs.Prelude.{◌<◌}
 use Rattle.run_notes.specs.declared.notes.Counts.{Counts}
 
 -- what is counted of readings, whatever is counted of connections
@@ -23,24 +23,24 @@ abbrev pub of_readings : Counts → Counts
 of_readings counts = record counts { links = no_links }
 
 -- what is counted of the readings of lines is as before
-pub record KeepsCounts (old new : SessionState) : Type 0 where
+pub record KeepsCounts (old new : EngineView) : Type 0 where
   pub readings : new.counts.readings ≡ old.counts.readings
   pub fresh : new.counts.fresh ≡ old.counts.fresh
   pub trials : new.counts.trials ≡ old.counts.trials
   pub refused : old.counts.refused ≤ new.counts.refused
 
--- a count after the trial plays of a reading, where it was fresh; it stands still at the greatest value of a u64
+-- a count raised by the trial plays of a reading, where it was fresh
 abbrev pub after_trials : ℕ → Option ℕ → ℕ
 after_trials count None = count
-after_trials count (Some n) = min (count + n) (2 ^ 64 - 1)
+after_trials count (Some n) = raised count n
 
 -- the session counts as many refused keepings as its readings
-abbrev pub CountsRefused : SessionState → Type 0
+abbrev pub CountsRefused : EngineView → Type 0
 CountsRefused session = session.counts.refused ≡ session.readings.answers.refused
 
 -- One call of the readings was made, for this question. It counts as fresh, with its trial plays, exactly where the
 -- readings say so. The board is a position, and each kept answer rests on its facts.
-pub record ReadsOnce (key : Key) (old new : SessionState) : Type 0 where
+pub record ReadsOnce (key : Key) (old new : EngineView) : Type 0 where
   pub answer : Answer
   pub read : HasRead key (board_of old) answer old.readings new.readings
   pub board : IsPosition (board_of old)
@@ -52,17 +52,17 @@ pub record ReadsOnce (key : Key) (old new : SessionState) : Type 0 where
 
 -- Any number of readings was made for patterns, none of which counts as that of a line. As many questions may be kept
 -- as before.
-pub record ReadsMany (old new : SessionState) : Type 0 where
+pub record ReadsMany (old new : EngineView) : Type 0 where
   pub counts : KeepsCounts old new
   pub capacity : new.readings.answers.kept.1 ≡ old.readings.answers.kept.1
 
 -- no reading was made, and what is kept stays
-pub record ReadsNothing (old new : SessionState) : Type 0 where
+pub record ReadsNothing (old new : EngineView) : Type 0 where
   pub counts : of_readings new.counts ≡ of_readings old.counts
   pub kept : new.readings.answers.kept ≡ old.readings.answers.kept
 
 -- new is old after the readings that were asked for
-abbrev pub ReadsAs : Asks → SessionState → SessionState → Type 0
+abbrev pub ReadsAs : Asks → EngineView → EngineView → Type 0
 ReadsAs Nothing old new = ReadsNothing old new
 ReadsAs (One key) old new = ReadsOnce key old new
 ReadsAs Many old new = ReadsMany old new

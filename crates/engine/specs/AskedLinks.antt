@@ -6,16 +6,16 @@ use Rattle.link_rules.specs.declared.question.Linkage.{Linkage}
 use Rattle.read_cache.specs.Kept.{HoldsOfEach}
 use Rattle.link_readings.specs.Connections.{HasAsked, Rests}
 use Rattle.machine_rules.specs.Counting.{counted}
-use Rattle.engine.specs.SessionState.{SessionState, board_of}
+use Rattle.engine.specs.EngineView.{EngineView, board_of}
 
 -- the session counts as many fresh connections as those that it keeps
-abbrev pub CountsFreshLinks : SessionState → Type 0
+abbrev pub CountsFreshLinks : EngineView → Type 0
 CountsFreshLinks session = session.counts.links.fresh ≡ session.links.answers.fresh
 
 -- The connections were asked once, this question, and the line is counted. The answer was kept, or it was fresh, and is
 -- kept first or refused; fresh answers are counted exactly where the connections say so. The board is a position, and
 -- each kept answer rests on its facts.
-pub record LinksOnce (question : LinkQuestion) (old new : SessionState) : Type 0 where
+pub record LinksOnce (question : LinkQuestion) (old new : EngineView) : Type 0 where
   pub answer : Linkage
   pub asked : HasAsked (record { question = question }) (board_of old) answer old.links.answers new.links.answers
   pub board : IsPosition (board_of old)
@@ -25,11 +25,11 @@ pub record LinksOnce (question : LinkQuestion) (old new : SessionState) : Type 0
   pub fresh : CountsFreshLinks new
 
 -- nothing was asked of the connections: what is kept and counted of them stays
-pub record LinksNothing (old new : SessionState) : Type 0 where
+pub record LinksNothing (old new : EngineView) : Type 0 where
   pub counts : new.counts.links ≡ old.counts.links
   pub answers : new.links.answers ≡ old.links.answers
 
 -- new is old after the question about a connection that was asked, if one was
-abbrev pub LinksAs : Option LinkQuestion → SessionState → SessionState → Type 0
+abbrev pub LinksAs : Option LinkQuestion → EngineView → EngineView → Type 0
 LinksAs None old new = LinksNothing old new
 LinksAs (Some question) old new = LinksOnce question old new

@@ -1,6 +1,6 @@
 -- Helpers that are handed in.
 use Rattle.std.specs.Prelude.{ℕ, true, List, map}
-use Rattle.helpers.specs.Asking.{HelperState, SlotState}
+use Rattle.helpers.specs.HelperStates.{HelperState, SlotState}
 
 -- the list of helpers that is made of those handed in: all are on
 abbrev pub handed : {B : Type 0} → (B → HelperState) → List B → List SlotState

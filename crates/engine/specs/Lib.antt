@@ -1,10 +1,10 @@
 pub mod AfterLine
-pub mod AnsweredLines
 pub mod AskedLinks
 pub mod CommandAnswers
+pub mod EngineView
 pub mod Handed
 pub mod Kept
+pub mod LineAnswers
 pub mod Replies
-pub mod SessionState
-pub mod SessionSteps
+pub mod SessionView
 pub mod SlowLines

@@ -6,7 +6,7 @@ ghost use Rattle.go_options.specs.Found.{AreInRange};
 ghost use Rattle.go_strings.specs.Games.{reached};
 ghost use Rattle.gtp_cmd.specs.Rooms.{longest_line};
 ghost use Rattle.gtp_cmd.specs.Within.{IsWithin, SaysWithin, IsWithinLine, SaysWithinLine};
-ghost use Rattle.helpers.specs.Asking.{SlotState};
+ghost use Rattle.helpers.specs.HelperStates.{SlotState};
 ghost use Rattle.helpers.specs.Slots.{states_of};
 ghost use Rattle.machine_rules.specs.Counting.{counted, is_read};
 ghost use Rattle.machine_rules.specs.Heard.{heard, bytes_in};
@@ -17,11 +17,11 @@ ghost use Rattle.machine_rules.specs.ProofCommands.{word_of};
 ghost use Rattle.machine_rules.specs.Step.{effect_of};
 ghost use Rattle.engine.specs.AfterLine.{ReadsAs};
 ghost use Rattle.engine.specs.AskedLinks.{LinksAs};
-ghost use Rattle.engine.specs.AnsweredLines.{AnswersParsed};
+ghost use Rattle.engine.specs.LineAnswers.{AnswersParsed};
 ghost use Rattle.engine.specs.CommandAnswers.{IsAnswer, IsDone, missed_as};
 ghost use Rattle.engine.specs.Kept.{kept_with};
-ghost use Rattle.engine.specs.SessionState.{board_of, machine_with, machine_alone, matcher_of, first_kept};
-ghost use Rattle.engine.specs.SessionState.{NumbersPatterns};
+ghost use Rattle.engine.specs.EngineView.{board_of, machine_with, machine_alone, matcher_of, first_kept};
+ghost use Rattle.engine.specs.EngineView.{NumbersPatterns};
 ghost use Rattle.engine.specs.SlowLines.{command_of, said_by, IsLeft};
 
 mod board_commands;
@@ -77,7 +77,7 @@ const NO_COUNTS: ReadingCounts = ReadingCounts {
 /// The size of the board before the first line that says one.
 const FIRST_SIZE: u8 = 19;
 
-/// What a session keeps beside its helpers, seen by contracts as `SessionState`; `machine_of` is the machine that
+/// What a session keeps beside its helpers, seen by contracts as `EngineView`; `machine_of` is the machine that
 /// this is.
 #[derive(Drop)]
 pub struct Engine {
@@ -94,11 +94,11 @@ pub struct Engine {
 
 impl Model for Engine {
     ghost use Rattle.std.specs.Prelude.{◌≡◌};
-    ghost use Rattle.engine.specs.SessionState.{SessionState, NumbersPatterns};
+    ghost use Rattle.engine.specs.EngineView.{EngineView, NumbersPatterns};
     ghost use Rattle.pat_types.specs.contracts.expr.Expr as expr;
     ghost use Rattle.std.specs.Coded.{codes};
 
-    ghost Value = { SessionState };
+    ghost Value = { EngineView };
 
     ghost coded = { Prim.hlevel (codes, expr.the_row.coded) };
 

@@ -1,12 +1,12 @@
 //! Matches as a growing text, one a line.
 ghost use Rattle.std.specs.Prelude.{◌≡◌, ◌⊎◌, ◌*◌, ◌<◌, ◌≤◌, ◌++◌, true, length, slice_get, is_err, OnOk, IfOk};
-ghost use Rattle.helpers.specs.Asking.{says_yes};
+ghost use Rattle.helpers.specs.HelperStates.{says_yes};
 ghost use Rattle.helpers.specs.Slots.{states_of};
 ghost use Rattle.match_engine.specs.AutomatonMatches.{automaton_matches};
 ghost use Rattle.match_engine.specs.HelperCalls.{after_matches};
 ghost use Rattle.match_rules.specs.Conditions.{all_yes};
 ghost use Rattle.match_engine.specs.Readings.{codes_of};
-ghost use Rattle.engine.specs.SessionState.{NumbersPatterns};
+ghost use Rattle.engine.specs.EngineView.{NumbersPatterns};
 ghost use Rattle.machine_rules.specs.MatchTexts.{name_of, match_text, matches_text, AreAmong, SameDepths};
 ghost use Rattle.machine_rules.specs.PatternTexts.{feed_after};
 

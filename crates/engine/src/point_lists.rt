@@ -1,5 +1,7 @@
 //! Points as vertices, in a growing text.
-ghost use Rattle.std.specs.Prelude.{◌≡◌, ◌-◌, ◌*◌, ◌<◌, ◌++◌, ◌∷◌, [], OnOk, IfOk, decimal, slice_index};
+ghost use Rattle.std.specs.Prelude.{◌≡◌, ℕ, ◌-◌, ◌*◌, ◌<◌, ◌≤◌, ◌++◌, ◌∷◌, [], false, OnOk, IfOk, IfSome, IfNone};
+ghost use Rattle.std.specs.Prelude.{IsTrue, decimal, slice_index};
+ghost use Rattle.std.specs.FinSet as set;
 ghost use Rattle.go_strings.specs.Games.{reached};
 ghost use Rattle.gtp_cmd.specs.Vertices.{vertex_text, column_letters};
 ghost use Rattle.machine_rules.specs.PointLists.{in_reading_order, legal_list, liberty_list};
@@ -46,15 +48,28 @@ fn push_next(out: &mut Bytes, size: Size, p: Point) -> Result<(), NoMemory>
     push_vertex(out, size, p)
 }
 
+/// The least member from a point on, None exactly where there is none below the end.
+fn member_below(points: &PointSet, from: u16, end: u16) -> Option<Point>
+    ensures some { IfSome result (λ q. (from ≤ q) × (q < end) × IsTrue (set.contains points.now q)
+        × ((r : ℕ) → from ≤ r → r < q → set.contains points.now r ≡ false)) }
+    ensures none { IfNone result ((r : ℕ) → from ≤ r → r < end → set.contains points.now r ≡ false) }
+{
+    match points.first_from(from) {
+        Some(q) => if q < end { Some(q) } else { None },
+        None => None,
+    }
+}
+
 /// The points of a set as vertices in reading order.
 fn points_text(alloc: Global, size: Size, points: &PointSet) -> Result<Bytes, NoMemory>
     ensures { IfOk result (λ text. text ≡ vertices_text size (in_reading_order size points.now)) }
 {
     let mut text = Bytes::new(alloc);
-    for p in 0..size.points() {
-        if points.has(p) {
-            push_next(&mut text, size, p)?;
-        }
+    let end = size.points();
+    let mut next = 0;
+    while let Some(p) = member_below(points, next, end) {
+        push_next(&mut text, size, p)?;
+        next = p + 1;
     }
     Ok(text)
 }

@@ -7,9 +7,9 @@ ghost use Rattle.go_options.specs.Found.{AreInRange};
 ghost use Rattle.machine_rules.specs.Files.{Contents};
 ghost use Rattle.machine_rules.specs.Heard.{heard, bytes_in};
 ghost use Rattle.engine.specs.SlowLines.{said_by, IsLeft};
-ghost use Rattle.engine.specs.AnsweredLines.{AnswersLine};
-ghost use Rattle.engine.specs.SessionState.{first_kept, matcher_of, NumbersPatterns};
-ghost use Rattle.engine.specs.SessionSteps.{machine_now, kept_of};
+ghost use Rattle.engine.specs.LineAnswers.{AnswersLine};
+ghost use Rattle.engine.specs.EngineView.{first_kept, matcher_of, NumbersPatterns};
+ghost use Rattle.engine.specs.SessionView.{machine_now, kept_of};
 
 use crate::engine::Engine;
 use crate::reply::Reply;

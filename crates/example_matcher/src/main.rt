@@ -2,7 +2,7 @@
 #![tactic(auto)]
 
 ghost use Rattle.std.specs.Prelude.{◌≡◌, ◌≤◌, IfOk, length};
-ghost use Rattle.helpers.specs.Asking.{says_yes};
+ghost use Rattle.helpers.specs.HelperStates.{says_yes};
 ghost use Rattle.helpers.specs.Slots.{states_of};
 ghost use Rattle.match_engine.specs.Readings.{codes_of};
 ghost use Rattle.match_rules.specs.Match.{matches_of};

@@ -33,6 +33,3 @@ pub use points::PointSet;
 pub use position::Position;
 pub use size::{Point, Size};
 pub use transform::Transform;
-
-#[cfg(test)]
-mod tests;

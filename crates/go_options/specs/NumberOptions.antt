@@ -1,6 +1,7 @@
 -- The options that have a number: each stands here once, with its name, its range and its default.
 use Rattle.std.specs.Prelude.{ℕ, Option, Some, None, codes}
 use Rattle.clap.specs.Walk.{Text}
+use Rattle.read_rules.specs.Ranges.{least_plies, most_plies, most_wide}
 
 -- an option of this name has a number from the least to the greatest, and this text stands where it is not given
 pub record NumberOption : Type 0 where
@@ -11,11 +12,11 @@ pub record NumberOption : Type 0 where
 
 -- how many plies a reading goes deep
 abbrev pub depth_option : NumberOption
-depth_option = record { name = codes "depth"; least = 1; greatest = 200; default = Some (codes "10") }
+depth_option = record { name = codes "depth"; least = least_plies; greatest = most_plies; default = Some (codes "10") }
 
 -- how many plies of a reading look wide
 abbrev pub branch_option : NumberOption
-branch_option = record { name = codes "branch"; least = 0; greatest = 12; default = Some (codes "2") }
+branch_option = record { name = codes "branch"; least = 0; greatest = most_wide; default = Some (codes "2") }
 
 -- how many questions are kept at most
 abbrev pub cache_option : NumberOption

@@ -3,10 +3,11 @@ ghost use Rattle.std.specs.Prelude.{◌≡◌, false, IfOk};
 ghost use Rattle.clap.specs.Simple.{app_of};
 ghost use Rattle.clap.specs.Walk.{rule_of};
 ghost use Rattle.go_options.specs.CommandLine.{bare_command, command_line, default_rule, flag_rule, option_rule};
-ghost use Rattle.go_options.specs.CommandLine.{words_rule};
+ghost use Rattle.go_options.specs.CommandLine.{whole_from, words_rule};
 
 use clap::builder::ValueParser;
 use clap::{Arg, ArgAction, Command, value_parser};
+use read_rules::{MAX_PLIES, MAX_WIDE, MIN_PLIES};
 use std::alloc::{AllocError, Global};
 
 /// An option that has one value.
@@ -26,6 +27,13 @@ fn option_or<'a>(alloc: Global, name: &'a str, values: ValueParser<'a>, text: &'
     ensures local { result.global ≡ false }
 {
     option(alloc, name, values).default_value(text)
+}
+
+/// The whole numbers from low to high, of one byte each.
+fn bytes_from<'a>(low: u8, high: u8) -> ValueParser<'a>
+    ensures { result ≡ whole_from low high }
+{
+    value_parser!(u8).range(i64::from(low)..=i64::from(high))
 }
 
 /// A flag.
@@ -60,8 +68,8 @@ fn bare<'a>(alloc: Global, name: &'a str) -> Command<'a>
 pub(crate) fn command<'a>(alloc: Global) -> Result<Command<'a>, AllocError>
     ensures { IfOk result (λ c. app_of c ≡ command_line) }
 {
-    let depth = option_or(alloc, "depth", value_parser!(u8).range(1..=200), "10");
-    let branch = option_or(alloc, "branch", value_parser!(u8).range(0..=12), "2");
+    let depth = option_or(alloc, "depth", bytes_from(MIN_PLIES, MAX_PLIES), "10");
+    let branch = option_or(alloc, "branch", bytes_from(0, MAX_WIDE), "2");
     let cache = option_or(alloc, "cache", value_parser!(u32).range(8..=65_536), "4096");
     let states = option_or(
         alloc,

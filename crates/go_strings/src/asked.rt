@@ -1,7 +1,7 @@
 //! What is told of a point by the strings that are kept.
 
 ghost use Rattle.std.specs.Prelude.{◌≡◌, ◌*◌, ◌<◌, MatchOption};
-ghost use Rattle.go_rules.specs.Strings.{cell_at, string_at, liberty_points};
+ghost use Rattle.go_rules.specs.Strings.{cell_at, string_at, liberty_points, liberties};
 ghost use Rattle.go_strings.specs.Named.{IsStringOf};
 ghost use Rattle.go_strings.specs.Stands.{cells_of, Stands};
 
@@ -47,5 +47,17 @@ pub fn liberties_at(now: &Standing, strings: &[KeptString], p: Point) -> PointSe
     match kept_string_at(now, strings, p) {
         Some(string) => points_of(&string.liberties),
         None => PointSet::new(),
+    }
+}
+
+/// How many liberties the string at p has, 0 where p is empty. They are counted where they stand.
+pub fn liberty_count(now: &Standing, strings: &[KeptString], p: Point) -> u16
+    requires stands { Stands now.now.board now.now.names strings.now }
+    requires on_board { p < now.now.board.size * now.now.board.size }
+    ensures { result ≡ liberties now.now.board.size (cells_of now.now.board) p }
+{
+    match kept_string_at(now, strings, p) {
+        Some(string) => string.liberties.count(),
+        None => 0,
     }
 }

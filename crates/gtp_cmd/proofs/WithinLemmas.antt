@@ -8,6 +8,7 @@ use Rattle.std.proofs.lemmas.Nat.{mul-add-lt}
 use Rattle.std.proofs.lemmas.Bool.Decides.{nat_tests}
 use Rattle.go_rules.specs.declared.Colour.{Colour}
 use Rattle.go_rules.specs.Board.{point_at}
+use Rattle.read_rules.specs.Ranges.{least_plies, most_plies, most_wide, AreDepths}
 use Rattle.gtp_cmd.specs.Words.{number_of}
 use Rattle.gtp_cmd.specs.Vertices.{vertex_of, point_of, column_named, row_number_of, target_of}
 use Rattle.gtp_cmd.specs.Colours.{colour_of}
@@ -15,14 +16,14 @@ use Rattle.gtp_cmd.specs.Komi.{komi_of}
 use Rattle.gtp_cmd.specs.declared.arguments.Claim.{Claim}
 use Rattle.gtp_cmd.specs.Spans.{first_span, whole_span}
 use Rattle.gtp_cmd.specs.declared.spans.Span.{Span}
-use Rattle.gtp_cmd.specs.Commands.{first_argument, known_of, size_of, move_of, number_between, most_plies, most_wide}
+use Rattle.gtp_cmd.specs.Commands.{first_argument, known_of, size_of, move_of, number_between}
 use Rattle.gtp_cmd.specs.Commands.{depths_of, command_of, named, asked, called, said, is_attack_of, code_of, claim_of, greatest_code}
 use Rattle.gtp_cmd.specs.Commands.{points_of}
 use Rattle.gtp_cmd.specs.declared.commands.CommandName.{CommandName}
 use Rattle.gtp_cmd.specs.declared.commands.CommandName.TheVariants as name
 use Rattle.gtp_cmd.specs.declared.commands.Command.{Command}
 use Rattle.gtp_cmd.specs.declared.commands.Command.TheVariants as command
-use Rattle.gtp_cmd.specs.Within.{IsPointOf, AreDepths, IsWithin, SaysWithin}
+use Rattle.gtp_cmd.specs.Within.{IsPointOf, IsWithin, SaysWithin}
 
 -- where a fact of a value gives one of what is made of it, it does so too where the value may be missing
 pub if_some-map : {X Y : Type 0} (f : X → Y) (P : X → Type 0) (Q : Y → Type 0) (o : Option X) → ((x : X) → P x → Q (f x))
@@ -108,7 +109,7 @@ between-within low high word =
     ]
 
 -- two numbers in their ranges are depths
-both-within : (plies wide : Option ℕ) → IfSome plies (λ n. (1 ≤ n) × (n ≤ most_plies))
+both-within : (plies wide : Option ℕ) → IfSome plies (λ n. (least_plies ≤ n) × (n ≤ most_plies))
     → IfSome wide (λ k. (0 ≤ k) × (k ≤ most_wide))
     → IfSome {T = ℕ × ℕ} (option_and_then (λ n. option_map (λ k. (n, k)) wide) plies) (λ d. AreDepths d.0 d.1)
 both-within None wide some few = tt
@@ -120,8 +121,8 @@ depths_of-within : (words : List (List ℕ)) → IfSome (depths_of words) (λ d.
 depths_of-within [] = tt
 depths_of-within (plies ∷ []) = tt
 depths_of-within (plies ∷ wide ∷ more) =
-    both-within (number_between 1 most_plies plies) (number_between 0 most_wide wide)
-    (between-within 1 most_plies plies) (between-within 0 most_wide wide)
+    both-within (number_between least_plies most_plies plies) (number_between 0 most_wide wide)
+    (between-within least_plies most_plies plies) (between-within 0 most_wide wide)
 
 -- a claim is of a point of the board and of a code
 abbrev ClaimWithin : ℕ → Claim → Type 0

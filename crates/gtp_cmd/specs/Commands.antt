@@ -6,6 +6,7 @@ use Rattle.std.specs.Option.{option_map, option_and_then}
 use Rattle.std.specs.Str.{bytes_eq}
 use Rattle.go_rules.specs.declared.Colour.{Colour}
 use Rattle.go_rules.specs.Board.{smallest_size, largest_size}
+use Rattle.read_rules.specs.Ranges.{least_plies, most_plies, most_wide}
 use Rattle.gtp_cmd.specs.Words.{cleaned, words_of, number_of, id_of, line_feed}
 use Rattle.gtp_cmd.specs.Vertices.{vertex_of, target_of}
 use Rattle.gtp_cmd.specs.Colours.{colour_of}
@@ -101,14 +102,6 @@ abbrev pub number_between : ℕ → ℕ → List ℕ → Option ℕ
 number_between low high word =
     option_and_then (λ n. if nat_le low n && nat_le n high then Some n else None) (number_of word)
 
--- the greatest number of plies that a reading may have
-abbrev pub most_plies : ℕ
-most_plies = 200
-
--- the greatest number of wide plies that a reading may have
-abbrev pub most_wide : ℕ
-most_wide = 12
-
 -- the greatest code that a reading answers
 abbrev pub greatest_code : ℕ
 greatest_code = 3
@@ -117,7 +110,7 @@ greatest_code = 3
 abbrev pub depths_of : List (List ℕ) → Option (ℕ × ℕ)
 depths_of (plies ∷ wide ∷ more) =
     option_and_then (λ n. option_map (λ k. (n, k)) (number_between 0 most_wide wide))
-    (number_between 1 most_plies plies)
+    (number_between least_plies most_plies plies)
 depths_of _ = None
 
 -- whether a proof is of an attack: `attack` says so, and `defend` that it is of a defence

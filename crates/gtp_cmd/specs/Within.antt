@@ -1,6 +1,7 @@
 -- Commands whose points lie on the board, whose depths lie in their ranges and whose spans lie in the line.
 use Rattle.std.specs.Prelude.{ℕ, ◌*◌, ◌<◌, ◌≤◌, List, Option, IfSome}
-use Rattle.gtp_cmd.specs.Commands.{most_plies, most_wide, greatest_code}
+use Rattle.read_rules.specs.Ranges.{AreDepths}
+use Rattle.gtp_cmd.specs.Commands.{greatest_code}
 use Rattle.gtp_cmd.specs.Spans.{IsSpanOf}
 use Rattle.gtp_cmd.specs.declared.commands.Command.{Command}
 use Rattle.gtp_cmd.specs.declared.commands.Command.TheVariants as command
@@ -10,10 +11,6 @@ use Rattle.gtp_cmd.specs.declared.commands.Parsed.TheVariants as parsed
 -- the point, where there is one, lies on a board of size s
 abbrev pub IsPointOf : ℕ → Option ℕ → Type 0
 IsPointOf s at = IfSome at (λ p. p < s * s)
-
--- a reading may have this many plies, and this many of them wide
-abbrev pub AreDepths : ℕ → ℕ → Type 0
-AreDepths plies wide = (0 < plies) × (plies ≤ most_plies) × (wide ≤ most_wide)
 
 -- each point of the command lies on a board of size s, and each depth and code in its range
 abbrev pub IsWithin : ℕ → Command → Type 0

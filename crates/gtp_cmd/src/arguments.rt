@@ -10,15 +10,10 @@ ghost use Rattle.gtp_cmd.specs.Commands.{code_of, claim_of, points_of};
 
 use go_base::size::MAX_SIZE;
 use go_base::{Colour, Point, Size};
+use read_rules::{MAX_PLIES, MAX_WIDE, MIN_PLIES};
 use vertices::{
     byte_count, next_word, number, spells, spells_in_either_case, target_named, vertex_named,
 };
-
-/// The greatest number of plies that a reading may have.
-const MAX_PLIES: u8 = 200;
-
-/// The greatest number of wide plies that a reading may have.
-const MAX_WIDE: u8 = 12;
 
 /// The greatest code that a reading answers.
 const GREATEST_CODE: u8 = 3;
@@ -85,7 +80,7 @@ pub fn depths(text: &[u8]) -> Option<(u8, u8)>
 {
     let (first, more) = next_word(text)?;
     let (second, _) = next_word(more)?;
-    let plies = number_between(1, MAX_PLIES, first)?;
+    let plies = number_between(MIN_PLIES, MAX_PLIES, first)?;
     let wide = number_between(0, MAX_WIDE, second)?;
     Some((plies, wide))
 }

@@ -123,9 +123,9 @@ pub enum Command {
     Defend(Point),
     /// How deep readings go.
     Depths {
-        /// The plies, from 1 to 200.
+        /// The plies, from `MIN_PLIES` to `MAX_PLIES` of `read_rules`.
         plies: u8,
-        /// The wide plies, from 0 to 12.
+        /// The wide plies, from 0 to `MAX_WIDE`.
         wide: u8,
     },
     /// Asks for the matches of the patterns for a colour.

@@ -100,8 +100,8 @@ fn keep(bytes: &mut Vec<u8>, text: &[u8])
     bytes.extend_from_slice(&text[..count]).unwrap();
 }
 
-// What is told of the line of a text.
-fn told(text: &[u8]) -> Taken
+// What is taken for the line of a text.
+fn line_taken(text: &[u8]) -> Taken
     ensures { result ≡ taken_of (line_of text.now) }
 {
     if text.len() > LONGEST_LINE {
@@ -156,7 +156,7 @@ impl Lines {
     {
         if self.phase == Phase::Full {
             self.phase = Phase::Given;
-            Some(told(&self.bytes))
+            Some(line_taken(&self.bytes))
         } else {
             None
         }
@@ -173,7 +173,7 @@ impl Lines {
             None
         } else {
             self.phase = Phase::Given;
-            Some(told(&self.bytes))
+            Some(line_taken(&self.bytes))
         }
     }
 

@@ -6,16 +6,6 @@ use Rattle.gtp_rules.specs.Steps.{Step}
 use Rattle.gtp_rules.specs.Transcript.{Answers, IsTotal, IsRun, IsTranscript, Cut}
 
 module _ (M : Type 0) (step : M → RawLine → Step M → Type 0) where
-  -- no lines are answered by nothing
-  pub IsRun-nil : (m : M) → IsRun step m [] [] m false
-  IsRun-nil m = (refl, refl, refl)
-
-  -- one line that is answered is a run
-  pub IsRun-one : (old : M) (line : RawLine) (out : List ℕ) (new : M) (ends : Bool) → Answers step old line out new ends
-      → IsRun step old (line ∷ []) out new ends
-  IsRun-one old line out new true a = (out, [], new, true, a, sym (append-nil out), (refl, refl, refl))
-  IsRun-one old line out new false a = (out, [], new, false, a, sym (append-nil out), (refl, refl, refl))
-
   -- a run that has not ended, and one that goes on from its machine, are a run
   pub IsRun-append : (old : M) (xs ys : List RawLine) (a b : List ℕ) (mid new : M) (ended : Bool)
       → IsRun step old xs a mid false → IsRun step mid ys b new ended → IsRun step old (xs ++ ys) (a ++ b) new ended
@@ -34,19 +24,31 @@ module _ (M : Type 0) (step : M → RawLine → Step M → Type 0) where
     IsRun-append m xs ys rest b mid new ended h q,
   )
 
-  -- after the line that ends the session nothing is answered
-  pub IsRun-ended : (old : M) (xs ys : List RawLine) (a : List ℕ) (new : M) → IsRun step old xs a new true
-      → IsRun step old (xs ++ ys) a new true
-  IsRun-ended old [] ys a new p = absurd (let e = p.2 in cc)
-  IsRun-ended old (x ∷ xs) ys a new (first, rest, m, true, answers, joined, h) =
-      (first, rest, m, true, answers, joined, h)
-  IsRun-ended old (x ∷ xs) ys a new (first, rest, m, false, answers, joined, h) =
-      (first, rest, m, false, answers, joined, IsRun-ended m xs ys rest new h)
+  -- a cut in the first of some lines
+  abbrev pub Cut-one : (from : M) (line : RawLine) (more lines : List RawLine) (part missing : List ℕ) (next : M)
+      (ends : Bool) → lines ≡ line ∷ more → Answers step from line (part ++ missing) next ends → 0 < length missing
+      → Cut step from lines part
+  Cut-one from line more lines part missing next ends place answers proper = record {
+    before = [];
+    line = line;
+    after = more;
+    whole = [];
+    part = part;
+    missing = missing;
+    mid = from;
+    next = next;
+    ends = ends;
+    place = place;
+    answered = (refl, refl, refl);
+    reply = answers;
+    proper = proper;
+    out = refl;
+  }
 
   -- a cut in the later lines, after a run of the earlier ones
-  abbrev pub Cut-after : (old : M) (xs ys : List RawLine) (a b : List ℕ) (mid : M) → IsRun step old xs a mid false
-      → Cut step mid ys b → Cut step old (xs ++ ys) (a ++ b)
-  Cut-after old xs ys a b mid run cut = record {
+  abbrev pub Cut-after : (old : M) (xs ys lines : List RawLine) (a b : List ℕ) (mid : M) → lines ≡ xs ++ ys
+      → IsRun step old xs a mid false → Cut step mid ys b → Cut step old lines (a ++ b)
+  Cut-after old xs ys lines a b mid same run cut = record {
     before = xs ++ cut.before;
     line = cut.line;
     after = cut.after;
@@ -56,7 +58,7 @@ module _ (M : Type 0) (step : M → RawLine → Step M → Type 0) where
     mid = cut.mid;
     next = cut.next;
     ends = cut.ends;
-    place = ap (λ l. xs ++ l) cut.place ∙ sym (append_assoc xs cut.before (cut.line ∷ cut.after));
+    place = same ∙ ap (λ l. xs ++ l) cut.place ∙ sym (append_assoc xs cut.before (cut.line ∷ cut.after));
     answered = IsRun-append old xs cut.before a cut.whole mid cut.mid false run cut.answered;
     reply = cut.reply;
     proper = cut.proper;
@@ -64,8 +66,9 @@ module _ (M : Type 0) (step : M → RawLine → Step M → Type 0) where
   }
 
   -- a cut in the earlier of some lines
-  abbrev pub Cut-more : (old : M) (xs ys : List RawLine) (a : List ℕ) → Cut step old xs a → Cut step old (xs ++ ys) a
-  Cut-more old xs ys a cut = record {
+  abbrev pub Cut-more : (old : M) (xs ys lines : List RawLine) (a : List ℕ) → lines ≡ xs ++ ys → Cut step old xs a
+      → Cut step old lines a
+  Cut-more old xs ys lines a same cut = record {
     before = cut.before;
     line = cut.line;
     after = cut.after ++ ys;
@@ -75,7 +78,7 @@ module _ (M : Type 0) (step : M → RawLine → Step M → Type 0) where
     mid = cut.mid;
     next = cut.next;
     ends = cut.ends;
-    place = ap (λ l. l ++ ys) cut.place ∙ append_assoc cut.before (cut.line ∷ cut.after) ys;
+    place = same ∙ ap (λ l. l ++ ys) cut.place ∙ append_assoc cut.before (cut.line ∷ cut.after) ys;
     answered = cut.answered;
     reply = cut.reply;
     proper = cut.proper;

@@ -5,7 +5,7 @@ use Rattle.go_rules.specs.declared.Illegal.{Illegal}
 use Rattle.go_rules.specs.Position.{BoardState}
 use Rattle.go_rules.specs.Play.{play}
 use Rattle.go_rules.specs.Strings.{liberties}
-use Rattle.helpers.specs.Asking.{HelperState}
+use Rattle.helpers.specs.HelperStates.{HelperState}
 
 -- the play is legal, and the string of the point has at least two liberties after it
 abbrev pub keeps_two : Result BoardState Illegal → ℕ → Bool

@@ -7,8 +7,8 @@ use Rattle.std.specs.Str.{bytes_eq}
 use Rattle.std.proofs.lemmas.Bool.{or_parts, or_from}
 use Rattle.go_rules.specs.declared.Colour.{Colour}
 use Rattle.go_rules.specs.Position.{BoardState}
-use Rattle.helpers.specs.Asking.{HelperState, SlotState, asked, has_name, named, slot_says, slot_asked, says_yes}
-use Rattle.helpers.specs.Asking.{change_first, after_asking}
+use Rattle.helpers.specs.HelperStates.{HelperState, SlotState, asked, has_name, named, slot_says, slot_asked, says_yes}
+use Rattle.helpers.specs.HelperStates.{change_first, after_asking}
 use Rattle.helpers.specs.Agreement.{slot_on, is_on, asked_often, slot_asked_often, raised_from, raised}
 use Rattle.helpers.proofs.Times.{same_name, itself, bytes_eq-false}
 

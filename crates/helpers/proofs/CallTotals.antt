@@ -7,7 +7,7 @@ use Rattle.std.proofs.lemmas.List.{take_more, map-append}
 use Rattle.std.proofs.lemmas.List.Sums.{sum_by-append}
 use Rattle.go_rules.specs.declared.Colour.{Colour}
 use Rattle.go_rules.specs.Position.{BoardState}
-use Rattle.helpers.specs.Asking.{SlotState, says_yes}
+use Rattle.helpers.specs.HelperStates.{SlotState, says_yes}
 use Rattle.helpers.specs.Agreement.{is_on, times_asked, all_say_yes, asks_of, raised, IsAskedFor}
 use Rattle.helpers.specs.Totals.{asks_over}
 use Rattle.helpers.proofs.CallCounts.{raised-cong, raised-zero, raised-add, says_yes-raised, is_on-raised}

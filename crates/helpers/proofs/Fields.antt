@@ -8,7 +8,7 @@ use Rattle.std.proofs.lemmas.List.{take_more, take-append-drop}
 use Rattle.go_rules.specs.declared.Colour.{Colour}
 use Rattle.go_rules.specs.Position.{BoardState}
 use Rattle.pat_types.specs.declared.pattern.Item.{Item}
-use Rattle.helpers.specs.Asking.{SlotState, says_yes, after_asking}
+use Rattle.helpers.specs.HelperStates.{SlotState, says_yes, after_asking}
 use Rattle.helpers.specs.Fields.{names_helper, helper_names}
 use Rattle.helpers.specs.Agreement.{all_say_yes, asks_of, raised, IsAskedFor}
 use Rattle.helpers.proofs.Names.{helper_names-append, helper_names-named, helper_names-other}

@@ -6,7 +6,7 @@ use Rattle.std.specs.List.{position_from}
 use Rattle.std.proofs.lemmas.List.{drop_more, drop_all, map-append}
 use Rattle.std.proofs.lemmas.Option.{same_Some}
 use Rattle.std.specs.List.{take-map, drop-map}
-use Rattle.helpers.specs.Asking.{change_first, remove_first}
+use Rattle.helpers.specs.HelperStates.{change_first, remove_first}
 
 -- the n-th element passes the test, and none before it does
 pub data IsFirst {X : Type 0} (test : X → Bool) : List X → ℕ → Type 0 where

@@ -5,7 +5,7 @@ use Rattle.std.proofs.Common.{sym, ap, subst, ◌∙◌, arith}
 use Rattle.std.specs.List.{position_from}
 use Rattle.std.proofs.lemmas.List.{map-set}
 use Rattle.std.proofs.Math.ListN.{get_or-map}
-use Rattle.helpers.specs.Asking.{HelperState, SlotState, has_name, named, change_first, remove_first}
+use Rattle.helpers.specs.HelperStates.{HelperState, SlotState, has_name, named, change_first, remove_first}
 use Rattle.helpers.proofs.Firsts.{IsFirst, found, missed, find-first, find-none, change_first-first, change_first-none}
 use Rattle.helpers.proofs.Firsts.{remove_first-first, remove_first-none, map-remove}
 

@@ -7,7 +7,7 @@ use Rattle.std.specs.Str.{bytes_eq}
 use Rattle.std.proofs.lemmas.List.Folds.{list_all-append}
 use Rattle.go_rules.specs.declared.Colour.{Colour}
 use Rattle.go_rules.specs.Position.{BoardState}
-use Rattle.helpers.specs.Asking.{SlotState, says_yes, after_asking}
+use Rattle.helpers.specs.HelperStates.{SlotState, says_yes, after_asking}
 use Rattle.helpers.specs.Agreement.{is_on, all_say_yes, asks_of, raised, IsAskedFor}
 use Rattle.helpers.proofs.Times.{same_name, times-other, times-again, times-none, times-new, times-stop}
 use Rattle.helpers.proofs.Times.{says-again}

@@ -4,7 +4,7 @@ use Rattle.std.specs.List.{list_all, list_any}
 use Rattle.std.specs.Str.{bytes_eq}
 use Rattle.go_rules.specs.declared.Colour.{Colour}
 use Rattle.go_rules.specs.Position.{BoardState}
-use Rattle.helpers.specs.Asking.{HelperState, SlotState, asked, has_name, named, says_yes}
+use Rattle.helpers.specs.HelperStates.{HelperState, SlotState, asked, has_name, named, says_yes}
 
 -- a helper that is there is on
 abbrev pub slot_on : Option SlotState → Bool

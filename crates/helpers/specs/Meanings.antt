@@ -3,7 +3,7 @@ use Rattle.std.specs.Prelude.{ℕ, ◌+◌, Bool, ◌||◌, is_none, nat_lt, nat
 use Rattle.go_rules.specs.declared.Colour.{Colour}
 use Rattle.go_rules.specs.Board.{row_of, column_of}
 use Rattle.go_rules.specs.Position.{BoardState}
-use Rattle.helpers.specs.Asking.{HelperState}
+use Rattle.helpers.specs.HelperStates.{HelperState}
 
 -- a line of a board of size s is among the first two or the last two
 abbrev pub is_outer : ℕ → ℕ → Bool

@@ -3,7 +3,7 @@
 ghost use Rattle.std.specs.Prelude.{◌≡◌, ◌<◌, ◌*◌, ◌&&◌, ◌++◌, [], ◌∷◌, List, not, true};
 ghost use Rattle.std.specs.List.{list_any};
 ghost use Rattle.std.specs.Str.{bytes_eq};
-ghost use Rattle.helpers.specs.Asking.{SlotState};
+ghost use Rattle.helpers.specs.HelperStates.{SlotState};
 ghost use Rattle.helpers.specs.Slots.{listed};
 ghost use Rattle.helpers.specs.Fields.{names_helper as is_helper_name, helper_names};
 ghost use Rattle.helpers.specs.Agreement.{all_say_yes, asks_of, raised, IsAskedFor};

@@ -2,8 +2,8 @@
 
 ghost use Rattle.std.specs.Prelude.{⊤, ◌≡◌, ◌<◌, ◌*◌, true, Some, map, length, option_map, is_some, IfOk, IfSome};
 ghost use Rattle.std.specs.List.{position_from};
-ghost use Rattle.helpers.specs.Asking.{has_name, named, slot_says, slot_asked, says_yes, calls_of, after_asking};
-ghost use Rattle.helpers.specs.Asking.{after_off, after_remove};
+ghost use Rattle.helpers.specs.HelperStates.{has_name, named, slot_says, slot_asked, says_yes, calls_of, after_asking};
+ghost use Rattle.helpers.specs.HelperStates.{after_off, after_remove};
 ghost use Rattle.helpers.specs.Slots.{slot_state, listed};
 
 use crate::Helper;

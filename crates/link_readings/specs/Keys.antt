@@ -1,8 +1,11 @@
 -- Questions about connections as they are kept.
-use Rattle.std.specs.Prelude.{◌≡◌, true, Bool}
+use Rattle.std.specs.Prelude.{◌≡◌, ℕ, ◌+◌, ◌*◌, true, Bool}
 use Rattle.std.proofs.Common.{ap, rules}
 use Rattle.go_rules.specs.Position.{BoardState}
 use Rattle.link_rules.specs.declared.question.Linkage.{Linkage}
+use Rattle.link_rules.specs.declared.question.LinkKind.{LinkKind}
+use Rattle.link_rules.specs.declared.question.LinkKind.TheVariants as kind
+use Rattle.link_rules.specs.declared.question.LinkQuestion.{LinkQuestion}
 use Rattle.link_rules.specs.Linkages.{linkage_of}
 use Rattle.link_readings.specs.declared.key.LinkKey.{LinkKey}
 use Rattle.link_readings.specs.contracts.key.LinkKeyPartialEq.TheImpl.{ghosts}
@@ -22,3 +25,16 @@ meaning_of key pos = linkage_of key.question pos
 -- equal questions have the same answers
 pub same_meaning : (p q : LinkKey) → same_key p q ≡ true → (pos : BoardState) → meaning_of p pos ≡ meaning_of q pos
 same_meaning p q e pos = ap (λ (key : LinkKey). meaning_of key pos) (same_key-is p q e)
+
+-- the number of a kind
+abbrev pub number_of_kind : LinkKind → ℕ
+number_of_kind kind.Connect = 0
+number_of_kind kind.Disconnect = 1
+
+-- the number that a question is hashed as: its size, points, kind and plies, each in digits of its own
+abbrev pub number_of : LinkQuestion → ℕ
+number_of q = (((q.size * 65536 + q.a) * 65536 + q.b) * 2 + number_of_kind q.kind) * 256 + q.plies
+
+-- equal questions have one number
+pub same_number : (p q : LinkKey) → same_key p q ≡ true → number_of p.question ≡ number_of q.question
+same_number p q e = ap (λ (key : LinkKey). number_of key.question) (same_key-is p q e)

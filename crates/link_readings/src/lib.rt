@@ -12,6 +12,3 @@ mod key;
 pub use connections::Connections;
 pub use key::LinkKey;
 pub use link_rules::{LinkKind, LinkQuestion, LinkSpot, Linkage};
-
-#[cfg(test)]
-mod tests;

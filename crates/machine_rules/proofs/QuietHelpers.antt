@@ -1,7 +1,7 @@
 -- Helpers keep all but their calls while they are asked.
 use Rattle.std.proofs.Common.{◌≡◌, ℕ, zero, suc, Bool, true, false, cond, List, [], ◌∷◌, refl}
 use Rattle.std.specs.List.{list_any}
-use Rattle.helpers.specs.Asking.{HelperState, SlotState, has_name}
+use Rattle.helpers.specs.HelperStates.{HelperState, SlotState, has_name}
 use Rattle.helpers.specs.Agreement.{asked_often, slot_asked_often, raised_from, raised}
 use Rattle.machine_rules.specs.Calls.{without_its_calls, without_calls}
 

@@ -1,6 +1,6 @@
 -- Machines that are the same but for how often their helpers were asked.
 use Rattle.std.specs.Prelude.{◌≡◌, ℕ, List, map}
-use Rattle.helpers.specs.Asking.{SlotState}
+use Rattle.helpers.specs.HelperStates.{SlotState}
 use Rattle.machine_rules.specs.Machine.{Machine}
 
 -- a place of a list of helpers without the calls of its helper

@@ -1,6 +1,6 @@
 -- What the commands do that speak of one helper.
 use Rattle.std.specs.Prelude.{ℕ, List, [], Option, Some, None, is_some, if◌then◌else◌, decimal}
-use Rattle.helpers.specs.Asking.{SlotState, named, after_off, after_remove, calls_of}
+use Rattle.helpers.specs.HelperStates.{SlotState, named, after_off, after_remove, calls_of}
 use Rattle.gtp_cmd.specs.declared.refusals.RefuseText.TheVariants.{NoSuchHelper}
 use Rattle.machine_rules.specs.Machine.{Machine}
 use Rattle.machine_rules.specs.Effects.{Effect, refused, told, growing}

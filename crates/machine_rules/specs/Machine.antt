@@ -4,7 +4,7 @@ use Rattle.std.specs.Prelude.{ℕ, List, [], codes}
 use Rattle.go_rules.specs.declared.Move.{Move}
 use Rattle.go_rules.specs.Position.{BoardState}
 use Rattle.go_rules.specs.Replay.{empty_board, replay_from}
-use Rattle.helpers.specs.Asking.{SlotState}
+use Rattle.helpers.specs.HelperStates.{SlotState}
 
 -- settings, a first position and moves from it, and helpers
 pub record Machine : Type 0 where

@@ -1,7 +1,7 @@
 -- What the commands do that tell of patterns and of their matches.
 use Rattle.std.specs.Prelude.{List, ℕ}
 use Rattle.go_rules.specs.declared.Colour.{Colour}
-use Rattle.helpers.specs.Asking.{says_yes}
+use Rattle.helpers.specs.HelperStates.{says_yes}
 use Rattle.match_rules.specs.Conditions.{all_yes}
 use Rattle.match_rules.specs.declared.found.Match.{Match}
 use Rattle.match_engine.specs.HelperCalls.{after_matches}

@@ -5,7 +5,7 @@ use Rattle.std.proofs.lemmas.List.{take_more, map-append}
 use Rattle.go_rules.specs.declared.Colour.{Colour}
 use Rattle.go_rules.specs.Position.{BoardState}
 use Rattle.pat_types.specs.declared.pattern.Pattern.{Pattern}
-use Rattle.helpers.specs.Asking.{SlotState, says_yes}
+use Rattle.helpers.specs.HelperStates.{SlotState, says_yes}
 use Rattle.helpers.specs.Fields.{helper_names}
 use Rattle.helpers.specs.Agreement.{raised, IsAskedFor}
 use Rattle.helpers.specs.Totals.{asks_over}

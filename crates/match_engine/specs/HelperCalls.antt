@@ -3,7 +3,7 @@ use Rattle.std.specs.Prelude.{ℕ, List, [], map, Option, Some, None, slice_get}
 use Rattle.go_rules.specs.declared.Colour.{Colour}
 use Rattle.go_rules.specs.Position.{BoardState}
 use Rattle.pat_types.specs.declared.pattern.Pattern.{Pattern}
-use Rattle.helpers.specs.Asking.{SlotState}
+use Rattle.helpers.specs.HelperStates.{SlotState}
 use Rattle.helpers.specs.Fields.{helper_names}
 use Rattle.helpers.specs.Agreement.{raised}
 use Rattle.helpers.specs.Totals.{asks_over}

@@ -1,8 +1,11 @@
 -- Questions as they are kept.
-use Rattle.std.specs.Prelude.{◌≡◌, true, Bool}
+use Rattle.std.specs.Prelude.{◌≡◌, ℕ, ◌+◌, ◌*◌, true, Bool}
 use Rattle.std.proofs.Common.{ap, rules}
 use Rattle.go_rules.specs.Position.{BoardState}
 use Rattle.read_rules.specs.declared.question.Answer.{Answer}
+use Rattle.read_rules.specs.declared.question.Kind.{Kind}
+use Rattle.read_rules.specs.declared.question.Kind.TheVariants as kind
+use Rattle.read_rules.specs.declared.question.ReadingQuestion.{ReadingQuestion}
 use Rattle.read_rules.specs.Answer.{answer_of}
 use Rattle.match_engine.specs.declared.keys.Key.{Key}
 use Rattle.match_engine.specs.contracts.keys.KeyPartialEq.TheImpl.{ghosts}
@@ -22,3 +25,16 @@ meaning_of key pos = answer_of key.question pos
 -- equal questions have the same answers
 pub same_meaning : (p q : Key) → same_key p q ≡ true → (pos : BoardState) → meaning_of p pos ≡ meaning_of q pos
 same_meaning p q e pos = ap (λ (key : Key). meaning_of key pos) (same_key-is p q e)
+
+-- the number of a kind
+abbrev pub number_of_kind : Kind → ℕ
+number_of_kind kind.Attack = 0
+number_of_kind kind.Defend = 1
+
+-- the number that a question is hashed as: its size, target, kind and depths, each in digits of its own
+abbrev pub number_of : ReadingQuestion → ℕ
+number_of q = (((q.size * 65536 + q.target) * 2 + number_of_kind q.kind) * 256 + q.plies) * 256 + q.wide
+
+-- equal questions have one number
+pub same_number : (p q : Key) → same_key p q ≡ true → number_of p.question ≡ number_of q.question
+same_number p q e = ap (λ (key : Key). number_of key.question) (same_key-is p q e)

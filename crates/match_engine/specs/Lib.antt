@@ -4,7 +4,7 @@ pub mod Found
 pub mod HelperCalls
 pub mod Readings
 pub mod Remembered
-pub mod Asked
+pub mod ConstraintView
 pub mod Unread
 pub use Rattle.match_rules.specs.Fits
 pub use Rattle.match_rules.specs.Match

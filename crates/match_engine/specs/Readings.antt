@@ -65,7 +65,7 @@ pub record FoundKept (key : Key) (pos : BoardState) (answer : Answer) (old new :
 
 -- the target has too many liberties for the plies or the wide plies of the question, so no play is tried for it
 abbrev pub is_untried : ReadingQuestion → BoardState → Bool
-is_untried q pos = outlasts (is_attack q.kind) q.plies q.wide (liberties pos.size pos.cells q.target)
+is_untried q pos = outlasts q.tree (is_attack q.kind) q.plies q.wide (liberties pos.size pos.cells q.target)
 
 -- the answer was fresh, and its trial plays were counted; where its target has too many liberties there were none
 pub record ReadAfresh (key : Key) (pos : BoardState) (answer : Answer) (old new : ReadingsView) : Type 0 where

@@ -1,6 +1,6 @@
 //! Whether the helpers that a pattern names say yes to a match. They are asked last of all.
 ghost use Rattle.std.specs.Prelude.{◌≡◌, filter, Contains, slice_get};
-ghost use Rattle.helpers.specs.Asking.{says_yes};
+ghost use Rattle.helpers.specs.HelperStates.{says_yes};
 ghost use Rattle.helpers.specs.Slots.{states_of};
 ghost use Rattle.match_rules.specs.declared.found.Match.{Match as MatchSeen};
 ghost use Rattle.match_engine.specs.AutomatonMatches.{is_agreed_at, IsFoundThere};

@@ -7,7 +7,7 @@ ghost use Rattle.match_engine.specs.Readings.{Follows, codes_of};
 ghost use Rattle.match_engine.specs.Remembered.{Remembers};
 ghost use Rattle.match_engine.specs.Unread.{AsksNoReading};
 
-use crate::asking::is_constraint_true;
+use crate::constraint_question::is_constraint_true;
 use crate::plays::Plays;
 use crate::readings::Readings;
 use go_base::{Colour, Point, Position};

@@ -10,7 +10,7 @@ ghost use Rattle.go_rules.specs.Play.{is_legal as is_legal_on};
 ghost use Rattle.match_rules.specs.declared.found.Match.{Match as MatchSeen};
 ghost use Rattle.match_rules.specs.Match.{matches_of};
 ghost use Rattle.match_rules.specs.Conditions.{all_yes};
-ghost use Rattle.helpers.specs.Asking.{says_yes};
+ghost use Rattle.helpers.specs.HelperStates.{says_yes};
 ghost use Rattle.helpers.specs.Slots.{states_of};
 ghost use Rattle.match_engine.specs.HelperCalls.{after_matches};
 ghost use Rattle.match_engine.specs.AutomatonMatches.{found_by as is_found_by, automaton_matches, is_allowed_at};

@@ -3,20 +3,21 @@
 ghost use Rattle.std.specs.Prelude.{◌≡◌, ◌≢◌, ◌*◌, ◌<◌};
 ghost use Rattle.go_rules.specs.Strings.{cell_at};
 ghost use Rattle.read_rules.specs.Answer.{asked_on};
+ghost use Rattle.match_engine.specs.Keys.{number_of, number_of_kind};
 
 use go_base::{Cell, Point, Position};
 use read_cache::Question;
-use read_rules::{Answer, Depths, Kind, ReadingQuestion};
+use read_rules::{Answer, Depths, Kind, ReadingQuestion, Tree};
+use std::hash::{Hash, Hasher};
 
 /// A question as it is kept: its size, kind, target, colour and depths.
-#[derive(Clone, Copy, Debug, PartialEq, Eq, Hash)]
+#[derive(Clone, Copy, Debug, PartialEq, Eq)]
 pub struct Key {
     /// The question.
     pub question: ReadingQuestion,
 }
 
 impl Question for Key {
-    ghost use Rattle.std.proofs.Common.{lit<};
     ghost use Rattle.match_engine.specs.Keys.{meaning_of, same_meaning};
 
     type Answer = Answer;
@@ -24,11 +25,44 @@ impl Question for Key {
     ghost meaning = { meaning_of };
 
     ghost same = { same_meaning };
-
-    ghost small = { lit< tt };
 }
 
-/// The question of this kind about a stone of the position.
+/// A question is hashed as one number, so that its place is found by one step of the hasher.
+impl Hash for Key {
+    ghost use Rattle.std.proofs.Common.{ap};
+    ghost use Rattle.std.specs.Hash as fed;
+    ghost use Rattle.match_engine.specs.Keys.{number_of, same_number};
+
+    ghost hash_input = { λ key. fed.u64 (number_of key.question) };
+
+    ghost respects_eq = { λ x y e. ap fed.u64 (same_number x y e) };
+
+    fn hash<H: Hasher>(&self, state: &mut H) {
+        state.write_u64(number_of(&self.question));
+    }
+}
+
+/// The number of a kind.
+fn number_of_kind(kind: Kind) -> u64
+    ensures value { result ≡ number_of_kind kind }
+    ensures small { result < 2 }
+{
+    match kind {
+        Kind::Attack => 0,
+        Kind::Defend => 1,
+    }
+}
+
+/// The number that a question is hashed as. Questions about two points, of two kinds or at two depths have two numbers.
+fn number_of(question: &ReadingQuestion) -> u64
+    ensures { result ≡ number_of question.now }
+{
+    let place = question.size.get() as u64 * 65536 + question.target as u64;
+    let about = place * 2 + number_of_kind(question.kind);
+    (about * 256 + question.plies as u64) * 256 + question.wide as u64
+}
+
+/// The question of this kind about a stone of the position, in the stated tree.
 pub(crate) fn key_of(kind: Kind, position: &Position, target: Point, depths: Depths) -> Key
     requires on_board { target < position.now.size * position.now.size }
     requires stone { cell_at position.now.cells target ≢ Cell.Empty }
@@ -36,6 +70,7 @@ pub(crate) fn key_of(kind: Kind, position: &Position, target: Point, depths: Dep
 {
     Key {
         question: ReadingQuestion {
+            tree: Tree::Stated,
             size: position.size(),
             kind,
             target,

@@ -10,7 +10,7 @@
 
 mod agreeing;
 mod allowing;
-mod asking;
+mod constraint_question;
 mod finder;
 mod keys;
 pub mod laws;

@@ -13,13 +13,13 @@ ghost use Rattle.match_engine.specs.Readings.{first_readings, with_depths, is_un
 use crate::keys::{Key, key_of};
 use go_base::{Cell, Facts, NoMemory, Point, Position, Watch};
 use read_cache::Cache;
-use read_rules::{Answer, Depths, Kind};
+use read_rules::{Answer, Depths, Kind, Tree};
 use read_tree::{attack, defend};
 use std::alloc::Global;
 use std::marker::Model;
 
-/// The readings of a session, all at the same depths, how many of them were made, and those that are kept. Seen as
-/// these.
+/// The readings of a session, all in the stated tree and at the same depths, how many of them were made, and those that
+/// are kept. Seen as these.
 ///
 /// Each answer is that of a fresh reading. It is kept with the facts that it rests on, and used again where these hold.
 #[derive(Drop)]
@@ -57,7 +57,7 @@ struct Fresh {
     facts: Facts,
 }
 
-/// Reads afresh.
+/// Reads afresh, in the stated tree.
 fn read_afresh(kind: Kind, position: &Position, target: Point, depths: Depths) -> Fresh
     requires on_board { target < position.now.size * position.now.size }
     requires stone { cell_at position.now.cells target ≢ Cell.Empty }
@@ -68,9 +68,10 @@ fn read_afresh(kind: Kind, position: &Position, target: Point, depths: Depths) -
         → result.trials ≡ 0 }
 {
     let watch = Watch::new(position);
+    let stated = depths.in_tree(Tree::Stated);
     let told = match kind {
-        Kind::Attack => attack(watch, target, depths),
-        Kind::Defend => defend(watch, target, depths),
+        Kind::Attack => attack(watch, target, stated),
+        Kind::Defend => defend(watch, target, stated),
     };
     Fresh {
         answer: told.answer,
@@ -137,6 +138,9 @@ impl Readings {
             (record { question = asked_on position.now kind target self.old.plies self.old.wide }) position.now answer
             self.old self.new) }
         ensures rest { HoldsOfEach Rests self.new.answers.kept }
+        ensures missing { IfNone result (IsMissing same_key
+            (record { question = asked_on position.now kind target self.old.plies self.old.wide }) position.now
+            self.old.answers.kept) }
         ensures same { IfNone result (self.new ≡ self.old) }
     {
         let key = key_of(kind, position, target, self.depths);
@@ -190,12 +194,13 @@ impl Readings {
         self.depths = depths;
     }
 
-    /// The present depths.
+    /// The present depths, in the stated tree.
     pub fn depths(&self) -> Depths
+        ensures tree { result.tree ≡ Tree.Stated }
         ensures plies { result.plies ≡ self.now.plies }
         ensures wide { result.wide ≡ self.now.wide }
     {
-        self.depths
+        self.depths.in_tree(Tree::Stated)
     }
 
     /// How many readings were fresh, as far as a `u64` counts.

@@ -10,7 +10,7 @@ use Rattle.machine_rules.specs.Files.{Contents}
 use Rattle.machine_rules.specs.Step.{step}
 use Rattle.machine_rules.specs.Machine.{first_machine}
 use Rattle.machine_rules.specs.Matcher.{plain_matcher}
-use Rattle.helpers.specs.Asking.{SlotState}
+use Rattle.helpers.specs.HelperStates.{SlotState}
 use Rattle.engine.specs.Handed.{helper_names}
 use Rattle.session.specs.PatternFiles.{IsOpened}
 use Rattle.session.specs.Outcomes.{Phase, NotTaken, NotOpened, Served}

@@ -3,7 +3,6 @@ pub mod FirstEntries
 pub mod Places
 pub mod LastingVariants
 pub mod MapEntries
-pub mod Sizes
 pub mod CacheSoundness
 pub mod StandingVariants
 pub mod KeepingLemmas

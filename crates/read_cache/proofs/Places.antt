@@ -4,17 +4,15 @@ use Rattle.std.proofs.Common.{length, take, drop, Option, Some, None}
 use Rattle.std.specs.Option.{option_map, option_map_or}
 use Rattle.std.specs.Map.{lookup, lookup_entry, remove_entry}
 use Rattle.std.proofs.lemmas.List.Elements.{Contains-append_right}
-use Rattle.smallvec.specs.SmallVec.{SmallVec}
 use Rattle.lru.specs.LruCache.{promoted}
 use Rattle.lru.proofs.CallerLemmas.{Contains-promoted}
 use Rattle.lru.proofs.Pairs.{lookup-lookup_entry}
 use Rattle.lru.proofs.Splits.{Contains-head}
 use Rattle.go_rules.specs.Position.{BoardState}
-use Rattle.read_cache.specs.Kept.{Kept, AreVariants, IsSound, IsFound, seen_entries, variants_of, put_first}
+use Rattle.read_cache.specs.Kept.{Kept, AreVariants, IsSound, IsFound, variants_of, put_first}
 use Rattle.read_cache.specs.Places.{HasAt, StandsAt, front_of}
 use Rattle.read_cache.specs.Variants.{IsFirstStanding, most_variants}
 use Rattle.read_cache.specs.declared.variants.Variant.{Variant}
-use Rattle.read_cache.proofs.MapEntries.{seen-promoted}
 use Rattle.read_cache.proofs.CacheSoundness.{AreVariants-brought}
 
 module _ {A : Type 0} {pos : BoardState} {vs : List (Variant A)} {i : ℕ} (first : IsFirstStanding pos vs i) where
@@ -109,21 +107,18 @@ module _ {Q A : Type 0} (eq : Q → Q → Bool) (k : Q) where
         ap (λ v. (e.0, v) ∷ remove_entry (eq k) qs) same
 
     -- a question that is promoted is put first with the variants that it has
-    promoted_first : (promoted (eq k) qs, cap) ≡ put_first eq k vs (qs, cap)
-    promoted_first = ap (λ es. (es, cap)) (by_entry (lookup_entry (eq k) qs) refl)
+    promoted_put : (promoted (eq k) qs, cap) ≡ put_first eq k vs (qs, cap)
+    promoted_put = ap (λ es. (es, cap)) (by_entry (lookup_entry (eq k) qs) refl)
 
   -- and is seen first
-  pub seen-promoted_first : (es : List (Q × SmallVec (Variant A))) (cap : ℕ) (old : Kept Q A)
-      → (seen_entries es, cap) ≡ old → (vs : List (Variant A)) → variants_of eq k old ≡ Some vs
-      → (seen_entries (promoted (eq k) es), cap) ≡ put_first eq k vs old
-  seen-promoted_first es cap old is vs there =
-      ap (λ qs. (qs, cap)) (seen-promoted (eq k) es)
-      ∙ promoted_first (seen_entries es) cap vs (ap (variants_of eq k) is ∙ there)
-      ∙ ap (put_first eq k vs) is
+  pub promoted_first : (es : List (Q × List (Variant A))) (cap : ℕ) (old : Kept Q A) → (es, cap) ≡ old
+      → (vs : List (Variant A)) → variants_of eq k old ≡ Some vs
+      → (promoted (eq k) es, cap) ≡ put_first eq k vs old
+  promoted_first es cap old is vs there =
+      promoted_put es cap vs (ap (variants_of eq k) is ∙ there) ∙ ap (put_first eq k vs) is
 
   -- what is kept stays right
-  pub IsSound-promoted : (meaning : Q → BoardState → A) (es : List (Q × SmallVec (Variant A)))
-      → IsSound meaning (seen_entries es) → IsSound meaning (seen_entries (promoted (eq k) es))
-  IsSound-promoted meaning es s = subst (IsSound meaning) (sym (seen-promoted (eq k) es)) (record {
-    each = λ q vs there. s.each q vs (Contains-promoted (eq k) (seen_entries es) (q, vs) there);
-  })
+  pub IsSound-promoted : (meaning : Q → BoardState → A) (es : List (Q × List (Variant A))) → IsSound meaning es
+      → IsSound meaning (promoted (eq k) es)
+  IsSound-promoted meaning es s =
+      record { each = λ q vs there. s.each q vs (Contains-promoted (eq k) es (q, vs) there) }

@@ -1,9 +1,8 @@
 -- What a cache keeps: questions, the last used first, each with its variants, the last kept or found first.
-use Rattle.std.specs.Prelude.{◌≡◌, ℕ, ◌-◌, ◌+◌, ◌≤◌, Bool, List, [], ◌∷◌, ◌++◌, length, map, take, drop, Contains}
+use Rattle.std.specs.Prelude.{◌≡◌, ℕ, ◌-◌, ◌+◌, ◌≤◌, Bool, List, [], ◌∷◌, ◌++◌, length, take, drop, Contains}
 use Rattle.std.specs.Prelude.{Option, Some}
 use Rattle.std.specs.Option.{option_map_or}
 use Rattle.std.specs.Map.{lookup, lookup_entry, remove_entry}
-use Rattle.smallvec.specs.SmallVec.{SmallVec}
 use Rattle.go_rules.specs.Position.{BoardState}
 use Rattle.read_cache.specs.Variants.{NoneStands, IsFirstStanding, Stands, most_variants}
 use Rattle.read_cache.specs.declared.variants.Variant.{Variant}
@@ -15,10 +14,6 @@ Kept Q A = List (Q × List (Variant A)) × ℕ
 -- nothing is kept, and there may be so many questions
 abbrev pub no_questions : {Q A : Type 0} → ℕ → Kept Q A
 no_questions capacity = ([], capacity)
-
--- the entries of the map, each with the list of its variants
-abbrev pub seen_entries : {Q A : Type 0} → List (Q × SmallVec (Variant A)) → List (Q × List (Variant A))
-seen_entries entries = map (λ e. (e.0, e.1.items)) entries
 
 -- the variant is right for a question of this meaning: the answer is its answer on each position on which the facts
 -- hold

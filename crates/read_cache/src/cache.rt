@@ -4,13 +4,12 @@ ghost use Rattle.std.specs.Prelude.{◌≡◌, ◌≤◌, Some, None, IfOk, OnOk
 ghost use Rattle.go_rules.specs.Position.{BoardState};
 ghost use Rattle.go_base.specs.Facts.{Agrees};
 ghost use Rattle.go_base.specs.AmongFacts.{told};
-ghost use Rattle.read_cache.specs.Kept.{no_questions, variants_of, put_first, kept_first, variants_with};
-ghost use Rattle.read_cache.specs.Kept.{IsRight, AreVariants, IsFound, IsMissing};
+ghost use Rattle.read_cache.specs.Kept.{no_questions, variants_of, put_first, kept_first, IsRight, IsFound, IsMissing};
 ghost use Rattle.read_cache.specs.Places.{HasAt, StandsAt, front_of};
 
 use crate::front::{promote, value_of};
 use crate::question::Question;
-use crate::variants::{Variant, Variants, alone, brought_to_front, first_standing, with_first};
+use crate::variants::{Variant, Variants, first_standing};
 use go_base::{Facts, NoMemory, Position};
 use lru::LruCache;
 use std::alloc::Global;
@@ -27,13 +26,13 @@ pub struct Cache<Q: Question> {
 impl<Q: Question> Model for Cache<Q> {
     ghost use Rattle.std.specs.Prelude.{List, ℕ};
     ghost use Rattle.read_cache.specs.declared.variants.Variant.{Variant};
-    ghost use Rattle.read_cache.specs.Kept.{IsSound, seen_entries};
+    ghost use Rattle.read_cache.specs.Kept.{IsSound};
 
     ghost Value = { List (Q × List (Variant Q.Answer)) × ℕ };
 
-    ghost view = { λ c. (seen_entries c.kept.entries, c.kept.cap) };
+    ghost view = { λ c. (c.kept.entries, c.kept.cap) };
 
-    ghost invariant = { λ c. IsSound Q.meaning (seen_entries c.kept.entries) };
+    ghost invariant = { λ c. IsSound Q.meaning c.kept.entries };
 }
 
 impl<Q: Question> Cache<Q> {
@@ -80,8 +79,7 @@ impl<Q: Question> Cache<Q> {
         }
     }
 
-    /// Puts the question first, and its variant at a place before its others. The variants are copied only where it is
-    /// not the first of them already.
+    /// Puts the question first, and its variant at a place before its others.
     fn bring(&mut self, q: &Q, place: usize)
         requires { HasAt Q.eq q.now self.old place }
         ensures { (at : HasAt Q.eq q.now self.old place)
@@ -102,21 +100,8 @@ impl<Q: Question> Cache<Q> {
         ensures { (at : HasAt Q.eq q.now self.old place)
             → self.new ≡ put_first Q.eq q.now (front_of Q.eq q.now self.old place at) self.old }
     {
-        let front = self.brought_to_front(q, place);
-        match self.put(*q, front) {
-            Ok(()) => {}
-            Err(_) => unreachable!(),
-        }
-    }
-
-    /// The variants of the question with the one at a place before the others.
-    fn brought_to_front(&self, q: &Q, place: usize) -> Variants<Q::Answer>
-        requires { HasAt Q.eq q.now self.now place }
-        ensures front { (at : HasAt Q.eq q.now self.now place) → result.items ≡ front_of Q.eq q.now self.now place at }
-        ensures are { AreVariants (Q.meaning q.now) result.items }
-    {
-        match self.kept.peek(q) {
-            Some(kept) => brought_to_front(self.alloc, kept.as_slice(), place),
+        match self.kept.get_mut(q) {
+            Some(kept) => kept.bring(place),
             None => unreachable!(),
         }
     }
@@ -131,30 +116,25 @@ impl<Q: Question> Cache<Q> {
         ensures refused { OnErr result (self.new ≡ self.old) }
         ensures not_kept { OnErr result (variants_of Q.eq q self.old ≡ None) }
     {
-        let variants = self.with_first(&q, Variant { facts, answer });
-        self.put(q, variants)
+        let variant = Variant { facts, answer };
+        match self.kept.get_mut(&q) {
+            Some(kept) => {
+                kept.add(variant);
+                Ok(())
+            }
+            None => self.keep_first(q, variant),
+        }
     }
 
-    /// Puts the question first, with these variants.
-    fn put(&mut self, q: Q, variants: Variants<Q::Answer>) -> Result<(), NoMemory>
-        requires { AreVariants (Q.meaning q) variants.items }
-        ensures put { OnOk result (self.new ≡ put_first Q.eq q variants.items self.old) }
+    /// Keeps the first variant of a question.
+    fn keep_first(&mut self, q: Q, variant: Variant<Q::Answer>) -> Result<(), NoMemory>
+        requires right { IsRight (Q.meaning q) variant }
+        requires not_kept { variants_of Q.eq q self.old ≡ None }
+        ensures kept { OnOk result (self.new ≡ kept_first Q.eq q variant self.old) }
         ensures refused { OnErr result (self.new ≡ self.old) }
-        ensures not_kept { OnErr result (variants_of Q.eq q self.old ≡ None) }
     {
+        let variants = Variants::alone(self.alloc, variant)?;
         self.kept.put(q, variants)?;
         Ok(())
-    }
-
-    /// The variant, and then those of the question, of which a fifth is dropped.
-    fn with_first(&self, q: &Q, first: Variant<Q::Answer>) -> Variants<Q::Answer>
-        requires { IsRight (Q.meaning q.now) first }
-        ensures with { result.items ≡ variants_with Q.eq q.now first self.now }
-        ensures are { AreVariants (Q.meaning q.now) result.items }
-    {
-        match self.kept.peek(q) {
-            Some(kept) => with_first(self.alloc, first, kept.as_slice()),
-            None => alone(self.alloc, first),
-        }
     }
 }

@@ -11,15 +11,13 @@ struct Number {
 }
 
 impl Question for Number {
-    ghost use Rattle.std.proofs.Common.{lit<, rules};
+    ghost use Rattle.std.proofs.Common.{rules};
 
     type Answer = u8;
 
     ghost meaning = { λ q pos. q.n };
 
     ghost same = { λ p q e pos. Prim.search rules };
-
-    ghost small = { lit< tt };
 }
 
 /// The empty board of so many rows.

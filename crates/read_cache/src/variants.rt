@@ -1,19 +1,18 @@
 //! The variants of one question.
 
-ghost use Rattle.std.specs.Prelude.{◌≡◌, ◌<◌, ◌≤◌, ◌+◌, [], ◌∷◌, ◌++◌, length, take, drop, IfSome, IfNone};
+ghost use Rattle.std.specs.Prelude.{◌≡◌, ◌<◌, ◌≤◌, ◌+◌, [], ◌∷◌, ◌++◌, length, take, drop, IfOk, IfSome, IfNone};
 ghost use Rattle.read_cache.specs.Variants.{IsFirstStanding, NoneStands, most_variants};
 ghost use Rattle.read_cache.specs.declared.variants.Variant.{Variant as VariantSeen};
-ghost use Rattle.smallvec.specs.SmallVec.{small_vec_len};
 
-use go_base::{Facts, Position};
-use smallvec::SmallVec;
+use go_base::{Facts, NoMemory, Position};
 use std::alloc::Global;
+use std::marker::Model;
 
 /// How many variants of one question are kept.
 pub const MOST_VARIANTS: usize = 4;
 
 /// An answer, with the facts that it rests on.
-#[derive(Clone, Copy, Debug, Default)]
+#[derive(Clone, Copy, Debug)]
 pub struct Variant<A> {
     /// The facts.
     pub facts: Facts,
@@ -21,8 +20,72 @@ pub struct Variant<A> {
     pub answer: A,
 }
 
-/// The variants of a question, the last kept or found first.
-pub type Variants<A> = SmallVec<Variant<A>, MOST_VARIANTS>;
+/// The variants of a question, the last kept or found first, seen as their list. There is room for four from the start,
+/// so that only the first of them takes memory.
+#[derive(Drop)]
+pub struct Variants<A> {
+    items: Vec<Variant<A>>,
+}
+
+impl<A> Model for Variants<A> {
+    ghost use Rattle.std.specs.Prelude.{◌≡◌, List, vec_capacity};
+    ghost use Rattle.read_cache.specs.Variants.{most_variants};
+    ghost use Rattle.read_cache.specs.declared.variants.Variant.{Variant};
+
+    ghost Value = { List (Variant A) };
+
+    ghost view = { λ v. v.items.items };
+
+    ghost invariant = { λ v. vec_capacity v.items ≡ most_variants };
+}
+
+impl<A: Copy> Variants<A> {
+    /// One variant, with room for three more. Takes memory.
+    pub(crate) fn alone(alloc: Global, variant: Variant<A>) -> Result<Variants<A>, NoMemory>
+        ensures { IfOk result (λ variants. variants ≡ variant ∷ []) }
+    {
+        let mut items = Vec::with_capacity(alloc, MOST_VARIANTS)?;
+        items.push_reserved(variant);
+        Ok(Variants { items })
+    }
+
+    /// The variants.
+    pub(crate) fn as_slice(&self) -> &[Variant<A>]
+        ensures { result.now ≡ self.now }
+    {
+        self.items.as_slice()
+    }
+
+    /// Brings the one at a place before the others, which keep their order. Takes no memory.
+    pub(crate) fn bring(&mut self, place: usize)
+        requires place { place < length self.old }
+        requires few { length self.old ≤ most_variants }
+        ensures { (found : VariantSeen A) → self.old ≡ take place self.old ++ found ∷ drop (place + 1) self.old
+            → self.new ≡ found ∷ take place self.old ++ drop (place + 1) self.old }
+    {
+        let found = self.items.remove(place);
+        self.put_first(found);
+    }
+
+    /// Puts a variant before the others, of which a fifth is dropped. Takes no memory.
+    pub(crate) fn add(&mut self, variant: Variant<A>)
+        ensures { self.new ≡ variant ∷ take 3 self.old }
+    {
+        self.items.truncate(MOST_VARIANTS - 1);
+        self.put_first(variant);
+    }
+
+    /// Puts a variant before the others, for which there is room.
+    fn put_first(&mut self, variant: Variant<A>)
+        requires { length self.old < most_variants }
+        ensures { self.new ≡ variant ∷ self.old }
+    {
+        match self.items.insert(0, variant) {
+            Ok(()) => {}
+            Err(_) => unreachable!(),
+        }
+    }
+}
 
 /// The place of the first variant that stands on the position.
 pub(crate) fn first_standing<A: Copy>(variants: &[Variant<A>], position: &Position) -> Option<usize>
@@ -35,61 +98,4 @@ pub(crate) fn first_standing<A: Copy>(variants: &[Variant<A>], position: &Positi
         }
     }
     None
-}
-
-/// The variants with the one at a place first, and the others in their order.
-pub(crate) fn brought_to_front<A: Copy + Default>(
-    alloc: Global,
-    variants: &[Variant<A>],
-    place: usize,
-) -> Variants<A>
-    requires place { place < length variants.now }
-    requires few { length variants.now ≤ most_variants }
-    ensures { (found : VariantSeen A) → variants.now ≡ take place variants.now ++ found ∷ drop (place + 1) variants.now
-        → result.items ≡ found ∷ take place variants.now ++ drop (place + 1) variants.now }
-{
-    let mut front = SmallVec::new(alloc);
-    front.push_reserved(variants[place]);
-    add_all(&mut front, &variants[..place]);
-    add_all(&mut front, &variants[place + 1..]);
-    front
-}
-
-/// The variant before the others, of which a fifth is dropped.
-pub(crate) fn with_first<A: Copy + Default>(
-    alloc: Global,
-    first: Variant<A>,
-    others: &[Variant<A>],
-) -> Variants<A>
-    ensures { result.items ≡ first ∷ take 3 others.now }
-{
-    let mut variants = SmallVec::new(alloc);
-    variants.push_reserved(first);
-    add_all(
-        &mut variants,
-        &others[..others.len().min(MOST_VARIANTS - 1)],
-    );
-    variants
-}
-
-/// One variant.
-pub(crate) fn alone<A: Copy + Default>(alloc: Global, variant: Variant<A>) -> Variants<A>
-    ensures { result.items ≡ variant ∷ [] }
-{
-    let mut variants = SmallVec::new(alloc);
-    variants.push_reserved(variant);
-    variants
-}
-
-/// Adds variants for which there is room.
-fn add_all<A: Copy + Default>(variants: &mut Variants<A>, more: &[Variant<A>])
-    requires room { small_vec_len variants.old + length more.now ≤ most_variants }
-    requires inline { variants.old.capacity ≡ most_variants }
-    ensures items { variants.new.items ≡ variants.old.items ++ more.now }
-    ensures inline { variants.new.capacity ≡ most_variants }
-{
-    match variants.extend_from_slice(more) {
-        Ok(()) => {}
-        Err(_) => unreachable!(),
-    }
 }

@@ -17,6 +17,3 @@ mod tree;
 pub use link_rules::{Link, LinkKind, LinkQuestion, LinkSpot, Linkage};
 pub use reading::{connect, disconnect, read};
 pub use told::LinkTold;
-
-#[cfg(test)]
-mod tests;

@@ -1,5 +1,5 @@
 //! The moves that a reading tries: the liberties of the target, the empty points next to them where the target is weak,
-//! and the last liberties of the enemy strings that surround it.
+//! and the last liberties of the enemy strings that surround it; in the wider tree also the further candidates.
 //!
 //! The answer is stated over every position that agrees with what was seen afterwards; it leaves the trial moves as
 //! they were and takes no memory.
@@ -13,6 +13,3 @@ pub mod stages;
 pub use moves::{add_sides, empty_sides};
 pub use read_rules::Depths;
 pub use stages::{candidates, wide_candidates};
-
-#[cfg(test)]
-mod tests;

@@ -1,6 +1,6 @@
 //! The candidates of a target by stages: those that every reading tries, and those of a wide ply.
 
-ghost use Rattle.std.specs.Prelude.{◌≡◌, ℕ, ◌*◌, ◌<◌, ◌&&◌, ◌||◌, IsTrue, nat_lt};
+ghost use Rattle.std.specs.Prelude.{◌≡◌, ℕ, ◌*◌, ◌<◌, ◌&&◌, ◌||◌, Bool, IsTrue, nat_lt};
 ghost use Rattle.std.specs.FinSet as set;
 ghost use Rattle.go_rules.specs.Below.{any_below};
 ghost use Rattle.go_rules.specs.Strings.{liberty_points};
@@ -12,10 +12,12 @@ ghost use Rattle.read_rules.specs.Candidates.{attacker_of, is_empty_beside, is_c
 ghost use Rattle.read_rules.specs.Stages.{is_wide_candidate};
 
 use crate::moves::{add_backfilling, add_beside};
+use further_moves::further_candidates;
 use go_base::points::PointSet;
 use go_base::size::Point;
 use go_base::surroundings::Surroundings;
 use go_base::{Cell, Colour, Look};
+use read_rules::Tree;
 use trial_board::Trial;
 
 /// Adds the empty points next to a point of the set, where it has at most two.
@@ -46,12 +48,9 @@ fn attacker_of(cell: Cell) -> Colour
     }
 }
 
-/// The candidates that are tried only where a wide ply is left: the empty neighbours of the target's liberties, if
+/// The wide candidates of the stated tree, at either side's turn: the empty neighbours of the target's liberties, if
 /// there are at most two of these, and the one liberty that a stone of the attacker on one of its liberties would have.
-///
-/// The caller gives the target's liberties. The trial moves stay as they were, and no play is tried. After GNU Go
-/// Manual, "Tactical reading"; the choice of these points is this project's own.
-pub fn wide_candidates<L: Look>(
+fn stated_wide_candidates<L: Look>(
     board: &mut Trial<L>,
     target: Point,
     liberties: &PointSet,
@@ -60,8 +59,9 @@ pub fn wide_candidates<L: Look>(
     requires liberties { (pos : BoardState) → Agrees (L.seen board.old.look) pos
         → liberties.now ≡ liberty_points pos.size (after pos board.old.moves).cells target }
     ensures stays { Stays L.shows L.seen board.old board.new }
-    ensures over { (pos : BoardState) → Agrees (L.seen board.new.look) pos → (p : ℕ)
-        → set.contains result p ≡ is_wide_candidate (after pos board.old.moves) target p }
+    ensures over { (pos : BoardState) → Agrees (L.seen board.new.look) pos → (attacker_to_play : Bool) (p : ℕ)
+        → set.contains result p
+        ≡ is_wide_candidate Tree.Stated attacker_to_play (after pos board.old.moves) target p }
     ensures near { (pos : BoardState) → Agrees (L.seen board.new.look) pos
         → AddsIn (L.seen board.old.look) (L.seen board.new.look)
         (near_candidates pos.size (after pos board.old.moves).cells target) }
@@ -73,18 +73,78 @@ pub fn wide_candidates<L: Look>(
     found
 }
 
+/// The wide candidates of the wider tree: those of the stated one, and the further candidates.
+fn wider_wide_candidates<L: Look>(
+    board: &mut Trial<L>,
+    attacker_to_play: bool,
+    target: Point,
+    liberties: &PointSet,
+) -> PointSet
+    requires on_board { target < (L.shows board.old.look).size * (L.shows board.old.look).size }
+    requires liberties { (pos : BoardState) → Agrees (L.seen board.old.look) pos
+        → liberties.now ≡ liberty_points pos.size (after pos board.old.moves).cells target }
+    ensures stays { Stays L.shows L.seen board.old board.new }
+    ensures over { (pos : BoardState) → Agrees (L.seen board.new.look) pos → (p : ℕ)
+        → set.contains result p
+        ≡ is_wide_candidate Tree.Wider attacker_to_play (after pos board.old.moves) target p }
+    ensures near { (pos : BoardState) → Agrees (L.seen board.new.look) pos
+        → AddsIn (L.seen board.old.look) (L.seen board.new.look)
+        (near_candidates pos.size (after pos board.old.moves).cells target) }
+{
+    let mut found = stated_wide_candidates(board, target, liberties);
+    let further = further_candidates(board, target, attacker_to_play, liberties);
+    found.join(&further);
+    found
+}
+
+/// The candidates that are tried only where a wide ply is left: the empty neighbours of the target's liberties, if
+/// there are at most two of these, and the one liberty that a stone of the attacker on one of its liberties would have;
+/// in the wider tree also the further candidates of whose turn it is.
+///
+/// The caller gives the target's liberties. The trial moves stay as they were, and no play is tried. After GNU Go
+/// Manual, "Tactical reading"; the choice of these points is this project's own.
+pub fn wide_candidates<L: Look>(
+    board: &mut Trial<L>,
+    tree: Tree,
+    attacker_to_play: bool,
+    target: Point,
+    liberties: &PointSet,
+) -> PointSet
+    requires on_board { target < (L.shows board.old.look).size * (L.shows board.old.look).size }
+    requires liberties { (pos : BoardState) → Agrees (L.seen board.old.look) pos
+        → liberties.now ≡ liberty_points pos.size (after pos board.old.moves).cells target }
+    ensures stays { Stays L.shows L.seen board.old board.new }
+    ensures over { (pos : BoardState) → Agrees (L.seen board.new.look) pos → (p : ℕ)
+        → set.contains result p ≡ is_wide_candidate tree attacker_to_play (after pos board.old.moves) target p }
+    ensures near { (pos : BoardState) → Agrees (L.seen board.new.look) pos
+        → AddsIn (L.seen board.old.look) (L.seen board.new.look)
+        (near_candidates pos.size (after pos board.old.moves).cells target) }
+{
+    match tree {
+        Tree::Stated => stated_wide_candidates(board, target, liberties),
+        Tree::Wider => wider_wide_candidates(board, attacker_to_play, target, liberties),
+    }
+}
+
 /// The points that a reading tries for the string of the target, with `wide` wide plies left: its liberties, and the
-/// last liberty of each enemy string next to it; where a wide ply is left, also the `wide_candidates`.
+/// last liberty of each enemy string next to it; where a wide ply is left, also the `wide_candidates` of whose turn it
+/// is.
 ///
 /// The trial moves stay as they were. After GNU Go Manual, "Tactical reading"; the choice of these points is this
 /// project's own.
-pub fn candidates<L: Look>(board: &mut Trial<L>, target: Point, wide: u8) -> PointSet
+pub fn candidates<L: Look>(
+    board: &mut Trial<L>,
+    tree: Tree,
+    attacker_to_play: bool,
+    target: Point,
+    wide: u8,
+) -> PointSet
     requires on_board { target < (L.shows board.old.look).size * (L.shows board.old.look).size }
     ensures stays { Stays L.shows L.seen board.old board.new }
     ensures over { (pos : BoardState) → Agrees (L.seen board.new.look) pos → (p : ℕ)
-        → set.contains result p ≡ is_candidate (after pos board.old.moves) target wide p }
+        → set.contains result p ≡ is_candidate tree attacker_to_play (after pos board.old.moves) target wide p }
     ensures answer { (p : ℕ) → set.contains result p
-        ≡ is_candidate (after (L.shows board.old.look) board.old.moves) target wide p }
+        ≡ is_candidate tree attacker_to_play (after (L.shows board.old.look) board.old.moves) target wide p }
     ensures near { (pos : BoardState) → Agrees (L.seen board.new.look) pos
         → AddsIn (L.seen board.old.look) (L.seen board.new.look)
         (near_candidates pos.size (after pos board.old.moves).cells target) }
@@ -96,7 +156,7 @@ pub fn candidates<L: Look>(board: &mut Trial<L>, target: Point, wide: u8) -> Poi
     let mut found = last_liberties;
     found.join(&liberties);
     if wide > 0 {
-        found.join(&wide_candidates(board, target, &liberties));
+        found.join(&wide_candidates(board, tree, attacker_to_play, target, &liberties));
     }
     found
 }

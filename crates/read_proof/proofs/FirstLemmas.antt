@@ -12,12 +12,12 @@ use Rattle.go_rules.specs.Strings.{liberties}
 use Rattle.read_rules.specs.declared.node.Node.{Node}
 use Rattle.read_rules.specs.declared.question.Spot.{Spot}
 use Rattle.read_rules.specs.declared.question.Spot.TheVariants.{At, Pass}
-use Rattle.read_rules.specs.Candidates.{is_candidate}
+use Rattle.read_rules.specs.Candidates.{is_candidate_at}
 use Rattle.read_rules.specs.GameTree.{is_captured, has_many_liberties, attacker_wins, child_of, mover_of}
 use Rattle.read_rules.specs.GameTree.{first_move}
 use Rattle.read_rules.specs.GoodMoves.{is_barred, good_move, IsOnBoard}
 use Rattle.read_rules.specs.Rules.{IsFirstMove}
-use Rattle.read_rules.proofs.CandidateLaws.{candidate_on}
+use Rattle.read_rules.proofs.CandidateLaws.{candidate_at_on}
 use Rattle.read_rules.proofs.RuleLemmas.{attacker_from, defender_gives, child_gives, child_from, first_move_gives}
 use Rattle.read_rules.proofs.WinLemmas.{wins-captured, wins-attacker_move, wins-defender_move}
 use Rattle.read_rules.proofs.LibertyLemmas.{child_free, play_size}
@@ -60,13 +60,13 @@ both_lists (x ∷ xs) ys first second = (first.0, both_lists xs ys first.1 secon
 -- what is so of the child after the pass and of each after a candidate is so of each child
 each_child_is : (P : Node × BoardState → Type 0) (node : Node) (pos : BoardState)
     → (node.attacker_to_play ≡ false → P (passed node pos))
-    → ((p : ℕ) (child : Node × BoardState) → is_candidate pos node.target node.wide p ≡ true
+    → ((p : ℕ) (child : Node × BoardState) → is_candidate_at node pos p ≡ true
     → child_of node pos p ≡ Some child → P child)
     → AllByRecursion P (children_of node pos)
 unfolding children_of
 each_child_is P node pos by_pass by_play =
     both_rows P (pass_children node pos) (play_children node pos) (by node.attacker_to_play by_pass)
-    (chosen_from (child_of node pos) (is_candidate pos node.target node.wide) P by_play (pos.size * pos.size) 0)
+    (chosen_from (child_of node pos) (is_candidate_at node pos) P by_play (pos.size * pos.size) 0)
   where
     by : (turn : Bool) → (turn ≡ false → P (passed node pos)) → AllByRecursion P (cond turn [] (passed node pos ∷ []))
     by true h = tt
@@ -92,7 +92,7 @@ module _ (s : ℕ) where
       → child_after node pos spot ≡ Some child → IsAt child
   unfolding child_after
   move_at node pos (At p) child here e =
-      play_at node pos p child here (made_by (is_candidate pos node.target node.wide p) (child_of node pos p) child e).1
+      play_at node pos p child here (made_by (is_candidate_at node pos p) (child_of node pos p) child e).1
   move_at node pos Pass child here e =
       subst IsAt (passed_by node.attacker_to_play (passed node pos) child e).1 here
 
@@ -125,7 +125,8 @@ module _ (n : ℕ) (won : Bool) (node : Node) (pos : BoardState) (so : attacker_
       ]
 
   -- at the attacker's turn it has not too many liberties
-  few_liberties : won ≡ false → node.attacker_to_play ≡ true → has_many_liberties pos node.target node.wide ≡ false
+  few_liberties : won ≡ false → node.attacker_to_play ≡ true → has_many_liberties node.tree pos node.target node.wide
+      ≡ false
   unfolding is_settled has_too_many
   few_liberties lost turn =
       let l = liberties pos.size pos.cells node.target in
@@ -136,8 +137,8 @@ module _ (n : ℕ) (won : Bool) (node : Node) (pos : BoardState) (so : attacker_
       ∙ sym (ap (λ w. cond w (is_captured pos node.target) (not (is_captured pos node.target) && over)) lost)
       ∙ hidden in
       let not_many = (or_parts (eqb (suc n) 0) (has_too_many (suc n) node pos) not_over).1 in
-      (or_parts (ltb ((suc n + 1) / 2) l) (has_many_liberties pos node.target node.wide)
-      (sym (ap (λ b. cond b (ltb ((suc n + 1) / 2) l || has_many_liberties pos node.target node.wide)
+      (or_parts (ltb ((suc n + 1) / 2) l) (has_many_liberties node.tree pos node.target node.wide)
+      (sym (ap (λ b. cond b (ltb ((suc n + 1) / 2) l || has_many_liberties node.tree pos node.target node.wide)
       (ltb (suc n / 2) l)) turn) ∙ not_many)).1
 
   -- where it is not what the side to play wants, it is so at each child
@@ -181,7 +182,7 @@ module _ (n : ℕ) (won : Bool) (node : Node) (pos : BoardState) (so : attacker_
     spot : Spot
     child : Node × BoardState
     is_first : first_move n node pos ≡ Some spot
-    few : (node.attacker_to_play && has_many_liberties pos node.target node.wide) ≡ false
+    few : (node.attacker_to_play && has_many_liberties node.tree pos node.target node.wide) ≡ false
     leads : child_after node pos spot ≡ Some child
     claim : IsSo n won child
 
@@ -307,7 +308,7 @@ begins_with_first n won node pos so hidden wanted =
 -- a move may prove what the side to play wants where the target stands and the attacker may play at it
 move_may : (won : Bool) (node : Node) (pos : BoardState) → is_wanted won node ≡ true
     → is_captured pos node.target ≡ false
-    → (node.attacker_to_play && has_many_liberties pos node.target node.wide) ≡ false
+    → (node.attacker_to_play && has_many_liberties node.tree pos node.target node.wide) ≡ false
     → move_may_prove won node pos ≡ true
 unfolding move_may_prove
 move_may won node pos wanted stands few =
@@ -330,8 +331,8 @@ module _ (s : ℕ) (size : IsSize s) where
       → child_after node pos spot ≡ Some child → IsOnBoard s spot
   unfolding child_after
   spot_on node pos (At p) child here e =
-      subst (λ r. p < r * r) here.0 (candidate_on pos node.target node.wide p
-      (made_by (is_candidate pos node.target node.wide p) (child_of node pos p) child e).0)
+      subst (λ r. p < r * r) here.0 (candidate_at_on node pos p
+      (made_by (is_candidate_at node pos p) (child_of node pos p) child e).0)
   spot_on node pos Pass child here e = tt
 
   -- the first proofs with n plies left prove what is so, whatever stands behind them
@@ -403,7 +404,7 @@ module _ (s : ℕ) (size : IsSize s) where
   pub first_on : (n : ℕ) (node : Node) (pos : BoardState) (spot : Spot) → IsAt s (node, pos)
       → IsFirstMove n node pos spot → IsOnBoard s spot
   first_on n node pos (At p) here move =
-      subst (λ r. p < r * r) here.0 (candidate_on pos node.target node.wide p move.succeeds.candidate)
+      subst (λ r. p < r * r) here.0 (candidate_at_on node pos p move.succeeds.candidate)
   first_on n node pos Pass here move = tt
 
   -- the word of the first move and those of the proof behind it are words

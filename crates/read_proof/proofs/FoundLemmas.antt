@@ -21,6 +21,7 @@ use Rattle.go_base.proofs.SidesOfPoints.{neighbour_at-near, neighbour_at-all}
 use Rattle.go_base.proofs.LastLiberties.{contains-liberty_points}
 use Rattle.go_base.proofs.Liberties.{len-liberty_points}
 use Rattle.read_rules.specs.Candidates.{is_empty_beside}
+use Rattle.read_proof.specs.Beside.{stands_beside}
 use Rattle.read_rules.proofs.OneMember.{one_member}
 
 -- a test of one number more
@@ -111,15 +112,15 @@ found_neither old a b e = found_none old (a && b) (ap (λ x. a && x) e ∙ and_f
 pub none_yet : (found : sets.FinSet nat_cmp) (p : ℕ) → found ≡ sets.empty → sets.contains found p ≡ false
 none_yet found p e = ap (λ t. sets.contains t p) e ∙ sets.contains-empty nat_cmp p
 
-module _ (s : ℕ) (cells : List Cell) (S : ℕ → Bool) where
-  -- a point beside the set passes the test where it is empty
-  pub empty_beside_true : (p : ℕ) (b : Bool) → p < s * s → b ≡ any_below (s * s) (λ l. S l && are_neighbours s l p)
-      → b ≡ true → same_cell (cell_at cells p) Empty ≡ is_empty_beside s cells S p
-  unfolding is_empty_beside
-  empty_beside_true p b on e t =
-      and_true (same_cell (cell_at cells p) Empty)
-      ∙ ap (λ x. same_cell (cell_at cells p) Empty && x) (sym t ∙ e)
-      ∙ ap (λ x. x && same_cell (cell_at cells p) Empty && any_below (s * s) (λ l. S l && are_neighbours s l p))
+module _ (s : ℕ) (cells : List Cell) (cell : Cell) (S : ℕ → Bool) where
+  -- a point beside the set passes the test where the cell stands there
+  pub beside_true : (p : ℕ) (b : Bool) → p < s * s → b ≡ any_below (s * s) (λ l. S l && are_neighbours s l p)
+      → b ≡ true → same_cell (cell_at cells p) cell ≡ stands_beside s cells cell S p
+  unfolding stands_beside
+  beside_true p b on e t =
+      and_true (same_cell (cell_at cells p) cell)
+      ∙ ap (λ x. same_cell (cell_at cells p) cell && x) (sym t ∙ e)
+      ∙ ap (λ x. x && same_cell (cell_at cells p) cell && any_below (s * s) (λ l. S l && are_neighbours s l p))
       (sym (lt-ltb p (s * s) on))
     where
       and_true : (a : Bool) → a ≡ (a && true)
@@ -127,26 +128,26 @@ module _ (s : ℕ) (cells : List Cell) (S : ℕ → Bool) where
       and_true false = refl
 
   -- a point that is not beside the set fails it
-  pub empty_beside_false : (p : ℕ) (b : Bool) → b ≡ any_below (s * s) (λ l. S l && are_neighbours s l p) → b ≡ false
-      → is_empty_beside s cells S p ≡ false
-  unfolding is_empty_beside
-  empty_beside_false p b e f =
-      ap (λ x. (ltb p (s * s) && same_cell (cell_at cells p) Empty) && x) (sym e ∙ f)
-      ∙ and_false (ltb p (s * s) && same_cell (cell_at cells p) Empty)
+  pub beside_false : (p : ℕ) (b : Bool) → b ≡ any_below (s * s) (λ l. S l && are_neighbours s l p) → b ≡ false
+      → stands_beside s cells cell S p ≡ false
+  unfolding stands_beside
+  beside_false p b e f =
+      ap (λ x. (ltb p (s * s) && same_cell (cell_at cells p) cell) && x) (sym e ∙ f)
+      ∙ and_false (ltb p (s * s) && same_cell (cell_at cells p) cell)
     where
       and_false : (a : Bool) → (a && false) ≡ false
       and_false true = refl
       and_false false = refl
 
   -- the points of the board that pass are those that were found
-  pub beside_found : (n r : ℕ) → s * s ≤ n → any_below n (λ k. eqb r k && is_empty_beside s cells S k)
-      ≡ is_empty_beside s cells S r
-  unfolding is_empty_beside
+  pub beside_found : (n r : ℕ) → s * s ≤ n → any_below n (λ k. eqb r k && stands_beside s cells cell S k)
+      ≡ stands_beside s cells cell S r
+  unfolding stands_beside
   beside_found n r all = same_tests _ _
       (λ h.
       let k = any_below_gives n _ h in
       let parts = and_parts _ _ k.2 in
-      ap (is_empty_beside s cells S) (eqb-true r k.0 parts.0) ∙ parts.1)
+      ap (stands_beside s cells cell S) (eqb-true r k.0 parts.0) ∙ parts.1)
       (λ h.
       let on = ltb-true r (s * s) (and_parts _ _ (and_parts _ _ h).0).0 in
       any_below_from n _ r (omega (arith, on, all)) (and_from _ _ (eq-eqb r r refl) h))
@@ -198,3 +199,9 @@ only_first s cells q n libs (Some l) its counted one some none =
 pub not_beside : (enemy beside only : Bool) → beside ≡ false → ((enemy && beside) && only) ≡ false
 not_beside true beside only e = ap (λ b. b && only) e
 not_beside false beside only e = refl
+
+-- where no stone stands the points beside a set are the empty ones
+pub beside_empty : (s : ℕ) (cells : List Cell) (S : ℕ → Bool) (p : ℕ)
+    → stands_beside s cells Empty S p ≡ is_empty_beside s cells S p
+unfolding stands_beside is_empty_beside
+beside_empty s cells S p = refl

@@ -1,6 +1,8 @@
 pub mod SoundLemmas
 pub mod CodeLemmas
 pub mod FoundLemmas
+pub mod GatherLemmas
+pub mod FurtherLemmas
 pub mod ChildLemmas
 pub mod StepLemmas
 pub mod PrintLemmas

@@ -6,29 +6,40 @@ use Rattle.go_rules.specs.declared.Colour.{Colour}
 use Rattle.go_rules.specs.Strings.{cell_at}
 use Rattle.go_rules.specs.Position.{BoardState, colour_of}
 use Rattle.read_rules.specs.declared.question.Kind.{Kind}
-use Rattle.read_rules.specs.Answer.{is_about, asked_on}
+use Rattle.read_rules.specs.declared.tree.Tree.{Tree}
+use Rattle.read_rules.specs.Answer.{is_about, asked_in}
 use Rattle.read_rules.proofs.AnswerLemmas.{stone-colour, about_from}
 
 -- a question on a stone of a position is about the position
-pub about_asked : (pos : BoardState) (kind : Kind) (t plies wide : ℕ) → cell_at pos.cells t ≢ Empty
-    → is_about (asked_on pos kind t plies wide) pos ≡ true
-about_asked pos kind t plies wide stone =
-    about_from (asked_on pos kind t plies wide) pos refl (stone-colour (cell_at pos.cells t) stone)
+pub about_asked : (tree : Tree) (pos : BoardState) (kind : Kind) (t plies wide : ℕ) → cell_at pos.cells t ≢ Empty
+    → is_about (asked_in tree pos kind t plies wide) pos ≡ true
+about_asked tree pos kind t plies wide stone =
+    about_from (asked_in tree pos kind t plies wide) pos refl (stone-colour (cell_at pos.cells t) stone)
 
 -- the question that is asked, by its parts
-pub question_is : (shown : BoardState) (size t plies wide : ℕ) (kind : Kind) (cell : Cell) (colour : Colour)
-    → size ≡ shown.size → colour ≡ colour_of cell → cell ≡ cell_at shown.cells t
+pub question_is : (tree : Tree) (shown : BoardState) (size t plies wide : ℕ) (kind : Kind) (cell : Cell)
+    (colour : Colour) → size ≡ shown.size → colour ≡ colour_of cell → cell ≡ cell_at shown.cells t
     → record {
+      tree = tree;
       size = size;
       kind = kind;
       target = t;
       colour = colour;
       plies = plies;
       wide = wide;
-    } ≡ asked_on shown kind t plies wide
-question_is shown size t plies wide kind cell colour s o e =
-    ap (λ (n : ℕ). record { size = n; kind = kind; target = t; colour = colour; plies = plies; wide = wide }) s
+    } ≡ asked_in tree shown kind t plies wide
+question_is tree shown size t plies wide kind cell colour s o e =
+    ap (λ (n : ℕ). record {
+      tree = tree;
+      size = n;
+      kind = kind;
+      target = t;
+      colour = colour;
+      plies = plies;
+      wide = wide;
+    }) s
     ∙ ap (λ (c : Colour). record {
+      tree = tree;
       size = shown.size;
       kind = kind;
       target = t;

@@ -11,10 +11,10 @@ use Rattle.go_rules.specs.Strings.{liberties}
 use Rattle.read_rules.specs.declared.node.Node.{Node}
 use Rattle.read_rules.specs.declared.question.Spot.{Spot}
 use Rattle.read_rules.specs.declared.question.Spot.TheVariants.{At, Pass}
-use Rattle.read_rules.specs.Candidates.{is_candidate, candidates_of}
+use Rattle.read_rules.specs.Candidates.{is_candidate_at, candidates_of}
 use Rattle.read_rules.specs.GameTree.{is_captured, has_many_liberties, attacker_wins, child_of, mover_of}
 use Rattle.read_rules.specs.Rules.{IsChild, EachChildWins}
-use Rattle.read_rules.proofs.CandidateLaws.{candidate_on}
+use Rattle.read_rules.proofs.CandidateLaws.{candidate_at_on}
 use Rattle.read_rules.proofs.RuleLemmas.{attacker_gives, attacker_from, defender_gives, defender_from, child_gives}
 use Rattle.read_rules.proofs.RuleLemmas.{child_from, many_gives}
 use Rattle.read_rules.proofs.WinLemmas.{wins-captured, wins-no_plies}
@@ -29,19 +29,20 @@ use Rattle.read_proof.specs.Proves.{pass_children, play_children, children_of, a
 
 -- a target with too many liberties for the plies outlasts them
 too_many_outlast : (n : ℕ) (node : Node) (pos : BoardState) → has_too_many n node pos ≡ true
-    → outlasts node.attacker_to_play n node.wide (liberties pos.size pos.cells node.target) ≡ true
+    → outlasts node.tree node.attacker_to_play n node.wide (liberties pos.size pos.cells node.target) ≡ true
 unfolding has_too_many
 too_many_outlast n node pos h =
     let l = liberties pos.size pos.cells node.target in
-    let many = has_many_liberties pos node.target node.wide in
+    let many = has_many_liberties node.tree pos node.target node.wide in
     elim (cases_Bool node.attacker_to_play) [
-      | inl t ↦ ap (λ b. outlasts b n node.wide l) t
+      | inl t ↦ ap (λ b. outlasts node.tree b n node.wide l) t
           ∙ elim (or_cases _ _ (sym (ap (λ b. cond b (ltb ((n + 1) / 2) l || many) (ltb (n / 2) l)) t) ∙ h)) [
-            | inl more ↦ to_attacker n node.wide l (inl (ltb-true _ _ more))
-            | inr much ↦ many_outlast n node.wide pos node.target (many_gives pos node.target node.wide much)
+            | inl more ↦ to_attacker node.tree n node.wide l (inl (ltb-true _ _ more))
+            | inr much ↦ many_outlast node.tree n node.wide pos node.target
+                (many_gives node.tree pos node.target node.wide much)
           ]
-      | inr f ↦ ap (λ b. outlasts b n node.wide l) f
-          ∙ to_defender n node.wide l (inl (ltb-true _ _
+      | inr f ↦ ap (λ b. outlasts node.tree b n node.wide l) f
+          ∙ to_defender node.tree n node.wide l (inl (ltb-true _ _
           (sym (ap (λ b. cond b (ltb ((n + 1) / 2) l || many) (ltb (n / 2) l)) f) ∙ h)))
     ]
 
@@ -160,7 +161,7 @@ unfolding children_of
 children_on_board node pos on =
     both_rows IsOn (pass_children node pos) (play_children node pos) (by node.attacker_to_play)
     (plays_from (child_of node pos) IsOn (λ p child e. played_on_board node pos p child on e)
-    (candidates_of pos node.target node.wide))
+    (candidates_of node pos))
   where
     by : (turn : Bool) → AllByRecursion IsOn (cond turn [] (passed node pos ∷ []))
     by true = tt
@@ -178,12 +179,12 @@ module _ (P : Node × BoardState → Type 0) (node : Node) (pos : BoardState)
       by false e row = row.0
 
   -- and of that after each candidate that can be played
-  play_holds : (p : ℕ) (next : Node) (new : BoardState) → is_candidate pos node.target node.wide p ≡ true
+  play_holds : (p : ℕ) (next : Node) (new : BoardState) → is_candidate_at node pos p ≡ true
       → IsChild node pos p next new → P (next, new)
   unfolding children_of
   play_holds p next new candidate child =
-      let on = candidate_on pos node.target node.wide p candidate in
-      plays_give (child_of node pos) (is_candidate pos node.target node.wide) P (pos.size * pos.size) 0 p (next, new)
+      let on = candidate_at_on node pos p candidate in
+      plays_give (child_of node pos) (is_candidate_at node pos) P (pos.size * pos.size) 0 p (next, new)
       (each_row P (pass_children node pos) (play_children node pos) all).1 (omega arith) (omega arith) candidate
       (child_from node pos p next new child)
 
@@ -204,7 +205,7 @@ won_after : (n : ℕ) (node : Node) (pos : BoardState) (spot : Spot) (child : No
     → child_after node pos spot ≡ Some child → EachChildWins n node pos → attacker_wins n child.0 child.1 ≡ true
 unfolding child_after
 won_after n node pos (At p) child e all =
-    let made = made_by (is_candidate pos node.target node.wide p) (child_of node pos p) child e in
+    let made = made_by (is_candidate_at node pos p) (child_of node pos p) child e in
     all.played p child.0 child.1 made.0 (child_gives node pos p child.0 child.1 made.1)
 won_after n node pos Pass child e all =
     let same = passed_by node.attacker_to_play (passed node pos) child e in
@@ -216,7 +217,7 @@ after_on_board : (node : Node) (pos : BoardState) (spot : Spot) (child : Node ×
 unfolding child_after
 after_on_board node pos (At p) child on e =
     played_on_board node pos p child on
-    (made_by (is_candidate pos node.target node.wide p) (child_of node pos p) child e).1
+    (made_by (is_candidate_at node pos p) (child_of node pos p) child e).1
 after_on_board node pos Pass child on e =
     subst IsOn (passed_by node.attacker_to_play (passed node pos) child e).1 on
 
@@ -260,14 +261,14 @@ module _ (n : ℕ) (node : Node) (pos : BoardState) (stands : is_captured pos no
 
   -- where the child after one of its moves has the claim that the side to play wants, so has the node
   move_decides : (won : Bool) (spot : Spot) (child : Node × BoardState) → is_wanted won node ≡ true
-      → (node.attacker_to_play && has_many_liberties pos node.target node.wide) ≡ false
+      → (node.attacker_to_play && has_many_liberties node.tree pos node.target node.wide) ≡ false
       → child_after node pos spot ≡ Some child → IsSo n won child → attacker_wins (suc n) node pos ≡ won
   unfolding child_after
   move_decides true (At p) child movers few e so =
       let turn = attackers_turn node.attacker_to_play movers in
-      let made = made_by (is_candidate pos node.target node.wide p) (child_of node pos p) child e in
+      let made = made_by (is_candidate_at node pos p) (child_of node pos p) child e in
       more true (attacker_from n node pos stands turn (
-        sym (ap (λ b. b && has_many_liberties pos node.target node.wide) turn) ∙ few,
+        sym (ap (λ b. b && has_many_liberties node.tree pos node.target node.wide) turn) ∙ few,
         record {
           point = p;
           next = child.0;
@@ -326,7 +327,7 @@ child_there prove (Some child) words left e = (child, refl, e)
 -- a move that may prove the claim is of the side that wants it, the target stands, and the attacker may play at it
 may_move_parts : (won : Bool) (node : Node) (pos : BoardState) → move_may_prove won node pos ≡ true
     → (is_wanted won node ≡ true) × (is_captured pos node.target ≡ false)
-    × ((node.attacker_to_play && has_many_liberties pos node.target node.wide) ≡ false)
+    × ((node.attacker_to_play && has_many_liberties node.tree pos node.target node.wide) ≡ false)
 unfolding move_may_prove
 may_move_parts won node pos h =
     let parts = and_parts _ _ h in

@@ -1,3 +1,4 @@
+pub mod Beside
 pub mod Tokens
 pub mod Proves
 pub mod ProofOf

@@ -7,7 +7,7 @@ use Rattle.std.specs.Option.{option_and_then}
 use Rattle.go_rules.specs.Position.{BoardState}
 use Rattle.go_rules.specs.Play.{pass}
 use Rattle.go_rules.specs.Strings.{liberties}
-use Rattle.read_rules.specs.Candidates.{is_candidate, candidates_of}
+use Rattle.read_rules.specs.Candidates.{is_candidate_at, candidates_of}
 use Rattle.read_rules.specs.GameTree.{is_captured, has_many_liberties, child_of, next_node, allowance_of}
 use Rattle.read_rules.specs.declared.node.Node.{Node}
 use Rattle.read_rules.specs.declared.question.Spot.{Spot}
@@ -20,7 +20,7 @@ use Rattle.read_proof.specs.Tokens.{Word, token_of}
 unfoldable pub has_too_many : ℕ → Node → BoardState → Bool
 has_too_many n node pos =
     if node.attacker_to_play then nat_lt ((n + 1) / 2) (liberties pos.size pos.cells node.target)
-    || has_many_liberties pos node.target node.wide
+    || has_many_liberties node.tree pos node.target node.wide
     else nat_lt (n / 2) (liberties pos.size pos.cells node.target)
 
 -- the claim is settled at the node with n plies left: the target is captured; or it stands, and no ply is left or it
@@ -38,7 +38,7 @@ is_wanted won node = if node.attacker_to_play then won else not won
 unfoldable pub move_may_prove : Bool → Node → BoardState → Bool
 move_may_prove won node pos =
     is_wanted won node && not (is_captured pos node.target)
-    && not (node.attacker_to_play && has_many_liberties pos node.target node.wide)
+    && not (node.attacker_to_play && has_many_liberties node.tree pos node.target node.wide)
 
 -- all moves together may prove the claim: it is not what the side to play wants, and the target stands
 unfoldable pub each_may_prove : Bool → Node → BoardState → Bool
@@ -51,7 +51,7 @@ passed node pos = (next_node node (allowance_of node), pass pos)
 -- the child to which a move of the side to play leads, where it is one: a candidate that can be played, or the
 -- defender's pass
 unfoldable pub child_after : Node → BoardState → Spot → Option (Node × BoardState)
-child_after node pos (At p) = if is_candidate pos node.target node.wide p then child_of node pos p else None
+child_after node pos (At p) = if is_candidate_at node pos p then child_of node pos p else None
 child_after node pos Pass = if node.attacker_to_play then None else Some (passed node pos)
 
 -- the child after the defender's pass; none at the attacker's turn
@@ -60,7 +60,7 @@ pass_children node pos = if node.attacker_to_play then [] else passed node pos �
 
 -- the children after the candidates that can be played, in reading order
 abbrev pub play_children : Node → BoardState → List (Node × BoardState)
-play_children node pos = filter_map (child_of node pos) (candidates_of pos node.target node.wide)
+play_children node pos = filter_map (child_of node pos) (candidates_of node pos)
 
 -- the children of the node: that after the defender's pass first, and then those after the candidates
 unfoldable pub children_of : Node → BoardState → List (Node × BoardState)

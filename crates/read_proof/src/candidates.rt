@@ -1,53 +1,26 @@
-//! The candidates of a target, found by going over the points of the board.
+//! The candidates at a node, found by going over the points of the board.
 
-ghost use Rattle.std.specs.Prelude.{◌≡◌, ℕ, ◌*◌, ◌<◌, ◌==◌, ◌&&◌, ◌||◌, false, IsTrue, nat_lt, Some, MatchOption};
+ghost use Rattle.std.specs.Prelude.{◌≡◌, ℕ, ◌*◌, ◌<◌, ◌==◌, ◌&&◌, ◌||◌, Bool, false, IsTrue, nat_lt, MatchOption};
 ghost use Rattle.std.specs.FinSet as set;
 ghost use Rattle.go_rules.specs.Below.{any_below};
-ghost use Rattle.go_rules.specs.Board.{largest_points, are_neighbours};
-ghost use Rattle.go_rules.specs.Strings.{cell_at, same_cell, liberty_points};
-ghost use Rattle.go_base.specs.Sides.{neighbour_at};
+ghost use Rattle.go_rules.specs.Board.{largest_points};
+ghost use Rattle.go_rules.specs.Strings.{liberty_points};
 ghost use Rattle.go_base.specs.Surroundings.{is_only_liberty, is_last_liberty_of_enemy};
-ghost use Rattle.read_rules.specs.Candidates.{attacker_of, is_empty_beside, is_candidate};
+ghost use Rattle.read_rules.specs.Candidates.{attacker_of, is_empty_beside, is_left, is_candidate_at};
 ghost use Rattle.read_rules.specs.Stages.{is_wide_candidate};
-ghost use Rattle.read_rules.specs.Candidates.{is_left};
+ghost use Rattle.read_rules.specs.Trees.{is_wider};
 
-use go_base::sides::neighbour;
+use crate::beside::{add_where, beside};
+use crate::further::further_candidates;
 use go_base::surroundings::{Surroundings, surroundings_of};
-use go_base::{Cell, Colour, Point, PointSet, Position, Size};
+use go_base::{Cell, Colour, Point, PointSet, Position};
+use read_rules::{Node, Tree};
 
 /// How many liberties a string in atari has.
 const IN_ATARI: u16 = 1;
 
-/// With so many liberties or more a target's candidates are not wide.
+/// With so many liberties or more the empty points next to a target's liberties are not tried.
 const MANY: u16 = 3;
-
-/// Whether the point at a side of q is in the set.
-fn has_side(size: Size, points: &PointSet, q: Point, side: u8) -> bool
-    requires on_board { q < size * size }
-    requires side { side < 4 }
-    ensures yes { IsTrue result → (l : ℕ) × (neighbour_at size q side ≡ Some l) × IsTrue (set.contains points.now l) }
-    ensures no { result ≡ false → (l : ℕ) → neighbour_at size q side ≡ Some l → set.contains points.now l ≡ false }
-{
-    match neighbour(size, q, side) {
-        Some(l) => points.has(l),
-        None => false,
-    }
-}
-
-/// Whether some neighbour of q is in the set.
-fn is_beside(pos: &Position, points: &PointSet, q: Point) -> bool
-    requires { q < pos.now.size * pos.now.size }
-    ensures { result ≡ any_below (pos.now.size * pos.now.size)
-        (λ l. set.contains points.now l && are_neighbours pos.now.size l q) }
-{
-    let size = pos.size();
-    for side in 0..4 {
-        if has_side(size, points, q, side) {
-            return true;
-        }
-    }
-    false
-}
 
 /// The one liberty of the string of q, where it has just one.
 fn only_liberty(pos: &Position, q: Point) -> Option<Point>
@@ -73,43 +46,15 @@ fn surroundings(pos: &Position, target: Point) -> Surroundings
     surroundings_of(&mut pos.board(), target)
 }
 
-/// Adds p where it is empty.
-fn add_where_empty(pos: &Position, p: Point, found: &mut PointSet)
-    requires on_board { p < pos.now.size * pos.now.size }
-    requires small { p < largest_points }
-    ensures { (r : ℕ) → set.contains found.new r
-        ≡ (set.contains found.old r || ((r == p) && same_cell (cell_at pos.now.cells p) Cell.Empty)) }
-{
-    if pos.cell(p) == Cell::Empty {
-        found.add(p);
-    }
-}
-
-/// Adds p where it is empty and next to a point of the set.
-fn add_empty_beside(pos: &Position, points: &PointSet, p: Point, found: &mut PointSet)
-    requires on_board { p < pos.now.size * pos.now.size }
-    requires small { p < largest_points }
-    ensures { (r : ℕ) → set.contains found.new r ≡ (set.contains found.old r
-        || ((r == p) && is_empty_beside pos.now.size pos.now.cells (set.contains points.now) p)) }
-{
-    if is_beside(pos, points, p) {
-        add_where_empty(pos, p, found);
-    }
-}
-
 /// The empty points next to the target's liberties, where it has at most two.
 fn beside_few(pos: &Position, liberties: &PointSet) -> PointSet
     ensures { (p : ℕ) → set.contains result p ≡ (nat_lt (set.len liberties.now) 3
         && is_empty_beside pos.now.size pos.now.cells (set.contains liberties.now) p) }
 {
-    let mut found = PointSet::new();
     if liberties.count() >= MANY {
-        return found;
+        return PointSet::new();
     }
-    for p in 0..pos.size().points() {
-        add_empty_beside(pos, liberties, p, &mut found);
-    }
-    found
+    beside(pos, Cell::Empty, liberties)
 }
 
 /// Adds the one liberty that a stone of c at l would have, where l is in the set and the liberty is empty now.
@@ -124,7 +69,7 @@ fn add_left(pos: &Position, c: Colour, liberties: &PointSet, l: Point, found: &m
     }
     if let Ok(new) = pos.play_free(c, l) {
         if let Some(p) = only_liberty(&new, l) {
-            add_where_empty(pos, p, found);
+            add_where(pos, Cell::Empty, p, found);
         }
     }
 }
@@ -150,40 +95,66 @@ fn attacker_of(cell: Cell) -> Colour
     }
 }
 
-/// The candidates that are tried only where a wide ply is left; the target's liberties are handed in.
-fn wide_candidates(pos: &Position, target: Point, liberties: &PointSet) -> PointSet
+/// The candidates that the stated tree tries only where a wide ply is left, at either turn; the target's liberties are
+/// handed in.
+fn stated_candidates(pos: &Position, target: Point, liberties: &PointSet) -> PointSet
     requires on_board { target < pos.now.size * pos.now.size }
     requires liberties { liberties.now ≡ liberty_points pos.now.size pos.now.cells target }
-    ensures { (p : ℕ) → set.contains result p ≡ is_wide_candidate pos.now target p }
+    ensures { (attacker_to_play : Bool) → (p : ℕ)
+        → set.contains result p ≡ is_wide_candidate Tree.Stated attacker_to_play pos.now target p }
 {
     let mut found = beside_few(pos, liberties);
     add_backfilling(pos, attacker_of(pos.cell(target)), liberties, &mut found);
     found
 }
 
-/// The candidates of the target, with `wide` wide plies left.
-pub fn candidates(pos: &Position, target: Point, wide: u8) -> PointSet
-    requires { target < pos.now.size * pos.now.size }
-    ensures value { (p : ℕ) → set.contains result p ≡ is_candidate pos.now target wide p }
+/// Whether the tree tries the further candidates where a wide ply is left.
+fn is_wider(tree: Tree) -> bool
+    ensures { result ≡ is_wider tree }
+{
+    match tree {
+        Tree::Stated => false,
+        Tree::Wider => true,
+    }
+}
+
+/// The candidates at the node that are tried only where a wide ply is left; the target's liberties are handed in.
+fn wide_candidates(pos: &Position, node: Node, liberties: &PointSet) -> PointSet
+    requires on_board { node.target < pos.now.size * pos.now.size }
+    requires liberties { liberties.now ≡ liberty_points pos.now.size pos.now.cells node.target }
+    ensures { (p : ℕ) → set.contains result p
+        ≡ is_wide_candidate node.tree node.attacker_to_play pos.now node.target p }
+{
+    let mut found = stated_candidates(pos, node.target, liberties);
+    if is_wider(node.tree) {
+        found.join(&further_candidates(pos, node.attacker_to_play, node.target, liberties));
+    }
+    found
+}
+
+/// The candidates at the node.
+pub fn candidates(pos: &Position, node: Node) -> PointSet
+    requires { node.target < pos.now.size * pos.now.size }
+    ensures value { (p : ℕ) → set.contains result p ≡ is_candidate_at node pos.now p }
     ensures on_board { (p : ℕ) → IsTrue (set.contains result p) → p < pos.now.size * pos.now.size }
 {
     let Surroundings {
         liberties,
         last_liberties: mut found,
-    } = surroundings(pos, target);
+    } = surroundings(pos, node.target);
     found.join(&liberties);
-    if wide > 0 {
-        found.join(&wide_candidates(pos, target, &liberties));
+    if node.wide > 0 {
+        found.join(&wide_candidates(pos, node, &liberties));
     }
     found
 }
 
-/// Whether p is a candidate of the target, with `wide` wide plies left. Its liberties are looked at first, since most
-/// moves are at one of them.
-pub fn is_candidate(pos: &Position, target: Point, wide: u8, p: Point) -> bool
-    requires target { target < pos.now.size * pos.now.size }
+/// Whether p is a candidate at the node. The target's liberties are looked at first, since most moves are at one of
+/// them.
+pub fn is_candidate(pos: &Position, node: Node, p: Point) -> bool
+    requires target { node.target < pos.now.size * pos.now.size }
     requires small { p < largest_points }
-    ensures { result ≡ is_candidate pos.now target wide p }
+    ensures { result ≡ is_candidate_at node pos.now p }
 {
-    pos.liberty_points(target).has(p) || candidates(pos, target, wide).has(p)
+    pos.liberty_points(node.target).has(p) || candidates(pos, node).has(p)
 }

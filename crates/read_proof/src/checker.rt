@@ -4,7 +4,7 @@ ghost use Rattle.std.specs.Prelude.{◌≡◌, ◌≢◌, ◌*◌, ◌<◌, ◌�
 ghost use Rattle.std.specs.Str.{bytes_eq};
 ghost use Rattle.vertices.specs.Words.{kept};
 ghost use Rattle.go_rules.specs.Strings.{cell_at};
-ghost use Rattle.read_rules.specs.Answer.{answer_of, asked_on};
+ghost use Rattle.read_rules.specs.Answer.{answer_of, asked_in};
 ghost use Rattle.read_proof.specs.Tokens.{words_in};
 ghost use Rattle.read_proof.specs.ProofOf.{codes_down_to, claim_under, letter_of, proves_under, proves_all, IsProofOf};
 
@@ -84,9 +84,9 @@ pub fn check(pos: &Position, of: Kind, target: Point, depths: Depths, code: u8, 
     requires stone { cell_at pos.now.cells target ≢ Cell.Empty }
     requires code { code ≤ 3 }
     ensures proof { IsTrue result
-        ↔ IsProofOf (asked_on pos.now of target depths.plies depths.wide) pos.now code text.now }
+        ↔ IsProofOf (asked_in depths.tree pos.now of target depths.plies depths.wide) pos.now code text.now }
     ensures sound { IsTrue result
-        → (answer_of (asked_on pos.now of target depths.plies depths.wide) pos.now).code ≡ code }
+        → (answer_of (asked_in depths.tree pos.now of target depths.plies depths.wide) pos.now).code ≡ code }
 {
     let question = question_on(pos, of, target, depths);
     match all_proved(pos, &question, code, text) {

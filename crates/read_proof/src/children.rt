@@ -73,7 +73,7 @@ pub fn child_after(pos: &Position, node: Node, spot: Spot) -> Option<(Node, Posi
             if p >= pos.size().points() {
                 return None;
             }
-            if !is_candidate(pos, node.target, node.wide, p) {
+            if !is_candidate(pos, node, p) {
                 return None;
             }
             child_of(pos, node, p)

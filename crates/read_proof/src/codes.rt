@@ -2,7 +2,7 @@
 
 ghost use Rattle.std.specs.Prelude.{◌≡◌, ◌*◌, ◌<◌, ◌==◌, if◌then◌else◌};
 ghost use Rattle.go_rules.specs.Position.{colour_of};
-ghost use Rattle.read_rules.specs.Answer.{asked_on, first_node};
+ghost use Rattle.read_rules.specs.Answer.{asked_in, first_node};
 ghost use Rattle.read_proof.specs.ProofOf.{claim_under};
 
 use go_base::{Cell, Colour, Point, Position};
@@ -34,6 +34,7 @@ pub fn first_node(question: &ReadingQuestion, code: u8) -> Node
     let other = allowance_under(code, 3);
     match question.kind {
         Kind::Attack => Node {
+            tree: question.tree,
             target: question.target,
             defender: question.colour,
             attacker_to_play: true,
@@ -42,6 +43,7 @@ pub fn first_node(question: &ReadingQuestion, code: u8) -> Node
             defender_ko: other,
         },
         Kind::Defend => Node {
+            tree: question.tree,
             target: question.target,
             defender: question.colour,
             attacker_to_play: false,
@@ -65,9 +67,10 @@ fn colour_of(cell: Cell) -> Colour
 /// The question that a call asks.
 pub fn question_on(pos: &Position, of: Kind, target: Point, depths: Depths) -> ReadingQuestion
     requires { target < pos.now.size * pos.now.size }
-    ensures { result ≡ asked_on pos.now of target depths.plies depths.wide }
+    ensures { result ≡ asked_in depths.tree pos.now of target depths.plies depths.wide }
 {
     ReadingQuestion {
+        tree: depths.tree,
         size: pos.size(),
         kind: of,
         target,

@@ -7,10 +7,12 @@
 //! word.
 #![tactic(auto)]
 
+mod beside;
 mod candidates;
 mod checker;
 mod children;
 pub mod codes;
+mod further;
 pub mod laws;
 mod settled;
 mod token;
@@ -18,8 +20,5 @@ mod turns;
 mod walk;
 
 pub use checker::check;
-pub use read_rules::{Depths, Kind as ProofOf, Node, Spot};
+pub use read_rules::{Depths, Kind as ProofOf, Node, Spot, Tree};
 pub use token::Token;
-
-#[cfg(test)]
-mod tests;

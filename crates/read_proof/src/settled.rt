@@ -2,10 +2,11 @@
 
 ghost use Rattle.std.specs.Prelude.{◌≡◌, ◌*◌, ◌<◌, ◌==◌, ◌&&◌, ◌||◌, nat_lt};
 ghost use Rattle.read_rules.specs.GameTree.{is_captured, has_many_liberties};
+ghost use Rattle.read_rules.specs.Trees.{most_narrow};
 ghost use Rattle.read_proof.specs.Proves.{is_settled, has_too_many, is_wanted, move_may_prove, each_may_prove};
 
 use go_base::{Cell, Position};
-use read_rules::Node;
+use read_rules::{Node, Tree};
 
 /// Whether the target's point is empty.
 pub fn is_captured(pos: &Position, node: Node) -> bool
@@ -15,20 +16,30 @@ pub fn is_captured(pos: &Position, node: Node) -> bool
     pos.cell(node.target) == Cell::Empty
 }
 
-/// Whether these are more liberties than the attacker may play at, with `wide` wide plies left.
-fn are_many(liberties: u16, wide: u8) -> bool
-    ensures { result ≡ (nat_lt 4 liberties || ((wide == 0) && nat_lt 2 liberties)) }
+/// How many liberties a target of the tree may have, where no wide ply is left, that the attacker may play at.
+fn most_narrow(tree: Tree) -> u16
+    ensures { result ≡ most_narrow tree }
 {
-    liberties > 4 || (wide == 0 && liberties > 2)
+    match tree {
+        Tree::Stated => 2,
+        Tree::Wider => 3,
+    }
+}
+
+/// Whether these are more liberties than the attacker may play at in the tree, with `wide` wide plies left.
+fn are_many(tree: Tree, liberties: u16, wide: u8) -> bool
+    ensures { result ≡ (nat_lt 4 liberties || ((wide == 0) && nat_lt (most_narrow tree) liberties)) }
+{
+    liberties > 4 || (wide == 0 && liberties > most_narrow(tree))
 }
 
 /// Whether the target has more liberties than the attacker may play at.
 #[tactic(auto, unfolding(read_rules::specs::GameTree::has_many_liberties))]
 pub fn has_many_liberties(pos: &Position, node: Node) -> bool
     requires { node.target < pos.now.size * pos.now.size }
-    ensures { result ≡ has_many_liberties pos.now node.target node.wide }
+    ensures { result ≡ has_many_liberties node.tree pos.now node.target node.wide }
 {
-    are_many(pos.liberties(node.target), node.wide)
+    are_many(node.tree, pos.liberties(node.target), node.wide)
 }
 
 /// Whether the target has more liberties than the attacker can fill with `plies` plies left, or than he may play at.
@@ -39,7 +50,7 @@ fn has_too_many(pos: &Position, node: Node, plies: u8) -> bool
 {
     let liberties = pos.liberties(node.target);
     if node.attacker_to_play {
-        liberties > (u16::from(plies) + 1) / 2 || are_many(liberties, node.wide)
+        liberties > (u16::from(plies) + 1) / 2 || are_many(node.tree, liberties, node.wide)
     } else {
         liberties > u16::from(plies) / 2
     }

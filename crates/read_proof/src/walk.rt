@@ -93,7 +93,7 @@ fn plays_proved<'a>(
         (λ left. at_each (proves plies won) (play_children node pos.now) (words_in text.now)
         ≡ Some (words_in left.now)) }
 {
-    let candidates = candidates(pos, node.target, node.wide);
+    let candidates = candidates(pos, node);
     let mut left = text;
     let mut from = 0;
     'plays: while let Some(p) = candidates.first_from(from) {

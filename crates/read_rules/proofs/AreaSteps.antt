@@ -9,6 +9,7 @@ use Rattle.go_rules.proofs.InWords.{neighbourhood_of-on_board}
 use Rattle.go_rules.proofs.Paths.{IsInString-from_test, is_is_in_string-from_fact}
 use Rattle.go_base.proofs.PointNeighbourhoods.{whole_self, whole_string, whole_cases, close_whole, close_next}
 use Rattle.go_base.proofs.PointNeighbourhoods.{within, beside, closeness}
+use Rattle.read_rules.specs.ActiveArea.{taken_times}
 use Rattle.read_rules.specs.AreaInWords.{IsOneStep, along, beyond, IsReachedIn, at_string, one_more}
 
 -- The steps on one board.
@@ -43,8 +44,7 @@ module _ (s : ℕ) (cells : List Cell) where
 
   -- the neighbourhood of the string of t, taken n times
   abbrev pub closed : ℕ → ℕ → ℕ → Bool
-  closed t zero = is_in_string s cells t
-  closed t (suc n) = neighbourhood_of s cells (closed t n)
+  closed t n = taken_times n s cells (is_in_string s cells t)
 
   -- its points are on the board
   closed_on : (t n p : ℕ) → t < s * s → closed t n p ≡ true → p < s * s

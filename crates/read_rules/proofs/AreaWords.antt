@@ -9,6 +9,8 @@ use Rattle.go_rules.specs.Position.{BoardState}
 use Rattle.go_rules.specs.Play.{pass}
 use Rattle.go_rules.proofs.Paths.{same_cell-true, same_cell-from}
 use Rattle.read_rules.specs.declared.node.Node.{Node}
+use Rattle.read_rules.specs.declared.tree.Tree.{Tree}
+use Rattle.read_rules.specs.Trees.{steps_of}
 use Rattle.read_rules.specs.declared.question.Kind.{Kind}
 use Rattle.read_rules.specs.declared.question.Kind.TheVariants.{Attack, Defend}
 use Rattle.read_rules.specs.declared.question.ReadingQuestion.{ReadingQuestion}
@@ -23,11 +25,11 @@ use Rattle.read_rules.proofs.AreaSteps.{steps_give, steps_from}
 use Rattle.read_rules.proofs.RuleLemmas.{many_gives, many_from, child_gives, child_from}
 use Rattle.read_rules.proofs.LibertyLemmas.{child_free, play_size}
 
--- the reach of a string is what five steps lead to
-reach-is : (s : ℕ) (cells : List Cell) (t p : ℕ) → t < s * s
-    → (reach_of s cells (is_in_string s cells t) p ≡ true) ↔ IsReachedIn s cells t 5 p
+-- the reach of a string is what the steps of the tree lead to
+reach-is : (tree : Tree) (s : ℕ) (cells : List Cell) (t p : ℕ) → t < s * s
+    → (reach_of tree s cells (is_in_string s cells t) p ≡ true) ↔ IsReachedIn s cells t (steps_of tree) p
 unfolding reach_of
-reach-is s cells t p on = (steps_give s cells t 5 p, steps_from s cells t on)
+reach-is tree s cells t p on = (steps_give s cells t (steps_of tree) p, steps_from s cells t on)
 
 -- a target that stands is not an empty point
 stands_gives : (pos : BoardState) (t : ℕ) → is_captured pos t ≡ false → cell_at pos.cells t ≢ Empty
@@ -51,7 +53,7 @@ tree_on on (by_play {n} {node} {here} tree undecided p c next new child) =
     (subst (λ (m : Node). m.target < here.size * here.size) (sym free.2) (tree_on on tree))
 tree_on on (by_pass tree undecided turn) = tree_on on tree
 
--- a point of the active area is five steps from the target's string at some node of the question
+-- a point of the active area is the steps of the tree from the target's string at some node of the question
 pub area-is : (q : ReadingQuestion) (pos : BoardState) (p : ℕ) → q.target < pos.size * pos.size
     → InActiveArea q pos p ↔ IsLookedAt q pos p
 area-is q pos p on = (
@@ -61,7 +63,7 @@ area-is q pos p on = (
     here = h.here;
     in_tree = h.in_tree;
     stands = stands_gives h.here h.node.target h.near.stands;
-    reached = (reach-is h.here.size h.here.cells h.node.target p (tree_on on h.in_tree)).0 h.near.near;
+    reached = (reach-is h.node.tree h.here.size h.here.cells h.node.target p (tree_on on h.in_tree)).0 h.near.near;
   },
   λ h. record {
     plies = h.plies;
@@ -70,7 +72,7 @@ area-is q pos p on = (
     in_tree = h.in_tree;
     near = record {
       stands = stands_from h.here h.node.target h.stands;
-      near = (reach-is h.here.size h.here.cells h.node.target p (tree_on on h.in_tree)).1 h.reached;
+      near = (reach-is h.node.tree h.here.size h.here.cells h.node.target p (tree_on on h.in_tree)).1 h.reached;
     };
   },
 )
@@ -78,6 +80,7 @@ area-is q pos p on = (
 -- the same question, asked as an attack or as a defence
 abbrev asked_as : ReadingQuestion → Kind → ReadingQuestion
 asked_as q kind = record {
+  tree = q.tree;
   size = q.size;
   kind = kind;
   target = q.target;
@@ -153,18 +156,18 @@ first_from q pos a d h = elim (cases_eq a 1) [
 
 -- an undecided node's target has not too many liberties at the attacker's turn
 few_gives : (node : Node) (here : BoardState) → IsUndecided node here → node.attacker_to_play ≡ true
-    → HasManyLiberties here node.target node.wide → ⊥
+    → HasManyLiberties node.tree here node.target node.wide → ⊥
 few_gives node here undecided turn many =
-    both_ways (has_many_liberties here node.target node.wide) (undecided.few turn)
-    (many_from here node.target node.wide many)
+    both_ways (has_many_liberties node.tree here node.target node.wide) (undecided.few turn)
+    (many_from node.tree here node.target node.wide many)
 
 -- where the target stands and has not too many liberties, the node is undecided
 undecided_from : (node : Node) (here : BoardState) → cell_at here.cells node.target ≢ Empty
-    → (node.attacker_to_play ≡ true → HasManyLiberties here node.target node.wide → ⊥) → IsUndecided node here
+    → (node.attacker_to_play ≡ true → HasManyLiberties node.tree here node.target node.wide → ⊥) → IsUndecided node here
 undecided_from node here stands few = record {
   stands = stands_from here node.target stands;
-  few = λ turn. elim (cases_Bool (has_many_liberties here node.target node.wide)) [
-    | inl m ↦ absurd (few turn (many_gives here node.target node.wide m))
+  few = λ turn. elim (cases_Bool (has_many_liberties node.tree here node.target node.wide)) [
+    | inl m ↦ absurd (few turn (many_gives node.tree here node.target node.wide m))
     | inr f ↦ f
   ];
 }

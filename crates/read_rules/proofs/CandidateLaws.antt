@@ -15,9 +15,16 @@ use Rattle.go_rules.proofs.Paths.{IsLiberty-from_test, is_liberty-from_fact}
 use Rattle.go_rules.proofs.StringMembers.{is_in_string_on}
 use Rattle.go_rules.proofs.PlayLaws.{done_state}
 use Rattle.go_base.specs.Surroundings.{is_only_liberty, is_last_liberty_of_enemy}
+use Rattle.further_rules.specs.Further.{is_further}
+use Rattle.further_rules.proofs.FurtherLaws.{further_gives, further_from}
+use Rattle.read_rules.specs.declared.node.Node.{Node}
+use Rattle.read_rules.specs.declared.tree.Tree.{Tree}
+use Rattle.read_rules.specs.declared.tree.Tree.TheVariants.{Stated, Wider}
+use Rattle.read_rules.specs.Trees.{is_wider}
 use Rattle.read_rules.specs.Candidates.{attacker_of, is_empty_beside, leaves_only, is_backfilling, is_candidate}
-use Rattle.read_rules.specs.Candidates.{IsEmptyNeighbour, IsTakenAt, IsBackfilledAt, IsCandidate, fills, looks_wide}
-use Rattle.read_rules.specs.Candidates.{takes, backfills}
+use Rattle.read_rules.specs.Candidates.{is_candidate_at, IsEmptyNeighbour, IsTakenAt, IsBackfilledAt, IsCandidate}
+use Rattle.read_rules.specs.Candidates.{fills, looks_wide, takes, backfills, goes_further}
+use Rattle.read_rules.proofs.FurtherPoints.{further_on}
 
 -- an empty point beside a liberty is an empty neighbour of one, and the other way round
 wide_gives : (s : ℕ) (cells : List Cell) (target p : ℕ) → is_empty_beside s cells (is_liberty s cells target) p ≡ true
@@ -151,11 +158,40 @@ by_wide pos target k p =
 abbrev by_backfilling : BoardState → ℕ → ℕ → ℕ → Bool
 by_backfilling pos target k p = ltb 0 k && is_backfilling pos target p
 
--- a candidate by the test is one by the rules
-pub candidate_gives : (pos : BoardState) (target k p : ℕ) → is_candidate pos target k p ≡ true
-    → IsCandidate pos target k p
+-- the tree that tries further candidates is the wider one
+wider_gives : (tree : Tree) → is_wider tree ≡ true → tree ≡ Wider
+wider_gives Stated h = cc
+wider_gives Wider h = refl
+
+-- p is of one of the four sets of the stated tree, by the test
+abbrev by_four : BoardState → ℕ → ℕ → ℕ → Bool
+by_four pos target k p =
+    is_liberty pos.size pos.cells target p || by_wide pos target k p
+    || is_last_liberty_of_enemy pos.size pos.cells target p || by_backfilling pos target k p
+
+-- how p is a candidate of the tree, by the test
+data ByTest (tree : Tree) (attacker : Bool) (pos : BoardState) (target k p : ℕ) : Type 0 where
+  of_four : by_four pos target k p ≡ true → ByTest tree attacker pos target k p
+  of_further : 0 < k → tree ≡ Wider → is_further attacker pos.size pos.cells target p ≡ true
+      → ByTest tree attacker pos target k p
+
+-- a candidate is of one of the four sets, or a further candidate
+by_test : (tree : Tree) (attacker : Bool) (pos : BoardState) (target k p : ℕ)
+    → is_candidate tree attacker pos target k p ≡ true → ByTest tree attacker pos target k p
 unfolding is_candidate
-candidate_gives pos target k p h =
+by_test tree attacker pos target k p h = elim (or_cases (by_four pos target k p)
+    (ltb 0 k && (is_wider tree && is_further attacker pos.size pos.cells target p)) h) [
+      | inl four ↦ of_four four
+      | inr further ↦
+          let parts = and_parts _ _ further in
+          let both = and_parts _ _ parts.1 in
+          of_further (ltb-true 0 k parts.0) (wider_gives tree both.0) both.1
+    ]
+
+-- a point of one of the four sets by the test is one by the rules
+four_gives : (tree : Tree) (attacker : Bool) (pos : BoardState) (target k p : ℕ)
+    → by_four pos target k p ≡ true → IsCandidate tree attacker pos target k p
+four_gives tree attacker pos target k p h =
     let lib = is_liberty pos.size pos.cells target p in
     let wide = by_wide pos target k p in
     let last = is_last_liberty_of_enemy pos.size pos.cells target p in
@@ -179,27 +215,50 @@ candidate_gives pos target k p h =
       ]
     ]
 
+-- a candidate by the test is one by the rules
+pub candidate_gives : (tree : Tree) (attacker : Bool) (pos : BoardState) (target k p : ℕ)
+    → target < pos.size * pos.size → is_candidate tree attacker pos target k p ≡ true
+    → IsCandidate tree attacker pos target k p
+candidate_gives tree attacker pos target k p on h = elim (by_test tree attacker pos target k p h) [
+  | of_four four ↦ four_gives tree attacker pos target k p four
+  | of_further some is further ↦ goes_further is some (further_gives pos.size pos.cells target attacker p on further)
+]
+
 -- a candidate by the rules is one by the test
-pub candidate_from : (pos : BoardState) (target k p : ℕ) → target < pos.size * pos.size → IsCandidate pos target k p
-    → is_candidate pos target k p ≡ true
+pub candidate_from : (tree : Tree) (attacker : Bool) (pos : BoardState) (target k p : ℕ)
+    → target < pos.size * pos.size → IsCandidate tree attacker pos target k p
+    → is_candidate tree attacker pos target k p ≡ true
 unfolding is_candidate
-candidate_from pos target k p on (fills lib) =
-    or_left _ _ (or_left _ _ (or_left _ _ (is_liberty-from_fact pos.size pos.cells target p on lib)))
-candidate_from pos target k p on (looks_wide some few l lib near) =
-    or_left _ _ (or_left _ _ (or_right _ _ (and_from _ _
+candidate_from tree attacker pos target k p on (fills lib) =
+    or_left _ _ (or_left _ _ (or_left _ _ (or_left _ _ (is_liberty-from_fact pos.size pos.cells target p on lib))))
+candidate_from tree attacker pos target k p on (looks_wide some few l lib near) =
+    or_left _ _ (or_left _ _ (or_left _ _ (or_right _ _ (and_from _ _
     (and_from _ _ (lt-ltb 0 k some) (lt-ltb (liberties pos.size pos.cells target) 3 (omega arith)))
     (wide_from pos.size pos.cells target p l lib.on_board
-    (is_liberty-from_fact pos.size pos.cells target l on lib) near))))
-candidate_from pos target k p on (takes q taken) =
-    or_left _ _ (or_right _ _ (takes_from pos.size pos.cells target q p on taken))
-candidate_from pos target k p on (backfills some l w) =
-    or_right _ _ (and_from _ _ (lt-ltb 0 k some) (backfills_from pos target l p on w))
+    (is_liberty-from_fact pos.size pos.cells target l on lib) near)))))
+candidate_from tree attacker pos target k p on (takes q taken) =
+    or_left _ _ (or_left _ _ (or_right _ _ (takes_from pos.size pos.cells target q p on taken)))
+candidate_from tree attacker pos target k p on (backfills some l w) =
+    or_left _ _ (or_right _ _ (and_from _ _ (lt-ltb 0 k some) (backfills_from pos target l p on w)))
+candidate_from tree attacker pos target k p on (goes_further is some further) =
+    or_right _ _ (and_from _ _ (lt-ltb 0 k some)
+    (and_from _ _ (ap is_wider is) (further_from pos.size pos.cells target attacker p on further)))
 
 -- a candidate is a point of the board
-pub candidate_on : (pos : BoardState) (target k p : ℕ) → is_candidate pos target k p ≡ true → p < pos.size * pos.size
-candidate_on pos target k p h = elim (candidate_gives pos target k p h) [
-  | fills lib ↦ lib.on_board
-  | looks_wide some few l lib near ↦ near.on_board
-  | takes q taken ↦ taken.last.on_board
-  | backfills some l w ↦ backfilled_on pos target l p w
+pub candidate_on : (tree : Tree) (attacker : Bool) (pos : BoardState) (target k p : ℕ)
+    → is_candidate tree attacker pos target k p ≡ true → p < pos.size * pos.size
+candidate_on tree attacker pos target k p h = elim (by_test tree attacker pos target k p h) [
+  | of_further some is further ↦ further_on pos.size pos.cells target p attacker further
+  | of_four four ↦ elim (four_gives Stated attacker pos target k p four) [
+    | fills lib ↦ lib.on_board
+    | looks_wide some few l lib near ↦ near.on_board
+    | takes q taken ↦ taken.last.on_board
+    | backfills some l w ↦ backfilled_on pos target l p w
+    | goes_further is some further ↦ absurd (let w = is in cc)
+  ]
 ]
+
+-- and so is a candidate at a node
+pub candidate_at_on : (node : Node) (pos : BoardState) (p : ℕ) → is_candidate_at node pos p ≡ true
+    → p < pos.size * pos.size
+candidate_at_on node pos p h = candidate_on node.tree node.attacker_to_play pos node.target node.wide p h

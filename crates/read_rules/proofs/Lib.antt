@@ -1,3 +1,4 @@
+pub mod FurtherPoints
 pub mod CandidateLaws
 pub mod BackfillLemmas
 pub mod WalkLemmas

@@ -21,7 +21,10 @@ use Rattle.go_rules.proofs.PlayLaws.{play_done}
 use Rattle.read_rules.proofs.AfterPlays.{after_liberty}
 use Rattle.read_rules.specs.GameTree.{is_captured, has_many_liberties, mover_of, allowance_of, next_node, attacker_wins}
 use Rattle.read_rules.specs.Rules.{IsChild, HasManyLiberties}
-use Rattle.read_rules.specs.Bound.{most_by_wide, outlasts, IsTooWide, over_four, over_three, over_two, IsTooMany}
+use Rattle.read_rules.specs.declared.tree.Tree.{Tree}
+use Rattle.read_rules.specs.declared.tree.Tree.TheVariants.{Stated, Wider}
+use Rattle.read_rules.specs.Trees.{most_narrow}
+use Rattle.read_rules.specs.Bound.{most_by_wide, outlasts, IsTooWide, over_four, few_left, none_left, IsTooMany}
 use Rattle.read_rules.proofs.WinLemmas.{wins-no_plies}
 use Rattle.read_rules.proofs.RuleLemmas.{many_from, many_gives, attacker_gives, defender_gives}
 
@@ -120,101 +123,117 @@ lt_cases a b c d h = elim (or_cases (ltb a b) (ltb c d) h) [
   | inr y ↦ inr (ltb-true c d y)
 ]
 
--- too many at the attacker's turn are more than half of the plies, rounded up, or than the wide plies allow
-outlasts_attacker : (n k l : ℕ) → outlasts true n k l ≡ true → ((n + 1) / 2 < l) ⊎ (most_by_wide k < l)
-unfolding outlasts
-outlasts_attacker n k l h = lt_cases ((n + 1) / 2) l (most_by_wide k) l h
+-- a number below one is below a greater one
+below_more : (b l m : ℕ) → b < l → l ≤ m → b < m
+below_more b l m x le = omega (arith, x, le)
 
--- too many at the defender's turn are more than half of the plies, or than the wide plies after a pass allow
-outlasts_defender : (n k l : ℕ) → outlasts false n k l ≡ true → (n / 2 < l) ⊎ (most_by_wide (k - 1) < l)
-unfolding outlasts
-outlasts_defender n k l h = lt_cases (n / 2) l (most_by_wide (k - 1)) l h
+-- some number is above one that has a smaller one
+above_none : (b l : ℕ) → b < l → 0 < l
+above_none b l x = omega (arith, x)
 
--- at the attacker's turn more than half of the plies, rounded up, or than the wide plies allow are too many
-pub to_attacker : (n k l : ℕ) → ((n + 1) / 2 < l) ⊎ (most_by_wide k < l) → outlasts true n k l ≡ true
-unfolding outlasts
-to_attacker n k l (inl h) = or_left (ltb ((n + 1) / 2) l) _ (lt-ltb _ _ h)
-to_attacker n k l (inr h) = or_right (ltb ((n + 1) / 2) l) _ (lt-ltb _ _ h)
+-- The bound of one tree.
+module _ (tree : Tree) where
+  -- too many at the attacker's turn are more than half of the plies, rounded up, or than the wide plies allow
+  outlasts_attacker : (n k l : ℕ) → outlasts tree true n k l ≡ true → ((n + 1) / 2 < l) ⊎ (most_by_wide tree k < l)
+  unfolding outlasts
+  outlasts_attacker n k l h = lt_cases ((n + 1) / 2) l (most_by_wide tree k) l h
 
--- at the defender's turn more than half of the plies, or than the wide plies after a pass allow are too many
-pub to_defender : (n k l : ℕ) → (n / 2 < l) ⊎ (most_by_wide (k - 1) < l) → outlasts false n k l ≡ true
-unfolding outlasts
-to_defender n k l (inl h) = or_left (ltb (n / 2) l) _ (lt-ltb _ _ h)
-to_defender n k l (inr h) = or_right (ltb (n / 2) l) _ (lt-ltb _ _ h)
+  -- too many at the defender's turn are more than half of the plies, or than the wide plies after a pass allow
+  outlasts_defender : (n k l : ℕ) → outlasts tree false n k l ≡ true → (n / 2 < l) ⊎ (most_by_wide tree (k - 1) < l)
+  unfolding outlasts
+  outlasts_defender n k l h = lt_cases (n / 2) l (most_by_wide tree (k - 1)) l h
 
--- with more liberties than too many there are too many
-pub more_outlasts : (n k l m : ℕ) → outlasts false n k l ≡ true → l ≤ m → outlasts false n k m ≡ true
-more_outlasts n k l m h le = elim (outlasts_defender n k l h) [
-  | inl x ↦ to_defender n k m (inl (omega (arith, x, le)))
-  | inr x ↦ to_defender n k m (inr (wider (most_by_wide (k - 1)) x))
-]
-  where
-    wider : (b : ℕ) → b < l → b < m
-    wider b x = omega (arith, x, le)
+  -- at the attacker's turn more than half of the plies, rounded up, or than the wide plies allow are too many
+  pub to_attacker : (n k l : ℕ) → ((n + 1) / 2 < l) ⊎ (most_by_wide tree k < l) → outlasts tree true n k l ≡ true
+  unfolding outlasts
+  to_attacker n k l (inl h) = or_left (ltb ((n + 1) / 2) l) _ (lt-ltb _ _ h)
+  to_attacker n k l (inr h) = or_right (ltb ((n + 1) / 2) l) _ (lt-ltb _ _ h)
 
--- and at the attacker's turn too
-pub more_outlasts_attacker : (n k l m : ℕ) → outlasts true n k l ≡ true → l ≤ m → outlasts true n k m ≡ true
-more_outlasts_attacker n k l m h le = elim (outlasts_attacker n k l h) [
-  | inl x ↦ to_attacker n k m (inl (omega (arith, x, le)))
-  | inr x ↦ to_attacker n k m (inr (wider (most_by_wide k) x))
-]
-  where
-    wider : (b : ℕ) → b < l → b < m
-    wider b x = omega (arith, x, le)
+  -- at the defender's turn more than half of the plies, or than the wide plies after a pass allow are too many
+  pub to_defender : (n k l : ℕ) → (n / 2 < l) ⊎ (most_by_wide tree (k - 1) < l) → outlasts tree false n k l ≡ true
+  unfolding outlasts
+  to_defender n k l (inl h) = or_left (ltb (n / 2) l) _ (lt-ltb _ _ h)
+  to_defender n k l (inr h) = or_right (ltb (n / 2) l) _ (lt-ltb _ _ h)
 
--- some liberties are there
-pub some_liberty : (attacker : Bool) (n k l : ℕ) → outlasts attacker n k l ≡ true → 0 < l
-some_liberty true n k l h = elim (outlasts_attacker n k l h) [ inl x ↦ omega arith | inr x ↦ omega arith ]
-some_liberty false n k l h = elim (outlasts_defender n k l h) [ inl x ↦ omega arith | inr x ↦ omega arith ]
+  -- with more liberties than too many there are too many
+  pub more_outlasts : (n k l m : ℕ) → outlasts tree false n k l ≡ true → l ≤ m → outlasts tree false n k m ≡ true
+  more_outlasts n k l m h le = elim (outlasts_defender n k l h) [
+    | inl x ↦ to_defender n k m (inl (below_more (n / 2) l m x le))
+    | inr x ↦ to_defender n k m (inr (below_more (most_by_wide tree (k - 1)) l m x le))
+  ]
 
--- the bound after the defender's pass
-pub pass_outlasts : (n k l : ℕ) → outlasts false (suc n) k l ≡ true → outlasts true n (k - 1) l ≡ true
-pass_outlasts n k l h = elim (outlasts_defender (suc n) k l h) [
-  | inl x ↦ to_attacker n (k - 1) l (inl (omega arith))
-  | inr x ↦ to_attacker n (k - 1) l (inr x)
-]
+  -- and at the attacker's turn too
+  pub more_outlasts_attacker : (n k l m : ℕ) → outlasts tree true n k l ≡ true → l ≤ m
+      → outlasts tree true n k m ≡ true
+  more_outlasts_attacker n k l m h le = elim (outlasts_attacker n k l h) [
+    | inl x ↦ to_attacker n k m (inl (below_more ((n + 1) / 2) l m x le))
+    | inr x ↦ to_attacker n k m (inr (below_more (most_by_wide tree k) l m x le))
+  ]
 
--- and after an attacker's play, which leaves one less at least
-play_outlasts : (n k l m : ℕ) → outlasts true (suc n) k l ≡ true → (4 < l → ⊥) → (k ≡ 0 → 2 < l → ⊥) → l ≤ m + 1
-    → outlasts false n (k - 1) m ≡ true
-play_outlasts n k l m h few few_narrow le = elim (outlasts_attacker (suc n) k l h) [
-  | inl x ↦ to_defender n (k - 1) m (inl (let y = half_more n l x in omega arith))
-  | inr x ↦ to_defender n (k - 1) m (inr (by (eqb k 0) (ltb k 3) refl refl x))
-]
-  where
-    by : (z w : Bool) → eqb k 0 ≡ z → ltb k 3 ≡ w → cond z 2 (cond w 3 4) < l → most_by_wide (k - 1 - 1) < m
-    by true w ez ew x = absurd (few_narrow (eqb-true k 0 ez) x)
-    by false true ez ew x =
-        let small = ltb-true k 3 ew in
-        let none : k - 1 - 1 ≡ 0 = omega (arith, small) in
-        subst (λ j. most_by_wide j < m) (sym none) (omega arith)
-    by false false ez ew x = absurd (few x)
+  -- some liberties are there
+  pub some_liberty : (attacker : Bool) (n k l : ℕ) → outlasts tree attacker n k l ≡ true → 0 < l
+  some_liberty true n k l h = elim (outlasts_attacker n k l h) [
+    | inl x ↦ above_none ((n + 1) / 2) l x
+    | inr x ↦ above_none (most_by_wide tree k) l x
+  ]
+  some_liberty false n k l h = elim (outlasts_defender n k l h) [
+    | inl x ↦ above_none (n / 2) l x
+    | inr x ↦ above_none (most_by_wide tree (k - 1)) l x
+  ]
+
+  -- the bound after the defender's pass
+  pub pass_outlasts : (n k l : ℕ) → outlasts tree false (suc n) k l ≡ true → outlasts tree true n (k - 1) l ≡ true
+  pass_outlasts n k l h = elim (outlasts_defender (suc n) k l h) [
+    | inl x ↦ to_attacker n (k - 1) l (inl (omega (arith, x)))
+    | inr x ↦ to_attacker n (k - 1) l (inr x)
+  ]
+
+  -- and after an attacker's play, which leaves one less at least
+  play_outlasts : (n k l m : ℕ) → outlasts tree true (suc n) k l ≡ true → (4 < l → ⊥)
+      → (k ≡ 0 → most_narrow tree < l → ⊥) → l ≤ m + 1
+      → outlasts tree false n (k - 1) m ≡ true
+  play_outlasts n k l m h few few_narrow le = elim (outlasts_attacker (suc n) k l h) [
+    | inl x ↦ to_defender n (k - 1) m (inl (let y = half_more n l x in omega (arith, y, le)))
+    | inr x ↦ to_defender n (k - 1) m (inr (by (eqb k 0) (ltb k 3) refl refl x))
+  ]
+    where
+      one_less : (b : ℕ) → b + 1 < l → b < m
+      one_less b x = omega (arith, x, le)
+
+      by : (z w : Bool) → eqb k 0 ≡ z → ltb k 3 ≡ w → cond z (most_narrow tree) (cond w (most_narrow tree + 1) 4) < l
+          → most_by_wide tree (k - 1 - 1) < m
+      by true w ez ew x = absurd (few_narrow (eqb-true k 0 ez) x)
+      by false true ez ew x =
+          let small = ltb-true k 3 ew in
+          let none : k - 1 - 1 ≡ 0 = omega (arith, small) in
+          subst (λ j. most_by_wide tree j < m) (sym none) (one_less (most_narrow tree) x)
+      by false false ez ew x = absurd (few x)
 
 -- The target outlasts at a node where it does at each child that an attacker's play, or the defender's pass, leads to.
 abbrev Hypothesis : ℕ → Type 0
 Hypothesis n = (next : Node) (new : BoardState) → next.target < new.size * new.size
-    → outlasts next.attacker_to_play n next.wide (liberties new.size new.cells next.target) ≡ true
+    → outlasts next.tree next.attacker_to_play n next.wide (liberties new.size new.cells next.target) ≡ true
     → attacker_wins n next new ≡ false
 
 -- if too many liberties save a target with n plies left, they do at the attacker's turn with one more ply
 bounded_attacker : (n : ℕ) (node : Node) (pos : BoardState) → Hypothesis n → node.target < pos.size * pos.size
     → is_captured pos node.target ≡ false → node.attacker_to_play ≡ true
-    → outlasts true (suc n) node.wide (liberties pos.size pos.cells node.target) ≡ true
+    → outlasts node.tree true (suc n) node.wide (liberties pos.size pos.cells node.target) ≡ true
     → attacker_wins (suc n) node pos ≡ false
 bounded_attacker n node pos ih on stands turn h = elim (cases_Bool (attacker_wins (suc n) node pos)) [
   | inr f ↦ f
   | inl t ↦
       let w = attacker_gives n node pos stands turn (ap (λ m. attacker_wins m node pos) (add-one n) ∙ t) in
       let child = child_free node pos w.1.point w.1.next w.1.new w.1.child in
-      let few : HasManyLiberties pos node.target node.wide → ⊥ =
-      λ many. both_ways (has_many_liberties pos node.target node.wide) w.0
-      (many_from pos node.target node.wide many) in
+      let few : HasManyLiberties node.tree pos node.target node.wide → ⊥ =
+      λ many. both_ways (has_many_liberties node.tree pos node.target node.wide) w.0
+      (many_from node.tree pos node.target node.wide many) in
       let size = play_size pos (mover_of node) w.1.point w.1.new child.1 in
       let less = play_takes_one pos (mover_of node) w.1.point w.1.new node.target on child.1 in
-      let bound = play_outlasts n node.wide (liberties pos.size pos.cells node.target)
+      let bound = play_outlasts node.tree n node.wide (liberties pos.size pos.cells node.target)
       (liberties w.1.new.size w.1.new.cells node.target) h (λ l. few (inl l)) (λ e l. few (inr (e, l))) less in
       let lost = ih (next_node node child.0) w.1.new (subst (λ m. node.target < m * m) (sym size) on)
-      (ap (λ b. outlasts (not b) n (node.wide - 1) (liberties w.1.new.size w.1.new.cells node.target)) turn
+      (ap (λ b. outlasts node.tree (not b) n (node.wide - 1) (liberties w.1.new.size w.1.new.cells node.target)) turn
       ∙ bound) in
       absurd (both_ways (attacker_wins n w.1.next w.1.new)
       (ap (λ (m : Node). attacker_wins n m w.1.new) child.2 ∙ lost) w.1.wins)
@@ -223,102 +242,125 @@ bounded_attacker n node pos ih on stands turn h = elim (cases_Bool (attacker_win
 -- if too many liberties save a target with n plies left, they do at the defender's turn with one more ply
 bounded_defender : (n : ℕ) (node : Node) (pos : BoardState) → Hypothesis n → node.target < pos.size * pos.size
     → is_captured pos node.target ≡ false → node.attacker_to_play ≡ false
-    → outlasts false (suc n) node.wide (liberties pos.size pos.cells node.target) ≡ true
+    → outlasts node.tree false (suc n) node.wide (liberties pos.size pos.cells node.target) ≡ true
     → attacker_wins (suc n) node pos ≡ false
 bounded_defender n node pos ih on stands turn h = elim (cases_Bool (attacker_wins (suc n) node pos)) [
   | inr f ↦ f
   | inl t ↦
       let w = defender_gives n node pos stands turn (ap (λ m. attacker_wins m node pos) (add-one n) ∙ t) in
-      let bound = pass_outlasts n node.wide (liberties pos.size pos.cells node.target) h in
+      let bound = pass_outlasts node.tree n node.wide (liberties pos.size pos.cells node.target) h in
       let lost = ih (next_node node (allowance_of node)) (pass pos) on
-      (ap (λ b. outlasts (not b) n (node.wide - 1) (liberties pos.size pos.cells node.target)) turn ∙ bound) in
+      (ap (λ b. outlasts node.tree (not b) n (node.wide - 1) (liberties pos.size pos.cells node.target)) turn ∙ bound) in
       absurd (both_ways (attacker_wins n (next_node node (allowance_of node)) (pass pos)) lost w.passed)
 ]
 
 -- with n plies left, a target with too many liberties is not captured
 pub bounded : (n : ℕ) (node : Node) (pos : BoardState) → node.target < pos.size * pos.size
-    → outlasts node.attacker_to_play n node.wide (liberties pos.size pos.cells node.target) ≡ true
+    → outlasts node.tree node.attacker_to_play n node.wide (liberties pos.size pos.cells node.target) ≡ true
     → attacker_wins n node pos ≡ false
 bounded zero node pos on h =
     wins-no_plies zero node pos (stands_by_liberties pos node.target
-    (some_liberty node.attacker_to_play zero node.wide (liberties pos.size pos.cells node.target) h)) refl
+    (some_liberty node.tree node.attacker_to_play zero node.wide (liberties pos.size pos.cells node.target) h)) refl
 bounded (suc n) node pos on h =
     let stands = stands_by_liberties pos node.target
-    (some_liberty node.attacker_to_play (suc n) node.wide (liberties pos.size pos.cells node.target) h) in
+    (some_liberty node.tree node.attacker_to_play (suc n) node.wide (liberties pos.size pos.cells node.target) h) in
     elim (cases_Bool node.attacker_to_play) [
       | inl t ↦ bounded_attacker n node pos (bounded n) on stands t
-          (ap (λ b. outlasts b (suc n) node.wide (liberties pos.size pos.cells node.target)) (sym t) ∙ h)
+          (ap (λ b. outlasts node.tree b (suc n) node.wide (liberties pos.size pos.cells node.target)) (sym t) ∙ h)
       | inr f ↦ bounded_defender n node pos (bounded n) on stands f
-          (ap (λ b. outlasts b (suc n) node.wide (liberties pos.size pos.cells node.target)) (sym f) ∙ h)
+          (ap (λ b. outlasts node.tree b (suc n) node.wide (liberties pos.size pos.cells node.target)) (sym f) ∙ h)
     ]
 
--- a target that the attacker may not play at has too many liberties
-pub many_outlasts : (n : ℕ) (pos : BoardState) (t k : ℕ) → outlasts true n k (liberties pos.size pos.cells t) ≡ false
-    → has_many_liberties pos t k ≡ false
-many_outlasts n pos t k h = elim (cases_Bool (has_many_liberties pos t k)) [
-  | inr f ↦ f
-  | inl m ↦ absurd (both_ways (outlasts true n k (liberties pos.size pos.cells t)) h
-      (to_attacker n k (liberties pos.size pos.cells t) (inr (by (eqb k 0) (ltb k 3) refl (many_gives pos t k m)))))
-]
-  where
-    by : (z w : Bool) → eqb k 0 ≡ z → HasManyLiberties pos t k → cond z 2 (cond w 3 4) < liberties pos.size pos.cells t
-    by true w e (inl x) = omega arith
-    by true w e (inr x) = x.1
-    by false true e (inl x) = omega arith
-    by false false e (inl x) = x
-    by false w e (inr x) = absurd (both_ways (eqb k 0) e (eq-eqb k 0 x.0))
+-- a target that is still played at without wide plies has fewer than five liberties
+narrow_few : (tree : Tree) (l : ℕ) → 4 < l → most_narrow tree + 1 < l
+narrow_few Stated l x = omega (arith, x)
+narrow_few Wider l x = omega (arith, x)
 
--- where the attacker may not play at the target, it has too many liberties
-pub many_outlast : (n k : ℕ) (pos : BoardState) (t : ℕ) → HasManyLiberties pos t k
-    → outlasts true n k (liberties pos.size pos.cells t) ≡ true
-many_outlast n k pos t many = elim (cases_Bool (outlasts true n k (liberties pos.size pos.cells t))) [
-  | inl h ↦ h
-  | inr f ↦ absurd (both_ways (has_many_liberties pos t k) (many_outlasts n pos t k f) (many_from pos t k many))
-]
+-- and fewer than that with none left
+narrow_fewer : (tree : Tree) (l : ℕ) → 4 < l → most_narrow tree < l
+narrow_fewer Stated l x = omega (arith, x)
+narrow_fewer Wider l x = omega (arith, x)
 
--- more than the greatest number that the wide plies allow is too wide
-wide_gives : (k l : ℕ) → most_by_wide k < l → IsTooWide k l
-wide_gives k l h = by (eqb k 0) (ltb k 3) refl refl h
-  where
-    by : (z w : Bool) → eqb k 0 ≡ z → ltb k 3 ≡ w → cond z 2 (cond w 3 4) < l → IsTooWide k l
-    by true w ez ew x = over_two (eqb-true k 0 ez) x
-    by false true ez ew x = over_three (ltb-true k 3 ew) x
-    by false false ez ew x = over_four x
+-- The bound of one tree, by what the wide plies allow.
+module _ (tree : Tree) where
+  -- more than four are more than the wide plies allow
+  over_all : (k l : ℕ) → 4 < l → most_by_wide tree k < l
+  over_all k l x = by (eqb k 0) (ltb k 3)
+    where
+      by : (z w : Bool) → cond z (most_narrow tree) (cond w (most_narrow tree + 1) 4) < l
+      by true w = narrow_fewer tree l x
+      by false true = narrow_few tree l x
+      by false false = x
 
--- what is too wide is more than the greatest number that the wide plies allow
-wide_from : (k l : ℕ) → IsTooWide k l → most_by_wide k < l
-wide_from k l (over_four x) = by (eqb k 0) (ltb k 3)
-  where
-    by : (z w : Bool) → cond z 2 (cond w 3 4) < l
-    by true w = omega (arith, x)
-    by false true = omega (arith, x)
-    by false false = x
-wide_from k l (over_three few x) = by (eqb k 0) (ltb k 3) (lt-ltb k 3 few)
-  where
-    by : (z w : Bool) → w ≡ true → cond z 2 (cond w 3 4) < l
-    by true w e = omega (arith, x)
-    by false true e = x
-    by false false e = cc
-wide_from k l (over_two none x) = by (eqb k 0) (ltb k 3) (eq-eqb k 0 none)
-  where
-    by : (z w : Bool) → z ≡ true → cond z 2 (cond w 3 4) < l
-    by true w e = x
-    by false w e = cc
+  -- more than a target may have without wide plies are too many where none is left
+  over_narrow : (k l : ℕ) → k ≡ 0 → most_narrow tree < l → most_by_wide tree k < l
+  over_narrow k l none x = by (eqb k 0) (ltb k 3) (eq-eqb k 0 none)
+    where
+      by : (z w : Bool) → z ≡ true → cond z (most_narrow tree) (cond w (most_narrow tree + 1) 4) < l
+      by true w e = x
+      by false w e = cc
 
--- the test for too many liberties gives the bound in words
-pub too_many-gives : (attacker : Bool) (n k l : ℕ) → outlasts attacker n k l ≡ true → IsTooMany attacker n k l
-too_many-gives true n k l h = elim (outlasts_attacker n k l h) [ inl x ↦ inl x | inr x ↦ inr (wide_gives k l x) ]
-too_many-gives false n k l h =
-    elim (outlasts_defender n k l h) [ inl x ↦ inl x | inr x ↦ inr (wide_gives (k - 1) l x) ]
+  -- and one more than that where at most two are left
+  over_few : (k l : ℕ) → k < 3 → most_narrow tree + 1 < l → most_by_wide tree k < l
+  over_few k l few x = by (eqb k 0) (ltb k 3) (lt-ltb k 3 few)
+    where
+      less : (b : ℕ) → b + 1 < l → b < l
+      less b y = omega (arith, y)
 
--- the bound in words gives the test
-pub too_many-from : (attacker : Bool) (n k l : ℕ) → IsTooMany attacker n k l → outlasts attacker n k l ≡ true
-too_many-from true n k l (inl x) = to_attacker n k l (inl x)
-too_many-from true n k l (inr x) = to_attacker n k l (inr (wide_from k l x))
-too_many-from false n k l (inl x) = to_defender n k l (inl x)
-too_many-from false n k l (inr x) = to_defender n k l (inr (wide_from (k - 1) l x))
+      by : (z w : Bool) → w ≡ true → cond z (most_narrow tree) (cond w (most_narrow tree + 1) 4) < l
+      by true w e = less (most_narrow tree) x
+      by false true e = x
+      by false false e = cc
 
--- where the attacker may not play at the target, it has too many liberties in words
-pub many_too_many : (n k : ℕ) (pos : BoardState) (t : ℕ) → HasManyLiberties pos t k
-    → IsTooMany true n k (liberties pos.size pos.cells t)
-many_too_many n k pos t many = too_many-gives true n k _ (many_outlast n k pos t many)
+  -- where the attacker may not play at the target, it has too many liberties
+  pub many_outlast : (n k : ℕ) (pos : BoardState) (t : ℕ) → HasManyLiberties tree pos t k
+      → outlasts tree true n k (liberties pos.size pos.cells t) ≡ true
+  many_outlast n k pos t (inl x) = to_attacker tree n k _ (inr (over_all k _ x))
+  many_outlast n k pos t (inr x) = to_attacker tree n k _ (inr (over_narrow k _ x.0 x.1))
+
+  -- a target that has not too many liberties is one that the attacker may play at
+  pub many_outlasts : (n : ℕ) (pos : BoardState) (t k : ℕ)
+      → outlasts tree true n k (liberties pos.size pos.cells t) ≡ false
+      → has_many_liberties tree pos t k ≡ false
+  many_outlasts n pos t k h = elim (cases_Bool (has_many_liberties tree pos t k)) [
+    | inr f ↦ f
+    | inl m ↦ absurd (both_ways (outlasts tree true n k (liberties pos.size pos.cells t)) h
+        (many_outlast n k pos t (many_gives tree pos t k m)))
+  ]
+
+  -- more than the greatest number that the wide plies allow is too wide
+  wide_gives : (k l : ℕ) → most_by_wide tree k < l → IsTooWide tree k l
+  wide_gives k l h = by (eqb k 0) (ltb k 3) refl refl h
+    where
+      by : (z w : Bool) → eqb k 0 ≡ z → ltb k 3 ≡ w → cond z (most_narrow tree) (cond w (most_narrow tree + 1) 4) < l
+          → IsTooWide tree k l
+      by true w ez ew x = none_left (eqb-true k 0 ez) x
+      by false true ez ew x = few_left (ltb-true k 3 ew) x
+      by false false ez ew x = over_four x
+
+  -- what is too wide is more than the greatest number that the wide plies allow
+  wide_from : (k l : ℕ) → IsTooWide tree k l → most_by_wide tree k < l
+  wide_from k l (over_four x) = over_all k l x
+  wide_from k l (few_left few x) = over_few k l few x
+  wide_from k l (none_left none x) = over_narrow k l none x
+
+  -- the test for too many liberties gives the bound in words
+  pub too_many-gives : (attacker : Bool) (n k l : ℕ) → outlasts tree attacker n k l ≡ true
+      → IsTooMany tree attacker n k l
+  too_many-gives true n k l h =
+      elim (outlasts_attacker tree n k l h) [ inl x ↦ inl x | inr x ↦ inr (wide_gives k l x) ]
+  too_many-gives false n k l h =
+      elim (outlasts_defender tree n k l h) [ inl x ↦ inl x | inr x ↦ inr (wide_gives (k - 1) l x) ]
+
+  -- the bound in words gives the test
+  pub too_many-from : (attacker : Bool) (n k l : ℕ) → IsTooMany tree attacker n k l
+      → outlasts tree attacker n k l ≡ true
+  too_many-from true n k l (inl x) = to_attacker tree n k l (inl x)
+  too_many-from true n k l (inr x) = to_attacker tree n k l (inr (wide_from k l x))
+  too_many-from false n k l (inl x) = to_defender tree n k l (inl x)
+  too_many-from false n k l (inr x) = to_defender tree n k l (inr (wide_from (k - 1) l x))
+
+  -- where the attacker may not play at the target, it has too many liberties in words
+  pub many_too_many : (n k : ℕ) (pos : BoardState) (t : ℕ) → HasManyLiberties tree pos t k
+      → IsTooMany tree true n k (liberties pos.size pos.cells t)
+  many_too_many n k pos t many = too_many-gives true n k _ (many_outlast n k pos t many)

@@ -4,7 +4,7 @@ use Rattle.std.proofs.lemmas.Bool.{cases_Bool, both_ways}
 use Rattle.go_rules.proofs.Tests.{same_tests}
 use Rattle.go_rules.specs.Position.{BoardState}
 use Rattle.go_rules.specs.Play.{play, pass}
-use Rattle.read_rules.specs.Candidates.{is_candidate}
+use Rattle.read_rules.specs.Candidates.{is_candidate_at}
 use Rattle.read_rules.specs.declared.node.Node.{Node}
 use Rattle.read_rules.specs.GameTree.{is_captured, mover_of, allowance_of, next_node, attacker_wins}
 use Rattle.read_rules.specs.Rules.{IsChild}
@@ -61,7 +61,7 @@ other_child node a d = next_node (with_allowances node a d) (allowance_of (with_
 -- where the ban forbids no candidate, a child is one by a legal play
 legal_child : {below : Node → BoardState → Type 0} {node : Node} {pos : BoardState} → IsFreeHere below node pos
     → (p : ℕ) (next : Node) (new : BoardState)
-    → is_candidate pos node.target node.wide p ≡ true → (a d : ℕ) → IsChild (with_allowances node a d) pos p next new
+    → is_candidate_at node pos p ≡ true → (a d : ℕ) → IsChild (with_allowances node a d) pos p next new
     → (play pos (mover_of node) p ≡ Ok new) × (next ≡ other_child node a d)
 legal_child free p next new candidate a d (inl w) = (w.legal, w.next_is)
 legal_child free p next new candidate a d (inr w) = absurd (free.none p candidate w.banned)

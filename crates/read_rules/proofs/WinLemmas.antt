@@ -7,8 +7,8 @@ use mathlib.Core.Bool.{beq}
 use Rattle.std.proofs.lemmas.Bool.{eqb-true, eqb-false, cases_Bool, cases_lt}
 use Rattle.go_rules.specs.Position.{BoardState}
 use Rattle.go_rules.specs.Play.{pass}
-use Rattle.read_rules.specs.Candidates.{is_candidate, candidates_of}
-use Rattle.read_rules.proofs.CandidateLaws.{candidate_on}
+use Rattle.read_rules.specs.Candidates.{is_candidate_at, candidates_of}
+use Rattle.read_rules.proofs.CandidateLaws.{candidate_at_on}
 use Rattle.read_rules.specs.declared.node.Node.{Node}
 use Rattle.read_rules.specs.declared.question.Spot.{Spot}
 use Rattle.read_rules.specs.declared.question.Spot.TheVariants.{Pass}
@@ -106,8 +106,8 @@ wins-no_plies (suc n) node pos h e = cc
 -- it stands, and it is the attacker's turn
 pub wins-attacker : (n : ℕ) (node : Node) (pos : BoardState) → is_captured pos node.target ≡ false
     → node.attacker_to_play ≡ true
-    → attacker_wins (suc n) node pos ≡ (not (has_many_liberties pos node.target node.wide)
-    && list_any (λ p. some_child (attacker_wins n) (child_of node pos p)) (candidates_of pos node.target node.wide))
+    → attacker_wins (suc n) node pos ≡ (not (has_many_liberties node.tree pos node.target node.wide)
+    && list_any (λ p. some_child (attacker_wins n) (child_of node pos p)) (candidates_of node pos))
 unfolding attacker_wins
 wins-attacker n node pos h e = choose (is_captured pos node.target) node.attacker_to_play true _ _ h e
   where
@@ -118,7 +118,7 @@ wins-attacker n node pos h e = choose (is_captured pos node.target) node.attacke
 pub wins-defender : (n : ℕ) (node : Node) (pos : BoardState) → is_captured pos node.target ≡ false
     → node.attacker_to_play ≡ false
     → attacker_wins (suc n) node pos ≡ (attacker_wins n (next_node node (allowance_of node)) (pass pos)
-    && list_all (λ p. each_child (attacker_wins n) (child_of node pos p)) (candidates_of pos node.target node.wide))
+    && list_all (λ p. each_child (attacker_wins n) (child_of node pos p)) (candidates_of node pos))
 unfolding attacker_wins
 wins-defender n node pos h e = choose (is_captured pos node.target) node.attacker_to_play false _ _ h e
   where
@@ -136,7 +136,7 @@ by_turn turn many saved first = cond (turn && many) None (cond (not turn && save
 
 -- the good move of a node is that of the side whose turn it is
 good_move-by_turn : (n : ℕ) (node : Node) (pos : BoardState)
-    → good_move n node pos ≡ by_turn node.attacker_to_play (has_many_liberties pos node.target node.wide)
+    → good_move n node pos ≡ by_turn node.attacker_to_play (has_many_liberties node.tree pos node.target node.wide)
     (not (attacker_wins n (next_node node (allowance_of node)) (pass pos))) (first_success n node pos)
 unfolding by_turn
 good_move-by_turn n node pos = refl
@@ -162,9 +162,9 @@ pub wins-attacker_move : (n : ℕ) (node : Node) (pos : BoardState) → is_captu
 wins-attacker_move zero node pos h ne e = absurd (ne refl)
 wins-attacker_move (suc n) node pos h ne e =
     let less : n ≡ suc n - 1 = omega arith in
-    let many = has_many_liberties pos node.target node.wide in
+    let many = has_many_liberties node.tree pos node.target node.wide in
     let saved = not (attacker_wins n (next_node node (allowance_of node)) (pass pos)) in
-    let ps = candidates_of pos node.target node.wide in
+    let ps = candidates_of node pos in
     wins-attacker n node pos h e
     ∙ sym (ap (λ m. is_some (good_move m node pos)) (sym less) ∙ ap is_some (good_move-by_turn n node pos)
     ∙ ap (λ turn. is_some (by_turn turn many saved (first_success n node pos))) e
@@ -180,9 +180,9 @@ pub wins-defender_move : (n : ℕ) (node : Node) (pos : BoardState) → is_captu
 wins-defender_move zero node pos h ne e = absurd (ne refl)
 wins-defender_move (suc n) node pos h ne e =
     let less : n ≡ suc n - 1 = omega arith in
-    let many = has_many_liberties pos node.target node.wide in
+    let many = has_many_liberties node.tree pos node.target node.wide in
     let lost = attacker_wins n (next_node node (allowance_of node)) (pass pos) in
-    let ps = candidates_of pos node.target node.wide in
+    let ps = candidates_of node pos in
     wins-defender n node pos h e
     ∙ sym (ap (λ m. is_none (good_move m node pos)) (sym less) ∙ ap is_none (good_move-by_turn n node pos)
     ∙ ap (λ turn. is_none (by_turn turn many (not lost) (first_success n node pos))) e
@@ -202,12 +202,12 @@ none_before cands wins next p before between q h = elim (cases_lt q next) [
 
 -- the first that succeeds, found by a walk over the candidates
 pub first_success-found : (n : ℕ) (node : Node) (pos : BoardState) (next p : ℕ) (cands : ℕ → Bool)
-    → ((q : ℕ) → cands q ≡ is_candidate pos node.target node.wide q)
+    → ((q : ℕ) → cands q ≡ is_candidate_at node pos q)
     → ((q : ℕ) → q < next → (cands q && succeeds n node pos q) ≡ false) → ((q : ℕ) → next ≤ q → q < p → cands q ≡ false)
     → cands p ≡ true → true ≡ succeeds n node pos p → Some p ≡ first_success n node pos
 first_success-found n node pos next p cands same before between c t =
-    let on = candidate_on pos node.target node.wide p (sym (same p) ∙ c) in
-    sym (first-found (is_candidate pos node.target node.wide) (succeeds n node pos) (pos.size * pos.size) 0 p
+    let on = candidate_at_on node pos p (sym (same p) ∙ c) in
+    sym (first-found (is_candidate_at node pos) (succeeds n node pos) (pos.size * pos.size) 0 p
     (omega arith) (omega (arith, on))
     (λ q l h. rw (← same q) (none_before cands (succeeds n node pos) next p before between q h))
     (both (sym (same p) ∙ c) (sym t)))
@@ -217,11 +217,11 @@ first_success-found n node pos next p cands same before between c t =
 
 -- none succeeds, where no candidate is left
 pub first_success-none : (n : ℕ) (node : Node) (pos : BoardState) (next : ℕ) (cands : ℕ → Bool)
-    → ((q : ℕ) → cands q ≡ is_candidate pos node.target node.wide q)
+    → ((q : ℕ) → cands q ≡ is_candidate_at node pos q)
     → ((q : ℕ) → q < next → (cands q && succeeds n node pos q) ≡ false) → ((q : ℕ) → next ≤ q → cands q ≡ false)
     → None ≡ first_success n node pos
 first_success-none n node pos next cands same before left =
-    sym (first-none (is_candidate pos node.target node.wide) (succeeds n node pos) (pos.size * pos.size) 0
+    sym (first-none (is_candidate_at node pos) (succeeds n node pos) (pos.size * pos.size) 0
     (λ q l h. rw (← same q) (none_before cands (succeeds n node pos) next (pos.size * pos.size) before
     (λ k g m. left k g) q (omega arith))))
 

@@ -6,7 +6,8 @@ use Rattle.go_rules.specs.Board.{are_neighbours}
 use Rattle.go_rules.specs.Strings.{cell_at, IsInString}
 use Rattle.go_rules.specs.Position.{BoardState}
 use Rattle.go_rules.specs.Play.{pass}
-use Rattle.read_rules.specs.Candidates.{is_candidate}
+use Rattle.read_rules.specs.Trees.{steps_of}
+use Rattle.read_rules.specs.Candidates.{is_candidate_at}
 use Rattle.read_rules.specs.declared.node.Node.{Node}
 use Rattle.read_rules.specs.declared.question.ReadingQuestion.{ReadingQuestion}
 use Rattle.read_rules.specs.GameTree.{allowance_of, next_node}
@@ -36,7 +37,7 @@ pub record IsFirstOf (q : ReadingQuestion) (pos : BoardState) (n : ℕ) (node : 
 -- a candidate that can be played leads from the one node to the other
 pub record IsByPlay (before : Node) (there : BoardState) (node : Node) (here : BoardState) : Type 0 where
   pub point : ℕ
-  pub candidate : IsTrue (is_candidate there before.target before.wide point)
+  pub candidate : IsTrue (is_candidate_at before there point)
   pub child : IsChild before there point node here
 
 -- the defender's pass leads from the one node to the other
@@ -52,14 +53,15 @@ pub record IsNextOf (q : ReadingQuestion) (pos : BoardState) (n : ℕ) (node : N
   pub there : BoardState
   pub in_tree : IsNodeOf q pos (suc n) before there
   pub stands : cell_at there.cells before.target ≢ Empty
-  pub few : before.attacker_to_play ≡ true → HasManyLiberties there before.target before.wide → ⊥
+  pub few : before.attacker_to_play ≡ true → HasManyLiberties before.tree there before.target before.wide → ⊥
   pub move : IsByPlay before there node here ⊎ IsByPass before there node here
 
--- at a node of the question whose target stands, five steps lead from the target's string to p
+-- at a node of the question whose target stands, five steps, or six in the wider tree, lead from the target's string to
+-- p
 pub record IsLookedAt (q : ReadingQuestion) (pos : BoardState) (p : ℕ) : Type 0 where
   pub plies : ℕ
   pub node : Node
   pub here : BoardState
   pub in_tree : IsNodeOf q pos plies node here
   pub stands : cell_at here.cells node.target ≢ Empty
-  pub reached : IsReachedIn here.size here.cells node.target 5 p
+  pub reached : IsReachedIn here.size here.cells node.target (steps_of node.tree) p

@@ -1,5 +1,6 @@
--- The moves that a reading tries: four sets of points, each once as a test that computes and once in terms of strings
--- and liberties. The law `candidates_are_by_strings` says that the two are the same.
+-- The moves that a reading tries: four sets of points, and in the wider tree the further candidates too, each once as a
+-- test that computes and once in terms of strings and liberties. The law `candidates_are_by_strings` says that the two
+-- are the same.
 use Rattle.std.specs.Prelude.{◌≡◌, ℕ, ◌*◌, ◌<◌, ◌≤◌, ◌&&◌, ◌||◌, Bool, true, false, nat_lt, List, Result, Ok, Err}
 use Rattle.std.specs.List.{range_with_len, filter}
 use Rattle.go_rules.specs.declared.Cell.{Cell}
@@ -16,6 +17,12 @@ use Rattle.go_rules.specs.Position.{BoardState}
 use Rattle.go_rules.specs.Play.{play_free}
 use Rattle.go_base.specs.Surroundings.{is_only_liberty, is_last_liberty_of_enemy}
 use Rattle.go_base.specs.Views.{alone}
+use Rattle.further_rules.specs.Further.{is_further}
+use Rattle.further_rules.specs.FurtherInWords.{IsFurther}
+use Rattle.read_rules.specs.declared.node.Node.{Node}
+use Rattle.read_rules.specs.declared.tree.Tree.{Tree}
+use Rattle.read_rules.specs.declared.tree.Tree.TheVariants.{Wider}
+use Rattle.read_rules.specs.Trees.{is_wider}
 
 -- p is empty and next to a point of S
 unfoldable pub is_empty_beside : ℕ → List Cell → (ℕ → Bool) → ℕ → Bool
@@ -49,20 +56,27 @@ is_backfilling pos target p =
     && leaves_only l p (play_free pos (attacker_of (cell_at pos.cells target)) l))
 
 -- p is a liberty of the target; or, where k is above 0 and the target has at most two, an empty neighbour of one; or
--- the one liberty of an enemy string next to it; or, where k is above 0, a backfilling move
-unfoldable pub is_candidate : BoardState → ℕ → ℕ → ℕ → Bool
-is_candidate pos target k p =
+-- the one liberty of an enemy string next to it; or, where k is above 0, a backfilling move; or, where k is above 0 and
+-- the tree is the wider one, a further candidate at this turn
+unfoldable pub is_candidate : Tree → Bool → BoardState → ℕ → ℕ → ℕ → Bool
+is_candidate tree attacker_to_play pos target k p =
     is_liberty pos.size pos.cells target p
     || ((nat_lt 0 k && nat_lt (liberties pos.size pos.cells target) 3)
     && is_empty_beside pos.size pos.cells (is_liberty pos.size pos.cells target) p)
     || is_last_liberty_of_enemy pos.size pos.cells target p
     || (nat_lt 0 k && is_backfilling pos target p)
+    || (nat_lt 0 k && (is_wider tree && is_further attacker_to_play pos.size pos.cells target p))
 
--- the candidates in reading order
-abbrev pub candidates_of : BoardState → ℕ → ℕ → List ℕ
-candidates_of pos target k = filter (is_candidate pos target k) (range_with_len 0 (pos.size * pos.size))
+-- p is a candidate at the node
+abbrev pub is_candidate_at : Node → BoardState → ℕ → Bool
+is_candidate_at node pos = is_candidate node.tree node.attacker_to_play pos node.target node.wide
 
--- the points that a search for the candidates of a target may ask for: the neighbourhood taken four times
+-- the candidates at the node in reading order
+abbrev pub candidates_of : Node → BoardState → List ℕ
+candidates_of node pos = filter (is_candidate_at node pos) (range_with_len 0 (pos.size * pos.size))
+
+-- the points that a search for the candidates of a target may ask for, in either tree: the neighbourhood taken four
+-- times
 abbrev pub near_candidates : ℕ → List Cell → ℕ → ℕ → Bool
 near_candidates s cells target =
     neighbourhood_of s cells (neighbourhood_of s cells
@@ -94,10 +108,12 @@ pub record IsBackfilledAt (pos : BoardState) (target l p : ℕ) : Type 0 where
   pub last : IsLiberty new.size new.cells l p
   pub was_empty : cell_at pos.cells p ≡ Empty
 
--- p is a candidate for the target with k wide plies left
-pub data IsCandidate (pos : BoardState) (target k p : ℕ) : Type 0 where
-  fills : IsLiberty pos.size pos.cells target p → IsCandidate pos target k p
+-- p is a candidate of the tree for the target, at the attacker's turn or the defender's, with k wide plies left
+pub data IsCandidate (tree : Tree) (attacker_to_play : Bool) (pos : BoardState) (target k p : ℕ) : Type 0 where
+  fills : IsLiberty pos.size pos.cells target p → IsCandidate tree attacker_to_play pos target k p
   looks_wide : 0 < k → liberties pos.size pos.cells target ≤ 2 → (l : ℕ) → IsLiberty pos.size pos.cells target l
-      → IsEmptyNeighbour pos.size pos.cells l p → IsCandidate pos target k p
-  takes : (q : ℕ) → IsTakenAt pos.size pos.cells target q p → IsCandidate pos target k p
-  backfills : 0 < k → (l : ℕ) → IsBackfilledAt pos target l p → IsCandidate pos target k p
+      → IsEmptyNeighbour pos.size pos.cells l p → IsCandidate tree attacker_to_play pos target k p
+  takes : (q : ℕ) → IsTakenAt pos.size pos.cells target q p → IsCandidate tree attacker_to_play pos target k p
+  backfills : 0 < k → (l : ℕ) → IsBackfilledAt pos target l p → IsCandidate tree attacker_to_play pos target k p
+  goes_further : tree ≡ Wider → 0 < k → IsFurther attacker_to_play pos.size pos.cells target p
+      → IsCandidate tree attacker_to_play pos target k p

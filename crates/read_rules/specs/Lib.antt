@@ -1,3 +1,5 @@
+pub mod Ranges
+pub mod Trees
 pub mod Candidates
 pub mod GameTree
 pub mod Answer

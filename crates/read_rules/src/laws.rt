@@ -13,6 +13,7 @@ ghost use Rattle.read_rules.specs.Bound.{outlasts, IsTooMany};
 ghost use Rattle.read_rules.specs.Candidates.{is_candidate, IsCandidate};
 ghost use Rattle.read_rules.specs.Stages.{is_wide_candidate};
 ghost use Rattle.read_rules.specs.declared.node.Node.{Node};
+ghost use Rattle.read_rules.specs.declared.tree.Tree.{Tree};
 ghost use Rattle.read_rules.specs.declared.question.ReadingQuestion.{ReadingQuestion};
 ghost use Rattle.read_rules.specs.declared.question.Spot.{Spot};
 ghost use Rattle.read_rules.specs.GameTree.{is_captured, has_many_liberties, child_of, can_play, attacker_wins};
@@ -26,28 +27,32 @@ use go_base::Cell;
 
 /// A candidate is a liberty of the target; an empty neighbour of one, where the target has few and a wide ply is left;
 /// the last liberty of an enemy string next to the target; or, where a wide ply is left, the one liberty that a stone
-/// of the attacker on a liberty of the target would have.
+/// of the attacker on a liberty of the target would have; or, in the wider tree and where a wide ply is left, a further
+/// candidate at this turn.
 pub fn candidates_are_by_strings()
-    ensures candidate { (pos : BoardState) (target k p : ℕ) → target < pos.size * pos.size →
-        IsTrue (is_candidate pos target k p) ↔ IsCandidate pos target k p }
-    ensures on_board { (pos : BoardState) (target k p : ℕ) → IsTrue (is_candidate pos target k p)
-        → p < pos.size * pos.size }
+    ensures candidate { (tree : Tree) (attacker_to_play : Bool) (pos : BoardState) (target k p : ℕ)
+        → target < pos.size * pos.size →
+        IsTrue (is_candidate tree attacker_to_play pos target k p)
+        ↔ IsCandidate tree attacker_to_play pos target k p }
+    ensures on_board { (tree : Tree) (attacker_to_play : Bool) (pos : BoardState) (target k p : ℕ)
+        → IsTrue (is_candidate tree attacker_to_play pos target k p) → p < pos.size * pos.size }
 {}
 
 /// A candidate is a liberty of the target, the last liberty of an enemy string next to it, or, where a wide ply is
-/// left, a wide candidate.
+/// left, a wide candidate of the tree.
 pub fn candidates_come_in_stages()
-    ensures { (pos : BoardState) (target k p : ℕ) → is_candidate pos target k p
+    ensures { (tree : Tree) (attacker_to_play : Bool) (pos : BoardState) (target k p : ℕ)
+        → is_candidate tree attacker_to_play pos target k p
         ≡ (is_liberty pos.size pos.cells target p || is_last_liberty_of_enemy pos.size pos.cells target p
-        || (nat_lt 0 k && is_wide_candidate pos target p)) }
+        || (nat_lt 0 k && is_wide_candidate tree attacker_to_play pos target p)) }
 {}
 
 /// Where a node is captured, where its target has too many liberties, and which children it has.
 pub fn nodes_are_by_the_rules()
     ensures captured { (pos : BoardState) (target : ℕ)
         → IsTrue (is_captured pos target) ↔ (cell_at pos.cells target ≡ Cell.Empty) }
-    ensures many { (pos : BoardState) (target k : ℕ)
-        → IsTrue (has_many_liberties pos target k) ↔ HasManyLiberties pos target k }
+    ensures many { (tree : Tree) (pos : BoardState) (target k : ℕ)
+        → IsTrue (has_many_liberties tree pos target k) ↔ HasManyLiberties tree pos target k }
     ensures child { (node : Node) (pos : BoardState) (p : ℕ) (next : Node) (new : BoardState) →
         (child_of node pos p ≡ Some (next, new)) ↔ IsChild node pos p next new }
     ensures can_play { (node : Node) (pos : BoardState) (p : ℕ) →
@@ -63,7 +68,7 @@ pub fn the_tree_is_by_four_rules()
     ensures attacker_to_play { (n : ℕ) (node : Node) (pos : BoardState) → is_captured pos node.target ≡ false
         → node.attacker_to_play ≡ true →
         IsTrue (attacker_wins (n + 1) node pos)
-        ↔ ((has_many_liberties pos node.target node.wide ≡ false) × SomeChildWins n node pos) }
+        ↔ ((has_many_liberties node.tree pos node.target node.wide ≡ false) × SomeChildWins n node pos) }
     ensures defender_to_play { (n : ℕ) (node : Node) (pos : BoardState) → is_captured pos node.target ≡ false
         → node.attacker_to_play ≡ false →
         IsTrue (attacker_wins (n + 1) node pos) ↔ EachChildWins n node pos }
@@ -108,25 +113,26 @@ pub fn answers_are_by_codes()
 {}
 
 /// A string with more liberties than half of the plies, rounded up at the attacker's turn and down at the defender's,
-/// than 4, or than 2 without wide plies, is not captured, since a play takes away one liberty at most; nor is one that
-/// the attacker may not play at.
+/// than 4, or without wide plies than 2, in the wider tree than 3, is not captured, since a play takes away one liberty
+/// at most; nor is one that the attacker may not play at.
 pub fn many_liberties_stand()
     ensures one_liberty { (pos : BoardState) (c : Colour) (p : ℕ) (new : BoardState) (t : ℕ) → t < pos.size * pos.size
         → play_free pos c p ≡ Ok new →
         liberties pos.size pos.cells t ≤ liberties new.size new.cells t + 1 }
-    ensures too_many { (attacker : Bool) (n k l : ℕ) → IsTrue (outlasts attacker n k l) ↔ IsTooMany attacker n k l }
+    ensures too_many { (tree : Tree) (attacker : Bool) (n k l : ℕ) →
+        IsTrue (outlasts tree attacker n k l) ↔ IsTooMany tree attacker n k l }
     ensures stands { (n : ℕ) (node : Node) (pos : BoardState) → node.target < pos.size * pos.size →
-        IsTooMany node.attacker_to_play n node.wide (liberties pos.size pos.cells node.target)
+        IsTooMany node.tree node.attacker_to_play n node.wide (liberties pos.size pos.cells node.target)
         → attacker_wins n node pos ≡ false }
-    ensures many { (n k : ℕ) (pos : BoardState) (t : ℕ) → HasManyLiberties pos t k
-        → IsTooMany true n k (liberties pos.size pos.cells t) }
+    ensures many { (tree : Tree) (n k : ℕ) (pos : BoardState) (t : ℕ) → HasManyLiberties tree pos t k
+        → IsTooMany tree true n k (liberties pos.size pos.cells t) }
 {}
 
-/// How far the active area of a question reaches: its points are those that five steps lead to from the target's string
-/// at some node whose target stands, each to a point of the same string or to a neighbour of one. The nodes are the
-/// first ones under the three pairs of ko allowances, and what a play at a candidate, or the defender's pass, leads to
-/// from a node that is left undecided.
-pub fn the_active_area_is_reached_in_five_steps()
+/// How far the active area of a question reaches: its points are those that five steps, or six in the wider tree, lead
+/// to from the target's string at some node whose target stands, each to a point of the same string or to a neighbour
+/// of one. The nodes are the first ones under the three pairs of ko allowances, and what a play at a candidate, or the
+/// defender's pass, leads to from a node that is left undecided.
+pub fn the_active_area_is_reached_by_steps()
     ensures area { (q : ReadingQuestion) (pos : BoardState) (p : ℕ) → q.target < pos.size * pos.size →
         InActiveArea q pos p ↔ IsLookedAt q pos p }
     ensures nodes { (q : ReadingQuestion) (pos : BoardState) (n : ℕ) (node : Node) (here : BoardState) →

@@ -3,11 +3,14 @@
 ghost use Rattle.std.specs.Prelude.{◌≡◌};
 ghost use Rattle.read_rules.specs.GameTree.{mover_of, allowance_of, next_node};
 
+use crate::tree::Tree;
 use go_base::{Colour, Point};
 
 /// A node of the game tree, but for its position and the plies that are left.
 #[derive(Clone, Copy, Debug, PartialEq, Eq)]
 pub struct Node {
+    /// Which tree is read.
+    pub tree: Tree,
     /// The point whose string is read.
     pub target: Point,
     /// The colour of the target's stone.
@@ -50,6 +53,7 @@ impl Node {
         ensures { result ≡ next_node self left }
     {
         Node {
+            tree: self.tree,
             target: self.target,
             defender: self.defender,
             attacker_to_play: !self.attacker_to_play,

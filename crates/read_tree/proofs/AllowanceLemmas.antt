@@ -6,11 +6,12 @@ use Rattle.std.proofs.lemmas.Bool.{cases_Bool, both_ways, or_right}
 use Rattle.go_rules.specs.declared.Colour.{Colour}
 use Rattle.go_rules.specs.Position.{BoardState}
 use Rattle.read_rules.specs.declared.node.Node.{Node}
+use Rattle.read_rules.specs.declared.tree.Tree.{Tree}
 use Rattle.read_tree.specs.declared.turn.Turn.{Turn}
 use Rattle.read_tree.specs.declared.allowances.Allowances.{Allowances}
 use Rattle.go_rules.specs.Play.{pass}
-use Rattle.read_rules.specs.Candidates.{is_candidate, candidates_of}
-use Rattle.read_rules.proofs.CandidateLaws.{candidate_on}
+use Rattle.read_rules.specs.Candidates.{is_candidate_at, candidates_of}
+use Rattle.read_rules.proofs.CandidateLaws.{candidate_at_on}
 use Rattle.read_rules.specs.declared.question.Spot.TheVariants.{Pass}
 use Rattle.read_rules.specs.GameTree.{is_captured, has_many_liberties, allowance_of, next_node, attacker_wins, suits}
 use Rattle.read_rules.specs.GameTree.{succeeds, pass_saves, first_success, at_point}
@@ -71,23 +72,23 @@ one_left true = refl
 one_left false = refl
 
 -- a legal play keeps the allowance
-next_by : (target : ℕ) (defender : Colour) (attacker : Bool) (wide : ℕ) (ko : Ko) → let turn : Turn =
-    record { target = target; defender = defender; attacker_to_play = attacker; wide = wide } in
+next_by : (tree : Tree) (target : ℕ) (defender : Colour) (attacker : Bool) (wide : ℕ) (ko : Ko) → let turn : Turn =
+    record { tree = tree; target = target; defender = defender; attacker_to_play = attacker; wide = wide } in
     next_node (under turn ko) (allowance_of (under turn ko)) ≡ under (next_turn turn) ko
-next_by target defender true wide ko = refl
-next_by target defender false wide ko = refl
+next_by tree target defender true wide ko = refl
+next_by tree target defender false wide ko = refl
 
 -- a move that spends no allowance leads to the next turn, under the allowance of the turn before
 pub next_keeps : (turn : Turn) (ko : Ko)
     → next_node (under turn ko) (allowance_of (under turn ko)) ≡ under (next_turn turn) ko
-next_keeps turn ko = next_by turn.target turn.defender turn.attacker_to_play turn.wide ko
+next_keeps turn ko = next_by turn.tree turn.target turn.defender turn.attacker_to_play turn.wide ko
 
 -- a play that the ban alone forbids spends the own one
-spent_by : (target : ℕ) (defender : Colour) (attacker : Bool) (wide : ℕ) → let turn : Turn =
-    record { target = target; defender = defender; attacker_to_play = attacker; wide = wide } in
+spent_by : (tree : Tree) (target : ℕ) (defender : Colour) (attacker : Bool) (wide : ℕ) → let turn : Turn =
+    record { tree = tree; target = target; defender = defender; attacker_to_play = attacker; wide = wide } in
     next_node (under turn (own_ko attacker)) 0 ≡ under (next_turn turn) neither_may
-spent_by target defender true wide = refl
-spent_by target defender false wide = refl
+spent_by tree target defender true wide = refl
+spent_by tree target defender false wide = refl
 
 -- a play that spends the mover's own allowance leads to the next turn, where neither side may
 pub next_spends : (turn : Turn)
@@ -97,7 +98,7 @@ next_spends turn =
     let e : allowance_of (under turn (own_ko turn.attacker_to_play)) - 1 ≡ 0 =
     (let one = one_left turn.attacker_to_play in omega arith) in
     ap (next_node (under turn (own_ko turn.attacker_to_play))) e
-    ∙ spent_by turn.target turn.defender turn.attacker_to_play turn.wide
+    ∙ spent_by turn.tree turn.target turn.defender turn.attacker_to_play turn.wide
 
 -- the mover's way at a child
 pub suits_child : (n : ℕ) (attacker : Bool) (o : Option (Node × BoardState)) (next : Node) (new : BoardState)
@@ -245,12 +246,12 @@ and_true true b h = sym (h refl)
 and_true false b h = refl
 
 -- a candidate that succeeds makes the first
-pub success_some : (n : ℕ) (node : Node) (here : BoardState) (p : ℕ) → is_candidate here node.target node.wide p ≡ true
+pub success_some : (n : ℕ) (node : Node) (here : BoardState) (p : ℕ) → is_candidate_at node here p ≡ true
     → succeeds n node here p ≡ true → is_some (first_success n node here) ≡ true
 success_some n node here p c t =
-    let on = candidate_on here node.target node.wide p c in
-    any-first (succeeds n node here) (candidates_of here node.target node.wide)
-    ∙ any_from (is_candidate here node.target node.wide) (succeeds n node here) (here.size * here.size) 0 p
+    let on = candidate_at_on node here p c in
+    any-first (succeeds n node here) (candidates_of node here)
+    ∙ any_from (is_candidate_at node here) (succeeds n node here) (here.size * here.size) 0 p
     (omega arith) (omega (arith, on)) c t
 
 -- the defender's way is by the pass or by a candidate
@@ -265,7 +266,8 @@ good_by false many false (Some p) e = refl
 pub good_by_success : (n : ℕ) (turn : Turn) (here : BoardState) (ko : Ko) → turn.attacker_to_play ≡ false
     → is_some (first_success n (under turn ko) here) ≡ true → is_some (good_move n (under turn ko) here) ≡ true
 good_by_success n turn here ko defends some =
-    good_by turn.attacker_to_play (has_many_liberties here turn.target turn.wide) (pass_saves n (under turn ko) here)
+    good_by turn.attacker_to_play (has_many_liberties turn.tree here turn.target turn.wide)
+    (pass_saves n (under turn ko) here)
     (first_success n (under turn ko) here) defends
     ∙ or_right (pass_saves n (under turn ko) here) _ some
 
@@ -284,7 +286,7 @@ Tells-good n turn here asked saved some defends s m = record {
       (has saved ko) (has some ko) (s.each ko)
       (m.each ko ∙ ap (λ x. x && is_some (first_success n (under turn ko) here)) (has-without asked saved ko))
       ∙ ap (λ x. has asked ko && x)
-      (sym (good_by turn.attacker_to_play (has_many_liberties here turn.target turn.wide)
+      (sym (good_by turn.attacker_to_play (has_many_liberties turn.tree here turn.target turn.wide)
       (pass_saves n (under turn ko) here) (first_success n (under turn ko) here) defends));
 }
   where

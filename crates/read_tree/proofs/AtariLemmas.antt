@@ -23,6 +23,9 @@ use Rattle.go_rules.proofs.PlayLaws.{done_state, free_keeps, others_stay}
 use Rattle.go_rules.proofs.BanLaws.{ban_parts}
 use Rattle.go_base.specs.Surroundings.{is_only_liberty, is_last_liberty_of_enemy}
 use Rattle.read_rules.specs.declared.node.Node.{Node}
+use Rattle.read_rules.specs.declared.tree.Tree.{Tree}
+use Rattle.read_rules.specs.declared.tree.Tree.TheVariants.{Stated, Wider}
+use Rattle.read_rules.specs.Trees.{most_narrow}
 use Rattle.read_rules.specs.GameTree.{has_many_liberties, allowance_of, next_node, child_of, suits, attacker_wins}
 use Rattle.read_rules.specs.GameTree.{succeeds, pass_saves}
 use Rattle.read_rules.specs.Rules.{HasManyLiberties}
@@ -33,10 +36,9 @@ use Rattle.go_base.proofs.LastLiberties.{contains-liberty_points}
 use Rattle.go_base.proofs.Liberties.{len-liberty_points}
 use Rattle.read_tree.specs.declared.turn.Turn.{Turn}
 use Rattle.read_tree.specs.Allowances.{Ko, under}
-use Rattle.read_tree.specs.Stages.{is_capture}
+use Rattle.read_tree.specs.Stages.{is_candidate_on, is_capture}
 use Rattle.read_tree.specs.Steps.{IsTaken, IsInAtari, is_off_liberties}
-use Rattle.read_rules.specs.Candidates.{is_candidate}
-use Rattle.read_rules.proofs.CandidateLaws.{candidate_on}
+use Rattle.read_rules.proofs.CandidateLaws.{candidate_at_on}
 use Rattle.read_tree.proofs.AllowanceLemmas.{and_parts_not, and_false_right}
 use Rattle.read_rules.proofs.LibertyLemmas.{child_free, counts_but_one, play_size}
 use Rattle.read_tree.proofs.TakeLemmas.{turn_at, taking_wins}
@@ -182,15 +184,20 @@ module _ (here : BoardState) (c : Colour) (p : ℕ) (new : BoardState) (t : ℕ)
       (λ x below h. is_liberty-from_fact s here.cells t x on (was_liberty x (IsLiberty-from_test s new.cells t x h)))
 
 -- a target with at most one liberty has not too many
-few_liberties : (pos : BoardState) (t k : ℕ) → liberties pos.size pos.cells t ≤ 1 → has_many_liberties pos t k ≡ false
-few_liberties pos t k few = elim (cases_Bool (has_many_liberties pos t k)) [
+few_liberties : (tree : Tree) (pos : BoardState) (t k : ℕ) → liberties pos.size pos.cells t ≤ 1
+    → has_many_liberties tree pos t k ≡ false
+few_liberties tree pos t k few = elim (cases_Bool (has_many_liberties tree pos t k)) [
   | inr f ↦ f
-  | inl m ↦ absurd (by (many_gives pos t k m))
+  | inl m ↦ absurd (by (many_gives tree pos t k m))
 ]
   where
-    by : HasManyLiberties pos t k → ⊥
+    above_one : (tree : Tree) → most_narrow tree < liberties pos.size pos.cells t → ⊥
+    above_one Stated x = omega (arith, few, x)
+    above_one Wider x = omega (arith, few, x)
+
+    by : HasManyLiberties tree pos t k → ⊥
     by (inl x) = omega arith
-    by (inr x) = let y = x.1 in omega arith
+    by (inr x) = above_one tree x.1
 
 -- a string with one liberty has no other
 only_liberty : (s : ℕ) (cells : List Cell) (t : ℕ) → t < s * s → liberties s cells t ≡ 1
@@ -242,7 +249,7 @@ module _ (n : ℕ) (turn : Turn) (here : BoardState) (on : turn.target < here.si
       } in
       ap (λ m. attacker_wins m next new) one_more ∙ ap (λ (k : Node). attacker_wins (suc (n - 1)) k new) child.2
       ∙ taking_wins (n - 1) node new (free_keeps here c p new atari.sound p_on legal).cells
-      (subst (λ m. t < m * m) (sym size) on) (few_liberties new t (turn.wide - 1) few) taken
+      (subst (λ m. t < m * m) (sym size) on) (few_liberties turn.tree new t (turn.wide - 1) few) taken
 
   -- so no such play saves the target
   pub off_fails : (p : ℕ) → p < here.size * here.size → is_liberty here.size here.cells turn.target p ≡ false
@@ -272,15 +279,15 @@ module _ (n : ℕ) (turn : Turn) (here : BoardState) (on : turn.target < here.si
       } in
       and_false_right (not turn.attacker_to_play) _ (ap not
       (ap (λ m. attacker_wins m node (pass here)) one_more
-      ∙ taking_wins (n - 1) node (pass here) atari.sound.cells on (few_liberties (pass here) t (turn.wide - 1) few)
-      taken))
+      ∙ taking_wins (n - 1) node (pass here) atari.sound.cells on
+      (few_liberties turn.tree (pass here) t (turn.wide - 1) few) taken))
 
   -- the candidates but for the liberties and the captures fail
   pub atari_fails : (q : ℕ) → is_off_liberties turn here q ≡ true → is_capture here turn.target q ≡ false
       → succeeds n (under turn ko) here q ≡ false
   atari_fails q off_liberties no_capture =
-      let parts = and_parts_not (is_candidate here turn.target turn.wide q) _ off_liberties in
-      off_fails q (candidate_on here turn.target turn.wide q parts.0) parts.1
+      let parts = and_parts_not (is_candidate_on turn here q) _ off_liberties in
+      off_fails q (candidate_at_on (under turn ko) here q parts.0) parts.1
       (no_last (is_last_liberty_of_enemy here.size here.cells turn.target q) _ parts.1 no_capture)
     where
       no_last : (t l : Bool) → l ≡ false → (t && not l) ≡ false → t ≡ false

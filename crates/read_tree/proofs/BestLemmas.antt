@@ -6,8 +6,8 @@ use Rattle.go_rules.specs.Position.{BoardState}
 use Rattle.go_rules.specs.Strings.{liberties}
 use Rattle.go_rules.specs.Play.{pass}
 use Rattle.go_base.specs.Views.{nowhere}
-use Rattle.read_rules.specs.Candidates.{is_candidate}
-use Rattle.read_rules.proofs.CandidateLaws.{candidate_on}
+use Rattle.read_rules.specs.Candidates.{is_candidate_at}
+use Rattle.read_rules.proofs.CandidateLaws.{candidate_at_on}
 use Rattle.read_rules.specs.declared.node.Node.{Node}
 use Rattle.read_tree.specs.declared.turn.Turn.{Turn}
 use Rattle.read_rules.specs.declared.question.ReadingQuestion.{ReadingQuestion}
@@ -25,6 +25,7 @@ use Rattle.read_tree.specs.Allowances.{all_three}
 use Rattle.read_tree.specs.Allowances.{Ko, defender_may, neither_may, attacker_may, has, has_some, own_ko, under, ko_of}
 use Rattle.read_tree.specs.Allowances.{codes_above, best_code, Tells}
 use Rattle.read_rules.specs.GoodMoves.{IsOnBoard, good_move}
+use Rattle.read_tree.specs.Stages.{is_candidate_on}
 use Rattle.read_tree.specs.Steps.{first_turn, unread, better, node_of, IsBest, AreNodesOf}
 use Rattle.read_tree.proofs.AllowanceLemmas.{none_of, has_all}
 use Rattle.read_rules.proofs.LibertyLemmas.{bounded, pass_outlasts}
@@ -226,7 +227,7 @@ module _ (n : ℕ) (turn : Turn) (here : BoardState) where
 
   -- one more candidate
   pub best_point : (cands : ℕ → Bool) (next p : ℕ) (best : Answer) (good : Allowances)
-      → ((q : ℕ) → cands q ≡ is_candidate here turn.target turn.wide q)
+      → ((q : ℕ) → cands q ≡ is_candidate_on turn here q)
       → IsBest n turn here (λ q. ltb q next && cands q) best → cands p ≡ true
       → ((q : ℕ) → next ≤ q → q < p → cands q ≡ false)
       → Tells (codes_above best.code turn.attacker_to_play) good (λ ko. succeeds n (under turn ko) here p)
@@ -306,9 +307,9 @@ module _ (n : ℕ) (turn : Turn) (here : BoardState) where
 
   -- no candidate is left
   pub best_all : (cands : ℕ → Bool) (next : ℕ) (best : Answer)
-      → ((q : ℕ) → cands q ≡ is_candidate here turn.target turn.wide q)
+      → ((q : ℕ) → cands q ≡ is_candidate_on turn here q)
       → IsBest n turn here (λ q. ltb q next && cands q) best
-      → ((q : ℕ) → next ≤ q → cands q ≡ false) → IsBest n turn here (is_candidate here turn.target turn.wide) best
+      → ((q : ℕ) → next ≤ q → cands q ≡ false) → IsBest n turn here (is_candidate_on turn here) best
   best_all cands next best same i rest = record {
     bounded = i.bounded;
     no_pass = i.no_pass;
@@ -356,7 +357,15 @@ pub node_is : (q : ReadingQuestion) (code : ℕ) → IsCode code → node_of (fi
 node_is q code c = by q.kind code c
   where
     by : (kind : Kind) (code : ℕ) → IsCode code → let q' : ReadingQuestion =
-        record { size = q.size; kind = kind; target = q.target; colour = q.colour; plies = q.plies; wide = q.wide } in
+        record {
+          tree = q.tree;
+          size = q.size;
+          kind = kind;
+          target = q.target;
+          colour = q.colour;
+          plies = q.plies;
+          wide = q.wide;
+        } in
         node_of (first_turn q') code ≡ first_node q' code
     by Attack code one = refl
     by Attack code two = refl
@@ -367,27 +376,27 @@ node_is q code c = by q.kind code c
 
 -- a first move that is not barred is a good one
 not_barred : (n : ℕ) (node : Node) (pos : BoardState)
-    → (node.attacker_to_play && has_many_liberties pos node.target node.wide) ≡ false
+    → (node.attacker_to_play && has_many_liberties node.tree pos node.target node.wide) ≡ false
     → good_move n node pos ≡ first_move n node pos
 not_barred n node pos h = ap (λ b. cond b None (first_move n node pos)) h
 
 -- where the pass does not save and no candidate succeeds, no move has its way
 no_first : (n : ℕ) (node : Node) (pos : BoardState) → pass_saves n node pos ≡ false
-    → ((q : ℕ) → (is_candidate pos node.target node.wide q && succeeds n node pos q) ≡ false)
+    → ((q : ℕ) → (is_candidate_at node pos q && succeeds n node pos q) ≡ false)
     → is_some (first_move n node pos) ≡ false
 no_first n node pos ps none =
     let nothing : first_success n node pos ≡ None =
-    sym (first_success-none n node pos (pos.size * pos.size) (is_candidate pos node.target node.wide) (λ q. refl)
+    sym (first_success-none n node pos (pos.size * pos.size) (is_candidate_at node pos) (λ q. refl)
     (λ q l. none q)
-    (λ q g. elim (cases_Bool (is_candidate pos node.target node.wide q))
-    [ inl t ↦ absurd (let on = candidate_on pos node.target node.wide q t in omega arith) | inr f ↦ f ])) in
+    (λ q g. elim (cases_Bool (is_candidate_at node pos q))
+    [ inl t ↦ absurd (let on = candidate_at_on node pos q t in omega arith) | inr f ↦ f ])) in
     ap (λ b. is_some (cond b (Some Pass) (at_point (first_success n node pos)))) ps
     ∙ ap (λ o. is_some (at_point o)) nothing
 
 -- the best of all moves at the first turn is the answer, unless an attack's target has many liberties
 pub best_answer : (q : ReadingQuestion) (pos : BoardState) (best : Answer) → q.plies ≢ 0 → is_about q pos ≡ true
-    → (is_attack q.kind && has_many_liberties pos q.target q.wide) ≡ false
-    → IsBest (q.plies - 1) (first_turn q) pos (is_candidate pos q.target q.wide) best → best ≡ answer_of q pos
+    → (is_attack q.kind && has_many_liberties q.tree pos q.target q.wide) ≡ false
+    → IsBest (q.plies - 1) (first_turn q) pos (is_candidate_on (first_turn q) pos) best → best ≡ answer_of q pos
 best_answer q pos best ne about few i =
     answer_best q pos best.code best.at about i.bounded
     (λ some. attained_by q pos best.code ne stands ∙ ap is_some (not_barred n (first_node q best.code) pos few)
@@ -395,7 +404,7 @@ best_answer q pos best ne about few i =
     (λ more lo hi. let e = node_is q more (code_cases more (omega arith) hi) in
     attained_by q pos more ne stands ∙ ap is_some (not_barred n (first_node q more) pos few)
     ∙ no_first n (first_node q more) pos (subst (λ node. pass_saves n node pos ≡ false) e (i.no_pass more lo hi))
-    (λ p. subst (λ node. (is_candidate pos q.target q.wide p && succeeds n node pos p) ≡ false) e
+    (λ p. subst (λ node. (is_candidate_on (first_turn q) pos p && succeeds n node pos p) ≡ false) e
     (i.no_point more lo hi p)))
     i.no_move
     (λ some. (i.move some).1 ∙ moved some)
@@ -419,7 +428,15 @@ first_nodes q pos ne = record {
 }
   where
     by : (kind : Kind) (ko : Ko) → let q' : ReadingQuestion =
-        record { size = q.size; kind = kind; target = q.target; colour = q.colour; plies = q.plies; wide = q.wide } in
+        record {
+          tree = q.tree;
+          size = q.size;
+          kind = kind;
+          target = q.target;
+          colour = q.colour;
+          plies = q.plies;
+          wide = q.wide;
+        } in
         IsNodeOf q' pos q'.plies (under (first_turn q') ko) pos
     by Attack defender_may = first 3 (omega arith) (omega arith)
     by Attack neither_may = first 2 (omega arith) (omega arith)
@@ -443,7 +460,7 @@ better_on best attack good p s h on = by (has_some good)
 -- with too many liberties an attack fails, and no defence is needed
 pub unread_answer : (q : ReadingQuestion) (pos : BoardState) → q.plies ≢ 0 → is_about q pos ≡ true
     → q.target < pos.size * pos.size
-    → outlasts (is_attack q.kind) q.plies q.wide (liberties pos.size pos.cells q.target) ≡ true
+    → outlasts q.tree (is_attack q.kind) q.plies q.wide (liberties pos.size pos.cells q.target) ≡ true
     → unread (is_attack q.kind) ≡ answer_of q pos
 unread_answer q pos ne about on h = elim (cases_Bool (is_attack q.kind)) [
   | inl t ↦ ap unread t ∙ answer_best q pos 0 None about (omega arith) (λ some. absurd (some refl))
@@ -469,9 +486,10 @@ unread_answer q pos ne about on h = elim (cases_Bool (is_attack q.kind)) [
     saves f =
         let more : q.plies ≡ suc (q.plies - 1) = omega arith in
         let next = next_node (first_node q 3) (allowance_of (first_node q 3)) in
-        let h1 = ap (λ b. outlasts b (suc (q.plies - 1)) q.wide (liberties pos.size pos.cells q.target)) (sym f)
-        ∙ ap (λ m. outlasts (is_attack q.kind) m q.wide (liberties pos.size pos.cells q.target)) (sym more) ∙ h in
-        let h2 = ap (λ b. outlasts (not b) (q.plies - 1) (q.wide - 1) (liberties pos.size pos.cells q.target)) f
-        ∙ pass_outlasts (q.plies - 1) q.wide (liberties pos.size pos.cells q.target) h1 in
+        let h1 = ap (λ b. outlasts q.tree b (suc (q.plies - 1)) q.wide (liberties pos.size pos.cells q.target)) (sym f)
+        ∙ ap (λ m. outlasts q.tree (is_attack q.kind) m q.wide (liberties pos.size pos.cells q.target)) (sym more)
+        ∙ h in
+        let h2 = ap (λ b. outlasts q.tree (not b) (q.plies - 1) (q.wide - 1) (liberties pos.size pos.cells q.target)) f
+        ∙ pass_outlasts q.tree (q.plies - 1) q.wide (liberties pos.size pos.cells q.target) h1 in
         saved (is_attack q.kind) (attacker_wins (q.plies - 1) next (pass pos)) f
         (bounded (q.plies - 1) next (pass pos) on h2)

@@ -149,11 +149,11 @@ escape_succeeds n turn here known whole on defends its e ko =
       | inr side ↦ inr side
     ] in
     let new = result_of here c l in
-    let many = more_outlasts_attacker n (turn.wide - 1) (sets.len e.runs.kept) (liberties s new.cells t) e.runs.many
-    (kept_count s here.cells c l t whole on e.own lib e.runs.kept each) in
+    let many = more_outlasts_attacker turn.tree n (turn.wide - 1) (sets.len e.runs.kept) (liberties s new.cells t)
+    e.runs.many (kept_count s here.cells c l t whole on e.own lib e.runs.kept each) in
     let vacant = ap is_stone lib.is_empty in
     let alive = new_lives s here.cells c l t whole on e.own lib
-    (some_liberty true n (turn.wide - 1) (liberties s new.cells t) many) in
+    (some_liberty turn.tree true n (turn.wide - 1) (liberties s new.cells t) many) in
     let legal = sym (play_else here c l vacant e.runs.free) ∙ sym (free_done here c l vacant alive) in
     let mover = ap (λ b. cond b (other c) c) defends in
     let node = next_node (under turn ko) (allowance_of (under turn ko)) in
@@ -162,5 +162,5 @@ escape_succeeds n turn here known whole on defends its e ko =
       next_is = refl;
     })) in
     let lost = bounded n node new on
-    (ap (λ b. outlasts (not b) n (turn.wide - 1) (liberties s new.cells t)) defends ∙ many) in
+    (ap (λ b. outlasts turn.tree (not b) n (turn.wide - 1) (liberties s new.cells t)) defends ∙ many) in
     ap (λ b. suits n b (child_of (under turn ko) here l)) defends ∙ ap (suits n false) child ∙ ap not lost

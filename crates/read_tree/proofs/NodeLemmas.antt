@@ -6,6 +6,7 @@ use mathlib.Core.Bool.{beq}
 use Rattle.std.proofs.lemmas.Bool.{ltb-true, lt-ltb, or_right}
 use Rattle.go_rules.specs.Position.{BoardState}
 use Rattle.read_rules.specs.declared.node.Node.{Node}
+use Rattle.read_rules.specs.Trees.{most_narrow}
 use Rattle.go_rules.specs.Strings.{liberties}
 use Rattle.go_rules.specs.Play.{pass}
 use Rattle.read_rules.specs.declared.question.Spot.{Spot}
@@ -24,6 +25,7 @@ use Rattle.read_tree.specs.Nodes.{has_one_at_most, the_allowance, LeadsTo}
 -- the turn of a node
 abbrev pub turn_of : Node → Turn
 turn_of node = record {
+  tree = node.tree;
   target = node.target;
   defender = node.defender;
   attacker_to_play = node.attacker_to_play;
@@ -76,6 +78,7 @@ told_by (suc (suc a)) d found test won few told is = absurd (omega (arith, few))
 -- the node of a turn under an allowance has the allowance's numbers
 pub under_by : (turn : Turn) (ko : Ko) (a d : ℕ) → attacker_ko_of ko ≡ a → defender_ko_of ko ≡ d
     → under turn ko ≡ record {
+      tree = turn.tree;
       target = turn.target;
       defender = turn.defender;
       attacker_to_play = turn.attacker_to_play;
@@ -110,16 +113,16 @@ some_allowance node asked one is = ap has_some is ∙ by node.attacker_ko node.d
 
 -- at the defender's turn the attacker is not barred
 pub not_barred : (node : Node) (here : BoardState) → node.attacker_to_play ≡ false → false ≡ is_barred node here
-not_barred node here e = sym (ap (λ b. b && has_many_liberties here node.target node.wide) e)
+not_barred node here e = sym (ap (λ b. b && has_many_liberties node.tree here node.target node.wide) e)
 
 -- at his own he is where the liberties are too many
 pub barred_by : (node : Node) (here : BoardState) (n : ℕ) → node.attacker_to_play ≡ true
     → n ≡ liberties here.size here.cells node.target
-    → (nat_lt 4 n || (eqb node.wide 0 && nat_lt 2 n)) ≡ is_barred node here
+    → (nat_lt 4 n || (eqb node.wide 0 && nat_lt (most_narrow node.tree) n)) ≡ is_barred node here
 unfolding has_many_liberties
 barred_by node here n e is =
-    ap (λ m. nat_lt 4 m || (eqb node.wide 0 && nat_lt 2 m)) is
-    ∙ sym (ap (λ b. b && has_many_liberties here node.target node.wide) e)
+    ap (λ m. nat_lt 4 m || (eqb node.wide 0 && nat_lt (most_narrow node.tree) m)) is
+    ∙ sym (ap (λ b. b && has_many_liberties node.tree here node.target node.wide) e)
 
 -- who has his way at a child, by who won there
 pub way_by : (attacker won : Bool) → beq won attacker ≡ has_way attacker won

@@ -7,9 +7,10 @@ use Rattle.go_base.specs.Facts.{Fact, SizeIs, Agrees, agrees_before, same_size}
 use Rattle.trial_board.specs.declared.moves.TrialMove.{TrialMove}
 use Rattle.trial_board.specs.Trials.{Trying, Stays, after}
 use Rattle.trial_board.proofs.AfterLemmas.{size-after}
-use Rattle.read_rules.specs.Candidates.{is_candidate}
+use Rattle.read_rules.specs.declared.node.Node.{Node}
+use Rattle.read_rules.specs.Candidates.{is_candidate_at}
 use Rattle.read_rules.proofs.AreaLemmas.{target_on}
-use Rattle.read_rules.proofs.CandidateLaws.{candidate_on}
+use Rattle.read_rules.proofs.CandidateLaws.{candidate_at_on}
 use Rattle.read_tree.specs.declared.table.Entry.{Entry}
 use Rattle.read_tree.specs.declared.turn.Turn.{Turn}
 use Rattle.read_tree.specs.declared.allowances.Allowances.{Allowances}
@@ -18,10 +19,10 @@ use Rattle.read_tree.specs.Table.{IsTrueTable}
 use Rattle.read_tree.specs.Walk.{IsReady, IsPointOf, AreLibertiesOf}
 
 -- a candidate is on the board
-pub candidate_inside : (shown : BoardState) (moves : List TrialMove) (target wide p : ℕ)
-    → is_candidate (after shown moves) target wide p ≡ true → p < shown.size * shown.size
-candidate_inside shown moves target wide p h =
-    subst (λ n. p < n * n) (size-after shown moves) (candidate_on (after shown moves) target wide p h)
+pub candidate_inside : (node : Node) (shown : BoardState) (moves : List TrialMove) (p : ℕ)
+    → is_candidate_at node (after shown moves) p ≡ true → p < shown.size * shown.size
+candidate_inside node shown moves p h =
+    subst (λ n. p < n * n) (size-after shown moves) (candidate_at_on node (after shown moves) p h)
 
 -- a point that lies on the board lies on it after the moves, on a position that agrees with what was seen
 pub on_after : {seen : Fact → Bool} {pos : BoardState} {t : ℕ} (s : ℕ) → seen (SizeIs s) ≡ true → Agrees seen pos
@@ -45,7 +46,8 @@ module _ {L : Type 0} {shows : L → BoardState} {seen : L → Fact → Bool} {o
   -- the walk may go on, where some allowance is left, by a table that is true of what is seen
   pub ready_after : {turn : Turn} {n : ℕ} {asked : Allowances} {points : sets.FinSet nat_cmp}
       {entries later : List Entry} (left : Allowances) → IsReady shows seen old turn n asked points entries → has_some left ≡ true
-      → IsTrueTable (seen new.look) turn.target turn.defender later → IsReady shows seen new turn n left points later
+      → IsTrueTable (seen new.look) turn.tree turn.target turn.defender later
+      → IsReady shows seen new turn n left points later
   ready_after {turn} {points} left ready some table = record {
     room = rw stays.moves ready.room;
     target = point_after turn.target ready.target;

@@ -16,27 +16,27 @@ use Rattle.read_rules.specs.GameTree.{attacker_wins, child_of, mover_of, next_no
 use Rattle.read_rules.specs.GameTree.{succeeds, first_success}
 use Rattle.go_base.specs.Facts.{Fact}
 use Rattle.read_rules.specs.ActiveArea.{AddsNear}
-use Rattle.read_rules.proofs.CandidateLaws.{candidate_on}
+use Rattle.read_rules.proofs.CandidateLaws.{candidate_at_on}
 use Rattle.read_rules.proofs.RuleLemmas.{child_gives}
 use Rattle.read_rules.proofs.WinLemmas.{first_success-none}
 use Rattle.read_tree.specs.declared.turn.Turn.{Turn}
 use Rattle.read_tree.specs.declared.allowances.Allowances.{Allowances}
-use Rattle.read_tree.specs.Allowances.{Ko, has, has_some, under, without, Tells}
+use Rattle.read_tree.specs.Allowances.{Ko, neither_may, has, has_some, under, without, Tells}
 use Rattle.read_rules.specs.Bound.{outlasts}
 use Rattle.read_rules.specs.Stages.{is_wide_candidate}
 use Rattle.go_base.specs.Surroundings.{is_last_liberty_of_enemy}
 use Rattle.read_rules.proofs.StageLemmas.{candidate_stages}
-use Rattle.read_tree.specs.Stages.{is_capture, is_other}
+use Rattle.read_tree.specs.Stages.{is_candidate_on, is_capture, is_other}
 use Rattle.read_tree.specs.Steps.{IsLeft, TellsBy, is_off_liberties}
 use Rattle.read_tree.proofs.AllowanceLemmas.{none_of, has-without, success_some, and_parts_not, and_false_right}
 use Rattle.read_tree.proofs.AllowanceLemmas.{and_true, has_none}
 use Rattle.read_rules.proofs.LibertyLemmas.{bounded, child_free, play_size, play_takes_none, more_outlasts}
 
 -- a liberty of the target is a candidate
-pub liberty_is_candidate : (here : BoardState) (t k p : ℕ) → is_liberty here.size here.cells t p ≡ true
-    → is_candidate here t k p ≡ true
+pub liberty_is_candidate : (turn : Turn) (here : BoardState) (p : ℕ)
+    → is_liberty here.size here.cells turn.target p ≡ true → is_candidate_on turn here p ≡ true
 unfolding is_candidate
-liberty_is_candidate here t k p h = or_left _ _ (or_left _ _ (or_left _ _ h))
+liberty_is_candidate turn here p h = or_left _ _ (or_left _ _ (or_left _ _ (or_left _ _ h)))
 
 -- nothing came
 pub nothing_near : (seen : Fact → Bool) (S : ℕ → Type 0) → AddsNear seen seen S
@@ -173,7 +173,7 @@ module _ (n : ℕ) (turn : Turn) (here : BoardState) (asked good : Allowances)
   -- what a liberty gives is given by a candidate
   by_liberty : (ko : Ko) → has good ko ≡ true → is_some (first_success n (under turn ko) here) ≡ true
   by_liberty ko h = let w = first.given ko h in
-      success_some n (under turn ko) here w.0 (liberty_is_candidate here turn.target turn.wide w.0 w.1) w.2
+      success_some n (under turn ko) here w.0 (liberty_is_candidate turn here w.0 w.1) w.2
 
   -- they left nothing
   pub stage_done : has_some (without asked good) ≡ false
@@ -218,9 +218,9 @@ module _ (n : ℕ) (turn : Turn) (here : BoardState) (asked good : Allowances)
       fails false true s a b = b
       fails false false s a b = refl
 
-      off_board : (q : ℕ) → here.size * here.size ≤ q → is_candidate here turn.target turn.wide q ≡ false
-      off_board q past = elim (cases_Bool (is_candidate here turn.target turn.wide q)) [
-        | inl t ↦ let on = candidate_on here turn.target turn.wide q t in absurd (omega (arith, on, past))
+      off_board : (q : ℕ) → here.size * here.size ≤ q → is_candidate_on turn here q ≡ false
+      off_board q past = elim (cases_Bool (is_candidate_on turn here q)) [
+        | inl t ↦ let on = candidate_at_on (under turn neither_may) here q t in absurd (omega (arith, on, past))
         | inr f ↦ f
       ]
 
@@ -228,8 +228,8 @@ module _ (n : ℕ) (turn : Turn) (here : BoardState) (asked good : Allowances)
           → has (without asked good) ko ≡ true → is_some (first_success n (under turn ko) here) ≡ false
       none_at ko a g r left = sym
           (ap is_some (first_success-none n (under turn ko) here (here.size * here.size)
-          (is_candidate here turn.target turn.wide) (λ q. refl)
-          (λ q below. fails (is_liberty here.size here.cells turn.target q) (is_candidate here turn.target turn.wide q)
+          (is_candidate_on turn here) (λ q. refl)
+          (λ q below. fails (is_liberty here.size here.cells turn.target q) (is_candidate_on turn here q)
           (succeeds n (under turn ko) here q)
           (first.none ko a g q) (second.none ko left r q))
           (λ q past. off_board q past)))
@@ -245,7 +245,7 @@ module _ (n : ℕ) (turn : Turn) (here : BoardState) (asked good : Allowances)
 -- An attacker's play that takes no liberty leaves all of them, which are too many.
 module _ (n : ℕ) (turn : Turn) (here : BoardState) (ko : Ko) (on : turn.target < here.size * here.size)
     (attacks : turn.attacker_to_play ≡ true)
-    (many : outlasts false n (turn.wide - 1) (liberties here.size here.cells turn.target) ≡ true) where
+    (many : outlasts turn.tree false n (turn.wide - 1) (liberties here.size here.cells turn.target) ≡ true) where
   -- so he does not win there
   lost_at : (p : ℕ) (next : Node) (new : BoardState) → is_liberty here.size here.cells turn.target p ≡ false
       → child_of (under turn ko) here p ≡ Some (next, new) → attacker_wins n next new ≡ false
@@ -254,8 +254,9 @@ module _ (n : ℕ) (turn : Turn) (here : BoardState) (ko : Ko) (on : turn.target
       let size = play_size here (mover_of (under turn ko)) p new child.1 in
       let more = play_takes_none here (mover_of (under turn ko)) p new turn.target on child.1 off in
       let node = next_node (under turn ko) child.0 in
-      let bound = ap (λ b. outlasts (not b) n (turn.wide - 1) (liberties new.size new.cells turn.target)) attacks
-      ∙ more_outlasts n (turn.wide - 1) _ _ many more in
+      let bound =
+      ap (λ b. outlasts turn.tree (not b) n (turn.wide - 1) (liberties new.size new.cells turn.target)) attacks
+      ∙ more_outlasts turn.tree n (turn.wide - 1) _ _ many more in
       ap (λ (m : Node). attacker_wins n m new) child.2
       ∙ bounded n node new (subst (λ m. turn.target < m * m) (sym size) on) bound
 
@@ -273,11 +274,11 @@ module _ (n : ℕ) (turn : Turn) (here : BoardState) (ko : Ko) (on : turn.target
 -- so none of the other candidates gives him his way
 pub none_other : (n : ℕ) (turn : Turn) (here : BoardState) → turn.target < here.size * here.size
     → turn.attacker_to_play ≡ true
-    → outlasts false n (turn.wide - 1) (liberties here.size here.cells turn.target) ≡ true
+    → outlasts turn.tree false n (turn.wide - 1) (liberties here.size here.cells turn.target) ≡ true
     → (ko : Ko) (q : ℕ) → (is_off_liberties turn here q && succeeds n (under turn ko) here q) ≡ false
 none_other n turn here on attacks many ko q = elim (cases_Bool (is_liberty here.size here.cells turn.target q)) [
   | inl t ↦ ap (λ b. b && succeeds n (under turn ko) here q)
-      (and_false_right (is_candidate here turn.target turn.wide q) _ (ap not t))
+      (and_false_right (is_candidate_on turn here q) _ (ap not t))
   | inr f ↦ and_false_right (is_off_liberties turn here q) _ (off_fails n turn here ko on attacks many q f)
 ]
 
@@ -306,13 +307,13 @@ known_inside s cells t p known is has =
 -- The stages of the candidates off the liberties of the target.
 module _ (turn : Turn) (here : BoardState) (q : ℕ) where
   -- a candidate is a liberty of the target, a last liberty of an enemy string, or one of the rest
-  stages : is_candidate here turn.target turn.wide q ≡ ((is_liberty here.size here.cells turn.target q
+  stages : is_candidate_on turn here q ≡ ((is_liberty here.size here.cells turn.target q
       || is_last_liberty_of_enemy here.size here.cells turn.target q)
-      || (ltb 0 turn.wide && is_wide_candidate here turn.target q))
-  stages = candidate_stages here turn.target turn.wide q
+      || (ltb 0 turn.wide && is_wide_candidate turn.tree turn.attacker_to_play here turn.target q))
+  stages = candidate_stages turn.tree turn.attacker_to_play here turn.target turn.wide q
 
   -- a capture is a candidate
-  pub capture_is_candidate : is_capture here turn.target q ≡ true → is_candidate here turn.target turn.wide q ≡ true
+  pub capture_is_candidate : is_capture here turn.target q ≡ true → is_candidate_on turn here q ≡ true
   capture_is_candidate h = stages ∙ or_left _ _ (or_right (is_liberty here.size here.cells turn.target q) _
       (and_parts _ _ h).0)
 
@@ -321,22 +322,23 @@ module _ (turn : Turn) (here : BoardState) (q : ℕ) where
   capture_is_off h = and_from _ _ (capture_is_candidate h) (and_parts _ _ h).1
 
   -- and so is another, where a wide ply is left
-  pub other_is_candidate : ltb 0 turn.wide ≡ true → is_other here turn.target q ≡ true
-      → is_candidate here turn.target turn.wide q ≡ true
+  pub other_is_candidate : ltb 0 turn.wide ≡ true → is_other turn here q ≡ true
+      → is_candidate_on turn here q ≡ true
   other_is_candidate some h = stages ∙ or_right (is_liberty here.size here.cells turn.target q
       || is_last_liberty_of_enemy here.size here.cells turn.target q) _
       (and_from _ _ some (and_parts _ _ (and_parts _ _ h).0).0)
 
   -- where a wide ply is left, the candidates off the liberties are the captures and the others
   pub off_by_stages : ltb 0 turn.wide ≡ true
-      → is_off_liberties turn here q ≡ (is_capture here turn.target q || is_other here turn.target q)
+      → is_off_liberties turn here q ≡ (is_capture here turn.target q || is_other turn here q)
   off_by_stages some =
       ap (λ b. b && not (is_liberty here.size here.cells turn.target q)) (stages
       ∙ ap (λ b. (is_liberty here.size here.cells turn.target q
       || is_last_liberty_of_enemy here.size here.cells turn.target q)
-      || (b && is_wide_candidate here turn.target q)) some)
+      || (b && is_wide_candidate turn.tree turn.attacker_to_play here turn.target q)) some)
       ∙ split (is_liberty here.size here.cells turn.target q)
-      (is_last_liberty_of_enemy here.size here.cells turn.target q) (is_wide_candidate here turn.target q)
+      (is_last_liberty_of_enemy here.size here.cells turn.target q)
+      (is_wide_candidate turn.tree turn.attacker_to_play here turn.target q)
     where
       split : (l t w : Bool) → (((l || t) || w) && not l) ≡ ((t && not l) || ((w && not l) && not (t && not l)))
       split true true true = refl
@@ -353,7 +355,7 @@ module _ (turn : Turn) (here : BoardState) (q : ℕ) where
       ap (λ b. b && not (is_liberty here.size here.cells turn.target q)) (stages
       ∙ ap (λ b. (is_liberty here.size here.cells turn.target q
       || is_last_liberty_of_enemy here.size here.cells turn.target q)
-      || (b && is_wide_candidate here turn.target q)) none)
+      || (b && is_wide_candidate turn.tree turn.attacker_to_play here turn.target q)) none)
       ∙ split (is_liberty here.size here.cells turn.target q)
       (is_last_liberty_of_enemy here.size here.cells turn.target q)
     where

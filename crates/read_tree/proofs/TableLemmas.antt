@@ -6,6 +6,7 @@ use Rattle.std.proofs.lemmas.List.Elements.{All-get_or, All-weaker}
 use Rattle.go_rules.specs.declared.Colour.{Colour}
 use Rattle.go_rules.specs.Position.{BoardState}
 use Rattle.go_base.specs.Facts.{Fact, Agrees, Grows, agrees_before}
+use Rattle.read_rules.specs.declared.tree.Tree.{Tree}
 use Rattle.read_rules.specs.GameTree.{first_success}
 use Rattle.read_tree.specs.declared.turn.Turn.{Turn}
 use Rattle.read_tree.specs.declared.allowances.Allowances.{Allowances}
@@ -27,26 +28,29 @@ pub same_node : (a b : AttackerNode) → ghosts.eq a b ≡ true → a ≡ b
 same_node a b e = search rules
 
 -- what is true of a node stays true while more is seen
-true_more : {seen more : Fact → Bool} {target : ℕ} {defender : Colour} {node : AttackerNode} {verdict : Verdict}
-    → IsTrueOf seen target defender node verdict → Grows seen more → IsTrueOf more target defender node verdict
+true_more : {seen more : Fact → Bool} {tree : Tree} {target : ℕ} {defender : Colour} {node : AttackerNode}
+    {verdict : Verdict}
+    → IsTrueOf seen tree target defender node verdict → Grows seen more
+    → IsTrueOf more tree target defender node verdict
 true_more t grows = record { each = λ pos a. t.each pos (agrees_before grows a) }
 
 -- a table that is true stays true while more is seen
-pub table_more : {seen more : Fact → Bool} {target : ℕ} {defender : Colour} {table : List Entry}
-    → IsTrueTable seen target defender table → Grows seen more → IsTrueTable more target defender table
-table_more {seen} {more} {target} {defender} {table} t grows = record {
-  all = All-weaker (λ (e : Entry). IsTrueOf seen target defender e.node e.verdict)
-      (λ (e : Entry). IsTrueOf more target defender e.node e.verdict) (λ e h. true_more h grows) table t.all;
+pub table_more : {seen more : Fact → Bool} {tree : Tree} {target : ℕ} {defender : Colour} {table : List Entry}
+    → IsTrueTable seen tree target defender table → Grows seen more → IsTrueTable more tree target defender table
+table_more {seen} {more} {tree} {target} {defender} {table} t grows = record {
+  all = All-weaker (λ (e : Entry). IsTrueOf seen tree target defender e.node e.verdict)
+      (λ (e : Entry). IsTrueOf more tree target defender e.node e.verdict) (λ e h. true_more h grows) table t.all;
 }
 
 -- the verdict of an entry is true of the node that is compared as equal to its own
-pub found : {seen : Fact → Bool} {target : ℕ} {defender : Colour} (table : List Entry) (i : ℕ) (other : Entry)
-    (node : AttackerNode) → i < length table → ghosts.eq (get_or table i other).node node ≡ true
-    → IsTrueTable seen target defender table → IsTrueOf seen target defender node (get_or table i other).verdict
-found {seen} {target} {defender} table i other node h same t =
-    subst (λ (n : AttackerNode). IsTrueOf seen target defender n (get_or table i other).verdict)
+pub found : {seen : Fact → Bool} {tree : Tree} {target : ℕ} {defender : Colour} (table : List Entry) (i : ℕ)
+    (other : Entry) (node : AttackerNode) → i < length table → ghosts.eq (get_or table i other).node node ≡ true
+    → IsTrueTable seen tree target defender table
+    → IsTrueOf seen tree target defender node (get_or table i other).verdict
+found {seen} {tree} {target} {defender} table i other node h same t =
+    subst (λ (n : AttackerNode). IsTrueOf seen tree target defender n (get_or table i other).verdict)
     (same_node (get_or table i other).node node same)
-    (All-get_or (λ (e : Entry). IsTrueOf seen target defender e.node e.verdict) table i other h t.all)
+    (All-get_or (λ (e : Entry). IsTrueOf seen tree target defender e.node e.verdict) table i other h t.all)
 
 -- those that are in both sets
 pub has_both : (a b : Allowances) (ko : Ko) → has (both a b) ko ≡ (has a ko && has b ko)
@@ -92,37 +96,45 @@ all_known asked known missing e ko h =
     of_two false k h = cc
 
 -- what was known before, and what was found of the rest, is true
-more_true : {seen more : Fact → Bool} {target : ℕ} {defender : Colour} {node : AttackerNode} {before : Verdict}
+more_true : {seen more : Fact → Bool} {tree : Tree} {target : ℕ} {defender : Colour} {node : AttackerNode}
+    {before : Verdict}
     (asked missing good : Allowances) (verdict : Verdict)
-    → IsTrueOf seen target defender node before → Grows seen more → missing ≡ without asked before.known
+    → IsTrueOf seen tree target defender node before → Grows seen more → missing ≡ without asked before.known
     → verdict ≡ record {
       known = either before.known missing;
       good = either (both before.known before.good) good;
     }
-    → ((pos : BoardState) → Agrees more pos → Tells missing good (is_won target defender node pos))
-    → IsTrueOf more target defender node verdict
-more_true {seen} {more} {target} {defender} {node} {before} asked missing good verdict t grows e is tells = record {
-  each = λ pos a ko h.
-      let won = is_won target defender node pos ko in
-      let gone = ap (λ s. has s ko) e ∙ has-without asked before.known ko in
-      ap (λ (v : Verdict). has v.good ko) is
-      ∙ has_either (both before.known before.good) good ko
-      ∙ ap (λ b. b || has good ko) (has_both before.known before.good ko)
-      ∙ joined (has before.known ko) (has before.good ko) (has asked ko) (has good ko) won
-      (t.each pos (agrees_before grows a) ko) ((tells pos a).each ko ∙ ap (λ b. b && won) gone)
-      (sym (ap (λ b. has before.known ko || b) gone) ∙ sym (has_either before.known missing ko)
-      ∙ sym (ap (λ (v : Verdict). has v.known ko) is) ∙ h);
-}
+    → ((pos : BoardState) → Agrees more pos → Tells missing good (is_won tree target defender node pos))
+    → IsTrueOf more tree target defender node verdict
+more_true {seen} {more} {tree} {target} {defender} {node} {before} asked missing good verdict t grows e is tells =
+    record {
+      each = λ pos a ko h.
+          let won = is_won tree target defender node pos ko in
+          let gone = ap (λ s. has s ko) e ∙ has-without asked before.known ko in
+          ap (λ (v : Verdict). has v.good ko) is
+          ∙ has_either (both before.known before.good) good ko
+          ∙ ap (λ b. b || has good ko) (has_both before.known before.good ko)
+          ∙ joined (has before.known ko) (has before.good ko) (has asked ko) (has good ko) won
+          (t.each pos (agrees_before grows a) ko) ((tells pos a).each ko ∙ ap (λ b. b && won) gone)
+          (sym (ap (λ b. has before.known ko || b) gone) ∙ sym (has_either before.known missing ko)
+          ∙ sym (ap (λ (v : Verdict). has v.known ko) is) ∙ h);
+    }
 
 -- the node of a turn, with this side to play and so many wide plies left
 with_turn : Turn → Bool → ℕ → Ko → Node
 with_turn turn attacks wide ko =
-    under (record { target = turn.target; defender = turn.defender; attacker_to_play = attacks; wide = wide }) ko
+    under (record {
+      tree = turn.tree;
+      target = turn.target;
+      defender = turn.defender;
+      attacker_to_play = attacks;
+      wide = wide;
+    }) ko
 
 -- at the attacker's turn the node is won where the position after the moves is
 won_is : (turn : Turn) (node : AttackerNode) (pos here : BoardState) → turn.attacker_to_play ≡ true
     → turn.wide ≡ node.wide → here ≡ changed pos node.changes → (ko : Ko)
-    → is_won turn.target turn.defender node pos ko ≡ is_some (first_success node.plies (under turn ko) here)
+    → is_won turn.tree turn.target turn.defender node pos ko ≡ is_some (first_success node.plies (under turn ko) here)
 unfolding with_turn
 won_is turn node pos here attacks wide at ko =
     ap (λ b. is_some (first_success node.plies (with_turn turn b node.wide ko) (changed pos node.changes)))
@@ -133,7 +145,7 @@ won_is turn node pos here attacks wide at ko =
 
 -- where what was asked is known, it is told by the verdict
 told_by : {seen : Fact → Bool} (turn : Turn) (node : AttackerNode) (verdict : Verdict) (asked found : Allowances)
-    (pos here : BoardState) → IsTrueOf seen turn.target turn.defender node verdict → Agrees seen pos
+    (pos here : BoardState) → IsTrueOf seen turn.tree turn.target turn.defender node verdict → Agrees seen pos
     → turn.attacker_to_play ≡ true → turn.wide ≡ node.wide → here ≡ changed pos node.changes
     → ((ko : Ko) → has asked ko ≡ true → has verdict.known ko ≡ true) → found ≡ both asked verdict.good
     → Tells asked found (λ ko. is_some (first_success node.plies (under turn ko) here))
@@ -151,7 +163,7 @@ told_by turn node verdict asked found pos here t a attacks wide at covered is = 
 -- it is where nothing of it is missing
 pub told_before : {seen : Fact → Bool} (turn : Turn) (node : AttackerNode) (verdict : Verdict)
     (asked missing found : Allowances) (pos here : BoardState)
-    → IsTrueOf seen turn.target turn.defender node verdict → Agrees seen pos → turn.attacker_to_play ≡ true
+    → IsTrueOf seen turn.tree turn.target turn.defender node verdict → Agrees seen pos → turn.attacker_to_play ≡ true
     → turn.wide ≡ node.wide → here ≡ changed pos node.changes → missing ≡ without asked verdict.known
     → has_some missing ≡ false → found ≡ both asked verdict.good
     → Tells asked found (λ ko. is_some (first_success node.plies (under turn ko) here))
@@ -162,7 +174,7 @@ told_before turn node verdict asked missing found pos here t a attacks wide at e
 -- and where what was missing was found
 pub told_after : {seen : Fact → Bool} (turn : Turn) (node : AttackerNode) (before verdict : Verdict)
     (asked missing good found : Allowances) (pos here : BoardState)
-    → IsTrueOf seen turn.target turn.defender node verdict → Agrees seen pos → turn.attacker_to_play ≡ true
+    → IsTrueOf seen turn.tree turn.target turn.defender node verdict → Agrees seen pos → turn.attacker_to_play ≡ true
     → turn.wide ≡ node.wide → here ≡ changed pos node.changes → missing ≡ without asked before.known
     → verdict ≡ record {
       known = either before.known missing;
@@ -177,7 +189,7 @@ told_after turn node before verdict asked missing good found pos here t a attack
 -- what was known before, and what the reading found of the rest, is true of the node after the moves
 pub read_true : {seen more : Fact → Bool} (turn : Turn) (node : AttackerNode) (before verdict : Verdict)
     (asked missing good : Allowances) (moves : List TrialMove)
-    → IsTrueOf seen turn.target turn.defender node before → Grows seen more → turn.attacker_to_play ≡ true
+    → IsTrueOf seen turn.tree turn.target turn.defender node before → Grows seen more → turn.attacker_to_play ≡ true
     → turn.wide ≡ node.wide
     → ((pos : BoardState) → Agrees seen pos → after pos moves ≡ changed pos node.changes)
     → ((pos : BoardState) → Agrees more pos
@@ -187,7 +199,7 @@ pub read_true : {seen more : Fact → Bool} (turn : Turn) (node : AttackerNode) 
       known = either before.known missing;
       good = either (both before.known before.good) good;
     }
-    → IsTrueOf more turn.target turn.defender node verdict
+    → IsTrueOf more turn.tree turn.target turn.defender node verdict
 read_true turn node before verdict asked missing good moves t grows attacks wide at tells e is =
     more_true asked missing good verdict t grows e is (λ pos a. Tells-same (tells pos a)
     (λ ko. sym (won_is turn node pos (after pos moves) attacks wide (at pos (agrees_before grows a)) ko)))

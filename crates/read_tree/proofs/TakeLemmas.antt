@@ -92,6 +92,7 @@ other_twice white = refl
 -- the turn at a node
 abbrev pub turn_at : Node → Turn
 turn_at node = record {
+  tree = node.tree;
   target = node.target;
   defender = node.defender;
   attacker_to_play = node.attacker_to_play;
@@ -100,7 +101,7 @@ turn_at node = record {
 
 -- with a ply left, an attacker who may play at the only liberty of the target captures it
 pub taking_wins : (n : ℕ) (node : Node) (here : BoardState) → IsWhole here → node.target < here.size * here.size
-    → has_many_liberties here node.target node.wide ≡ false → IsTaken (turn_at node) here
+    → has_many_liberties node.tree here node.target node.wide ≡ false → IsTaken (turn_at node) here
     → attacker_wins (suc n) node here ≡ true
 taking_wins n node here whole on few t =
     let s = here.size in
@@ -123,7 +124,7 @@ taking_wins n node here whole on few t =
         point = t.l;
         next = next_node node (allowance_of node);
         new = new;
-        candidate = candidate_from here node.target node.wide t.l on (fills lib);
+        candidate = candidate_from node.tree node.attacker_to_play here node.target node.wide t.l on (fills lib);
         child = inl (record { legal = ap (λ k. play here k t.l) mover ∙ legal; next_is = refl });
         wins = wins-captured n (next_node node (allowance_of node)) new gone;
       },
@@ -135,7 +136,7 @@ taking_wins n node here whole on few t =
 
 -- the same at a turn, under any allowance
 pub take_wins : (n : ℕ) (turn : Turn) (here : BoardState) → IsWhole here → turn.target < here.size * here.size
-    → has_many_liberties here turn.target turn.wide ≡ false → IsTaken turn here → (ko : Ko)
+    → has_many_liberties turn.tree here turn.target turn.wide ≡ false → IsTaken turn here → (ko : Ko)
     → attacker_wins (suc n) (under turn ko) here ≡ true
 take_wins n turn here whole on few t ko = taking_wins n (under turn ko) here whole on few t
 

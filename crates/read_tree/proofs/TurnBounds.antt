@@ -13,22 +13,24 @@ use Rattle.read_tree.specs.Allowances.{Ko, under}
 -- The same at a turn, on a board of size s.
 module _ (n : ℕ) (turn : Turn) (here : BoardState) (s : ℕ) (size : here.size ≡ s) where
   -- the liberties may be counted on a board of size s, which is the position's size
-  counted : (b : Bool) → outlasts turn.attacker_to_play n turn.wide (liberties s here.cells turn.target) ≡ b
-      → outlasts turn.attacker_to_play n turn.wide (liberties here.size here.cells turn.target) ≡ b
-  counted b h = ap (λ m. outlasts turn.attacker_to_play n turn.wide (liberties m here.cells turn.target)) size ∙ h
+  counted : (b : Bool) → outlasts turn.tree turn.attacker_to_play n turn.wide (liberties s here.cells turn.target) ≡ b
+      → outlasts turn.tree turn.attacker_to_play n turn.wide (liberties here.size here.cells turn.target) ≡ b
+  counted b h =
+      ap (λ m. outlasts turn.tree turn.attacker_to_play n turn.wide (liberties m here.cells turn.target)) size ∙ h
 
   -- with too many liberties the attacker does not win under any allowance
   pub bounded_at : turn.target < s * s
-      → outlasts turn.attacker_to_play n turn.wide (liberties s here.cells turn.target) ≡ true → (ko : Ko)
+      → outlasts turn.tree turn.attacker_to_play n turn.wide (liberties s here.cells turn.target) ≡ true → (ko : Ko)
       → attacker_wins n (under turn ko) here ≡ false
   bounded_at on h ko = bounded n (under turn ko) here (subst (λ m. turn.target < m * m) (sym size) on) (counted true h)
 
   -- with fewer the node is undecided
   pub undecided_at : is_captured here turn.target ≡ false
-      → outlasts turn.attacker_to_play n turn.wide (liberties s here.cells turn.target) ≡ false → (ko : Ko)
+      → outlasts turn.tree turn.attacker_to_play n turn.wide (liberties s here.cells turn.target) ≡ false → (ko : Ko)
       → IsUndecided (under turn ko) here
   undecided_at stands h ko = record {
     stands = stands;
-    few = λ t. many_outlasts n here turn.target turn.wide
-        (ap (λ b. outlasts b n turn.wide (liberties here.size here.cells turn.target)) (sym t) ∙ counted false h);
+    few = λ t. many_outlasts turn.tree n here turn.target turn.wide
+        (ap (λ b. outlasts turn.tree b n turn.wide (liberties here.size here.cells turn.target)) (sym t)
+        ∙ counted false h);
   }

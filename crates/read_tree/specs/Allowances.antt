@@ -38,6 +38,7 @@ own_ko false = defender_may
 -- the node whose turn this is, under an allowance
 abbrev pub under : Turn → Ko → Node
 under turn ko = record {
+  tree = turn.tree;
   target = turn.target;
   defender = turn.defender;
   attacker_to_play = turn.attacker_to_play;
@@ -53,6 +54,7 @@ mover_on turn = if turn.attacker_to_play then other turn.defender else turn.defe
 -- the turn after a move
 abbrev pub next_turn : Turn → Turn
 next_turn turn = record {
+  tree = turn.tree;
   target = turn.target;
   defender = turn.defender;
   attacker_to_play = not turn.attacker_to_play;

@@ -18,7 +18,7 @@ pub record RunsFree (n : ℕ) (turn : Turn) (here : BoardState) (known : set.Fin
   pub free : is_banned here.ban turn.defender l ≡ false
   pub kept : set.FinSet nat_cmp
   pub each : (x : ℕ) → set.contains kept x ≡ true → IsLibertyAfter here.size here.cells known l x
-  pub many : outlasts true n (turn.wide - 1) (set.len kept) ≡ true
+  pub many : outlasts turn.tree true n (turn.wide - 1) (set.len kept) ≡ true
 
 -- the target is the defender's, and he runs free at one of the known points
 pub record Escapes (n : ℕ) (turn : Turn) (here : BoardState) (known : set.FinSet nat_cmp) : Type 0 where

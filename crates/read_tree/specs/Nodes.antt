@@ -20,8 +20,9 @@ the_allowance node = record {
   attacker = nat_lt 0 node.attacker_ko;
 }
 
--- both nodes are about the same string
-pub record SameString (node next : Node) : Type 0 where
+-- both nodes are about the same string, in one tree
+pub record SameReading (node next : Node) : Type 0 where
+  pub tree : next.tree ≡ node.tree
   pub target : next.target ≡ node.target
   pub defender : next.defender ≡ node.defender
 
@@ -32,6 +33,7 @@ LeadsTo node here p next new = child_of node here p ≡ option_map (λ n. (n, ne
 -- the node of the game tree
 abbrev pub game_node : NodeAt → Node
 game_node node = record {
+  tree = node.tree;
   target = node.target;
   defender = node.defender;
   attacker_to_play = node.attacker_turn;

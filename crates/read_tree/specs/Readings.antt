@@ -21,7 +21,7 @@ pub record IsToRead {L : Type 0} (shows : L → BoardState) (seen : L → Fact �
   pub room : length board.moves + q.plies ≤ most_moves
   pub target : IsPointOf shows board q.target
   pub liberties : AreLibertiesOf seen board q.target known
-  pub few : outlasts (is_attack q.kind) q.plies q.wide (set.len known) ≡ false
+  pub few : outlasts q.tree (is_attack q.kind) q.plies q.wide (set.len known) ≡ false
 
 -- the answer has a code, and a move on the board exactly where the code is not 0; and on each position that agrees with
 -- what is seen now, where the question is about it, it is the question's answer there, and what was looked at since

@@ -5,6 +5,7 @@ use Rattle.go_rules.specs.declared.Colour.{Colour}
 use Rattle.go_rules.specs.Position.{BoardState}
 use Rattle.go_base.specs.Facts.{Fact, Agrees}
 use Rattle.trial_board.specs.Changed.{changed}
+use Rattle.read_rules.specs.declared.tree.Tree.{Tree}
 use Rattle.read_rules.specs.GameTree.{first_success}
 use Rattle.read_tree.specs.declared.turn.Turn.{Turn}
 use Rattle.read_tree.specs.declared.table.AttackerNode.{AttackerNode}
@@ -12,23 +13,24 @@ use Rattle.read_tree.specs.declared.table.Verdict.{Verdict}
 use Rattle.read_tree.specs.declared.table.Entry.{Entry}
 use Rattle.read_tree.specs.Allowances.{Ko, under, has}
 
--- the attacker's turn in the reading of a target, with so many wide plies left
-abbrev pub attackers_turn : ℕ → Colour → ℕ → Turn
-attackers_turn target defender wide =
-    record { target = target; defender = defender; attacker_to_play = true; wide = wide }
+-- the attacker's turn in the reading of a target in the tree, with so many wide plies left
+abbrev pub attackers_turn : Tree → ℕ → Colour → ℕ → Turn
+attackers_turn tree target defender wide =
+    record { tree = tree; target = target; defender = defender; attacker_to_play = true; wide = wide }
 
 -- at the node over the position some candidate gives the attacker his way, under the allowance
-abbrev pub is_won : ℕ → Colour → AttackerNode → BoardState → Ko → Bool
-is_won target defender node pos ko =
-    is_some (first_success node.plies (under (attackers_turn target defender node.wide) ko) (changed pos node.changes))
+abbrev pub is_won : Tree → ℕ → Colour → AttackerNode → BoardState → Ko → Bool
+is_won tree target defender node pos ko = is_some
+    (first_success node.plies (under (attackers_turn tree target defender node.wide) ko) (changed pos node.changes))
 
 -- the verdict on the node is true: on each position that agrees with the facts, under each allowance that is known, the
 -- attacker has his way exactly where it is a good one
-pub record IsTrueOf (seen : Fact → Bool) (target : ℕ) (defender : Colour) (node : AttackerNode) (verdict : Verdict) :
-    Type 0 where
+pub record IsTrueOf (seen : Fact → Bool) (tree : Tree) (target : ℕ) (defender : Colour) (node : AttackerNode)
+    (verdict : Verdict) : Type 0 where
   pub each : (pos : BoardState) → Agrees seen pos → (ko : Ko) → has verdict.known ko ≡ true
-      → has verdict.good ko ≡ is_won target defender node pos ko
+      → has verdict.good ko ≡ is_won tree target defender node pos ko
 
 -- each verdict in the table is true of its node
-pub record IsTrueTable (seen : Fact → Bool) (target : ℕ) (defender : Colour) (table : List Entry) : Type 0 where
-  pub all : All (λ (e : Entry). IsTrueOf seen target defender e.node e.verdict) table
+pub record IsTrueTable (seen : Fact → Bool) (tree : Tree) (target : ℕ) (defender : Colour) (table : List Entry)
+    : Type 0 where
+  pub all : All (λ (e : Entry). IsTrueOf seen tree target defender e.node e.verdict) table

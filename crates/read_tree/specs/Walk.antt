@@ -59,4 +59,4 @@ pub record IsReady {L : Type 0} (shows : L → BoardState) (seen : L → Fact �
   pub target : IsPointOf shows board turn.target
   pub some : has_some asked ≡ true
   pub liberties : AreLibertiesOf seen board turn.target points
-  pub table : IsTrueTable (seen board.look) turn.target turn.defender entries
+  pub table : IsTrueTable (seen board.look) turn.tree turn.target turn.defender entries

@@ -3,32 +3,44 @@
 ghost use Rattle.std.specs.Prelude.{◌≡◌, ℕ, ◌-◌, ◌&&◌, ◌||◌, false, nat_lt};
 ghost use Rattle.std.specs.FinSet as set;
 ghost use Rattle.read_rules.specs.Bound.{most_by_wide, outlasts};
+ghost use Rattle.read_rules.specs.Trees.{most_narrow};
 
 use crate::turn::Turn;
 use go_base::points::PointSet;
+use read_rules::Tree;
 
-/// How many liberties a target may have that is captured with so many wide plies left.
-fn most_by_wide(wide: u8) -> u16
-    ensures { result ≡ most_by_wide wide }
+/// How many liberties a target may have, where no wide ply is left, that the attacker still plays at.
+pub fn most_narrow(tree: Tree) -> u16
+    ensures { result ≡ most_narrow tree }
+{
+    match tree {
+        Tree::Stated => 2,
+        Tree::Wider => 3,
+    }
+}
+
+/// How many liberties a target may have that is captured with so many wide plies left in the tree.
+fn most_by_wide(tree: Tree, wide: u8) -> u16
+    ensures { result ≡ most_by_wide tree wide }
 {
     if wide == 0 {
-        2
+        most_narrow(tree)
     } else if wide < 3 {
-        3
+        most_narrow(tree) + 1
     } else {
         4
     }
 }
 
-/// Whether so many liberties are too many for the plies and the wide plies that are left.
+/// Whether so many liberties are too many for the plies and the wide plies that are left in the tree.
 #[tactic(auto, unfolding(read_rules::specs::Bound::outlasts))]
-pub fn outlasts(attacker: bool, plies: u8, wide: u8, liberties: u16) -> bool
-    ensures { result ≡ outlasts attacker plies wide liberties }
+pub fn outlasts(tree: Tree, attacker: bool, plies: u8, wide: u8, liberties: u16) -> bool
+    ensures { result ≡ outlasts tree attacker plies wide liberties }
 {
     if attacker {
-        liberties > (u16::from(plies) + 1) / 2 || liberties > most_by_wide(wide)
+        liberties > (u16::from(plies) + 1) / 2 || liberties > most_by_wide(tree, wide)
     } else {
-        liberties > u16::from(plies) / 2 || liberties > most_by_wide(wide.saturating_sub(1))
+        liberties > u16::from(plies) / 2 || liberties > most_by_wide(tree, wide.saturating_sub(1))
     }
 }
 
@@ -39,36 +51,46 @@ fn least(a: u16, b: u16) -> u16
     if a < b { a } else { b }
 }
 
-/// The most liberties that are not too many for the plies and the wide plies that are left.
+/// The most liberties that are not too many for the plies and the wide plies that are left in the tree.
 #[tactic(auto, unfolding(read_rules::specs::Bound::outlasts))]
-fn most_within(attacker: bool, plies: u8, wide: u8) -> u16
-    ensures { (l : ℕ) → outlasts attacker plies wide l ≡ nat_lt result l }
+fn most_within(tree: Tree, attacker: bool, plies: u8, wide: u8) -> u16
+    ensures { (l : ℕ) → outlasts tree attacker plies wide l ≡ nat_lt result l }
 {
     if attacker {
-        least((u16::from(plies) + 1) / 2, most_by_wide(wide))
+        least((u16::from(plies) + 1) / 2, most_by_wide(tree, wide))
     } else {
-        least(u16::from(plies) / 2, most_by_wide(wide.saturating_sub(1)))
+        least(
+            u16::from(plies) / 2,
+            most_by_wide(tree, wide.saturating_sub(1)),
+        )
     }
 }
 
 /// The most liberties with which the target is not too strong to be captured, with `plies` plies left.
 pub fn most_liberties(turn: Turn, plies: u8) -> u16
-    ensures { (l : ℕ) → outlasts turn.attacker_to_play plies turn.wide l ≡ nat_lt result l }
+    ensures { (l : ℕ) → outlasts turn.tree turn.attacker_to_play plies turn.wide l ≡ nat_lt result l }
 {
-    most_within(turn.attacker_to_play, plies, turn.wide)
+    most_within(turn.tree, turn.attacker_to_play, plies, turn.wide)
 }
 
 /// Whether the target has too many liberties to be captured, with `plies` plies left; its liberties are handed in.
 pub fn has_too_many(turn: Turn, plies: u8, known: &PointSet) -> bool
-    ensures { result ≡ outlasts turn.attacker_to_play plies turn.wide (set.len known.now) }
+    ensures { result ≡ outlasts turn.tree turn.attacker_to_play plies turn.wide (set.len known.now) }
 {
-    outlasts(turn.attacker_to_play, plies, turn.wide, known.count())
+    outlasts(
+        turn.tree,
+        turn.attacker_to_play,
+        plies,
+        turn.wide,
+        known.count(),
+    )
 }
 
 /// Whether the attacker is to play, and a play that takes no liberty of the target leaves it too many, with `plies`
 /// plies left after it.
 pub fn leaves_too_many(turn: Turn, plies: u8, liberties: u16) -> bool
-    ensures { result ≡ (turn.attacker_to_play && outlasts false plies (turn.wide - 1) liberties) }
+    ensures { result ≡ (turn.attacker_to_play && outlasts turn.tree false plies (turn.wide - 1) liberties) }
 {
-    turn.attacker_to_play && outlasts(false, plies, turn.wide.saturating_sub(1), liberties)
+    let wide = turn.wide.saturating_sub(1);
+    turn.attacker_to_play && outlasts(turn.tree, false, plies, wide, liberties)
 }

@@ -9,8 +9,10 @@ ghost use Rattle.go_base.specs.Facts.{Agrees, AddsIn};
 ghost use Rattle.trial_board.specs.Overlays.{neighbourhood_twice};
 ghost use Rattle.trial_board.specs.Trials.{Stays, after};
 ghost use Rattle.read_rules.specs.Candidates.{near_candidates};
+ghost use Rattle.read_rules.specs.Stages.{is_wide_candidate};
 ghost use Rattle.read_tree.specs.Stages.{is_capture, is_other};
 
+use crate::turn::Turn;
 use go_base::points::PointSet;
 use go_base::{Look, Point};
 use read_moves::wide_candidates;
@@ -31,26 +33,42 @@ pub fn captures_of<L: Look>(board: &mut Trial<L>, target: Point, known: &PointSe
     board.surroundings(target).last_liberties.difference(known)
 }
 
-/// The wide candidates of the target that are neither its liberties nor captures, which both are known.
+/// The wide candidates at the turn, by the liberties of its target.
+fn wide_of<L: Look>(board: &mut Trial<L>, turn: Turn, known: &PointSet) -> PointSet
+    requires target { turn.target < (L.shows board.old.look).size * (L.shows board.old.look).size }
+    requires liberties { (pos : BoardState) → Agrees (L.seen board.old.look) pos
+        → known.now ≡ liberty_points pos.size (after pos board.old.moves).cells turn.target }
+    ensures stays { Stays L.shows L.seen board.old board.new }
+    ensures over { (pos : BoardState) → Agrees (L.seen board.new.look) pos → (p : ℕ)
+        → set.contains result p
+        ≡ is_wide_candidate turn.tree turn.attacker_to_play (after pos board.old.moves) turn.target p }
+    ensures near { (pos : BoardState) → Agrees (L.seen board.new.look) pos
+        → AddsIn (L.seen board.old.look) (L.seen board.new.look)
+        (near_candidates pos.size (after pos board.old.moves).cells turn.target) }
+{
+    wide_candidates(board, turn.tree, turn.attacker_to_play, turn.target, known)
+}
+
+/// The wide candidates at the turn that are neither liberties of the target nor captures, which both are known.
 pub fn others_of<L: Look>(
     board: &mut Trial<L>,
-    target: Point,
+    turn: Turn,
     known: &PointSet,
     captures: &PointSet,
 ) -> PointSet
-    requires target { target < (L.shows board.old.look).size * (L.shows board.old.look).size }
+    requires target { turn.target < (L.shows board.old.look).size * (L.shows board.old.look).size }
     requires liberties { (pos : BoardState) → Agrees (L.seen board.old.look) pos
-        → known.now ≡ liberty_points pos.size (after pos board.old.moves).cells target }
+        → known.now ≡ liberty_points pos.size (after pos board.old.moves).cells turn.target }
     requires captures { (pos : BoardState) → Agrees (L.seen board.old.look) pos → (p : ℕ)
-        → set.contains captures.now p ≡ is_capture (after pos board.old.moves) target p }
+        → set.contains captures.now p ≡ is_capture (after pos board.old.moves) turn.target p }
     ensures stays { Stays L.shows L.seen board.old board.new }
     ensures over { (pos : BoardState) → Agrees (L.seen board.new.look) pos → (p : ℕ)
-        → set.contains result p ≡ is_other (after pos board.old.moves) target p }
+        → set.contains result p ≡ is_other turn (after pos board.old.moves) p }
     ensures near { (pos : BoardState) → Agrees (L.seen board.new.look) pos
         → AddsIn (L.seen board.old.look) (L.seen board.new.look)
-        (near_candidates pos.size (after pos board.old.moves).cells target) }
+        (near_candidates pos.size (after pos board.old.moves).cells turn.target) }
 {
-    wide_candidates(board, target, known)
+    wide_of(board, turn, known)
         .difference(known)
         .difference(captures)
 }

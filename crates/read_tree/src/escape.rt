@@ -54,7 +54,13 @@ fn runs_free<L: Look>(
         return false;
     }
     let kept = kept_at(board, l, known);
-    outlasts(true, plies, turn.wide.saturating_sub(1), kept.count())
+    outlasts(
+        turn.tree,
+        true,
+        plies,
+        turn.wide.saturating_sub(1),
+        kept.count(),
+    )
 }
 
 /// Whether the target is the defender's and has a liberty where his play leaves it too many, with `plies` plies left

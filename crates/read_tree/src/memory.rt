@@ -3,6 +3,7 @@
 ghost use Rattle.std.specs.Prelude.{ℕ, Bool, ◌<◌, ◌↔◌, IsTrue, length};
 ghost use Rattle.go_rules.specs.declared.Colour.{Colour};
 ghost use Rattle.go_base.specs.Facts.{Fact};
+ghost use Rattle.read_rules.specs.declared.tree.Tree.{Tree};
 ghost use Rattle.read_tree.specs.Table.{IsTrueOf, IsTrueTable};
 
 use crate::table::{AttackerNode, Entry, Verdict, find, keep};
@@ -28,8 +29,9 @@ impl Memory<'_> {
 
     /// What is known of the node.
     pub fn find(&self, node: &AttackerNode) -> Verdict
-        ensures { (seen : Fact → Bool) (target : ℕ) (defender : Colour)
-            → IsTrueTable seen target defender self.now.table.now → IsTrueOf seen target defender node.now result }
+        ensures { (seen : Fact → Bool) (tree : Tree) (target : ℕ) (defender : Colour)
+            → IsTrueTable seen tree target defender self.now.table.now
+            → IsTrueOf seen tree target defender node.now result }
     {
         if !self.has_room() {
             return Verdict::nothing();
@@ -39,9 +41,10 @@ impl Memory<'_> {
 
     /// Remembers what is known of the node, where there is room.
     pub fn keep(&mut self, node: &AttackerNode, verdict: Verdict)
-        ensures { (seen : Fact → Bool) (target : ℕ) (defender : Colour)
-            → IsTrueTable seen target defender self.old.table.now → IsTrueOf seen target defender node.now verdict
-            → IsTrueTable seen target defender self.new.table.now }
+        ensures { (seen : Fact → Bool) (tree : Tree) (target : ℕ) (defender : Colour)
+            → IsTrueTable seen tree target defender self.old.table.now
+            → IsTrueOf seen tree target defender node.now verdict
+            → IsTrueTable seen tree target defender self.new.table.now }
     {
         if self.has_room() {
             keep(self.table, node, verdict);

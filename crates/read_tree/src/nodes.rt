@@ -7,18 +7,20 @@ ghost use Rattle.go_base.specs.Facts.{Agrees, Grows};
 ghost use Rattle.trial_board.specs.Trials.{Stays, most_moves, after, tail};
 ghost use Rattle.read_rules.specs.GameTree.{child_of, attacker_wins, pass_saves, succeeds, first_success, first_move};
 ghost use Rattle.read_rules.specs.GoodMoves.{good_move, is_barred, IsOnBoard};
-ghost use Rattle.read_tree.specs.Nodes.{has_one_at_most, the_allowance, LeadsTo, SameString, game_node};
+ghost use Rattle.read_rules.specs.Trees.{most_narrow};
+ghost use Rattle.read_tree.specs.Nodes.{has_one_at_most, the_allowance, LeadsTo, SameReading, game_node};
 ghost use Rattle.read_tree.specs.Table.{IsTrueTable};
 ghost use Rattle.read_tree.specs.Walk.{IsPointOf, OnEachAgreeing};
 
 use crate::allowances::Allowances;
+use crate::bound::most_narrow;
 use crate::memory::Memory;
 use crate::table::{Entry, empty_table};
 use crate::tree;
 use crate::turn::Turn;
 use go_base::{Cell, Colour, Look, Point};
 use read_moves::candidates;
-use read_rules::{Node, Spot};
+use read_rules::{Node, Spot, Tree};
 use trial_board::{Trial, Tried};
 
 /// From how many plies on a node is read with a table.
@@ -27,6 +29,8 @@ const PLIES_WITH_TABLE: u8 = 12;
 /// A node of the game tree over a position with trial moves, and what is left to spend there.
 #[derive(Clone, Copy, Debug, PartialEq, Eq)]
 pub struct NodeAt {
+    /// Which tree is read.
+    pub tree: Tree,
     /// The point whose string is read.
     pub target: Point,
     /// The colour of the target's stone; the attacker is the other colour.
@@ -66,12 +70,13 @@ fn wins_by_reader<L: Look>(board: &mut Trial<L>, node: Node, plies: u8, memory: 
     requires room { length board.old.moves + plies ≤ most_moves }
     requires target { IsPointOf L.shows board.old node.target }
     requires one { has_one_at_most node ≡ true }
-    requires table { IsTrueTable (L.seen board.old.look) node.target node.defender memory.old.table.now }
+    requires table { IsTrueTable (L.seen board.old.look) node.tree node.target node.defender memory.old.table.now }
     ensures stays { Stays L.shows L.seen board.old board.new }
-    ensures table { IsTrueTable (L.seen board.new.look) node.target node.defender memory.new.table.now }
+    ensures table { IsTrueTable (L.seen board.new.look) node.tree node.target node.defender memory.new.table.now }
     ensures over { OnEachAgreeing L.seen board.old board.new (λ here. result ≡ attacker_wins plies node here) }
 {
     let turn = Turn {
+        tree: node.tree,
         target: node.target,
         defender: node.defender,
         attacker_to_play: node.attacker_to_play,
@@ -89,7 +94,7 @@ pub fn make_at<L: Look>(board: &mut Trial<L>, node: Node, p: Point) -> Option<No
     ensures moves { MatchOption result (board.new.moves ≡ board.old.moves)
         (λ next. tail board.new.moves ≡ board.old.moves) }
     ensures few { length board.new.moves ≤ length board.old.moves + 1 }
-    ensures same { IfSome result (SameString node) }
+    ensures same { IfSome result (SameReading node) }
     ensures over { (pos : BoardState) → Agrees (L.seen board.new.look) pos
         → LeadsTo node (after pos board.old.moves) p result (after pos board.new.moves) }
 {
@@ -109,11 +114,11 @@ pub fn make_at<L: Look>(board: &mut Trial<L>, node: Node, p: Point) -> Option<No
     }
 }
 
-/// Whether so many liberties are more than the attacker may play at.
-fn has_many(liberties: u16, wide: u8) -> bool
-    ensures { result ≡ (nat_lt 4 liberties || ((wide == 0) && nat_lt 2 liberties)) }
+/// Whether so many liberties are more than the attacker may play at in the tree.
+fn has_many(tree: Tree, liberties: u16, wide: u8) -> bool
+    ensures { result ≡ (nat_lt 4 liberties || ((wide == 0) && nat_lt (most_narrow tree) liberties)) }
 {
-    liberties > 4 || (wide == 0 && liberties > 2)
+    liberties > 4 || (wide == 0 && liberties > most_narrow(tree))
 }
 
 /// Whether it is the attacker's turn, and the target has more liberties than he may play at.
@@ -125,7 +130,7 @@ fn is_barred<L: Look>(board: &mut Trial<L>, node: Node) -> bool
     if !node.attacker_to_play {
         return false;
     }
-    has_many(board.liberties(node.target).count(), node.wide)
+    has_many(node.tree, board.liberties(node.target).count(), node.wide)
 }
 
 /// Whether the attacker's play at p, or the defender's, can be made and gives him his way, with `plies` plies left.
@@ -140,9 +145,9 @@ fn succeeds<L: Look>(
     requires room { length board.old.moves + plies < most_moves }
     requires target { IsPointOf L.shows board.old node.target }
     requires on_board { IsPointOf L.shows board.old p }
-    requires table { IsTrueTable (L.seen board.old.look) node.target node.defender memory.old.table.now }
+    requires table { IsTrueTable (L.seen board.old.look) node.tree node.target node.defender memory.old.table.now }
     ensures stays { Stays L.shows L.seen board.old board.new }
-    ensures table { IsTrueTable (L.seen board.new.look) node.target node.defender memory.new.table.now }
+    ensures table { IsTrueTable (L.seen board.new.look) node.tree node.target node.defender memory.new.table.now }
     ensures over { OnEachAgreeing L.seen board.old board.new (λ here. result ≡ succeeds plies node here p) }
 {
     match make_at(board, node, p) {
@@ -160,9 +165,9 @@ fn succeeds<L: Look>(
 fn pass_saves<L: Look>(board: &mut Trial<L>, node: Node, plies: u8, memory: &mut Memory) -> bool
     requires room { length board.old.moves + plies < most_moves }
     requires target { IsPointOf L.shows board.old node.target }
-    requires table { IsTrueTable (L.seen board.old.look) node.target node.defender memory.old.table.now }
+    requires table { IsTrueTable (L.seen board.old.look) node.tree node.target node.defender memory.old.table.now }
     ensures stays { Stays L.shows L.seen board.old board.new }
-    ensures table { IsTrueTable (L.seen board.new.look) node.target node.defender memory.new.table.now }
+    ensures table { IsTrueTable (L.seen board.new.look) node.tree node.target node.defender memory.new.table.now }
     ensures over { OnEachAgreeing L.seen board.old board.new (λ here. result ≡ pass_saves plies node here) }
 {
     if node.attacker_to_play {
@@ -184,13 +189,19 @@ fn first_success<L: Look>(
 ) -> Option<Point>
     requires room { length board.old.moves + plies < most_moves }
     requires target { IsPointOf L.shows board.old node.target }
-    requires table { IsTrueTable (L.seen board.old.look) node.target node.defender memory.old.table.now }
+    requires table { IsTrueTable (L.seen board.old.look) node.tree node.target node.defender memory.old.table.now }
     ensures stays { Stays L.shows L.seen board.old board.new }
-    ensures table { IsTrueTable (L.seen board.new.look) node.target node.defender memory.new.table.now }
+    ensures table { IsTrueTable (L.seen board.new.look) node.tree node.target node.defender memory.new.table.now }
     ensures over { OnEachAgreeing L.seen board.old board.new (λ here. result ≡ first_success plies node here) }
     ensures on_board { IfSome result (IsPointOf L.shows board.old) }
 {
-    let candidates = candidates(board, node.target, node.wide);
+    let candidates = candidates(
+        board,
+        node.tree,
+        node.attacker_to_play,
+        node.target,
+        node.wide,
+    );
     let mut from = 0;
     'plays: while let Some(p) = candidates.first_from(from) {
         if succeeds(board, node, p, plies, memory) {
@@ -213,9 +224,9 @@ pub fn first_move<L: Look>(
 ) -> Option<Spot>
     requires room { length board.old.moves + plies < most_moves }
     requires target { IsPointOf L.shows board.old node.target }
-    requires table { IsTrueTable (L.seen board.old.look) node.target node.defender memory.old.table.now }
+    requires table { IsTrueTable (L.seen board.old.look) node.tree node.target node.defender memory.old.table.now }
     ensures stays { Stays L.shows L.seen board.old board.new }
-    ensures table { IsTrueTable (L.seen board.new.look) node.target node.defender memory.new.table.now }
+    ensures table { IsTrueTable (L.seen board.new.look) node.tree node.target node.defender memory.new.table.now }
     ensures over { OnEachAgreeing L.seen board.old board.new (λ here. result ≡ first_move plies node here) }
     ensures on_board { IfSome result (IsOnBoard (L.shows board.old.look).size) }
 {
@@ -233,9 +244,9 @@ pub fn first_move<L: Look>(
 fn has_good_move<L: Look>(board: &mut Trial<L>, node: Node, plies: u8, memory: &mut Memory) -> bool
     requires room { length board.old.moves + plies < most_moves }
     requires target { IsPointOf L.shows board.old node.target }
-    requires table { IsTrueTable (L.seen board.old.look) node.target node.defender memory.old.table.now }
+    requires table { IsTrueTable (L.seen board.old.look) node.tree node.target node.defender memory.old.table.now }
     ensures stays { Stays L.shows L.seen board.old board.new }
-    ensures table { IsTrueTable (L.seen board.new.look) node.target node.defender memory.new.table.now }
+    ensures table { IsTrueTable (L.seen board.new.look) node.tree node.target node.defender memory.new.table.now }
     ensures over { OnEachAgreeing L.seen board.old board.new (λ here. result ≡ is_some (good_move plies node here)) }
 {
     if is_barred(board, node) {
@@ -250,9 +261,9 @@ fn has_good_move<L: Look>(board: &mut Trial<L>, node: Node, plies: u8, memory: &
 pub fn wins_at<L: Look>(board: &mut Trial<L>, node: Node, plies: u8, memory: &mut Memory) -> bool
     requires room { length board.old.moves + plies ≤ most_moves }
     requires target { IsPointOf L.shows board.old node.target }
-    requires table { IsTrueTable (L.seen board.old.look) node.target node.defender memory.old.table.now }
+    requires table { IsTrueTable (L.seen board.old.look) node.tree node.target node.defender memory.old.table.now }
     ensures stays { Stays L.shows L.seen board.old board.new }
-    ensures table { IsTrueTable (L.seen board.new.look) node.target node.defender memory.new.table.now }
+    ensures table { IsTrueTable (L.seen board.new.look) node.tree node.target node.defender memory.new.table.now }
     ensures over { OnEachAgreeing L.seen board.old board.new (λ here. result ≡ attacker_wins plies node here) }
 {
     if has_one_at_most(node) {
@@ -272,6 +283,7 @@ fn game_node(node: NodeAt) -> Node
     ensures { result ≡ game_node node }
 {
     Node {
+        tree: node.tree,
         target: node.target,
         defender: node.defender,
         attacker_to_play: node.attacker_turn,
@@ -285,7 +297,7 @@ fn game_node(node: NodeAt) -> Node
 fn wins_with<L: Look>(board: &mut Trial<L>, node: NodeAt, table: &mut [Entry]) -> bool
     requires room { length board.old.moves + node.n ≤ most_moves }
     requires target { IsPointOf L.shows board.old node.target }
-    requires table { IsTrueTable (L.seen board.old.look) node.target node.defender table.old }
+    requires table { IsTrueTable (L.seen board.old.look) node.tree node.target node.defender table.old }
     ensures stays { Stays L.shows L.seen board.old board.new }
     ensures over { OnEachAgreeing L.seen board.old board.new (λ here.
         result ≡ attacker_wins node.n (game_node node) here) }

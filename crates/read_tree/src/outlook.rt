@@ -102,7 +102,7 @@ pub fn outlook_of<L: Look>(board: &mut Trial<L>, turn: Turn, plies: u8, known: &
         → TellsLiberties turn plies pos.size (after pos board.old.moves).cells known.now }
     ensures stays { Stays L.shows L.seen board.old board.new }
     ensures over { (pos : BoardState) → Agrees (L.seen board.new.look) pos
-        → outlasts turn.attacker_to_play plies turn.wide
+        → outlasts turn.tree turn.attacker_to_play plies turn.wide
         (liberties pos.size (after pos board.old.moves).cells turn.target) ≡ is_safe result }
     ensures all { (pos : BoardState) → Agrees (L.seen board.new.look) pos → is_safe result ≡ false
         → known.now ≡ liberty_points pos.size (after pos board.old.moves).cells turn.target }

@@ -8,12 +8,13 @@ ghost use Rattle.go_rules.specs.Neighbourhood.{neighbourhood_of};
 ghost use Rattle.go_base.specs.Facts.{Agrees, Grows, AddsIn, CellIs};
 ghost use Rattle.trial_board.specs.Trials.{Stays, most_moves, after};
 ghost use Rattle.go_base.specs.Views.{nowhere, alone};
-ghost use Rattle.read_rules.specs.Candidates.{is_candidate};
+ghost use Rattle.read_rules.specs.Ranges.{most_plies};
 ghost use Rattle.read_rules.specs.ActiveArea.{InActiveArea, AddsNear};
-ghost use Rattle.read_rules.specs.Answer.{is_attack, answer_of, asked_on};
+ghost use Rattle.read_rules.specs.Answer.{is_attack, answer_of, asked_in};
 ghost use Rattle.read_tree.specs.Allowances.{all_three};
 ghost use Rattle.read_rules.specs.Bound.{outlasts};
 ghost use Rattle.read_rules.specs.GoodMoves.{IsOnBoard};
+ghost use Rattle.read_tree.specs.Stages.{is_candidate_on};
 ghost use Rattle.read_tree.specs.Steps.{first_turn, unread, better, IsBest};
 ghost use Rattle.read_tree.specs.Readings.{IsToRead, Answers};
 ghost use Rattle.read_tree.specs.Table.{IsTrueTable};
@@ -41,6 +42,7 @@ fn first_turn(question: &ReadingQuestion) -> Turn
     ensures { result ≡ first_turn question.now }
 {
     Turn {
+        tree: question.tree,
         target: question.target,
         defender: question.colour,
         attacker_to_play: match question.kind {
@@ -82,16 +84,22 @@ fn best_point<L: Look>(
     requires code { first.code < 3 }
     requires none { IsNone first.at ↔ (first.code ≡ 0) }
     requires on_board { IfSome first.at (IsOnBoard (L.shows board.old.look).size) }
-    requires table { IsTrueTable (L.seen board.old.look) turn.target turn.defender memory.old.table.now }
+    requires table { IsTrueTable (L.seen board.old.look) turn.tree turn.target turn.defender memory.old.table.now }
     ensures stays { Stays L.shows L.seen board.old board.new }
     ensures code { result.code ≤ 3 }
     ensures none { IsNone result.at ↔ (result.code ≡ 0) }
     ensures on_board { IfSome result.at (IsOnBoard (L.shows board.old.look).size) }
     ensures over { OnEachAgreeing L.seen board.old board.new (λ here. IsBest plies turn here nowhere first
-        → IsBest plies turn here (is_candidate here turn.target turn.wide) result) }
+        → IsBest plies turn here (is_candidate_on turn here) result) }
     ensures near { LooksNear L.seen board.old board.new (suc plies) turn all_three }
 {
-    let candidates = candidates(board, turn.target, turn.wide);
+    let candidates = candidates(
+        board,
+        turn.tree,
+        turn.attacker_to_play,
+        turn.target,
+        turn.wide,
+    );
     let mut best = first;
     let mut next = 0;
     while let Some(p) = candidates.first_from(next) {
@@ -129,7 +137,8 @@ fn read_by<L: Look>(
     table: &mut [Entry],
 ) -> Answer
     requires ready { IsToRead L.shows L.seen board.old question.now known.now }
-    requires table { IsTrueTable (L.seen board.old.look) question.now.target question.now.colour table.old }
+    requires table { IsTrueTable (L.seen board.old.look) question.now.tree question.now.target question.now.colour
+        table.old }
     ensures { Answers L.shows L.seen board.old board.new question.now result }
 {
     let turn = first_turn(question);
@@ -181,7 +190,8 @@ fn read_on<L: Look>(board: &mut Trial<L>, question: &ReadingQuestion) -> Answer
     requires room { length board.old.moves + question.now.plies ≤ most_moves }
     requires target { IsPointOf L.shows board.old question.now.target }
     ensures answers { Answers L.shows L.seen board.old board.new question.now result }
-    ensures too_many { IsTrue (outlasts (is_attack question.now.kind) question.now.plies question.now.wide
+    ensures too_many { IsTrue (outlasts question.now.tree (is_attack question.now.kind) question.now.plies
+        question.now.wide
         (liberties (L.shows board.old.look).size (after (L.shows board.old.look) board.old.moves).cells
         question.now.target))
         → (result ≡ unread (is_attack question.now.kind)) × (board.new.count ≡ board.old.count)
@@ -205,7 +215,7 @@ pub fn read<L: Look>(look: L, question: ReadingQuestion) -> Report<L>
     requires on_board { question.target < question.size * question.size }
     requires stone { cell_at (L.shows look).cells question.target ≡ stone_of question.colour }
     requires plies { 0 < question.plies }
-    requires few { question.plies ≤ 200 }
+    requires few { question.plies ≤ most_plies }
     ensures shown { L.shows result.look ≡ L.shows look }
     ensures grows { Grows (L.seen look) (L.seen result.look) }
     ensures target { IsTrue (L.seen result.look (CellIs question.target (stone_of question.colour))) }
@@ -220,7 +230,7 @@ pub fn read<L: Look>(look: L, question: ReadingQuestion) -> Report<L>
 
     // With too many liberties for the plies or the wide plies that are left, an attack fails and no defence is needed:
     // no play is tried, and what is looked at lies in the neighbourhood of the target.
-    ensures too_many { IsTrue (outlasts (is_attack question.kind) question.plies question.wide
+    ensures too_many { IsTrue (outlasts question.tree (is_attack question.kind) question.plies question.wide
         (liberties (L.shows look).size (L.shows look).cells question.target))
         → (result.answer ≡ unread (is_attack question.kind)) × (result.trials ≡ 0)
         × AddsIn (L.seen look) (L.seen result.look)
@@ -249,10 +259,11 @@ fn asked<L: Look>(look: &mut L, kind: Kind, target: Point, depths: Depths) -> Re
     requires stone { cell_at (L.shows look.old).cells target ≢ Cell.Empty }
     ensures shown { L.shows look.new ≡ L.shows look.old }
     ensures grows { Grows (L.seen look.old) (L.seen look.new) }
-    ensures question { result ≡ asked_on (L.shows look.old) kind target depths.plies depths.wide }
+    ensures question { result ≡ asked_in depths.tree (L.shows look.old) kind target depths.plies depths.wide }
     ensures near { AddsIn (L.seen look.old) (L.seen look.new) (alone target) }
 {
     ReadingQuestion {
+        tree: depths.tree,
         size: look.size(),
         kind,
         target,
@@ -273,15 +284,15 @@ fn answered<L: Look>(look: L, kind: Kind, target: Point, depths: Depths) -> Repo
     ensures none { IsNone result.answer.at ↔ (result.answer.code ≡ 0) }
     ensures on_board { IfSome result.answer.at (IsOnBoard (L.shows look).size) }
     ensures over { (pos : BoardState) → Agrees (L.seen result.look) pos
-        → result.answer ≡ answer_of (asked_on (L.shows look) kind target depths.plies depths.wide) pos }
-    ensures too_many { IsTrue (outlasts (is_attack kind) depths.plies depths.wide
+        → result.answer ≡ answer_of (asked_in depths.tree (L.shows look) kind target depths.plies depths.wide) pos }
+    ensures too_many { IsTrue (outlasts depths.tree (is_attack kind) depths.plies depths.wide
         (liberties (L.shows look).size (L.shows look).cells target))
         → (result.answer ≡ unread (is_attack kind)) × (result.trials ≡ 0)
         × AddsIn (L.seen look) (L.seen result.look)
         (neighbourhood_of (L.shows look).size (L.shows look).cells (alone target)) }
     ensures near { (pos : BoardState) → Agrees (L.seen result.look) pos
         → AddsNear (L.seen look) (L.seen result.look)
-        (InActiveArea (asked_on (L.shows look) kind target depths.plies depths.wide) pos) }
+        (InActiveArea (asked_in depths.tree (L.shows look) kind target depths.plies depths.wide) pos) }
 {
     let mut view = look;
     let question = asked(&mut view, kind, target, depths);
@@ -308,13 +319,14 @@ pub fn attack<L: Look>(look: L, target: Point, depths: Depths) -> Report<L>
     // On every position that agrees with the facts seen afterwards the answer is this one; the position shown is one of
     // them.
     ensures over { (pos : BoardState) → Agrees (L.seen result.look) pos
-        → result.answer ≡ answer_of (asked_on (L.shows look) Kind.Attack target depths.plies depths.wide) pos }
-    ensures answer { result.answer ≡ answer_of (asked_on (L.shows look) Kind.Attack target depths.plies depths.wide)
-        (L.shows look) }
+        → result.answer
+        ≡ answer_of (asked_in depths.tree (L.shows look) Kind.Attack target depths.plies depths.wide) pos }
+    ensures answer { result.answer
+        ≡ answer_of (asked_in depths.tree (L.shows look) Kind.Attack target depths.plies depths.wide) (L.shows look) }
 
     // With too many liberties for the plies or the wide plies that are left, the attack fails: no play is tried, and
     // what is looked at lies in the neighbourhood of the target.
-    ensures too_many { IsTrue (outlasts true depths.plies depths.wide
+    ensures too_many { IsTrue (outlasts depths.tree true depths.plies depths.wide
         (liberties (L.shows look).size (L.shows look).cells target))
         → (result.answer ≡ record { code = 0; at = None }) × (result.trials ≡ 0)
         × AddsIn (L.seen look) (L.seen result.look)
@@ -323,7 +335,7 @@ pub fn attack<L: Look>(look: L, target: Point, depths: Depths) -> Report<L>
     // On each of these positions the points looked at lie in the active area of the reading.
     ensures near { (pos : BoardState) → Agrees (L.seen result.look) pos
         → AddsNear (L.seen look) (L.seen result.look)
-        (InActiveArea (asked_on (L.shows look) Kind.Attack target depths.plies depths.wide) pos) }
+        (InActiveArea (asked_in depths.tree (L.shows look) Kind.Attack target depths.plies depths.wide) pos) }
 {
     answered(look, Kind::Attack, target, depths)
 }
@@ -348,13 +360,14 @@ pub fn defend<L: Look>(look: L, target: Point, depths: Depths) -> Report<L>
     // On every position that agrees with the facts seen afterwards the answer is this one; the position shown is one of
     // them.
     ensures over { (pos : BoardState) → Agrees (L.seen result.look) pos
-        → result.answer ≡ answer_of (asked_on (L.shows look) Kind.Defend target depths.plies depths.wide) pos }
-    ensures answer { result.answer ≡ answer_of (asked_on (L.shows look) Kind.Defend target depths.plies depths.wide)
-        (L.shows look) }
+        → result.answer
+        ≡ answer_of (asked_in depths.tree (L.shows look) Kind.Defend target depths.plies depths.wide) pos }
+    ensures answer { result.answer
+        ≡ answer_of (asked_in depths.tree (L.shows look) Kind.Defend target depths.plies depths.wide) (L.shows look) }
 
     // With too many liberties for the plies or the wide plies that are left, no defence is needed: no play is tried,
     // and what is looked at lies in the neighbourhood of the target.
-    ensures too_many { IsTrue (outlasts false depths.plies depths.wide
+    ensures too_many { IsTrue (outlasts depths.tree false depths.plies depths.wide
         (liberties (L.shows look).size (L.shows look).cells target))
         → (result.answer ≡ record { code = 3; at = Some Spot.Pass }) × (result.trials ≡ 0)
         × AddsIn (L.seen look) (L.seen result.look)
@@ -363,7 +376,7 @@ pub fn defend<L: Look>(look: L, target: Point, depths: Depths) -> Report<L>
     // On each of these positions the points looked at lie in the active area of the reading.
     ensures near { (pos : BoardState) → Agrees (L.seen result.look) pos
         → AddsNear (L.seen look) (L.seen result.look)
-        (InActiveArea (asked_on (L.shows look) Kind.Defend target depths.plies depths.wide) pos) }
+        (InActiveArea (asked_in depths.tree (L.shows look) Kind.Defend target depths.plies depths.wide) pos) }
 {
     answered(look, Kind::Defend, target, depths)
 }

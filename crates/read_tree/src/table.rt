@@ -4,6 +4,7 @@
 ghost use Rattle.std.specs.Prelude.{◌≡◌, ℕ, Bool, ◌<◌, length, replicate};
 ghost use Rattle.go_rules.specs.declared.Colour.{Colour};
 ghost use Rattle.go_base.specs.Facts.{Fact};
+ghost use Rattle.read_rules.specs.declared.tree.Tree.{Tree};
 ghost use Rattle.read_tree.specs.declared.table.AttackerNode.{AttackerNode};
 ghost use Rattle.read_tree.specs.Allowances.{both, either};
 ghost use Rattle.read_tree.specs.Table.{IsTrueOf, IsTrueTable};
@@ -16,8 +17,8 @@ use trial_board::Changes;
 /// How many nodes are remembered at most.
 pub const ENTRIES: usize = 1024;
 
-/// A node at the attacker's turn, by what the trial moves changed of the position that is read. Target and defender are
-/// those of the reading.
+/// A node at the attacker's turn, by what the trial moves changed of the position that is read. Tree, target and
+/// defender are those of the reading.
 #[derive(Clone, Copy, Debug, PartialEq, Eq)]
 pub struct AttackerNode {
     /// What the trial moves changed, the ban among it.
@@ -49,8 +50,8 @@ pub struct Entry {
 impl Verdict {
     /// Nothing is known.
     pub fn nothing() -> Verdict
-        ensures { (seen : Fact → Bool) (target : ℕ) (defender : Colour) (node : AttackerNode)
-            → IsTrueOf seen target defender node result }
+        ensures { (seen : Fact → Bool) (tree : Tree) (target : ℕ) (defender : Colour) (node : AttackerNode)
+            → IsTrueOf seen tree target defender node result }
     {
         Verdict {
             known: Allowances::none(),
@@ -81,7 +82,8 @@ fn filled_with(entry: Entry) -> [Entry; ENTRIES]
 
 /// A table of no nodes, of which nothing is known.
 pub fn empty_table() -> [Entry; ENTRIES]
-    ensures { (seen : Fact → Bool) (target : ℕ) (defender : Colour) → IsTrueTable seen target defender result }
+    ensures { (seen : Fact → Bool) (tree : Tree) (target : ℕ) (defender : Colour)
+        → IsTrueTable seen tree target defender result }
 {
     let nothing = Entry {
         node: AttackerNode {
@@ -126,8 +128,9 @@ fn place_of(node: &AttackerNode, entries: usize) -> usize
 /// What the table knows of the node: nothing, where another has its place.
 pub fn find(table: &[Entry], node: &AttackerNode) -> Verdict
     requires { 0 < length table.now }
-    ensures { (seen : Fact → Bool) (target : ℕ) (defender : Colour) → IsTrueTable seen target defender table.now
-        → IsTrueOf seen target defender node.now result }
+    ensures { (seen : Fact → Bool) (tree : Tree) (target : ℕ) (defender : Colour)
+        → IsTrueTable seen tree target defender table.now
+        → IsTrueOf seen tree target defender node.now result }
 {
     let entry = table[place_of(node, table.len())];
     if entry.node == *node {
@@ -140,8 +143,9 @@ pub fn find(table: &[Entry], node: &AttackerNode) -> Verdict
 /// Remembers what is known of the node, in the place of another or of what was known of it.
 pub fn keep(table: &mut [Entry], node: &AttackerNode, verdict: Verdict)
     requires { 0 < length table.old }
-    ensures { (seen : Fact → Bool) (target : ℕ) (defender : Colour) → IsTrueTable seen target defender table.old
-        → IsTrueOf seen target defender node.now verdict → IsTrueTable seen target defender table.new }
+    ensures { (seen : Fact → Bool) (tree : Tree) (target : ℕ) (defender : Colour)
+        → IsTrueTable seen tree target defender table.old
+        → IsTrueOf seen tree target defender node.now verdict → IsTrueTable seen tree target defender table.new }
 {
     let place = place_of(node, table.len());
     table[place] = Entry {

@@ -7,13 +7,13 @@ ghost use Rattle.std.specs.FinSet as set;
 ghost use Rattle.go_rules.specs.Position.{BoardState};
 ghost use Rattle.go_base.specs.Facts.{Agrees, AddsIn};
 ghost use Rattle.go_base.specs.Views.{alone};
-ghost use Rattle.read_rules.specs.Candidates.{is_candidate};
 ghost use Rattle.trial_board.specs.Trials.{Stays, most_moves, after};
 ghost use Rattle.read_rules.specs.declared.question.ReadingQuestion.{ReadingQuestion};
 ghost use Rattle.read_rules.specs.ActiveArea.{IsUndecided, InActiveArea, AddsNear};
 ghost use Rattle.read_rules.specs.GameTree.{is_captured, attacker_wins, succeeds, first_success, pass_saves};
 ghost use Rattle.read_tree.specs.Allowances.{Ko, under, next_turn, has_some, without, Tells};
 ghost use Rattle.read_rules.specs.GoodMoves.{good_move};
+ghost use Rattle.read_tree.specs.Stages.{is_candidate_on};
 ghost use Rattle.read_tree.specs.Steps.{has_way, AreNodesOf, TellsBy};
 ghost use Rattle.read_tree.specs.Steps.{is_off_liberties, IsCarried, TellsLiberties};
 ghost use Rattle.read_tree.specs.Table.{IsTrueTable};
@@ -104,9 +104,9 @@ fn has_way<L: Look>(
     requires target { IsPointOf L.shows board.old turn.target }
     requires some { has_some asked ≡ true }
     requires liberties { IfSome known (AreLibertiesOf L.seen board.old turn.target) }
-    requires table { IsTrueTable (L.seen board.old.look) turn.target turn.defender memory.old.table.now }
+    requires table { IsTrueTable (L.seen board.old.look) turn.tree turn.target turn.defender memory.old.table.now }
     ensures stays { Stays L.shows L.seen board.old board.new }
-    ensures table { IsTrueTable (L.seen board.new.look) turn.target turn.defender memory.new.table.now }
+    ensures table { IsTrueTable (L.seen board.new.look) turn.tree turn.target turn.defender memory.new.table.now }
     ensures over { OnEachAgreeing L.seen board.old board.new (λ here.
         Tells asked result (λ ko. has_way turn.attacker_to_play (attacker_wins plies (under (next_turn turn) ko)
         here))) }
@@ -130,11 +130,11 @@ pub fn succeeds<L: Look>(
     requires ready { IsReady L.shows L.seen board.old turn plies asked known.now memory.old.table.now }
     requires on_board { IsPointOf L.shows board.old p }
     ensures stays { Stays L.shows L.seen board.old board.new }
-    ensures table { IsTrueTable (L.seen board.new.look) turn.target turn.defender memory.new.table.now }
+    ensures table { IsTrueTable (L.seen board.new.look) turn.tree turn.target turn.defender memory.new.table.now }
     ensures over { OnEachAgreeing L.seen board.old board.new (λ here.
         Tells asked result (λ ko. succeeds plies (under turn ko) here p)) }
     ensures near { LooksNearWhere L.seen board.old board.new (suc plies) turn asked (λ here.
-        IsTrue (is_candidate here turn.target turn.wide p)) }
+        IsTrue (is_candidate_on turn here p)) }
 {
     let own = asked.has_own(turn.attacker_to_play);
     match make(board, turn, p, own) {
@@ -177,11 +177,11 @@ fn some_of<L: Look>(
     requires ready { IsReady L.shows L.seen board.old turn plies asked known.now memory.old.table.now }
     requires on_board { (p : ℕ) → IsTrue (set.contains points.now p) → IsPointOf L.shows board.old p }
     ensures stays { Stays L.shows L.seen board.old board.new }
-    ensures table { IsTrueTable (L.seen board.new.look) turn.target turn.defender memory.new.table.now }
+    ensures table { IsTrueTable (L.seen board.new.look) turn.tree turn.target turn.defender memory.new.table.now }
     ensures over { OnEachAgreeing L.seen board.old board.new (λ here.
         TellsBy plies turn here (set.contains points.now) asked result) }
     ensures near { LooksNearWhere L.seen board.old board.new (suc plies) turn asked (λ here.
-        (p : ℕ) → IsTrue (set.contains points.now p) → IsTrue (is_candidate here turn.target turn.wide p)) }
+        (p : ℕ) → IsTrue (set.contains points.now p) → IsTrue (is_candidate_on turn here p)) }
 {
     let mut order = TryOrder::beginning_with(memory.reply);
     let mut missing = asked;
@@ -212,7 +212,7 @@ fn some_other<L: Look>(
 ) -> Allowances
     requires { IsReady L.shows L.seen board.old turn plies asked known.now memory.old.table.now }
     ensures stays { Stays L.shows L.seen board.old board.new }
-    ensures table { IsTrueTable (L.seen board.new.look) turn.target turn.defender memory.new.table.now }
+    ensures table { IsTrueTable (L.seen board.new.look) turn.tree turn.target turn.defender memory.new.table.now }
     ensures over { OnEachAgreeing L.seen board.old board.new (λ here.
         TellsBy plies turn here (is_off_liberties turn here) asked result) }
     ensures near { LooksNear L.seen board.old board.new (suc plies) turn asked }
@@ -232,7 +232,7 @@ fn some_other<L: Look>(
     if is_in_atari(board, turn, plies, known) {
         return good;
     }
-    let others = others_of(board, turn.target, known, &captures);
+    let others = others_of(board, turn, known, &captures);
     let rest = some_of(board, turn, plies, missing, &others, known, memory);
     asked.without(missing.without(rest))
 }
@@ -250,7 +250,7 @@ fn some_success<L: Look>(
 ) -> Allowances
     requires { IsReady L.shows L.seen board.old turn plies asked known.now memory.old.table.now }
     ensures stays { Stays L.shows L.seen board.old board.new }
-    ensures table { IsTrueTable (L.seen board.new.look) turn.target turn.defender memory.new.table.now }
+    ensures table { IsTrueTable (L.seen board.new.look) turn.tree turn.target turn.defender memory.new.table.now }
     ensures over { OnEachAgreeing L.seen board.old board.new (λ here.
         Tells asked result (λ ko. is_some (first_success plies (under turn ko) here))) }
     ensures near { LooksNear L.seen board.old board.new (suc plies) turn asked }
@@ -278,7 +278,7 @@ fn some_by_table<L: Look>(
     requires ready { IsReady L.shows L.seen board.old turn plies asked known.now memory.old.table.now }
     requires attacker { turn.attacker_to_play ≡ true }
     ensures stays { Stays L.shows L.seen board.old board.new }
-    ensures table { IsTrueTable (L.seen board.new.look) turn.target turn.defender memory.new.table.now }
+    ensures table { IsTrueTable (L.seen board.new.look) turn.tree turn.target turn.defender memory.new.table.now }
     ensures over { OnEachAgreeing L.seen board.old board.new (λ here.
         Tells asked result (λ ko. is_some (first_success plies (under turn ko) here))) }
     ensures near { LooksNear L.seen board.old board.new (suc plies) turn asked }
@@ -320,7 +320,7 @@ pub fn pass_saves<L: Look>(
     requires ready { IsReady L.shows L.seen board.old turn plies asked known.now memory.old.table.now }
     requires defender { turn.attacker_to_play ≡ false }
     ensures stays { Stays L.shows L.seen board.old board.new }
-    ensures table { IsTrueTable (L.seen board.new.look) turn.target turn.defender memory.new.table.now }
+    ensures table { IsTrueTable (L.seen board.new.look) turn.tree turn.target turn.defender memory.new.table.now }
     ensures over { OnEachAgreeing L.seen board.old board.new (λ here.
         Tells asked result (λ ko. pass_saves plies (under turn ko) here)) }
     ensures near { (pos : BoardState) → Agrees (L.seen board.new.look) pos → (q : ReadingQuestion) (root : BoardState)
@@ -349,7 +349,7 @@ fn has_good_move<L: Look>(
 ) -> Allowances
     requires { IsReady L.shows L.seen board.old turn plies asked known.now memory.old.table.now }
     ensures stays { Stays L.shows L.seen board.old board.new }
-    ensures table { IsTrueTable (L.seen board.new.look) turn.target turn.defender memory.new.table.now }
+    ensures table { IsTrueTable (L.seen board.new.look) turn.tree turn.target turn.defender memory.new.table.now }
     ensures over { OnEachAgreeing L.seen board.old board.new (λ here.
         ((ko : Ko) → IsUndecided (under turn ko) here)
         → Tells asked result (λ ko. is_some (good_move plies (under turn ko) here))) }
@@ -382,9 +382,9 @@ pub fn attacker_wins<L: Look>(
     requires target { IsPointOf L.shows board.old turn.target }
     requires some { has_some asked ≡ true }
     requires liberties { IfSome known (AreLibertiesOf L.seen board.old turn.target) }
-    requires table { IsTrueTable (L.seen board.old.look) turn.target turn.defender memory.old.table.now }
+    requires table { IsTrueTable (L.seen board.old.look) turn.tree turn.target turn.defender memory.old.table.now }
     ensures stays { Stays L.shows L.seen board.old board.new }
-    ensures table { IsTrueTable (L.seen board.new.look) turn.target turn.defender memory.new.table.now }
+    ensures table { IsTrueTable (L.seen board.new.look) turn.tree turn.target turn.defender memory.new.table.now }
     ensures over { OnEachAgreeing L.seen board.old board.new (λ here.
         Tells asked result (λ ko. attacker_wins plies (under turn ko) here)) }
     ensures near { LooksNearOrAt L.seen board.old board.new plies turn asked }

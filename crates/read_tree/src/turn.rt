@@ -5,10 +5,13 @@ ghost use Rattle.std.specs.Prelude.{◌≡◌};
 ghost use Rattle.read_tree.specs.Allowances.{mover_on, next_turn};
 
 use go_base::{Colour, Point};
+use read_rules::Tree;
 
 /// A node under whatever ko allowances: the walk reads it under several at once.
 #[derive(Clone, Copy, Debug, PartialEq, Eq)]
 pub struct Turn {
+    /// Which tree is read.
+    pub tree: Tree,
     /// The point whose string is read.
     pub target: Point,
     /// The colour of the target's stone.
@@ -36,6 +39,7 @@ impl Turn {
         ensures { result ≡ next_turn self }
     {
         Turn {
+            tree: self.tree,
             target: self.target,
             defender: self.defender,
             attacker_to_play: !self.attacker_to_play,

@@ -13,7 +13,7 @@ use Rattle.read_rules.specs.declared.question.Answer.{Answer}
 use Rattle.match_engine.proofs.RepeatedQuestions.{IsAtHand, IsAtHand-first, IsAtHand-later, IsAtHand-kept}
 use Rattle.match_engine.proofs.RepeatedQuestions.{HasRead-capacity, HasRead-refused}
 use Rattle.machine_rules.specs.Machine.{Machine, position_of}
-use Rattle.engine.specs.SessionState.{SessionState, board_of}
+use Rattle.engine.specs.EngineView.{EngineView, board_of}
 use Rattle.engine.specs.Kept.{Kept}
 use Rattle.machine_rules.specs.Counting.{counted, is_read_line}
 use Rattle.machine_rules.specs.Questions.{Asks, Nothing, One, Many, asks_of_line}
@@ -25,7 +25,7 @@ use Rattle.machine_rules.proofs.CommandQuestions.{Fits, Fits-line, is_read_line-
 use Rattle.session.proofs.TallyLemmas.{IsAlong-append, IsAlong-split}
 
 -- how many questions may be kept
-abbrev room_of : SessionState → ℕ
+abbrev room_of : EngineView → ℕ
 room_of session = session.readings.answers.kept.1
 
 -- 1 where a test is passed
@@ -37,7 +37,7 @@ none_passes : (passes : Bool) (rest : ℕ) → one_if passes + rest ≡ 0 → (p
 none_passes true rest none = absurd (let some : 1 + rest ≡ 0 = none in omega arith)
 none_passes false rest none = (refl, (let same : 0 + rest ≡ 0 = none in omega arith))
 
-module _ (old new : SessionState) where
+module _ (old new : EngineView) where
   -- where no refused keeping is counted after a line, none was before it
   unrefused : (asks : Asks) → ReadsAs asks old new → new.counts.refused ≡ 0 → old.counts.refused ≡ 0
   unrefused Nothing read none = sym (ap (λ (c : Counts). c.refused) read.counts) ∙ none

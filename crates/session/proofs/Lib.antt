@@ -1,7 +1,7 @@
 pub mod CertainHits
 pub mod FewPatterns
-pub mod MatcherSessions
-pub mod OpeningLemmas
+pub mod PatternFileLemmas
+pub mod PlainSessions
 pub mod ReplyBytes
 pub mod RunCounts
 pub mod RunEnds

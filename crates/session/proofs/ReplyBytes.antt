@@ -12,10 +12,10 @@ use Rattle.machine_rules.specs.Machine.{Machine}
 use Rattle.machine_rules.specs.Step.{step}
 use Rattle.machine_rules.specs.Turns.{IsAlong}
 use Rattle.engine.specs.AfterLine.{IsAfterLine}
-use Rattle.engine.specs.AnsweredLines.{AnswersLine}
+use Rattle.engine.specs.LineAnswers.{AnswersLine}
 use Rattle.engine.specs.Kept.{Kept, machine_of}
 use Rattle.engine.specs.Replies.{reply_bytes, reply_ends, reply_count}
-use Rattle.engine.specs.SessionState.{matcher_of}
+use Rattle.engine.specs.EngineView.{matcher_of}
 use Rattle.engine.specs.declared.reply.Reply.{Reply}
 use Rattle.engine.specs.declared.reply.Reply.TheVariants.{Nothing, Short, Text, NoMemory}
 use Rattle.session.specs.Tallies.{kept_sum, one_turn}

@@ -1,7 +1,6 @@
 -- The counts that a run tells are those of the lines that it answered.
-use Rattle.std.proofs.Common.{◌⊎◌, ⊎_elim}
 use Rattle.std.proofs.Common.{◌≡◌, ℕ, suc, ◌+◌, ◌^◌, ◌<◌, ◌≤◌, Bool, true, false, cond, List, [], ◌∷◌, ◌++◌, length}
-use Rattle.std.proofs.Common.{Option, Some, None, refl, sym, ap, subst, ◌∙◌, arith, inl, inr}
+use Rattle.std.proofs.Common.{Option, Some, None, refl, sym, ap, subst, ◌∙◌, arith, ◌⊎◌, ⊎_elim, inl, inr}
 use Rattle.std.specs.Prelude.{◌==◌}
 use Rattle.std.specs.Option.{is_some}
 use Rattle.std.proofs.lemmas.List.{length-append}
@@ -17,20 +16,16 @@ use Rattle.link_rules.specs.declared.question.Linkage.{Linkage}
 use Rattle.link_readings.specs.Connections.{HasAsked}
 use Rattle.link_readings.specs.declared.key.LinkKey.{LinkKey}
 use Rattle.read_cache.specs.Keeping.{Keeping, raised, first_keeping}
-use Rattle.read_cache.specs.Kept.{Kept as KeptQuestions, no_questions}
 use Rattle.read_rules.specs.declared.question.Answer.{Answer}
 use Rattle.match_engine.specs.declared.keys.Key.{Key}
 use Rattle.machine_rules.specs.Machine.{Machine}
 use Rattle.engine.specs.Kept.{Kept}
 use Rattle.engine.specs.AskedLinks.{LinksAs}
-use Rattle.engine.specs.SessionState.{SessionState, board_of, no_counts}
+use Rattle.engine.specs.EngineView.{EngineView, board_of, no_counts}
 use Rattle.machine_rules.specs.LinkQuestions.{asks_link_of_line, connections_in}
 use Rattle.machine_rules.specs.Counting.{counted, is_read_line, readings_in}
-use Rattle.machine_rules.specs.Questions.{Asks, Nothing, One, Many, AskNothing}
-use Rattle.engine.specs.AfterLine.{ReadsAs, ReadsNothing, IsAfterLine}
-use Rattle.machine_rules.specs.Questions.{asks_of_line}
-use Rattle.engine.specs.AfterLine.{after_trials}
-use Rattle.engine.specs.AfterLine.{HasFewFresh, of_readings}
+use Rattle.machine_rules.specs.Questions.{Asks, Nothing, One, Many, AskNothing, asks_of_line}
+use Rattle.engine.specs.AfterLine.{ReadsAs, ReadsNothing, IsAfterLine, after_trials, HasFewFresh, of_readings}
 use Rattle.machine_rules.specs.Turns.{Turn, IsAlong}
 use Rattle.session.specs.Tallies.{Tally, IsTallied, BreaksOff, one_turn}
 use Rattle.session.specs.Ends.{Streams, Serves, AreTallied, IsRight, most_taken}
@@ -96,10 +91,11 @@ module _ {M : Type 0} (step : M → RawLine → Step M → Type 0) where
   -- nor where a reply broke off
   cut-few : (first : M) (lines : List RawLine) (tally : Tally M) → BreaksOff step first lines tally
       → length tally.turns ≤ length lines
-  cut-few first lines tally cut =
-      let before = turns-few first cut.before cut.whole cut.mid false cut.answered in
-      let all = ap (λ (t : Tally M). length t.turns) cut.tallied in
-      let both = length-append cut.whole.turns (one_turn cut.mid cut.line (cut.part ++ cut.missing)) in
+  cut-few first lines tally off =
+      let cut = off.cut in
+      let before = turns-few first cut.before off.whole cut.mid false off.answered in
+      let all = ap (λ (t : Tally M). length t.turns) off.tallied in
+      let both = length-append off.whole.turns (one_turn cut.mid cut.line (cut.part ++ cut.missing)) in
       let lens = ap length cut.place ∙ length-append cut.before (cut.line ∷ cut.after) in
       omega (arith, before, all, both, lens)
 
@@ -210,7 +206,7 @@ idle_along (turn ∷ turns) a b (mid, first, rest) idle =
 
 -- What a line counts of connections, by what it asks about them: it is counted where it asks, and is fresh at most
 -- then.
-module _ (old new : SessionState) where
+module _ (old new : EngineView) where
   -- one more that is fresh, or none
   fresh_by : (q : LinkQuestion) (answer : Linkage) (before after : Keeping LinkKey Linkage)
       → HasAsked (record { question = q }) (board_of old) answer before after
@@ -264,11 +260,11 @@ links_along (turn ∷ turns) a b (mid, first, rest) few small =
 -- the counts of a session that has answered few lines since it had counted nothing
 pub counts_of : (capacity : ℕ) (first last : Kept) (turns : List (Turn Machine)) → IsAlong IsAfterLine first turns last
     → first.engine.counts ≡ no_counts
-    → first.engine.readings.answers.kept ≡ no_questions capacity → first.engine.links.answers ≡ first_keeping capacity
+    → first.engine.readings.answers ≡ first_keeping capacity → first.engine.links.answers ≡ first_keeping capacity
     → 8 ≤ capacity → length turns ≤ most_taken + 1
     → AreCountsOf capacity turns last.engine.counts
-counts_of capacity first last turns along none kept unasked room few =
-    let open_room = subst (λ (k : KeptQuestions Key Answer). 8 ≤ k.1) (sym kept) room in
+counts_of capacity first last turns along none unread unasked room few =
+    let open_room = subst (λ (k : Keeping Key Answer). 8 ≤ k.kept.1) (sym unread) room in
     let readings = ap (λ (c : Counts). c.readings) none in
     let fresh = ap (λ (c : Counts). c.fresh) none in
     let small : first.engine.counts.readings + length turns < 2 ^ 64 = omega (arith, readings, few) in
@@ -291,7 +287,7 @@ counts_of capacity first last turns along none kept unasked room few =
         first = first;
         last = last;
         uncounted = none;
-        kept = kept;
+        readings = unread;
         links = unasked;
         along = along;
         same = refl;

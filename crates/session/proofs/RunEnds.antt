@@ -18,7 +18,7 @@ use Rattle.session.specs.Serving.{RunsTo, RunsPart}
 use Rattle.session.specs.Ends.{most_taken, Streams, earlier}
 use Rattle.session.specs.FirstSession.{ServesCounting}
 use Rattle.session.proofs.TallyLemmas.{Advances-trans, IsTallied-append, IsTallied-run}
-use Rattle.session.proofs.TallyLemmas.{BreaksOff-after, BreaksOff-more, BreaksOff-is, BreaksOff-cut}
+use Rattle.session.proofs.TallyLemmas.{BreaksOff-after, BreaksOff-more}
 use Rattle.session.specs.declared.outcome.End.TheVariants.{Done, InputFault, OutputFault, InputTooLong}
 
 -- some bytes were taken and some put, each line that ended was answered, the rest is held, and room bytes may still
@@ -176,10 +176,8 @@ module _ (M : Type 0) (step : M → RawLine → Step M → Type 0) (goes : Kept 
     served_cut_end total runs =
         let tally = together s.tally runs.tally in
         let both = Advances-trans goes p0 p1 p2 s.tally runs.tally s.advances runs.advances in
-        let off = BreaksOff-is M step first _ _ tally with_held
-        (BreaksOff-after M step first (lines_from (Line []) s.taken) (held_line held) s.tally runs.tally now s.run
-        runs.cut) in
-        let broken = BreaksOff-cut M step first _ tally off in
+        let off = BreaksOff-after M step first (lines_from (Line []) s.taken) (held_line held) _ s.tally runs.tally now
+        with_held s.run runs.breaks_off in
         let none_later : earlier s.taken after.piece ≡ s.taken =
         ap (λ n. take n s.taken) (omega arith) ∙ take_all (length s.taken) s.taken (omega arith) in
         record {
@@ -190,12 +188,12 @@ module _ (M : Type 0) (step : M → RawLine → Step M → Type 0) (goes : Kept 
             writes = put_since after p2 tally holds both;
             right = record {
               few = let few = s.few in omega arith;
-              front = Cut-front M step total first _ _ broken;
-              cut = broken;
+              front = Cut-front M step total first _ _ off.cut;
+              cut = off.cut;
               in_last =
-                  subst (λ t. length (lines_of t) ≤ length (lines_from (Line []) s.taken ++ runs.cut.before))
+                  subst (λ t. length (lines_of t) ≤ length (lines_from (Line []) s.taken ++ runs.breaks_off.cut.before))
                   (sym none_later)
-                  (let before_it = length-append (lines_from (Line []) s.taken) runs.cut.before in
+                  (let before_it = length-append (lines_from (Line []) s.taken) runs.breaks_off.cut.before in
                   let lines = ap length (lines_of-lines_from s.taken) in
                   omega (arith, before_it, lines));
               has_feed = inr (at_end, last);
@@ -254,11 +252,9 @@ module _ (M : Type 0) (step : M → RawLine → Step M → Type 0) (goes : Kept 
         let answered_lines = lines_from (Line []) s.taken in
         let rest = rest_line (rest_of (s.taken ++ part)) in
         let same = lines_of-append s.taken part held s.held_is in
-        let cut = BreaksOff-after M step first answered_lines
-        (lines_from held part) s.tally runs.tally now s.run runs.cut in
-        let off = BreaksOff-is M step first _ _ tally (ap (λ l. l ++ rest) same)
-        (BreaksOff-more M step first (answered_lines ++ lines_from held part) rest tally cut) in
-        let broken = BreaksOff-cut M step first _ tally off in
+        let ended = BreaksOff-after M step first answered_lines (lines_from held part)
+        (lines_of (s.taken ++ part)) s.tally runs.tally now same s.run runs.breaks_off in
+        let off = BreaksOff-more M step first (lines_of (s.taken ++ part)) rest _ tally refl ended in
         record {
           tally = tally;
           serves = record {
@@ -267,17 +263,17 @@ module _ (M : Type 0) (step : M → RawLine → Step M → Type 0) (goes : Kept 
             writes = put_since after p2 tally holds both;
             right = record {
               few = let few = s.few in let lens = length-append s.taken part in omega (arith, few, lens);
-              front = Cut-front M step total first _ _ broken;
-              cut = broken;
+              front = Cut-front M step total first _ _ off.cut;
+              cut = off.cut;
               in_last =
-                  subst (λ t. length (lines_of t) ≤ length (answered_lines ++ runs.cut.before))
+                  subst (λ t. length (lines_of t) ≤ length (answered_lines ++ runs.breaks_off.cut.before))
                   (sym (earlier-append s.taken part after.piece len))
-                  (let lens = length-append answered_lines runs.cut.before in
+                  (let lens = length-append answered_lines runs.breaks_off.cut.before in
                   let lines = ap length (lines_of-lines_from s.taken) in
                   omega (arith, lens, lines));
               has_feed =
-                  inl (let place = ap length (same ∙ cut.place) in
-                  let lens = length-append cut.before (cut.line ∷ cut.after) in
+                  inl (let place = ap length ended.cut.place in
+                  let lens = length-append ended.cut.before (ended.cut.line ∷ ended.cut.after) in
                   omega (arith, place, lens));
             };
             tallied = off;

@@ -18,11 +18,11 @@ use Rattle.gtp_rules.specs.Lines.{RawLine}
 use Rattle.gtp_rules.specs.Steps.{Step}
 use Rattle.workload.specs.GeneratedLines.{generated_text}
 use Rattle.workload.proofs.LengthLemmas.{generated_length}
-use Rattle.helpers.specs.Asking.{SlotState}
+use Rattle.helpers.specs.HelperStates.{SlotState}
 use Rattle.machine_rules.specs.Step.{step}
 use Rattle.engine.specs.Handed.{helper_names}
 use Rattle.engine.specs.Kept.{Kept, kept_with}
-use Rattle.engine.specs.SessionState.{SessionState, machine_with, matcher_of}
+use Rattle.engine.specs.EngineView.{EngineView, machine_with, matcher_of}
 use Rattle.session.specs.PatternFiles.{IsRefused, MissedIn}
 use Rattle.session.specs.FirstSession.{Opens, CameBy, ServesCounting, EndsCounting}
 use Rattle.session.specs.Outcomes.{Phase, NotOpened, Served}
@@ -33,7 +33,7 @@ use Rattle.session.specs.declared.outcome.End.{End}
 use Rattle.session.specs.declared.outcome.End.TheVariants.{InputTooLong}
 use Rattle.session.specs.declared.outcome.OpenError.{OpenError}
 use Rattle.session.proofs.RunCounts.{counts_of, served-few}
-use Rattle.session.proofs.MatcherSessions.{ServesLines-plain}
+use Rattle.session.proofs.PlainSessions.{ServesLines-plain}
 
 -- the counts of a session are told where they are asked for
 counts-told : (asked : Bool) (capacity : ℕ) (counts : Counts) (tally : Tally Machine)
@@ -57,7 +57,7 @@ missed_along (turn ∷ turns) old new (mid, first, rest) =
 
 -- the files were opened, and the session served the lines
 pub came-served : (helpers slots : List SlotState) (contents : Contents) (options : Options)
-    (session : SessionState) (lines : LinesState) (missed now : List (List ℕ))
+    (session : EngineView) (lines : LinesState) (missed now : List (List ℕ))
     (before after : Streams) (end : End) (counts : Counts) (w0 w1 : Option (List ℕ)) (sent : Sent)
     (told : Option Counts) (noted : Option Sent)
     (phase : Phase) → Opens helpers contents options session slots lines
@@ -73,7 +73,7 @@ came-served helpers slots contents options session lines missed now before after
     let lines = served-few (step (matcher_of session) contents) options.generate
     (machine_with slots session) before after end counting.tally counting.serves in
     let are = counts_of options.cache (kept_with slots missed session) kept counting.tally.turns counting.advances.along
-    opens.plain.counts opens.plain.kept opens.plain.links opens.plain.room lines in
+    opens.plain.counts opens.plain.readings opens.plain.links opens.plain.room lines in
     subst (CameBy helpers options contents missed now before after told noted) (sym is) (record {
       patterns = opens.patterns;
       opened = opens.opened;
@@ -91,7 +91,7 @@ came-served helpers slots contents options session lines missed now before after
 
 -- the same where the files were opened before, which leaves what files hold and which names were missed
 pub came-served-after : (helpers slots : List SlotState) (contents contents' : Contents) (options : Options)
-    (session : SessionState) (lines : LinesState) (missed missed' now : List (List ℕ))
+    (session : EngineView) (lines : LinesState) (missed missed' now : List (List ℕ))
     (before after : Streams) (end : End) (counts : Counts) (w0 w1 : Option (List ℕ)) (sent : Sent)
     (told : Option Counts) (noted : Option Sent)
     (phase : Phase) → contents' ≡ contents → missed' ≡ missed → Opens helpers contents options session slots lines

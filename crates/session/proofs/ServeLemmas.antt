@@ -26,7 +26,7 @@ use Rattle.session.specs.Waiting.{WaitingState, none_wait, holds_with, Stop, IsS
 use Rattle.session.specs.Waiting.{progress_with}
 use Rattle.session.proofs.WaitingReplies.{kept-none, none-appends}
 use Rattle.session.proofs.TallyLemmas.{Advances-none, Advances-trans, IsTallied-nil, IsTallied-one, IsTallied-append}
-use Rattle.session.proofs.TallyLemmas.{IsTallied-ended, BreaksOff-one, BreaksOff-after, BreaksOff-more, BreaksOff-is}
+use Rattle.session.proofs.TallyLemmas.{IsTallied-ended, BreaksOff-one, BreaksOff-after, BreaksOff-more}
 
 -- The line that `take` or `finish` gives.
 
@@ -182,9 +182,8 @@ module _ (M : Type 0) (step : M → RawLine → Step M → Type 0) (goes : Kept 
       → RepliesPart step goes from line a b → RunsPart step goes from lines a b
   RunsPart-one from line a b lines more first replies = record {
     tally = cut_tally from line replies.part replies.missing;
-    cut = BreaksOff-is M step from lines (line ∷ more) (cut_tally from line replies.part replies.missing) first
-        (BreaksOff-one M step from line more replies.part replies.missing replies.next replies.ends replies.answers
-        replies.proper);
+    breaks_off = BreaksOff-one M step from line more lines replies.part replies.missing replies.next replies.ends first
+        replies.answers replies.proper;
     advances = replies.advances;
   }
 
@@ -213,7 +212,8 @@ module _ (M : Type 0) (step : M → RawLine → Step M → Type 0) (goes : Kept 
       → RunsTo step goes from xs mid false a b → RunsPart step goes mid ys b c → RunsPart step goes from (xs ++ ys) a c
   RunsPart-after from mid xs ys a b c earlier later = record {
     tally = together earlier.tally later.tally;
-    cut = BreaksOff-after M step from xs ys earlier.tally later.tally mid earlier.run later.cut;
+    breaks_off = BreaksOff-after M step from xs ys (xs ++ ys) earlier.tally later.tally mid refl earlier.run
+        later.breaks_off;
     advances = Advances-trans goes a b c earlier.tally later.tally earlier.advances later.advances;
   }
 
@@ -222,7 +222,7 @@ module _ (M : Type 0) (step : M → RawLine → Step M → Type 0) (goes : Kept 
       → RunsPart step goes from (xs ++ ys) a b
   RunsPart-more from xs ys a b runs = record {
     tally = runs.tally;
-    cut = BreaksOff-more M step from xs ys runs.tally runs.cut;
+    breaks_off = BreaksOff-more M step from xs ys (xs ++ ys) runs.tally refl runs.breaks_off;
     advances = runs.advances;
   }
 

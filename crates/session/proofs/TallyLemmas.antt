@@ -7,7 +7,8 @@ use Rattle.std.proofs.Common.{◌≡◌, ⊎_elim, ℕ, zero, suc, ◌+◌, ◌-
 use Rattle.std.proofs.Common.{◌++◌, length, refl, sym, ap, subst, ◌∙◌, append_assoc, append-nil, arith, length-append}
 use Rattle.gtp_rules.specs.Lines.{RawLine}
 use Rattle.gtp_rules.specs.Steps.{Step}
-use Rattle.gtp_rules.specs.Transcript.{Answers, IsRun, Cut}
+use Rattle.gtp_rules.specs.Transcript.{Answers, IsRun}
+use Rattle.gtp_rules.proofs.Runs.{Cut-one, Cut-after, Cut-more}
 use Rattle.engine.specs.Kept.{Kept}
 use Rattle.machine_rules.specs.Turns.{Turn, IsAlong}
 use Rattle.session.specs.Tallies.{Tally, no_tally, together, tally_of, cut_tally, kept_sum, Progress, Advances}
@@ -154,104 +155,32 @@ module _ (M : Type 0) (step : M → RawLine → Step M → Type 0) where
       (first, rest.out, m, false, answers, ap (λ (t : Tally M). t.out) joined, IsTallied-run m xs rest new ended h)
 
   -- the first of some lines broke off
-  abbrev pub BreaksOff-one : (from : M) (line : RawLine) (more : List RawLine) (part missing : List ℕ) (next : M)
-      (ends : Bool)
-      → Answers step from line (part ++ missing) next ends → 0 < length missing
-      → BreaksOff step from (line ∷ more) (cut_tally from line part missing)
-  BreaksOff-one from line more part missing next ends answers proper = record {
-    before = [];
-    line = line;
-    after = more;
+  abbrev pub BreaksOff-one : (from : M) (line : RawLine) (more lines : List RawLine) (part missing : List ℕ) (next : M)
+      (ends : Bool) → lines ≡ line ∷ more → Answers step from line (part ++ missing) next ends → 0 < length missing
+      → BreaksOff step from lines (cut_tally from line part missing)
+  BreaksOff-one from line more lines part missing next ends place answers proper = record {
+    cut = Cut-one M step from line more lines part missing next ends place answers proper;
     whole = no_tally;
-    part = part;
-    missing = missing;
-    mid = from;
-    next = next;
-    ends = ends;
-    place = refl;
     answered = IsTallied-nil from;
-    reply = answers;
-    proper = proper;
     tallied = sym (none-together (cut_tally from line part missing));
   }
 
   -- a line broke off in the later lines, after the earlier ones were answered
-  abbrev pub BreaksOff-after : (old : M) (xs ys : List RawLine) (a b : Tally M) (mid : M)
-      → IsTallied step old xs a mid false
-      → BreaksOff step mid ys b → BreaksOff step old (xs ++ ys) (together a b)
-  BreaksOff-after old xs ys a b mid run cut = record {
-    before = xs ++ cut.before;
-    line = cut.line;
-    after = cut.after;
-    whole = together a cut.whole;
-    part = cut.part;
-    missing = cut.missing;
-    mid = cut.mid;
-    next = cut.next;
-    ends = cut.ends;
-    place = ap (λ l. xs ++ l) cut.place ∙ sym (append_assoc xs cut.before (cut.line ∷ cut.after));
-    answered = IsTallied-append old xs cut.before a cut.whole mid cut.mid false run cut.answered;
-    reply = cut.reply;
-    proper = cut.proper;
-    tallied = ap (together a) cut.tallied ∙ sym (together-assoc a cut.whole _);
+  abbrev pub BreaksOff-after : (old : M) (xs ys lines : List RawLine) (a b : Tally M) (mid : M) → lines ≡ xs ++ ys
+      → IsTallied step old xs a mid false → BreaksOff step mid ys b → BreaksOff step old lines (together a b)
+  BreaksOff-after old xs ys lines a b mid same run off = record {
+    cut = Cut-after M step old xs ys lines a.out b.out mid same (IsTallied-run old xs a mid false run) off.cut;
+    whole = together a off.whole;
+    answered = IsTallied-append old xs off.cut.before a off.whole mid off.cut.mid false run off.answered;
+    tallied = ap (together a) off.tallied ∙ sym (together-assoc a off.whole _);
   }
 
   -- a line broke off in the earlier of some lines
-  abbrev pub BreaksOff-more : (old : M) (xs ys : List RawLine) (a : Tally M) → BreaksOff step old xs a
-      → BreaksOff step old (xs ++ ys) a
-  BreaksOff-more old xs ys a cut = record {
-    before = cut.before;
-    line = cut.line;
-    after = cut.after ++ ys;
-    whole = cut.whole;
-    part = cut.part;
-    missing = cut.missing;
-    mid = cut.mid;
-    next = cut.next;
-    ends = cut.ends;
-    place = ap (λ l. l ++ ys) cut.place ∙ append_assoc cut.before (cut.line ∷ cut.after) ys;
-    answered = cut.answered;
-    reply = cut.reply;
-    proper = cut.proper;
-    tallied = cut.tallied;
-  }
-
-  -- the same lines
-  abbrev pub BreaksOff-is : (first : M) (xs ys : List RawLine) (a : Tally M) → xs ≡ ys → BreaksOff step first ys a
-      → BreaksOff step first xs a
-  BreaksOff-is first xs ys a same cut = record {
-    before = cut.before;
-    line = cut.line;
-    after = cut.after;
-    whole = cut.whole;
-    part = cut.part;
-    missing = cut.missing;
-    mid = cut.mid;
-    next = cut.next;
-    ends = cut.ends;
-    place = same ∙ cut.place;
-    answered = cut.answered;
-    reply = cut.reply;
-    proper = cut.proper;
-    tallied = cut.tallied;
-  }
-
-  -- what broke off is a cut
-  abbrev pub BreaksOff-cut : (first : M) (lines : List RawLine) (tally : Tally M) → BreaksOff step first lines tally
-      → Cut step first lines tally.out
-  BreaksOff-cut first lines tally cut = record {
-    before = cut.before;
-    line = cut.line;
-    after = cut.after;
-    whole = cut.whole.out;
-    part = cut.part;
-    missing = cut.missing;
-    mid = cut.mid;
-    next = cut.next;
-    ends = cut.ends;
-    place = cut.place;
-    answered = IsTallied-run first cut.before cut.whole cut.mid false cut.answered;
-    reply = cut.reply;
-    proper = cut.proper;
-    out = ap (λ (t : Tally M). t.out) cut.tallied;
+  abbrev pub BreaksOff-more : (old : M) (xs ys lines : List RawLine) (a : Tally M) → lines ≡ xs ++ ys
+      → BreaksOff step old xs a → BreaksOff step old lines a
+  BreaksOff-more old xs ys lines a same off = record {
+    cut = Cut-more M step old xs ys lines a.out same off.cut;
+    whole = off.whole;
+    answered = off.answered;
+    tallied = off.tallied;
   }

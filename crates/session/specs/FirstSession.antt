@@ -4,18 +4,17 @@ use Rattle.pat_types.specs.declared.pattern.Pattern.{Pattern}
 use Rattle.gtp_lex.specs.Lines.{LinesState, no_line}
 use Rattle.go_options.specs.declared.options.Options.{Options}
 use Rattle.machine_rules.specs.Machine.{first_machine}
-use Rattle.helpers.specs.Asking.{SlotState}
+use Rattle.helpers.specs.HelperStates.{SlotState}
 use Rattle.machine_rules.specs.Files.{Contents}
 use Rattle.engine.specs.Handed.{helper_names}
 use Rattle.machine_rules.specs.Matcher.{plain_matcher}
 use Rattle.engine.specs.Kept.{Kept}
-use Rattle.engine.specs.SessionState.{SessionState, machine_with, matcher_of, no_counts}
+use Rattle.engine.specs.EngineView.{EngineView, machine_with, matcher_of, no_counts}
 use Rattle.session.specs.PatternFiles.{IsOpened, IsRefused}
 use Rattle.session.specs.Outcomes.{Phase, NotTaken, NotOpened, Served}
 use Rattle.session.specs.Ends.{Streams}
 use Rattle.session.specs.Headline.{ServesLines, IsServed, IsUntouched}
 use Rattle.machine_rules.specs.Turns.{Turn}
-use Rattle.read_cache.specs.Kept.{no_questions}
 use Rattle.read_cache.specs.Keeping.{first_keeping}
 use Rattle.session.specs.Tallies.{Tally, Progress, Advances}
 use Rattle.session.specs.Serving.{progress_of}
@@ -28,17 +27,17 @@ use Rattle.run_notes.specs.declared.notes.Sent.{Sent}
 -- the session is the first machine with these helpers, plies and wide plies, its matcher finds the matches of these
 -- patterns as the plain one does, it has counted and kept nothing, and may keep this many questions, which are eight
 -- and more, and as many about connections
-pub record IsPlainWith (patterns : List Pattern) (plies wide capacity : ℕ) (session : SessionState) : Type 0 where
+pub record IsPlainWith (patterns : List Pattern) (plies wide capacity : ℕ) (session : EngineView) : Type 0 where
   pub machine : (helpers : List SlotState) → machine_with helpers session ≡ first_machine helpers plies wide
   pub counts : session.counts ≡ no_counts
-  pub kept : session.readings.answers.kept ≡ no_questions capacity
+  pub readings : session.readings.answers ≡ first_keeping capacity
   pub links : session.links.answers ≡ first_keeping capacity
   pub room : 8 ≤ capacity
   pub matches : matcher_of session ≡ plain_matcher patterns
 
 -- the files of the options were opened, in which the helpers may be named, the session is plain with their patterns and
 -- has these helpers, and no line has come
-pub record Opens (helpers : List SlotState) (contents : Contents) (options : Options) (session : SessionState)
+pub record Opens (helpers : List SlotState) (contents : Contents) (options : Options) (session : EngineView)
     (slots : List SlotState) (lines : LinesState) : Type 0 where
   pub patterns : List Pattern
   pub opened : IsOpened (helper_names helpers) contents options.files options.states patterns

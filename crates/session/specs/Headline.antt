@@ -6,7 +6,7 @@ use Rattle.gtp_io.specs.Outside.{Rose}
 use Rattle.gtp_rules.specs.Lines.{RawLine}
 use Rattle.gtp_rules.specs.Steps.{Step}
 use Rattle.pat_types.specs.declared.pattern.Pattern.{Pattern}
-use Rattle.helpers.specs.Asking.{SlotState}
+use Rattle.helpers.specs.HelperStates.{SlotState}
 use Rattle.machine_rules.specs.LinkQuestions.{connections_in}
 use Rattle.machine_rules.specs.Loads.{missed_in}
 use Rattle.machine_rules.specs.Files.{Contents}
@@ -14,13 +14,12 @@ use Rattle.machine_rules.specs.Machine.{Machine, first_machine}
 use Rattle.machine_rules.specs.Matcher.{plain_matcher}
 use Rattle.machine_rules.specs.Step.{step}
 use Rattle.machine_rules.specs.Turns.{Turn, IsAlong}
-use Rattle.read_cache.specs.Kept.{no_questions}
 use Rattle.read_cache.specs.Keeping.{first_keeping}
 use Rattle.machine_rules.specs.Counting.{readings_in}
 use Rattle.machine_rules.specs.Questions.{AskNothing}
 use Rattle.engine.specs.AfterLine.{IsAfterLine, of_readings}
 use Rattle.engine.specs.Kept.{Kept}
-use Rattle.engine.specs.SessionState.{no_counts}
+use Rattle.engine.specs.EngineView.{no_counts}
 use Rattle.machine_rules.specs.CertainHit.{HaveCertainHits}
 use Rattle.session.specs.Tallies.{Tally, kept_sum}
 use Rattle.session.specs.Ends.{Streams, Serves}
@@ -36,7 +35,7 @@ use Rattle.run_notes.specs.Putting.{IsNoted}
 use Rattle.run_notes.specs.declared.notes.Counts.{Counts}
 use Rattle.run_notes.specs.declared.notes.Sent.{Sent}
 use Rattle.session.specs.declared.outcome.OpenError.{OpenError}
-use Rattle.session.specs.declared.outcome.OpenError.TheVariants as opening
+use Rattle.session.specs.declared.outcome.OpenError.TheVariants as open_error
 use Rattle.session.specs.Outcomes.{Phase, NotTaken, NotOpened, Served, phase_of, unhad}
 use Rattle.session.specs.declared.outcome.Outcome.{Outcome}
 use Rattle.session.specs.declared.outcome.Outcome.TheVariants as told
@@ -53,6 +52,17 @@ pub record Outside : Type 0 where
   pub noted : Option (List ℕ)
   pub notes_faults : ℕ
 
+-- what stands outside, where files have these contents, these names were missed, the streams are these, and the notes
+-- hold these bytes and failed this often
+abbrev pub outside : Contents → List (List ℕ) → Streams → Option (List ℕ) → ℕ → Outside
+outside contents missed streams noted notes_faults = record {
+  contents = contents;
+  missed = missed;
+  streams = streams;
+  noted = noted;
+  notes_faults = notes_faults;
+}
+
 -- the words of the command line are taken, and give these options
 pub record GiveOptions (words : List (List ℕ)) (options : Options) : Type 0 where
   pub taken : is_taken words ≡ true
@@ -61,7 +71,7 @@ pub record GiveOptions (words : List (List ℕ)) (options : Options) : Type 0 wh
 -- the files of the options were not opened, and the error says why; want of memory has no other cause
 abbrev pub IsUnopened : List SlotState → List (List ℕ) → Contents → OpenError → Type 0
 IsUnopened helpers words contents error =
-    (error ≡ opening.NoMemory) ⊎ ((options : Options) × GiveOptions words options
+    (error ≡ open_error.NoMemory) ⊎ ((options : Options) × GiveOptions words options
     × IsRefused (helper_names helpers) contents options.files options.states error)
 
 -- Generated lines were served in place of the source, which stays as it was. They are fewer bytes than the longest
@@ -88,7 +98,7 @@ pub record RoseAlong (capacity : ℕ) (turns : List (Turn Machine)) (counts : Co
   pub first : Kept
   pub last : Kept
   pub uncounted : first.engine.counts ≡ no_counts
-  pub kept : first.engine.readings.answers.kept ≡ no_questions capacity
+  pub readings : first.engine.readings.answers ≡ first_keeping capacity
   pub links : first.engine.links.answers ≡ first_keeping capacity
   pub along : IsAlong IsAfterLine first turns last
   pub same : counts ≡ last.engine.counts

@@ -73,5 +73,5 @@ pub record RunsPart {M : Type 0} (step : M → RawLine → Step M → Type 0) (g
     (from : M)
     (lines : List RawLine) (old new : Progress) : Type 0 where
   pub tally : Tally M
-  pub cut : BreaksOff step from lines tally
+  pub breaks_off : BreaksOff step from lines tally
   pub advances : Advances goes old new tally

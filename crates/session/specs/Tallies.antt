@@ -2,12 +2,12 @@
 -- transcript, and is tallied with its reply. A count in ℕ is exact; the program's counts stand still at the greatest
 -- value of a u64.
 use Rattle.engine.specs.Replies.{reply_count}
-use Rattle.std.specs.Prelude.{◌≡◌, ℕ, zero, suc, ◌+◌, ◌-◌, ◌^◌, ◌<◌, min, Bool, true, false, MatchBool, List, [], ◌∷◌}
+use Rattle.std.specs.Prelude.{◌≡◌, ℕ, zero, suc, ◌+◌, ◌-◌, ◌^◌, min, Bool, true, false, MatchBool, List, [], ◌∷◌}
 use Rattle.std.specs.Prelude.{◌++◌, length, Option}
 use Rattle.std.specs.Io.KnownBytes.{Appends}
 use Rattle.gtp_rules.specs.Lines.{RawLine}
 use Rattle.gtp_rules.specs.Steps.{Step}
-use Rattle.gtp_rules.specs.Transcript.{Answers}
+use Rattle.gtp_rules.specs.Transcript.{Answers, Cut}
 use Rattle.engine.specs.Kept.{Kept}
 use Rattle.machine_rules.specs.Turns.{Turn, IsAlong}
 
@@ -47,23 +47,14 @@ IsTallied {M} step old (line ∷ lines) tally new ended =
     × (tally ≡ together (tally_of old line first) rest)
     × MatchBool ends ((rest ≡ no_tally) × (new ≡ mid) × (ended ≡ true)) (IsTallied step mid lines rest new ended)
 
--- The lines were answered up to one, of whose reply a part is missing.
+-- what was put breaks off within the reply to one of the lines: those before it were answered with a tally, and with
+-- the part of its reply that was put this is the tally of all
 pub record BreaksOff {M : Type 0} (step : M → RawLine → Step M → Type 0) (first : M) (lines : List RawLine)
     (tally : Tally M) : Type 0 where
-  pub before : List RawLine
-  pub line : RawLine
-  pub after : List RawLine
+  pub cut : Cut step first lines tally.out
   pub whole : Tally M
-  pub part : List ℕ
-  pub missing : List ℕ
-  pub mid : M
-  pub next : M
-  pub ends : Bool
-  pub place : lines ≡ before ++ line ∷ after
-  pub answered : IsTallied step first before whole mid false
-  pub reply : Answers step mid line (part ++ missing) next ends
-  pub proper : 0 < length missing
-  pub tallied : tally ≡ together whole (cut_tally mid line part missing)
+  pub answered : IsTallied step first cut.before whole cut.mid false
+  pub tallied : tally ≡ together whole (cut_tally cut.mid cut.line cut.part cut.missing)
 
 -- a count after n more; it stands still at the greatest value of a u64
 abbrev pub kept_sum : ℕ → ℕ → ℕ

@@ -6,7 +6,7 @@ use Rattle.run_notes.specs.declared.notes.Sent.{Sent}
 use Rattle.gtp_rules.specs.Lines.{RawLine}
 use Rattle.gtp_rules.specs.Steps.{Step}
 use Rattle.engine.specs.Kept.{Kept}
-use Rattle.engine.specs.SessionState.{no_counts}
+use Rattle.engine.specs.EngineView.{no_counts}
 use Rattle.machine_rules.specs.Turns.{Turn}
 use Rattle.session.specs.Tallies.{Progress, kept_sum}
 use Rattle.session.specs.Serving.{PutsPart, PutsReply, RunsPart, progress_of}

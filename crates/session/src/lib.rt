@@ -5,9 +5,9 @@
 //! writes for a stream of lines a transcript of this machine, by an outcome that tells why it ended.
 #![tactic(auto)]
 
-mod opening;
 mod outbox;
 mod outcome;
+mod pattern_files;
 mod serve;
 mod top_call;
 

@@ -1,13 +1,14 @@
 //! The top call of the program.
 ghost use Rattle.std.specs.Prelude.{◌≡◌, ◌↔◌, MatchOption, Option, None, Some, true, if◌then◌else◌, option_map, map};
 ghost use Rattle.std.specs.Prelude.{string_bytes};
-ghost use Rattle.session.specs.Headline.{Came, IsCauseOf, MissedAfter, Runs, RunsHad, files_in};
+ghost use Rattle.session.specs.Headline.{Came, IsCauseOf, MissedAfter, Runs, RunsHad, files_in, outside};
 ghost use Rattle.session.specs.Ends.{streams};
 ghost use Rattle.session.specs.FirstSession.{CameBy, EndsCounting};
 ghost use Rattle.session.specs.Serving.{progress_of};
-ghost use Rattle.go_options.specs.Found.{AreInRange, IsFrom};
+ghost use Rattle.go_options.specs.Found.{AreInRange, IsIn};
+ghost use Rattle.go_options.specs.NumberOptions.{generate_option};
 ghost use Rattle.engine.specs.AfterLine.{IsAfterLine};
-ghost use Rattle.engine.specs.SessionSteps.{machine_now, kept_of, step_of};
+ghost use Rattle.engine.specs.SessionView.{machine_now, kept_of, step_of};
 ghost use Rattle.helpers.specs.Slots.{states_of};
 ghost use Rattle.engine.specs.Handed.{handed};
 ghost use Rattle.session.specs.Notes.{note_of};
@@ -16,8 +17,8 @@ ghost use Rattle.gtp_lex.specs.Lines.{no_line};
 ghost use Rattle.run_notes.specs.Notes.{notes_text};
 ghost use Rattle.run_notes.specs.Putting.{IsNoted};
 
-use crate::opening::{Opened, open};
 use crate::outcome::{End, Outcome, WordsError, note};
+use crate::pattern_files::{Opened, open};
 use crate::serve::{Ended, serve};
 use go_options::{Options, OptionsError, read_options};
 use gtp_io::{Loader, Sink, Source};
@@ -73,7 +74,7 @@ fn serve_lines<L: Loader, S: Source, K: Sink>(
     sent: &mut Sent,
 ) -> Ended
     requires none { opened.old.lines ≡ no_line }
-    requires few { MatchOption generate (Unit {0}) (IsFrom 1 100000) }
+    requires few { MatchOption generate (Unit {0}) (IsIn generate_option) }
     ensures serves { EndsCounting generate (step_of opened.old.session (L.contents files.old)) IsAfterLine
         (machine_now state opened.old.session)
         (streams (S.left input.old) (S.piece input.old) (S.faults input.old) (K.written output.old)
@@ -227,22 +228,12 @@ pub fn run<L: Loader, S: Source, K: Sink, D: Sink>(
     // By the outcome, what the files are, what was taken, put and noted, which files were missed, and whose count of
     // faults rose.
     ensures runs { Runs (handed state helpers.items) (map string_bytes words.now)
-        (record {
-          contents = L.contents files.old;
-          missed = L.missed files.old;
-          streams = streams (S.left input.old) (S.piece input.old) (S.faults input.old) (K.written output.old)
-              (K.faults output.old);
-          noted = D.written notes.old;
-          notes_faults = D.faults notes.old;
-        })
-        (record {
-          contents = L.contents files.new;
-          missed = L.missed files.new;
-          streams = streams (S.left input.new) (S.piece input.new) (S.faults input.new) (K.written output.new)
-              (K.faults output.new);
-          noted = D.written notes.new;
-          notes_faults = D.faults notes.new;
-        })
+        (outside (L.contents files.old) (L.missed files.old)
+        (streams (S.left input.old) (S.piece input.old) (S.faults input.old) (K.written output.old)
+        (K.faults output.old)) (D.written notes.old) (D.faults notes.old))
+        (outside (L.contents files.new) (L.missed files.new)
+        (streams (S.left input.new) (S.piece input.new) (S.faults input.new) (K.written output.new)
+        (K.faults output.new)) (D.written notes.new) (D.faults notes.new))
         result }
     // A fault of the output was its last call.
     ensures last { result ≡ Outcome.OutputFault → K.failed output.new ≡ true }
@@ -263,22 +254,12 @@ pub fn run_words<L: Loader, S: Source, K: Sink, D: Sink>(
     helpers: Vec<Box<dyn Helper>>,
 ) -> Outcome
     ensures runs { RunsHad (handed state helpers.items) (λ words. map string_bytes words.items) words
-        (record {
-          contents = L.contents files.old;
-          missed = L.missed files.old;
-          streams = streams (S.left input.old) (S.piece input.old) (S.faults input.old) (K.written output.old)
-              (K.faults output.old);
-          noted = D.written notes.old;
-          notes_faults = D.faults notes.old;
-        })
-        (record {
-          contents = L.contents files.new;
-          missed = L.missed files.new;
-          streams = streams (S.left input.new) (S.piece input.new) (S.faults input.new) (K.written output.new)
-              (K.faults output.new);
-          noted = D.written notes.new;
-          notes_faults = D.faults notes.new;
-        })
+        (outside (L.contents files.old) (L.missed files.old)
+        (streams (S.left input.old) (S.piece input.old) (S.faults input.old) (K.written output.old)
+        (K.faults output.old)) (D.written notes.old) (D.faults notes.old))
+        (outside (L.contents files.new) (L.missed files.new)
+        (streams (S.left input.new) (S.piece input.new) (S.faults input.new) (K.written output.new)
+        (K.faults output.new)) (D.written notes.new) (D.faults notes.new))
         result }
     // A fault of the output was its last call.
     ensures last { result ≡ Outcome.OutputFault → K.failed output.new ≡ true }

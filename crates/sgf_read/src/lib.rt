@@ -20,6 +20,3 @@ mod values;
 pub use error::SgfError;
 pub use game::{read, read_game};
 pub use sgf_rules::FaultKind;
-
-#[cfg(test)]
-mod tests;

@@ -15,6 +15,7 @@ use Rattle.trial_board.specs.Trials.{Trying, Stays, after}
 use Rattle.read_rules.specs.declared.node.Node.{Node}
 use Rattle.read_rules.specs.declared.question.Spot.{Spot}
 use Rattle.read_rules.specs.declared.question.Spot.TheVariants.{At, Pass}
+use Rattle.read_rules.specs.Trees.{most_narrow}
 use Rattle.read_rules.specs.GameTree.{child_of, next_node, allowance_of, first_move, is_captured, has_many_liberties}
 use Rattle.read_rules.proofs.RuleLemmas.{first_move_gives}
 use Rattle.read_tree.specs.Nodes.{LeadsTo}
@@ -173,11 +174,13 @@ module _ (n : ℕ) (node : Node) (here : BoardState) (captured : Bool) (found : 
     -- or the target has too many liberties
     pub settled_many : (won : Bool) (many : ℕ) → won ≡ false → captured ≡ false → n ≢ 0
         → many ≡ liberties here.size here.cells node.target
-        → cond node.attacker_to_play (ltb ((n + 1) / 2) many || (ltb 4 many || (eqb node.wide 0 && ltb 2 many)))
+        → cond node.attacker_to_play (ltb ((n + 1) / 2) many
+        || (ltb 4 many || (eqb node.wide 0 && ltb (most_narrow node.tree) many)))
         (ltb (n / 2) many) ≡ is_settled n won node here
     unfolding is_settled has_too_many has_many_liberties
     settled_many won many e stands some is =
-        ap (λ m. cond node.attacker_to_play (ltb ((n + 1) / 2) m || (ltb 4 m || (eqb node.wide 0 && ltb 2 m)))
+        ap (λ m. cond node.attacker_to_play (ltb ((n + 1) / 2) m
+        || (ltb 4 m || (eqb node.wide 0 && ltb (most_narrow node.tree) m)))
         (ltb (n / 2) m)) is
         ∙ sym (ap (λ b. cond b (is_captured here node.target) (not (is_captured here node.target)
         && (eqb n 0 || has_too_many n node here))) e
@@ -191,7 +194,8 @@ module _ {U : Type 0} (bytes text : List ℕ) (some : 0 < length bytes) (is : dr
       → ◌≡◌ {A = Result U ProofError} (Ok proof) (Err TooLong) ↔ (60000 < length text)
   short_text proof few memory = (
     (λ e. absurd cc),
-    (λ long. absurd (let less = one_less bytes some in let same = ap length is in omega (arith, less, same, few, long))),
+    (λ long. absurd
+        (let less = one_less bytes some in let same = ap length is in omega (arith, less, same, few, long))),
   )
 
   -- and where these were not all written for want of room, it is
@@ -205,8 +209,8 @@ module _ {U : Type 0} (bytes text : List ℕ) (some : 0 < length bytes) (is : dr
   long_text NoMemory (Err k) same h memory = absurd (memory (ap Err same))
 
 -- what was put behind nothing was written
-pub written : {T : Type 0} (start bytes all out : List ℕ) (r : Result T ProofError) (done : T) → start ≡ [] → bytes ≡ all
-    → r ≡ Ok done → Puts start bytes out r → Writes all (Ok out)
+pub written : {T : Type 0} (start bytes all out : List ℕ) (r : Result T ProofError) (done : T) → start ≡ []
+    → bytes ≡ all → r ≡ Ok done → Puts start bytes out r → Writes all (Ok out)
 written {T} start bytes all out r done none same is h =
     let put : Puts {T = T} [] all out (Ok done) =
     subst (λ (x : Result T ProofError). Puts [] all out x) is

@@ -76,9 +76,9 @@ fn pass_told<L: Look>(
     requires target { IsPointOf L.shows board.old turn.target }
     requires liberties { AreLibertiesOf L.seen board.old turn.target known.now }
     requires some { has_some asked ≡ true }
-    requires table { IsTrueTable (L.seen board.old.look) turn.target turn.defender memory.old.table.now }
+    requires table { IsTrueTable (L.seen board.old.look) turn.tree turn.target turn.defender memory.old.table.now }
     ensures stays { Stays L.shows L.seen board.old board.new }
-    ensures table { IsTrueTable (L.seen board.new.look) turn.target turn.defender memory.new.table.now }
+    ensures table { IsTrueTable (L.seen board.new.look) turn.tree turn.target turn.defender memory.new.table.now }
     ensures told { IsTold asked result (λ ko. pass_saves plies (under turn ko) (position_on L.shows board.old)) }
     ensures one { IsOne asked → result ≢ Told.Differs }
 {
@@ -104,9 +104,9 @@ fn play_told<L: Look>(
     requires on_board { IsPointOf L.shows board.old p }
     requires liberties { AreLibertiesOf L.seen board.old turn.target known.now }
     requires some { has_some asked ≡ true }
-    requires table { IsTrueTable (L.seen board.old.look) turn.target turn.defender memory.old.table.now }
+    requires table { IsTrueTable (L.seen board.old.look) turn.tree turn.target turn.defender memory.old.table.now }
     ensures stays { Stays L.shows L.seen board.old board.new }
-    ensures table { IsTrueTable (L.seen board.new.look) turn.target turn.defender memory.new.table.now }
+    ensures table { IsTrueTable (L.seen board.new.look) turn.tree turn.target turn.defender memory.new.table.now }
     ensures told { IsTold asked result (λ ko. succeeds plies (under turn ko) (position_on L.shows board.old) p) }
     ensures one { IsOne asked → result ≢ Told.Differs }
 {
@@ -128,15 +128,21 @@ fn first_point<L: Look>(
     requires target { IsPointOf L.shows board.old turn.target }
     requires liberties { AreLibertiesOf L.seen board.old turn.target known.now }
     requires some { has_some asked ≡ true }
-    requires table { IsTrueTable (L.seen board.old.look) turn.target turn.defender memory.old.table.now }
+    requires table { IsTrueTable (L.seen board.old.look) turn.tree turn.target turn.defender memory.old.table.now }
     ensures stays { Stays L.shows L.seen board.old board.new }
-    ensures table { IsTrueTable (L.seen board.new.look) turn.target turn.defender memory.new.table.now }
+    ensures table { IsTrueTable (L.seen board.new.look) turn.tree turn.target turn.defender memory.new.table.now }
     ensures first { IsCommon asked result (λ ko.
         at_point (first_success plies (under turn ko) (position_on L.shows board.old))) }
     ensures one { IsOne asked → result ≢ Common.Differs }
     ensures on_board { IsMoveOn (L.shows board.old.look).size result }
 {
-    let candidates = candidates(board, turn.target, turn.wide);
+    let candidates = candidates(
+        board,
+        turn.tree,
+        turn.attacker_to_play,
+        turn.target,
+        turn.wide,
+    );
     let mut next = 0;
     'plays: while let Some(p) = candidates.first_from(next) {
         match play_told(board, turn, asked, p, plies, known, memory) {
@@ -160,9 +166,9 @@ pub fn first_alike<L: Look>(
     requires room { length board.old.moves + plies < most_moves }
     requires target { IsPointOf L.shows board.old turn.target }
     requires some { has_some asked ≡ true }
-    requires table { IsTrueTable (L.seen board.old.look) turn.target turn.defender memory.old.table.now }
+    requires table { IsTrueTable (L.seen board.old.look) turn.tree turn.target turn.defender memory.old.table.now }
     ensures stays { Stays L.shows L.seen board.old board.new }
-    ensures table { IsTrueTable (L.seen board.new.look) turn.target turn.defender memory.new.table.now }
+    ensures table { IsTrueTable (L.seen board.new.look) turn.tree turn.target turn.defender memory.new.table.now }
     ensures first { IsCommon asked result (λ ko.
         first_move plies (under turn ko) (position_on L.shows board.old)) }
     ensures one { IsOne asked → result ≢ Common.Differs }

@@ -32,6 +32,7 @@ fn turn_of(question: &ReadingQuestion) -> Turn
     ensures { result ≡ first_turn question.now }
 {
     Turn {
+        tree: question.tree,
         target: question.target,
         defender: question.colour,
         attacker_to_play: match question.kind {
@@ -66,10 +67,12 @@ pub fn write_claim<L: Look>(
     requires room { length board.old.moves + question.now.plies ≤ most_moves }
     requires target { IsPointOf L.shows board.old question.now.target }
     requires some { has_some asked ≡ true }
-    requires table { IsTrueTable (L.seen board.old.look) question.now.target question.now.colour memory.old.table.now }
+    requires table { IsTrueTable (L.seen board.old.look) question.now.tree question.now.target question.now.colour
+        memory.old.table.now }
     requires bytes { length out.old ≤ most_bytes }
     ensures stays { Stays L.shows L.seen board.old board.new }
-    ensures table { IsTrueTable (L.seen board.new.look) question.now.target question.now.colour memory.new.table.now }
+    ensures table { IsTrueTable (L.seen board.new.look) question.now.tree question.now.target question.now.colour
+        memory.new.table.now }
     ensures puts { PutsAlike asked out.old (claim_words question.now (position_on L.shows board.old) won) out.new
         result }
     ensures one { IsOne asked → result ≢ Ok false }
@@ -97,10 +100,12 @@ fn write_under<L: Look>(
 ) -> Result<(), ProofError>
     requires room { length board.old.moves + question.now.plies ≤ most_moves }
     requires target { IsPointOf L.shows board.old question.now.target }
-    requires table { IsTrueTable (L.seen board.old.look) question.now.target question.now.colour memory.old.table.now }
+    requires table { IsTrueTable (L.seen board.old.look) question.now.tree question.now.target question.now.colour
+        memory.old.table.now }
     requires bytes { length out.old ≤ most_bytes }
     ensures stays { Stays L.shows L.seen board.old board.new }
-    ensures table { IsTrueTable (L.seen board.new.look) question.now.target question.now.colour memory.new.table.now }
+    ensures table { IsTrueTable (L.seen board.new.look) question.now.tree question.now.target question.now.colour
+        memory.new.table.now }
     ensures puts { Puts out.old
         (behind_blanks (first_words_of question.now (position_on L.shows board.old) code (more ∷ []))) out.new result }
 {
@@ -122,7 +127,8 @@ pub fn write_all<L: Look>(
 ) -> Result<(), ProofError>
     requires room { length board.old.moves + question.now.plies ≤ most_moves }
     requires target { IsPointOf L.shows board.old question.now.target }
-    requires table { IsTrueTable (L.seen board.old.look) question.now.target question.now.colour memory.old.table.now }
+    requires table { IsTrueTable (L.seen board.old.look) question.now.tree question.now.target question.now.colour
+        memory.old.table.now }
     requires bytes { length out.old ≤ most_bytes }
     ensures { Puts out.old (behind_blanks
         (first_words_of question.now (position_on L.shows board.old) code (codes_down_to code))) out.new result }

@@ -5,7 +5,8 @@ ghost use Rattle.go_rules.specs.Strings.{cell_at};
 ghost use Rattle.go_base.specs.Facts.{Fact};
 ghost use Rattle.trial_board.specs.Trials.{Stays, most_moves};
 ghost use Rattle.read_tree.specs.Walk.{IsPointOf};
-ghost use Rattle.read_rules.specs.Answer.{answer_of, asked_on};
+ghost use Rattle.read_rules.specs.Ranges.{most_plies};
+ghost use Rattle.read_rules.specs.Answer.{answer_of, asked_in};
 ghost use Rattle.read_tree.specs.Table.{IsTrueTable};
 ghost use Rattle.read_proof.specs.ProofOf.{codes_down_to, IsProofOf};
 ghost use Rattle.read_proof.specs.FirstProof.{first_words_of, first_text};
@@ -40,7 +41,8 @@ pub struct Proof {
 fn code_of(pos: &Position, of: Kind, target: Point, depths: Depths) -> u8
     requires on_board { target < pos.now.size * pos.now.size }
     requires stone { cell_at pos.now.cells target ≢ Cell.Empty }
-    ensures value { result ≡ (answer_of (asked_on pos.now of target depths.plies depths.wide) pos.now).code }
+    ensures value { result
+        ≡ (answer_of (asked_in depths.tree pos.now of target depths.plies depths.wide) pos.now).code }
     ensures few { result ≤ 3 }
 {
     let look = Watch::new(pos);
@@ -59,9 +61,11 @@ fn alike_words<L: Look>(
 ) -> Result<Option<Bytes>, ProofError>
     requires room { length board.old.moves + question.now.plies ≤ most_moves }
     requires target { IsPointOf L.shows board.old question.now.target }
-    requires table { IsTrueTable (L.seen board.old.look) question.now.target question.now.colour memory.old.table.now }
+    requires table { IsTrueTable (L.seen board.old.look) question.now.tree question.now.target question.now.colour
+        memory.old.table.now }
     ensures stays { Stays L.shows L.seen board.old board.new }
-    ensures table { IsTrueTable (L.seen board.new.look) question.now.target question.now.colour memory.new.table.now }
+    ensures table { IsTrueTable (L.seen board.new.look) question.now.tree question.now.target question.now.colour
+        memory.new.table.now }
     ensures words { WritesMaybe
         (behind_blanks (first_words_of question.now (position_on L.shows board.old) 0 (codes_down_to 0))) result }
 {
@@ -87,7 +91,8 @@ fn words_by_codes<L: Look>(
 ) -> Result<Bytes, ProofError>
     requires room { length board.old.moves + question.now.plies ≤ most_moves }
     requires target { IsPointOf L.shows board.old question.now.target }
-    requires table { IsTrueTable (L.seen board.old.look) question.now.target question.now.colour memory.old.table.now }
+    requires table { IsTrueTable (L.seen board.old.look) question.now.tree question.now.target question.now.colour
+        memory.old.table.now }
     ensures { Writes
         (behind_blanks (first_words_of question.now (position_on L.shows board.old) code (codes_down_to code))) result }
 {
@@ -108,7 +113,8 @@ fn words_on<L: Look>(
 ) -> Result<Bytes, ProofError>
     requires room { length board.old.moves + question.now.plies ≤ most_moves }
     requires target { IsPointOf L.shows board.old question.now.target }
-    requires table { IsTrueTable (L.seen board.old.look) question.now.target question.now.colour memory.old.table.now }
+    requires table { IsTrueTable (L.seen board.old.look) question.now.tree question.now.target question.now.colour
+        memory.old.table.now }
     ensures { Writes
         (behind_blanks (first_words_of question.now (position_on L.shows board.old) code (codes_down_to code))) result }
 {
@@ -130,9 +136,10 @@ fn words_with(
     code: u8,
     table: &mut [Entry],
 ) -> Result<Bytes, ProofError>
-    requires plies { question.now.plies ≤ 200 }
+    requires plies { question.now.plies ≤ most_plies }
     requires target { question.now.target < pos.now.size * pos.now.size }
-    requires table { (seen : Fact → Bool) → IsTrueTable seen question.now.target question.now.colour table.old }
+    requires table { (seen : Fact → Bool)
+        → IsTrueTable seen question.now.tree question.now.target question.now.colour table.old }
     ensures { Writes (behind_blanks (first_words_of question.now pos.now code (codes_down_to code))) result }
 {
     let mut board = Trial::new(Watch::new(pos));
@@ -153,7 +160,7 @@ fn words_with_table(
     question: &ReadingQuestion,
     code: u8,
 ) -> Result<Bytes, ProofError>
-    requires plies { question.now.plies ≤ 200 }
+    requires plies { question.now.plies ≤ most_plies }
     requires target { question.now.target < pos.now.size * pos.now.size }
     ensures { Writes (behind_blanks (first_words_of question.now pos.now code (codes_down_to code))) result }
 {
@@ -168,7 +175,7 @@ fn words_of(
     question: &ReadingQuestion,
     code: u8,
 ) -> Result<Bytes, ProofError>
-    requires plies { question.now.plies ≤ 200 }
+    requires plies { question.now.plies ≤ most_plies }
     requires target { question.now.target < pos.now.size * pos.now.size }
     ensures { Writes (behind_blanks (first_words_of question.now pos.now code (codes_down_to code))) result }
 {
@@ -202,15 +209,15 @@ pub fn first_proof(
     requires on_board { target < pos.now.size * pos.now.size }
     requires stone { cell_at pos.now.cells target ≢ Cell.Empty }
     ensures code { IfOk result (λ proof. proof.code
-        ≡ (answer_of (asked_on pos.now of target depths.plies depths.wide) pos.now).code) }
+        ≡ (answer_of (asked_in depths.tree pos.now of target depths.plies depths.wide) pos.now).code) }
     ensures text { IfOk result (λ proof. proof.text
-        ≡ first_text (asked_on pos.now of target depths.plies depths.wide) pos.now) }
+        ≡ first_text (asked_in depths.tree pos.now of target depths.plies depths.wide) pos.now) }
     ensures few { IfOk result (λ proof. proof.code ≤ 3) }
     ensures short { IfOk result (λ proof. length proof.text ≤ 60000) }
     ensures too_long { result ≢ Err ProofError.NoMemory → result ≡ Err ProofError.TooLong
-        ↔ (60000 < length (first_text (asked_on pos.now of target depths.plies depths.wide) pos.now)) }
+        ↔ (60000 < length (first_text (asked_in depths.tree pos.now of target depths.plies depths.wide) pos.now)) }
     ensures accepted { IfOk result (λ proof.
-        IsProofOf (asked_on pos.now of target depths.plies depths.wide) pos.now proof.code proof.text) }
+        IsProofOf (asked_in depths.tree pos.now of target depths.plies depths.wide) pos.now proof.code proof.text) }
 {
     let _ = pos.size();
     let question = question_on(pos, of, target, depths);

@@ -13,8 +13,5 @@ mod thrice;
 mod walk;
 
 pub use first::{Proof, first_proof};
-pub use read_proof::{Depths, ProofOf};
+pub use read_proof::{Depths, ProofOf, Tree};
 pub use text::ProofError;
-
-#[cfg(test)]
-mod tests;

@@ -2,21 +2,35 @@
 
 ghost use Rattle.std.specs.Prelude.{◌≡◌, ◌+◌, ◌*◌, ◌<◌, ◌/◌, ◌||◌, ◌&&◌, ◌==◌, nat_lt, if◌then◌else◌};
 ghost use Rattle.trial_board.specs.Trials.{Stays};
+ghost use Rattle.read_rules.specs.Trees.{most_narrow};
 ghost use Rattle.read_proof.specs.Proves.{is_settled, is_wanted};
 ghost use Rattle.write_proof.specs.Printed.{position_on};
 
 use go_base::{Cell, Look};
-use read_rules::Node;
+use read_rules::{Node, Tree};
 use trial_board::Trial;
+
+/// How many liberties a target of the tree may have, where no wide ply is left, that the attacker may play at.
+fn most_narrow(tree: Tree) -> u16
+    ensures { result ≡ most_narrow tree }
+{
+    match tree {
+        Tree::Stated => 2,
+        Tree::Wider => 3,
+    }
+}
 
 /// Whether so many liberties of the target are more than the attacker can fill with `plies` plies left, or than he may
 /// play at.
 fn are_too_many(node: Node, plies: u8, liberties: u16) -> bool
     ensures { result ≡ (if node.attacker_to_play then nat_lt ((plies + 1) / 2) liberties
-        || (nat_lt 4 liberties || ((node.wide == 0) && nat_lt 2 liberties)) else nat_lt (plies / 2) liberties) }
+        || (nat_lt 4 liberties || ((node.wide == 0) && nat_lt (most_narrow node.tree) liberties))
+        else nat_lt (plies / 2) liberties) }
 {
     if node.attacker_to_play {
-        liberties > (u16::from(plies) + 1) / 2 || liberties > 4 || (node.wide == 0 && liberties > 2)
+        liberties > (u16::from(plies) + 1) / 2
+            || liberties > 4
+            || (node.wide == 0 && liberties > most_narrow(node.tree))
     } else {
         liberties > u16::from(plies) / 2
     }

@@ -29,6 +29,7 @@ fn node_of(turn: Turn) -> Node
     ensures { result ≡ under turn neither_may }
 {
     Node {
+        tree: turn.tree,
         target: turn.target,
         defender: turn.defender,
         attacker_to_play: turn.attacker_to_play,
@@ -63,10 +64,10 @@ fn write_pass<L: Look>(
     requires room { length board.old.moves + plies < most_moves }
     requires target { IsPointOf L.shows board.old turn.target }
     requires some { has_some asked ≡ true }
-    requires table { IsTrueTable (L.seen board.old.look) turn.target turn.defender memory.old.table.now }
+    requires table { IsTrueTable (L.seen board.old.look) turn.tree turn.target turn.defender memory.old.table.now }
     requires bytes { length out.old ≤ most_bytes }
     ensures stays { Stays L.shows L.seen board.old board.new }
-    ensures table { IsTrueTable (L.seen board.new.look) turn.target turn.defender memory.new.table.now }
+    ensures table { IsTrueTable (L.seen board.new.look) turn.tree turn.target turn.defender memory.new.table.now }
     ensures puts { PutsAlike asked out.old (λ ko. write_each (first_words plies won)
         (pass_children (under turn ko) (position_on L.shows board.old))) out.new result }
     ensures one { IsOne asked → result ≢ Ok false }
@@ -97,10 +98,10 @@ fn write_play<L: Look>(
     requires target { IsPointOf L.shows board.old turn.target }
     requires on_board { IsPointOf L.shows board.old p }
     requires some { has_some asked ≡ true }
-    requires table { IsTrueTable (L.seen board.old.look) turn.target turn.defender memory.old.table.now }
+    requires table { IsTrueTable (L.seen board.old.look) turn.tree turn.target turn.defender memory.old.table.now }
     requires bytes { length out.old ≤ most_bytes }
     ensures stays { Stays L.shows L.seen board.old board.new }
-    ensures table { IsTrueTable (L.seen board.new.look) turn.target turn.defender memory.new.table.now }
+    ensures table { IsTrueTable (L.seen board.new.look) turn.tree turn.target turn.defender memory.new.table.now }
     ensures puts { PutsAlike asked out.old (λ ko. write_each (first_words plies won)
         (option_to_list (child_of (under turn ko) (position_on L.shows board.old) p))) out.new result }
     ensures one { IsOne asked → result ≢ Ok false }
@@ -139,15 +140,21 @@ fn write_plays<L: Look>(
     requires room { length board.old.moves + plies < most_moves }
     requires target { IsPointOf L.shows board.old turn.target }
     requires some { has_some asked ≡ true }
-    requires table { IsTrueTable (L.seen board.old.look) turn.target turn.defender memory.old.table.now }
+    requires table { IsTrueTable (L.seen board.old.look) turn.tree turn.target turn.defender memory.old.table.now }
     requires bytes { length out.old ≤ most_bytes }
     ensures stays { Stays L.shows L.seen board.old board.new }
-    ensures table { IsTrueTable (L.seen board.new.look) turn.target turn.defender memory.new.table.now }
+    ensures table { IsTrueTable (L.seen board.new.look) turn.tree turn.target turn.defender memory.new.table.now }
     ensures puts { PutsAlike asked out.old (λ ko. write_each (first_words plies won)
         (play_children (under turn ko) (position_on L.shows board.old))) out.new result }
     ensures one { IsOne asked → result ≢ Ok false }
 {
-    let candidates = candidates(board, turn.target, turn.wide);
+    let candidates = candidates(
+        board,
+        turn.tree,
+        turn.attacker_to_play,
+        turn.target,
+        turn.wide,
+    );
     let mut from = 0;
     'plays: while let Some(p) = candidates.first_from(from) {
         let alike = write_play(board, turn, asked, p, plies, won, memory, out)?;
@@ -173,10 +180,10 @@ fn write_move<L: Look>(
     requires room { length board.old.moves + plies < most_moves }
     requires target { IsPointOf L.shows board.old turn.target }
     requires some { has_some asked ≡ true }
-    requires table { IsTrueTable (L.seen board.old.look) turn.target turn.defender memory.old.table.now }
+    requires table { IsTrueTable (L.seen board.old.look) turn.tree turn.target turn.defender memory.old.table.now }
     requires bytes { length out.old ≤ most_bytes }
     ensures stays { Stays L.shows L.seen board.old board.new }
-    ensures table { IsTrueTable (L.seen board.new.look) turn.target turn.defender memory.new.table.now }
+    ensures table { IsTrueTable (L.seen board.new.look) turn.tree turn.target turn.defender memory.new.table.now }
     ensures puts { PutsAlike asked out.old (λ ko. write_move (first_words plies won) (under turn ko)
         (position_on L.shows board.old) (first_move plies (under turn ko) (position_on L.shows board.old)))
         out.new result }
@@ -211,10 +218,10 @@ pub fn write<L: Look>(
     requires room { length board.old.moves + plies ≤ most_moves }
     requires target { IsPointOf L.shows board.old turn.target }
     requires some { has_some asked ≡ true }
-    requires table { IsTrueTable (L.seen board.old.look) turn.target turn.defender memory.old.table.now }
+    requires table { IsTrueTable (L.seen board.old.look) turn.tree turn.target turn.defender memory.old.table.now }
     requires bytes { length out.old ≤ most_bytes }
     ensures stays { Stays L.shows L.seen board.old board.new }
-    ensures table { IsTrueTable (L.seen board.new.look) turn.target turn.defender memory.new.table.now }
+    ensures table { IsTrueTable (L.seen board.new.look) turn.tree turn.target turn.defender memory.new.table.now }
     ensures puts { PutsAlike asked out.old (λ ko. first_words plies won (under turn ko) (position_on L.shows board.old))
         out.new result }
     ensures one { IsOne asked → result ≢ Ok false }

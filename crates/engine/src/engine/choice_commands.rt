@@ -1,6 +1,6 @@
 //! The commands that choose a move by the patterns.
 ghost use Rattle.std.specs.Prelude.{◌≡◌, ◌⊎◌, ◌*◌, ◌<◌, ◌≤◌, true, option_map, is_err, IfOk, IfSome};
-ghost use Rattle.helpers.specs.Asking.{says_yes};
+ghost use Rattle.helpers.specs.HelperStates.{says_yes};
 ghost use Rattle.helpers.specs.Slots.{states_of};
 ghost use Rattle.match_engine.specs.AutomatonMatches.{automaton_matches};
 ghost use Rattle.match_engine.specs.HelperCalls.{after_matches};
@@ -15,7 +15,7 @@ ghost use Rattle.gtp_cmd.specs.declared.commands.Command.TheVariants as command;
 ghost use Rattle.engine.specs.AfterLine.{ReadsAs, ReadsMany};
 ghost use Rattle.engine.specs.AskedLinks.{LinksNothing};
 ghost use Rattle.engine.specs.CommandAnswers.{IsAnswer};
-ghost use Rattle.engine.specs.SessionState.{NumbersPatterns, machine_alone, machine_with, matcher_of};
+ghost use Rattle.engine.specs.EngineView.{NumbersPatterns, machine_alone, machine_with, matcher_of};
 
 use crate::answer::{Answer, told_text};
 use crate::engine::Engine;

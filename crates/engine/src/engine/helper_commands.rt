@@ -5,7 +5,7 @@ ghost use Rattle.helpers.specs.Slots.{states_of};
 ghost use Rattle.machine_rules.specs.Heard.{word_at};
 ghost use Rattle.machine_rules.specs.HelperCommands.{switched_off, calls_told, dropped};
 ghost use Rattle.engine.specs.CommandAnswers.{IsAnswer};
-ghost use Rattle.engine.specs.SessionState.{machine_with};
+ghost use Rattle.engine.specs.EngineView.{machine_with};
 
 use crate::answer::{Answer, told, told_text};
 use crate::engine::Engine;

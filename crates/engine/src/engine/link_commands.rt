@@ -1,7 +1,7 @@
 //! The commands that read whether two strings can be joined or kept apart.
 ghost use Rattle.std.specs.Prelude.{List, ◌≡◌, ◌≢◌, ◌*◌, ◌<◌, true, is_none, IsNone, IfOk, IfErr, OnOk, OnErr, IfSome};
 ghost use Rattle.go_rules.specs.Strings.{cell_at};
-ghost use Rattle.helpers.specs.Asking.{SlotState};
+ghost use Rattle.helpers.specs.HelperStates.{SlotState};
 ghost use Rattle.link_rules.specs.declared.question.LinkKind.{LinkKind};
 ghost use Rattle.machine_rules.specs.Counting.{counted};
 ghost use Rattle.machine_rules.specs.LinkCommands.{linked};
@@ -9,7 +9,7 @@ ghost use Rattle.machine_rules.specs.LinkQuestions.{have_one_colour, asks_link_a
 ghost use Rattle.engine.specs.AfterLine.{ReadsNothing, of_readings};
 ghost use Rattle.engine.specs.AskedLinks.{LinksAs, CountsFreshLinks};
 ghost use Rattle.engine.specs.CommandAnswers.{IsAnswer};
-ghost use Rattle.engine.specs.SessionState.{board_of, machine_alone, machine_with};
+ghost use Rattle.engine.specs.EngineView.{board_of, machine_alone, machine_with};
 
 use crate::answer::{Answer, told_text};
 use crate::engine::Engine;

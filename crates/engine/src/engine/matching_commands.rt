@@ -1,8 +1,8 @@
 //! The commands that tell of patterns and of their matches.
 ghost use Rattle.std.specs.Prelude.{◌≡◌, List};
-ghost use Rattle.helpers.specs.Asking.{SlotState};
+ghost use Rattle.helpers.specs.HelperStates.{SlotState};
 ghost use Rattle.helpers.specs.Slots.{states_of};
-ghost use Rattle.engine.specs.SessionState.{machine_with, matcher_of};
+ghost use Rattle.engine.specs.EngineView.{machine_with, matcher_of};
 ghost use Rattle.machine_rules.specs.MatchingCommands.{matches_listed, patterns_listed};
 ghost use Rattle.engine.specs.AskedLinks.{LinksNothing};
 ghost use Rattle.engine.specs.CommandAnswers.{IsAnswer};

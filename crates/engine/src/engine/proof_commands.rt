@@ -2,10 +2,10 @@
 ghost use Rattle.std.specs.Prelude.{◌≡◌, ◌*◌, ◌<◌, ◌≤◌, ◌++◌, ◌∷◌, List, IfOk, decimal};
 ghost use Rattle.gtp_cmd.specs.Words.{blank};
 ghost use Rattle.gtp_cmd.specs.Spans.{spanned, IsSpanOf};
-ghost use Rattle.helpers.specs.Asking.{SlotState};
+ghost use Rattle.helpers.specs.HelperStates.{SlotState};
 ghost use Rattle.machine_rules.specs.ProofCommands.{proved, checked, kind_of};
 ghost use Rattle.engine.specs.CommandAnswers.{IsAnswer};
-ghost use Rattle.engine.specs.SessionState.{machine_with};
+ghost use Rattle.engine.specs.EngineView.{machine_with};
 
 use crate::answer::{Answer, grown, told};
 use crate::engine::board_commands::has_stone;

@@ -1,9 +1,9 @@
 //! The commands that read whether a string can be captured.
 ghost use Rattle.std.specs.Prelude.{List, ◌≡◌, ◌*◌, ◌<◌, true, is_some, IfOk, IfErr, OnOk, OnErr};
-ghost use Rattle.helpers.specs.Asking.{SlotState};
-ghost use Rattle.engine.specs.SessionState.{machine_alone, machine_with};
+ghost use Rattle.helpers.specs.HelperStates.{SlotState};
+ghost use Rattle.engine.specs.EngineView.{machine_alone, machine_with};
 ghost use Rattle.machine_rules.specs.ReadingCommands.{read, deepened};
-ghost use Rattle.gtp_cmd.specs.Within.{AreDepths};
+ghost use Rattle.read_rules.specs.Ranges.{AreDepths};
 ghost use Rattle.engine.specs.AskedLinks.{LinksNothing};
 ghost use Rattle.engine.specs.CommandAnswers.{IsAnswer};
 ghost use Rattle.machine_rules.specs.Counting.{counted, has_stone};

@@ -1,14 +1,14 @@
 //! The command that makes a game record the position.
 ghost use Rattle.std.specs.Prelude.{◌≡◌, ◌++◌, ℕ, List};
 ghost use Rattle.gtp_cmd.specs.Spans.{IsSpanOf};
-ghost use Rattle.helpers.specs.Asking.{SlotState};
+ghost use Rattle.helpers.specs.HelperStates.{SlotState};
 ghost use Rattle.machine_rules.specs.Heard.{word_at};
 ghost use Rattle.machine_rules.specs.Loads.{named_load, IsFileOf};
 ghost use Rattle.machine_rules.specs.RecordCommands.{loaded_by, recorded};
 ghost use Rattle.sgf_rules.specs.Game.{game_of};
 ghost use Rattle.engine.specs.AskedLinks.{LinksNothing};
 ghost use Rattle.engine.specs.CommandAnswers.{IsAnswer, missed_as};
-ghost use Rattle.engine.specs.SessionState.{machine_with};
+ghost use Rattle.engine.specs.EngineView.{machine_with};
 
 use crate::answer::{Answer, told};
 use crate::engine::Engine;

@@ -1,7 +1,7 @@
 -- The matches that were found are among the patterns and on the board.
 use Rattle.std.proofs.Common.{is_err, inl, inr, sym, ap, subst, ◌∙◌}
 use Rattle.std.proofs.lemmas.Result.{err_from_is_err_and}
-use Rattle.helpers.specs.Asking.{says_yes}
+use Rattle.helpers.specs.HelperStates.{says_yes}
 use Rattle.helpers.specs.Slots.{states_of}
 use Rattle.match_engine.specs.AutomatonMatches.{automaton_matches}
 use Rattle.match_engine.specs.Readings.{codes_of}

@@ -19,16 +19,14 @@ rule_over option values = record (number_rule option) { parser = Some values }
 pub returns : goal.returns
 unfolding command_line
 returns c =
-    let depth : Takes depth_option c.range.result =
+    let depth : Takes depth_option c.bytes_from.result = c.bytes_from.ensures in
+    let branch : Takes branch_option c.bytes_from-2.result = c.bytes_from-2.ensures in
+    let cache : Takes cache_option c.range.result =
     rw (c.value_parser.ensures, c.new.ensures.start, c.new.ensures.end) at c.range.ensures in
-    let branch : Takes branch_option c.range-2.result =
+    let states : Takes states_option c.range-2.result =
     rw (c.value_parser-2.ensures, c.new-2.ensures.start, c.new-2.ensures.end) at c.range-2.ensures in
-    let cache : Takes cache_option c.range-3.result =
+    let generate : Takes generate_option c.range-3.result =
     rw (c.value_parser-3.ensures, c.new-3.ensures.start, c.new-3.ensures.end) at c.range-3.ensures in
-    let states : Takes states_option c.range-4.result =
-    rw (c.value_parser-4.ensures, c.new-4.ensures.start, c.new-4.ensures.end) at c.range-4.ensures in
-    let generate : Takes generate_option c.range-5.result =
-    rw (c.value_parser-5.ensures, c.new-5.ensures.start, c.new-5.ensures.end) at c.range-5.ensures in
     let one = c.in_ok-arg.ensures.shape c.option_or-depth.ensures.local
     ∙ ap₂ with_rule c.bare.ensures (c.option_or-depth.ensures.rule ∙ ap (rule_over depth_option) depth) in
     let two = c.in_ok-arg-2.ensures.shape c.option_or-branch.ensures.local

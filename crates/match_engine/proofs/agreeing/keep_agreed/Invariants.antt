@@ -1,5 +1,5 @@
 use Rattle.std.proofs.Common.{◌≡◌, slice_get, take}
-use Rattle.helpers.specs.Asking.{says_yes}
+use Rattle.helpers.specs.HelperStates.{says_yes}
 use Rattle.helpers.specs.Slots.{states_of}
 use Rattle.match_engine.specs.AutomatonMatches.{is_agreed_at}
 use Rattle.match_engine.specs.HelperCalls.{after_matches}

@@ -1,5 +1,5 @@
 use Rattle.std.proofs.Common.{◌∙◌, ap, subst, Contains}
-use Rattle.helpers.specs.Asking.{says_yes}
+use Rattle.helpers.specs.HelperStates.{says_yes}
 use Rattle.helpers.specs.Slots.{states_of}
 use Rattle.match_rules.specs.Conditions.{all_yes}
 use Rattle.match_rules.proofs.Lists.{Contains-filter}

@@ -36,7 +36,8 @@ returns-then-wide-gt0-clause-over g c = λ pos a p.
     let it = c.surroundings-liberties.ensures.over pos (agrees_before c.wide_candidates.ensures.stays.grows a) in
     let found = rw c.surroundings-liberties.ensures.stays.moves at (c.wide_candidates.ensures.over pos a p) in
     let joined = ap (λ t. set.contains t p) c.join.ensures ∙ set.contains-union nat_cmp_total last libs p in
-    candidate_wide here c.args.target c.args.wide p libs last (its_liberties here pos.size c.args.target libs size it.0)
+    candidate_wide c.args.tree c.args.attacker_to_play here c.args.target c.args.wide p libs last
+    (its_liberties here pos.size c.args.target libs size it.0)
     (it.1 p ∙ ap (λ n. is_last_liberty_of_enemy n here.cells c.args.target p) (sym size))
     (set.contains c.join-then-wide-gt0.new.self p) (set.contains wide p)
     (lt-ltb 0 c.args.wide c.if-wide-gt0.true) found
@@ -51,7 +52,7 @@ returns-else-wide-gt0-clause-over g c = λ pos a p.
     let libs = c.surroundings-liberties.result.liberties in
     let last = c.surroundings-liberties.result.last_liberties in
     let it = c.surroundings-liberties.ensures.over pos a in
-    candidate_plain here c.args.target c.args.wide p libs last
+    candidate_plain c.args.tree c.args.attacker_to_play here c.args.target c.args.wide p libs last
     (its_liberties here pos.size c.args.target libs size it.0)
     (it.1 p ∙ ap (λ n. is_last_liberty_of_enemy n here.cells c.args.target p) (sym size))
     (set.contains c.join.new.self p)

@@ -1,20 +1,29 @@
-use Rattle.std.proofs.Common.{refl, ap, sym, ◌∙◌, ◌||◌, ◌&&◌, ◌*◌, ltb}
-use Rattle.std.specs.Ordering.{nat_cmp}
+use Rattle.std.proofs.Common.{ap, ◌∙◌, sym, ◌&&◌}
 use Rattle.std.specs.FinSet as set
-use Rattle.go_rules.specs.Below.{any_below}
-use Rattle.read_rules.specs.Candidates.{attacker_of, is_empty_beside}
-use Rattle.read_rules.specs.Candidates.{is_left}
-use Rattle.read_rules.proofs.StageLemmas.{wide_is}
+use Rattle.further_rules.specs.Further.{is_further}
+use Rattle.go_rules.proofs.Tests.{or-false}
+use Rattle.read_rules.proofs.StageLemmas.{wide_further}
+use Rattle.read_proof.proofs.GatherLemmas.{joined}
 use Rattle.read_proof.proofs.candidates.wide_candidates.Goals as goal
 
--- the points beside few liberties and what the attacker's plays leave were gathered
-pub returns : goal.returns
-returns c = λ p.
+-- the further candidates were joined in the wider tree
+pub returns-then-is_wider : goal.returns-then-is_wider
+returns-then-is_wider c = λ p.
+    let node = c.args.node in
     let pos = c.args.pos.now in
-    let libs = c.args.liberties.now in
-    let beside = ltb (set.len libs) 3 && is_empty_beside pos.size pos.cells (set.contains libs) p in
-    let left = any_below (pos.size * pos.size) (λ l. set.contains libs l && is_left pos c.attacker_of.result l p) in
-    wide_is pos c.args.target p libs c.requires.liberties set.empty c.attacker_of.result
-    (set.contains c.add_backfilling.new.found p) refl (c.attacker_of.ensures ∙ ap attacker_of c.cell.ensures)
-    (c.add_backfilling.ensures p ∙ ap (λ b. b || left) (c.beside_few-found.ensures p
-    ∙ ap (λ b. b || beside) (sym (set.contains-empty nat_cmp p))))
+    joined c.stated_candidates-found.result c.further_candidates.result c.join.new.self p c.join.ensures
+    ∙ wide_further node.tree node.attacker_to_play pos node.target p _ _
+    (c.stated_candidates-found.ensures node.attacker_to_play p)
+    (c.further_candidates.ensures p ∙ ap (λ b. b && is_further node.attacker_to_play pos.size pos.cells node.target p)
+    (sym c.if-is_wider.true ∙ c.is_wider.ensures))
+
+-- in the stated tree nothing more is
+pub returns-else-is_wider : goal.returns-else-is_wider
+returns-else-is_wider c = λ p.
+    let node = c.args.node in
+    let pos = c.args.pos.now in
+    or-false (set.contains c.stated_candidates-found.result p)
+    ∙ wide_further node.tree node.attacker_to_play pos node.target p _ _
+    (c.stated_candidates-found.ensures node.attacker_to_play p)
+    (ap (λ b. b && is_further node.attacker_to_play pos.size pos.cells node.target p)
+    (sym c.if-is_wider.false ∙ c.is_wider.ensures))

@@ -1,9 +1,10 @@
 use Rattle.read_rules.proofs.CandidateLaws.{candidate_gives, candidate_from, candidate_on}
 use Rattle.read_rules.proofs.laws.candidates_are_by_strings.Goals as goal
 
--- the test for a candidate and the four sets of the rules are one
+-- the test for a candidate and the sets of the rules are one
 pub returns-clause-candidate : goal.returns-clause-candidate
-returns-clause-candidate c = λ pos target k p on. (candidate_gives pos target k p, candidate_from pos target k p on)
+returns-clause-candidate c = λ tree attacker pos target k p on.
+    (candidate_gives tree attacker pos target k p on, candidate_from tree attacker pos target k p on)
 
 -- each candidate lies on the board
 pub returns-clause-on_board : goal.returns-clause-on_board

@@ -7,11 +7,12 @@ returns-clause-one_liberty c = play_takes_one
 
 -- the test and the bound in words are one
 pub returns-clause-too_many : goal.returns-clause-too_many
-returns-clause-too_many c = λ attacker n k l. (too_many-gives attacker n k l, too_many-from attacker n k l)
+returns-clause-too_many c = λ tree attacker n k l.
+    (too_many-gives tree attacker n k l, too_many-from tree attacker n k l)
 
 -- a target with too many liberties is not captured
 pub returns-clause-stands : goal.returns-clause-stands
-returns-clause-stands c = λ n node pos on h. bounded n node pos on (too_many-from _ _ _ _ h)
+returns-clause-stands c = λ n node pos on h. bounded n node pos on (too_many-from _ _ _ _ _ h)
 
 -- a target that the attacker may not play at has too many
 pub returns-clause-many : goal.returns-clause-many

@@ -14,14 +14,14 @@ use Rattle.read_tree.proofs.candidates.others_of.Goals as goal
 pub returns-clause-over : goal.returns-clause-over
 returns-clause-over g c = λ pos a p.
     let here = after pos c.args.board.now.moves in
-    let a0 = agrees_before c.wide_candidates.ensures.stays.grows a in
-    let its = its_liberty pos.size here c.args.target c.args.known.now (size-after pos c.args.board.now.moves)
+    let a0 = agrees_before c.wide_of.ensures.stays.grows a in
+    let its = its_liberty pos.size here c.args.turn.target c.args.known.now (size-after pos c.args.board.now.moves)
     (c.requires.liberties pos a0) p in
     ap (λ t. set.contains t p) c.difference-2.ensures
     ∙ set.contains-difference nat_cmp_total _ c.args.captures.now p
     ∙ ap (λ b. b && not (set.contains c.args.captures.now p)) (ap (λ t. set.contains t p) c.difference.ensures
     ∙ set.contains-difference nat_cmp_total _ c.args.known.now p
-    ∙ ap (λ b. b && not (set.contains c.args.known.now p)) (c.wide_candidates.ensures.over pos a p)
-    ∙ ap (λ b. is_wide_candidate here c.args.target p && not b) its)
-    ∙ ap (λ b. (is_wide_candidate here c.args.target p && not (is_liberty here.size here.cells c.args.target p))
-    && not b) (c.requires.captures pos a0 p)
+    ∙ ap (λ b. b && not (set.contains c.args.known.now p)) (c.wide_of.ensures.over pos a p)
+    ∙ ap (λ b. is_wide_candidate c.args.turn.tree c.args.turn.attacker_to_play here c.args.turn.target p && not b) its)
+    ∙ ap (λ b. (is_wide_candidate c.args.turn.tree c.args.turn.attacker_to_play here c.args.turn.target p
+    && not (is_liberty here.size here.cells c.args.turn.target p)) && not b) (c.requires.captures pos a0 p)

@@ -17,7 +17,7 @@ returns-clause-over g c = λ pos a yes.
       kept = c.kept_at-kept.result;
       each = λ x h. subst (λ n. IsLibertyAfter n here.cells c.args.known.now c.args.l x)
           (sym (size-after pos c.args.board.now.moves)) (kept x h);
-      many = ap (outlasts true c.args.plies (c.args.turn.wide - 1)) (sym c.count.ensures.value)
-          ∙ ap (λ k. outlasts true c.args.plies k c.count.result) (sym c.saturating_sub.ensures)
+      many = ap (outlasts c.args.turn.tree true c.args.plies (c.args.turn.wide - 1)) (sym c.count.ensures.value)
+          ∙ ap (λ k. outlasts c.args.turn.tree true c.args.plies k c.count.result) (sym c.saturating_sub.ensures)
           ∙ sym c.outlasts.ensures ∙ yes;
     }

@@ -37,7 +37,7 @@ abbrev pub invariant-first_success-plays : goal.invariant-first_success-plays
 invariant-first_success-plays g l = record {
   stays : Stays g.L.Look.shows g.L.Look.seen l.fn.board l.board;
   grows : Grows (g.L.Look.seen l.initial.board.look) (g.L.Look.seen l.board.look);
-  table : IsTrueTable (g.L.Look.seen l.board.look) l.node.target l.node.defender l.memory.table.now;
+  table : IsTrueTable (g.L.Look.seen l.board.look) l.node.tree l.node.target l.node.defender l.memory.table.now;
   none : (pos : BoardState) → Agrees (g.L.Look.seen l.board.look) pos → (q : ℕ) → q < l.from
       → (set.contains l.candidates q && succeeds l.plies l.node (after pos l.fn.board.moves) q) ≡ false;
 }

@@ -8,7 +8,7 @@ use Rattle.go_base.specs.Views.{alone}
 use Rattle.go_base.proofs.PointNeighbourhoods.{close_alone}
 use Rattle.go_rules.specs.Neighbourhood.{neighbourhood_of}
 use Rattle.read_rules.specs.declared.question.ReadingQuestion.{ReadingQuestion}
-use Rattle.read_rules.specs.Answer.{is_about, asked_on, first_node}
+use Rattle.read_rules.specs.Answer.{is_about, asked_in, first_node}
 use Rattle.read_rules.specs.ActiveArea.{first, InActiveArea, AddsNear}
 use Rattle.read_rules.proofs.AnswerLemmas.{about_stands, about_from, stone-colour}
 use Rattle.read_rules.proofs.AreaLemmas.{AddsNear-in, AddsNear-trans, area_target, target_on}
@@ -30,7 +30,7 @@ read-requires g c = record {
 pub returns-clause-near : goal.returns-clause-near
 returns-clause-near g c = λ pos a.
     let shown = g.L.Look.shows c.args.look in
-    let asked = asked_on shown c.args.kind c.args.target c.args.depths.plies c.args.depths.wide in
+    let asked = asked_in c.args.depths.tree shown c.args.kind c.args.target c.args.depths.plies c.args.depths.wide in
     let question = c.asked-question.result in
     let is_asked : question ≡ asked = c.asked-question.ensures.question in
     let size : pos.size ≡ shown.size = same_size (g.met.L.Look.sized c.read.result.look) a

@@ -11,10 +11,10 @@ use Rattle.go_base.specs.Facts.{agrees_before}
 use Rattle.go_base.specs.Views.{nowhere}
 use Rattle.trial_board.specs.Trials.{after}
 use Rattle.trial_board.proofs.AfterLemmas.{size-after}
-use Rattle.read_rules.specs.Candidates.{is_candidate}
 use Rattle.read_tree.specs.declared.turn.Turn.{Turn}
 use Rattle.read_rules.specs.Answer.{is_attack}
 use Rattle.read_tree.specs.Allowances.{neither_may}
+use Rattle.read_tree.specs.Stages.{is_candidate_on}
 use Rattle.read_tree.specs.Steps.{first_turn}
 use Rattle.read_rules.proofs.AnswerLemmas.{about_stands}
 use Rattle.read_rules.proofs.AreaLemmas.{AddsNear-trans, undecided_defender}
@@ -40,10 +40,12 @@ turn_of e h = sym (ap (λ (t : Turn). t.attacker_to_play) e) ∙ h
 
 -- liberties that are known and not too many are not too many on the board
 few_at : (q : ReadingQuestion) (s : ℕ) (cells : List Cell) (known : set.FinSet nat_cmp)
-    → outlasts (is_attack q.kind) q.plies q.wide (set.len known) ≡ false → known ≡ liberty_points s cells q.target
-    → outlasts (is_attack q.kind) q.plies q.wide (liberties s cells q.target) ≡ false
+    → outlasts q.tree (is_attack q.kind) q.plies q.wide (set.len known) ≡ false
+    → known ≡ liberty_points s cells q.target
+    → outlasts q.tree (is_attack q.kind) q.plies q.wide (liberties s cells q.target) ≡ false
 few_at q s cells known few is =
-    sym (ap (outlasts (is_attack q.kind) q.plies q.wide) (ap set.len is ∙ len-liberty_points s cells q.target)) ∙ few
+    sym (ap (outlasts q.tree (is_attack q.kind) q.plies q.wide)
+    (ap set.len is ∙ len-liberty_points s cells q.target)) ∙ few
 
 -- the attacker's moves, whose looks lie in the active area
 pub returns-then-turn : goal.returns-then-turn
@@ -119,7 +121,7 @@ returns-then-best-eq3 g c =
           let some : q.plies ≢ 0 = omega (arith, c.requires.ready.plies) in
           best_answer q here c.better-best.result some about (and_off (is_attack q.kind) _ (defends g d))
           (best_three (q.plies - 1) (first_turn q) here nowhere c.better-best.result (pass_best g d pos a)
-          c.if-best-eq3.true (is_candidate here q.target q.wide));
+          c.if-best-eq3.true (is_candidate_on (first_turn q) here));
       near = pass_near g d;
     }
 

@@ -29,12 +29,12 @@ use Rattle.read_tree.proofs.reading.read_on.Goals as goal
 
 -- the liberties that were found are too many where the target's are
 many_at : (q : ReadingQuestion) (s : ℕ) (cells : List Cell) {turn : Turn} {known : set.FinSet nat_cmp} {many : Bool}
-    → turn ≡ first_turn q → many ≡ outlasts turn.attacker_to_play q.plies turn.wide (set.len known)
+    → turn ≡ first_turn q → many ≡ outlasts turn.tree turn.attacker_to_play q.plies turn.wide (set.len known)
     → TellsLiberties turn q.plies s cells known
-    → many ≡ outlasts (is_attack q.kind) q.plies q.wide (liberties s cells q.target)
+    → many ≡ outlasts q.tree (is_attack q.kind) q.plies q.wide (liberties s cells q.target)
 many_at q s cells {turn} first many tells =
     many ∙ tells.many
-    ∙ ap (λ (t : Turn). outlasts t.attacker_to_play q.plies t.wide (liberties s cells t.target)) first
+    ∙ ap (λ (t : Turn). outlasts t.tree t.attacker_to_play q.plies t.wide (liberties s cells t.target)) first
 
 -- the looks for the liberties lie in the active area
 found_near : (g : Over) (c : After-liberties_within-known g) → OnEachAgreeing g.L.Look.seen c.args.board.now
@@ -73,7 +73,7 @@ returns-then-has_too_many-clause-answers g c = record {
       c.unread.ensures ∙ ap (λ (t : Turn). unread t.attacker_to_play) c.first_turn-turn.ensures
       ∙ unread_answer q here some about
       (on_after _ (g.met.L.Look.sized c.args.board.now.look) a0 c.args.board.now.moves c.requires.target)
-      (ap (λ s. outlasts (is_attack q.kind) q.plies q.wide (liberties s here.cells q.target))
+      (ap (λ s. outlasts q.tree (is_attack q.kind) q.plies q.wide (liberties s here.cells q.target))
       (size-after pos c.args.board.now.moves) ∙ many);
   near = found_near g (goal.at.returns-then-has_too_many-clause-answers g c).After-liberties_within-known;
 }
@@ -122,6 +122,7 @@ read_known-requires g c = record {
       (sym c.has_too_many.ensures ∙ c.if-has_too_many.false)
       ∙ ap (λ (t : Turn). liberty_points pos.size (after pos c.args.board.now.moves).cells t.target)
       c.first_turn-turn.ensures);
-  few = sym (c.has_too_many.ensures ∙ ap (λ (t : Turn). outlasts t.attacker_to_play c.args.question.now.plies t.wide
+  few = sym (c.has_too_many.ensures
+      ∙ ap (λ (t : Turn). outlasts t.tree t.attacker_to_play c.args.question.now.plies t.wide
       (set.len c.liberties_within-known.result)) c.first_turn-turn.ensures) ∙ c.if-has_too_many.false;
 }

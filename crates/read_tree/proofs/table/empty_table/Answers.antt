@@ -7,9 +7,9 @@ use Rattle.read_tree.proofs.table.empty_table.Goals as goal
 
 -- of each node nothing is known
 pub returns : goal.returns
-returns c = λ seen target defender.
-    subst (λ (table : List Entry). IsTrueTable seen target defender table) (sym c.filled_with.ensures)
+returns c = λ seen tree target defender.
+    subst (λ (table : List Entry). IsTrueTable seen tree target defender table) (sym c.filled_with.ensures)
     (record {
-      all = All-replicate (λ (e : Entry). IsTrueOf seen target defender e.node e.verdict) 1024 _
-          (c.nothing.ensures seen target defender _);
+      all = All-replicate (λ (e : Entry). IsTrueOf seen tree target defender e.node e.verdict) 1024 _
+          (c.nothing.ensures seen tree target defender _);
     })

@@ -10,10 +10,9 @@ use Rattle.std.proofs.lemmas.Bool.{and_parts, lt-ltb, le-ltb}
 use Rattle.go_rules.specs.Strings.{is_liberty}
 use Rattle.go_base.specs.Facts.{Agrees}
 use Rattle.read_rules.specs.Bound.{outlasts}
-use Rattle.read_tree.specs.Stages.{is_other}
+use Rattle.read_tree.specs.Stages.{is_candidate_on, is_other}
 use Rattle.trial_board.specs.Trials.{after}
 use Rattle.trial_board.proofs.AfterLemmas.{size-after}
-use Rattle.read_rules.specs.Candidates.{is_candidate}
 use Rattle.read_rules.specs.ActiveArea.{by_play, InActiveArea}
 use Rattle.read_tree.specs.declared.table.AttackerNode.{AttackerNode}
 use Rattle.read_tree.specs.Allowances.{under, next_turn, own_ko, neither_may, has_some, without}
@@ -215,7 +214,7 @@ some_of-loop-p-init g t c = record {
 -- the choice of a point and the reading of its play look at the active area alone
 tried_near : (g : Over) (t : ℕ) (c : some_of-After-succeeds-good g t) → LooksNearWhere g.L.Look.seen c.args.board.now
     c.succeeds-good.new.board (suc c.args.plies) c.args.turn c.args.asked (λ here. (p : ℕ)
-    → set.contains c.args.points.now p ≡ true → is_candidate here c.args.turn.target c.args.turn.wide p ≡ true)
+    → set.contains c.args.points.now p ≡ true → is_candidate_on c.args.turn here p ≡ true)
 tried_near g t c = λ pos a q root tree und its.
     let i = c.loop-p.invariant in
     let chosen = c.next_to_try.ensures.stays in
@@ -311,7 +310,7 @@ some_other-some_of-good-requires g t c κs within =
     (g.met.L.Look.holds c.captures_of-captures.new.board.look) in
     let inside : (p : ℕ) → set.contains c.captures_of-captures.result p ≡ true
     → IsPointOf g.L.Look.shows c.captures_of-captures.new.board p =
-    λ p h. point_after stays p (candidate_inside shown c.args.board.now.moves c.args.turn.target c.args.turn.wide p
+    λ p h. point_after stays p (candidate_inside (under c.args.turn neither_may) shown c.args.board.now.moves p
     (capture_is_candidate c.args.turn (after shown c.args.board.now.moves) p
     (sym (c.captures_of-captures.ensures.over shown agrees p) ∙ h))) in
     search rules
@@ -338,7 +337,7 @@ some_other-some_of-rest-requires g t c κs within =
     (g.met.L.Look.holds c.others_of-others.new.board.look) in
     let inside : (p : ℕ) → set.contains c.others_of-others.result p ≡ true
     → IsPointOf g.L.Look.shows c.others_of-others.new.board p =
-    λ p h. point_after stays p (candidate_inside shown c.args.board.now.moves c.args.turn.target c.args.turn.wide p
+    λ p h. point_after stays p (candidate_inside (under c.args.turn neither_may) shown c.args.board.now.moves p
     (other_is_candidate c.args.turn (after shown c.args.board.now.moves) p
     (lt-ltb 0 c.args.turn.wide (omega (arith, c.if-turn-eq0.false)))
     (sym (rw before.moves at (others.over shown agrees p)) ∙ h))) in
@@ -350,13 +349,13 @@ some_other-returns-then-leaves_too_many-clause-over g t c = λ pos a.
     let here = after pos c.args.board.now.moves in
     let turn = c.args.turn in
     let inside = on_after _ (g.met.L.Look.sized c.args.board.now.look) a c.args.board.now.moves c.requires.target in
-    let both = and_parts turn.attacker_to_play (outlasts false c.args.plies (turn.wide - 1) c.count.result)
+    let both = and_parts turn.attacker_to_play (outlasts turn.tree false c.args.plies (turn.wide - 1) c.count.result)
     (sym c.leaves_too_many.ensures ∙ c.if-leaves_too_many.true) in
     let counted = c.count.ensures.value ∙ its_count pos.size here turn.target c.args.known.now
     (size-after pos c.args.board.now.moves) (c.requires.liberties pos a) in
     rw c.none.ensures (by_none c.args.plies turn here (is_off_liberties turn here) c.args.asked
     (none_other c.args.plies turn here inside both.0
-    (ap (λ n. outlasts false c.args.plies (turn.wide - 1) n) (sym counted) ∙ both.1)))
+    (ap (λ n. outlasts turn.tree false c.args.plies (turn.wide - 1) n) (sym counted) ∙ both.1)))
 
 -- no wide ply is left: the captures were all
 pub some_other-returns-then-turn-eq0-clause-over : goal.some_other-returns-then-turn-eq0-clause-over
@@ -418,7 +417,7 @@ some_other-returns-clause-over g t c = λ pos a.
     (rw c.captures_of-captures.ensures.stays.moves at (c.some_of-good.ensures.over pos a2))
     (set.contains c.others_of-others.result) c.some_of-rest.result
     (λ q. off_by_stages turn here q (lt-ltb 0 turn.wide (omega (arith, c.if-turn-eq0.false)))
-    ∙ ap (λ b. b || is_other here turn.target q) (sym (c.captures_of-captures.ensures.over pos a1 q))
+    ∙ ap (λ b. b || is_other turn here q) (sym (c.captures_of-captures.ensures.over pos a1 q))
     ∙ ap (λ b. set.contains c.captures_of-captures.result q || b)
     (sym (rw before at (c.others_of-others.ensures.over pos a3 q))))
     (rw (moves, c.without-missing.ensures) at (c.some_of-rest.ensures.over pos a)))
@@ -511,7 +510,7 @@ some_success-returns-then-not-has_some-clause-near g t c = λ pos a q root tree 
     let its = its_liberty pos.size here c.args.turn.target c.args.known.now (size-after pos c.args.board.now.moves)
     (c.requires.liberties pos a0) in
     c.some_of-good.ensures.near pos a q root tree und
-    (λ p h. liberty_is_candidate here c.args.turn.target c.args.turn.wide p (sym (its p) ∙ h))
+    (λ p h. liberty_is_candidate c.args.turn here p (sym (its p) ∙ h))
 
 -- what they left is asked of the others
 pub some_success-returns-clause-over : goal.some_success-returns-clause-over
@@ -541,7 +540,7 @@ some_success-returns-clause-near g t c = λ pos a q root tree und.
     let its = its_liberty pos.size here c.args.turn.target c.args.known.now (size-after pos c.args.board.now.moves)
     (c.requires.liberties pos a0) in
     AddsNear-trans (c.some_of-good.ensures.near pos a1 q root tree und
-    (λ p h. liberty_is_candidate here c.args.turn.target c.args.turn.wide p (sym (its p) ∙ h)))
+    (λ p h. liberty_is_candidate c.args.turn here p (sym (its p) ∙ h)))
     ((rw c.some_of-good.ensures.stays.moves at (c.some_other-rest.ensures.near pos a q root))
     (left_nodes c.some_of-good.result tree c.without-missing.ensures) und)
 
@@ -550,7 +549,8 @@ pub has_good_move-returns-then-turn-clause-over : goal.has_good_move-returns-the
 has_good_move-returns-then-turn-clause-over g t c = λ pos a und.
     let here = after pos c.args.board.now.moves in
     Tells-same (c.some_by_table.ensures.over pos a)
-    (λ ko. good_attacker c.args.turn.attacker_to_play (has_many_liberties here c.args.turn.target c.args.turn.wide) _
+    (λ ko. good_attacker c.args.turn.attacker_to_play (has_many_liberties c.args.turn.tree here c.args.turn.target
+    c.args.turn.wide) _
     (first_success c.args.plies (under c.args.turn ko) here) c.if-turn.true ((und ko).few c.if-turn.true))
 
 -- what is known is on the board
@@ -572,7 +572,7 @@ has_good_move-returns-then-escapes-clause-over g t c = λ pos a und.
     let way = c.escapes.ensures.over pos a c.if-escapes.true in
     Tells-all c.args.asked _ (λ ko. good_by_success c.args.plies turn here ko c.if-turn.false
     (success_some c.args.plies (under turn ko) here way.l
-    (liberty_is_candidate here turn.target turn.wide way.l (sym (its way.l) ∙ way.there))
+    (liberty_is_candidate turn here way.l (sym (its way.l) ∙ way.there))
     (escape_succeeds c.args.plies turn here c.args.known.now
     (whole_after pos c.args.board.now.moves a.sound.cells) inside c.if-turn.false its way ko)))
 
@@ -808,7 +808,7 @@ some_by_table-returns-then-not-has_some-clause-over g t c = λ pos a.
     let seen = g.L.Look.seen c.args.board.now.look in
     told_before turn (record { changes = c.in-Some.changes; plies = c.args.plies; wide = turn.wide })
     c.find-before.result c.args.asked c.without-missing.result c.both.result pos (after pos c.args.board.now.moves)
-    (c.find-before.ensures seen turn.target turn.defender c.requires.ready.table) a c.requires.attacker refl
+    (c.find-before.ensures seen turn.tree turn.target turn.defender c.requires.ready.table) a c.requires.attacker refl
     (c.in-Some.ensures.over pos a) c.without-missing.ensures (sym c.has_some.ensures ∙ c.if-not-has_some.true)
     c.both.ensures
 
@@ -820,11 +820,11 @@ some_by_table-returns-clause-table g t c =
     let node : AttackerNode = record { changes = c.in-Some.changes; plies = c.args.plies; wide = turn.wide } in
     let kept = read_true turn node c.find-before.result c.with-verdict.result c.args.asked c.without-missing.result
     c.some_success-good.result c.args.board.now.moves
-    (c.find-before.ensures seen turn.target turn.defender c.requires.ready.table)
+    (c.find-before.ensures seen turn.tree turn.target turn.defender c.requires.ready.table)
     c.some_success-good.ensures.stays.grows
     c.requires.attacker refl c.in-Some.ensures.over c.some_success-good.ensures.over c.without-missing.ensures
     c.with-verdict.ensures in
-    c.keep.ensures (g.L.Look.seen c.some_success-good.new.board.look) turn.target turn.defender
+    c.keep.ensures (g.L.Look.seen c.some_success-good.new.board.look) turn.tree turn.target turn.defender
     c.some_success-good.ensures.table kept
 
 -- and told with what was known
@@ -835,7 +835,7 @@ some_by_table-returns-clause-over g t c = λ pos a.
     let node : AttackerNode = record { changes = c.in-Some.changes; plies = c.args.plies; wide = turn.wide } in
     let kept = read_true turn node c.find-before.result c.with-verdict.result c.args.asked c.without-missing.result
     c.some_success-good.result c.args.board.now.moves
-    (c.find-before.ensures seen turn.target turn.defender c.requires.ready.table)
+    (c.find-before.ensures seen turn.tree turn.target turn.defender c.requires.ready.table)
     c.some_success-good.ensures.stays.grows
     c.requires.attacker refl c.in-Some.ensures.over c.some_success-good.ensures.over c.without-missing.ensures
     c.with-verdict.ensures in

@@ -6,9 +6,9 @@ use Rattle.go_rules.specs.Position.{BoardState}
 use Rattle.go_base.specs.Facts.{Agrees, Grows}
 use Rattle.trial_board.specs.Trials.{Stays, after}
 use Rattle.read_rules.specs.declared.question.ReadingQuestion.{ReadingQuestion}
-use Rattle.read_rules.specs.Candidates.{is_candidate}
 use Rattle.read_rules.specs.ActiveArea.{IsUndecided, InActiveArea, AddsNear}
 use Rattle.read_tree.specs.Allowances.{Ko, has_some, under}
+use Rattle.read_tree.specs.Stages.{is_candidate_on}
 use Rattle.read_tree.specs.Steps.{AreNodesOf, IsLeft}
 use Rattle.read_tree.specs.Table.{IsTrueTable}
 use Rattle.read_tree.proofs.tree.+read.Given as goal
@@ -55,12 +55,12 @@ invariant-some_of-loop-p g l = record {
   stays : Stays g.L.Look.shows g.L.Look.seen l.fn.board l.board;
   grows : Grows (g.L.Look.seen l.initial.board.look) (g.L.Look.seen l.board.look);
   some : has_some l.missing ≡ true;
-  table : IsTrueTable (g.L.Look.seen l.board.look) l.turn.target l.turn.defender l.memory.table.now;
+  table : IsTrueTable (g.L.Look.seen l.board.look) l.turn.tree l.turn.target l.turn.defender l.memory.table.now;
   near : (pos : BoardState) → Agrees (g.L.Look.seen l.board.look) pos → (q : ReadingQuestion) (root : BoardState)
       → AreNodesOf q root (suc l.plies) l.turn l.asked (after pos l.fn.board.moves)
       → ((ko : Ko) → IsUndecided (under l.turn ko) (after pos l.fn.board.moves))
       → ((p : ℕ) → set.contains l.points p ≡ true
-      → is_candidate (after pos l.fn.board.moves) l.turn.target l.turn.wide p ≡ true)
+      → is_candidate_on l.turn (after pos l.fn.board.moves) p ≡ true)
       → AddsNear (g.L.Look.seen l.fn.board.look) (g.L.Look.seen l.board.look) (InActiveArea q root);
   left : (pos : BoardState) → Agrees (g.L.Look.seen l.board.look) pos
       → IsLeft l.plies l.turn (after pos l.fn.board.moves) (set.contains l.points) (set.contains l.tried) l.asked

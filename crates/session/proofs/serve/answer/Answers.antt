@@ -5,9 +5,9 @@ use Rattle.run_notes.specs.declared.notes.Sent.{Sent}
 use Rattle.machine_rules.specs.Heard.{heard}
 use Rattle.machine_rules.specs.Machine.{Machine}
 use Rattle.engine.specs.AfterLine.{IsAfterLine}
-use Rattle.engine.specs.AnsweredLines.{AnswersLine}
+use Rattle.engine.specs.LineAnswers.{AnswersLine}
 use Rattle.engine.specs.Kept.{Kept, machine_of}
-use Rattle.engine.specs.SessionSteps.{kept_of}
+use Rattle.engine.specs.SessionView.{kept_of}
 use Rattle.engine.proofs.LineAnswers.{if_err_map}
 use Rattle.session.specs.Waiting.{WaitingState, none_wait, Stop, IsStop}
 use Rattle.session.proofs.ReplyBytes.{turn-sent, turn-stops, turn-stop}

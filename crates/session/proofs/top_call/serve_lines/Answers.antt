@@ -1,7 +1,8 @@
 -- Generated lines were served in place of the source, which is as it was.
 use Rattle.std.proofs.Common.{ap, subst}
 use Rattle.std.specs.Prelude.{MatchOption}
-use Rattle.go_options.specs.Found.{IsFrom}
+use Rattle.go_options.specs.Found.{IsIn}
+use Rattle.go_options.specs.NumberOptions.{generate_option}
 use Rattle.workload.specs.Remaining.{WorkloadState}
 use Rattle.session.proofs.RunPhases.{ends-generated, uncaused}
 use Rattle.session.proofs.top_call.serve_lines.Goals as goal
@@ -10,7 +11,7 @@ use Rattle.session.proofs.top_call.serve_lines.Goals as goal
 pub returns-in-Some-clause-serves : goal.returns-in-Some-clause-serves
 returns-in-Some-clause-serves g c =
     ends-generated c.in-Some.n _ _ _ _ _ _ _ _ _ _ _ _ _ c.new.result.left _ _ _ _ _ _ _ _ c.args.generate c.in-Some.is
-    (subst (λ o. MatchOption o (Unit {0}) (IsFrom 1 100000)) c.in-Some.is c.requires.few).1
+    (subst (λ o. MatchOption o (Unit {0}) (IsIn generate_option)) c.in-Some.is c.requires.few).1
     (ap (λ (w : WorkloadState). w.left) c.new.ensures) c.serve.ensures.serves
 
 -- serving generated lines tells no fault of the input, whose count of faults stays

@@ -4,7 +4,7 @@ use Rattle.std.proofs.lemmas.Bool.{cases_eq}
 use Rattle.go_rules.specs.Position.{BoardState}
 use Rattle.read_rules.specs.GameTree.{succeeds}
 use Rattle.read_rules.proofs.WinLemmas.{none_before, first_success-found}
-use Rattle.read_tree.specs.Allowances.{under}
+use Rattle.read_tree.specs.Allowances.{neither_may, under}
 use Rattle.read_tree.proofs.TableLemmas.{table_more}
 use Rattle.write_proof.specs.Printed.{position_on}
 use Rattle.write_proof.proofs.WriteLemmas.{here_stays}
@@ -26,8 +26,8 @@ plays-init g c = record {
 pub play_told-requires : goal.play_told-requires
 play_told-requires g c =
     let i = c.plays.invariant in
-    let on = point_after i.stays c.in-Some.p (candidate_inside (g.L.Look.shows c.args.board.now.look)
-    c.args.board.now.moves c.args.turn.target c.args.turn.wide c.in-Some.p
+    let on = point_after i.stays c.in-Some.p (candidate_inside (under c.args.turn neither_may)
+    (g.L.Look.shows c.args.board.now.look) c.args.board.now.moves c.in-Some.p
     (sym (c.candidates-candidates.ensures.answer c.in-Some.p) ∙ c.in-Some.ensures.some.2)) in
     let target = point_after i.stays c.args.turn.target c.requires.target in
     let liberties = liberties_after i.stays c.args.turn.target c.args.known.now c.requires.liberties in
@@ -74,8 +74,8 @@ returns-in-Always-clause-first g c = λ ko asked.
 -- and is on the board
 pub returns-in-Always-clause-on_board : goal.returns-in-Always-clause-on_board
 returns-in-Always-clause-on_board g c =
-    candidate_inside (g.L.Look.shows c.args.board.now.look) c.args.board.now.moves c.args.turn.target
-    c.args.turn.wide c.in-Some.p (sym (c.candidates-candidates.ensures.answer c.in-Some.p)
+    candidate_inside (under c.args.turn neither_may) (g.L.Look.shows c.args.board.now.look)
+    c.args.board.now.moves c.in-Some.p (sym (c.candidates-candidates.ensures.answer c.in-Some.p)
     ∙ c.in-Some.ensures.some.2)
 
 -- of one allowance it is not told that it differs

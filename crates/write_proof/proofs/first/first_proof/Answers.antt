@@ -1,7 +1,7 @@
 use Rattle.std.proofs.Common.{◌≡◌, ◌∙◌, ℕ, drop, ap, sym, subst}
 use Rattle.go_rules.specs.Position.{BoardState}
 use Rattle.read_rules.specs.declared.question.ReadingQuestion.{ReadingQuestion}
-use Rattle.read_rules.specs.Answer.{answer_of, asked_on}
+use Rattle.read_rules.specs.Answer.{answer_of, asked_in}
 use Rattle.read_rules.proofs.RuleLemmas.{code-answer_of}
 use Rattle.read_proof.specs.ProofOf.{codes_down_to, IsProofOf}
 use Rattle.read_proof.specs.FirstProof.{first_words_of, first_text}
@@ -29,20 +29,22 @@ pub returns-in-Ok-clause-text : goal.returns-in-Ok-clause-text
 returns-in-Ok-clause-text c =
     c.in-Ok.ensures ∙ ap (drop 1) c.in_ok-words.ensures.0
     ∙ text_of c.question_on-question.result
-    (asked_on c.args.pos.now c.args.of c.args.target c.args.depths.plies c.args.depths.wide) c.args.pos.now
+    (asked_in c.args.depths.tree c.args.pos.now c.args.of c.args.target c.args.depths.plies c.args.depths.wide)
+    c.args.pos.now
     c.code_of-code.result c.question_on-question.ensures c.code_of-code.ensures.value
 
 -- so it is a proof of the code
 pub returns-in-Ok-clause-accepted : goal.returns-in-Ok-clause-accepted
 returns-in-Ok-clause-accepted c =
     let pos = c.args.pos.now in
-    let q = asked_on pos c.args.of c.args.target c.args.depths.plies c.args.depths.wide in
+    let q = asked_in c.args.depths.tree pos c.args.of c.args.target c.args.depths.plies c.args.depths.wide in
     let here = c.size.ensures.position in
     subst (λ k. IsProofOf q pos k c.in-Ok.text) (sym c.code_of-code.ensures.value)
     (subst (λ t. IsProofOf q pos (answer_of q pos).code t) (sym (returns-in-Ok-clause-text c))
     (first_text_proves q pos (record { at_least = here.size_at_least; at_most = here.size_at_most })
     c.requires.on_board
-    (about_asked pos c.args.of c.args.target c.args.depths.plies c.args.depths.wide c.requires.stone)))
+    (about_asked c.args.depths.tree pos c.args.of c.args.target c.args.depths.plies c.args.depths.wide
+    c.requires.stone)))
 
 -- it is short
 pub returns-in-Ok-clause-short : goal.returns-in-Ok-clause-short
@@ -56,7 +58,8 @@ returns-in-Ok-clause-too_long c =
     (codes_down_to c.code_of-code.result)) in
     short_text words _ (some_text c.question_on-question.result c.args.pos.now c.code_of-code.result)
     (text_of c.question_on-question.result
-    (asked_on c.args.pos.now c.args.of c.args.target c.args.depths.plies c.args.depths.wide) c.args.pos.now
+    (asked_in c.args.depths.tree c.args.pos.now c.args.of c.args.target c.args.depths.plies c.args.depths.wide)
+    c.args.pos.now
     c.code_of-code.result c.question_on-question.ensures c.code_of-code.ensures.value) _
     (rw c.in_ok-words.ensures.0 at c.in_ok-words.ensures.1)
 
@@ -67,6 +70,7 @@ returns-in_err-words-clause-too_long c =
     (codes_down_to c.code_of-code.result)) in
     long_text words _ (some_text c.question_on-question.result c.args.pos.now c.code_of-code.result)
     (text_of c.question_on-question.result
-    (asked_on c.args.pos.now c.args.of c.args.target c.args.depths.plies c.args.depths.wide) c.args.pos.now
+    (asked_in c.args.depths.tree c.args.pos.now c.args.of c.args.target c.args.depths.plies c.args.depths.wide)
+    c.args.pos.now
     c.code_of-code.result c.question_on-question.ensures c.code_of-code.ensures.value) c.in_err-words.field-0.0
     c.from_residual.result c.from_residual.ensures.1 c.in_err-words.ensures

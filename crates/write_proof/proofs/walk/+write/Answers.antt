@@ -10,12 +10,12 @@ use Rattle.go_rules.specs.Play.{pass}
 use Rattle.trial_board.specs.Trials.{after}
 use Rattle.trial_board.proofs.AfterLemmas.{size-after}
 use Rattle.read_rules.specs.declared.node.Node.{Node}
-use Rattle.read_rules.specs.Candidates.{is_candidate}
+use Rattle.read_tree.specs.Stages.{is_candidate_on}
 use Rattle.read_rules.specs.declared.question.Spot.{Spot}
 use Rattle.read_rules.specs.declared.question.Spot.TheVariants.{At, Pass}
 use Rattle.read_rules.specs.GameTree.{child_of, first_move}
 use Rattle.read_rules.specs.GoodMoves.{IsOnBoard}
-use Rattle.read_rules.proofs.CandidateLaws.{candidate_on}
+use Rattle.read_rules.proofs.CandidateLaws.{candidate_at_on}
 use Rattle.read_tree.specs.Allowances.{Ko, neither_may, under, next_turn}
 use Rattle.read_tree.proofs.AllowanceLemmas.{next_keeps}
 use Rattle.read_tree.proofs.TableLemmas.{table_more}
@@ -120,7 +120,7 @@ write_plays-plays-init g t c =
       stays = c.candidates-candidates.ensures.stays;
       table = table_more c.requires.table c.candidates-candidates.ensures.stays.grows;
       text = λ ko asked. all_left (first_words c.args.plies c.args.won) (child_of (under c.args.turn ko) here)
-          (is_candidate here c.args.turn.target c.args.turn.wide) (here.size * here.size) c.args.out.now;
+          (is_candidate_on c.args.turn here) (here.size * here.size) c.args.out.now;
       bytes = c.requires.bytes;
     }
 
@@ -128,8 +128,8 @@ write_plays-plays-init g t c =
 pub write_plays-write_play-requires : goal.write_plays-write_play-requires
 write_plays-write_play-requires g t c κs within =
     let i = c.plays.invariant in
-    let on = point_after i.stays c.in-Some.p (candidate_inside (g.L.Look.shows c.args.board.now.look)
-    c.args.board.now.moves c.args.turn.target c.args.turn.wide c.in-Some.p
+    let on = point_after i.stays c.in-Some.p (candidate_inside (under c.args.turn neither_may)
+    (g.L.Look.shows c.args.board.now.look) c.args.board.now.moves c.in-Some.p
     (sym (c.candidates-candidates.ensures.answer c.in-Some.p) ∙ c.in-Some.ensures.some.2)) in
     let target = point_after i.stays c.args.turn.target c.requires.target in
     search rules
@@ -143,12 +143,12 @@ write_plays-returns-in_err-alike-clause-puts g t c = λ same ko asked.
     let found = c.in-Some.ensures.some in
     let play = behind_blanks (write_each write (option_to_list (child_of node here c.in-Some.p))) in
     let rest = behind_blanks (write_each write (filter_map (child_of node here)
-    (filter (is_candidate here c.args.turn.target c.args.turn.wide)
+    (filter (is_candidate_on c.args.turn here)
     (range_with_len (c.in-Some.p + 1) (here.size * here.size - (c.in-Some.p + 1)))))) in
     puts_same c.plays.out c.args.out.now c.write_play.new.out (play ++ rest) _ c.from_residual.result
     (sym (ap (λ m. c.plays.out ++ m) (walk_words write (child_of node here)
-    (is_candidate here c.args.turn.target c.args.turn.wide) (here.size * here.size) c.plays.from c.in-Some.p found.0
-    (candidate_on here c.args.turn.target c.args.turn.wide c.in-Some.p
+    (is_candidate_on c.args.turn here) (here.size * here.size) c.plays.from c.in-Some.p found.0
+    (candidate_at_on (under c.args.turn neither_may) here c.in-Some.p
     (sym (c.candidates-candidates.ensures.answer c.in-Some.p) ∙ found.2))
     (sym (c.candidates-candidates.ensures.answer c.in-Some.p) ∙ found.2)
     (λ k lo hi. sym (c.candidates-candidates.ensures.answer k) ∙ found.3 k lo hi)))
@@ -185,7 +185,7 @@ write_plays-plays-preserved g t c =
           let node = under c.args.turn ko in
           let play = behind_blanks (write_each write (option_to_list (child_of node here c.in-Some.p))) in
           let rest = behind_blanks (write_each write (filter_map (child_of node here)
-          (filter (is_candidate here c.args.turn.target c.args.turn.wide)
+          (filter (is_candidate_on c.args.turn here)
           (range_with_len (c.in-Some.p + 1) (here.size * here.size - (c.in-Some.p + 1)))))) in
           let put = subst (λ (p : BoardState). c.write_play.new.out ≡ c.plays.out ++ behind_blanks (write_each write
           (option_to_list (child_of node p c.in-Some.p))))
@@ -193,8 +193,8 @@ write_plays-plays-preserved g t c =
           ap (λ m. m ++ rest) put
           ∙ append_assoc c.plays.out play rest
           ∙ sym (ap (λ m. c.plays.out ++ m) (walk_words write (child_of node here)
-          (is_candidate here c.args.turn.target c.args.turn.wide) (here.size * here.size) c.plays.from c.in-Some.p
-          found.0 (candidate_on here c.args.turn.target c.args.turn.wide c.in-Some.p
+          (is_candidate_on c.args.turn here) (here.size * here.size) c.plays.from c.in-Some.p
+          found.0 (candidate_at_on (under c.args.turn neither_may) here c.in-Some.p
           (sym (c.candidates-candidates.ensures.answer c.in-Some.p) ∙ found.2))
           (sym (c.candidates-candidates.ensures.answer c.in-Some.p) ∙ found.2)
           (λ k lo hi. sym (c.candidates-candidates.ensures.answer k) ∙ found.3 k lo hi)))
@@ -207,7 +207,7 @@ pub write_plays-returns-clause-puts : goal.write_plays-returns-clause-puts
 write_plays-returns-clause-puts g t c = λ same ko asked.
     let here = position_on g.L.Look.shows c.args.board.now in (
       walk_written (first_words c.args.plies c.args.won) (child_of (under c.args.turn ko) here)
-          (is_candidate here c.args.turn.target c.args.turn.wide) (here.size * here.size - c.plays.from) c.plays.from
+          (is_candidate_on c.args.turn here) (here.size * here.size - c.plays.from) c.plays.from
           c.plays.out _ (λ k lo. sym (c.candidates-candidates.ensures.answer k) ∙ c.in_default.ensures.none k lo)
           (c.plays.invariant.text ko asked),
       c.plays.invariant.bytes,

@@ -1,6 +1,6 @@
 -- The automaton's numbers are those of the session's patterns.
 use Rattle.std.proofs.Common.{sym, subst}
-use Rattle.engine.specs.SessionState.{NumbersPatterns}
+use Rattle.engine.specs.EngineView.{NumbersPatterns}
 use Rattle.engine.proofs.engine.Engine.chosen_point.Goals as goal
 
 -- each number that the session's automaton accepts is that of one of its patterns

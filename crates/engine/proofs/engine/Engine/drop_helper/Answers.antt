@@ -1,11 +1,11 @@
 -- No helper has the name, and none is taken out.
 use Rattle.std.proofs.Common.{◌≡◌, false, [], is_some, sym, ap, ◌∙◌}
 use Rattle.helpers.specs.Slots.{states_of}
-use Rattle.helpers.specs.Asking.{SlotState, named, after_remove}
+use Rattle.helpers.specs.HelperStates.{SlotState, named, after_remove}
 use Rattle.machine_rules.specs.Effects.{told}
 use Rattle.machine_rules.specs.Heard.{word_at}
 use Rattle.machine_rules.specs.HelperCommands.{with_helpers}
-use Rattle.engine.specs.SessionState.{machine_with}
+use Rattle.engine.specs.EngineView.{machine_with}
 use Rattle.engine.proofs.HelperAnswers.{remove-none, nothing-there, not-there}
 use Rattle.engine.proofs.engine.Engine.drop_helper.Goals as goal
 

@@ -3,14 +3,14 @@ use Rattle.std.proofs.Common.{ℕ, List, ◌≡◌, ap, subst, ◌∙◌, rules}
 use Rattle.gtp_cmd.specs.Commands.{parsed_of}
 use Rattle.gtp_cmd.specs.Within.{SaysWithin}
 use Rattle.gtp_cmd.specs.declared.commands.Parsed.{Parsed}
-use Rattle.engine.specs.SessionState.{SessionState}
+use Rattle.engine.specs.EngineView.{EngineView}
 use Rattle.engine.proofs.engine.Engine.heard.Goals as goal
 
 -- what was parsed is what the line says to a machine of this size
-said_at : (parsed : Parsed) (text : List ℕ) (s : ℕ) (old now : SessionState) → parsed ≡ parsed_of text s
+said_at : (parsed : Parsed) (text : List ℕ) (s : ℕ) (old now : EngineView) → parsed ≡ parsed_of text s
     → s ≡ old.base.size → old ≡ now → parsed ≡ parsed_of text now.base.size
 said_at parsed text s old now said size same =
-    said ∙ ap (λ k. parsed_of text k) (size ∙ ap (λ (m : SessionState). m.base.size) same)
+    said ∙ ap (λ k. parsed_of text k) (size ∙ ap (λ (m : EngineView). m.base.size) same)
 
 -- a line says what was parsed
 pub returns-in-Line-clause-said : goal.returns-in-Line-clause-said
@@ -22,5 +22,5 @@ returns-in-Line-clause-said c = λ helpers.
 -- the points that a line names are on the board
 pub returns-in-Line-clause-within : goal.returns-in-Line-clause-within
 returns-in-Line-clause-within c =
-    let size = c.size-size.ensures ∙ ap (λ (m : SessionState). m.base.size) c.self.view_is in
+    let size = c.size-size.ensures ∙ ap (λ (m : EngineView). m.base.size) c.self.view_is in
     subst (λ s. SaysWithin s c.parse.result) size c.parse.ensures.within

@@ -1,9 +1,9 @@
 -- The automaton's numbers are those of the session's patterns.
 use Rattle.std.proofs.Common.{◌≡◌, sym, ap, subst, ◌∙◌}
-use Rattle.engine.specs.SessionState.{SessionState, NumbersPatterns}
+use Rattle.engine.specs.EngineView.{EngineView, NumbersPatterns}
 use Rattle.helpers.specs.Slots.{states_of}
 use Rattle.machine_rules.specs.MatchingCommands.{matches_listed}
-use Rattle.engine.specs.SessionState.{machine_with, matcher_of}
+use Rattle.engine.specs.EngineView.{machine_with, matcher_of}
 use Rattle.engine.proofs.StoneAnswers.{depths-kept}
 use Rattle.engine.proofs.ListedMatches.{listed-told, listed-excused}
 use Rattle.engine.proofs.engine.Engine.list_matches.Goals as goal
@@ -20,7 +20,7 @@ returns-clause-answer g c =
     let inside = c.self.inside in
     let old = c.args.self.now in
     let readings = c.matches_text.new.readings in
-    let new : SessionState = record {
+    let new : EngineView = record {
       base = inside.history.base;
       moves = inside.history.moves;
       komi = inside.komi;
@@ -43,10 +43,10 @@ returns-clause-answer g c =
     let keeps : machine_with after new ≡ machine_with after old =
     depths-kept _ _ _ c.matches_text.ensures.depths.plies c.matches_text.ensures.depths.wide
     ∙ ap (machine_with after) view in
-    let patterns = c.deref.ensures.value ∙ ap (λ (k : SessionState). k.patterns) view in
-    let rows = ap (λ (k : SessionState). k.automaton) view in
-    let plies = ap (λ (k : SessionState). k.plies) view in
-    let wide = ap (λ (k : SessionState). k.wide) view in
+    let patterns = c.deref.ensures.value ∙ ap (λ (k : EngineView). k.patterns) view in
+    let rows = ap (λ (k : EngineView). k.automaton) view in
+    let plies = ap (λ (k : EngineView). k.plies) view in
+    let wide = ap (λ (k : EngineView). k.wide) view in
     let board = c.position-position.ensures.value in
     c.grown.ensures.changes (matches_listed (matcher_of old) (machine_with before old) c.args.friend)
     (machine_with after new)

@@ -7,7 +7,7 @@ use Rattle.machine_rules.specs.Loads.{named_load}
 use Rattle.machine_rules.specs.RecordCommands.{is_utf8}
 use Rattle.sgf_rules.specs.Game.{game_of}
 use Rattle.machine_rules.proofs.Soundness.{some_file}
-use Rattle.engine.specs.SessionState.{machine_with}
+use Rattle.engine.specs.EngineView.{machine_with}
 use Rattle.engine.proofs.RecordAnswers.{text-is_utf8, record-misses, given-file, miss-told}
 use Rattle.engine.proofs.RecordAnswers.{record-loaded, file-not-loaded}
 use Rattle.engine.proofs.engine.Engine.load_record.Goals as goal

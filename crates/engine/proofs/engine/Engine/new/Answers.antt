@@ -6,11 +6,11 @@ use Rattle.go_history.specs.Games.{Game, new_game}
 use Rattle.link_readings.specs.Connections.{ConnectionsView}
 use Rattle.match_engine.specs.Readings.{ReadingsView, first_readings}
 use Rattle.machine_rules.specs.Machine.{first_size}
-use Rattle.engine.specs.SessionState.{SessionState, first_kept, first_links, NumbersPatterns}
+use Rattle.engine.specs.EngineView.{EngineView, first_kept, first_links, NumbersPatterns}
 use Rattle.engine.proofs.engine.Engine.new.Goals as goal
 
 -- what is kept of this game, these readings, connections and patterns before a line was counted
-abbrev kept_of : List Pattern → Game → List ℕ → List Row → ReadingsView → ConnectionsView → SessionState
+abbrev kept_of : List Pattern → Game → List ℕ → List Row → ReadingsView → ConnectionsView → EngineView
 kept_of patterns game komi rows readings links = record {
   base = game.base;
   moves = game.moves;

@@ -1,7 +1,7 @@
 -- The answer says what the history answered.
 use Rattle.std.proofs.Common.{Err, ap, subst, ◌∙◌}
 use Rattle.machine_rules.specs.BoardCommands.{played}
-use Rattle.engine.specs.SessionState.{SessionState, machine_with}
+use Rattle.engine.specs.EngineView.{EngineView, machine_with}
 use Rattle.engine.specs.CommandAnswers.{IsAnswer}
 use Rattle.engine.proofs.MoveAnswers.{with_game, move_added, move_illegal, move_past_full, move_without_memory}
 use Rattle.engine.proofs.engine.Engine.play.Goals as goal
@@ -30,7 +30,7 @@ returns-clause-answer c = λ helpers.
       links = c.self.inside.links;
     }) in
     let new = c.play.new.self in
-    let family : SessionState → Type 0 = λ old. IsAnswer
+    let family : EngineView → Type 0 = λ old. IsAnswer
     (played (machine_with helpers old) c.args.m) c.match-play.result (with_game new kept) in
     subst family c.self.view_is (elim c.match-play.branch as
     (λ _. IsAnswer (played kept c.args.m) c.match-play.result (with_game new kept)) [

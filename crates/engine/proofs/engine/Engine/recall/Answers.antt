@@ -1,6 +1,6 @@
 -- An answer that was kept is one call of the readings, on the session's board, and was counted.
 use Rattle.std.proofs.Common.{◌≡◌, true, refl, ap, subst, ◌∙◌, rules}
-use Rattle.engine.specs.SessionState.{SessionState, machine_alone, machine_with}
+use Rattle.engine.specs.EngineView.{EngineView, machine_alone, machine_with}
 use Rattle.machine_rules.specs.Counting.{has_stone}
 use Rattle.engine.specs.AfterLine.{CountsRefused}
 use Rattle.machine_rules.specs.ReadingCommands.{answer_text, reading_of}
@@ -20,8 +20,8 @@ returns-clause-read c =
     let stone : has_stone (machine_alone old) c.args.p ≡ true = search rules in
     ReadsAs-once old new c.args.kind c.args.p c.position-position.result answer c.self.inside.readings
     found.new.self
-    board (ap (λ (k : SessionState). k.readings) view) (ap (λ (k : SessionState). k.plies) view)
-    (ap (λ (k : SessionState). k.wide) view) c.count_reading.ensures.kept c.in-Some.ensures.read c.size.ensures.position
+    board (ap (λ (k : EngineView). k.readings) view) (ap (λ (k : EngineView). k.plies) view)
+    (ap (λ (k : EngineView). k.wide) view) c.count_reading.ensures.kept c.in-Some.ensures.read c.size.ensures.position
     found.ensures.rest
     (subst CountsRefused view refl) c.count_reading.ensures.refused (search rules) (search rules) stone
 

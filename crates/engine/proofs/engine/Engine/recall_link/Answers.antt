@@ -1,12 +1,10 @@
 -- An answer that was kept is one call of the connections, on the session's board, and was counted.
 use Rattle.std.proofs.Common.{◌≡◌, true, refl, ap, subst, ◌∙◌, rules}
-use Rattle.go_rules.specs.Position.{BoardState}
 use Rattle.engine.specs.AskedLinks.{CountsFreshLinks}
-use Rattle.engine.specs.SessionState.{SessionState, machine_alone, machine_with}
+use Rattle.engine.specs.EngineView.{EngineView, machine_alone, machine_with}
 use Rattle.machine_rules.specs.Counting.{counted}
-use Rattle.machine_rules.specs.LinkCommands.{linkage_at, linkage_text}
 use Rattle.machine_rules.specs.LinkQuestions.{have_one_colour}
-use Rattle.engine.proofs.LineLinks.{LinksAs-once, linkage-here, told-linked}
+use Rattle.engine.proofs.LineLinks.{LinksAs-once, told-linked}
 use Rattle.engine.proofs.engine.Engine.recall_link.Goals as goal
 
 -- a question about two stones of one colour asks the connections once, on the session's position and at its plies
@@ -18,10 +16,10 @@ returns-clause-links c =
     let one : have_one_colour (machine_alone old) c.args.a c.args.b ≡ true = search rules in
     LinksAs-once old new c.args.kind c.args.a c.args.b one c.position-position.result c.in-Some-find_kept.linkage
     c.self.inside.links
-    c.find_kept.new.self c.position-position.ensures.value (ap (λ (k : SessionState). k.links) view)
-    (c.self.invariant.plies ∙ ap (λ (k : SessionState). k.plies) view) c.count_link.ensures.links
+    c.find_kept.new.self c.position-position.ensures.value (ap (λ (k : EngineView). k.links) view)
+    (c.self.invariant.plies ∙ ap (λ (k : EngineView). k.plies) view) c.count_link.ensures.links
     c.in-Some-find_kept.ensures.asked c.size.ensures.position c.find_kept.ensures.rest (c.count_link.ensures.connections
-    ∙ ap (λ (k : SessionState). counted k.counts.links.connections true) view)
+    ∙ ap (λ (k : EngineView). counted k.counts.links.connections true) view)
     (subst CountsFreshLinks view refl) c.count_link.ensures.fresh
 
 -- its answer is told
@@ -29,16 +27,10 @@ pub returns-clause-answer : goal.returns-clause-answer
 returns-clause-answer c = λ helpers.
     let old = c.args.self.now in
     let view = c.self.view_is in
-    let board = c.position-position.ensures.value in
     let one : have_one_colour (machine_alone old) c.args.a c.args.b ≡ true = search rules in
-    let size : c.size.result ≡ old.base.size =
-    c.size.ensures.value ∙ ap (λ (p : BoardState). p.size) board ∙ c.position-position.ensures.size in
-    let same = linkage-here old c.args.kind c.args.a c.args.b c.position-position.result c.self.inside.links.plies
-    c.in-Some-find_kept.linkage c.in-Some-find_kept.ensures.answer board
-    (c.self.invariant.plies ∙ ap (λ (k : SessionState). k.plies) view) in
-    let text : c.linkage_text.result ≡ linkage_text old.base.size (linkage_at (machine_alone old) c.args.kind c.args.a
-    c.args.b) = c.linkage_text.ensures.text ∙ ap (λ s. linkage_text s c.in-Some-find_kept.linkage) size
-    ∙ ap (linkage_text old.base.size) same in
-    told-linked (machine_with helpers old) c.args.kind c.args.a c.args.b c.linkage_text.result c.told_text.result
-    (machine_with helpers c.count_link.new.self) one c.told_text.ensures text
-    (c.count_link.ensures.machine helpers ∙ ap (machine_with helpers) view)
+    told-linked old helpers c.args.kind c.args.a c.args.b c.position-position.result c.self.inside.links.plies
+    c.size.result c.in-Some-find_kept.linkage c.linkage_text.result c.told_text.result
+    (machine_with helpers c.count_link.new.self) one c.told_text.ensures c.linkage_text.ensures.text
+    c.size.ensures.value c.position-position.ensures.size c.position-position.ensures.value
+    (c.self.invariant.plies ∙ ap (λ (k : EngineView). k.plies) view)
+    c.in-Some-find_kept.ensures.answer (c.count_link.ensures.machine helpers ∙ ap (machine_with helpers) view)

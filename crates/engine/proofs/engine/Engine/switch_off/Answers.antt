@@ -1,11 +1,11 @@
 -- No helper has the name, and none is switched off.
 use Rattle.std.proofs.Common.{◌≡◌, false, [], is_some, sym, ap, ◌∙◌}
 use Rattle.helpers.specs.Slots.{states_of}
-use Rattle.helpers.specs.Asking.{named, after_off}
+use Rattle.helpers.specs.HelperStates.{named, after_off}
 use Rattle.machine_rules.specs.Effects.{told}
 use Rattle.machine_rules.specs.Heard.{word_at}
 use Rattle.machine_rules.specs.HelperCommands.{with_helpers}
-use Rattle.engine.specs.SessionState.{machine_with}
+use Rattle.engine.specs.EngineView.{machine_with}
 use Rattle.engine.proofs.HelperAnswers.{change-none, not-there}
 use Rattle.engine.proofs.engine.Engine.switch_off.Goals as goal
 

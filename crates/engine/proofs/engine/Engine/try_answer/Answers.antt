@@ -4,7 +4,7 @@ use Rattle.gtp_cmd.specs.declared.commands.Parsed.{Parsed}
 use Rattle.gtp_cmd.specs.declared.commands.Parsed.TheVariants.{Refused}
 use Rattle.helpers.specs.Slots.{states_of}
 use Rattle.machine_rules.specs.Step.{Input}
-use Rattle.engine.specs.AnsweredLines.{AnswersParsed}
+use Rattle.engine.specs.LineAnswers.{AnswersParsed}
 use Rattle.engine.specs.Kept.{kept_with}
 use Rattle.engine.specs.SlowLines.{IsLeft}
 use Rattle.engine.specs.declared.reply.Reply.{Reply}

@@ -1,6 +1,6 @@
 -- The match that is chosen is among those that were found.
 use Rattle.std.proofs.Common.{◌<◌, ◌*◌, IfSome, sym, subst, ◌∙◌}
-use Rattle.helpers.specs.Asking.{says_yes}
+use Rattle.helpers.specs.HelperStates.{says_yes}
 use Rattle.helpers.specs.Slots.{states_of}
 use Rattle.match_engine.specs.Readings.{codes_of}
 use Rattle.engine.proofs.ChosenMoves.{choice-there, list-among}

@@ -2,9 +2,9 @@
 use Rattle.std.proofs.Common.{ap, subst, ◌∙◌}
 use Rattle.gtp_lex.specs.Raw.{raw_line}
 use Rattle.machine_rules.specs.Heard.{heard}
-use Rattle.engine.specs.AnsweredLines.{AnswersLine}
+use Rattle.engine.specs.LineAnswers.{AnswersLine}
 use Rattle.engine.specs.Kept.{Kept, machine_of}
-use Rattle.engine.specs.SessionSteps.{kept_of}
+use Rattle.engine.specs.SessionView.{kept_of}
 use Rattle.engine.proofs.session.Session.line.Goals as goal
 
 -- a line was answered at once, and no file was loaded

@@ -1,15 +1,14 @@
-use Rattle.std.proofs.Common.{sym, ◌∙◌}
-use Rattle.go_rules.specs.Play.{play}
-use Rattle.go_strings.specs.Games.{reached}
-use Rattle.go_strings.proofs.Outcomes.{legal_where_none, illegal_where_some}
+use Rattle.std.proofs.Common.{sym, ap, ◌∙◌}
+use Rattle.go_rules.specs.Play.{is_legal}
+use Rattle.go_strings.proofs.ShownBoards.{shown, shown_point}
 use Rattle.go_strings.proofs.board.StringBoard.is_legal.Goals as goal
 
--- nothing forbids it
-pub returns-in-None : goal.returns-in-None
-returns-in-None c =
-    legal_where_none (play (reached c.args.self.now) c.args.c c.args.p) (sym c.refusal.ensures ∙ c.in-None.is)
+-- the point is on the board
+pub is_allowed-requires-clause-on_board : goal.is_allowed-requires-clause-on_board
+is_allowed-requires-clause-on_board c =
+    shown_point c.self.inside c.args.self.now c.args.p c.self.invariant c.self.view_is c.requires
 
--- something does
-pub returns-in-Some : goal.returns-in-Some
-returns-in-Some c =
-    illegal_where_some (play (reached c.args.self.now) c.args.c c.args.p) _ (sym c.refusal.ensures ∙ c.in-Some.is)
+-- the play is judged on what stands
+pub returns : goal.returns
+returns c = c.is_allowed.ensures ∙ sym (ap (λ pos. is_legal pos c.args.c c.args.p)
+    (shown c.self.inside c.args.self.now c.self.invariant c.self.view_is))

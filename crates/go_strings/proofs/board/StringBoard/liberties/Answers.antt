@@ -1,10 +1,15 @@
-use Rattle.std.proofs.Common.{ap, ◌∙◌}
-use Rattle.std.specs.FinSet as sets
-use Rattle.go_base.proofs.Liberties.{len-liberty_points}
-use Rattle.go_strings.specs.Games.{reached}
+use Rattle.std.proofs.Common.{sym, ap, ◌∙◌}
+use Rattle.go_rules.specs.Strings.{liberties}
+use Rattle.go_rules.specs.Position.{BoardState}
+use Rattle.go_strings.proofs.ShownBoards.{shown, shown_point}
 use Rattle.go_strings.proofs.board.StringBoard.liberties.Goals as goal
 
--- they are counted by their set
+-- the point is on the board
+pub liberty_count-requires-clause-on_board : goal.liberty_count-requires-clause-on_board
+liberty_count-requires-clause-on_board c =
+    shown_point c.self.inside c.args.self.now c.args.p c.self.invariant c.self.view_is c.requires
+
+-- the liberties of the string that stands there are counted
 pub returns : goal.returns
-returns c = c.count.ensures.value ∙ ap sets.len c.liberty_points.ensures
-    ∙ len-liberty_points (reached c.args.self.now).size (reached c.args.self.now).cells c.args.p
+returns c = c.liberty_count.ensures ∙ sym (ap (λ (pos : BoardState). liberties pos.size pos.cells c.args.p)
+    (shown c.self.inside c.args.self.now c.self.invariant c.self.view_is))

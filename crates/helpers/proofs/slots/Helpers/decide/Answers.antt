@@ -1,6 +1,6 @@
 -- The place that was found is that of the helper that the name means, and the object there answered.
 use Rattle.std.proofs.Common.{sym, ap, ◌∙◌}
-use Rattle.helpers.specs.Asking.{slot_says, slot_asked}
+use Rattle.helpers.specs.HelperStates.{slot_says, slot_asked}
 use Rattle.helpers.proofs.Places.{named-at, named-none, changed-at, changed-none}
 use Rattle.helpers.proofs.slots.Helpers.decide.Goals as goal
 

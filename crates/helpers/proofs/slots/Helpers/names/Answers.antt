@@ -1,7 +1,7 @@
 use Rattle.std.proofs.Common.{take, map, sym, ap, ◌∙◌, arith}
 use Rattle.std.proofs.lemmas.List.{take_all}
 use Rattle.std.proofs.lemmas.Simd.{map-map}
-use Rattle.helpers.specs.Asking.{SlotState}
+use Rattle.helpers.specs.HelperStates.{SlotState}
 use Rattle.helpers.specs.Slots.{slot_state}
 use Rattle.helpers.proofs.slots.Helpers.names.Goals as goal
 

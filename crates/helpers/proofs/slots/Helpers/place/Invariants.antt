@@ -1,6 +1,6 @@
 use Rattle.std.proofs.Common.{◌≡◌, map, drop}
 use Rattle.std.specs.List.{position_from}
-use Rattle.helpers.specs.Asking.{has_name}
+use Rattle.helpers.specs.HelperStates.{has_name}
 use Rattle.helpers.specs.Slots.{slot_state}
 use Rattle.helpers.proofs.slots.Helpers.place.Given as goal
 

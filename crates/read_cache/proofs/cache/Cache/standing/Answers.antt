@@ -3,17 +3,8 @@ use Rattle.std.specs.Option.{option_copied}
 use Rattle.read_cache.specs.Variants.{IsFirstStanding}
 use Rattle.read_cache.proofs.Places.{found_right}
 use Rattle.read_cache.proofs.MapEntries.{variants_of-there, variants_of-none, variants_are}
-use Rattle.read_cache.proofs.Sizes.{variants_fit}
 use Rattle.read_cache.proofs.StandingVariants.{StandsAt-by, IsMissing-by, IsMissing-none, answer_at}
 use Rattle.read_cache.proofs.cache.Cache.standing.Goals as goal
-
--- the variants are small
-pub as_slice-requires : goal.as_slice-requires
-as_slice-requires g c = variants_fit g.row.Q-Answer g.met.Q.Question.small
-
--- the variants whose place was found are small
-pub as_slice-requires-in-Some-first_standing : goal.as_slice-requires-in-Some-first_standing
-as_slice-requires-in-Some-first_standing g c = variants_fit g.row.Q-Answer g.met.Q.Question.small
 
 -- the first that stands, with its answer
 pub returns-in-Some-first_standing-clause-some : goal.returns-in-Some-first_standing-clause-some
@@ -22,7 +13,7 @@ returns-in-Some-first_standing-clause-some g c =
     let at_key = sym c.value_of.ensures ∙ ap option_copied c.in-Some.is in
     let there = variants_of-there g.Q.PartialEq.eq c.args.q.now map.entries map.cap c.args.self.now
     c.self.view_is c.in-Some.kept.now at_key in
-    StandsAt-by g.Q.PartialEq.eq c.args.q.now c.args.position.now c.args.self.now c.in-Some.kept.now.items
+    StandsAt-by g.Q.PartialEq.eq c.args.q.now c.args.position.now c.args.self.now c.in-Some.kept.now
     c.as_slice.result.now c.as_slice-in-Some-first_standing.result.now c.in-Some-first_standing.place
     c.index-as_slice-place.result
     there c.as_slice.ensures c.as_slice-in-Some-first_standing.ensures c.in-Some-first_standing.ensures.some
@@ -47,7 +38,7 @@ returns-in-None-first_standing-clause-none g c =
     let at_key = sym c.value_of.ensures ∙ ap option_copied c.in-Some.is in
     let there = variants_of-there g.Q.PartialEq.eq c.args.q.now map.entries map.cap c.args.self.now
     c.self.view_is c.in-Some.kept.now at_key in
-    IsMissing-by g.Q.PartialEq.eq c.args.q.now c.args.position.now c.args.self.now c.in-Some.kept.now.items
+    IsMissing-by g.Q.PartialEq.eq c.args.q.now c.args.position.now c.args.self.now c.in-Some.kept.now
     c.as_slice.result.now there c.as_slice.ensures c.in-None-first_standing.ensures.none
 
 -- there are none

@@ -1,0 +1,4 @@
+//! The boards, lowest first.
+mod positions;
+mod strings;
+mod trial_moves;

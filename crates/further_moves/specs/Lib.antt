@@ -1,0 +1,3 @@
+pub mod Strings
+pub use Rattle.further_rules.specs.Further
+pub use Rattle.further_rules.specs.FurtherAreas

@@ -1,0 +1,2 @@
+pub mod FurtherLaws
+pub mod FurtherPlaces

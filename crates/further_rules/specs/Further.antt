@@ -1,0 +1,87 @@
+-- Five further sets of points that a reading with wider candidates may try, each as a test that computes. The laws of
+-- laws.rt say the same of each in words.
+use Rattle.std.specs.Prelude.{ℕ, ◌*◌, ◌==◌, ◌&&◌, ◌||◌, Bool, not, nat_lt, nat_le, List, if◌then◌else◌}
+use Rattle.go_rules.specs.declared.Cell.{Cell}
+use Rattle.go_rules.specs.declared.Cell.TheVariants.{Empty}
+use Rattle.go_rules.specs.Board.{are_neighbours}
+use Rattle.go_rules.specs.Below.{any_below}
+use Rattle.go_rules.specs.Strings.{cell_at, same_cell, is_in_string, is_liberty, liberties}
+use Rattle.go_rules.specs.BesideStrings.{is_enemy, is_beside_string}
+use Rattle.go_base.specs.Surroundings.{is_only_liberty}
+
+-- how many liberties an enemy string next to the target's may have that the attacker strengthens
+abbrev pub few_of_attacker : ℕ
+few_of_attacker = 2
+
+-- how many liberties an enemy string next to the target's may have that the defender presses
+abbrev pub few_of_defender : ℕ
+few_of_defender = 4
+
+-- how many liberties a linked string may have
+abbrev pub few_of_linked : ℕ
+few_of_linked = 4
+
+-- how many liberties a target has around which the attacker tries a net
+abbrev pub netted : ℕ
+netted = 3
+
+-- the target has exactly three liberties, and p is an empty neighbour of one of them
+unfoldable pub is_net : ℕ → List Cell → ℕ → ℕ → Bool
+is_net s cells target p =
+    (liberties s cells target == netted) && (nat_lt p (s * s) && same_cell (cell_at cells p) Empty)
+    && any_below (s * s) (λ l. is_liberty s cells target l && are_neighbours s l p)
+
+-- q is an enemy stone of the target's next to the target's string, and the string of q has at most so many liberties
+unfoldable pub is_weak_enemy : ℕ → ℕ → List Cell → ℕ → ℕ → Bool
+is_weak_enemy most s cells target q =
+    (is_enemy (cell_at cells target) (cell_at cells q) && is_beside_string s cells target q)
+    && nat_le (liberties s cells q) most
+
+-- p is a liberty of an enemy string next to the target's that has at most so many liberties
+unfoldable pub is_beside : ℕ → ℕ → List Cell → ℕ → ℕ → Bool
+is_beside most s cells target p =
+    any_below (s * s) (λ q. is_weak_enemy most s cells target q && is_liberty s cells q p)
+
+-- r is an enemy stone next to the string of an enemy stone that is next to the target's and has at most so many
+-- liberties, and r is no stone of the target's string
+unfoldable pub is_ally : ℕ → ℕ → List Cell → ℕ → ℕ → Bool
+is_ally most s cells target r =
+    any_below (s * s) (λ q. is_weak_enemy most s cells target q
+    && (is_enemy (cell_at cells q) (cell_at cells r) && is_beside_string s cells q r))
+    && not (is_in_string s cells target r)
+
+-- p is the one liberty of a string of the target's colour, another than the target's, that is next to an enemy string
+-- with at most two liberties that is next to the target's
+unfoldable pub is_rescue : ℕ → List Cell → ℕ → ℕ → Bool
+is_rescue s cells target p =
+    any_below (s * s) (λ r. is_ally few_of_attacker s cells target r && is_only_liberty s cells r p)
+
+-- q is a stone of the target's colour next to a liberty of the target, its string is another than the target's, and
+-- this has at most four liberties
+unfoldable pub is_linked : ℕ → List Cell → ℕ → ℕ → Bool
+is_linked s cells target q =
+    ((same_cell (cell_at cells q) (cell_at cells target)
+    && any_below (s * s) (λ l. is_liberty s cells target l && are_neighbours s l q))
+    && not (is_in_string s cells target q))
+    && nat_le (liberties s cells q) few_of_linked
+
+-- p is a liberty of a linked string
+unfoldable pub is_join : ℕ → List Cell → ℕ → ℕ → Bool
+is_join s cells target p = any_below (s * s) (λ q. is_linked s cells target q && is_liberty s cells q p)
+
+-- r is an enemy stone next to a linked string
+unfoldable pub is_cutter : ℕ → List Cell → ℕ → ℕ → Bool
+is_cutter s cells target r =
+    any_below (s * s) (λ q. is_linked s cells target q
+    && (is_enemy (cell_at cells q) (cell_at cells r) && is_beside_string s cells q r))
+
+-- p is the one liberty of an enemy string next to a linked string
+unfoldable pub is_cut : ℕ → List Cell → ℕ → ℕ → Bool
+is_cut s cells target p = any_below (s * s) (λ r. is_cutter s cells target r && is_only_liberty s cells r p)
+
+-- p is a further candidate: for the attacker one of Net, Beside or Rescue, for the defender one of Beside, Join or Cut
+unfoldable pub is_further : Bool → ℕ → List Cell → ℕ → ℕ → Bool
+is_further attacker_to_play s cells target p =
+    if attacker_to_play
+    then (is_net s cells target p || is_beside few_of_attacker s cells target p || is_rescue s cells target p)
+    else (is_beside few_of_defender s cells target p || is_join s cells target p || is_cut s cells target p)

@@ -1,0 +1,63 @@
+-- The five further sets of candidates in words: by strings, liberties and neighbours.
+use Rattle.std.specs.Prelude.{◌≡◌, ℕ, ◌*◌, ◌<◌, ◌≤◌, Bool, true, false, List}
+use Rattle.go_rules.specs.declared.Cell.{Cell}
+use Rattle.go_rules.specs.declared.Cell.TheVariants.{Empty}
+use Rattle.go_rules.specs.Board.{are_neighbours}
+use Rattle.go_rules.specs.Strings.{cell_at, liberties, IsInString, IsLiberty}
+use Rattle.go_rules.specs.BesideStrings.{is_enemy}
+
+-- the target has exactly three liberties, l is one of them, and p is an empty neighbour of l
+pub record IsNetAt (s : ℕ) (cells : List Cell) (target l p : ℕ) : Type 0 where
+  pub three : liberties s cells target ≡ 3
+  pub liberty : IsLiberty s cells target l
+  pub on_board : p < s * s
+  pub is_empty : cell_at cells p ≡ Empty
+  pub beside : are_neighbours s l p ≡ true
+
+-- q is a point of the board with a stone of the other colour than that at p, and some stone of the string of p is its
+-- neighbour
+pub record IsEnemyBeside (s : ℕ) (cells : List Cell) (p q : ℕ) : Type 0 where
+  pub on_board : q < s * s
+  pub enemy : is_enemy (cell_at cells p) (cell_at cells q) ≡ true
+  pub beside : (x : ℕ) × IsInString s cells p x × (are_neighbours s x q ≡ true)
+
+-- q is an enemy next to the target's string, and the string of q has at most so many liberties
+pub record IsWeakEnemy (most s : ℕ) (cells : List Cell) (target q : ℕ) : Type 0 where
+  pub enemy : IsEnemyBeside s cells target q
+  pub few : liberties s cells q ≤ most
+
+-- the string of r has one liberty, and this is p
+pub record IsLastAt (s : ℕ) (cells : List Cell) (r p : ℕ) : Type 0 where
+  pub in_atari : liberties s cells r ≡ 1
+  pub last : IsLiberty s cells r p
+
+-- q is an enemy next to the target's string, whose string has at most so many liberties, and r is an enemy next to that
+-- of q, in another string than the target's
+pub record IsAlly (most s : ℕ) (cells : List Cell) (target q r : ℕ) : Type 0 where
+  pub weak : IsWeakEnemy most s cells target q
+  pub beside_weak : IsEnemyBeside s cells q r
+  pub other : IsInString s cells target r → ⊥
+
+-- l is a liberty of the target, q a neighbour of l that holds the target's colour, in another string than the target's,
+-- and this has at most four liberties
+pub record IsLinkedAt (s : ℕ) (cells : List Cell) (target l q : ℕ) : Type 0 where
+  pub liberty : IsLiberty s cells target l
+  pub on_board : q < s * s
+  pub beside : are_neighbours s l q ≡ true
+  pub same : cell_at cells q ≡ cell_at cells target
+  pub other : IsInString s cells target q → ⊥
+  pub few : liberties s cells q ≤ 4
+
+-- p is a further candidate for the target, at the attacker's turn or the defender's
+pub data IsFurther (attacker_to_play : Bool) (s : ℕ) (cells : List Cell) (target p : ℕ) : Type 0 where
+  nets : attacker_to_play ≡ true → (l : ℕ) → IsNetAt s cells target l p → IsFurther attacker_to_play s cells target p
+  strengthens : attacker_to_play ≡ true → (q : ℕ) → IsWeakEnemy 2 s cells target q → IsLiberty s cells q p
+      → IsFurther attacker_to_play s cells target p
+  rescues : attacker_to_play ≡ true → (q r : ℕ) → IsAlly 2 s cells target q r → IsLastAt s cells r p
+      → IsFurther attacker_to_play s cells target p
+  presses : attacker_to_play ≡ false → (q : ℕ) → IsWeakEnemy 4 s cells target q → IsLiberty s cells q p
+      → IsFurther attacker_to_play s cells target p
+  joins : attacker_to_play ≡ false → (l q : ℕ) → IsLinkedAt s cells target l q → IsLiberty s cells q p
+      → IsFurther attacker_to_play s cells target p
+  cuts : attacker_to_play ≡ false → (l q r : ℕ) → IsLinkedAt s cells target l q → IsEnemyBeside s cells q r
+      → IsLastAt s cells r p → IsFurther attacker_to_play s cells target p

@@ -1,0 +1,45 @@
+-- What was gathered are the wide candidates of the wider tree, on every position that agrees with what was seen.
+use Rattle.std.proofs.Common.{◌≡◌, ◌<◌, ◌*◌, ◌&&◌, ◌||◌, ℕ, true, ap, sym, subst, ◌∙◌}
+use Rattle.std.specs.Cmp.{nat_cmp_total}
+use Rattle.std.specs.FinSet as set
+use Rattle.go_base.specs.Facts.{agrees_before, same_size, AddsIn-trans, AddsIn-mono}
+use Rattle.trial_board.specs.Trials.{after}
+use Rattle.trial_board.proofs.AfterLemmas.{size-after}
+use Rattle.further_rules.specs.Further.{is_further}
+use Rattle.read_rules.specs.declared.tree.Tree.TheVariants.{Wider}
+use Rattle.read_rules.proofs.AreaLemmas.{search_further}
+use Rattle.read_rules.proofs.StageLemmas.{wide_further}
+use Rattle.read_moves.proofs.stages.wider_wide_candidates.Goals as goal
+
+-- the looks for the stated ones made no move
+pub further_candidates-further-requires-clause-liberties : goal.further_candidates-further-requires-clause-liberties
+further_candidates-further-requires-clause-liberties g c = λ pos a.
+    let first = c.stated_wide_candidates-found.ensures.stays in
+    rw first.moves (c.requires.liberties pos (agrees_before first.grows a))
+
+-- the stated ones and the further ones were gathered
+pub returns-clause-over : goal.returns-clause-over
+returns-clause-over g c = λ pos a p.
+    let here = after pos c.args.board.now.moves in
+    let attacker = c.args.attacker_to_play in
+    let first = c.stated_wide_candidates-found in
+    let a1 = agrees_before c.further_candidates-further.ensures.stays.grows a in
+    let found = rw first.ensures.stays.moves at (c.further_candidates-further.ensures.over pos a p) in
+    ap (λ t. set.contains t p) c.join.ensures
+    ∙ set.contains-union nat_cmp_total first.result c.further_candidates-further.result p
+    ∙ wide_further Wider attacker here c.args.target p (set.contains first.result p)
+    (set.contains c.further_candidates-further.result p) (first.ensures.over pos a1 attacker p)
+    (found ∙ ap (λ n. is_further attacker n here.cells c.args.target p) (sym (size-after pos c.args.board.now.moves)))
+
+-- each look is where candidates are looked for
+pub returns-clause-near : goal.returns-clause-near
+returns-clause-near g c = λ pos a.
+    let here = after pos c.args.board.now.moves in
+    let first = c.stated_wide_candidates-found in
+    let a1 = agrees_before c.further_candidates-further.ensures.stays.grows a in
+    let a0 = agrees_before first.ensures.stays.grows a1 in
+    let size = same_size (g.met.L.Look.sized c.args.board.now.look) a0 in
+    let on = subst (λ n. c.args.target < n * n) (sym size) c.requires.on_board in
+    let later = rw first.ensures.stays.moves at (c.further_candidates-further.ensures.near pos a) in
+    AddsIn-trans (first.ensures.near pos a1)
+    (AddsIn-mono later (search_further pos.size here.cells c.args.target on c.args.attacker_to_play))

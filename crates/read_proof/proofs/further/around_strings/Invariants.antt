@@ -1,0 +1,17 @@
+use Rattle.std.specs.Prelude.{◌*◌, ◌-◌}
+use Rattle.go_rules.specs.Board.{largest_points}
+use Rattle.read_proof.proofs.GatherLemmas.{Gathers, few_liberty, few_enemy}
+use Rattle.read_proof.proofs.further.around_strings.Given as goal
+
+-- what stands around the strings of the points came, but for the points that are left from the next one on
+abbrev pub invariant-loop-q : goal.invariant-loop-q
+invariant-loop-q l = record {
+  liberties : Gathers (few_liberty l.most l.pos.size l.pos.cells) (l.pos.size * l.pos.size) l.next l.points l.rest
+      l.found.liberties;
+  enemies : Gathers (few_enemy l.most l.pos.size l.pos.cells) (l.pos.size * l.pos.size) l.next l.points l.rest
+      l.found.enemies;
+}
+
+-- how many points are left
+abbrev pub decreases-loop-q : goal.decreases-loop-q
+decreases-loop-q l = largest_points - l.next

@@ -1,0 +1,20 @@
+-- What the two game trees of a reading differ in.
+use Rattle.std.specs.Prelude.{ℕ, Bool, true, false}
+use Rattle.read_rules.specs.declared.tree.Tree.{Tree}
+use Rattle.read_rules.specs.declared.tree.Tree.TheVariants.{Stated, Wider}
+
+-- the tree tries the further candidates where a wide ply is left
+abbrev pub is_wider : Tree → Bool
+is_wider Stated = false
+is_wider Wider = true
+
+-- how many liberties a target may have, where no wide ply is left, that the attacker still plays at
+abbrev pub most_narrow : Tree → ℕ
+most_narrow Stated = 2
+most_narrow Wider = 3
+
+-- how many steps from the string of its target the reading of one node looks: a candidate of the stated tree is at most
+-- three steps away, one of the wider tree four, and a play at it looks two steps further
+abbrev pub steps_of : Tree → ℕ
+steps_of Stated = 5
+steps_of Wider = 6

@@ -1,0 +1,13 @@
+//! Which of two game trees is read.
+
+/// Which moves a reading tries, and how many liberties a target may have that is still played at.
+#[derive(Clone, Copy, Debug, PartialEq, Eq, Hash)]
+pub enum Tree {
+    /// The smaller tree. It tries the liberties of the target and the last liberties of the enemy strings next to it,
+    /// and where a wide ply is left the empty neighbours of at most two liberties and backfilling moves. Where no wide
+    /// ply is left, a target with more than two liberties stands.
+    Stated,
+    /// The larger tree. Where a wide ply is left it tries the further candidates too; where none is left, a target with
+    /// more than three liberties stands.
+    Wider,
+}

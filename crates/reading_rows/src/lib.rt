@@ -1,0 +1,6 @@
+//! Worked rows of readings: depths, candidates, attack and defence, proofs of them, and connections. There is no code
+//! here but tests, so that the crates of the readings are not proved once more for them.
+#![tactic(auto)]
+
+#[cfg(test)]
+mod tests;

@@ -1,0 +1,119 @@
+-- How files are joined one after another, and what an outcome says that refuses them.
+use Rattle.std.proofs.Common.{◌≡◌, ℕ, ◌+◌, ◌<◌, List, [], ◌∷◌, ◌++◌, length, map, take, drop, get_or, Option, Some}
+use Rattle.std.proofs.Common.{None, refl, sym, ap, subst, ◌∙◌, append_assoc, append-nil}
+use Rattle.std.proofs.Math.Seq.{drop-append_seam}
+use Rattle.std.proofs.lemmas.List.{map-append, take_more}
+use Rattle.std.proofs.lemmas.List.Concat.{flat_map-append}
+use Rattle.gtp_io.specs.Loading.{IsLoaded}
+use Rattle.machine_rules.specs.Files.{IsContents}
+use Rattle.session.specs.PatternFiles.{added_feed, ended, joined_text, AreContents, IsJoined, Adds, MissedBy}
+use Rattle.machine_rules.specs.Files.{IsContents}
+use Rattle.session.specs.PatternFiles.{MissedIn, IsDatabase, RefusesStates, IsRefused, unloaded, unread}
+use Rattle.db_read.specs.Reading.{BlamesAt}
+use Rattle.db_read.specs.declared.error.DbError.{DbError}
+use Rattle.db_read.specs.declared.error.DbError.TheVariants as db
+use Rattle.gtp_io.specs.declared.errors.LoadError.{LoadError}
+use Rattle.gtp_io.specs.declared.errors.LoadError.TheVariants as load
+use Rattle.db_rules.specs.Faults.{first_fault}
+use Rattle.pat_types.specs.declared.pattern.Pattern.{Pattern}
+use Rattle.session.specs.declared.outcome.OpenError.{OpenError}
+use Rattle.session.specs.declared.outcome.OpenError.TheVariants as open_error
+
+-- what was loaded stands behind the bytes that were handed in
+loaded : (contents : Option (List ℕ)) (into bytes : List ℕ) → IsLoaded contents into bytes → (more : List ℕ)
+    × IsContents contents more × (bytes ≡ into ++ more)
+loaded None into bytes is = (is.0, tt, is.1)
+loaded (Some told) into bytes is = (told, refl, is)
+
+-- the contents of a file were loaded behind a text, and the line feed that they need was put
+pub Adds-loaded : (contents : Option (List ℕ)) (into bytes new : List ℕ) → IsLoaded contents into bytes → new
+    ≡ bytes ++ added_feed (drop (length into) bytes)
+    → Adds contents into new
+Adds-loaded contents into bytes new is fed =
+    let more = loaded contents into bytes is in
+    let behind : drop (length into) bytes ≡ more.0 = ap (drop (length into)) more.2 ∙ drop-append_seam into more.0 in
+    record {
+      text = more.0;
+      told = more.1;
+      added = fed ∙ ap (λ l. bytes ++ added_feed l) behind ∙ ap (λ l. l ++ added_feed more.0) more.2
+          ∙ append_assoc into more.0 (added_feed more.0);
+    }
+
+-- one file more
+AreContents-next : (contents : List ℕ → Option (List ℕ)) (names texts : List (List ℕ)) (name text : List ℕ)
+    → AreContents contents names texts
+    → IsContents (contents name) text → AreContents contents (names ++ name ∷ []) (texts ++ text ∷ [])
+AreContents-next contents [] [] name text so_far told = (told, tt)
+AreContents-next contents [] (t ∷ texts) name text so_far told = absurd so_far
+AreContents-next contents (n ∷ names) [] name text so_far told = absurd so_far
+AreContents-next contents (n ∷ names) (t ∷ texts) name text so_far told =
+    (so_far.0, AreContents-next contents names texts name text so_far.1 told)
+
+-- the text of one file more
+joined_text-next : (texts : List (List ℕ)) (text : List ℕ) → joined_text (texts ++ text ∷ []) ≡ joined_text texts
+    ++ ended text
+joined_text-next texts text = flat_map-append ended texts (text ∷ []) ∙ ap (λ l. joined_text texts ++ l)
+    (append-nil (ended text))
+
+-- the files so far, and the next one
+pub IsJoined-next : {A : Type 0} (f : A → List ℕ) (contents : List ℕ → Option (List ℕ)) (words : List A) (i : ℕ)
+    (word : A) (text new : List ℕ) → i < length words
+    → word ≡ get_or words i word → IsJoined contents (map f (take i words)) text → Adds (contents (f word)) text new
+    → IsJoined contents (map f (take (i + 1) words)) new
+IsJoined-next f contents words i word text new within is so_far adds =
+    let names : map f (take (i + 1) words) ≡ map f (take i words) ++ f word ∷ [] =
+    ap (map f) (take_more words i word within) ∙ map-append f (take i words) (get_or words i word ∷ []) ∙ ap
+    (λ w. map f (take i words) ++ f w ∷ []) (sym is) in
+    record {
+      texts = so_far.texts ++ adds.text ∷ [];
+      told = subst (λ l. AreContents contents l (so_far.texts ++ adds.text ∷ [])) (sym names)
+          (AreContents-next contents (map f (take i words)) so_far.texts (f word) adds.text so_far.told adds.told);
+      joined = adds.added ∙ ap (λ l. l ++ ended adds.text) so_far.joined ∙ sym
+          (joined_text-next so_far.texts adds.text);
+    }
+
+-- Why files were not opened.
+module _ (known : List (List ℕ)) (contents : List ℕ → Option (List ℕ)) (names : List (List ℕ)) (most : ℕ) where
+  -- a file could not be loaded
+  pub refused-unloaded : (cause : LoadError) → IsRefused known contents names most (unloaded cause)
+  refused-unloaded load.Failed = tt
+  refused-unloaded load.NoMemory = tt
+
+  -- the joined text is no database
+  pub refused-unread : (text : List ℕ) (cause : DbError) → IsJoined contents names text → BlamesAt cause
+      (first_fault known text)
+      → IsRefused known contents names most (unread cause)
+  refused-unread text (db.Fault line kind) joined blames = record { text = text; joined = joined; fault = blames }
+  refused-unread text db.NoMemory joined blames = tt
+
+  -- the patterns have too many states, or there was no memory
+  pub refused-states : (patterns : List Pattern) (error : OpenError) → IsDatabase known contents names patterns
+      → RefusesStates patterns most error
+      → IsRefused known contents names most error
+  refused-states patterns open_error.FileFault database refuses = tt
+  refused-states patterns (open_error.BadDatabase line kind) database refuses = absurd refuses
+  refused-states patterns (open_error.TooManyStates limit) database refuses =
+      (refuses.0, record { patterns = patterns; database = database; many = refuses.1 })
+  refused-states patterns open_error.NoMemory database refuses = tt
+
+-- Which names are missed then.
+module _ (names before now : List (List ℕ)) where
+  -- a file could not be loaded
+  pub missed-unloaded : (cause : LoadError) → MissedBy names before now cause → MissedIn names before now
+      (unloaded cause)
+  missed-unloaded load.Failed missed = missed
+  missed-unloaded load.NoMemory missed = missed
+
+  -- every file was loaded, and their text is no database
+  pub missed-unread : (cause : DbError) → now ≡ before → MissedIn names before now (unread cause)
+  missed-unread (db.Fault line kind) same = same
+  missed-unread db.NoMemory same = same
+
+  -- every file was loaded, and the patterns were refused
+  pub missed-states : (patterns : List Pattern) (most : ℕ) (error : OpenError) → RefusesStates patterns most error
+      → now ≡ before
+      → MissedIn names before now error
+  missed-states patterns most open_error.FileFault refuses same = absurd refuses
+  missed-states patterns most (open_error.BadDatabase line kind) refuses same = same
+  missed-states patterns most (open_error.TooManyStates limit) refuses same = same
+  missed-states patterns most open_error.NoMemory refuses same = same

@@ -1,0 +1,51 @@
+-- Sessions that find matches by an automaton, and the plain machine.
+use Rattle.std.proofs.Common.{◌≡◌, ℕ, ◌≤◌, List, Option, refl, subst}
+use Rattle.pat_types.specs.declared.pattern.Pattern.{Pattern}
+use Rattle.dfa_core.specs.Automata.{Row}
+use Rattle.dfa_core.specs.States.{IsAutomatonOf}
+use Rattle.helpers.specs.HelperStates.{SlotState}
+use Rattle.match_engine.proofs.Patterns.{same_by_automaton}
+use Rattle.machine_rules.specs.Files.{Contents}
+use Rattle.machine_rules.specs.Machine.{Machine, first_machine, position_of}
+use Rattle.machine_rules.specs.Matcher.{plain_matcher, codes_of}
+use Rattle.machine_rules.specs.Step.{step}
+use Rattle.session.specs.Tallies.{Tally}
+use Rattle.engine.specs.EngineView.{EngineView, machine_with, matcher_of, first_kept}
+use Rattle.session.specs.FirstSession.{IsPlainWith}
+use Rattle.session.specs.Ends.{Streams}
+use Rattle.session.specs.Headline.{ServesLines}
+use Rattle.session.specs.declared.outcome.End.{End}
+
+-- with the automaton of its patterns a session is plain before its first line
+pub plain-first : (patterns : List Pattern) (rows : List Row) (plies wide capacity : ℕ)
+    → 8 ≤ capacity → IsAutomatonOf patterns rows
+    → IsPlainWith patterns plies wide capacity (first_kept patterns rows plies wide capacity)
+plain-first patterns rows plies wide capacity room accepts = record {
+  machine = λ helpers. refl;
+  counts = refl;
+  readings = refl;
+  links = refl;
+  room = room;
+  matches = λ i. record {
+    patterns = patterns;
+    matches = λ advice machine friend.
+        same_by_automaton (codes_of machine) advice patterns rows (position_of machine) friend accepts i;
+  };
+}
+
+-- a session that is plain with some patterns served the lines as the plain machine does
+pub ServesLines-plain : (patterns : List Pattern) (plies wide capacity : ℕ) (session : EngineView)
+    (slots helpers : List SlotState) (contents : Contents) (generate : Option ℕ) (before after : Streams) (end : End)
+    (tally : Tally Machine) → IsPlainWith patterns plies wide capacity session → slots ≡ helpers
+    → ServesLines generate (step (matcher_of session) contents) (machine_with slots session) before after end tally
+    → ServesLines generate (step (plain_matcher patterns) contents) (first_machine helpers plies wide) before after end
+    tally
+ServesLines-plain patterns plies wide capacity session slots helpers contents generate before after end tally plain same
+    serves =
+    let by_plain =
+    subst (λ k. ServesLines generate (step k contents) (machine_with slots session) before after end tally)
+    plain.matches serves in
+    subst (λ m. ServesLines generate (step (plain_matcher patterns) contents) m before after end tally)
+    (plain.machine helpers)
+    (subst (λ h. ServesLines generate (step (plain_matcher patterns) contents) (machine_with h session) before after end
+    tally) same by_plain)

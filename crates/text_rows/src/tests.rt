@@ -1,0 +1,4 @@
+//! What texts come to.
+mod databases;
+mod expressions;
+mod records;
