@@ -8,7 +8,7 @@ use Rattle.gtp_cmd.specs.declared.commands.Command.TheVariants as command
 use Rattle.gtp_cmd.specs.declared.commands.Parsed.{Parsed}
 use Rattle.gtp_cmd.specs.declared.commands.Parsed.TheVariants as parsed
 use Rattle.go_rules.specs.Position.{BoardState, IsPosition}
-use Rattle.read_rules.specs.Answer.{asked_on}
+use Rattle.match_engine.specs.ReadingDepths.{ReadingDepths, asked_at}
 use Rattle.read_rules.specs.declared.question.Answer.{Answer}
 use Rattle.read_rules.specs.declared.question.Kind.{Kind}
 use Rattle.read_rules.specs.declared.question.Kind.TheVariants.{Attack, Defend}
@@ -128,23 +128,22 @@ few_fresh-line machine (Line text) old new readings read few =
 -- one call of the readings was made on the board of a session
 module _ (old new : EngineView) (kind : Kind) (p : ℕ) (pos : BoardState) (answer : Answer)
     (before after : ReadingsView)
-    (board : pos ≡ board_of old) (was : before ≡ old.readings) (plies : before.plies ≡ old.plies)
-    (wide : before.wide ≡ old.wide) (is : new.readings ≡ after) where
+    (board : pos ≡ board_of old) (was : before ≡ old.readings) (depths : before.depths ≡ old.depths)
+    (is : new.readings ≡ after) where
   -- it was about the string of the point, on this board
-  read_here : HasRead (record { question = asked_on pos kind p before.plies before.wide }) pos answer before after
+  read_here : HasRead (record { question = asked_at before.depths pos kind p }) pos answer before after
       → HasRead (key_at (machine_alone old) kind p) (board_of old) answer old.readings new.readings
   read_here has =
-      let family : ReadingsView → ReadingsView → BoardState → ℕ → ℕ → Type 0 =
-      λ r s b n k. HasRead (record { question = asked_on b kind p n k }) b answer r s in
-      subst (λ r. family r new.readings (board_of old) old.plies old.wide) was
-      (subst (λ k. family before new.readings (board_of old) old.plies k) wide
-      (subst (λ n. family before new.readings (board_of old) n before.wide) plies
-      (subst (λ b. family before new.readings b before.plies before.wide) board
-      (subst (λ s. family before s pos before.plies before.wide) (sym is) has))))
+      let family : ReadingsView → ReadingsView → BoardState → ReadingDepths → Type 0 =
+      λ r s b d. HasRead (record { question = asked_at d b kind p }) b answer r s in
+      subst (λ r. family r new.readings (board_of old) old.depths) was
+      (subst (λ d. family before new.readings (board_of old) d) depths
+      (subst (λ b. family before new.readings b before.depths) board
+      (subst (λ s. family before s pos before.depths) (sym is) has)))
 
   -- where a stone stands at the point, it is what was asked
   pub ReadsAs-once : HasRead
-      (record { question = asked_on pos kind p before.plies before.wide }) pos answer before after
+      (record { question = asked_at before.depths pos kind p }) pos answer before after
       → IsPosition pos → HoldsOfEach Rests after.answers.kept → CountsRefused old → CountsRefused new
       → new.counts.fresh ≡ counted old.counts.fresh (is_some new.readings.last)
       → new.counts.trials ≡ after_trials old.counts.trials new.readings.last → has_stone (machine_alone old) p ≡ true

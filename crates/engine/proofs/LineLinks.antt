@@ -31,7 +31,7 @@ pub LinksAs-refused : (session : EngineView) (kind : LinkKind) (a b : ℕ)
     → have_one_colour (machine_alone session) a b ≡ false
     → LinksAs (asks_link_at (machine_alone session) kind a b) session session
 LinksAs-refused session kind a b apart =
-    let question = asked_on (board_of session) kind a b session.plies in
+    let question = asked_on (board_of session) kind a b session.depths.plies in
     subst (λ one. LinksAs (cond one (Some question) None) session session) (sym apart)
     (record { counts = refl; answers = refl })
 
@@ -40,18 +40,18 @@ module _ (old new : EngineView) (kind : LinkKind) (a b : ℕ)
     (one : have_one_colour (machine_alone old) a b ≡ true) where
   -- that is what was asked
   pub LinksAs-once : (pos : BoardState) (linkage : Linkage) (before after : ConnectionsView)
-      → pos ≡ board_of old → before ≡ old.links → before.plies ≡ old.plies → new.links ≡ after
+      → pos ≡ board_of old → before ≡ old.links → before.plies ≡ old.depths.plies → new.links ≡ after
       → HasAsked (key_on pos kind a b before.plies) pos linkage before.answers after.answers
       → IsPosition pos → HoldsOfEach Rests after.answers.kept
       → new.counts.links.connections ≡ counted old.counts.links.connections true
       → CountsFreshLinks old → CountsFreshLinks new
       → LinksAs (asks_link_at (machine_alone old) kind a b) old new
   LinksAs-once pos linkage before after board was plies is asked sound rest connections fresh_before fresh =
-      let question = asked_on (board_of old) kind a b old.plies in
+      let question = asked_on (board_of old) kind a b old.depths.plies in
       let family : ConnectionsView → ConnectionsView → BoardState → ℕ → Type 0 =
       λ v w p n. HasAsked (key_on p kind a b n) p linkage v.answers w.answers in
-      let here : family old.links new.links (board_of old) old.plies =
-      subst (λ v. family v new.links (board_of old) old.plies) was
+      let here : family old.links new.links (board_of old) old.depths.plies =
+      subst (λ v. family v new.links (board_of old) old.depths.plies) was
       (subst (λ n. family before new.links (board_of old) n) plies
       (subst (λ p. family before new.links p before.plies) board
       (subst (λ w. family before w pos before.plies) (sym is) asked))) in
@@ -67,7 +67,7 @@ module _ (old new : EngineView) (kind : LinkKind) (a b : ℕ)
 
 -- the answer to a question on the board of a session, at its plies, is that of its machine
 linkage-here : (session : EngineView) (kind : LinkKind) (a b : ℕ) (pos : BoardState) (n : ℕ) (linkage : Linkage)
-    → linkage ≡ linkage_of (asked_on pos kind a b n) pos → pos ≡ board_of session → n ≡ session.plies
+    → linkage ≡ linkage_of (asked_on pos kind a b n) pos → pos ≡ board_of session → n ≡ session.depths.plies
     → linkage ≡ linkage_at (machine_alone session) kind a b
 linkage-here session kind a b pos n linkage is board plies =
     is ∙ ap (λ p. linkage_of (asked_on p kind a b n) p) board
@@ -79,7 +79,7 @@ pub told-linked : (session : EngineView) (helpers : List SlotState) (kind : Link
     (n size : ℕ) (linkage : Linkage) (result : List ℕ) (said : Answer) (new : Machine)
     → have_one_colour (machine_alone session) a b ≡ true → said ≡ answer.Told result
     → result ≡ linkage_text size linkage → size ≡ pos.size → (board_of session).size ≡ session.base.size
-    → pos ≡ board_of session → n ≡ session.plies → linkage ≡ linkage_of (asked_on pos kind a b n) pos
+    → pos ≡ board_of session → n ≡ session.depths.plies → linkage ≡ linkage_of (asked_on pos kind a b n) pos
     → new ≡ machine_with helpers session → IsAnswer (linked (machine_with helpers session) kind a b) said new
 told-linked session helpers kind a b pos n size linkage result said new one says text is own board plies links keeps =
     let machine = machine_with helpers session in

@@ -10,6 +10,7 @@ use Rattle.helpers.specs.HelperStates.{SlotState, says_yes}
 use Rattle.match_rules.specs.Conditions.{all_yes}
 use Rattle.match_engine.specs.AutomatonMatches.{automaton_matches}
 use Rattle.match_engine.specs.HelperCalls.{after_matches}
+use Rattle.match_engine.specs.ReadingDepths.{ReadingDepths}
 use Rattle.match_engine.specs.Readings.{ReadingsView, codes_at, codes_of}
 use Rattle.machine_rules.specs.Effects.{IsExcused}
 use Rattle.machine_rules.specs.MatchTexts.{matches_text}
@@ -21,18 +22,17 @@ use Rattle.engine.specs.EngineView.{EngineView, board_of, machine_with, matcher_
 module _ (kept new : EngineView) (friend : Colour) (patterns : List Pattern) (rows : List Row) (board : BoardState)
     (readings : ReadingsView) (before after : List SlotState)
     (same_patterns : patterns ≡ kept.patterns) (same_rows : rows ≡ kept.automaton) (same_board : board ≡ board_of kept)
-    (plies : readings.plies ≡ kept.plies) (wide : readings.wide ≡ kept.wide)
+    (depths : readings.depths ≡ kept.depths)
     (keeps : machine_with after new ≡ machine_with after kept) where
   -- what is so of these patterns, rows, board and depths is so of what the session keeps
-  of_session : (family : List Pattern → List Row → BoardState → ℕ → ℕ → Type 0)
-      → family patterns rows board readings.plies readings.wide
-      → family kept.patterns kept.automaton (board_of kept) kept.plies kept.wide
+  of_session : (family : List Pattern → List Row → BoardState → ReadingDepths → Type 0)
+      → family patterns rows board readings.depths
+      → family kept.patterns kept.automaton (board_of kept) kept.depths
   of_session family is =
-      subst (λ k. family kept.patterns kept.automaton (board_of kept) kept.plies k) wide
-      (subst (λ n. family kept.patterns kept.automaton (board_of kept) n readings.wide) plies
-      (subst (λ b. family kept.patterns kept.automaton b readings.plies readings.wide) same_board
-      (subst (λ r. family kept.patterns r board readings.plies readings.wide) same_rows
-      (subst (λ ps. family ps rows board readings.plies readings.wide) same_patterns is))))
+      subst (λ d. family kept.patterns kept.automaton (board_of kept) d) depths
+      (subst (λ b. family kept.patterns kept.automaton b readings.depths) same_board
+      (subst (λ r. family kept.patterns r board readings.depths) same_rows
+      (subst (λ ps. family ps rows board readings.depths) same_patterns is)))
 
   -- what the helpers are after they were asked
   abbrev Asked : Type 0
@@ -41,8 +41,8 @@ module _ (kept new : EngineView) (friend : Colour) (patterns : List Pattern) (ro
 
   -- the machine is that after asking
   now-asked : Asked → machine_with after new ≡ after_asking (matcher_of kept) (machine_with before kept) friend
-  now-asked asked = keeps ∙ ap (λ helpers. machine_with helpers kept) (of_session (λ ps r b n k. after
-      ≡ after_matches before ps (automaton_matches (codes_at n k) all_yes r ps b friend) b friend) asked)
+  now-asked asked = keeps ∙ ap (λ helpers. machine_with helpers kept) (of_session (λ ps r b d. after
+      ≡ after_matches before ps (automaton_matches (codes_at d) all_yes r ps b friend) b friend) asked)
 
   -- where the text was made, the list is told
   pub listed-told : {T E : Type 0} (view : T → List ℕ) (result : Result T E)
@@ -55,8 +55,8 @@ module _ (kept new : EngineView) (friend : Colour) (patterns : List Pattern) (ro
   listed-told view (Ok text) is (inr none) = absurd (let same : false ≡ true = none.0 in cc)
   listed-told view (Ok text) is (inl asked) = record {
     allowed = refl;
-    told = sym (of_session (λ ps r b n k. view text
-        ≡ matches_text ps b.size (automaton_matches (codes_at n k) (says_yes before) r ps b friend)) is);
+    told = sym (of_session (λ ps r b d. view text
+        ≡ matches_text ps b.size (automaton_matches (codes_at d) (says_yes before) r ps b friend)) is);
     next = now-asked asked;
     goes_on = refl;
   }

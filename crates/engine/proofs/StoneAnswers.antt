@@ -1,10 +1,11 @@
 -- What is told of the stone at a point.
-use Rattle.std.proofs.Common.{◌≡◌, ℕ, true, cond, List, refl, sym, subst}
+use Rattle.std.proofs.Common.{◌≡◌, ℕ, true, cond, List, refl, sym, ap, subst}
 use Rattle.gtp_cmd.specs.declared.refusals.RefuseText.TheVariants.{VertexEmpty}
 use Rattle.machine_rules.specs.BoardCommands.{of_stone}
 use Rattle.machine_rules.specs.Counting.{has_stone}
 use Rattle.machine_rules.specs.Effects.{refused, told}
 use Rattle.machine_rules.specs.Machine.{Machine}
+use Rattle.match_engine.specs.ReadingDepths.{ReadingDepths}
 use Rattle.engine.specs.CommandAnswers.{IsAnswer}
 use Rattle.engine.specs.declared.answer.Answer.{Answer}
 use Rattle.engine.specs.declared.answer.Answer.TheVariants as answer
@@ -19,6 +20,5 @@ told-of_stone machine p text result said new stone says same keeps =
     (record { allowed = refl; told = sym same; next = keeps; goes_on = refl }))
 
 -- a machine with the depths that it has
-pub depths-kept : (m : Machine) (plies wide : ℕ) → plies ≡ m.plies → wide ≡ m.wide
-    → record m { plies = plies; wide = wide } ≡ m
-depths-kept m plies wide same_plies same_wide = λ i. record m { plies = same_plies i; wide = same_wide i }
+pub depths-kept : (m : Machine) (depths : ReadingDepths) → depths ≡ m.depths → record m { depths = depths } ≡ m
+depths-kept m depths same = ap (λ d. record m { depths = d }) same

@@ -8,8 +8,11 @@ use Rattle.dfa_core.specs.Automata.{Row, accepted}
 use Rattle.dfa_core.specs.Words.{Word}
 use Rattle.run_notes.specs.declared.notes.Counts.{Counts}
 use Rattle.run_notes.specs.declared.notes.Links.{Links}
+use Rattle.go_options.specs.declared.options.Options.{Options}
+use Rattle.read_rules.specs.declared.tree.Tree.{Tree}
 use Rattle.read_cache.specs.Keeping.{first_keeping}
 use Rattle.link_readings.specs.Connections.{ConnectionsView}
+use Rattle.match_engine.specs.ReadingDepths.{ReadingDepths}
 use Rattle.match_engine.specs.Readings.{ReadingsView, first_readings}
 use Rattle.helpers.specs.HelperStates.{SlotState}
 use Rattle.machine_rules.specs.Machine.{Machine, first_size}
@@ -21,8 +24,7 @@ pub record EngineView : Type 0 where
   pub base : BoardState
   pub moves : List Move
   pub komi : List ℕ
-  pub plies : ℕ
-  pub wide : ℕ
+  pub depths : ReadingDepths
   pub patterns : List Pattern
   pub automaton : List Row
   pub counts : Counts
@@ -35,8 +37,7 @@ machine_with helpers kept = record {
   base = kept.base;
   moves = kept.moves;
   komi = kept.komi;
-  plies = kept.plies;
-  wide = kept.wide;
+  depths = kept.depths;
   helpers = helpers;
 }
 
@@ -64,20 +65,23 @@ no_counts = record { readings = 0; fresh = 0; trials = 0; refused = 0; links = n
 abbrev pub first_links : ℕ → ℕ → ConnectionsView
 first_links plies capacity = record { plies = plies; answers = first_keeping capacity }
 
--- what a session with these patterns, this automaton and readings of this many plies and wide plies keeps before the
--- first line, where so many questions may be kept, and as many about connections
-abbrev pub first_kept : List Pattern → List Row → ℕ → ℕ → ℕ → EngineView
-first_kept patterns automaton plies wide capacity = record {
+-- the depths of the options, in a tree
+abbrev pub depths_in : Tree → Options → ReadingDepths
+depths_in tree options = record { tree = tree; plies = options.depth; wide = options.branch }
+
+-- what a session with these patterns, this automaton and readings of these depths keeps before the first line, where so
+-- many questions may be kept, and as many about connections
+abbrev pub first_kept : List Pattern → List Row → ReadingDepths → ℕ → EngineView
+first_kept patterns automaton depths capacity = record {
   base = empty_board first_size;
   moves = [];
   komi = codes "0.0";
-  plies = plies;
-  wide = wide;
+  depths = depths;
   patterns = patterns;
   automaton = automaton;
   counts = no_counts;
-  readings = first_readings plies wide capacity;
-  links = first_links plies capacity;
+  readings = first_readings depths capacity;
+  links = first_links depths.plies capacity;
 }
 
 -- each number that the automaton accepts is the place of one of the patterns

@@ -20,7 +20,7 @@ ghost use Rattle.engine.specs.AskedLinks.{LinksAs};
 ghost use Rattle.engine.specs.LineAnswers.{AnswersParsed};
 ghost use Rattle.engine.specs.CommandAnswers.{IsAnswer, IsDone, missed_as};
 ghost use Rattle.engine.specs.Kept.{kept_with};
-ghost use Rattle.engine.specs.EngineView.{board_of, machine_with, machine_alone, matcher_of, first_kept};
+ghost use Rattle.engine.specs.EngineView.{board_of, machine_with, machine_alone, matcher_of, first_kept, depths_in};
 ghost use Rattle.engine.specs.EngineView.{NumbersPatterns};
 ghost use Rattle.engine.specs.SlowLines.{command_of, said_by, IsLeft};
 
@@ -51,6 +51,7 @@ use link_rules::LinkKind;
 use match_engine::Readings;
 use pat_types::Pattern;
 use read_moves::Depths;
+use read_rules::Tree;
 use read_tree::Kind;
 use run_notes::{Counts, Links};
 use std::alloc::Global;
@@ -106,8 +107,7 @@ impl Model for Engine {
       base = s.history.base;
       moves = s.history.moves;
       komi = s.komi;
-      plies = s.readings.plies;
-      wide = s.readings.wide;
+      depths = s.readings.depths;
       patterns = s.patterns.items;
       automaton = s.scanner;
       counts = record {
@@ -123,7 +123,7 @@ impl Model for Engine {
 
     ghost invariant = { λ s. record {
       numbers : NumbersPatterns s.scanner s.patterns.items;
-      plies : s.links.plies ≡ s.readings.plies;
+      plies : s.links.plies ≡ s.readings.depths.plies;
     } };
 }
 
@@ -137,17 +137,18 @@ fn word(known: bool) -> &'static [u8]
 
 impl Engine {
     /// What is kept before the first line: these patterns, whose matches are found by this automaton, a board of 19 by
-    /// 19, no moves, the komi 0.0, readings as deep as the options say, nothing counted. Takes memory.
+    /// 19, no moves, the komi 0.0, readings in this tree, as deep as the options say, nothing counted. Takes memory.
     pub(crate) fn new(
         alloc: Global,
         patterns: Vec<Pattern>,
         automaton: Automaton,
+        tree: Tree,
         options: &Options,
     ) -> Result<Engine, NoMemory>
         requires numbers { NumbersPatterns automaton patterns.items }
         requires ranges { AreInRange options.now }
         ensures { IfOk result (λ engine. engine
-            ≡ first_kept patterns.items automaton options.now.depth options.now.branch options.now.cache) }
+            ≡ first_kept patterns.items automaton (depths_in tree options.now) options.now.cache) }
     {
         let size = Size::new(FIRST_SIZE).unwrap();
         let scanner = Scanner::new(alloc, automaton)?;
@@ -157,7 +158,7 @@ impl Engine {
             komi: KomiText::zero(),
             readings: Readings::new(
                 alloc,
-                Depths::new(options.depth, options.branch).unwrap(),
+                Depths::new(options.depth, options.branch).unwrap().in_tree(tree),
                 options.cache,
             )?,
             links: Connections::new(alloc, options.depth, options.cache)?,

@@ -7,7 +7,7 @@ ghost use Rattle.match_engine.specs.HelperCalls.{after_matches};
 ghost use Rattle.match_rules.specs.Conditions.{all_yes};
 ghost use Rattle.match_engine.specs.Readings.{codes_of};
 ghost use Rattle.engine.specs.EngineView.{NumbersPatterns};
-ghost use Rattle.machine_rules.specs.MatchTexts.{name_of, match_text, matches_text, AreAmong, SameDepths};
+ghost use Rattle.machine_rules.specs.MatchTexts.{name_of, match_text, matches_text, AreAmong};
 ghost use Rattle.machine_rules.specs.PatternTexts.{feed_after};
 
 use crate::point_lists::{push_number, push_vertex};
@@ -85,7 +85,7 @@ pub(crate) fn matches_text(
     ensures text { IfOk result (λ text. text ≡ matches_text patterns.now position.now.size
         (automaton_matches (codes_of readings.old) (says_yes (states_of state helpers.old)) scanner.now patterns.now
         position.now friend)) }
-    ensures depths { SameDepths readings.old readings.new }
+    ensures depths { readings.new.depths ≡ readings.old.depths }
     ensures refused { readings.old.answers.refused ≤ readings.new.answers.refused }
     ensures capacity { readings.new.answers.kept.1 ≡ readings.old.answers.kept.1 }
     ensures calls { (states_of state helpers.new ≡ after_matches (states_of state helpers.old) patterns.now

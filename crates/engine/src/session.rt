@@ -8,7 +8,7 @@ ghost use Rattle.machine_rules.specs.Files.{Contents};
 ghost use Rattle.machine_rules.specs.Heard.{heard, bytes_in};
 ghost use Rattle.engine.specs.SlowLines.{said_by, IsLeft};
 ghost use Rattle.engine.specs.LineAnswers.{AnswersLine};
-ghost use Rattle.engine.specs.EngineView.{first_kept, matcher_of, NumbersPatterns};
+ghost use Rattle.engine.specs.EngineView.{first_kept, depths_in, matcher_of, NumbersPatterns};
 ghost use Rattle.engine.specs.SessionView.{machine_now, kept_of};
 
 use crate::engine::Engine;
@@ -21,6 +21,7 @@ use gtp_io::Loader;
 use gtp_lex::Raw;
 use helpers::Helpers;
 use pat_types::Pattern;
+use read_rules::Tree;
 use run_notes::{Counts, Links};
 use std::alloc::Global;
 
@@ -45,8 +46,8 @@ pub struct Session {
 
 impl Session {
     /// A session with these patterns, whose matches it finds by this automaton, and these helpers, before its first
-    /// line: a board of 19 by 19, no moves, the komi 0.0, readings as deep as the options say, nothing counted. Takes
-    /// memory.
+    /// line: a board of 19 by 19, no moves, the komi 0.0, readings in the stated tree, as deep as the options say,
+    /// nothing counted. Takes memory.
     pub fn new(
         alloc: Global,
         patterns: Vec<Pattern>,
@@ -57,10 +58,28 @@ impl Session {
         requires numbers { NumbersPatterns automaton patterns.items }
         requires ranges { AreInRange options.now }
         ensures engine { IfOk result (λ session. session.engine
-            ≡ first_kept patterns.items automaton options.now.depth options.now.branch options.now.cache) }
+            ≡ first_kept patterns.items automaton (depths_in Tree.Stated options.now) options.now.cache) }
         ensures helpers { IfOk result (λ session. session.helpers ≡ helpers) }
     {
-        let engine = Engine::new(alloc, patterns, automaton, options)?;
+        Session::in_tree(alloc, patterns, automaton, helpers, Tree::Stated, options)
+    }
+
+    /// The same with readings in this tree.
+    pub fn in_tree(
+        alloc: Global,
+        patterns: Vec<Pattern>,
+        automaton: Automaton,
+        helpers: Helpers,
+        tree: Tree,
+        options: &Options,
+    ) -> Result<Session, NoMemory>
+        requires numbers { NumbersPatterns automaton patterns.items }
+        requires ranges { AreInRange options.now }
+        ensures engine { IfOk result (λ session. session.engine
+            ≡ first_kept patterns.items automaton (depths_in tree options.now) options.now.cache) }
+        ensures helpers { IfOk result (λ session. session.helpers ≡ helpers) }
+    {
+        let engine = Engine::new(alloc, patterns, automaton, tree, options)?;
         Ok(Session { engine, helpers })
     }
 

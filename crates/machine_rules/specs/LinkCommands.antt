@@ -17,7 +17,7 @@ linkage_text s linkage = digit_of linkage.yes ++ move_text s linkage.at
 -- the answer to a question about the strings of two points, read on the machine's position as deep as the machine says
 abbrev pub linkage_at : Machine → LinkKind → ℕ → ℕ → Linkage
 linkage_at machine kind a b =
-    linkage_of (asked_on (position_of machine) kind a b machine.plies) (position_of machine)
+    linkage_of (asked_on (position_of machine) kind a b machine.depths.plies) (position_of machine)
 
 -- the two stones have one colour, or that is told
 abbrev pub of_one_colour : Machine → ℕ → ℕ → Effect → Effect

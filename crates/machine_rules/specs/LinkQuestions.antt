@@ -24,7 +24,7 @@ have_one_colour machine a b = has_stone machine a && (has_stone machine b
 -- one colour stand there
 abbrev pub asks_link_at : Machine → LinkKind → ℕ → ℕ → Option LinkQuestion
 asks_link_at machine kind a b =
-    if have_one_colour machine a b then Some (asked_on (position_of machine) kind a b machine.plies) else None
+    if have_one_colour machine a b then Some (asked_on (position_of machine) kind a b machine.depths.plies) else None
 
 -- the question about a connection that a command asks, if it asks one
 abbrev pub asks_link_of : Machine → Command → Option LinkQuestion

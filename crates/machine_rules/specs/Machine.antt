@@ -5,6 +5,9 @@ use Rattle.go_rules.specs.declared.Move.{Move}
 use Rattle.go_rules.specs.Position.{BoardState}
 use Rattle.go_rules.specs.Replay.{empty_board, replay_from}
 use Rattle.helpers.specs.HelperStates.{SlotState}
+use Rattle.match_engine.specs.ReadingDepths.{ReadingDepths, asked_at}
+use Rattle.read_rules.specs.declared.question.Kind.{Kind}
+use Rattle.read_rules.specs.declared.question.ReadingQuestion.{ReadingQuestion}
 
 -- settings, a first position and moves from it, and helpers
 pub record Machine : Type 0 where
@@ -14,10 +17,8 @@ pub record Machine : Type 0 where
   pub moves : List Move
   -- the text of the komi
   pub komi : List ℕ
-  -- how many plies a reading may have
-  pub plies : ℕ
-  -- in how many of the first plies more is tried than the liberties of the strings
-  pub wide : ℕ
+  -- which tree a reading is of, and how deep it may be
+  pub depths : ReadingDepths
   -- the helpers, each with its name and its meaning, on or off, and how often it was asked
   pub helpers : List SlotState
 
@@ -25,18 +26,20 @@ pub record Machine : Type 0 where
 abbrev pub first_size : ℕ
 first_size = 19
 
--- the machine before the first line, with these helpers, whose readings have this many plies and wide plies: its board
--- is empty
-abbrev pub first_machine : List SlotState → ℕ → ℕ → Machine
-first_machine helpers plies wide = record {
+-- the machine before the first line, with these helpers, whose readings have these depths: its board is empty
+abbrev pub first_machine : List SlotState → ReadingDepths → Machine
+first_machine helpers depths = record {
   base = empty_board first_size;
   moves = [];
   komi = codes "0.0";
-  plies = plies;
-  wide = wide;
+  depths = depths;
   helpers = helpers;
 }
 
 -- the position of the machine: its moves are played from its base
 abbrev pub position_of : Machine → BoardState
 position_of machine = replay_from machine.base machine.moves
+
+-- the question about the string of a point of the machine's position, as deep as the machine reads
+abbrev pub question_at : Machine → Kind → ℕ → ReadingQuestion
+question_at machine kind p = asked_at machine.depths (position_of machine) kind p

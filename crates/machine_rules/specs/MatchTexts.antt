@@ -2,7 +2,6 @@
 use Rattle.std.specs.Prelude.{◌≡◌, ℕ, ◌*◌, ◌<◌, List, [], ◌++◌, length, map, Option, Some, None, slice_get, Contains}
 use Rattle.std.specs.Prelude.{codes, decimal}
 use Rattle.std.specs.List.{join_with_byte}
-use Rattle.match_engine.specs.Readings.{ReadingsView}
 use Rattle.pat_types.specs.declared.pattern.Pattern.{Pattern}
 use Rattle.match_rules.specs.declared.found.Match.{Match}
 use Rattle.gtp_cmd.specs.Words.{line_feed}
@@ -26,8 +25,3 @@ matches_text patterns s zs = join_with_byte line_feed (map (match_text patterns 
 -- each match is one of these patterns at a point of a board of size s
 abbrev pub AreAmong : List Pattern → ℕ → List Match → Type 0
 AreAmong patterns s zs = (z : Match) → Contains zs z → (z.pattern < length patterns) × (z.at < s * s)
-
--- the readings are as deep as before
-pub record SameDepths (old new : ReadingsView) : Type 0 where
-  pub plies : new.plies ≡ old.plies
-  pub wide : new.wide ≡ old.wide

@@ -18,7 +18,7 @@ pub record Matcher : Type 0 where
 
 -- the codes of readings as deep as the machine reads, each read afresh
 abbrev pub codes_of : Machine → Codes
-codes_of machine = codes_at machine.plies machine.wide
+codes_of machine = codes_at machine.depths
 
 -- the plain matcher of these patterns: it compares each of their diagrams with the board, reads afresh what their
 -- classes and constraints ask, and asks the helpers that they name

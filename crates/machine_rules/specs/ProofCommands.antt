@@ -3,14 +3,12 @@ use Rattle.std.specs.Prelude.{ℕ, Bool, true, false, nat_le, List, [], ◌∷�
 use Rattle.std.specs.Prelude.{if◌then◌else◌, decimal, codes}
 use Rattle.read_rules.specs.declared.question.Kind.{Kind}
 use Rattle.read_rules.specs.declared.question.Kind.TheVariants.{Attack, Defend}
-use Rattle.read_rules.specs.declared.question.ReadingQuestion.{ReadingQuestion}
-use Rattle.read_rules.specs.Answer.{asked_on}
 use Rattle.read_proof.specs.FirstProof.{first_text}
 use Rattle.read_proof.specs.ProofOf.{codes_down_to, proves_all}
 use Rattle.read_proof.specs.Tokens.{Word, words_in}
 use Rattle.gtp_cmd.specs.Words.{blank}
 use Rattle.gtp_cmd.specs.declared.refusals.RefuseText.TheVariants.{ProofTooLong}
-use Rattle.machine_rules.specs.Machine.{Machine, position_of}
+use Rattle.machine_rules.specs.Machine.{Machine, position_of, question_at}
 use Rattle.machine_rules.specs.Effects.{Effect, refused, told, growing}
 use Rattle.machine_rules.specs.BoardCommands.{of_stone}
 use Rattle.machine_rules.specs.ReadingCommands.{reading_of}
@@ -18,10 +16,6 @@ use Rattle.machine_rules.specs.ReadingCommands.{reading_of}
 -- the most bytes of a proof that is printed, without its code
 abbrev pub longest_proof : ℕ
 longest_proof = 60000
-
--- the question about the string of a point, as deep as the machine reads
-abbrev pub question_at : Machine → Kind → ℕ → ReadingQuestion
-question_at machine kind p = asked_on (position_of machine) kind p machine.plies machine.wide
 
 -- the first proof of a question's code on the machine's position
 abbrev pub proof_of : Machine → Kind → ℕ → List ℕ

@@ -8,9 +8,8 @@ use Rattle.gtp_cmd.specs.declared.commands.Parsed.{Parsed}
 use Rattle.gtp_cmd.specs.declared.commands.Parsed.TheVariants as parsed
 use Rattle.read_rules.specs.declared.question.Kind.{Kind}
 use Rattle.read_rules.specs.declared.question.Kind.TheVariants.{Attack, Defend}
-use Rattle.read_rules.specs.Answer.{asked_on}
 use Rattle.match_engine.specs.declared.keys.Key.{Key}
-use Rattle.machine_rules.specs.Machine.{Machine, position_of}
+use Rattle.machine_rules.specs.Machine.{Machine, question_at}
 use Rattle.machine_rules.specs.ChoiceCommands.{is_full}
 use Rattle.machine_rules.specs.Counting.{has_stone}
 use Rattle.machine_rules.specs.Turns.{Turn}
@@ -24,9 +23,9 @@ pub data Asks : Type 0 where
   -- what the classes and constraints of patterns ask
   Many : Asks
 
--- the question about the string of a point of the machine's position, as deep as the machine says
+-- the question about the string of a point, as it is kept
 abbrev pub key_at : Machine → Kind → ℕ → Key
-key_at machine kind p = record { question = asked_on (position_of machine) kind p machine.plies machine.wide }
+key_at machine kind p = record { question = question_at machine kind p }
 
 -- one question, where a stone stands at the point
 abbrev pub asks_at : Machine → Kind → ℕ → Asks

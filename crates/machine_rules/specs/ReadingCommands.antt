@@ -4,7 +4,7 @@ use Rattle.read_rules.specs.declared.question.Kind.{Kind}
 use Rattle.read_rules.specs.declared.question.Spot.{Spot}
 use Rattle.read_rules.specs.declared.question.Spot.TheVariants.{At, Pass}
 use Rattle.read_rules.specs.declared.question.Answer.{Answer}
-use Rattle.read_rules.specs.Answer.{answer_of, asked_on}
+use Rattle.read_rules.specs.Answer.{answer_of}
 use Rattle.gtp_cmd.specs.Words.{blank}
 use Rattle.gtp_cmd.specs.Vertices.{vertex_text}
 use Rattle.machine_rules.specs.Machine.{Machine, position_of}
@@ -27,7 +27,7 @@ answer_text s answer = decimal answer.code ++ move_text s answer.at
 
 -- the answer to a question about the stone at p, read on the machine's position as deep as the machine says
 abbrev pub reading_of : Machine → Kind → ℕ → Answer
-reading_of machine kind p = answer_of (asked_on (position_of machine) kind p machine.plies machine.wide)
+reading_of machine kind p = answer_of (question_at machine kind p)
     (position_of machine)
 
 -- the answer to a question about the string of a point is told
@@ -36,4 +36,4 @@ read old kind p = of_stone old p (told (answer_text old.base.size (reading_of ol
 
 -- readings go this deep from now on
 abbrev pub deepened : Machine → ℕ → ℕ → Effect
-deepened old plies wide = told [] (record old { plies = plies; wide = wide })
+deepened old plies wide = told [] (record old { depths = record old.depths { plies = plies; wide = wide } })

@@ -6,12 +6,11 @@ use Rattle.match_engine.specs.Readings.{ReadingsView, codes_at, codes_of, Follow
 -- readings after readings
 pub Follows-trans : (a b c : ReadingsView) → Follows a b → Follows b c → Follows a c
 Follows-trans a b c first next = record {
-  plies = next.plies ∙ first.plies;
-  wide = next.wide ∙ first.wide;
+  depths = next.depths ∙ first.depths;
   answers = keeping_follows-trans a.answers b.answers c.answers first.answers next.answers;
   trials = omega (arith, first.trials, next.trials);
 }
 
 -- the codes are those of before
 pub codes_stay : (a b : ReadingsView) → Follows a b → codes_of b ≡ codes_of a
-codes_stay a b f = ap (λ n. codes_at n b.wide) f.plies ∙ ap (codes_at a.plies) f.wide
+codes_stay a b f = ap codes_at f.depths

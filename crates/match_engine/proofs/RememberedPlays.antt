@@ -11,20 +11,21 @@ use Rattle.go_rules.specs.Strings.{cell_at, is_stone}
 use Rattle.go_rules.specs.Play.{play}
 use Rattle.read_rules.specs.declared.question.Kind.{Kind}
 use Rattle.read_rules.specs.declared.question.Kind.TheVariants.{Attack}
-use Rattle.read_rules.specs.Answer.{answer_of, asked_on}
+use Rattle.read_rules.specs.Answer.{answer_of}
 use Rattle.read_rules.proofs.RuleLemmas.{code-answer_of}
 use Rattle.cons_eval.specs.Readings.{Codes, code_at}
 use Rattle.cons_eval.specs.Functions.{after_play, is_safe_move}
 use Rattle.match_engine.specs.declared.plays.Plays.{Plays}
+use Rattle.match_engine.specs.ReadingDepths.{ReadingDepths, asked_at}
 use Rattle.match_engine.specs.Readings.{codes_at}
 use Rattle.match_engine.specs.Remembered.{Remembers}
 use Rattle.match_engine.specs.PointAnswers.{Knows}
 use Rattle.match_engine.proofs.QuestionPoints.{Knows-nothing, Knows-more}
 
 -- so it is that of the readings at these depths
-pub answer_codes : (plies wide : ℕ) (kind : Kind) (pos : BoardState) (p code : ℕ)
-    → code ≡ (answer_of (asked_on pos kind p plies wide) pos).code → code ≡ codes_at plies wide kind pos p
-answer_codes plies wide kind pos p code is = is ∙ code-answer_of (asked_on pos kind p plies wide) pos
+pub answer_codes : (depths : ReadingDepths) (kind : Kind) (pos : BoardState) (p code : ℕ)
+    → code ≡ (answer_of (asked_at depths pos kind p) pos).code → code ≡ codes_at depths kind pos p
+answer_codes depths kind pos p code is = is ∙ code-answer_of (asked_at depths pos kind p) pos
 
 -- what is no empty point is a stone
 stone_there : (cell : Cell) → (cell ≡ Empty → ⊥) → is_stone cell ≡ true
@@ -33,12 +34,12 @@ stone_there Black some = refl
 stone_there White some = refl
 
 -- the code of a reading at a stone
-pub read_code : (plies wide : ℕ) (kind : Kind) (pos : BoardState) (p code : ℕ) → (cell_at pos.cells p ≡ Empty → ⊥)
-    → code ≡ (answer_of (asked_on pos kind p plies wide) pos).code
-    → code ≡ code_at (codes_at plies wide) kind pos p
-read_code plies wide kind pos p code some is =
-    is ∙ code-answer_of (asked_on pos kind p plies wide) pos
-    ∙ sym (ap (λ b. cond b (codes_at plies wide kind pos p) 0) (stone_there (cell_at pos.cells p) some))
+pub read_code : (depths : ReadingDepths) (kind : Kind) (pos : BoardState) (p code : ℕ)
+    → (cell_at pos.cells p ≡ Empty → ⊥) → code ≡ (answer_of (asked_at depths pos kind p) pos).code
+    → code ≡ code_at (codes_at depths) kind pos p
+read_code depths kind pos p code some is =
+    answer_codes depths kind pos p code is
+    ∙ sym (ap (λ b. cond b (codes_at depths kind pos p) 0) (stone_there (cell_at pos.cells p) some))
 
 module _ (code : Codes) (board : BoardState) (c : Colour) where
   -- a legal play is safe where the code of an attack on its stone is 0

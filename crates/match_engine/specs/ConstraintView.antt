@@ -7,6 +7,7 @@ use Rattle.pat_types.specs.declared.expr.Arg.TheVariants.{Star, Nowhere}
 use Rattle.cons_eval.specs.Meanings.{EnvView}
 use Rattle.match_rules.specs.Conditions.{meanings_at}
 use Rattle.match_engine.specs.declared.constraint_question.ConstraintQuestion.{ConstraintQuestion}
+use Rattle.match_engine.specs.ReadingDepths.{numbers_of}
 use Rattle.match_engine.specs.Readings.{ReadingsView, codes_of}
 
 -- The meanings of the pattern at m under t, by the codes of the present readings. They stay those that are borrowed
@@ -15,7 +16,7 @@ use Rattle.match_engine.specs.Readings.{ReadingsView, codes_of}
 abbrev pub asked : Pattern → BoardState → Colour → ℕ → ℕ → ℕ → ReadingsView → ℕ → EnvView
 asked p board friend t m name r often = record {
   meanings = meanings_at (codes_of r) p board friend t m;
-  fixed = name ∷ r.plies ∷ r.wide ∷ r.answers.kept.1 ∷ [];
+  fixed = name ∷ r.answers.kept.1 ∷ numbers_of r.depths;
   asked = often;
   counts = r.answers.fresh ∷ r.trials ∷ r.answers.refused ∷ [];
 }

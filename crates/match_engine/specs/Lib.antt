@@ -2,6 +2,7 @@ pub mod Keys
 pub mod AutomatonMatches
 pub mod Found
 pub mod HelperCalls
+pub mod ReadingDepths
 pub mod Readings
 pub mod Remembered
 pub mod ConstraintView

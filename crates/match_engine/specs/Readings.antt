@@ -6,7 +6,7 @@ use Rattle.go_base.specs.AmongFacts.{told}
 use Rattle.read_rules.specs.declared.question.Answer.{Answer}
 use Rattle.go_rules.specs.Strings.{liberties}
 use Rattle.read_rules.specs.declared.question.ReadingQuestion.{ReadingQuestion}
-use Rattle.read_rules.specs.Answer.{code_of, asked_on, answer_of, is_attack}
+use Rattle.read_rules.specs.Answer.{code_of, answer_of, is_attack}
 use Rattle.read_rules.specs.Bound.{outlasts}
 use Rattle.read_rules.specs.ActiveArea.{InActiveArea, IsAboutOne}
 use Rattle.read_rules.specs.GoodMoves.{IsOnBoard}
@@ -14,33 +14,33 @@ use Rattle.read_cache.specs.declared.variants.Variant.{Variant}
 use Rattle.read_cache.specs.Keeping.{Keeping, WasKept, WasFresh, raised, first_keeping, Follows as KeepingFollows}
 use Rattle.match_engine.specs.declared.keys.Key.{Key}
 use Rattle.match_engine.specs.Keys.{same_key}
+use Rattle.match_engine.specs.ReadingDepths.{ReadingDepths, asked_at}
 use Rattle.cons_eval.specs.Readings.{Codes}
 
 -- the depths of the present readings, the trial plays of all that were fresh, those of the last one, if it was fresh,
 -- and the answers that are kept, with the counts of those that were fresh and of those that could not be kept
 pub record ReadingsView : Type 0 where
-  pub plies : ℕ
-  pub wide : ℕ
+  pub depths : ReadingDepths
   pub trials : ℕ
   pub last : Option ℕ
   pub answers : Keeping Key Answer
 
 -- new readings of these depths, of which so many questions may be kept
-abbrev pub first_readings : ℕ → ℕ → ℕ → ReadingsView
-first_readings plies wide capacity =
-    record { plies = plies; wide = wide; trials = 0; last = None; answers = first_keeping capacity }
+abbrev pub first_readings : ReadingDepths → ℕ → ReadingsView
+first_readings depths capacity =
+    record { depths = depths; trials = 0; last = None; answers = first_keeping capacity }
 
 -- the readings with other depths
-abbrev pub with_depths : ReadingsView → ℕ → ℕ → ReadingsView
-with_depths r plies wide = record r { plies = plies; wide = wide }
+abbrev pub with_depths : ReadingsView → ReadingDepths → ReadingsView
+with_depths r depths = record r { depths = depths }
 
 -- the code of a fresh reading at these depths, of each kind, on each position and for each target
-abbrev pub codes_at : ℕ → ℕ → Codes
-codes_at plies wide kind pos target = code_of (asked_on pos kind target plies wide) pos
+abbrev pub codes_at : ReadingDepths → Codes
+codes_at depths kind pos target = code_of (asked_at depths pos kind target) pos
 
 -- the codes of readings at the present depths
 abbrev pub codes_of : ReadingsView → Codes
-codes_of r = codes_at r.plies r.wide
+codes_of r = codes_at r.depths
 
 -- The answer of the variant rests on its facts: on each position on which they hold it is the answer to the question,
 -- and there each of them lies in the active area of the reading.
@@ -77,14 +77,12 @@ pub record ReadAfresh (key : Key) (pos : BoardState) (answer : Answer) (old new 
 
 -- new is old after one reading at the same depths, which was kept or fresh
 pub record HasRead (key : Key) (pos : BoardState) (answer : Answer) (old new : ReadingsView) : Type 0 where
-  pub plies : new.plies ≡ old.plies
-  pub wide : new.wide ≡ old.wide
+  pub depths : new.depths ≡ old.depths
   pub read : ReadAfresh key pos answer old new ⊎ FoundKept key pos answer old new
 
 -- new is old after any number of readings: the depths are the same, the answers follow, and the trial plays have not
 -- become fewer
 pub record Follows (old new : ReadingsView) : Type 0 where
-  pub plies : new.plies ≡ old.plies
-  pub wide : new.wide ≡ old.wide
+  pub depths : new.depths ≡ old.depths
   pub answers : KeepingFollows old.answers new.answers
   pub trials : old.trials ≤ new.trials

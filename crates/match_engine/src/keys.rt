@@ -2,15 +2,15 @@
 
 ghost use Rattle.std.specs.Prelude.{◌≡◌, ◌≢◌, ◌*◌, ◌<◌};
 ghost use Rattle.go_rules.specs.Strings.{cell_at};
-ghost use Rattle.read_rules.specs.Answer.{asked_on};
 ghost use Rattle.match_engine.specs.Keys.{number_of, number_of_kind};
+ghost use Rattle.match_engine.specs.ReadingDepths.{asked_at, depths_of};
 
 use go_base::{Cell, Point, Position};
 use read_cache::Question;
-use read_rules::{Answer, Depths, Kind, ReadingQuestion, Tree};
+use read_rules::{Answer, Depths, Kind, ReadingQuestion};
 use std::hash::{Hash, Hasher};
 
-/// A question as it is kept: its size, kind, target, colour and depths.
+/// A question as it is kept: its size, kind, target, colour, tree and depths.
 #[derive(Clone, Copy, Debug, PartialEq, Eq)]
 pub struct Key {
     /// The question.
@@ -53,7 +53,8 @@ fn number_of_kind(kind: Kind) -> u64
     }
 }
 
-/// The number that a question is hashed as. Questions about two points, of two kinds or at two depths have two numbers.
+/// The number that a question is hashed as. Questions about two points, of two kinds or at two depths
+/// have two numbers; those in two trees have one, as a session reads one tree.
 fn number_of(question: &ReadingQuestion) -> u64
     ensures { result ≡ number_of question.now }
 {
@@ -62,15 +63,15 @@ fn number_of(question: &ReadingQuestion) -> u64
     (about * 256 + question.plies as u64) * 256 + question.wide as u64
 }
 
-/// The question of this kind about a stone of the position, in the stated tree.
+/// The question of this kind about a stone of the position.
 pub(crate) fn key_of(kind: Kind, position: &Position, target: Point, depths: Depths) -> Key
     requires on_board { target < position.now.size * position.now.size }
     requires stone { cell_at position.now.cells target ≢ Cell.Empty }
-    ensures { result.question ≡ asked_on position.now kind target depths.plies depths.wide }
+    ensures { result.question ≡ asked_at (depths_of depths) position.now kind target }
 {
     Key {
         question: ReadingQuestion {
-            tree: Tree::Stated,
+            tree: depths.tree,
             size: position.size(),
             kind,
             target,

@@ -3,9 +3,10 @@ ghost use Rattle.std.specs.Prelude.{◌≡◌, ◌≢◌, ◌*◌, ◌<◌, ◌�
 ghost use Rattle.go_rules.specs.Strings.{cell_at};
 ghost use Rattle.go_base.specs.Facts.{Agrees};
 ghost use Rattle.go_base.specs.AmongFacts.{told};
-ghost use Rattle.read_rules.specs.Answer.{answer_of, asked_on};
+ghost use Rattle.read_rules.specs.Answer.{answer_of};
 ghost use Rattle.read_rules.specs.GoodMoves.{IsOnBoard};
 ghost use Rattle.match_engine.specs.Keys.{same_key};
+ghost use Rattle.match_engine.specs.ReadingDepths.{asked_at, depths_of};
 ghost use Rattle.read_cache.specs.Kept.{IsMissing, HoldsOfEach};
 ghost use Rattle.match_engine.specs.Readings.{HasRead, ReadAfresh, FoundKept, Follows, Rests, Answers};
 ghost use Rattle.match_engine.specs.Readings.{first_readings, with_depths, is_untried};
@@ -13,12 +14,12 @@ ghost use Rattle.match_engine.specs.Readings.{first_readings, with_depths, is_un
 use crate::keys::{Key, key_of};
 use go_base::{Cell, Facts, NoMemory, Point, Position, Watch};
 use read_cache::Cache;
-use read_rules::{Answer, Depths, Kind, Tree};
+use read_rules::{Answer, Depths, Kind};
 use read_tree::{attack, defend};
 use std::alloc::Global;
 use std::marker::Model;
 
-/// The readings of a session, all in the stated tree and at the same depths, how many of them were made, and those that
+/// The readings of a session, all in the same tree and at the same depths, how many of them were made, and those that
 /// are kept. Seen as these.
 ///
 /// Each answer is that of a fresh reading. It is kept with the facts that it rests on, and used again where these hold.
@@ -34,13 +35,13 @@ pub struct Readings {
 
 impl Model for Readings {
     ghost use Rattle.read_cache.specs.Kept.{HoldsOfEach};
+    ghost use Rattle.match_engine.specs.ReadingDepths.{depths_of};
     ghost use Rattle.match_engine.specs.Readings.{ReadingsView, Rests};
 
     ghost Value = { ReadingsView };
 
     ghost view = { λ r. record {
-      plies = r.depths.plies;
-      wide = r.depths.wide;
+      depths = depths_of r.depths;
       trials = r.trials;
       last = r.last;
       answers = record { fresh = r.fresh; refused = r.refused; kept = r.cache };
@@ -57,21 +58,20 @@ struct Fresh {
     facts: Facts,
 }
 
-/// Reads afresh, in the stated tree.
+/// Reads afresh.
 fn read_afresh(kind: Kind, position: &Position, target: Point, depths: Depths) -> Fresh
     requires on_board { target < position.now.size * position.now.size }
     requires stone { cell_at position.now.cells target ≢ Cell.Empty }
     ensures holds { Agrees (told result.facts) position.now }
-    ensures rests { Rests (record { question = asked_on position.now kind target depths.plies depths.wide })
+    ensures rests { Rests (record { question = asked_at (depths_of depths) position.now kind target })
         (record { facts = result.facts; answer = result.answer }) }
-    ensures untried { IsTrue (is_untried (asked_on position.now kind target depths.plies depths.wide) position.now)
+    ensures untried { IsTrue (is_untried (asked_at (depths_of depths) position.now kind target) position.now)
         → result.trials ≡ 0 }
 {
     let watch = Watch::new(position);
-    let stated = depths.in_tree(Tree::Stated);
     let told = match kind {
-        Kind::Attack => attack(watch, target, stated),
-        Kind::Defend => defend(watch, target, stated),
+        Kind::Attack => attack(watch, target, depths),
+        Kind::Defend => defend(watch, target, depths),
     };
     Fresh {
         answer: told.answer,
@@ -86,7 +86,7 @@ impl Readings {
     pub fn new(alloc: Global, depths: Depths, capacity: u32) -> Result<Readings, NoMemory>
         requires some { 8 ≤ capacity }
         requires few { capacity ≤ 65536 }
-        ensures { IfOk result (λ readings. readings ≡ first_readings depths.plies depths.wide capacity) }
+        ensures { IfOk result (λ readings. readings ≡ first_readings (depths_of depths) capacity) }
     {
         Ok(Readings {
             depths,
@@ -106,13 +106,13 @@ impl Readings {
     pub fn read(&mut self, kind: Kind, position: &Position, target: Point) -> Answer
         requires on_board { target < position.now.size * position.now.size }
         requires stone { cell_at position.now.cells target ≢ Cell.Empty }
-        ensures answer { result ≡ answer_of (asked_on position.now kind target self.old.plies self.old.wide)
+        ensures answer { result ≡ answer_of (asked_at self.old.depths position.now kind target)
             position.now }
         ensures code { result.code ≤ 3 }
         ensures on_board { IfSome result.at (IsOnBoard position.now.size) }
         // It was kept, and no count has changed, or it was fresh, and is counted, with as many trial plays as the last
         // one made, and kept or refused. It made none where its target has too many liberties.
-        ensures read { HasRead (record { question = asked_on position.now kind target self.old.plies self.old.wide })
+        ensures read { HasRead (record { question = asked_at self.old.depths position.now kind target })
             position.now result self.old self.new }
         // Each kept variant rests on its facts.
         ensures rest { HoldsOfEach Rests self.new.answers.kept }
@@ -132,14 +132,14 @@ impl Readings {
         requires on_board { target < position.now.size * position.now.size }
         requires stone { cell_at position.now.cells target ≢ Cell.Empty }
         ensures answer { IfSome result (λ answer. answer
-            ≡ answer_of (asked_on position.now kind target self.old.plies self.old.wide) position.now) }
+            ≡ answer_of (asked_at self.old.depths position.now kind target) position.now) }
         ensures on_board { IfSome result (λ answer. IfSome answer.at (IsOnBoard position.now.size)) }
         ensures read { IfSome result (λ answer. HasRead
-            (record { question = asked_on position.now kind target self.old.plies self.old.wide }) position.now answer
+            (record { question = asked_at self.old.depths position.now kind target }) position.now answer
             self.old self.new) }
         ensures rest { HoldsOfEach Rests self.new.answers.kept }
         ensures missing { IfNone result (IsMissing same_key
-            (record { question = asked_on position.now kind target self.old.plies self.old.wide }) position.now
+            (record { question = asked_at self.old.depths position.now kind target }) position.now
             self.old.answers.kept) }
         ensures same { IfNone result (self.new ≡ self.old) }
     {
@@ -153,8 +153,7 @@ impl Readings {
         ensures found { IfSome result (λ answer. FoundKept key.now position.now answer self.old self.new) }
         ensures missing { IfNone result (IsMissing same_key key.now position.now self.old.answers.kept) }
         ensures same { IfNone result (self.new ≡ self.old) }
-        ensures plies { self.new.plies ≡ self.old.plies }
-        ensures wide { self.new.wide ≡ self.old.wide }
+        ensures depths { self.new.depths ≡ self.old.depths }
         ensures right { IfSome result (λ answer. Answers key.now position.now answer) }
         ensures rest { HoldsOfEach Rests self.new.answers.kept }
     {
@@ -169,13 +168,12 @@ impl Readings {
     fn read_and_keep(&mut self, key: Key, kind: Kind, position: &Position, target: Point) -> Answer
         requires on_board { target < position.now.size * position.now.size }
         requires stone { cell_at position.now.cells target ≢ Cell.Empty }
-        requires key { key.question ≡ asked_on position.now kind target self.old.plies self.old.wide }
+        requires key { key.question ≡ asked_at self.old.depths position.now kind target }
         requires missing { IsMissing same_key key position.now self.old.answers.kept }
         ensures right { Answers key position.now result }
         ensures fresh { ReadAfresh key position.now result self.old self.new }
         ensures rest { HoldsOfEach Rests self.new.answers.kept }
-        ensures plies { self.new.plies ≡ self.old.plies }
-        ensures wide { self.new.wide ≡ self.old.wide }
+        ensures depths { self.new.depths ≡ self.old.depths }
     {
         let read = read_afresh(kind, position, target, self.depths);
         self.fresh = self.fresh.saturating_add(1);
@@ -187,20 +185,18 @@ impl Readings {
         read.answer
     }
 
-    /// Changes the depths alone.
+    /// Changes the tree and the depths alone.
     pub fn set(&mut self, depths: Depths)
-        ensures { self.new ≡ with_depths self.old depths.plies depths.wide }
+        ensures { self.new ≡ with_depths self.old (depths_of depths) }
     {
         self.depths = depths;
     }
 
-    /// The present depths, in the stated tree.
+    /// The present depths.
     pub fn depths(&self) -> Depths
-        ensures tree { result.tree ≡ Tree.Stated }
-        ensures plies { result.plies ≡ self.now.plies }
-        ensures wide { result.wide ≡ self.now.wide }
+        ensures { depths_of result ≡ self.now.depths }
     {
-        self.depths.in_tree(Tree::Stated)
+        self.depths
     }
 
     /// How many readings were fresh, as far as a `u64` counts.

@@ -12,6 +12,8 @@ use Rattle.machine_rules.specs.Machine.{first_machine}
 use Rattle.machine_rules.specs.Matcher.{plain_matcher}
 use Rattle.helpers.specs.HelperStates.{SlotState}
 use Rattle.engine.specs.Handed.{helper_names}
+use Rattle.engine.specs.EngineView.{depths_in}
+use Rattle.read_rules.specs.declared.tree.Tree.TheVariants.{Stated}
 use Rattle.session.specs.PatternFiles.{IsOpened}
 use Rattle.session.specs.Outcomes.{Phase, NotTaken, NotOpened, Served}
 use Rattle.session.specs.Ends.{IsRight}
@@ -47,7 +49,7 @@ pub record ServesInMemory (helpers : List SlotState) (words : List (List ℕ)) (
   pub patterns : List Pattern
   pub opened : IsOpened (helper_names helpers) contents options.files options.states patterns
   pub serves : ServesEither options.generate (step (plain_matcher patterns) contents)
-      (first_machine helpers options.depth options.branch)
+      (first_machine helpers (depths_in Stated options))
       input rest old new piece end
 
 -- by how far a run came: before the lines nothing was taken and nothing put

@@ -4,6 +4,7 @@ use Rattle.pat_types.specs.declared.pattern.Pattern.{Pattern}
 use Rattle.dfa_core.specs.Automata.{Row}
 use Rattle.dfa_core.specs.States.{IsAutomatonOf}
 use Rattle.helpers.specs.HelperStates.{SlotState}
+use Rattle.match_engine.specs.ReadingDepths.{ReadingDepths}
 use Rattle.match_engine.proofs.Patterns.{same_by_automaton}
 use Rattle.machine_rules.specs.Files.{Contents}
 use Rattle.machine_rules.specs.Machine.{Machine, first_machine, position_of}
@@ -17,10 +18,10 @@ use Rattle.session.specs.Headline.{ServesLines}
 use Rattle.session.specs.declared.outcome.End.{End}
 
 -- with the automaton of its patterns a session is plain before its first line
-pub plain-first : (patterns : List Pattern) (rows : List Row) (plies wide capacity : ℕ)
+pub plain-first : (patterns : List Pattern) (rows : List Row) (depths : ReadingDepths) (capacity : ℕ)
     → 8 ≤ capacity → IsAutomatonOf patterns rows
-    → IsPlainWith patterns plies wide capacity (first_kept patterns rows plies wide capacity)
-plain-first patterns rows plies wide capacity room accepts = record {
+    → IsPlainWith patterns depths capacity (first_kept patterns rows depths capacity)
+plain-first patterns rows depths capacity room accepts = record {
   machine = λ helpers. refl;
   counts = refl;
   readings = refl;
@@ -34,13 +35,12 @@ plain-first patterns rows plies wide capacity room accepts = record {
 }
 
 -- a session that is plain with some patterns served the lines as the plain machine does
-pub ServesLines-plain : (patterns : List Pattern) (plies wide capacity : ℕ) (session : EngineView)
+pub ServesLines-plain : (patterns : List Pattern) (depths : ReadingDepths) (capacity : ℕ) (session : EngineView)
     (slots helpers : List SlotState) (contents : Contents) (generate : Option ℕ) (before after : Streams) (end : End)
-    (tally : Tally Machine) → IsPlainWith patterns plies wide capacity session → slots ≡ helpers
+    (tally : Tally Machine) → IsPlainWith patterns depths capacity session → slots ≡ helpers
     → ServesLines generate (step (matcher_of session) contents) (machine_with slots session) before after end tally
-    → ServesLines generate (step (plain_matcher patterns) contents) (first_machine helpers plies wide) before after end
-    tally
-ServesLines-plain patterns plies wide capacity session slots helpers contents generate before after end tally plain same
+    → ServesLines generate (step (plain_matcher patterns) contents) (first_machine helpers depths) before after end tally
+ServesLines-plain patterns depths capacity session slots helpers contents generate before after end tally plain same
     serves =
     let by_plain =
     subst (λ k. ServesLines generate (step k contents) (machine_with slots session) before after end tally)

@@ -22,7 +22,8 @@ use Rattle.helpers.specs.HelperStates.{SlotState}
 use Rattle.machine_rules.specs.Step.{step}
 use Rattle.engine.specs.Handed.{helper_names}
 use Rattle.engine.specs.Kept.{Kept, kept_with}
-use Rattle.engine.specs.EngineView.{EngineView, machine_with, matcher_of}
+use Rattle.engine.specs.EngineView.{EngineView, machine_with, matcher_of, depths_in}
+use Rattle.read_rules.specs.declared.tree.Tree.{Tree}
 use Rattle.session.specs.PatternFiles.{IsRefused, MissedIn}
 use Rattle.session.specs.FirstSession.{Opens, CameBy, ServesCounting, EndsCounting}
 use Rattle.session.specs.Outcomes.{Phase, NotOpened, Served}
@@ -56,29 +57,29 @@ missed_along (turn ∷ turns) old new (mid, first, rest) =
     ∙ append_assoc old.missed (missed_in turn) (flat_map missed_in turns)
 
 -- the files were opened, and the session served the lines
-pub came-served : (helpers slots : List SlotState) (contents : Contents) (options : Options)
+pub came-served : (tree : Tree) (helpers slots : List SlotState) (contents : Contents) (options : Options)
     (session : EngineView) (lines : LinesState) (missed now : List (List ℕ))
     (before after : Streams) (end : End) (counts : Counts) (w0 w1 : Option (List ℕ)) (sent : Sent)
     (told : Option Counts) (noted : Option Sent)
-    (phase : Phase) → Opens helpers contents options session slots lines
+    (phase : Phase) → Opens tree helpers contents options session slots lines
     → EndsCounting options.generate (step (matcher_of session) contents) IsAfterLine (machine_with slots session) before
     after end counts now
     (progress_of w0 (kept_with slots missed session) (record { lines = 0; bytes = 0 })) w1 sent
     → told ≡ cond options.stats (Some counts) None → noted ≡ option_map (λ _. sent) options.generate
-    → phase ≡ Served end → CameBy helpers options contents missed now before after told noted phase
-came-served helpers slots contents options session lines missed now before after end counts w0 w1 sent told noted phase
-    opens ends tells notes is =
+    → phase ≡ Served end → CameBy tree helpers options contents missed now before after told noted phase
+came-served tree helpers slots contents options session lines missed now before after end counts w0 w1 sent told noted
+    phase opens ends tells notes is =
     let counting = ends.serves in
     let kept = ends.kept in
     let lines = served-few (step (matcher_of session) contents) options.generate
     (machine_with slots session) before after end counting.tally counting.serves in
     let are = counts_of options.cache (kept_with slots missed session) kept counting.tally.turns counting.advances.along
     opens.plain.counts opens.plain.readings opens.plain.links opens.plain.room lines in
-    subst (CameBy helpers options contents missed now before after told noted) (sym is) (record {
+    subst (CameBy tree helpers options contents missed now before after told noted) (sym is) (record {
       patterns = opens.patterns;
       opened = opens.opened;
       tally = counting.tally;
-      serves = ServesLines-plain opens.patterns options.depth options.branch options.cache session slots helpers
+      serves = ServesLines-plain opens.patterns (depths_in tree options) options.cache session slots helpers
           contents options.generate before after end counting.tally opens.plain opens.same counting.serves;
       names = ends.names
           ∙ missed_along counting.tally.turns (kept_with slots missed session) kept counting.advances.along;
@@ -90,19 +91,19 @@ came-served helpers slots contents options session lines missed now before after
     })
 
 -- the same where the files were opened before, which leaves what files hold and which names were missed
-pub came-served-after : (helpers slots : List SlotState) (contents contents' : Contents) (options : Options)
+pub came-served-after : (tree : Tree) (helpers slots : List SlotState) (contents contents' : Contents) (options : Options)
     (session : EngineView) (lines : LinesState) (missed missed' now : List (List ℕ))
     (before after : Streams) (end : End) (counts : Counts) (w0 w1 : Option (List ℕ)) (sent : Sent)
     (told : Option Counts) (noted : Option Sent)
-    (phase : Phase) → contents' ≡ contents → missed' ≡ missed → Opens helpers contents options session slots lines
+    (phase : Phase) → contents' ≡ contents → missed' ≡ missed → Opens tree helpers contents options session slots lines
     → EndsCounting options.generate (step (matcher_of session) contents') IsAfterLine (machine_with slots session)
     before after end counts now
     (progress_of w0 (kept_with slots missed' session) (record { lines = 0; bytes = 0 })) w1 sent
     → told ≡ cond options.stats (Some counts) None → noted ≡ option_map (λ _. sent) options.generate
-    → phase ≡ Served end → CameBy helpers options contents missed now before after told noted phase
-came-served-after helpers slots contents contents' options session lines missed missed' now before after end counts w0
-    w1 sent told noted phase same kept opens ends tells notes is =
-    came-served helpers slots contents options session lines missed now before after end counts w0 w1 sent told noted
+    → phase ≡ Served end → CameBy tree helpers options contents missed now before after told noted phase
+came-served-after tree helpers slots contents contents' options session lines missed missed' now before after end counts
+    w0 w1 sent told noted phase same kept opens ends tells notes is =
+    came-served tree helpers slots contents options session lines missed now before after end counts w0 w1 sent told noted
     phase opens
     (subst (λ l. EndsCounting options.generate (step (matcher_of session) contents) IsAfterLine
     (machine_with slots session) before after end counts now
@@ -209,12 +210,12 @@ ends-generated n step goes first left piece faults w0 w1 c0 c1 f0 f1 p text rest
 -- the files were not opened
 module _ (options : Options) (error : OpenError) (phase : Phase) (is : phase ≡ NotOpened error) where
   -- nothing was taken, put or counted, and the error says why
-  pub came-unopened : (helpers : List SlotState) (contents : Contents) (missed now : List (List ℕ)) (before : Streams)
+  pub came-unopened : (tree : Tree) (helpers : List SlotState) (contents : Contents) (missed now : List (List ℕ)) (before : Streams)
       (counts : Option Counts) (sent : Option Sent)
       → IsRefused (helper_names helpers) contents options.files options.states error → counts ≡ None → sent ≡ None
-      → CameBy helpers options contents missed now before before counts sent phase
-  came-unopened helpers contents missed now before counts sent refused uncounted unsent =
-      subst (CameBy helpers options contents missed now before before counts sent) (sym is)
+      → CameBy tree helpers options contents missed now before before counts sent phase
+  came-unopened tree helpers contents missed now before counts sent refused uncounted unsent =
+      subst (CameBy tree helpers options contents missed now before before counts sent) (sym is)
       (refused, record { streams = refl; uncounted = uncounted; unsent = unsent })
 
   -- the names missed are as the error says

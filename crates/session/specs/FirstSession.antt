@@ -3,13 +3,15 @@ use Rattle.std.specs.Prelude.{◌≡◌, ℕ, ◌≤◌, List, Option}
 use Rattle.pat_types.specs.declared.pattern.Pattern.{Pattern}
 use Rattle.gtp_lex.specs.Lines.{LinesState, no_line}
 use Rattle.go_options.specs.declared.options.Options.{Options}
+use Rattle.read_rules.specs.declared.tree.Tree.{Tree}
+use Rattle.match_engine.specs.ReadingDepths.{ReadingDepths}
 use Rattle.machine_rules.specs.Machine.{first_machine}
 use Rattle.helpers.specs.HelperStates.{SlotState}
 use Rattle.machine_rules.specs.Files.{Contents}
 use Rattle.engine.specs.Handed.{helper_names}
 use Rattle.machine_rules.specs.Matcher.{plain_matcher}
 use Rattle.engine.specs.Kept.{Kept}
-use Rattle.engine.specs.EngineView.{EngineView, machine_with, matcher_of, no_counts}
+use Rattle.engine.specs.EngineView.{EngineView, machine_with, matcher_of, no_counts, depths_in}
 use Rattle.session.specs.PatternFiles.{IsOpened, IsRefused}
 use Rattle.session.specs.Outcomes.{Phase, NotTaken, NotOpened, Served}
 use Rattle.session.specs.Ends.{Streams}
@@ -24,11 +26,12 @@ use Rattle.session.specs.declared.outcome.End.{End}
 use Rattle.run_notes.specs.declared.notes.Counts.{Counts}
 use Rattle.run_notes.specs.declared.notes.Sent.{Sent}
 
--- the session is the first machine with these helpers, plies and wide plies, its matcher finds the matches of these
--- patterns as the plain one does, it has counted and kept nothing, and may keep this many questions, which are eight
--- and more, and as many about connections
-pub record IsPlainWith (patterns : List Pattern) (plies wide capacity : ℕ) (session : EngineView) : Type 0 where
-  pub machine : (helpers : List SlotState) → machine_with helpers session ≡ first_machine helpers plies wide
+-- the session is the first machine with these helpers and depths, its matcher finds the matches of these patterns as the
+-- plain one does, it has counted and kept nothing, and may keep this many questions, which are eight and more, and as
+-- many about connections
+pub record IsPlainWith (patterns : List Pattern) (depths : ReadingDepths) (capacity : ℕ)
+    (session : EngineView) : Type 0 where
+  pub machine : (helpers : List SlotState) → machine_with helpers session ≡ first_machine helpers depths
   pub counts : session.counts ≡ no_counts
   pub readings : session.readings.answers ≡ first_keeping capacity
   pub links : session.links.answers ≡ first_keeping capacity
@@ -36,23 +39,23 @@ pub record IsPlainWith (patterns : List Pattern) (plies wide capacity : ℕ) (se
   pub matches : matcher_of session ≡ plain_matcher patterns
 
 -- the files of the options were opened, in which the helpers may be named, the session is plain with their patterns and
--- has these helpers, and no line has come
-pub record Opens (helpers : List SlotState) (contents : Contents) (options : Options) (session : EngineView)
+-- the depths of the options in a tree, has these helpers, and no line has come
+pub record Opens (tree : Tree) (helpers : List SlotState) (contents : Contents) (options : Options) (session : EngineView)
     (slots : List SlotState) (lines : LinesState) : Type 0 where
   pub patterns : List Pattern
   pub opened : IsOpened (helper_names helpers) contents options.files options.states patterns
-  pub plain : IsPlainWith patterns options.depth options.branch options.cache session
+  pub plain : IsPlainWith patterns (depths_in tree options) options.cache session
   pub same : slots ≡ helpers
   pub none : lines ≡ no_line
 
 -- how far a run with these options came: its files were not opened, or the lines were served
-abbrev pub CameBy : List SlotState → Options → Contents → List (List ℕ) → List (List ℕ) → Streams → Streams
+abbrev pub CameBy : Tree → List SlotState → Options → Contents → List (List ℕ) → List (List ℕ) → Streams → Streams
     → Option Counts → Option Sent → Phase → Type 0
-CameBy helpers options contents missed now before after counts sent NotTaken = ⊥
-CameBy helpers options contents missed now before after counts sent (NotOpened error) =
+CameBy tree helpers options contents missed now before after counts sent NotTaken = ⊥
+CameBy tree helpers options contents missed now before after counts sent (NotOpened error) =
     IsRefused (helper_names helpers) contents options.files options.states error × IsUntouched before after counts sent
-CameBy helpers options contents missed now before after counts sent (Served end) =
-    IsServed helpers options contents missed now before after end counts sent
+CameBy tree helpers options contents missed now before after counts sent (Served end) =
+    IsServed tree helpers options contents missed now before after end counts sent
 
 -- the lines were served with a tally, by which the counts rose, and along which what is kept went on
 pub record ServesCounting {M : Type 0} (generate : Option ℕ) (step : M → RawLine → Step M → Type 0)

@@ -19,7 +19,9 @@ use Rattle.machine_rules.specs.Counting.{readings_in}
 use Rattle.machine_rules.specs.Questions.{AskNothing}
 use Rattle.engine.specs.AfterLine.{IsAfterLine, of_readings}
 use Rattle.engine.specs.Kept.{Kept}
-use Rattle.engine.specs.EngineView.{no_counts}
+use Rattle.engine.specs.EngineView.{no_counts, depths_in}
+use Rattle.read_rules.specs.declared.tree.Tree.{Tree}
+use Rattle.read_rules.specs.declared.tree.Tree.TheVariants.{Stated}
 use Rattle.machine_rules.specs.CertainHit.{HaveCertainHits}
 use Rattle.session.specs.Tallies.{Tally, kept_sum}
 use Rattle.session.specs.Ends.{Streams, Serves}
@@ -129,17 +131,17 @@ IsSent generate sent tally = MatchOption generate (sent ≡ None) (λ n. IsSomeA
     (λ s. (s.lines ≡ kept_sum 0 tally.replies) × (s.bytes ≡ kept_sum 0 (length tally.out))))
 
 -- The files of the options were opened, in which the helpers may be named, and the lines were served by the plain
--- machine, which compares each diagram of their patterns with the board, reads as deep as the options say, and asks the
--- helpers, whose meanings never change. The names that the loader missed are those that it had missed, and behind them
+-- machine, which compares each diagram of their patterns with the board, reads in this tree, as deep as the options say,
+-- and asks the helpers, whose meanings never change. The names that the loader missed are those that it had missed, and behind them
 -- those of the lines that were answered `cannot load file`, in their order.
-pub record IsServed (helpers : List SlotState) (options : Options) (contents : Contents) (missed : List (List ℕ))
+pub record IsServed (tree : Tree) (helpers : List SlotState) (options : Options) (contents : Contents) (missed : List (List ℕ))
     (now : List (List ℕ)) (before after : Streams) (end : End) (counts : Option Counts)
     (sent : Option Sent) : Type 0 where
   pub patterns : List Pattern
   pub opened : IsOpened (helper_names helpers) contents options.files options.states patterns
   pub tally : Tally Machine
   pub serves : ServesLines options.generate (step (plain_matcher patterns) contents)
-      (first_machine helpers options.depth options.branch) before after end tally
+      (first_machine helpers (depths_in tree options)) before after end tally
   pub names : now ≡ missed ++ flat_map missed_in tally.turns
   pub counted : AreCounts options.stats options.cache counts tally
   pub told : IsSent options.generate sent tally
@@ -151,15 +153,15 @@ pub record IsUntouched (before after : Streams) (counts : Option Counts) (sent :
   pub unsent : sent ≡ None
 
 -- by how far a run came, what its words gave, what it did, and what it is to note
-abbrev pub Came : List SlotState → List (List ℕ) → Contents → List (List ℕ) → List (List ℕ) → Streams → Streams
+abbrev pub Came : Tree → List SlotState → List (List ℕ) → Contents → List (List ℕ) → List (List ℕ) → Streams → Streams
     → Option Counts → Option Sent → Phase → Type 0
-Came helpers words contents missed now before after counts sent NotTaken =
+Came tree helpers words contents missed now before after counts sent NotTaken =
     (is_taken words ≡ false) × IsUntouched before after counts sent
-Came helpers words contents missed now before after counts sent (NotOpened error) =
+Came tree helpers words contents missed now before after counts sent (NotOpened error) =
     IsUnopened helpers words contents error × IsUntouched before after counts sent
-Came helpers words contents missed now before after counts sent (Served end) =
+Came tree helpers words contents missed now before after counts sent (Served end) =
     (options : Options) × GiveOptions words options
-    × IsServed helpers options contents missed now before after end counts sent
+    × IsServed tree helpers options contents missed now before after end counts sent
 
 -- the file words of a command line
 abbrev pub files_in : List (List ℕ) → List (List ℕ)
@@ -177,12 +179,12 @@ pub record IsCauseOf (fault : Type 0) (before now : ℕ) : Type 0 where
   pub rose : fault → Rose before now
   pub told : before < now → fault
 
--- what a run of these words with these helpers did, by its outcome, and what it counted
-pub record Runs (helpers : List SlotState) (words : List (List ℕ)) (before after : Outside)
+-- what a run of these words with these helpers did that reads in a tree, by its outcome, and what it counted
+pub record RunsIn (tree : Tree) (helpers : List SlotState) (words : List (List ℕ)) (before after : Outside)
     (outcome : Outcome) : Type 0 where
   pub counts : Option Counts
   pub sent : Option Sent
-  pub came : Came helpers words before.contents before.missed after.missed before.streams after.streams counts sent
+  pub came : Came tree helpers words before.contents before.missed after.missed before.streams after.streams counts sent
       (phase_of outcome)
   pub missed : MissedAfter (files_in words) before.missed after.missed (phase_of outcome)
   pub same : after.contents ≡ before.contents
@@ -191,6 +193,10 @@ pub record Runs (helpers : List SlotState) (words : List (List ℕ)) (before aft
   pub notes : IsNoted before.noted after.noted before.notes_faults after.notes_faults
       (notes_text counts sent (note_of outcome))
 
+-- what a run of these words with these helpers did that reads in the stated tree
+abbrev pub Runs : List SlotState → List (List ℕ) → Outside → Outside → Outcome → Type 0
+Runs = RunsIn Stated
+
 -- A run loaded, took and put nothing, and noted how it ended.
 pub record DoesNothing (before after : Outside) (outcome : Outcome) : Type 0 where
   pub missed : after.missed ≡ before.missed
@@ -198,8 +204,13 @@ pub record DoesNothing (before after : Outside) (outcome : Outcome) : Type 0 whe
   pub streams : after.streams ≡ before.streams
   pub notes : IsNoted before.noted after.noted before.notes_faults after.notes_faults (note_of outcome)
 
--- what a run with these helpers did, by its words where they could be had; texts tells these
+-- what a run with these helpers did that reads in a tree, by its words where they could be had; texts tells these
+abbrev pub RunsHadIn : {V : Type 0} → Tree → List SlotState → (V → List (List ℕ)) → Result V WordsError → Outside → Outside
+    → Outcome → Type 0
+RunsHadIn tree helpers texts (Ok words) before after outcome = RunsIn tree helpers (texts words) before after outcome
+RunsHadIn tree helpers texts (Err error) before after outcome = (outcome ≡ unhad error) × DoesNothing before after outcome
+
+-- what such a run did that reads in the stated tree
 abbrev pub RunsHad : {V : Type 0} → List SlotState → (V → List (List ℕ)) → Result V WordsError → Outside → Outside
     → Outcome → Type 0
-RunsHad helpers texts (Ok words) before after outcome = Runs helpers (texts words) before after outcome
-RunsHad helpers texts (Err error) before after outcome = (outcome ≡ unhad error) × DoesNothing before after outcome
+RunsHad = RunsHadIn Stated

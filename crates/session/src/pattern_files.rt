@@ -8,6 +8,7 @@ ghost use Rattle.go_options.specs.Found.{AreInRange};
 ghost use Rattle.session.specs.PatternFiles.{most_patterns, needs_feed, added_feed, Adds, IsJoined, MissedBy, MissedIn};
 ghost use Rattle.session.specs.PatternFiles.{HasFewStates, RefusesStates, IsRefused};
 ghost use Rattle.helpers.specs.Slots.{states_of};
+ghost use Rattle.engine.specs.EngineView.{depths_in};
 ghost use Rattle.engine.specs.Handed.{helper_names};
 ghost use Rattle.session.specs.FirstSession.{IsPlainWith, Opens};
 
@@ -21,6 +22,7 @@ use gtp_io::{LoadError, Loader};
 use gtp_lex::Lines;
 use helpers::Helpers;
 use pat_types::Pattern;
+use read_rules::Tree;
 use std::alloc::{AllocError, Global};
 
 /// Whether the contents of a file are not empty and do not end in a line feed.
@@ -83,36 +85,39 @@ pub(crate) struct Opened {
     pub(crate) lines: Lines,
 }
 
-/// A session with these patterns, by their automaton, these helpers, and the depths and at most the states of the
-/// options.
+/// A session with these patterns, by their automaton, these helpers, readings in this tree, and the depths and at most
+/// the states of the options.
 fn session_with(
     alloc: Global,
     patterns: Vec<Pattern>,
     helpers: Helpers,
+    tree: Tree,
     options: &Options,
 ) -> Result<Session, OpenError>
     requires few { length patterns.items ≤ most_patterns }
     requires ranges { AreInRange options.now }
-    ensures ok { IfOk result (λ session. IsPlainWith patterns.items options.now.depth options.now.branch
-        options.now.cache session.engine) }
+    ensures ok { IfOk result (λ session. IsPlainWith patterns.items (depths_in tree options.now) options.now.cache
+        session.engine) }
     ensures helpers { IfOk result (λ session. states_of state session.helpers ≡ states_of state helpers) }
     ensures few { OnOk result (HasFewStates patterns.items options.now.states) }
     ensures err { IfErr result (RefusesStates patterns.items options.now.states) }
 {
     let automaton = compile(alloc, patterns.as_slice(), options.states)?;
-    Ok(Session::new(alloc, patterns, automaton, helpers, options)?)
+    Ok(Session::in_tree(alloc, patterns, automaton, helpers, tree, options)?)
 }
 
 /// Opens the files of the options: joins their contents, reads them as one database, in which the helpers may be named,
-/// and makes its patterns one automaton. Takes all memory that the run asks for before its first line.
+/// and makes its patterns one automaton; readings are in this tree. Takes all memory that the run asks for before its
+/// first line.
 pub(crate) fn open<L: Loader>(
     alloc: Global,
+    tree: Tree,
     options: &Options,
     files: &mut L,
     helpers: Helpers,
 ) -> Result<Opened, OpenError>
     requires { AreInRange options.now }
-    ensures ok { IfOk result (λ opened. Opens (states_of state helpers) (L.contents files.old) options.now
+    ensures ok { IfOk result (λ opened. Opens tree (states_of state helpers) (L.contents files.old) options.now
         opened.session.engine (states_of state opened.session.helpers) opened.lines) }
     ensures kept { OnOk result (L.missed files.new ≡ L.missed files.old) }
     ensures err { IfErr result (IsRefused (helper_names (states_of state helpers)) (L.contents files.old)
@@ -123,7 +128,7 @@ pub(crate) fn open<L: Loader>(
     let text = joined(alloc, options.files.as_slice(), files)?;
     let known = helpers.names(alloc)?;
     let patterns = patterns_in(alloc, known.as_slice(), text.as_slice())?;
-    let session = session_with(alloc, patterns, helpers, options)?;
+    let session = session_with(alloc, patterns, helpers, tree, options)?;
     let lines = Lines::new(alloc)?;
     Ok(Opened { session, lines })
 }

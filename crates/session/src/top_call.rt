@@ -1,7 +1,8 @@
 //! The top call of the program.
 ghost use Rattle.std.specs.Prelude.{◌≡◌, ◌↔◌, MatchOption, Option, None, Some, true, if◌then◌else◌, option_map, map};
 ghost use Rattle.std.specs.Prelude.{string_bytes};
-ghost use Rattle.session.specs.Headline.{Came, IsCauseOf, MissedAfter, Runs, RunsHad, files_in, outside};
+ghost use Rattle.session.specs.Headline.{Came, IsCauseOf, MissedAfter, Runs, RunsHad, RunsHadIn, RunsIn};
+ghost use Rattle.session.specs.Headline.{files_in, outside};
 ghost use Rattle.session.specs.Ends.{streams};
 ghost use Rattle.session.specs.FirstSession.{CameBy, EndsCounting};
 ghost use Rattle.session.specs.Serving.{progress_of};
@@ -23,6 +24,7 @@ use crate::serve::{Ended, serve};
 use go_options::{Options, OptionsError, read_options};
 use gtp_io::{Loader, Sink, Source};
 use helpers::{Helper, Helpers};
+use read_rules::Tree;
 use run_notes::{Counts, Sent, put_notes};
 use std::alloc::Global;
 use workload::Workload;
@@ -98,6 +100,7 @@ fn serve_lines<L: Loader, S: Source, K: Sink>(
 // Opens the files of the options and serves the lines.
 fn run_options<L: Loader, S: Source, K: Sink>(
     alloc: Global,
+    tree: Tree,
     options: &Options,
     files: &mut L,
     input: &mut S,
@@ -105,7 +108,7 @@ fn run_options<L: Loader, S: Source, K: Sink>(
     helpers: Helpers,
 ) -> Ran
     requires { AreInRange options.now }
-    ensures came { CameBy (states_of state helpers) options.now (L.contents files.old)
+    ensures came { CameBy tree (states_of state helpers) options.now (L.contents files.old)
         (L.missed files.old) (L.missed files.new)
         (streams (S.left input.old) (S.piece input.old) (S.faults input.old) (K.written output.old)
         (K.faults output.old))
@@ -119,7 +122,7 @@ fn run_options<L: Loader, S: Source, K: Sink>(
     ensures output { IsCauseOf (result.outcome ≡ Outcome.OutputFault) (K.faults output.old) (K.faults output.new) }
     ensures last { result.outcome ≡ Outcome.OutputFault → K.failed output.new ≡ true }
 {
-    let mut opened = match open(alloc, options, files, helpers) {
+    let mut opened = match open(alloc, tree, options, files, helpers) {
         Ok(opened) => opened,
         Err(error) => return unserved(error.outcome()),
     };
@@ -138,6 +141,7 @@ fn run_options<L: Loader, S: Source, K: Sink>(
 // Hands the helpers in, opens the files of the options and serves the lines.
 fn run_helped<L: Loader, S: Source, K: Sink>(
     alloc: Global,
+    tree: Tree,
     options: &Options,
     files: &mut L,
     input: &mut S,
@@ -145,7 +149,7 @@ fn run_helped<L: Loader, S: Source, K: Sink>(
     helpers: Vec<Box<dyn Helper>>,
 ) -> Ran
     requires { AreInRange options.now }
-    ensures came { CameBy (handed state helpers.items) options.now (L.contents files.old)
+    ensures came { CameBy tree (handed state helpers.items) options.now (L.contents files.old)
         (L.missed files.old) (L.missed files.new)
         (streams (S.left input.old) (S.piece input.old) (S.faults input.old) (K.written output.old)
         (K.faults output.old))
@@ -160,7 +164,7 @@ fn run_helped<L: Loader, S: Source, K: Sink>(
     ensures last { result.outcome ≡ Outcome.OutputFault → K.failed output.new ≡ true }
 {
     match Helpers::new(alloc, helpers) {
-        Ok(helpers) => run_options(alloc, options, files, input, output, helpers),
+        Ok(helpers) => run_options(alloc, tree, options, files, input, output, helpers),
         Err(_) => unserved(Outcome::NoMemory),
     }
 }
@@ -168,13 +172,14 @@ fn run_helped<L: Loader, S: Source, K: Sink>(
 // The run but for its notes.
 fn run_unnoted<L: Loader, S: Source, K: Sink>(
     alloc: Global,
+    tree: Tree,
     words: &[String],
     files: &mut L,
     input: &mut S,
     output: &mut K,
     helpers: Vec<Box<dyn Helper>>,
 ) -> Ran
-    ensures came { Came (handed state helpers.items) (map string_bytes words.now) (L.contents files.old)
+    ensures came { Came tree (handed state helpers.items) (map string_bytes words.now) (L.contents files.old)
         (L.missed files.old) (L.missed files.new)
         (streams (S.left input.old) (S.piece input.old) (S.faults input.old) (K.written output.old)
         (K.faults output.old))
@@ -189,7 +194,7 @@ fn run_unnoted<L: Loader, S: Source, K: Sink>(
     ensures last { result.outcome ≡ Outcome.OutputFault → K.failed output.new ≡ true }
 {
     match read_options(alloc, words) {
-        Ok(options) => run_helped(alloc, &options, files, input, output, helpers),
+        Ok(options) => run_helped(alloc, tree, &options, files, input, output, helpers),
         Err(OptionsError::Usage) => unserved(Outcome::Usage),
         Err(OptionsError::NoMemory) => unserved(Outcome::NoMemory),
     }
@@ -238,12 +243,39 @@ pub fn run<L: Loader, S: Source, K: Sink, D: Sink>(
     // A fault of the output was its last call.
     ensures last { result ≡ Outcome.OutputFault → K.failed output.new ≡ true }
 {
-    let ran = run_unnoted(alloc, words, files, input, output, helpers);
+    run_in(alloc, Tree::Stated, words, files, input, output, notes, helpers)
+}
+
+/// The same run, whose readings are in this tree.
+pub fn run_in<L: Loader, S: Source, K: Sink, D: Sink>(
+    alloc: Global,
+    tree: Tree,
+    words: &[String],
+    files: &mut L,
+    input: &mut S,
+    output: &mut K,
+    notes: &mut D,
+    helpers: Vec<Box<dyn Helper>>,
+) -> Outcome
+    // By the outcome, what the files are, what was taken, put and noted, which files were missed, and whose count of
+    // faults rose.
+    ensures runs { RunsIn tree (handed state helpers.items) (map string_bytes words.now)
+        (outside (L.contents files.old) (L.missed files.old)
+        (streams (S.left input.old) (S.piece input.old) (S.faults input.old) (K.written output.old)
+        (K.faults output.old)) (D.written notes.old) (D.faults notes.old))
+        (outside (L.contents files.new) (L.missed files.new)
+        (streams (S.left input.new) (S.piece input.new) (S.faults input.new) (K.written output.new)
+        (K.faults output.new)) (D.written notes.new) (D.faults notes.new))
+        result }
+    // A fault of the output was its last call.
+    ensures last { result ≡ Outcome.OutputFault → K.failed output.new ≡ true }
+{
+    let ran = run_unnoted(alloc, tree, words, files, input, output, helpers);
     put_ran(notes, ran);
     ran.outcome
 }
 
-/// The same for words that perhaps could not be had: then nothing is loaded, taken or put, and the notes say why.
+/// A run for words that perhaps could not be had: then nothing is loaded, taken or put, and the notes say why.
 pub fn run_words<L: Loader, S: Source, K: Sink, D: Sink>(
     alloc: Global,
     words: Result<Vec<String>, WordsError>,
@@ -264,8 +296,33 @@ pub fn run_words<L: Loader, S: Source, K: Sink, D: Sink>(
     // A fault of the output was its last call.
     ensures last { result ≡ Outcome.OutputFault → K.failed output.new ≡ true }
 {
+    run_words_in(alloc, Tree::Stated, words, files, input, output, notes, helpers)
+}
+
+/// The same for readings in this tree.
+pub fn run_words_in<L: Loader, S: Source, K: Sink, D: Sink>(
+    alloc: Global,
+    tree: Tree,
+    words: Result<Vec<String>, WordsError>,
+    files: &mut L,
+    input: &mut S,
+    output: &mut K,
+    notes: &mut D,
+    helpers: Vec<Box<dyn Helper>>,
+) -> Outcome
+    ensures runs { RunsHadIn tree (handed state helpers.items) (λ words. map string_bytes words.items) words
+        (outside (L.contents files.old) (L.missed files.old)
+        (streams (S.left input.old) (S.piece input.old) (S.faults input.old) (K.written output.old)
+        (K.faults output.old)) (D.written notes.old) (D.faults notes.old))
+        (outside (L.contents files.new) (L.missed files.new)
+        (streams (S.left input.new) (S.piece input.new) (S.faults input.new) (K.written output.new)
+        (K.faults output.new)) (D.written notes.new) (D.faults notes.new))
+        result }
+    // A fault of the output was its last call.
+    ensures last { result ≡ Outcome.OutputFault → K.failed output.new ≡ true }
+{
     match words {
-        Ok(words) => run(alloc, &words, files, input, output, notes, helpers),
+        Ok(words) => run_in(alloc, tree, &words, files, input, output, notes, helpers),
         Err(error) => {
             let ran = unserved(error.outcome());
             put_ran(notes, ran);

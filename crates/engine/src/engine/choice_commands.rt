@@ -9,7 +9,6 @@ ghost use Rattle.match_rules.specs.Conditions.{all_yes};
 ghost use Rattle.move_choice.specs.Choice.{choice_of};
 ghost use Rattle.machine_rules.specs.ChoiceCommands.{chosen_point, move_told, move_made};
 ghost use Rattle.machine_rules.specs.MatchingCommands.{after_asking};
-ghost use Rattle.machine_rules.specs.MatchTexts.{SameDepths};
 ghost use Rattle.machine_rules.specs.Questions.{asks_of};
 ghost use Rattle.gtp_cmd.specs.declared.commands.Command.TheVariants as command;
 ghost use Rattle.engine.specs.AfterLine.{ReadsAs, ReadsMany};
@@ -46,7 +45,7 @@ fn point_by(
         (automaton_matches (codes_of readings.old) (says_yes (states_of state helpers.old)) scanner.now patterns.now
         position.now friend))) }
     ensures board { IfOk result (λ at. IfSome at (λ p. p < position.now.size * position.now.size)) }
-    ensures depths { SameDepths readings.old readings.new }
+    ensures depths { readings.new.depths ≡ readings.old.depths }
     ensures refused { readings.old.answers.refused ≤ readings.new.answers.refused }
     ensures capacity { readings.new.answers.kept.1 ≡ readings.old.answers.kept.1 }
     ensures calls { (states_of state helpers.new ≡ after_matches (states_of state helpers.old) patterns.now

@@ -100,7 +100,9 @@ impl Engine {
         ensures kept { self.new.readings.answers.kept ≡ self.old.readings.answers.kept }
         ensures links { LinksNothing self.old self.new }
     {
-        self.readings.set(Depths::new(plies, wide).unwrap());
+        let tree = self.readings.depths().tree;
+        self.readings
+            .set(Depths::new(plies, wide).unwrap().in_tree(tree));
         self.links.set(plies);
         told(b"")
     }

@@ -11,7 +11,7 @@ pub returns-in-Black : goal.returns-in-Black
 returns-in-Black c =
     let some : cell_at c.args.position.now.cells c.args.at ≡ Empty → ⊥ = search rules in
     record {
-      value = read_code c.args.readings.now.plies c.args.readings.now.wide Attack c.args.position.now c.args.at
-          c.read.result.code some (ap (λ (a : Answer). a.code) c.read.ensures.answer);
+      value = read_code c.args.readings.now.depths Attack c.args.position.now c.args.at c.read.result.code some
+          (ap (λ (a : Answer). a.code) c.read.ensures.answer);
       follows = c.read.ensures.follows;
     }

@@ -8,7 +8,7 @@ pub returns-clause-came : goal.returns-clause-came
 returns-clause-came g c =
     let options = c.args.options.now in
     let served = c.serve_lines-ended in
-    came-served-after _ _ _ (g.L.Loader.contents c.open.new.files) options c.in-Ok.opened.session.engine
+    came-served-after _ _ _ _ (g.L.Loader.contents c.open.new.files) options c.in-Ok.opened.session.engine
     c.in-Ok.opened.lines _ (g.L.Loader.missed c.open.new.files) _ _ _
     served.result.end served.result.counts _ _
     served.new.sent c.served.result.counts c.served.result.sent (phase_of c.served.result.outcome)

@@ -24,8 +24,7 @@ returns-clause-answer g c =
       base = inside.history.base;
       moves = inside.history.moves;
       komi = inside.komi;
-      plies = readings.plies;
-      wide = readings.wide;
+      depths = readings.depths;
       patterns = inside.patterns.items;
       automaton = inside.scanner;
       counts = record {
@@ -41,18 +40,17 @@ returns-clause-answer g c =
     let before = states_of (λ z. (goal.Helper-dyn g z).state z.1) c.args.helpers.now in
     let after = states_of (λ z. (goal.Helper-dyn g z).state z.1) c.matches_text.new.helpers in
     let keeps : machine_with after new ≡ machine_with after old =
-    depths-kept _ _ _ c.matches_text.ensures.depths.plies c.matches_text.ensures.depths.wide
+    depths-kept _ _ c.matches_text.ensures.depths
     ∙ ap (machine_with after) view in
     let patterns = c.deref.ensures.value ∙ ap (λ (k : EngineView). k.patterns) view in
     let rows = ap (λ (k : EngineView). k.automaton) view in
-    let plies = ap (λ (k : EngineView). k.plies) view in
-    let wide = ap (λ (k : EngineView). k.wide) view in
+    let depths = ap (λ (k : EngineView). k.depths) view in
     let board = c.position-position.ensures.value in
     c.grown.ensures.changes (matches_listed (matcher_of old) (machine_with before old) c.args.friend)
     (machine_with after new)
     (listed-told old new c.args.friend c.deref.result.now inside.scanner c.position-position.result
-    inside.readings before after patterns rows board plies wide keeps (λ t. t) c.matches_text.result
+    inside.readings before after patterns rows board depths keeps (λ t. t) c.matches_text.result
     c.matches_text.ensures.text c.matches_text.ensures.calls)
     (listed-excused old new c.args.friend c.deref.result.now inside.scanner c.position-position.result
-    inside.readings before after patterns rows board plies wide keeps c.matches_text.result
+    inside.readings before after patterns rows board depths keeps c.matches_text.result
     c.matches_text.ensures.calls)

@@ -4,9 +4,10 @@ use Rattle.pat_types.specs.declared.pattern.Pattern.{Pattern}
 use Rattle.dfa_core.specs.Automata.{Row}
 use Rattle.go_history.specs.Games.{Game, new_game}
 use Rattle.link_readings.specs.Connections.{ConnectionsView}
+use Rattle.match_engine.specs.ReadingDepths.{ReadingDepths}
 use Rattle.match_engine.specs.Readings.{ReadingsView, first_readings}
 use Rattle.machine_rules.specs.Machine.{first_size}
-use Rattle.engine.specs.EngineView.{EngineView, first_kept, first_links, NumbersPatterns}
+use Rattle.engine.specs.EngineView.{EngineView, first_kept, first_links, depths_in, NumbersPatterns}
 use Rattle.engine.proofs.engine.Engine.new.Goals as goal
 
 -- what is kept of this game, these readings, connections and patterns before a line was counted
@@ -15,8 +16,7 @@ kept_of patterns game komi rows readings links = record {
   base = game.base;
   moves = game.moves;
   komi = komi;
-  plies = readings.plies;
-  wide = readings.wide;
+  depths = readings.depths;
   patterns = patterns;
   automaton = rows;
   counts = record {
@@ -32,16 +32,16 @@ kept_of patterns game komi rows readings links = record {
 
 -- with a new game of the first size it is what is kept at first
 first_is : (patterns : List Pattern) (game : Game) (s : ℕ) (komi : List ℕ) (rows automaton : List Row)
-    (readings : ReadingsView) (links : ConnectionsView) (plies wide capacity : ℕ) → game ≡ new_game s → s ≡ first_size
-    → komi ≡ codes "0.0" → rows ≡ automaton → readings ≡ first_readings plies wide capacity
-    → links ≡ first_links plies capacity
-    → kept_of patterns game komi rows readings links ≡ first_kept patterns automaton plies wide capacity
-first_is patterns game s komi rows automaton readings links plies wide capacity new size zero same none unasked =
+    (readings : ReadingsView) (links : ConnectionsView) (depths : ReadingDepths) (capacity : ℕ) → game ≡ new_game s
+    → s ≡ first_size → komi ≡ codes "0.0" → rows ≡ automaton → readings ≡ first_readings depths capacity
+    → links ≡ first_links depths.plies capacity
+    → kept_of patterns game komi rows readings links ≡ first_kept patterns automaton depths capacity
+first_is patterns game s komi rows automaton readings links depths capacity new size zero same none unasked =
     ap (λ g. kept_of patterns g komi rows readings links) (new ∙ ap new_game size)
     ∙ ap (λ k. kept_of patterns (new_game first_size) k rows readings links) zero
     ∙ ap (λ a. kept_of patterns (new_game first_size) (codes "0.0") a readings links) same
     ∙ ap (λ r. kept_of patterns (new_game first_size) (codes "0.0") automaton r links) none
-    ∙ ap (kept_of patterns (new_game first_size) (codes "0.0") automaton (first_readings plies wide capacity)) unasked
+    ∙ ap (kept_of patterns (new_game first_size) (codes "0.0") automaton (first_readings depths capacity)) unasked
 
 -- the scanner's rows are those of the automaton, which accepts numbers of the patterns alone, and readings and
 -- connections have the plies of the options
@@ -56,8 +56,8 @@ pub returns : goal.returns
 returns c =
     let size : c.unwrap-size.result ≡ first_size = search rules in
     let zero : c.zero.result ≡ codes "0.0" = search rules in
-    let none : c.in_ok-new-2.field-0 ≡ first_readings c.args.options.now.depth c.args.options.now.branch
+    let none : c.in_ok-new-2.field-0 ≡ first_readings (depths_in c.args.tree c.args.options.now)
     c.args.options.now.cache = search rules in
     first_is c.args.patterns.items c.in_ok-new.field-0 c.unwrap-size.result c.zero.result c.in_ok-scanner.scanner
-    c.args.automaton c.in_ok-new-2.field-0 c.in_ok-new-3.field-0 _ _ _ c.in_ok-new.ensures size zero
+    c.args.automaton c.in_ok-new-2.field-0 c.in_ok-new-3.field-0 _ _ c.in_ok-new.ensures size zero
     c.in_ok-scanner.ensures none c.in_ok-new-3.ensures

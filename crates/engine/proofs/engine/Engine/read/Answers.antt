@@ -19,8 +19,8 @@ returns-clause-read c =
     let stone : has_stone (machine_alone old) c.args.p ≡ true = search rules in
     ReadsAs-once old new c.args.kind c.args.p c.position-position.result read.result c.self.inside.readings
     read.new.self
-    board (ap (λ (k : EngineView). k.readings) view) (ap (λ (k : EngineView). k.plies) view)
-    (ap (λ (k : EngineView). k.wide) view) c.count_reading.ensures.kept read.ensures.read c.size.ensures.position
+    board (ap (λ (k : EngineView). k.readings) view) (ap (λ (k : EngineView). k.depths) view)
+    c.count_reading.ensures.kept read.ensures.read c.size.ensures.position
     read.ensures.rest
     (subst CountsRefused view refl) c.count_reading.ensures.refused (search rules) (search rules) stone
 
@@ -32,8 +32,7 @@ returns-clause-answer c = λ helpers.
     let text : c.answer_text.result ≡ answer_text c.args.self.now.base.size (reading_of (machine_alone c.args.self.now)
     c.args.kind c.args.p) = search rules in
     let keeps : machine_with helpers c.count_reading.new.self ≡ machine_with helpers c.args.self.now =
-    c.count_reading.ensures.machine helpers ∙ depths-kept _ _ _ c.read-answer.ensures.read.plies
-    c.read-answer.ensures.read.wide
+    c.count_reading.ensures.machine helpers ∙ depths-kept _ _ c.read-answer.ensures.read.depths
     ∙ ap (machine_with helpers) c.self.view_is in
     told-of_stone old c.args.p (answer_text old.base.size (reading_of old c.args.kind c.args.p)) c.answer_text.result
     c.told_text.result (machine_with helpers c.count_reading.new.self) stone c.told_text.ensures text

@@ -20,8 +20,8 @@ returns-clause-read c =
     let stone : has_stone (machine_alone old) c.args.p ≡ true = search rules in
     ReadsAs-once old new c.args.kind c.args.p c.position-position.result answer c.self.inside.readings
     found.new.self
-    board (ap (λ (k : EngineView). k.readings) view) (ap (λ (k : EngineView). k.plies) view)
-    (ap (λ (k : EngineView). k.wide) view) c.count_reading.ensures.kept c.in-Some.ensures.read c.size.ensures.position
+    board (ap (λ (k : EngineView). k.readings) view) (ap (λ (k : EngineView). k.depths) view)
+    c.count_reading.ensures.kept c.in-Some.ensures.read c.size.ensures.position
     found.ensures.rest
     (subst CountsRefused view refl) c.count_reading.ensures.refused (search rules) (search rules) stone
 
@@ -33,7 +33,7 @@ returns-clause-answer c = λ helpers.
     let text : c.answer_text.result ≡ answer_text c.args.self.now.base.size (reading_of (machine_alone c.args.self.now)
     c.args.kind c.args.p) = search rules in
     let keeps : machine_with helpers c.count_reading.new.self ≡ machine_with helpers c.args.self.now =
-    c.count_reading.ensures.machine helpers ∙ depths-kept _ _ _ c.in-Some.ensures.read.plies c.in-Some.ensures.read.wide
+    c.count_reading.ensures.machine helpers ∙ depths-kept _ _ c.in-Some.ensures.read.depths
     ∙ ap (machine_with helpers) c.self.view_is in
     told-of_stone old c.args.p (answer_text old.base.size (reading_of old c.args.kind c.args.p)) c.answer_text.result
     c.told_text.result (machine_with helpers c.count_reading.new.self) stone c.told_text.ensures text

@@ -6,5 +6,5 @@ use Rattle.match_engine.proofs.constraint_question.ConstraintQuestionEnv.code.Go
 -- the answer's code is that of the present depths
 pub returns-clause-value : goal.returns-clause-value
 returns-clause-value c =
-    answer_codes c.args.self.now.readings.now.plies c.args.self.now.readings.now.wide c.args.kind c.args.on.now
-    c.args.target c.read.result.code (ap (λ (a : Answer). a.code) c.read.ensures.answer)
+    answer_codes c.args.self.now.readings.now.depths c.args.kind c.args.on.now c.args.target c.read.result.code
+    (ap (λ (a : Answer). a.code) c.read.ensures.answer)

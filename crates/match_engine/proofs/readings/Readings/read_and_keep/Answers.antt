@@ -1,8 +1,8 @@
 use Rattle.std.proofs.Common.{refl, inl, inr, sym, ap, subst, ◌∙◌}
-use Rattle.read_rules.specs.Answer.{asked_on}
 use Rattle.read_cache.specs.Kept.{IsMissing, HoldsOfEach}
 use Rattle.read_cache.proofs.KeepingLemmas.{each_rests-kept}
 use Rattle.match_engine.specs.Keys.{same_key, same_key-is}
+use Rattle.match_engine.specs.ReadingDepths.{asked_at, depths_of}
 use Rattle.match_engine.specs.Readings.{ReadingsView, Rests, ReadAfresh}
 use Rattle.match_engine.proofs.KeptReadings.{as_asked, untried_as_asked}
 use Rattle.match_engine.proofs.readings.Readings.read_and_keep.Goals as goal
@@ -13,7 +13,7 @@ pub invariant_of-self-in_default : goal.invariant_of-self-in_default
 invariant_of-self-in_default c =
     let read = c.read_afresh-read.result in
     let asked = c.requires.key
-    ∙ sym (ap (λ (r : ReadingsView). asked_on c.args.position.now c.args.kind c.args.target r.plies r.wide)
+    ∙ sym (ap (λ (r : ReadingsView). asked_at r.depths c.args.position.now c.args.kind c.args.target)
     c.self.view_is) in
     let rests = as_asked c.args.key _ _ asked c.read_afresh-read.ensures.rests in
     each_rests-kept Rests same_key same_key-is c.args.key read.facts read.answer c.self.inside.cache c.keep.new.self
@@ -26,15 +26,14 @@ returns-clause-fresh c =
     let pos = c.args.position.now in
     let read = c.read_afresh-read.result in
     let asked = c.requires.key
-    ∙ sym (ap (λ (r : ReadingsView). asked_on pos c.args.kind c.args.target r.plies r.wide) c.self.view_is) in
+    ∙ sym (ap (λ (r : ReadingsView). asked_at r.depths pos c.args.kind c.args.target) c.self.view_is) in
     let rests = as_asked key _ _ asked c.read_afresh-read.ensures.rests in
     let untried = untried_as_asked key _ pos read.trials asked c.read_afresh-read.ensures.untried in
     let missing = subst (λ (r : ReadingsView). IsMissing same_key key pos r.answers.kept)
     (sym c.self.view_is) c.requires.missing in
     let inside = c.self.inside in
     let before : ReadingsView = record {
-      plies = inside.depths.plies;
-      wide = inside.depths.wide;
+      depths = depths_of inside.depths;
       trials = inside.trials;
       last = inside.last;
       answers = record { fresh = inside.fresh; refused = inside.refused; kept = inside.cache };
@@ -82,7 +81,7 @@ pub returns-clause-rest : goal.returns-clause-rest
 returns-clause-rest c =
     let read = c.read_afresh-read.result in
     let asked = c.requires.key
-    ∙ sym (ap (λ (r : ReadingsView). asked_on c.args.position.now c.args.kind c.args.target r.plies r.wide)
+    ∙ sym (ap (λ (r : ReadingsView). asked_at r.depths c.args.position.now c.args.kind c.args.target)
     c.self.view_is) in
     let rests = as_asked c.args.key _ _ asked c.read_afresh-read.ensures.rests in
     elim c.match-keep.branch as (λ _. HoldsOfEach Rests c.match-keep.self.answers.kept) [
