@@ -1,7 +1,6 @@
 pub mod SoundLemmas
 pub mod CodeLemmas
 pub mod FoundLemmas
-pub mod GatherLemmas
 pub mod FurtherLemmas
 pub mod ChildLemmas
 pub mod StepLemmas

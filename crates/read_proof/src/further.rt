@@ -3,10 +3,11 @@
 ghost use Rattle.std.specs.Prelude.{◌≡◌, ℕ, ◌*◌, ◌<◌, ◌==◌, ◌&&◌, ◌||◌, true, false, IsTrue, nat_le, nat_lt};
 ghost use Rattle.std.specs.FinSet as set;
 ghost use Rattle.go_rules.specs.Below.{any_below};
-ghost use Rattle.go_rules.specs.Strings.{is_liberty, liberties, liberty_points, string_at};
+ghost use Rattle.go_rules.specs.Strings.{liberty_points, string_at};
 ghost use Rattle.go_base.specs.Floods.{enemy_points};
 ghost use Rattle.go_base.specs.Surroundings.{is_only_liberty};
 ghost use Rattle.further_rules.specs.Further.{netted, is_net, is_beside, is_ally, is_join, is_cutter, is_further};
+ghost use Rattle.further_moves.specs.Strings.{is_few_liberty, is_few_enemy, is_near_friend};
 
 use crate::beside::beside;
 use go_base::flood::{Found, flood};
@@ -65,10 +66,9 @@ fn add_string(pos: &Position, most: u16, q: Point, found: &mut Around) -> PointS
     requires { q < pos.now.size * pos.now.size }
     ensures stones { result ≡ string_at pos.now.size pos.now.cells q }
     ensures liberties { (p : ℕ) → set.contains found.new.liberties p ≡ (set.contains found.old.liberties p
-        || (nat_le (liberties pos.now.size pos.now.cells q) most && is_liberty pos.now.size pos.now.cells q p)) }
+        || is_few_liberty most pos.now.size pos.now.cells q p) }
     ensures enemies { (r : ℕ) → set.contains found.new.enemies r ≡ (set.contains found.old.enemies r
-        || (nat_le (liberties pos.now.size pos.now.cells q) most
-        && set.contains (enemy_points pos.now.size pos.now.cells q) r)) }
+        || is_few_enemy most pos.now.size pos.now.cells q r) }
 {
     let Found {
         stones,
@@ -87,12 +87,9 @@ fn add_string(pos: &Position, most: u16, q: Point, found: &mut Around) -> PointS
 fn around_strings(pos: &Position, most: u16, points: &PointSet) -> Around
     requires { (q : ℕ) → IsTrue (set.contains points.now q) → q < pos.now.size * pos.now.size }
     ensures liberties { (p : ℕ) → set.contains result.liberties p ≡ any_below (pos.now.size * pos.now.size)
-        (λ q. set.contains points.now q
-        && (nat_le (liberties pos.now.size pos.now.cells q) most && is_liberty pos.now.size pos.now.cells q p)) }
+        (λ q. set.contains points.now q && is_few_liberty most pos.now.size pos.now.cells q p) }
     ensures enemies { (r : ℕ) → set.contains result.enemies r ≡ any_below (pos.now.size * pos.now.size)
-        (λ q. set.contains points.now q
-        && (nat_le (liberties pos.now.size pos.now.cells q) most
-        && set.contains (enemy_points pos.now.size pos.now.cells q) r)) }
+        (λ q. set.contains points.now q && is_few_enemy most pos.now.size pos.now.cells q r) }
 {
     let mut found = Around {
         liberties: PointSet::new(),
@@ -153,6 +150,16 @@ fn weak_enemies(pos: &Position, target: Point, most: u16) -> Around
     }
 }
 
+/// The stones of the target's colour next to its liberties, which are handed in, that are not of its string.
+fn near_friends(pos: &Position, target: Point, liberties: &PointSet) -> PointSet
+    requires on_board { target < pos.now.size * pos.now.size }
+    requires liberties { liberties.now ≡ liberty_points pos.now.size pos.now.cells target }
+    ensures { (q : ℕ) → set.contains result q
+        ≡ (nat_lt q (pos.now.size * pos.now.size) && is_near_friend pos.now.size pos.now.cells target q) }
+{
+    beside(pos, pos.cell(target), liberties).difference(&pos.string(target))
+}
+
 /// The liberties of the linked strings, which are the points of Join, and the enemy stones next to these strings; the
 /// target's liberties are handed in.
 fn linked_strings(pos: &Position, target: Point, liberties: &PointSet) -> Around
@@ -162,8 +169,7 @@ fn linked_strings(pos: &Position, target: Point, liberties: &PointSet) -> Around
     ensures enemies { (r : ℕ) → set.contains result.enemies r
         ≡ (nat_lt r (pos.now.size * pos.now.size) && is_cutter pos.now.size pos.now.cells target r) }
 {
-    let friends = beside(pos, pos.cell(target), liberties).difference(&pos.string(target));
-    around_strings(pos, FEW_OF_LINKED, &friends)
+    around_strings(pos, FEW_OF_LINKED, &near_friends(pos, target, liberties))
 }
 
 /// The further candidates at the attacker's turn: Net, Beside and Rescue.

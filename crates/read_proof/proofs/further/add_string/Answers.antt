@@ -1,39 +1,44 @@
 -- What stands around a string with few liberties came, and nothing of one with many.
-use Rattle.std.proofs.Common.{ap, sym, ◌∙◌}
-use Rattle.std.specs.FinSet as set
-use Rattle.read_proof.proofs.GatherLemmas.{few_come, many_come, has_liberty}
+use Rattle.std.proofs.Common.{sym, ◌∙◌}
+use Rattle.std.proofs.lemmas.Bool.{leb-true, leb-false}
+use Rattle.further_moves.proofs.StringLemmas.{few_liberties, many_liberties, few_enemies, many_enemies}
 use Rattle.read_proof.proofs.further.add_string.Goals as goal
 
 -- its liberties came
 pub returns-then-are_few-clause-liberties : goal.returns-then-are_few-clause-liberties
 returns-then-are_few-clause-liberties c = λ p.
     let pos = c.args.pos.now in
-    let libs = c.string_of-stones.result.liberties in
-    let its = c.string_of-stones.ensures.liberties in
-    few_come c.args.most pos.size pos.cells c.args.q c.count.result libs its c.count.ensures.value
-    c.args.found.now.liberties libs c.join.new.self p _ (sym c.are_few.ensures ∙ c.if-are_few.true) c.join.ensures
-    (has_liberty pos.size pos.cells c.args.q p libs its)
+    let its = c.string_of-stones in
+    few_liberties c.args.most pos.size pos.cells c.args.q c.count.result p its.result.liberties
+    c.args.found.now.liberties c.join.new.self its.ensures.liberties c.count.ensures.value
+    (leb-true c.count.result c.args.most (sym c.are_few.ensures ∙ c.if-are_few.true)) c.join.ensures
 
 -- and the enemies next to it
 pub returns-then-are_few-clause-enemies : goal.returns-then-are_few-clause-enemies
 returns-then-are_few-clause-enemies c = λ r.
     let pos = c.args.pos.now in
-    few_come c.args.most pos.size pos.cells c.args.q c.count.result c.string_of-stones.result.liberties
-    c.string_of-stones.ensures.liberties c.count.ensures.value
-    c.args.found.now.enemies c.string_of-stones.result.enemies c.join-then-are_few.new.self r _
-    (sym c.are_few.ensures ∙ c.if-are_few.true)
-    c.join-then-are_few.ensures (ap (λ t. set.contains t r) c.string_of-stones.ensures.enemies)
+    let its = c.string_of-stones in
+    few_enemies c.args.most pos.size pos.cells c.args.q c.count.result r its.result.liberties
+    c.args.found.now.enemies c.join-then-are_few.new.self its.ensures.liberties c.count.ensures.value
+    its.result.enemies (leb-true c.count.result c.args.most (sym c.are_few.ensures ∙ c.if-are_few.true))
+    its.ensures.enemies c.join-then-are_few.ensures
 
 -- none of many liberties came
 pub returns-else-are_few-clause-liberties : goal.returns-else-are_few-clause-liberties
 returns-else-are_few-clause-liberties c = λ p.
     let pos = c.args.pos.now in
-    many_come c.args.most pos.size pos.cells c.args.q c.count.result c.string_of-stones.result.liberties
-    c.string_of-stones.ensures.liberties c.count.ensures.value _ _ (sym c.are_few.ensures ∙ c.if-are_few.false)
+    let its = c.string_of-stones in
+    let old = c.args.found.now.liberties in
+    many_liberties c.args.most pos.size pos.cells c.args.q c.count.result p its.result.liberties old old
+    its.ensures.liberties c.count.ensures.value
+    (leb-false c.count.result c.args.most (sym c.are_few.ensures ∙ c.if-are_few.false))
 
 -- nor an enemy next to it
 pub returns-else-are_few-clause-enemies : goal.returns-else-are_few-clause-enemies
 returns-else-are_few-clause-enemies c = λ r.
     let pos = c.args.pos.now in
-    many_come c.args.most pos.size pos.cells c.args.q c.count.result c.string_of-stones.result.liberties
-    c.string_of-stones.ensures.liberties c.count.ensures.value _ _ (sym c.are_few.ensures ∙ c.if-are_few.false)
+    let its = c.string_of-stones in
+    let old = c.args.found.now.enemies in
+    many_enemies c.args.most pos.size pos.cells c.args.q c.count.result r its.result.liberties old old
+    its.ensures.liberties c.count.ensures.value
+    (leb-false c.count.result c.args.most (sym c.are_few.ensures ∙ c.if-are_few.false))

@@ -1,15 +1,14 @@
-use Rattle.std.specs.Prelude.{◌*◌, ◌-◌}
+use Rattle.std.specs.Prelude.{◌-◌}
 use Rattle.go_rules.specs.Board.{largest_points}
-use Rattle.read_proof.proofs.GatherLemmas.{Gathers, few_liberty, few_enemy}
+use Rattle.further_moves.specs.Strings.{is_few_liberty, is_few_enemy}
+use Rattle.further_moves.proofs.GatherLemmas.{Gathers}
 use Rattle.read_proof.proofs.further.around_strings.Given as goal
 
 -- what stands around the strings of the points came, but for the points that are left from the next one on
 abbrev pub invariant-loop-q : goal.invariant-loop-q
 invariant-loop-q l = record {
-  liberties : Gathers (few_liberty l.most l.pos.size l.pos.cells) (l.pos.size * l.pos.size) l.next l.points l.rest
-      l.found.liberties;
-  enemies : Gathers (few_enemy l.most l.pos.size l.pos.cells) (l.pos.size * l.pos.size) l.next l.points l.rest
-      l.found.enemies;
+  liberties : Gathers (is_few_liberty l.most l.pos.size l.pos.cells) l.points l.rest l.next l.found.liberties;
+  enemies : Gathers (is_few_enemy l.most l.pos.size l.pos.cells) l.points l.rest l.next l.found.enemies;
 }
 
 -- how many points are left

@@ -1,7 +1,7 @@
 use Rattle.std.proofs.Common.{◌*◌, ◌∙◌, sym}
 use Rattle.std.specs.FinSet as set
 use Rattle.std.proofs.lemmas.Bool.{and_parts, ltb-true}
-use Rattle.read_proof.proofs.FurtherLemmas.{attacker_is, rescue_is, joined_twice}
+use Rattle.further_moves.proofs.SetLemmas.{attacker_is, rescue_is, joined_twice}
 use Rattle.read_proof.proofs.further.for_attacker.Goals as goal
 
 -- the allies are on the board

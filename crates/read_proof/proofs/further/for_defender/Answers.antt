@@ -1,7 +1,7 @@
 use Rattle.std.proofs.Common.{◌*◌, ◌∙◌, sym}
 use Rattle.std.specs.FinSet as set
 use Rattle.std.proofs.lemmas.Bool.{and_parts, ltb-true}
-use Rattle.read_proof.proofs.FurtherLemmas.{defender_is, cut_is, joined_twice}
+use Rattle.further_moves.proofs.SetLemmas.{defender_is, cut_is, joined_twice}
 use Rattle.read_proof.proofs.further.for_defender.Goals as goal
 
 -- those that may cut are on the board

@@ -1,17 +1,25 @@
 -- The empty neighbours of the liberties are Net where these are three, and else Net is empty.
-use Rattle.std.proofs.Common.{◌∙◌, sym}
-use Rattle.read_proof.proofs.FurtherLemmas.{net_is, no_net}
+use Rattle.std.proofs.Common.{eqb, ◌∙◌, sym}
+use Rattle.std.proofs.lemmas.Bool.{eqb-true, eq-eqb, both_ways}
+use Rattle.std.specs.FinSet as set
+use Rattle.go_rules.specs.declared.Cell.TheVariants.{Empty}
+use Rattle.further_moves.proofs.SetLemmas.{net_is, no_net}
+use Rattle.read_proof.proofs.FurtherLemmas.{beside_next}
 use Rattle.read_proof.proofs.further.net.Goals as goal
 
 -- there are three
 pub returns-then-is_netted : goal.returns-then-is_netted
 returns-then-is_netted c = λ target p e.
-    c.beside.ensures p
-    ∙ net_is c.args.pos.now.size c.args.pos.now.cells target c.args.liberties.now c.count.result p e
-    c.count.ensures.value (sym c.is_netted.ensures ∙ c.if-is_netted.true)
+    let pos = c.args.pos.now in
+    let libs = c.args.liberties.now in
+    c.beside.ensures p ∙ beside_next pos.size pos.cells Empty (set.contains libs) p
+    ∙ net_is pos.size pos.cells target libs c.count.result p e c.count.ensures.value
+    (eqb-true c.count.result 3 (sym c.is_netted.ensures ∙ c.if-is_netted.true))
 
 -- there are more or fewer
 pub returns : goal.returns
 returns c = λ target p e.
-    no_net c.args.pos.now.size c.args.pos.now.cells target c.args.liberties.now c.new.result c.count.result p e
-    c.count.ensures.value (sym c.is_netted.ensures ∙ c.if-is_netted.false) c.new.ensures
+    let pos = c.args.pos.now in
+    no_net pos.size pos.cells target c.args.liberties.now c.new.result c.count.result p e c.count.ensures.value
+    (λ three. both_ways (eqb c.count.result 3) (sym c.is_netted.ensures ∙ c.if-is_netted.false)
+    (eq-eqb c.count.result 3 three)) c.new.ensures

@@ -1,17 +1,17 @@
 -- What stands around the enemies next to the target that have few liberties is Beside and the allies.
-use Rattle.std.proofs.Common.{◌*◌, ap, sym, ◌∙◌}
-use Rattle.std.specs.FinSet as set
+use Rattle.std.proofs.Common.{◌*◌, sym, ◌∙◌}
 use Rattle.std.proofs.lemmas.Bool.{and_parts, ltb-true}
-use Rattle.read_proof.proofs.GatherLemmas.{has_enemy}
-use Rattle.read_proof.proofs.FurtherLemmas.{beside_is, ally_is}
+use Rattle.further_moves.proofs.StringLemmas.{has_enemy}
+use Rattle.further_moves.proofs.SetLemmas.{beside_is, ally_is}
 use Rattle.read_proof.proofs.further.weak_enemies.Goals as goal
 
 -- the enemies next to the target are on the board
 pub around_strings-weak-requires : goal.around_strings-weak-requires
 around_strings-weak-requires c = λ q h.
     let pos = c.args.pos.now in
-    ltb-true q (pos.size * pos.size) (and_parts _ _ (sym (has_enemy pos.size pos.cells c.args.target q)
-    ∙ sym (ap (λ t. set.contains t q) c.string_of-stones.ensures.enemies) ∙ h)).0
+    let is = has_enemy pos.size pos.cells c.args.target q c.string_of-stones.result.enemies
+    c.string_of-stones.ensures.enemies in
+    ltb-true q (pos.size * pos.size) (and_parts _ _ (sym is ∙ h)).0
 
 -- their liberties are Beside
 pub returns-clause-liberties : goal.returns-clause-liberties
