@@ -4,7 +4,7 @@
 
 ghost use Rattle.std.specs.Prelude.{◌≡◌, ◌≢◌, ◌*◌, ◌<◌, ◌↔◌, IsSome, IfSome};
 ghost use Rattle.go_rules.specs.Strings.{cell_at};
-ghost use Rattle.read_rules.specs.Answer.{answer_of, asked_on};
+ghost use Rattle.read_rules.specs.Answer.{answer_of, asked_in};
 
 use go_base::{Cell, Colour, Point, Position, Size, Watch};
 use read_tree::{Answer, Depths, Kind, attack, defend};
@@ -34,7 +34,7 @@ fn asked(position: &Position, kind: Kind, target: Point, depths: Depths) -> Opti
     ensures stone { IsSome result
         ↔ ((target < position.now.size * position.now.size) × (cell_at position.now.cells target ≢ Cell.Empty)) }
     ensures answer { IfSome result
-        (λ a. a ≡ answer_of (asked_on position.now kind target depths.plies depths.wide) position.now) }
+        (λ a. a ≡ answer_of (asked_in depths.tree position.now kind target depths.plies depths.wide) position.now) }
 {
     if target >= position.size().points() || position.cell(target) == Cell::Empty {
         return None;

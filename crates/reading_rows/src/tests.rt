@@ -7,6 +7,7 @@ mod further;
 mod kept_connections;
 mod proofs;
 mod readings;
+mod wider_proofs;
 
 ghost use Rattle.std.specs.Prelude.{◌*◌, ◌<◌, IfSome};
 

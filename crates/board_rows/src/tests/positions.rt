@@ -67,77 +67,79 @@ fn the_transformations_are_the_table(rt: HostRuntime) -> Result<(), Fail> {
     Ok(())
 }
 
+/// Captures: what is special about one, the size, the plays of which the last one takes, and the drawing after it.
+const CAPTURES: [(&str, u8, &[Play], &str); 6] = [
+    (
+        "a stone in the corner",
+        3,
+        &[(White, 0, 0), (Black, 0, 1), (Black, 1, 0)],
+        ".X.X.....",
+    ),
+    (
+        "a string of two on the edge",
+        4,
+        &[
+            (White, 0, 1),
+            (White, 0, 2),
+            (Black, 0, 0),
+            (Black, 1, 1),
+            (Black, 1, 2),
+            (Black, 0, 3),
+        ],
+        "X..X.XX.........",
+    ),
+    (
+        "two strings at once, by a stone between them",
+        5,
+        &[
+            (White, 0, 1),
+            (White, 0, 3),
+            (Black, 0, 0),
+            (Black, 1, 1),
+            (Black, 0, 4),
+            (Black, 1, 3),
+            (Black, 0, 2),
+        ],
+        "X.X.X.X.X................",
+    ),
+    (
+        "a capture by a stone that has no liberty before it",
+        3,
+        &[
+            (Black, 0, 1),
+            (Black, 1, 0),
+            (White, 0, 2),
+            (White, 1, 1),
+            (White, 2, 0),
+            (White, 0, 0),
+        ],
+        "O.O.O.O..",
+    ),
+    (
+        "a string that the stone touches on two sides",
+        3,
+        &[
+            (White, 0, 0),
+            (White, 0, 1),
+            (White, 1, 0),
+            (Black, 0, 2),
+            (Black, 2, 0),
+            (Black, 1, 1),
+        ],
+        "..X.X.X..",
+    ),
+    (
+        "on the smallest board",
+        2,
+        &[(White, 0, 0), (Black, 0, 1), (Black, 1, 0)],
+        ".XX.",
+    ),
+];
+
 #[test]
 fn captures_take_whole_strings_and_leave_no_ban(rt: HostRuntime) -> Result<(), Fail> {
     // A stone that takes one stone and has more than one liberty leaves no ban; nor does one that takes two.
-    let rows: [(&str, u8, &[Play], &str); 6] = [
-        (
-            "a stone in the corner",
-            3,
-            &[(White, 0, 0), (Black, 0, 1), (Black, 1, 0)],
-            ".X.X.....",
-        ),
-        (
-            "a string of two on the edge",
-            4,
-            &[
-                (White, 0, 1),
-                (White, 0, 2),
-                (Black, 0, 0),
-                (Black, 1, 1),
-                (Black, 1, 2),
-                (Black, 0, 3),
-            ],
-            "X..X.XX.........",
-        ),
-        (
-            "two strings at once, by a stone between them",
-            5,
-            &[
-                (White, 0, 1),
-                (White, 0, 3),
-                (Black, 0, 0),
-                (Black, 1, 1),
-                (Black, 0, 4),
-                (Black, 1, 3),
-                (Black, 0, 2),
-            ],
-            "X.X.X.X.X................",
-        ),
-        (
-            "a capture by a stone that has no liberty before it",
-            3,
-            &[
-                (Black, 0, 1),
-                (Black, 1, 0),
-                (White, 0, 2),
-                (White, 1, 1),
-                (White, 2, 0),
-                (White, 0, 0),
-            ],
-            "O.O.O.O..",
-        ),
-        (
-            "a string that the stone touches on two sides",
-            3,
-            &[
-                (White, 0, 0),
-                (White, 0, 1),
-                (White, 1, 0),
-                (Black, 0, 2),
-                (Black, 2, 0),
-                (Black, 1, 1),
-            ],
-            "..X.X.X..",
-        ),
-        (
-            "on the smallest board",
-            2,
-            &[(White, 0, 0), (Black, 0, 1), (Black, 1, 0)],
-            ".XX.",
-        ),
-    ];
-    for (what, size, plays, want) in rows {
+    for (what, size, plays, want) in CAPTURES {
         let position = after(size, plays).ok_or("each play is legal")?;
         let got = drawn(rt.alloc(), &position)?;
         assert_eq!(rt; got.as_str(), want, "{what}");

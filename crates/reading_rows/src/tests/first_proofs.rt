@@ -1,6 +1,6 @@
 //! First proofs of small positions. They are the worked rows, or were found by hand.
 
-use super::proofs::THREE_LIBERTIES;
+use super::wider_proofs::THREE_LIBERTIES;
 use super::{Stones, position, vertex};
 use go_base::{Cell, Position};
 use read_proof::check;

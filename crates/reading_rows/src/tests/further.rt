@@ -4,8 +4,18 @@ use super::{points_of, position, vertex};
 use further_moves::further_candidates;
 use go_base::size::MAX_POINTS;
 use go_base::{PointSet, Position, Size, Watch};
+use std::process::Abort;
 use std::test::Fail;
 use trial_board::Trial;
+
+/// What is special about a target on five rows, black's stones and white's, the target, and its further candidates.
+type Row = (
+    &'static str,
+    &'static str,
+    &'static str,
+    &'static str,
+    &'static str,
+);
 
 /// The further candidates of a target on the position.
 fn found(position: &Position, target: &str, attacker_to_play: bool) -> Option<PointSet> {
@@ -17,8 +27,22 @@ fn found(position: &Position, target: &str, attacker_to_play: bool) -> Option<Po
     Some(found)
 }
 
+/// Each target on five rows has the further candidates that its row says, at the turn of the side that is to play.
+fn check(rt: &impl Abort, attacker_to_play: bool, rows: &[Row]) -> Result<(), Fail> {
+    let size = Size::new(5).ok_or("the size is one of a board")?;
+    for (what, black, white, target, names) in rows {
+        let position = position((5, black, white)).ok_or("the stones can be put")?;
+        let found = found(&position, target, attacker_to_play).ok_or("the target is on the board")?;
+        let wanted = points_of(size, names).ok_or("the vertices are on the board")?;
+        for p in 0..MAX_POINTS as u16 {
+            assert_eq!(rt; found.has(p), wanted.has(p), "{what}, at {p}");
+        }
+    }
+    Ok(())
+}
+
 #[test]
-fn the_attacker_has_net_beside_and_rescue(rt: HostRuntime) -> Result<(), Fail> {
+fn the_attacker_has_a_net_around_three_liberties(rt: HostRuntime) -> Result<(), Fail> {
     let rows = [
         ("no candidate of an empty point", "", "", "C3", ""),
         (
@@ -43,6 +67,13 @@ fn the_attacker_has_net_beside_and_rescue(rt: HostRuntime) -> Result<(), Fail> {
             "",
         ),
         ("no net around four liberties", "", "C3", "C3", ""),
+    ];
+    check(&rt, true, &rows)
+}
+
+#[test]
+fn the_attacker_has_beside_and_rescue(rt: HostRuntime) -> Result<(), Fail> {
+    let rows = [
         (
             "Beside by a stone with two liberties",
             "B2 B3",
@@ -80,20 +111,11 @@ fn the_attacker_has_net_beside_and_rescue(rt: HostRuntime) -> Result<(), Fail> {
             "C1 B2",
         ),
     ];
-    for (what, black, white, target, names) in rows {
-        let size = Size::new(5).ok_or("the size is one of a board")?;
-        let position = position((5, black, white)).ok_or("the stones can be put")?;
-        let found = found(&position, target, true).ok_or("the target is on the board")?;
-        let wanted = points_of(size, names).ok_or("the vertices are on the board")?;
-        for p in 0..MAX_POINTS as u16 {
-            assert_eq!(rt; found.has(p), wanted.has(p), "{what}, at {p}");
-        }
-    }
-    Ok(())
+    check(&rt, true, &rows)
 }
 
 #[test]
-fn the_defender_has_beside_join_and_cut(rt: HostRuntime) -> Result<(), Fail> {
+fn the_defender_has_beside_and_no_net(rt: HostRuntime) -> Result<(), Fail> {
     let rows = [
         ("no candidate of an empty point", "", "", "C3", ""),
         ("no net", "D1", "E2", "E2", ""),
@@ -112,6 +134,13 @@ fn the_defender_has_beside_join_and_cut(rt: HostRuntime) -> Result<(), Fail> {
             "A1 C1 C2 B3",
         ),
         ("not by stones with five", "B2 B3", "C2 D2", "B2", ""),
+    ];
+    check(&rt, false, &rows)
+}
+
+#[test]
+fn the_defender_has_join_and_cut(rt: HostRuntime) -> Result<(), Fail> {
+    let rows = [
         ("the target's own string is not linked", "C3", "", "C3", ""),
         (
             "Join by a string at the edge with three liberties",
@@ -143,14 +172,5 @@ fn the_defender_has_beside_join_and_cut(rt: HostRuntime) -> Result<(), Fail> {
             "B5",
         ),
     ];
-    for (what, black, white, target, names) in rows {
-        let size = Size::new(5).ok_or("the size is one of a board")?;
-        let position = position((5, black, white)).ok_or("the stones can be put")?;
-        let found = found(&position, target, false).ok_or("the target is on the board")?;
-        let wanted = points_of(size, names).ok_or("the vertices are on the board")?;
-        for p in 0..MAX_POINTS as u16 {
-            assert_eq!(rt; found.has(p), wanted.has(p), "{what}, at {p}");
-        }
-    }
-    Ok(())
+    check(&rt, false, &rows)
 }

@@ -21,7 +21,7 @@ fn kind(word: &str) -> Option<ProofOf> {
 
 /// Whether the text is a proof that the question on the position has the code in the tree; nothing where its target is
 /// empty.
-fn checked_in(
+pub(super) fn checked_in(
     position: &Position,
     tree: Tree,
     question: &str,
@@ -59,49 +59,14 @@ fn check_on(rt: &impl Abort, stones: Stones, rows: &[Row]) -> Result<(), Fail> {
 const IN_ATARI: Stones = (9, "D4", "C4 E4 D5");
 
 #[test]
-fn stone_in_atari_is_captured_and_saved(rt: HostRuntime) -> Result<(), Fail> {
+fn stone_in_atari_is_captured(rt: HostRuntime) -> Result<(), Fail> {
     let rows = [
         ("the capture", "attack D4 3 2", 3, "W D3 .", true),
-        (
-            "small letters in a vertex",
-            "attack D4 3 2",
-            3,
-            "W d3 .",
-            true,
-        ),
-        ("more blanks", "attack D4 3 2", 3, "  W\t D3  . ", true),
-        (
-            "a small letter of the claim",
-            "attack D4 3 2",
-            3,
-            "w D3 .",
-            false,
-        ),
+        ("one ply is enough", "attack D4 1 0", 3, "W D3 .", true),
         ("another point", "attack D4 3 2", 3, "W C3 .", false),
         ("another code", "attack D4 3 2", 2, "W D3 .", false),
         ("the code below", "attack D4 3 2", 2, "N * W D3 .", false),
         ("the other claim", "attack D4 3 2", 3, "N D3 .", false),
-        ("words left over", "attack D4 3 2", 3, "W D3 . .", false),
-        ("a word too few", "attack D4 3 2", 3, "W D3", false),
-        ("the letter alone", "attack D4 3 2", 3, "W", false),
-        ("blanks at both ends", "attack D4 3 2", 3, " W D3 . ", true),
-        ("no words", "attack D4 3 2", 3, "", false),
-        ("blanks alone", "attack D4 3 2", 3, "  ", false),
-        ("an unknown word", "attack D4 3 2", 3, "W X .", false),
-        (
-            "a letter that is no column",
-            "attack D4 3 2",
-            3,
-            "W I3 .",
-            false,
-        ),
-        (
-            "a point off the board",
-            "attack D4 3 2",
-            3,
-            "W D10 .",
-            false,
-        ),
         (
             "the attacker does not pass",
             "attack D4 3 2",
@@ -123,7 +88,6 @@ fn stone_in_atari_is_captured_and_saved(rt: HostRuntime) -> Result<(), Fail> {
             "W * .",
             false,
         ),
-        ("one ply is enough", "attack D4 1 0", 3, "W D3 .", true),
         (
             "no ply is left behind it",
             "attack D4 1 0",
@@ -131,6 +95,13 @@ fn stone_in_atari_is_captured_and_saved(rt: HostRuntime) -> Result<(), Fail> {
             "W D3 D3 .",
             false,
         ),
+    ];
+    check_on(&rt, IN_ATARI, &rows)
+}
+
+#[test]
+fn stone_in_atari_is_saved_by_its_extension(rt: HostRuntime) -> Result<(), Fail> {
+    let rows = [
         ("the extension", "defend D4 3 2", 3, "N D3 .", true),
         (
             "the pass loses the stone",
@@ -151,6 +122,49 @@ fn stone_in_atari_is_captured_and_saved(rt: HostRuntime) -> Result<(), Fail> {
             "defend D4 3 2",
             3,
             "N D3 * N .",
+            false,
+        ),
+    ];
+    check_on(&rt, IN_ATARI, &rows)
+}
+
+#[test]
+fn words_stand_apart_and_vertices_in_either_case(rt: HostRuntime) -> Result<(), Fail> {
+    let rows = [
+        (
+            "small letters in a vertex",
+            "attack D4 3 2",
+            3,
+            "W d3 .",
+            true,
+        ),
+        ("more blanks", "attack D4 3 2", 3, "  W\t D3  . ", true),
+        ("blanks at both ends", "attack D4 3 2", 3, " W D3 . ", true),
+        (
+            "a small letter of the claim",
+            "attack D4 3 2",
+            3,
+            "w D3 .",
+            false,
+        ),
+        ("words left over", "attack D4 3 2", 3, "W D3 . .", false),
+        ("a word too few", "attack D4 3 2", 3, "W D3", false),
+        ("the letter alone", "attack D4 3 2", 3, "W", false),
+        ("no words", "attack D4 3 2", 3, "", false),
+        ("blanks alone", "attack D4 3 2", 3, "  ", false),
+        ("an unknown word", "attack D4 3 2", 3, "W X .", false),
+        (
+            "a letter that is no column",
+            "attack D4 3 2",
+            3,
+            "W I3 .",
+            false,
+        ),
+        (
+            "a point off the board",
+            "attack D4 3 2",
+            3,
+            "W D10 .",
             false,
         ),
     ];
@@ -183,24 +197,12 @@ fn free_stone_is_not_captured(rt: HostRuntime) -> Result<(), Fail> {
             "N . N . N .",
             true,
         ),
-        ("the defence needs no move", "defend D4 3 2", 3, "N .", true),
-        ("nor with many plies", "defend D4 9 0", 3, "N .", false),
-        (
-            "the pass, and too many liberties behind it",
-            "defend D4 9 0",
-            3,
-            "N PASS .",
-            true,
-        ),
-        (
-            "the pass in small letters",
-            "defend D4 9 0",
-            3,
-            "N pass .",
-            true,
-        ),
     ];
-    check_on(&rt, (9, "D4", ""), &rows)?;
+    check_on(&rt, (9, "D4", ""), &rows)
+}
+
+#[test]
+fn three_liberties_are_enough_without_a_wide_ply(rt: HostRuntime) -> Result<(), Fail> {
     let rows = [
         (
             "three liberties without a wide ply",
@@ -218,6 +220,29 @@ fn free_stone_is_not_captured(rt: HostRuntime) -> Result<(), Fail> {
         ),
     ];
     check_on(&rt, (9, "D4", "C4"), &rows)
+}
+
+#[test]
+fn free_stone_needs_no_defence(rt: HostRuntime) -> Result<(), Fail> {
+    let rows = [
+        ("the defence needs no move", "defend D4 3 2", 3, "N .", true),
+        ("nor with many plies", "defend D4 9 0", 3, "N .", false),
+        (
+            "the pass, and too many liberties behind it",
+            "defend D4 9 0",
+            3,
+            "N PASS .",
+            true,
+        ),
+        (
+            "the pass in small letters",
+            "defend D4 9 0",
+            3,
+            "N pass .",
+            true,
+        ),
+    ];
+    check_on(&rt, (9, "D4", ""), &rows)
 }
 
 /// White has taken D3, where black may not play at once.
@@ -295,214 +320,4 @@ fn long_word_says_nothing(rt: HostRuntime) -> Result<(), Fail> {
         );
     }
     Ok(())
-}
-
-/// A proof in one tree or both: what is special about it, the stones, the question with its plies and wide plies, the
-/// code and the text, and whether it is one in the stated tree and in the wider one.
-type TreeRow = (
-    &'static str,
-    Stones,
-    &'static str,
-    u8,
-    &'static str,
-    bool,
-    bool,
-);
-
-/// Each text is a proof or none in each tree, as its row says.
-fn check_in_both(rt: &impl Abort, rows: &[TreeRow]) -> Result<(), Fail> {
-    for (what, stones, question, code, text, stated, wider) in rows {
-        let position = position(*stones).ok_or("the stones can be put")?;
-        for (tree, want) in [(Tree::Stated, stated), (Tree::Wider, wider)] {
-            let found = checked_in(&position, tree, question, *code, text.as_bytes()).ok_or(
-                "the question is about a stone",
-            )?;
-            assert_eq!(rt; found, *want, "{what}: {question} {code} {text}");
-        }
-    }
-    Ok(())
-}
-
-#[test]
-fn the_defender_has_beside_join_and_cut(rt: HostRuntime) -> Result<(), Fail> {
-    // One ply is left and one wide ply, so any candidate of the defender's proves that the attacker does not win.
-    let rows = [
-        (
-            "a liberty of a stone with three that is next to the target",
-            (5, "B2 B3", "C2"),
-            "defend B2 1 1",
-            3,
-            "N D2 .",
-            false,
-            true,
-        ),
-        (
-            "a liberty of two stones that have five",
-            (5, "B2 B3", "C2 D2"),
-            "defend B2 1 1",
-            3,
-            "N D3 .",
-            false,
-            false,
-        ),
-        (
-            "a liberty of a linked string",
-            (5, "B5 D5 A4", "C4 B3"),
-            "defend A4 1 1",
-            3,
-            "N C5 .",
-            false,
-            true,
-        ),
-        (
-            "the last liberty of a stone that would cut",
-            (5, "A5 C5 A3", "A4 D4 C3"),
-            "defend C5 1 1",
-            3,
-            "N B4 .",
-            false,
-            true,
-        ),
-        (
-            "none of them without a wide ply",
-            (5, "B5 D5 A4", "C4 B3"),
-            "defend A4 1 0",
-            3,
-            "N C5 .",
-            false,
-            false,
-        ),
-        (
-            "no point of a net at the defender's turn",
-            (5, "D1", "E2"),
-            "defend E2 1 1",
-            3,
-            "N D3 .",
-            false,
-            false,
-        ),
-        (
-            "a point off all sets",
-            (5, "B2 B3", "C2"),
-            "defend B2 1 1",
-            3,
-            "N E5 .",
-            false,
-            false,
-        ),
-    ];
-    check_in_both(&rt, &rows)
-}
-
-#[test]
-fn the_attacker_has_net_beside_and_rescue(rt: HostRuntime) -> Result<(), Fail> {
-    // One ply is left and one wide ply, so `*` is followed by a dot for each candidate of the attacker's.
-    let rows = [
-        (
-            "three liberties, and no net",
-            (5, "D1", "E2"),
-            "attack E2 1 1",
-            0,
-            "N * . . . N * . . . N * . . .",
-            true,
-            false,
-        ),
-        (
-            "the same with a net of D3, E4 and C2",
-            (5, "D1", "E2"),
-            "attack E2 1 1",
-            0,
-            "N * . . . . . . N * . . . . . . N * . . . . . .",
-            false,
-            true,
-        ),
-        (
-            "five liberties of the target",
-            (5, "B2 B3", "B1"),
-            "attack B2 1 1",
-            0,
-            "N * . . . . . N * . . . . . N * . . . . .",
-            true,
-            false,
-        ),
-        (
-            "the same with the liberties of a stone next to it that has two",
-            (5, "B2 B3", "B1"),
-            "attack B2 1 1",
-            0,
-            "N * . . . . . . . N * . . . . . . . N * . . . . . . .",
-            false,
-            true,
-        ),
-        (
-            "two liberties and three empty points next to them",
-            (5, "B3 D3 C2", "C3 D2"),
-            "attack D2 1 1",
-            0,
-            "N * . . . . . N * . . . . . N * . . . . .",
-            true,
-            false,
-        ),
-        (
-            "the same with B2 and D4 beside weak stones, and C4, which takes C3",
-            (5, "B3 D3 C2", "C3 D2"),
-            "attack D2 1 1",
-            0,
-            "N * . . . . . . . . N * . . . . . . . . N * . . . . . . . .",
-            false,
-            true,
-        ),
-        (
-            "no liberty of a stone next to the target that has three",
-            (5, "B2 B3", "C2"),
-            "attack B2 1 1",
-            0,
-            "N * . . . . . N * . . . . . N * . . . . .",
-            true,
-            true,
-        ),
-    ];
-    check_in_both(&rt, &rows)
-}
-
-/// The first proof that three liberties are enough without a wide ply, under one code: the defender passes, and fills
-/// the last liberty at his second turn.
-pub(super) const THREE_LIBERTIES: &str = concat!(
-    "N * PASS * E1 . C1 . PASS * E1 . D2 . PASS * C1 . D2 . ",
-    "N * PASS * E1 . C1 . PASS * E1 . D2 . PASS * C1 . D2 . ",
-    "N * PASS * E1 . C1 . PASS * E1 . D2 . PASS * C1 . D2 .",
-);
-
-#[test]
-fn three_liberties_may_be_filled_in_the_wider_tree(rt: HostRuntime) -> Result<(), Fail> {
-    let rows = [
-        (
-            "three liberties without a wide ply",
-            (9, "D1", ""),
-            "attack D1 5 0",
-            0,
-            "N . N . N .",
-            true,
-            false,
-        ),
-        (
-            "words that go on, where in the stated tree a dot would do",
-            (9, "D1", ""),
-            "attack D1 5 0",
-            0,
-            THREE_LIBERTIES,
-            true,
-            true,
-        ),
-        (
-            "four liberties without a wide ply",
-            (9, "D4", ""),
-            "attack D4 9 0",
-            0,
-            "N . N . N .",
-            true,
-            true,
-        ),
-    ];
-    check_in_both(&rt, &rows)
 }

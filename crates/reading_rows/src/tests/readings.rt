@@ -83,7 +83,9 @@ fn check(rt: &impl Abort, stones: Stones, rows: &[Row]) -> Result<(), Fail> {
 fn trials(rt: &impl Abort, stones: Stones, (question, want): Row) -> Result<u64, Fail> {
     let position = position(stones).ok_or("the stones can be put")?;
     check_on(rt, &position, &[(question, want)])?;
-    let (_, trials) = read(&position, Tree::Stated, question).ok_or("the question is about a stone")?;
+    let (_, trials) = read(&position, Tree::Stated, question).ok_or(
+        "the question is about a stone",
+    )?;
     Ok(trials)
 }
 
