@@ -158,7 +158,9 @@ impl Engine {
             komi: KomiText::zero(),
             readings: Readings::new(
                 alloc,
-                Depths::new(options.depth, options.branch).unwrap().in_tree(tree),
+                Depths::new(options.depth, options.branch)
+                    .unwrap()
+                    .in_tree(tree),
                 options.cache,
             )?,
             links: Connections::new(alloc, options.depth, options.cache)?,

@@ -6,7 +6,7 @@
 use gtp_io::{FileLoader, StdSink, StdSource};
 use helpers::{Helper, NearEdge, NoBan};
 use read_rules::Tree;
-use session::{WordsError, run_words_in};
+use session::{WordsError, run_words};
 use std::process::ExitCode;
 use std::rt::Env;
 use std::{env, io};
@@ -50,7 +50,7 @@ pub fn run_program(rt: HostRuntime, tree: Tree) -> ExitCode {
     } else {
         Err(WordsError::NoMemory)
     };
-    let outcome = run_words_in(
+    let outcome = run_words(
         alloc,
         tree,
         words,

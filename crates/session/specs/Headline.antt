@@ -205,12 +205,7 @@ pub record DoesNothing (before after : Outside) (outcome : Outcome) : Type 0 whe
   pub notes : IsNoted before.noted after.noted before.notes_faults after.notes_faults (note_of outcome)
 
 -- what a run with these helpers did that reads in a tree, by its words where they could be had; texts tells these
-abbrev pub RunsHadIn : {V : Type 0} → Tree → List SlotState → (V → List (List ℕ)) → Result V WordsError → Outside → Outside
+abbrev pub RunsHad : {V : Type 0} → Tree → List SlotState → (V → List (List ℕ)) → Result V WordsError → Outside → Outside
     → Outcome → Type 0
-RunsHadIn tree helpers texts (Ok words) before after outcome = RunsIn tree helpers (texts words) before after outcome
-RunsHadIn tree helpers texts (Err error) before after outcome = (outcome ≡ unhad error) × DoesNothing before after outcome
-
--- what such a run did that reads in the stated tree
-abbrev pub RunsHad : {V : Type 0} → List SlotState → (V → List (List ℕ)) → Result V WordsError → Outside → Outside
-    → Outcome → Type 0
-RunsHad = RunsHadIn Stated
+RunsHad tree helpers texts (Ok words) before after outcome = RunsIn tree helpers (texts words) before after outcome
+RunsHad tree helpers texts (Err error) before after outcome = (outcome ≡ unhad error) × DoesNothing before after outcome

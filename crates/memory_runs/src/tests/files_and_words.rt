@@ -3,6 +3,7 @@ use super::runs::{ROOM, WHOLE, Way, go};
 use crate::run_surely;
 use crate::sessions::File;
 use gtp_io::{Page, SureFeed, SurePage, SureShelf};
+use read_rules::Tree;
 use session::{Outcome, WordsError, run_words};
 use std::test::Fail;
 
@@ -21,6 +22,7 @@ fn words_that_could_not_be_had_are_told(rt: HostRuntime) -> Result<(), Fail> {
         let mut notes = Page::new(rt.alloc(), ROOM, ROOM, Vec::new(rt.alloc()))?;
         let outcome = run_words(
             rt.alloc(),
+            Tree::Stated,
             Err(error),
             &mut shelf,
             &mut feed,
