@@ -7,7 +7,7 @@ use Rattle.read_rules.specs.declared.question.Answer.{Answer}
 use Rattle.read_rules.specs.Answer.{answer_of}
 use Rattle.gtp_cmd.specs.Words.{blank}
 use Rattle.gtp_cmd.specs.Vertices.{vertex_text}
-use Rattle.machine_rules.specs.Machine.{Machine, position_of}
+use Rattle.machine_rules.specs.Machine.{Machine, position_of, question_at}
 use Rattle.machine_rules.specs.Effects.{Effect, told}
 use Rattle.machine_rules.specs.BoardCommands.{of_stone}
 
@@ -27,8 +27,7 @@ answer_text s answer = decimal answer.code ++ move_text s answer.at
 
 -- the answer to a question about the stone at p, read on the machine's position as deep as the machine says
 abbrev pub reading_of : Machine → Kind → ℕ → Answer
-reading_of machine kind p = answer_of (question_at machine kind p)
-    (position_of machine)
+reading_of machine kind p = answer_of (question_at machine kind p) (position_of machine)
 
 -- the answer to a question about the string of a point is told
 abbrev pub read : Machine → Kind → ℕ → Effect
