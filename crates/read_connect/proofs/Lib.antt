@@ -1,4 +1,5 @@
 pub mod StandLemmas
+pub mod StandingNodes
 pub mod StageLemmas
 pub mod TurnLemmas
 pub mod WalkLemmas

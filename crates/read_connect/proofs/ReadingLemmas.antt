@@ -22,8 +22,7 @@ use Rattle.link_rules.specs.ConnectionArea.{first, InConnectionArea}
 use Rattle.link_rules.specs.Linkages.{is_connect, link_of, is_about, first_move_of, linkage_of, asked_on}
 use Rattle.link_rules.proofs.LinkageLemmas.{linkage_one, linkage_apart}
 use Rattle.read_connect.specs.Readings.{first_move, one_string}
-use Rattle.read_connect.specs.Walk.{IsNodeFor}
-use Rattle.read_connect.proofs.WalkLemmas.{near_a, near_b}
+use Rattle.read_connect.proofs.StandingNodes.{IsStandingNode, a_in, b_in}
 
 -- at their own turn the first move is the first point
 pub own_first : (n : ℕ) (link : Link) (own : Bool) (here : BoardState) → own ≡ true
@@ -97,19 +96,23 @@ about_stones q pos size at_a at_b = and_from _ _ (eq-eqb q.size pos.size size)
 
 module _ (q : LinkQuestion) (pos : BoardState) (a_on : q.a < pos.size * pos.size) (b_on : q.b < pos.size * pos.size)
     (about : is_about q pos ≡ true) where
-  -- the first node of the tree is the position
-  root : IsNodeFor (link_of q) q pos q.plies (is_connect q.kind) pos
-  root = record { its = refl; in_tree = first }
+  -- the first node of the tree is the position, where both strings stand
+  root : IsStandingNode (link_of q) q pos pos q.plies (is_connect q.kind) pos.size
+  root = record {
+    node = record { its = refl; in_tree = first };
+    size = refl;
+    a_on = a_on;
+    b_on = b_on;
+    stand = (and_parts _ _ about).1;
+  }
 
   -- the first point lies in the active area
   pub area_a : InConnectionArea q pos q.a
-  area_a = near_a (link_of q) q pos pos q.plies (is_connect q.kind) root pos.size refl a_on b_on
-      (and_parts _ _ about).1
+  area_a = a_in root
 
   -- and so does the second
   pub area_b : InConnectionArea q pos q.b
-  area_b = near_b (link_of q) q pos pos q.plies (is_connect q.kind) root pos.size refl a_on b_on
-      (and_parts _ _ about).1
+  area_b = b_in root
 
 -- the question that the call makes is the one that is asked
 pub question_is : (shown : BoardState) (size a b plies : ℕ) (kind : LinkKind) (cell : Cell)

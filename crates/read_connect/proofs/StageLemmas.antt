@@ -22,7 +22,11 @@ use Rattle.link_rules.specs.Connection.{is_one_string}
 use Rattle.link_rules.specs.ConnectingMoves.{is_facing, is_between, is_capture, is_connecting_move}
 use Rattle.std.proofs.Common.{None}
 use Rattle.link_rules.proofs.MoveLemmas.{move_on}
+use Rattle.go_base.specs.Facts.{Fact, Agrees}
+use Rattle.trial_board.specs.Trials.{Trying, after}
+use Rattle.trial_board.proofs.AfterLemmas.{size-after}
 use Rattle.read_connect.specs.Stages.{is_beside_member, reaches_among, TellsSome}
+use Rattle.read_connect.specs.Walk.{AreLiberties}
 use Rattle.read_connect.proofs.WalkLemmas.{tells_last}
 
 -- a number is in the intersection of two sets where it is in both
@@ -206,12 +210,24 @@ crossing_inside s cells link of_a of_b a_is b_is n p h =
       | inr x ↦ liberty_inside s cells link.b p of_b b_is (and_parts _ _ x).0
     ]
 
--- the same on a board of the same size
-pub crossing_sized : (n s : ℕ) (of_a of_b : set.FinSet nat_cmp) (p : ℕ) → n ≡ s
-    → reaches_among n of_a of_b p || reaches_among n of_b of_a p ≡ true
-    → reaches_among s of_a of_b p || reaches_among s of_b of_a p ≡ true
-crossing_sized n s of_a of_b p e h =
-    ap (λ m. reaches_among m of_a of_b p || reaches_among m of_b of_a p) (sym e) ∙ h
+-- The first two stages, where these are the liberties of the strings after the moves of a board.
+module _ {L : Type 0} {seen : L → Fact → Bool} {board : Trying L} {link : Link} {of_a of_b : set.FinSet nat_cmp}
+    (its : AreLiberties seen board link of_a of_b) (found : set.FinSet nat_cmp) where
+  -- a liberty of both is a connecting move
+  pub shared_move : found ≡ set.intersection of_a of_b → (pos : BoardState) → Agrees (seen board.look) pos → (p : ℕ)
+      → set.contains found p ≡ true → is_connecting_move link (after pos board.moves) p ≡ true
+  shared_move is pos agrees p h = shared_is_move link pos.size (after pos board.moves) of_a of_b
+      (size-after pos board.moves) (its.a_liberties pos agrees) (its.b_liberties pos agrees) p
+      (sym (in_both of_a of_b found is p) ∙ h)
+
+  -- and so is one that was found to reach across on a board of its size
+  pub crossing_move : (n : ℕ)
+      → ((p : ℕ) → set.contains found p ≡ (reaches_among n of_a of_b p || reaches_among n of_b of_a p))
+      → (pos : BoardState) → n ≡ pos.size → Agrees (seen board.look) pos → (p : ℕ) → set.contains found p ≡ true
+      → is_connecting_move link (after pos board.moves) p ≡ true
+  crossing_move n is pos e agrees p h = crossing_is_move link pos.size (after pos board.moves) of_a of_b
+      (size-after pos board.moves) (its.a_liberties pos agrees) (its.b_liberties pos agrees) p
+      (ap (λ m. reaches_among m of_a of_b p || reaches_among m of_b of_a p) (sym e) ∙ sym (is p) ∙ h)
 
 -- a capture is on the board
 pub capture_inside : (s : ℕ) (cells : List Cell) (link : Link) (p : ℕ) → is_capture s cells link.a link.b p ≡ true

@@ -10,7 +10,7 @@ use Rattle.read_rules.proofs.AreaLemmas.{AddsNear-in, AddsNear-trans}
 use Rattle.link_rules.specs.declared.question.LinkQuestion.{LinkQuestion}
 use Rattle.link_rules.specs.ConnectionArea.{InConnectionArea}
 use Rattle.link_rules.specs.Linkages.{linkage_of, asked_on}
-use Rattle.read_connect.proofs.WalkLemmas.{point_on}
+use Rattle.read_connect.proofs.StandingNodes.{point_on}
 use Rattle.read_connect.proofs.ReadingLemmas.{about_stones, area_a, question_is}
 use Rattle.read_connect.proofs.reading.answered.Given.{Over}
 use Rattle.read_connect.proofs.reading.answered.Goals as goal

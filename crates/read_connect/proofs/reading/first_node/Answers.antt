@@ -8,13 +8,13 @@ use Rattle.go_base.proofs.SidesOfPoints.{square_small}
 use Rattle.trial_board.specs.Trials.{after}
 use Rattle.trial_board.proofs.AfterLemmas.{size-after}
 use Rattle.read_rules.specs.GoodMoves.{IsOnBoard}
-use Rattle.read_rules.proofs.AreaLemmas.{AddsNear-in, AddsNear-trans}
+use Rattle.read_rules.proofs.AreaLemmas.{AddsNear-trans}
 use Rattle.link_rules.specs.Connection.{is_one_string}
-use Rattle.link_rules.specs.ConnectionArea.{IsUndecided, InConnectionArea}
-use Rattle.link_rules.specs.Linkages.{link_of, is_connect}
+use Rattle.link_rules.specs.ConnectionArea.{IsUndecided}
+use Rattle.link_rules.specs.Linkages.{link_of}
 use Rattle.read_connect.specs.Walk.{IsNodeFor}
 use Rattle.read_connect.proofs.StageLemmas.{one_by}
-use Rattle.read_connect.proofs.WalkLemmas.{near_a_once, near_b_once, point_on}
+use Rattle.read_connect.proofs.StandingNodes.{standing_node, near_a, near_b, point_on}
 use Rattle.read_connect.proofs.ReadingLemmas.{one_told, apart_told, told_none, one_none, one_on}
 use Rattle.read_connect.proofs.reading.first_node.Given.{Over}
 use Rattle.read_connect.proofs.reading.first_node.Goals as goal
@@ -53,14 +53,8 @@ returns-then-has g c = record {
       (one g (goal.at.returns-then-has g c).After-has pos a ∙ c.if-has.true);
   near = λ pos a q root node.
       let a0 = agrees_before c.string-stones.ensures.stays.grows a in
-      let link = link_of c.args.question.now in
-      let same = same_size (g.met.L.Look.sized c.args.board.now.look) a0 in
-      let s = (g.L.Look.shows c.args.board.now.look).size in
-      AddsNear-in (InConnectionArea q root) (c.string-stones.ensures.near pos a)
-      (near_a_once link q root (after pos c.args.board.now.moves) c.args.question.now.plies
-      (is_connect c.args.question.now.kind) node pos.size (size-after pos c.args.board.now.moves)
-      (point_on pos.size s link.a same c.requires.on_board.a) (point_on pos.size s link.b same c.requires.on_board.b)
-      (and_parts _ _ (c.requires.about pos a0)).1);
+      near_a (standing_node c.requires.on_board (g.met.L.Look.sized c.args.board.now.look) a0
+      (and_parts _ _ (c.requires.about pos a0)).1 node) (c.string-stones.ensures.near pos a);
 }
 
 -- the second point is on the board
@@ -124,24 +118,16 @@ pub returns-clause-near : goal.returns-clause-near
 returns-clause-near g c = λ pos a q root node.
     let a2 = agrees_before c.first_move-at.ensures.stays.grows a in
     let a1 = agrees_before c.liberties-of_b.ensures.stays.grows a2 in
-    let a0 = agrees_before c.string-stones.ensures.stays.grows a1 in
     let link = link_of c.args.question.now in
     let here = after pos c.args.board.now.moves in
     let n = c.args.question.now.plies in
-    let own = is_connect c.args.question.now.kind in
-    let same = same_size (g.met.L.Look.sized c.args.board.now.look) a0 in
-    let s = (g.L.Look.shows c.args.board.now.look).size in
-    let size = size-after pos c.args.board.now.moves in
-    let a_on = point_on pos.size s link.a same c.requires.on_board.a in
-    let b_on = point_on pos.size s link.b same c.requires.on_board.b in
-    let stand = (and_parts _ _ (c.requires.about pos a0)).1 in
-    let moves = c.liberties-of_b.ensures.stays.moves ∙ c.string-stones.ensures.stays.moves in
+    let a0 = agrees_before c.string-stones.ensures.stays.grows a1 in
     let more : n ≡ suc (n - 1) = omega (arith, c.requires.plies) in
-    AddsNear-trans (AddsNear-in (InConnectionArea q root) (c.string-stones.ensures.near pos a1)
-    (near_a_once link q root here n own node pos.size size a_on b_on stand))
-    (AddsNear-trans (AddsNear-in (InConnectionArea q root)
-    (rw c.string-stones.ensures.stays.moves at (c.liberties-of_b.ensures.near pos a2))
-    (near_b_once link q root here n own node pos.size size a_on b_on stand))
+    let at = standing_node c.requires.on_board (g.met.L.Look.sized c.args.board.now.look) a0
+    (and_parts _ _ (c.requires.about pos a0)).1 node in
+    let moves = c.liberties-of_b.ensures.stays.moves ∙ c.string-stones.ensures.stays.moves in
+    AddsNear-trans (near_a at (c.string-stones.ensures.near pos a1))
+    (AddsNear-trans (near_b at (rw c.string-stones.ensures.stays.moves at (c.liberties-of_b.ensures.near pos a2)))
     ((rw moves at (c.first_move-at.ensures.near pos a q root))
     (subst (λ k. IsNodeFor link q root k c.is_connect-own.result here) more
     (subst (λ o. IsNodeFor link q root n o here) (sym c.is_connect-own.ensures) node))))

@@ -1,20 +1,19 @@
 -- The moves in reading order, each read to its end.
-use Rattle.std.proofs.Common.{◌≡◌, ◌∙◌, ◌*◌, ◌<◌, ◌||◌, ℕ, suc, sym, ap, subst}
+use Rattle.std.proofs.Common.{◌≡◌, ◌∙◌, ◌*◌, ◌<◌, ◌||◌, ℕ, sym, ap, subst}
 use Rattle.std.specs.FinSet as set
 use Rattle.go_base.specs.Facts.{Agrees, agrees_before, Grows-refl, Grows-trans, same_size}
 use Rattle.go_rules.specs.Position.{BoardState}
 use Rattle.trial_board.specs.Trials.{after, Stays-trans}
 use Rattle.trial_board.proofs.AfterLemmas.{size-after}
-use Rattle.read_rules.proofs.AreaLemmas.{AddsNear-in, AddsNear-trans}
+use Rattle.read_rules.proofs.AreaLemmas.{AddsNear-trans}
 use Rattle.link_rules.specs.ConnectingMoves.{is_connecting_move}
-use Rattle.link_rules.specs.ConnectionArea.{InConnectionArea}
 use Rattle.link_rules.proofs.MoveLemmas.{move_on}
 use Rattle.read_connect.specs.Stages.{attains, reaches_among}
 use Rattle.read_connect.proofs.StageLemmas.{in_both}
 use Rattle.read_connect.proofs.StageLemmas.{all_moves, liberty_inside}
 use Rattle.read_connect.proofs.TurnLemmas.{first_hit, first_none}
-use Rattle.read_connect.proofs.WalkLemmas.{none_first, none_next, none_left, before_hit, near_surround, point_on}
-use Rattle.read_connect.proofs.WalkLemmas.{ready_still}
+use Rattle.read_connect.proofs.StandingNodes.{ready_node, near_captures}
+use Rattle.read_connect.proofs.WalkLemmas.{none_first, none_next, none_left, before_hit, ready_still}
 use Rattle.read_connect.proofs.reading.first_point.Given.{Over}
 use Rattle.read_connect.proofs.reading.first_point.Goals as goal
 use Rattle.read_connect.proofs.reading.first_point.Goals.{After-join-2}
@@ -54,15 +53,8 @@ loop-p-init g c = record {
   grows = Grows-refl _;
   near = λ pos a q root node.
       let a0 = agrees_before c.captures_of.ensures.stays.grows a in
-      let link = c.args.link in
-      let same = same_size (g.met.L.Look.sized c.args.board.now.look) a0 in
-      let here = after pos c.args.board.now.moves in
-      AddsNear-in (InConnectionArea q root) (c.captures_of.ensures.near pos a)
-      (near_surround link q root here (suc c.args.plies) c.args.own node pos.size
-      (size-after pos c.args.board.now.moves)
-      (point_on pos.size (g.L.Look.shows c.args.board.now.look).size link.a same c.requires.ready.on_board.a)
-      (point_on pos.size (g.L.Look.shows c.args.board.now.look).size link.b same c.requires.ready.on_board.b)
-      (c.requires.ready.undecided pos a0).stand);
+      near_captures (ready_node c.requires.ready (g.met.L.Look.sized c.args.board.now.look) a0 node)
+      (c.captures_of.ensures.near pos a);
   none = λ pos a. none_first _ _;
 }
 

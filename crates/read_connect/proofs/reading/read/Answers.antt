@@ -11,7 +11,7 @@ use Rattle.read_rules.proofs.AreaLemmas.{AddsNear-in, AddsNear-trans}
 use Rattle.link_rules.specs.ConnectionArea.{first, InConnectionArea}
 use Rattle.link_rules.specs.Linkages.{is_connect, link_of}
 use Rattle.read_connect.specs.Walk.{IsNodeFor}
-use Rattle.read_connect.proofs.WalkLemmas.{point_on}
+use Rattle.read_connect.proofs.StandingNodes.{point_on}
 use Rattle.read_connect.proofs.ReadingLemmas.{about_stones, area_a, area_b}
 use Rattle.read_connect.proofs.reading.read.Goals as goal
 

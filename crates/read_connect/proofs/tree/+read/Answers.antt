@@ -4,29 +4,29 @@ use Rattle.std.proofs.Common.{length, ap, sym, subst, refl, rules}
 use Rattle.std.proofs.lemmas.Bool.{and_parts}
 use Rattle.std.specs.FinSet as set
 use Rattle.go_rules.specs.Position.{BoardState}
-use Rattle.go_rules.specs.Play.{pass}
 use Rattle.go_base.specs.Facts.{Agrees, agrees_before, Grows-refl, same_size}
 use Rattle.go_base.proofs.SidesOfPoints.{square_small}
 use Rattle.trial_board.specs.Trials.{after, Stays-trans}
 use Rattle.trial_board.proofs.AfterLemmas.{size-after}
-use Rattle.read_rules.proofs.AreaLemmas.{AddsNear-in, AddsNear-trans}
+use Rattle.read_rules.proofs.AreaLemmas.{AddsNear-trans}
 use Rattle.link_rules.specs.ConnectingMoves.{is_connecting_move}
-use Rattle.link_rules.specs.Connection.{can_connect, has_way, leads_to, mover_of}
-use Rattle.link_rules.specs.ConnectionArea.{InConnectionArea}
-use Rattle.link_rules.proofs.TreeLemmas.{connects-gone, connects-joined, connects-no_plies}
-use Rattle.read_connect.specs.Stages.{attains}
+use Rattle.link_rules.specs.Connection.{can_connect, has_way, is_one_string, leads_to, mover_of}
 use Rattle.link_rules.specs.ConnectionArea.{IsUndecided}
+use Rattle.link_rules.proofs.TreeLemmas.{connects-gone, connects-joined, connects-no_plies}
 use Rattle.go_rules.specs.Strings.{liberty_points}
-use Rattle.read_connect.specs.Stages.{reaches_among}
-use Rattle.read_connect.specs.Walk.{AreOnBoard, AreLiberties, IsReady, IsNodeFor, IsChildFor}
+use Rattle.read_connect.specs.Stages.{attains, reaches_among}
+use Rattle.read_connect.specs.Walk.{AreOnBoard, AreLiberties, IsReady, IsNodeFor, LooksNear, LooksNearFrom}
 use Rattle.read_connect.proofs.StageLemmas.{in_both, in_first_alone}
-use Rattle.read_connect.proofs.StageLemmas.{one_by, liberty_inside, shared_is_move, crossing_is_move, capture_is_move}
-use Rattle.read_connect.proofs.StageLemmas.{crossing_inside, capture_inside, crossing_sized, last_stage}
-use Rattle.read_connect.proofs.WalkLemmas.{none_first, none_next, none_left, tells_none, tells_hit, tells_more}
-use Rattle.read_connect.proofs.WalkLemmas.{near_a, near_b, near_a_once, near_b_once, near_surround}
-use Rattle.read_connect.proofs.WalkLemmas.{near_play, near_end, point_on, done_legal, refused_leads, one_more_move}
+use Rattle.read_connect.proofs.StageLemmas.{one_by, liberty_inside, shared_move, crossing_move, capture_is_move}
+use Rattle.read_connect.proofs.StageLemmas.{crossing_inside, capture_inside, last_stage}
+use Rattle.read_connect.proofs.StandingNodes.{point_on, standing_node, ready_node, near_ends, near_a, near_b}
+use Rattle.read_connect.proofs.StandingNodes.{near_captures, near_play, played_child, passed_child}
 use Rattle.read_connect.proofs.TurnLemmas.{own_by, parted_by, other_by}
-use Rattle.read_connect.proofs.WalkLemmas.{ready_still, liberties_still, child_node, pass_node}
+use Rattle.read_connect.proofs.WalkLemmas.{none_first, none_next, none_left, tells_none, tells_hit, tells_more}
+use Rattle.read_connect.proofs.WalkLemmas.{done_legal, refused_leads, one_more_move, ready_still, liberties_still}
+use Rattle.read_connect.proofs.tree.+read.Given.{Over}
+use Rattle.read_connect.proofs.tree.+read.Goals.{can_connect-After-string-stones, can_connect-After-has}
+use Rattle.read_connect.proofs.tree.+read.Goals.{some_move-After-some_of-2}
 use Rattle.read_connect.proofs.tree.+read.Goals as goal
 
 -- a play that is made and taken back: the side has its way where the tree says so of the position after it
@@ -53,23 +53,12 @@ attains-returns-in-Done-clause-near g t c = λ pos a q root node moved.
     let new = after pos c.play.new.self.moves in
     let link = c.args.link in
     let own = c.args.own in
-    let n = c.args.plies in
-    let size = size-after pos c.args.board.now.moves in
-    let same = same_size (g.met.L.Look.sized c.args.board.now.look) a0 in
-    let a_on = point_on pos.size (g.L.Look.shows c.args.board.now.look).size link.a same c.requires.ready.on_board.a in
-    let b_on = point_on pos.size (g.L.Look.shows c.args.board.now.look).size link.b same c.requires.ready.on_board.b in
     let und = c.requires.ready.undecided pos a0 in
+    let at = ready_node c.requires.ready (g.met.L.Look.sized c.args.board.now.look) a0 node in
     let legal = done_legal here (mover_of link own) c.args.p new
     (rw (c.in-Done.is, c.mover.ensures) at (c.play.ensures.over pos a1)) in
-    let child : IsChildFor link q root n (not own) new = record {
-      node = child_node link q root here new n own c.args.p node und moved legal;
-      a = near_a link q root here (suc n) own node pos.size size a_on b_on und.stand;
-      b = near_b link q root here (suc n) own node pos.size size a_on b_on und.stand;
-    } in
-    rw c.back.ensures.moves (AddsNear-trans
-    (AddsNear-in (InConnectionArea q root) (c.play.ensures.near pos a1)
-    (λ x h. near_play link q root here (suc n) own node pos.size size a_on b_on und.stand c.args.p x moved h))
-    (c.can_connect-joined.ensures.near pos a2 q root child))
+    rw c.back.ensures.moves (AddsNear-trans (near_play at c.args.p moved (c.play.ensures.near pos a1))
+    (c.can_connect-joined.ensures.near pos a2 q root (played_child und c.args.p at moved legal)))
 
 -- a refused play leads nowhere
 pub attains-returns-in_default-clause-over : goal.attains-returns-in_default-clause-over
@@ -83,17 +72,9 @@ attains-returns-in_default-clause-over g t c = λ pos a.
 -- and looks near its move
 pub attains-returns-in_default-clause-near : goal.attains-returns-in_default-clause-near
 attains-returns-in_default-clause-near g t c = λ pos a q root node moved.
-    let a0 = agrees_before c.play.ensures.grows a in
-    let link = c.args.link in
-    let here = after pos c.args.board.now.moves in
-    let size = size-after pos c.args.board.now.moves in
-    let same = same_size (g.met.L.Look.sized c.args.board.now.look) a0 in
-    let a_on = point_on pos.size (g.L.Look.shows c.args.board.now.look).size link.a same c.requires.ready.on_board.a in
-    let b_on = point_on pos.size (g.L.Look.shows c.args.board.now.look).size link.b same c.requires.ready.on_board.b in
-    let und = c.requires.ready.undecided pos a0 in
-    AddsNear-in (InConnectionArea q root) (c.play.ensures.near pos a)
-    (λ x h. near_play link q root here (suc c.args.plies) c.args.own node pos.size size a_on b_on und.stand c.args.p x
-    moved h)
+    let at = ready_node c.requires.ready (g.met.L.Look.sized c.args.board.now.look)
+    (agrees_before c.play.ensures.grows a) node in
+    near_play at c.args.p moved (c.play.ensures.near pos a)
 
 -- the pass parts the strings where they cannot be joined after it
 pub pass_parts-returns-clause-over : goal.pass_parts-returns-clause-over
@@ -106,20 +87,9 @@ pub pass_parts-returns-clause-near : goal.pass_parts-returns-clause-near
 pass_parts-returns-clause-near g t c = λ pos a q root node.
     let a2 = rw c.back.ensures.moves at a in
     let a0 = rw c.pass.ensures at (agrees_before c.can_connect-joined.ensures.stays.grows a2) in
-    let link = c.args.link in
-    let n = c.args.plies in
-    let here = after pos c.args.board.now.moves in
-    let size = size-after pos c.args.board.now.moves in
-    let same = same_size (g.met.L.Look.sized c.args.board.now.look) a0 in
-    let a_on = point_on pos.size (g.L.Look.shows c.args.board.now.look).size link.a same c.requires.on_board.a in
-    let b_on = point_on pos.size (g.L.Look.shows c.args.board.now.look).size link.b same c.requires.on_board.b in
-    let und = c.requires.undecided pos a0 in
-    let child : IsChildFor link q root n true (pass here) = record {
-      node = pass_node link q root here n node und;
-      a = near_a link q root here (suc n) false node pos.size size a_on b_on und.stand;
-      b = near_b link q root here (suc n) false node pos.size size a_on b_on und.stand;
-    } in
-    rw c.back.ensures.moves ((rw c.pass.ensures at (c.can_connect-joined.ensures.near pos a2 q root)) child)
+    let at = ready_node c.requires (g.met.L.Look.sized c.args.board.now.look) a0 node in
+    rw c.back.ensures.moves ((rw c.pass.ensures at (c.can_connect-joined.ensures.near pos a2 q root))
+    (passed_child (c.requires.undecided pos a0) at))
 
 -- nothing was tried
 pub some_of-loop-p-init : goal.some_of-loop-p-init
@@ -182,74 +152,57 @@ can_connect-returns-then-not-both_stand-clause-over g t c = λ pos a.
 -- the two points are in the area
 pub can_connect-returns-then-not-both_stand-clause-near : goal.can_connect-returns-then-not-both_stand-clause-near
 can_connect-returns-then-not-both_stand-clause-near g t c = λ pos a q root child.
-    AddsNear-in (InConnectionArea q root) c.both_stand.ensures.near
-    (near_end (InConnectionArea q root) c.args.link child.a child.b)
+    near_ends child c.both_stand.ensures.near
+
+-- what was looked at before the first string's stones are known lies in the area
+first_near : (g : Over) (t : ℕ) (c : can_connect-After-string-stones g t) → LooksNearFrom g.L.Look.seen
+    c.args.board.now c.string-stones.new.self c.args.plies c.args.link c.args.own
+first_near g t c = λ pos a q root child.
+    let a1 = agrees_before c.string-stones.ensures.stays.grows a in
+    let at = standing_node c.requires.on_board (g.met.L.Look.sized c.args.board.now.look)
+    (agrees_before c.both_stand.ensures.stays.grows a1)
+    (sym (c.both_stand.ensures.over pos a1) ∙ c.if-not-both_stand.false) child.node in
+    AddsNear-trans (near_ends child c.both_stand.ensures.near)
+    (near_a at (rw c.both_stand.ensures.stays.moves at (c.string-stones.ensures.near pos a)))
+
+-- whether the two are one string
+one : (g : Over) (t : ℕ) (c : can_connect-After-has g t) (pos : BoardState)
+    → Agrees (g.L.Look.seen c.string-stones.new.self.look) pos
+    → is_one_string c.args.link (after pos c.args.board.now.moves) ≡ c.has.result
+one g t c pos a =
+    let a1 = agrees_before c.string-stones.ensures.stays.grows a in
+    let a0 = agrees_before c.both_stand.ensures.stays.grows a1 in
+    let b_on = point_on pos.size (g.L.Look.shows c.args.board.now.look).size c.args.link.b
+    (same_size (g.met.L.Look.sized c.args.board.now.look) a0) c.requires.on_board.b in
+    let found = rw c.both_stand.ensures.stays.moves at (c.string-stones.ensures.over pos a) in
+    sym (c.has.ensures ∙ one_by c.args.link pos.size (after pos c.args.board.now.moves) c.string-stones.result.stones
+    (size-after pos c.args.board.now.moves) b_on found.0)
 
 -- the two are one string
 pub can_connect-returns-then-has-clause-over : goal.can_connect-returns-then-has-clause-over
 can_connect-returns-then-has-clause-over g t c = λ pos a.
     let a0 = agrees_before c.string-stones.ensures.stays.grows a in
-    let here = after pos c.args.board.now.moves in
-    let link = c.args.link in
-    let b_on = point_on pos.size (g.L.Look.shows c.args.board.now.look).size link.b
-    (same_size (g.met.L.Look.sized c.args.board.now.look) (agrees_before c.both_stand.ensures.stays.grows a0))
-    c.requires.on_board.b in
-    let found = rw c.both_stand.ensures.stays.moves at (c.string-stones.ensures.over pos a) in
-    sym (connects-joined c.args.plies link c.args.own here
+    sym (connects-joined c.args.plies c.args.link c.args.own (after pos c.args.board.now.moves)
     (sym (c.both_stand.ensures.over pos a0) ∙ c.if-not-both_stand.false)
-    (sym (one_by link pos.size here c.string-stones.result.stones (size-after pos c.args.board.now.moves) b_on found.0)
-    ∙ sym c.has.ensures ∙ c.if-has.true))
+    (one g t (goal.at.can_connect-returns-then-has-clause-over g t c).After-has pos a ∙ c.if-has.true))
 
 -- the first string was looked at
 pub can_connect-returns-then-has-clause-near : goal.can_connect-returns-then-has-clause-near
-can_connect-returns-then-has-clause-near g t c = λ pos a q root child.
-    let a0 = agrees_before c.string-stones.ensures.stays.grows a in
-    let link = c.args.link in
-    let here = after pos c.args.board.now.moves in
-    let size = size-after pos c.args.board.now.moves in
-    let same = same_size (g.met.L.Look.sized c.args.board.now.look)
-    (agrees_before c.both_stand.ensures.stays.grows a0) in
-    let a_on = point_on pos.size (g.L.Look.shows c.args.board.now.look).size link.a same c.requires.on_board.a in
-    let b_on = point_on pos.size (g.L.Look.shows c.args.board.now.look).size link.b same c.requires.on_board.b in
-    let stand = sym (c.both_stand.ensures.over pos a0) ∙ c.if-not-both_stand.false in
-    AddsNear-trans
-    (AddsNear-in (InConnectionArea q root) c.both_stand.ensures.near
-    (near_end (InConnectionArea q root) link child.a child.b))
-    (AddsNear-in (InConnectionArea q root) (rw c.both_stand.ensures.stays.moves at (c.string-stones.ensures.near pos a))
-    (near_a_once link q root here c.args.plies c.args.own child.node pos.size size a_on b_on stand))
+can_connect-returns-then-has-clause-near g t c =
+    first_near g t (goal.at.can_connect-returns-then-has-clause-near g t c).After-string-stones
 
 -- no ply is left
 pub can_connect-returns-then-plies-eq0-clause-over : goal.can_connect-returns-then-plies-eq0-clause-over
 can_connect-returns-then-plies-eq0-clause-over g t c = λ pos a.
-    let a0 = agrees_before c.string-stones.ensures.stays.grows a in
     let here = after pos c.args.board.now.moves in
-    let link = c.args.link in
-    let b_on = point_on pos.size (g.L.Look.shows c.args.board.now.look).size link.b
-    (same_size (g.met.L.Look.sized c.args.board.now.look) (agrees_before c.both_stand.ensures.stays.grows a0))
-    c.requires.on_board.b in
-    let found = rw c.both_stand.ensures.stays.moves at (c.string-stones.ensures.over pos a) in
-    sym (ap (λ n. can_connect n link c.args.own here) c.if-plies-eq0.true
-    ∙ connects-no_plies link c.args.own here
-    (sym (one_by link pos.size here c.string-stones.result.stones (size-after pos c.args.board.now.moves) b_on found.0)
-    ∙ sym c.has.ensures ∙ c.if-has.false))
+    sym (ap (λ n. can_connect n c.args.link c.args.own here) c.if-plies-eq0.true
+    ∙ connects-no_plies c.args.link c.args.own here
+    (one g t (goal.at.can_connect-returns-then-plies-eq0-clause-over g t c).After-has pos a ∙ c.if-has.false))
 
 -- the first string was looked at
 pub can_connect-returns-then-plies-eq0-clause-near : goal.can_connect-returns-then-plies-eq0-clause-near
-can_connect-returns-then-plies-eq0-clause-near g t c = λ pos a q root child.
-    let a0 = agrees_before c.string-stones.ensures.stays.grows a in
-    let link = c.args.link in
-    let here = after pos c.args.board.now.moves in
-    let size = size-after pos c.args.board.now.moves in
-    let same = same_size (g.met.L.Look.sized c.args.board.now.look)
-    (agrees_before c.both_stand.ensures.stays.grows a0) in
-    let a_on = point_on pos.size (g.L.Look.shows c.args.board.now.look).size link.a same c.requires.on_board.a in
-    let b_on = point_on pos.size (g.L.Look.shows c.args.board.now.look).size link.b same c.requires.on_board.b in
-    let stand = sym (c.both_stand.ensures.over pos a0) ∙ c.if-not-both_stand.false in
-    AddsNear-trans
-    (AddsNear-in (InConnectionArea q root) c.both_stand.ensures.near
-    (near_end (InConnectionArea q root) link child.a child.b))
-    (AddsNear-in (InConnectionArea q root) (rw c.both_stand.ensures.stays.moves at (c.string-stones.ensures.near pos a))
-    (near_a_once link q root here c.args.plies c.args.own child.node pos.size size a_on b_on stand))
+can_connect-returns-then-plies-eq0-clause-near g t c =
+    first_near g t (goal.at.can_connect-returns-then-plies-eq0-clause-near g t c).After-string-stones
 
 -- their own colour is to play
 pub goes_on-returns-then-own-clause-over : goal.goes_on-returns-then-own-clause-over
@@ -280,16 +233,12 @@ goes_on-returns-clause-over g t c = λ pos a.
 -- a liberty of both serves
 pub some_move-returns-then-some_of-clause-over : goal.some_move-returns-then-some_of-clause-over
 some_move-returns-then-some_of-clause-over g t c = λ pos a.
-    let a0 = agrees_before c.some_of.ensures.stays.grows a in
     let here = after pos c.args.board.now.moves in
-    let link = c.args.link in
-    let size = size-after pos c.args.board.now.moves in
-    tells_more (set.contains c.intersection-tried.result) (is_connecting_move link here)
-    (attains c.args.plies link c.args.own here) c.some_of.result true
+    tells_more (set.contains c.intersection-tried.result) (is_connecting_move c.args.link here)
+    (attains c.args.plies c.args.link c.args.own here) c.some_of.result true
     (c.some_of.ensures.over pos a) c.if-some_of.true refl
-    (λ p h. shared_is_move link pos.size here c.args.of_a.now c.args.of_b.now size
-    (c.requires.liberties.a_liberties pos a0) (c.requires.liberties.b_liberties pos a0) p
-    (sym (in_both c.args.of_a.now c.args.of_b.now c.intersection-tried.result c.intersection-tried.ensures p) ∙ h))
+    (shared_move c.requires.liberties c.intersection-tried.result c.intersection-tried.ensures pos
+    (agrees_before c.some_of.ensures.stays.grows a))
 
 -- the first point is on the board
 pub can_connect-string-stones-requires : goal.can_connect-string-stones-requires
@@ -328,16 +277,9 @@ can_connect-goes_on-requires g t c κs within =
       undecided = λ pos a.
           let a2 = agrees_before c.liberties-of_b.ensures.stays.grows a in
           let a1 = agrees_before c.string-stones.ensures.stays.grows a2 in
-          let a0 = agrees_before c.both_stand.ensures.stays.grows a1 in
-          let here = after pos c.args.board.now.moves in
-          let b_on = point_on pos.size (g.L.Look.shows c.args.board.now.look).size link.b
-          (same_size (g.met.L.Look.sized c.args.board.now.look) a0) c.requires.on_board.b in
-          let found = rw c.both_stand.ensures.stays.moves at (c.string-stones.ensures.over pos a2) in
           subst (λ ms. IsUndecided link (after pos ms)) (sym moves) (record {
             stand = sym (c.both_stand.ensures.over pos a1) ∙ c.if-not-both_stand.false;
-            apart = sym (one_by link pos.size here c.string-stones.result.stones
-                (size-after pos c.args.board.now.moves) b_on found.0)
-                ∙ sym c.has.ensures ∙ c.if-has.false;
+            apart = one g t (goal.at.can_connect-goes_on-requires g t c).After-has pos a2 ∙ c.if-has.false;
           });
     } in
     let found : AreLiberties g.L.Look.seen board link c.string-stones.result.liberties c.liberties-of_b.result =
@@ -361,25 +303,15 @@ can_connect-returns-clause-near g t c = λ pos a q root child.
     let a0 = agrees_before c.both_stand.ensures.stays.grows a1 in
     let link = c.args.link in
     let here = after pos c.args.board.now.moves in
-    let size = size-after pos c.args.board.now.moves in
-    let same = same_size (g.met.L.Look.sized c.args.board.now.look) a0 in
-    let a_on = point_on pos.size (g.L.Look.shows c.args.board.now.look).size link.a same c.requires.on_board.a in
-    let b_on = point_on pos.size (g.L.Look.shows c.args.board.now.look).size link.b same c.requires.on_board.b in
-    let stand = sym (c.both_stand.ensures.over pos a1) ∙ c.if-not-both_stand.false in
+    let at = standing_node c.requires.on_board (g.met.L.Look.sized c.args.board.now.look) a0
+    (sym (c.both_stand.ensures.over pos a1) ∙ c.if-not-both_stand.false) child.node in
     let before = c.string-stones.ensures.stays.moves ∙ c.both_stand.ensures.stays.moves in
     let more : c.args.plies ≡ suc (c.args.plies - 1) = omega (arith, c.if-plies-eq0.false) in
     AddsNear-trans
-    (AddsNear-in (InConnectionArea q root) c.both_stand.ensures.near
-    (near_end (InConnectionArea q root) link child.a child.b))
-    (AddsNear-trans
-    (AddsNear-in (InConnectionArea q root) (rw c.both_stand.ensures.stays.moves at (c.string-stones.ensures.near
-    pos a2))
-    (near_a_once link q root here c.args.plies c.args.own child.node pos.size size a_on b_on stand))
-    (AddsNear-trans
-    (AddsNear-in (InConnectionArea q root) (rw before at (c.liberties-of_b.ensures.near pos a3))
-    (near_b_once link q root here c.args.plies c.args.own child.node pos.size size a_on b_on stand))
+    (first_near g t (goal.at.can_connect-returns-clause-near g t c).After-string-stones pos a2 q root child)
+    (AddsNear-trans (near_b at (rw before at (c.liberties-of_b.ensures.near pos a3)))
     ((rw (c.liberties-of_b.ensures.stays.moves ∙ before) at (c.goes_on.ensures.near pos a q root))
-    (subst (λ n. IsNodeFor link q root n c.args.own here) more child.node))))
+    (subst (λ n. IsNodeFor link q root n c.args.own here) more child.node)))
 
 -- and told by the tree
 pub can_connect-returns-clause-over : goal.can_connect-returns-clause-over
@@ -534,50 +466,42 @@ some_move-some_of-requires-3 g t c κs within =
 -- a liberty of both is looked at near
 pub some_move-returns-then-some_of-clause-near : goal.some_move-returns-then-some_of-clause-near
 some_move-returns-then-some_of-clause-near g t c = λ pos a q root node.
-    let a0 = agrees_before c.some_of.ensures.stays.grows a in
-    let here = after pos c.args.board.now.moves in
     c.some_of.ensures.near pos a q root node
-    (λ p h. shared_is_move c.args.link pos.size here c.args.of_a.now c.args.of_b.now
-    (size-after pos c.args.board.now.moves) (c.requires.liberties.a_liberties pos a0)
-    (c.requires.liberties.b_liberties pos a0) p (sym (in_both c.args.of_a.now c.args.of_b.now
-    c.intersection-tried.result c.intersection-tried.ensures p) ∙ h))
+    (shared_move c.requires.liberties c.intersection-tried.result c.intersection-tried.ensures pos
+    (agrees_before c.some_of.ensures.stays.grows a))
 
 -- one that reaches across serves
 pub some_move-returns-then-some_of-2-clause-over : goal.some_move-returns-then-some_of-2-clause-over
 some_move-returns-then-some_of-2-clause-over g t c = λ pos a.
     let a1 = agrees_before c.some_of-2.ensures.stays.grows a in
     let a0 = agrees_before c.some_of.ensures.stays.grows a1 in
-    let here = after pos c.args.board.now.moves in
-    let link = c.args.link in
     let sized = c.size.ensures ∙ ap (λ (x : BoardState). x.size) c.some_of.ensures.stays.shown
     ∙ sym (same_size (g.met.L.Look.sized c.args.board.now.look) a0) in
-    tells_more (set.contains c.crossing-crossing.result) (is_connecting_move link here)
-    (attains c.args.plies link c.args.own here) c.some_of-2.result true
+    let here = after pos c.args.board.now.moves in
+    tells_more (set.contains c.crossing-crossing.result) (is_connecting_move c.args.link here)
+    (attains c.args.plies c.args.link c.args.own here) c.some_of-2.result true
     (rw c.some_of.ensures.stays.moves at (c.some_of-2.ensures.over pos a)) c.if-some_of-2.true refl
-    (λ p h. crossing_is_move link pos.size here c.args.of_a.now c.args.of_b.now (size-after pos c.args.board.now.moves)
-    (c.requires.liberties.a_liberties pos a0) (c.requires.liberties.b_liberties pos a0) p
-    (crossing_sized c.size.result pos.size c.args.of_a.now c.args.of_b.now p sized
-    (sym (c.crossing-crossing.ensures p) ∙ h)))
+    (crossing_move c.requires.liberties c.crossing-crossing.result c.size.result c.crossing-crossing.ensures pos sized
+    a0)
 
--- and is looked at near
-pub some_move-returns-then-some_of-2-clause-near : goal.some_move-returns-then-some_of-2-clause-near
-some_move-returns-then-some_of-2-clause-near g t c = λ pos a q root node.
+-- the looks at the first two stages lie in the area
+two_near : (g : Over) (t : ℕ) (c : some_move-After-some_of-2 g t) → LooksNear g.L.Look.seen c.args.board.now
+    c.some_of-2.new.board (suc c.args.plies) c.args.link c.args.own
+two_near g t c = λ pos a q root node.
     let a1 = agrees_before c.some_of-2.ensures.stays.grows a in
     let a0 = agrees_before c.some_of.ensures.stays.grows a1 in
-    let here = after pos c.args.board.now.moves in
-    let link = c.args.link in
-    let size = size-after pos c.args.board.now.moves in
-    let a_is = c.requires.liberties.a_liberties pos a0 in
-    let b_is = c.requires.liberties.b_liberties pos a0 in
     let sized = c.size.ensures ∙ ap (λ (x : BoardState). x.size) c.some_of.ensures.stays.shown
     ∙ sym (same_size (g.met.L.Look.sized c.args.board.now.look) a0) in
     AddsNear-trans (c.some_of.ensures.near pos a1 q root node
-    (λ p h. shared_is_move link pos.size here c.args.of_a.now c.args.of_b.now size a_is b_is p
-    (sym (in_both c.args.of_a.now c.args.of_b.now c.intersection-tried.result c.intersection-tried.ensures p) ∙ h)))
+    (shared_move c.requires.liberties c.intersection-tried.result c.intersection-tried.ensures pos a0))
     ((rw c.some_of.ensures.stays.moves at (c.some_of-2.ensures.near pos a q root)) node
-    (λ p h. crossing_is_move link pos.size here c.args.of_a.now c.args.of_b.now size a_is b_is p
-    (crossing_sized c.size.result pos.size c.args.of_a.now c.args.of_b.now p sized
-    (sym (c.crossing-crossing.ensures p) ∙ h))))
+    (crossing_move c.requires.liberties c.crossing-crossing.result c.size.result c.crossing-crossing.ensures pos sized
+    a0))
+
+-- and is looked at near
+pub some_move-returns-then-some_of-2-clause-near : goal.some_move-returns-then-some_of-2-clause-near
+some_move-returns-then-some_of-2-clause-near g t c =
+    two_near g t (goal.at.some_move-returns-then-some_of-2-clause-near g t c).After-some_of-2
 
 -- the captures are the last stage
 pub some_move-returns-clause-over : goal.some_move-returns-clause-over
@@ -588,20 +512,18 @@ some_move-returns-clause-over g t c = λ pos a.
     let a0 = agrees_before c.some_of.ensures.stays.grows a1 in
     let here = after pos c.args.board.now.moves in
     let link = c.args.link in
-    let size = size-after pos c.args.board.now.moves in
     let before = Stays-trans c.some_of.ensures.stays c.some_of-2.ensures.stays in
     let all = Stays-trans before c.captures_of.ensures.stays in
     let sized = c.size.ensures ∙ ap (λ (x : BoardState). x.size) c.some_of.ensures.stays.shown
     ∙ sym (same_size (g.met.L.Look.sized c.args.board.now.look) a0) in
-    last_stage link pos.size here c.args.of_a.now c.args.of_b.now size (c.requires.liberties.a_liberties pos a0)
-    (c.requires.liberties.b_liberties pos a0) c.intersection-tried.result c.crossing-crossing.result c.join.new.self
-    c.captures_of.result c.difference-captures.result (in_both c.args.of_a.now c.args.of_b.now
-    c.intersection-tried.result c.intersection-tried.ensures)
+    last_stage link pos.size here c.args.of_a.now c.args.of_b.now (size-after pos c.args.board.now.moves)
+    (c.requires.liberties.a_liberties pos a0) (c.requires.liberties.b_liberties pos a0) c.intersection-tried.result
+    c.crossing-crossing.result c.join.new.self c.captures_of.result c.difference-captures.result
+    (in_both c.args.of_a.now c.args.of_b.now c.intersection-tried.result c.intersection-tried.ensures)
     (λ p. c.crossing-crossing.ensures p
     ∙ ap (λ n. reaches_among n c.args.of_a.now c.args.of_b.now p || reaches_among n c.args.of_b.now c.args.of_a.now p)
-    sized)
-    (λ p. rw before.moves at (c.captures_of.ensures.over pos a3 p)) c.join.ensures (in_first_alone
-    c.captures_of.result c.join.new.self c.difference-captures.result c.difference-captures.ensures)
+    sized) (λ p. rw before.moves at (c.captures_of.ensures.over pos a3 p)) c.join.ensures
+    (in_first_alone c.captures_of.result c.join.new.self c.difference-captures.result c.difference-captures.ensures)
     (attains c.args.plies link c.args.own here) c.some_of.result c.some_of-2.result c.some_of-3.result
     (c.some_of.ensures.over pos a1) c.if-some_of.false
     (rw c.some_of.ensures.stays.moves at (c.some_of-2.ensures.over pos a2)) c.if-some_of-2.false
@@ -615,30 +537,16 @@ some_move-returns-clause-near g t c = λ pos a q root node.
     let a1 = agrees_before c.some_of-2.ensures.stays.grows a2 in
     let a0 = agrees_before c.some_of.ensures.stays.grows a1 in
     let here = after pos c.args.board.now.moves in
-    let link = c.args.link in
-    let n = c.args.plies in
-    let size = size-after pos c.args.board.now.moves in
-    let same = same_size (g.met.L.Look.sized c.args.board.now.look) a0 in
-    let a_on = point_on pos.size (g.L.Look.shows c.args.board.now.look).size link.a same c.requires.ready.on_board.a in
-    let b_on = point_on pos.size (g.L.Look.shows c.args.board.now.look).size link.b same c.requires.ready.on_board.b in
-    let und = c.requires.ready.undecided pos a0 in
     let before = Stays-trans c.some_of.ensures.stays c.some_of-2.ensures.stays in
     let all = Stays-trans before c.captures_of.ensures.stays in
-    let a_is = c.requires.liberties.a_liberties pos a0 in
-    let b_is = c.requires.liberties.b_liberties pos a0 in
-    let sized = c.size.ensures ∙ ap (λ (x : BoardState). x.size) c.some_of.ensures.stays.shown ∙ sym same in
-    AddsNear-trans (c.some_of.ensures.near pos a1 q root node
-    (λ p h. shared_is_move link pos.size here c.args.of_a.now c.args.of_b.now size a_is b_is p
-    (sym (in_both c.args.of_a.now c.args.of_b.now c.intersection-tried.result c.intersection-tried.ensures p) ∙ h)))
-    (AddsNear-trans ((rw c.some_of.ensures.stays.moves at (c.some_of-2.ensures.near pos a2 q root)) node
-    (λ p h. crossing_is_move link pos.size here c.args.of_a.now c.args.of_b.now size a_is b_is p
-    (crossing_sized c.size.result pos.size c.args.of_a.now c.args.of_b.now p sized
-    (sym (c.crossing-crossing.ensures p) ∙ h))))
-    (AddsNear-trans
-    (AddsNear-in (InConnectionArea q root) (rw before.moves at (c.captures_of.ensures.near pos a3))
-    (near_surround link q root here (suc n) c.args.own node pos.size size a_on b_on und.stand))
+    let at = ready_node c.requires.ready (g.met.L.Look.sized c.args.board.now.look) a0 node in
+    AddsNear-trans
+    (two_near g t (goal.at.some_move-returns-clause-near g t c).After-some_of-2 pos a2 q root node)
+    (AddsNear-trans (near_captures at (rw before.moves at (c.captures_of.ensures.near pos a3)))
     ((rw all.moves at (c.some_of-3.ensures.near pos a q root)) node
-    (λ p h. capture_is_move link pos.size here c.args.of_a.now c.args.of_b.now size a_is b_is p
+    (λ p h. capture_is_move c.args.link pos.size here c.args.of_a.now c.args.of_b.now
+    (size-after pos c.args.board.now.moves) (c.requires.liberties.a_liberties pos a0)
+    (c.requires.liberties.b_liberties pos a0) p
     (sym (rw before.moves at (c.captures_of.ensures.over pos a3 p))
     ∙ (and_parts _ _ (sym (in_first_alone c.captures_of.result c.join.new.self c.difference-captures.result
-    c.difference-captures.ensures p) ∙ h)).0)))))
+    c.difference-captures.ensures p) ∙ h)).0))))
