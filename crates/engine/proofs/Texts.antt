@@ -1,6 +1,8 @@
 -- Texts that grow by one number of a range after another.
 use Rattle.std.proofs.Common.{◌≡◌, ℕ, zero, suc, ◌+◌, Bool, true, false, cond, List, [], ◌∷◌, ◌++◌, map, filter, refl}
 use Rattle.std.proofs.Common.{sym, ap, ◌∙◌, append_assoc, append-nil, arith, ◌-◌, ◌<◌, ◌≤◌, slice_index, decimal}
+use Rattle.std.proofs.Common.{subst, ◌/◌, ◌%◌}
+use Rattle.std.proofs.lemmas.Fmt.{decimal_digit, decimal_step}
 use Rattle.std.proofs.lemmas.List.{map-append}
 use Rattle.std.proofs.lemmas.List.Elements.{filter-append}
 use Rattle.std.specs.Ordering.{nat_cmp}
@@ -43,6 +45,29 @@ text-next f first text new n so_far grows =
 -- two pieces that are put one after the other
 pub put_twice : (text mid new a b : List ℕ) → mid ≡ text ++ a → new ≡ mid ++ b → new ≡ text ++ (a ++ b)
 put_twice text mid new a b first second = second ∙ ap (λ t. t ++ b) first ∙ append_assoc text a b
+
+-- Vertices by their bytes, on a board of so many rows.
+
+-- a letter and a digit are the vertex of a point whose row has one digit
+pub vertex-one_digit : (s p rows letter : ℕ) → rows ≡ s → letter ≡ slice_index column_letters (p % rows)
+    → rows - p / rows < 10 → letter ∷ (48 + (rows - p / rows)) ∷ [] ≡ vertex_text s p
+vertex-one_digit s p rows letter same is less =
+    subst (λ k. letter ∷ (48 + (rows - p / rows)) ∷ [] ≡ vertex_text k p) same
+    (rw (is, decimal_digit (rows - p / rows) less) refl)
+
+-- two digits write a number from ten to ninety-nine
+decimal-two_digits : (n : ℕ) → 10 ≤ n → n < 100 → decimal n ≡ (48 + n / 10) ∷ (48 + n % 10) ∷ []
+decimal-two_digits n least less =
+    decimal_step n least (omega arith)
+    ∙ ap (λ ds. ds ++ ((48 + n % 10) ∷ [])) (decimal_digit (n / 10) (omega arith))
+
+-- a letter and two digits are the vertex of a point whose row has two digits
+pub vertex-two_digits : (s p rows letter : ℕ) → rows ≡ s → letter ≡ slice_index column_letters (p % rows)
+    → 10 ≤ rows - p / rows → rows - p / rows < 100
+    → letter ∷ (48 + (rows - p / rows) / 10) ∷ (48 + (rows - p / rows) % 10) ∷ [] ≡ vertex_text s p
+vertex-two_digits s p rows letter same is least less =
+    subst (λ k. letter ∷ (48 + (rows - p / rows) / 10) ∷ (48 + (rows - p / rows) % 10) ∷ [] ≡ vertex_text k p) same
+    (rw (is, decimal-two_digits (rows - p / rows) least less) refl)
 
 -- Lists of vertices.
 

@@ -1,5 +1,6 @@
 //! Matches as a growing text, one a line.
 ghost use Rattle.std.specs.Prelude.{◌≡◌, ◌⊎◌, ◌*◌, ◌<◌, ◌≤◌, ◌++◌, true, length, slice_get, is_err, OnOk, IfOk};
+ghost use Rattle.std.specs.Prelude.{codes, decimal};
 ghost use Rattle.helpers.specs.HelperStates.{says_yes};
 ghost use Rattle.helpers.specs.Slots.{states_of};
 ghost use Rattle.match_engine.specs.AutomatonMatches.{automaton_matches};
@@ -10,9 +11,9 @@ ghost use Rattle.engine.specs.EngineView.{NumbersPatterns};
 ghost use Rattle.machine_rules.specs.MatchTexts.{name_of, match_text, matches_text, AreAmong};
 ghost use Rattle.machine_rules.specs.PatternTexts.{feed_after};
 
-use crate::point_lists::{push_number, push_vertex};
+use crate::point_lists::push_vertex;
 use dfa_match::Scanner;
-use go_base::{Bytes, Colour, NoMemory, Position, Size};
+use go_base::{Bytes, Colour, NoMemory, Position, Size, Transform};
 use helpers::Helpers;
 use match_engine::{Readings, matches};
 use match_rules::Match;
@@ -28,6 +29,13 @@ fn name_at(patterns: &[Pattern], number: u16) -> &[u8]
     patterns[at].name.as_slice()
 }
 
+/// Puts a transformation between blanks: it has one digit.
+fn push_transform(text: &mut Bytes, t: Transform) -> Result<(), NoMemory>
+    ensures { OnOk result (text.new ≡ text.old ++ (codes " " ++ decimal t ++ codes " ")) }
+{
+    text.extend(&[b' ', b'0' + t.get(), b' '])
+}
+
 /// Puts a match.
 fn push_match(text: &mut Bytes, patterns: &[Pattern], size: Size, z: Match) -> Result<(), NoMemory>
     requires pattern { z.pattern < length patterns.now }
@@ -35,9 +43,7 @@ fn push_match(text: &mut Bytes, patterns: &[Pattern], size: Size, z: Match) -> R
     ensures { OnOk result (text.new ≡ text.old ++ match_text patterns.now size z) }
 {
     text.extend(name_at(patterns, z.pattern))?;
-    text.push(b' ')?;
-    push_number(text, z.transform.get())?;
-    text.push(b' ')?;
+    push_transform(text, z.transform)?;
     push_vertex(text, size, z.at)
 }
 

@@ -9,7 +9,7 @@ ghost use Rattle.machine_rules.specs.PointLists.{vertices_text, blank_after};
 
 use go_base::{Bytes, Colour, NoMemory, Point, PointSet, Size};
 use go_strings::StringBoard;
-use gtp_cmd::{column_letter, vertex_text};
+use gtp_cmd::column_letter;
 use itoa::Buffer;
 use std::alloc::Global;
 
@@ -29,12 +29,18 @@ pub(crate) fn push_number(out: &mut Bytes, n: u8) -> Result<(), NoMemory>
     out.extend(buffer.format(n).as_bytes())
 }
 
-/// Puts the vertex of a point.
+/// Puts the vertex of a point, all its bytes at once, so that room is looked for once. The row has one or two digits.
 pub(crate) fn push_vertex(out: &mut Bytes, size: Size, p: Point) -> Result<(), NoMemory>
     requires { p < size * size }
     ensures { OnOk result (out.new ≡ out.old ++ vertex_text size p) }
 {
-    out.extend(vertex_text(size, p).as_slice())
+    let rows = u16::from(size.get());
+    let letter = column_letter((p % rows) as u8);
+    let number = (rows - p / rows) as u8;
+    if number < 10 {
+        return out.extend(&[letter, b'0' + number]);
+    }
+    out.extend(&[letter, b'0' + number / 10, b'0' + number % 10])
 }
 
 /// Puts the vertex of a point of a list, behind a blank where it is not the first.

@@ -176,11 +176,11 @@ fn command_spelt(rows: &[Row], word: &[u8]) -> Option<CommandName>
     Some(row.command)
 }
 
-/// Whether a word stands as the row has it.
+/// Whether a word stands as the row has it. One of another length is told by its length alone, without a comparison.
 fn is_written(row: &Row, word: &[u8]) -> bool
     ensures { result ≡ bytes_eq word.now row.now.word.now }
 {
-    word == row.word
+    word.len() == row.word.len() && word == row.word
 }
 
 /// The command of the first of these rows that has this word as it stands.
