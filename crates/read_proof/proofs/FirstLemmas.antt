@@ -107,6 +107,13 @@ unfolding attacker_wins is_settled
 settled_at_end true node pos so = so
 settled_at_end false node pos so = ap (λ b. not b && true) so
 
+-- the side to play wants a claim where it is the attacker and he wins, or the defender and he does not
+wanted_turn : (won turn : Bool) → cond turn won (not won) ≡ true → turn ≡ won
+wanted_turn true true e = refl
+wanted_turn true false e = e
+wanted_turn false true e = absurd (let w = e in cc)
+wanted_turn false false e = refl
+
 -- The claim is so at a node with some plies left, and it is not settled.
 module _ (n : ℕ) (won : Bool) (node : Node) (pos : BoardState) (so : attacker_wins (suc n) node pos ≡ won)
     (hidden : is_settled (suc n) won node pos ≡ false) where
@@ -201,12 +208,6 @@ module _ (n : ℕ) (won : Bool) (node : Node) (pos : BoardState) (so : attacker_
       ply : n ≡ suc n - 1
       ply = omega arith
 
-      turn_of : (won turn : Bool) → cond turn won (not won) ≡ true → turn ≡ won
-      turn_of true true e = refl
-      turn_of true false e = e
-      turn_of false true e = absurd (let w = e in cc)
-      turn_of false false e = refl
-
       some_not : (o : Option Spot) → is_none o ≡ false → is_some o ≡ true
       some_not None e = absurd (let w = e in cc)
       some_not (Some spot) e = refl
@@ -215,10 +216,10 @@ module _ (n : ℕ) (won : Bool) (node : Node) (pos : BoardState) (so : attacker_
           → is_some (good_move n node pos) ≡ true
       by true so wanted = ap (λ m. is_some (good_move m node pos)) ply
           ∙ sym (wins-attacker_move (suc n) node pos target_stands (λ e. cc)
-          (turn_of true node.attacker_to_play wanted)) ∙ so
+          (wanted_turn true node.attacker_to_play wanted)) ∙ so
       by false so wanted = some_not (good_move n node pos) (ap (λ m. is_none (good_move m node pos)) ply
           ∙ sym (wins-defender_move (suc n) node pos target_stands (λ e. cc)
-          (turn_of false node.attacker_to_play wanted)) ∙ so)
+          (wanted_turn false node.attacker_to_play wanted)) ∙ so)
 
   -- the move of a side that wants the claim leads to a child with the claim
   first_leads : is_wanted won node ≡ true → First
@@ -234,12 +235,6 @@ module _ (n : ℕ) (won : Bool) (node : Node) (pos : BoardState) (so : attacker_
         claim = found.2;
       }
     where
-      turn_of : (won turn : Bool) → cond turn won (not won) ≡ true → turn ≡ won
-      turn_of true true e = refl
-      turn_of true false e = e
-      turn_of false true e = absurd (let w = e in cc)
-      turn_of false false e = refl
-
       leads_to : (spot : Spot) → IsFirstMove n node pos spot
           → (child : Node × BoardState) × (child_after node pos spot ≡ Some child) × IsSo n won child
       leads_to (At p) move =
@@ -247,50 +242,40 @@ module _ (n : ℕ) (won : Bool) (node : Node) (pos : BoardState) (so : attacker_
             (it.next, it.new),
             sym (after_candidate node pos p (Some (it.next, it.new)) it.candidate
                 (sym (child_from node pos p it.next it.new it.child))),
-            it.outcome ∙ turn_of won node.attacker_to_play wanted,
+            it.outcome ∙ wanted_turn won node.attacker_to_play wanted,
           )
       leads_to Pass move =
           let parts = and_parts _ _ move in
           let turn = not-true node.attacker_to_play parts.0 in (
             passed node pos,
             sym (after_pass node pos turn),
-            not-true _ parts.1 ∙ sym turn ∙ turn_of won node.attacker_to_play wanted,
+            not-true _ parts.1 ∙ sym turn ∙ wanted_turn won node.attacker_to_play wanted,
           )
 
--- the words of the first proof, by what it begins with
+-- The words of the first proof, by what it begins with.
 module _ (n : ℕ) (won : Bool) (node : Node) (pos : BoardState) where
-  -- `.` where the claim is settled
-  words-settled : is_settled (suc n) won node pos ≡ true → first_words (suc n) won node pos ≡ codes "." ∷ []
+  -- `.` where the claim is settled, a move where it is not and the side to play wants it, and else `*`
+  pub words_by : (settled wanted : Bool) → is_settled (suc n) won node pos ≡ settled → is_wanted won node ≡ wanted
+      → first_words (suc n) won node pos ≡ cond settled (codes "." ∷ []) (cond wanted
+      (write_move (first_words n won) node pos (first_move n node pos))
+      (codes "*" ∷ write_each (first_words n won) (children_of node pos)))
   unfolding first_words
-  words-settled is =
+  words_by settled wanted is wants =
       ap (λ b. cond b (codes "." ∷ []) (cond (is_wanted won node)
       (write_move (first_words n won) node pos (first_move n node pos))
       (codes "*" ∷ write_each (first_words n won) (children_of node pos)))) is
+      ∙ ap (λ b. cond settled (codes "." ∷ []) (cond b
+      (write_move (first_words n won) node pos (first_move n node pos))
+      (codes "*" ∷ write_each (first_words n won) (children_of node pos)))) wants
 
-  -- a move where the side to play wants it
+  -- the move's word, and those at the child to which it leads
   words-move : (spot : Spot) (child : Node × BoardState) → is_settled (suc n) won node pos ≡ false
       → is_wanted won node ≡ true → first_move n node pos ≡ Some spot → child_after node pos spot ≡ Some child
       → first_words (suc n) won node pos ≡ move_word pos.size spot ∷ first_words n won child.0 child.1
-  unfolding first_words
   words-move spot child is wanted first leads =
-      ap (λ b. cond b (codes "." ∷ []) (cond (is_wanted won node)
-      (write_move (first_words n won) node pos (first_move n node pos))
-      (codes "*" ∷ write_each (first_words n won) (children_of node pos)))) is
-      ∙ ap (λ b. cond b (write_move (first_words n won) node pos (first_move n node pos))
-      (codes "*" ∷ write_each (first_words n won) (children_of node pos))) wanted
+      words_by false true is wanted
       ∙ ap (write_move (first_words n won) node pos) first
       ∙ ap (λ o. move_word pos.size spot ∷ write_child (first_words n won) o) leads
-
-  -- else `*`
-  words-each : is_settled (suc n) won node pos ≡ false → is_wanted won node ≡ false
-      → first_words (suc n) won node pos ≡ codes "*" ∷ write_each (first_words n won) (children_of node pos)
-  unfolding first_words
-  words-each is wanted =
-      ap (λ b. cond b (codes "." ∷ []) (cond (is_wanted won node)
-      (write_move (first_words n won) node pos (first_move n node pos))
-      (codes "*" ∷ write_each (first_words n won) (children_of node pos)))) is
-      ∙ ap (λ b. cond b (write_move (first_words n won) node pos (first_move n node pos))
-      (codes "*" ∷ write_each (first_words n won) (children_of node pos))) wanted
 
 -- where the claim is so, not settled, and what the side to play wants, its first words begin with the first move
 pub begins_with_first : (n : ℕ) (won : Bool) (node : Node) (pos : BoardState) → attacker_wins (suc n) node pos ≡ won
@@ -360,7 +345,8 @@ module _ (s : ℕ) (size : IsSize s) where
       (settled_at_end won node pos so)
   first_complete (suc n) won node pos rest here so = elim (cases_Bool (is_settled (suc n) won node pos)) [
     | inl settled ↦
-        ap (λ words. proves (suc n) won node pos (words ++ rest)) (words-settled n won node pos settled)
+        ap (λ words. proves (suc n) won node pos (words ++ rest))
+        (words_by n won node pos true (is_wanted won node) settled refl)
         ∙ settled_word won node pos (codes "." ∷ rest) (codes ".") rest refl (suc n) true (said_settled pos.size)
         settled
     | inr hidden ↦ elim (cases_Bool (is_wanted won node)) [
@@ -380,7 +366,7 @@ module _ (s : ℕ) (size : IsSize s) where
           first.claim
       | inr wanted ↦
           let words = write_each (first_words n won) (children_of node pos) ++ rest in
-          ap (λ ws. proves (suc n) won node pos (ws ++ rest)) (words-each n won node pos hidden wanted)
+          ap (λ ws. proves (suc n) won node pos (ws ++ rest)) (words_by n won node pos false false hidden wanted)
           ∙ by_word won node pos (codes "*" ∷ words) (codes "*") words refl (suc n) (Some Each) (said_each pos.size)
           ∙ ap (λ b. cond b (at_each (proves n won) (children_of node pos) words) None)
           (each_may won node pos wanted (target_stands n won node pos so hidden))

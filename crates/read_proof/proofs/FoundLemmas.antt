@@ -14,7 +14,7 @@ use Rattle.go_rules.specs.BesideStrings.{is_beside_string}
 use Rattle.go_rules.proofs.Counts.{any_below_gives, any_below_from, any_below_false, any_below_same}
 use Rattle.go_rules.proofs.Links.{are_neighbours_comm}
 use Rattle.go_rules.proofs.Sets.{contains-insert_nat, contains-set_below}
-use Rattle.go_rules.proofs.Tests.{same_tests, or-false, or_comm}
+use Rattle.go_rules.proofs.Tests.{same_tests, and-false, or-false, or_comm}
 use Rattle.go_base.specs.Sides.{neighbour_at}
 use Rattle.go_base.specs.Surroundings.{is_only_liberty}
 use Rattle.go_base.proofs.SidesOfPoints.{neighbour_at-near, neighbour_at-all}
@@ -23,6 +23,11 @@ use Rattle.go_base.proofs.Liberties.{len-liberty_points}
 use Rattle.read_rules.specs.Candidates.{is_empty_beside}
 use Rattle.read_proof.specs.Beside.{stands_beside}
 use Rattle.read_rules.proofs.OneMember.{one_member}
+
+-- a test together with one that passes is the test
+and_true : (a : Bool) → a ≡ (a && true)
+and_true true = refl
+and_true false = refl
 
 -- a test of one number more
 pub any_below_next : (test : ℕ → Bool) (n : ℕ) → any_below (n + 1) test ≡ (any_below n test || test n)
@@ -55,12 +60,8 @@ beside_no s q n points on four none = any_below_false (s * s) _ (λ k k_on. elim
   | inl near ↦
       let side = neighbour_at-all s q k on k_on (are_neighbours_comm s q k ∙ near) in
       ap (λ b. b && are_neighbours s k q) (none side.0 k (omega (arith, side.1, four)) side.2)
-  | inr far ↦ ap (λ b. sets.contains points k && b) far ∙ and_false (sets.contains points k)
+  | inr far ↦ ap (λ b. sets.contains points k && b) far ∙ and-false (sets.contains points k)
 ])
-  where
-    and_false : (b : Bool) → (b && false) ≡ false
-    and_false true = refl
-    and_false false = refl
 
 -- more liberties than one, or none, are not only one
 pub only_none : (s : ℕ) (cells : List Cell) (q p n : ℕ) (libs : sets.FinSet nat_cmp) → libs ≡ liberty_points s cells q
@@ -91,10 +92,6 @@ pub found_add : (new old : sets.FinSet nat_cmp) (p r : ℕ) (b : Bool) → new �
 found_add new old p r b e t =
     ap (λ set. sets.contains set r) e ∙ contains-insert_nat old p r ∙ or_comm (eqb r p) (sets.contains old r)
     ∙ ap (λ x. sets.contains old r || x) (and_true (eqb r p) ∙ ap (λ x. eqb r p && x) (sym t))
-  where
-    and_true : (a : Bool) → a ≡ (a && true)
-    and_true true = refl
-    and_true false = refl
 
 -- nothing is found where a test fails
 pub found_none : (old b : Bool) → b ≡ false → old ≡ (old || b)
@@ -102,11 +99,7 @@ found_none old b e = or-false old ∙ ap (λ x. old || x) (sym e)
 
 -- and where it fails with another
 pub found_neither : (old a b : Bool) → b ≡ false → old ≡ (old || (a && b))
-found_neither old a b e = found_none old (a && b) (ap (λ x. a && x) e ∙ and_false a)
-  where
-    and_false : (a : Bool) → (a && false) ≡ false
-    and_false true = refl
-    and_false false = refl
+found_neither old a b e = found_none old (a && b) (ap (λ x. a && x) e ∙ and-false a)
 
 -- nothing is in the empty set
 pub none_yet : (found : sets.FinSet nat_cmp) (p : ℕ) → found ≡ sets.empty → sets.contains found p ≡ false
@@ -122,10 +115,6 @@ module _ (s : ℕ) (cells : List Cell) (cell : Cell) (S : ℕ → Bool) where
       ∙ ap (λ x. same_cell (cell_at cells p) cell && x) (sym t ∙ e)
       ∙ ap (λ x. x && same_cell (cell_at cells p) cell && any_below (s * s) (λ l. S l && are_neighbours s l p))
       (sym (lt-ltb p (s * s) on))
-    where
-      and_true : (a : Bool) → a ≡ (a && true)
-      and_true true = refl
-      and_true false = refl
 
   -- a point that is not beside the set fails it
   pub beside_false : (p : ℕ) (b : Bool) → b ≡ any_below (s * s) (λ l. S l && are_neighbours s l p) → b ≡ false
@@ -133,11 +122,7 @@ module _ (s : ℕ) (cells : List Cell) (cell : Cell) (S : ℕ → Bool) where
   unfolding stands_beside
   beside_false p b e f =
       ap (λ x. (ltb p (s * s) && same_cell (cell_at cells p) cell) && x) (sym e ∙ f)
-      ∙ and_false (ltb p (s * s) && same_cell (cell_at cells p) cell)
-    where
-      and_false : (a : Bool) → (a && false) ≡ false
-      and_false true = refl
-      and_false false = refl
+      ∙ and-false (ltb p (s * s) && same_cell (cell_at cells p) cell)
 
   -- the points of the board that pass are those that were found
   pub beside_found : (n r : ℕ) → s * s ≤ n → any_below n (λ k. eqb r k && stands_beside s cells cell S k)
@@ -186,11 +171,7 @@ unfolding is_only_liberty
 only_first s cells q n libs None its counted one some none = λ p.
     ap (λ b. eqb (liberties s cells q) 1 && b)
     (sym (contains-liberty_points s cells q p) ∙ ap (λ t. sets.contains t p) (sym its) ∙ none p (omega arith))
-    ∙ and_false (eqb (liberties s cells q) 1)
-  where
-    and_false : (b : Bool) → (b && false) ≡ false
-    and_false true = refl
-    and_false false = refl
+    ∙ and-false (eqb (liberties s cells q) 1)
 only_first s cells q n libs (Some l) its counted one some none =
     let found = only_one s cells q l n libs its counted (eq-eqb n 1 one) some.2 in
     (found.0, some.1, found.1)

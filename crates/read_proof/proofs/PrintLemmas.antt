@@ -11,6 +11,7 @@ use Rattle.std.proofs.lemmas.Bool.{cases_lt, and_parts, and_from, not-true}
 use Rattle.std.proofs.lemmas.Fmt.{decimal_digit, decimal_step}
 use Rattle.go_rules.specs.Board.{IsSize}
 use Rattle.go_rules.proofs.Counts.{any_below_none}
+use Rattle.go_rules.proofs.Tests.{and-false}
 use Rattle.vertices.specs.Words.{is_kept, has_bytes, blank}
 use Rattle.vertices.specs.RawWords.{is_parting}
 use Rattle.vertices.specs.Vertices.{column_letters, vertex_of, vertex_text, target_of}
@@ -74,12 +75,8 @@ said_letter s letter digits p dot star pass at =
     (cond (bytes_eq (letter ∷ digits) (codes "*")) (Some Each) moves)) dot
     ∙ ap (λ b. cond (b && bytes_eq digits []) (Some Each) moves) star
     ∙ ap (λ b. option_map move_to (cond b (Some None) (option_map Some vertex)))
-    (ap (λ b. eqb (to_ascii_lowercase letter) 112 && b) pass ∙ and_false (eqb (to_ascii_lowercase letter) 112))
+    (ap (λ b. eqb (to_ascii_lowercase letter) 112 && b) pass ∙ and-false (eqb (to_ascii_lowercase letter) 112))
     ∙ ap (λ o. option_map move_to (option_map Some o)) at)
-  where
-    and_false : (b : Bool) → (b && false) ≡ false
-    and_false true = refl
-    and_false false = refl
 
 -- a move that is printed is read
 pub said_move : (s size : ℕ) → IsSize s → (spot : Spot) → size ≡ s → IsOnBoard s spot

@@ -21,6 +21,7 @@ use Rattle.read_proof.specs.FirstProof.{Writer, write_each, write_move, first_wo
 use Rattle.read_proof.specs.ProofOf.{codes_down_to, claim_under, letter_of}
 use Rattle.write_proof.specs.Printed.{most_bytes, behind_blanks, Puts}
 use Rattle.read_proof.proofs.ChildLemmas.{walk_next, walk_over}
+use Rattle.read_proof.proofs.FirstLemmas.{words_by}
 
 -- what is put behind what was put
 pub puts_both : {T : Type 0} (old mid new x y : List ℕ) (r : Result T ProofError) → mid ≡ old ++ x → Puts mid y new r
@@ -61,24 +62,16 @@ pub dot_words : (n : ℕ) (won : Bool) (node : Node) (pos : BoardState) → (n �
 unfolding first_words
 dot_words zero won node pos h = refl
 dot_words (suc n) won node pos (inl none) = absurd (let w = none in cc)
-dot_words (suc n) won node pos (inr settled) =
-    ap (λ b. cond b (codes "." ∷ []) (cond (is_wanted won node)
-    (write_move (first_words n won) node pos (first_move n node pos))
-    (codes "*" ∷ write_each (first_words n won) (children_of node pos)))) settled
+dot_words (suc n) won node pos (inr settled) = words_by n won node pos true (is_wanted won node) settled refl
 
 -- a move is written where the side to play wants the claim
 pub move_words : (n : ℕ) (won : Bool) (node : Node) (pos : BoardState) → n ≢ 0 → is_settled n won node pos ≡ false
     → is_wanted won node ≡ true → first_words n won node pos
     ≡ write_move (first_words (n - 1) won) node pos (first_move (n - 1) node pos)
-unfolding first_words
 move_words zero won node pos some settled wanted = absurd (some refl)
 move_words (suc n) won node pos some settled wanted =
     let less : n ≡ suc n - 1 = omega arith in
-    ap (λ b. cond b (codes "." ∷ []) (cond (is_wanted won node)
-    (write_move (first_words n won) node pos (first_move n node pos))
-    (codes "*" ∷ write_each (first_words n won) (children_of node pos)))) settled
-    ∙ ap (λ b. cond b (write_move (first_words n won) node pos (first_move n node pos))
-    (codes "*" ∷ write_each (first_words n won) (children_of node pos))) wanted
+    words_by n won node pos false true settled wanted
     ∙ ap (λ m. write_move (first_words m won) node pos (first_move m node pos)) less
 
 -- else `*`, and then the proofs after the pass and after the plays
@@ -86,16 +79,12 @@ pub each_words : (n : ℕ) (won : Bool) (node : Node) (pos : BoardState) → n �
     → is_wanted won node ≡ false → behind_blanks (first_words n won node pos)
     ≡ behind_blanks (codes "*" ∷ []) ++ (behind_blanks (write_each (first_words (n - 1) won) (pass_children node pos))
     ++ behind_blanks (write_each (first_words (n - 1) won) (play_children node pos)))
-unfolding first_words children_of
+unfolding children_of
 each_words zero won node pos some settled wanted = absurd (some refl)
 each_words (suc n) won node pos some settled wanted =
     let less : n ≡ suc n - 1 = omega arith in
     let write = first_words n won in
-    ap behind_blanks (ap (λ b. cond b (codes "." ∷ []) (cond (is_wanted won node)
-    (write_move (first_words n won) node pos (first_move n node pos))
-    (codes "*" ∷ write_each (first_words n won) (children_of node pos)))) settled
-    ∙ ap (λ b. cond b (write_move (first_words n won) node pos (first_move n node pos))
-    (codes "*" ∷ write_each (first_words n won) (children_of node pos))) wanted)
+    ap behind_blanks (words_by n won node pos false false settled wanted)
     ∙ ap (λ t. blank ∷ (codes "*" ++ t)) (ap behind_blanks (each_both write (pass_children node pos)
     (play_children node pos))
     ∙ blanks_both (write_each write (pass_children node pos)) (write_each write (play_children node pos)))
