@@ -7,7 +7,6 @@ use Rattle.gtp_cmd.specs.declared.refusals.RefuseText.{RefuseText}
 use Rattle.machine_rules.specs.Machine.{Machine}
 use Rattle.machine_rules.specs.Effects.{Excuse, Effect, IsExcused, fallback, reply_text, replied}
 use Rattle.engine.specs.CommandAnswers.{Succeeds, IsAnswer}
-use Rattle.engine.specs.declared.answer.Answer.{Answer}
 use Rattle.engine.specs.declared.answer.Answer.TheVariants as answer
 
 -- an excuse that was told may stand in place of the reply

@@ -8,8 +8,7 @@ use Rattle.gtp_rules.specs.Transcript.{IsTotal}
 use Rattle.go_rules.specs.declared.Colour.{Colour}
 use Rattle.go_rules.specs.declared.Move.{Move}
 use Rattle.go_rules.specs.Strings.{cell_at, is_stone, same_cell}
-use Rattle.go_rules.specs.Replay.{moved}
-use Rattle.gtp_cmd.specs.Replies.{success_text, refusal_text}
+use Rattle.gtp_cmd.specs.Replies.{success_text}
 use Rattle.gtp_cmd.specs.declared.commands.Parsed.{Parsed}
 use Rattle.gtp_cmd.specs.declared.commands.Parsed.TheVariants as parsed
 use Rattle.gtp_cmd.specs.declared.refusals.RefuseText.{RefuseText}
@@ -19,8 +18,8 @@ use Rattle.match_rules.specs.Conditions.{all_yes}
 use Rattle.match_engine.specs.HelperCalls.{plays_of}
 use Rattle.machine_rules.specs.Machine.{Machine, position_of}
 use Rattle.machine_rules.specs.Matcher.{Matcher}
-use Rattle.machine_rules.specs.Calls.{AreSameButCalls, without_calls}
-use Rattle.machine_rules.specs.Effects.{Excuse, Effect, refused, told, growing, ended, fallback, replied}
+use Rattle.machine_rules.specs.Calls.{AreSameButCalls}
+use Rattle.machine_rules.specs.Effects.{Excuse, Effect, refused, told, growing, fallback, replied}
 use Rattle.machine_rules.specs.Files.{Contents, IsContents}
 use Rattle.machine_rules.specs.Heard.{heard, bytes_in, word_at}
 use Rattle.machine_rules.specs.HelperCommands.{of_helper}

@@ -1,5 +1,5 @@
 -- Machines that are the same but for how often their helpers were asked.
-use Rattle.std.specs.Prelude.{◌≡◌, ℕ, List, map}
+use Rattle.std.specs.Prelude.{◌≡◌, List, map}
 use Rattle.helpers.specs.HelperStates.{SlotState}
 use Rattle.machine_rules.specs.Machine.{Machine}
 

@@ -6,7 +6,6 @@ use Rattle.go_rules.specs.declared.Move.{Move}
 use Rattle.go_history.specs.Games.{most_moves}
 use Rattle.gtp_cmd.specs.Vertices.{vertex_text}
 use Rattle.gtp_cmd.specs.declared.refusals.RefuseText.TheVariants.{HistoryFull}
-use Rattle.match_rules.specs.declared.found.Match.{Match}
 use Rattle.move_choice.specs.Choice.{choice_of}
 use Rattle.machine_rules.specs.Machine.{Machine}
 use Rattle.machine_rules.specs.Matcher.{Matcher}

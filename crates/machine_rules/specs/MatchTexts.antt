@@ -1,5 +1,5 @@
 -- What a session tells of matches.
-use Rattle.std.specs.Prelude.{◌≡◌, ℕ, ◌*◌, ◌<◌, List, [], ◌++◌, length, map, Option, Some, None, slice_get, Contains}
+use Rattle.std.specs.Prelude.{ℕ, ◌*◌, ◌<◌, List, [], ◌++◌, length, map, Option, Some, None, slice_get, Contains}
 use Rattle.std.specs.Prelude.{codes, decimal}
 use Rattle.std.specs.List.{join_with_byte}
 use Rattle.pat_types.specs.declared.pattern.Pattern.{Pattern}

@@ -7,7 +7,7 @@ use Rattle.match_rules.specs.declared.found.Match.{Match}
 use Rattle.match_engine.specs.HelperCalls.{after_matches}
 use Rattle.machine_rules.specs.Machine.{Machine, position_of}
 use Rattle.machine_rules.specs.Matcher.{Matcher}
-use Rattle.machine_rules.specs.Effects.{Effect, told, grown, growing, out_of_memory}
+use Rattle.machine_rules.specs.Effects.{Effect, told, grown, growing}
 use Rattle.machine_rules.specs.MatchTexts.{matches_text}
 use Rattle.machine_rules.specs.PatternTexts.{patterns_text}
 

@@ -1,5 +1,5 @@
 -- The next member was put, and no other stands between it and those before.
-use Rattle.std.proofs.Common.{◌≡◌, filter, arith, ap, ◌∙◌}
+use Rattle.std.proofs.Common.{filter, arith, ap, ◌∙◌}
 use Rattle.std.specs.FinSet as set
 use Rattle.std.specs.List.{range_with_len}
 use Rattle.machine_rules.specs.PointLists.{vertices_text}
