@@ -1,5 +1,5 @@
 -- The reply is one that the machine may give, and it is out or waits, or a reply broke off.
-use Rattle.std.proofs.Common.{◌≡◌, ℕ, List, Option, refl, ap, subst, inl, ◌∙◌, ◌<◌, ◌-◌, arith, length}
+use Rattle.std.proofs.Common.{◌≡◌, ℕ, List, Option, refl, ap, subst, inl, ◌∙◌, ◌<◌, arith, length}
 use Rattle.gtp_lex.specs.Raw.{raw_line}
 use Rattle.run_notes.specs.declared.notes.Sent.{Sent}
 use Rattle.machine_rules.specs.Heard.{heard}
