@@ -1,5 +1,5 @@
-//! The program that reads the wider tree: it answers the same lines as `gopat`, by the same options and files. Its readings
-//! try more moves, so they are stronger and take longer.
+//! The program that reads the wider tree: it answers the same lines as `gopat`, by the same options and files. Its
+//! readings try more moves, so they are stronger and take longer.
 #![tactic(auto)]
 
 use program::run_program;

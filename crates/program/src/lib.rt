@@ -1,6 +1,6 @@
-//! What the programs `gopat` and `gopat_wide` are but for the tree that they read: it answers the lines of the protocol on
-//! standard input, by the patterns of the files that the words of the command line name. The patterns may name the helpers
-//! `near_edge` and `no_ban`.
+//! What the programs `gopat` and `gopat_wide` are but for the tree that they read: it answers the lines of the protocol
+//! on standard input, by the patterns of the files that the words of the command line name. The patterns may name the
+//! helpers `near_edge` and `no_ban`.
 #![tactic(auto)]
 
 use gtp_io::{FileLoader, StdSink, StdSource};
