@@ -4,8 +4,8 @@ with no pruning; it is compiled here, by `cc`.
 
 usage: python3 tools/compare_plain.py GOPAT QUESTIONS [SEED [TREE]]
 
-SEED is a number, by itself 1. TREE is the tree that the program reads: `stated`, as `gopat` does, which it is by itself,
-or `wider`, as `gopat_wide` does; then more of the depths have wide plies. The exit status is 1 where a reply differs.
+SEED is a number, by itself 1. TREE is what the program reads: `stated`, which is so by itself, for `gopat`, or `wider`
+for `gopat_wide`; then more of the depths have wide plies. The exit status is 1 where a reply differs.
 """
 
 import pathlib
