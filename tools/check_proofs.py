@@ -1,13 +1,14 @@
 """A second checker of proofs of readings, and what it says beside gopat. `check` knows the rules of Go, the candidates
 of docs/DEFINITIONS.md and the rules of docs/PROOFS_OF_READINGS.md, and asks no program.
 
-usage: python3 tools/check_proofs.py GOPAT REGRESSION [CHANGES [SEED [PLIES:WIDE ...]]]
+usage: python3 tools/check_proofs.py GOPAT REGRESSION [CHANGES [SEED [stated | wider] [PLIES:WIDE ...]]]
 
-REGRESSION is the folder regression/ of GNU Go's source. At each of the depths (5:2, 10:2 and 15:5 where none is named)
-gopat is asked for the proofs of all `attack` and `defend` questions of the suites; `check` and `check_proof` should
-accept each. Then so many proofs (1,000 where no number stands) are changed at random, each in a word, the code, the
-depths or a stone, and the verdict of `check` on each is compared with gopat's. Prints what differs, counts, the longest
-proofs and times. The exit status is 1 where anything differs, or an example of the page is judged otherwise, else 0.
+REGRESSION is the folder regression/ of GNU Go's source. The program reads the stated tree, or with the word `wider` the
+wider one, as `gopat_wide` does. At each of the depths (5:2, 10:2 and 15:5 where none is named) gopat is asked for the
+proofs of all `attack` and `defend` questions of the suites; `check` and `check_proof` should accept each. Then so many
+proofs (1,000 where no number stands) are changed at random, each in a word, the code, the depths or a stone, and the
+verdict of `check` on each is compared with gopat's. Prints what differs, counts, the longest proofs and times. The exit
+status is 1 where anything differs, or an example of the page is judged otherwise, else 0.
 """
 
 import functools
@@ -15,7 +16,7 @@ import pathlib
 import random
 import time
 from collections import Counter
-from typing import Callable, Iterator, NamedTuple
+from typing import Callable, Iterable, Iterator, NamedTuple
 
 import command_line
 import gtp
@@ -117,8 +118,16 @@ def liberties_of(position: Position, point: int) -> int:
     return len(string_at(position.size, position.cells, point)[1])
 
 
+class Depths(NamedTuple):
+    """Plies, wide plies among them, and whether the tree is the wider one."""
+
+    plies: int
+    wide: int
+    is_wider: bool = False
+
+
 class Node(NamedTuple):
-    """A position, whose turn it is, the plies and wide plies that are left, and the ko allowances."""
+    """A position, whose turn it is, the plies and wide plies that are left, the tree, and the ko allowances."""
 
     position: Position
     target: int
@@ -126,6 +135,7 @@ class Node(NamedTuple):
     is_attackers: bool
     plies: int
     wide: int
+    is_wider: bool
     attacker_ko: int
     defender_ko: int
 
@@ -133,22 +143,43 @@ class Node(NamedTuple):
         return liberties_of(self.position, self.target)
 
     def candidates(self) -> list[int]:
-        return candidates(self.position, self.target, self.wide > 0)
+        found = candidates(self.position, self.target, self.wide > 0)
+        if self.wide == 0 or not self.is_wider:
+            return found
+        return sorted({*found, *further(self.position, self.target, self.is_attackers)})
 
     def is_captured(self) -> bool:
         return self.position.cells[self.target] == EMPTY
 
 
+class String(NamedTuple):
+    """The stones of a string, and its liberties."""
+
+    stones: set[int]
+    liberties: set[int]
+
+
+def strings_beside(size: int, cells: bytes, points: set[int], colour: int) -> Iterator[String]:
+    """The strings of a colour that are next to these points."""
+    beside = {near for point in points for near in neighbours(size)[point] if cells[near] == colour}
+    while beside:
+        string = String(*string_at(size, cells, min(beside)))
+        beside -= string.stones
+        yield string
+
+
+def all_liberties(strings: Iterable[String], most: int) -> set[int]:
+    """The liberties of those of these strings that have at most so many."""
+    return {point for string in strings if len(string.liberties) <= most for point in string.liberties}
+
+
 def last_liberties(size: int, cells: bytes, stones: set[int]) -> set[int]:
     """The one liberty of each enemy string next to these stones that has exactly one."""
-    colour = cells[min(stones)]
-    found: set[int] = set()
-    beside = {near for stone in stones for near in neighbours(size)[stone] if cells[near] == other(colour)}
-    while beside:
-        enemies, liberties = string_at(size, cells, beside.pop())
-        beside -= enemies
-        found |= liberties if len(liberties) == 1 else set()
-    return found
+    return all_liberties(strings_beside(size, cells, stones, other(cells[min(stones)])), 1)
+
+
+def empty_beside(size: int, cells: bytes, points: set[int]) -> set[int]:
+    return {near for point in points for near in neighbours(size)[point] if cells[near] == EMPTY}
 
 
 def backfilling(position: Position, attacker: int, liberties: set[int]) -> set[int]:
@@ -170,14 +201,55 @@ def candidates(position: Position, target: int, is_wide: bool) -> list[int]:
     if is_wide:
         found |= backfilling(position, other(cells[target]), liberties)
         if len(liberties) <= 2:
-            found |= {near for point in liberties for near in neighbours(size)[point] if cells[near] == EMPTY}
+            found |= empty_beside(size, cells, liberties)
     return sorted(found)
+
+
+@functools.lru_cache(KEPT)
+def further(position: Position, target: int, is_attackers: bool) -> set[int]:
+    """What the wider tree tries besides, where the target stands and a wide ply is left."""
+    size, cells = position.size, position.cells
+    string = String(*string_at(size, cells, target))
+    if is_attackers:
+        beside = [one for one in enemies_beside(size, cells, string) if len(one.liberties) <= 2]
+        return net(size, cells, string) | all_liberties(beside, 2) | rescue(size, cells, string, beside)
+    friends = list(linked(size, cells, string))
+    beside = enemies_beside(size, cells, string)
+    return all_liberties(beside, 4) | all_liberties(friends, 4) | cut(size, cells, friends)
+
+
+def enemies_beside(size: int, cells: bytes, string: String) -> Iterator[String]:
+    """The enemy strings next to a string."""
+    return strings_beside(size, cells, string.stones, other(cells[min(string.stones)]))
+
+
+def net(size: int, cells: bytes, string: String) -> set[int]:
+    """The empty neighbours of the liberties of a target that has exactly three."""
+    return empty_beside(size, cells, string.liberties) if len(string.liberties) == 3 else set()
+
+
+def rescue(size: int, cells: bytes, string: String, beside: list[String]) -> set[int]:
+    """The last liberties of strings of the target's colour, but for its own, that are next to one of these enemies."""
+    allies = [ally for enemy in beside for ally in enemies_beside(size, cells, enemy) if ally.stones != string.stones]
+    return all_liberties(allies, 1)
+
+
+def linked(size: int, cells: bytes, string: String) -> Iterator[String]:
+    """The strings of the target's colour, but for its own, next to its liberties, that have at most four liberties."""
+    for friend in strings_beside(size, cells, string.liberties, cells[min(string.stones)]):
+        if friend.stones != string.stones and len(friend.liberties) <= 4:
+            yield friend
+
+
+def cut(size: int, cells: bytes, friends: list[String]) -> set[int]:
+    """The last liberties of enemy strings next to one of these linked strings."""
+    return all_liberties((enemy for friend in friends for enemy in enemies_beside(size, cells, friend)), 1)
 
 
 def next_node(node: Node, position: Position, attacker_ko: int, defender_ko: int) -> Node:
     """The node after a move to this position, with these allowances left."""
     turn, plies, wide = not node.is_attackers, node.plies - 1, max(node.wide - 1, 0)
-    return Node(position, node.target, node.defender, turn, plies, wide, attacker_ko, defender_ko)
+    return Node(position, node.target, node.defender, turn, plies, wide, node.is_wider, attacker_ko, defender_ko)
 
 
 def passed(node: Node) -> Node:
@@ -243,7 +315,7 @@ def has_too_many(node: Node) -> bool:
 
 def is_out_of_reach(node: Node, liberties: int) -> bool:
     """Whether the attacker may not play at a target with so many liberties."""
-    return liberties > 4 or (node.wide == 0 and liberties > 2)
+    return liberties > 4 or (node.wide == 0 and liberties > (3 if node.is_wider else 2))
 
 
 def is_settled(node: Node, claim: str) -> bool:
@@ -287,7 +359,7 @@ def each_proved(node: Node, claim: str, words: list[str], at: int) -> int | None
     return rest
 
 
-def first_node(position: Position, kind: str, target: int, depths: tuple[int, int], code: int) -> Node:
+def first_node(position: Position, kind: str, target: int, depths: Depths, code: int) -> Node:
     """The node at which the question begins under the allowances of a code."""
     asked, opposed = int(code == 1), int(code == 3)
     attacker_ko, defender_ko = (asked, opposed) if kind == "attack" else (opposed, asked)
@@ -296,7 +368,7 @@ def first_node(position: Position, kind: str, target: int, depths: tuple[int, in
 
 
 def check(
-    position: Position, kind: str, vertex: str, depths: tuple[int, int], code: int, tokens: list[str]
+    position: Position, kind: str, vertex: str, depths: Depths, code: int, tokens: list[str]
 ) -> bool:
     """Whether the words are a proof of the code of a question about the stone at a vertex: `attack` or `defend`, with
     these plies and wide plies."""
@@ -359,7 +431,7 @@ def wrong_examples() -> int:
     wrong = 0
     for size, moves, question, depths, code, text, verdict in EXAMPLES:
         kind, vertex = question.split()
-        found = check(words_after(empty(size), moves), kind, vertex, depths, code, text.split())
+        found = check(words_after(empty(size), moves), kind, vertex, Depths(*depths), code, text.split())
         if found != verdict:
             print(f"example {question}, {code} {text}: {found}")
             wrong += 1
@@ -384,7 +456,7 @@ class Proof(NamedTuple):
     """A question with its depths, and the proof of its code that gopat prints."""
 
     question: Question
-    depths: tuple[int, int]
+    depths: Depths
     code: int
     words: list[str]
 
@@ -456,7 +528,7 @@ class Gopat(gtp.Running):
         self.process.stdin.flush()
         return [text_of(self.process.stdout.readline() + self.process.stdout.readline()) for _ in lines]
 
-    def depths(self, depths: tuple[int, int]):
+    def depths(self, depths: Depths):
         self.replies([depths_line(depths)])
 
 
@@ -465,15 +537,15 @@ def text_of(reply: bytes) -> str:
     return reply.decode().strip().removeprefix("=").strip()
 
 
-def depths_line(depths: tuple[int, int]) -> str:
-    return "depths {} {}".format(*depths)
+def depths_line(depths: Depths) -> str:
+    return f"depths {depths.plies} {depths.wide}"
 
 
 def check_line(question: Question, code: int, text: str) -> str:
     return f"check_proof {question.kind} {question.vertex} {code} {text}"
 
 
-def verdict(position: Position, kind: str, vertex: str, depths: tuple[int, int], code: int, text: str) -> str:
+def verdict(position: Position, kind: str, vertex: str, depths: Depths, code: int, text: str) -> str:
     """What gopat should answer to `check_proof`."""
     if position.cells[move_of(position.size, vertex).point] == EMPTY:
         return "? vertex must not be empty"
@@ -490,7 +562,7 @@ class Told(NamedTuple):
     refused: Counter[str]
 
 
-def printed(gopat: Gopat, asked: list[Question], depths: tuple[int, int]) -> Told:
+def printed(gopat: Gopat, asked: list[Question], depths: Depths) -> Told:
     """The proofs of the questions that have one."""
     told = Told([], Counter())
     gopat.depths(depths)
@@ -523,7 +595,7 @@ def longest(proofs: list[Proof]) -> int:
     return max((len(" ".join(proof.words)) for proof in proofs), default=0)
 
 
-def both_accept(gopat: Gopat, asked: list[Question], depths: tuple[int, int]) -> tuple[list[Proof], int]:
+def both_accept(gopat: Gopat, asked: list[Question], depths: Depths) -> tuple[list[Proof], int]:
     """The proofs at these depths, and how much differs about them."""
     gopat.seconds.clear()
     gopat.slowest.clear()
@@ -533,7 +605,7 @@ def both_accept(gopat: Gopat, asked: list[Question], depths: tuple[int, int]) ->
     seconds = time.process_time() - start
     codes = Counter(proof.code for proof in told.proofs)
     words = sum(len(proof.words) for proof in told.proofs)
-    print("{} {}:".format(*depths), f"{len(told.proofs)} proofs, {words} words,",
+    print(f"{depths.plies} {depths.wide}:", f"{len(told.proofs)} proofs, {words} words,",
           f"the longest {longest(told.proofs)} bytes;",
           f"codes 3 to 0: {', '.join(str(codes[code]) for code in (3, 2, 1, 0))};",
           ", ".join(f"{count} {text}" for text, count in sorted(told.refused.items()) if count) or "none refused")
@@ -627,12 +699,12 @@ WORDS: dict[Callable[[random.Random, Proof], list[str]], int] = {
 }
 
 
-def other_depths(choose: random.Random, depths: tuple[int, int]) -> tuple[int, int]:
-    """Depths near these, or far from them."""
-    plies, wide = depths
+def other_depths(choose: random.Random, depths: Depths) -> Depths:
+    """Depths near these, or far from them, in the same tree."""
     if choose.random() < 0.2:
-        return choose.randint(1, 30), choose.randint(0, 12)
-    return max(plies + choose.choice([-2, -1, 0, 1, 2]), 1), max(wide + choose.choice([-1, 0, 0, 1]), 0)
+        return depths._replace(plies=choose.randint(1, 30), wide=choose.randint(0, 12))
+    plies, wide = depths.plies + choose.choice([-2, -1, 0, 1, 2]), depths.wide + choose.choice([-1, 0, 0, 1])
+    return depths._replace(plies=max(plies, 1), wide=max(wide, 0))
 
 
 class Change(NamedTuple):
@@ -641,7 +713,7 @@ class Change(NamedTuple):
     sort: str
     set_up: list[str]
     question: Question
-    depths: tuple[int, int]
+    depths: Depths
     code: int
     words: list[str]
 
@@ -741,14 +813,15 @@ def compare_changes(gopat: Gopat, proofs: list[Proof], changes: int, choose: ran
     return differ
 
 
-def main(gopat: str, regression: str, changes: str = "1000", seed: str = "1", *depths: str) -> int:
+def main(gopat: str, regression: str, changes: str = "1000", seed: str = "1", *words: str) -> int:
+    tree, depths = (words[0], words[1:]) if words[:1] in (("stated",), ("wider",)) else ("stated", words)
     differ = wrong_examples()
     program = Gopat(gopat)
     asked = list(questions(regression))
     proofs: list[Proof] = []
     for text in depths or ("5:2", "10:2", "15:5"):
         plies, wide = text.split(":")
-        more, wrong = both_accept(program, asked, (int(plies), int(wide)))
+        more, wrong = both_accept(program, asked, Depths(int(plies), int(wide), tree == "wider"))
         proofs += more
         differ += wrong
     differ += compare_changes(program, proofs, int(changes), random.Random(int(seed)))

@@ -2,14 +2,16 @@
 says how many answers differ. The plain reader is tools/plain_reader.c, a second program that follows the definitions
 with no pruning; it is compiled here, by `cc`.
 
-usage: python3 tools/compare_plain.py GOPAT QUESTIONS [SEED]
+usage: python3 tools/compare_plain.py GOPAT QUESTIONS [SEED [TREE]]
 
-The exit status is 1 where a reply differs.
+SEED is a number, by itself 1. TREE is what the program reads: `stated`, which is so by itself, for `gopat`, or `wider`
+for `gopat_wide`; then more of the depths have wide plies. The exit status is 1 where a reply differs.
 """
 
 import pathlib
 import random
 import subprocess
+import sys
 import tempfile
 from typing import Iterator
 
@@ -18,7 +20,10 @@ import gtp
 
 # Plies and wide plies, so small that the whole tree is read in a moment. From 12 plies on gopat remembers nodes.
 SMALL = [(1, 0), (1, 1), (2, 0), (2, 2), (3, 1), (3, 3), (4, 0), (4, 2), (4, 4), (5, 0), (5, 1), (5, 2)]
-DEPTHS = [*SMALL, (6, 0), (6, 1), (7, 0), (12, 0), (14, 0)]
+DEPTHS = {
+    "stated": [*SMALL, (6, 0), (6, 1), (7, 0), (12, 0), (14, 0)],
+    "wider": [*SMALL, (6, 0), (6, 2), (7, 2), (7, 3), (8, 3), (9, 3), (12, 0), (12, 1), (12, 2), (14, 1)],
+}
 
 
 def compiled(folder: str) -> str:
@@ -29,7 +34,7 @@ def compiled(folder: str) -> str:
     return program
 
 
-def board(choose: random.Random) -> Iterator[str]:
+def board(choose: random.Random, depths: list[tuple[int, int]]) -> Iterator[str]:
     """A position by random plays, the last of which may leave a ban, and questions on some of its points."""
     size = choose.choice([3, 4, 4, 5, 5, 6, 7])
     vertices = gtp.vertices(size)
@@ -37,7 +42,7 @@ def board(choose: random.Random) -> Iterator[str]:
     yield "clear_board"
     for _ in range(choose.randint(size * size // 2, size * size * 2)):
         yield f"play {choose.choice('bw')} {choose.choice(vertices)}"
-    plies, wide = choose.choice(DEPTHS)
+    plies, wide = choose.choice(depths)
     yield f"depths {plies} {wide}"
     for vertex in choose.sample(vertices, min(len(vertices), 12)):
         yield f"attack {vertex}"
@@ -48,15 +53,18 @@ def is_question(line: str) -> bool:
     return line.startswith(("attack", "defend"))
 
 
-def main(gopat: str, questions: str, seed: str = "1") -> int:
+def main(gopat: str, questions: str, seed: str = "1", tree: str = "stated") -> int:
+    if not seed.isdigit() or tree not in DEPTHS:
+        print(__doc__, file=sys.stderr)
+        return 2
     choose = random.Random(int(seed))
     asked = differ = captured = refused = 0
     with tempfile.TemporaryDirectory() as folder:
         plain = compiled(folder)
         while asked < int(questions):
-            lines = [line for _ in range(100) for line in board(choose)]
+            lines = [line for _ in range(100) for line in board(choose, DEPTHS[tree])]
             ours, _ = gtp.session([gopat], lines)
-            theirs, _ = gtp.session([plain], lines)
+            theirs, _ = gtp.session([plain, tree], lines)
             for number, (line, one, other) in enumerate(zip(lines, ours, theirs)):
                 if one.ok != other.ok or (one.ok and one.text != other.text):
                     differ += 1

@@ -1,6 +1,6 @@
 /* A plain tactical reader that speaks a few commands of the protocol: it follows the definitions of the candidates, the
  * game tree and the codes word for word, with no pruning, no order and no table, and shares nothing with gopat.
- * compare_plain.py puts it beside gopat.
+ * compare_plain.py puts it beside gopat. It reads the stated tree, and with the word `wider` behind its name the wider.
  *
  * commands: boardsize S, clear_board, depths PLIES WIDE, play C VERTEX, attack VERTEX, defend VERTEX, quit
  */
@@ -13,7 +13,7 @@ enum { EMPTY, BLACK, WHITE, POINTS = 81 };
 typedef struct { signed char cell[POINTS]; int ban, banned; } Position;
 typedef struct { int target, defender, attacks, wide, attacker_ko, defender_ko; } Node;
 
-static int size = 9, points = 81, plies = 10, wide = 2;
+static int size = 9, points = 81, plies = 10, wide = 2, wider = 0;
 
 static int neighbours(int p, int *q) {
   int n = 0, row = p / size, column = p % size;
@@ -69,28 +69,139 @@ static int play_free(const Position *pos, int c, int p, Position *new) {
 
 static int is_banned(const Position *pos, int c, int p) { return pos->ban == p && pos->banned == c; }
 
-/* the candidates of the target with k wide plies left */
-static void candidates(const Position *pos, int target, int k, char *is) {
-  char in[POINTS], free[POINTS], other[POINTS], last[POINTS];
-  int count = string_of(pos, target, in, free), side[4];
-  memcpy(is, free, POINTS);
+/* the stones of a colour that have a neighbour in a set */
+static void stones_beside(const Position *pos, int colour, const char *set, char *is) {
+  memset(is, 0, POINTS);
   for (int q = 0; q < points; q++) {
-    if (pos->cell[q] != 3 - pos->cell[target]) continue;
-    int beside = 0, sides = neighbours(q, side);
-    for (int i = 0; i < sides; i++) beside |= in[side[i]];
-    if (beside && string_of(pos, q, other, last) == 1)
-      for (int l = 0; l < points; l++) is[l] |= last[l];
+    int side[4], sides = neighbours(q, side);
+    for (int i = 0; i < sides; i++) if (pos->cell[q] == colour && set[side[i]]) is[q] = 1;
   }
-  if (k == 0) return;
-  for (int l = 0; l < points; l++) {
-    if (!free[l]) continue;
-    if (count < 3) {
-      int sides = neighbours(l, side);
-      for (int i = 0; i < sides; i++) if (pos->cell[side[i]] == EMPTY) is[side[i]] = 1;
-    }
-    Position new;
-    if (play_free(pos, 3 - pos->cell[target], l, &new) && string_of(&new, l, other, last) == 1)
+}
+
+/* the stones of the other colour that are next to the string of p */
+static void enemies_beside(const Position *pos, int p, char *is) {
+  char in[POINTS], free[POINTS];
+  string_of(pos, p, in, free);
+  stones_beside(pos, 3 - pos->cell[p], in, is);
+}
+
+/* the liberties of each of these stones' strings that has at least so many and at most so many */
+static void add_liberties(const Position *pos, const char *stones, int least, int most, char *is) {
+  char in[POINTS], free[POINTS];
+  for (int q = 0; q < points; q++) {
+    if (!stones[q]) continue;
+    int count = string_of(pos, q, in, free);
+    for (int l = 0; l < points; l++) if (least <= count && count <= most && free[l]) is[l] = 1;
+  }
+}
+
+/* the empty neighbours of the target's liberties, where it has at least so many and at most so many */
+static void add_empty_beside(const Position *pos, int target, int least, int most, char *is) {
+  char in[POINTS], free[POINTS], empty[POINTS];
+  int count = string_of(pos, target, in, free);
+  stones_beside(pos, EMPTY, free, empty);
+  for (int p = 0; p < points; p++) if (least <= count && count <= most && empty[p]) is[p] = 1;
+}
+
+/* The sets of candidates, each by its sentence in docs/DEFINITIONS.md; the colours are those of target and attacker. */
+
+/* a liberty of the target's string */
+static void add_own(const Position *pos, int target, char *is) {
+  char alone[POINTS] = {0};
+  alone[target] = 1;
+  add_liberties(pos, alone, 0, POINTS, is);
+}
+
+/* the one liberty of an enemy string next to it that has exactly one */
+static void add_captures(const Position *pos, int target, char *is) {
+  char enemy[POINTS];
+  enemies_beside(pos, target, enemy);
+  add_liberties(pos, enemy, 1, 1, is);
+}
+
+/* where the target's string has at most two liberties, an empty neighbour of these */
+static void add_second(const Position *pos, int target, char *is) { add_empty_beside(pos, target, 0, 2, is); }
+
+/* Backfilling move: take a liberty of the target at which the attacker's play, with the ban dropped, is legal and
+ * leaves that stone's string exactly one liberty; this liberty, where it is empty before the play */
+static void add_backfilling(const Position *pos, int target, char *is) {
+  char in[POINTS], free[POINTS], other[POINTS], last[POINTS];
+  Position new;
+  string_of(pos, target, in, free);
+  for (int l = 0; l < points; l++)
+    if (free[l] && play_free(pos, 3 - pos->cell[target], l, &new) && string_of(&new, l, other, last) == 1)
       for (int p = 0; p < points; p++) if (last[p] && pos->cell[p] == EMPTY) is[p] = 1;
+}
+
+/* Net: an empty neighbour of a liberty of a target that has exactly three liberties */
+static void add_net(const Position *pos, int target, char *is) { add_empty_beside(pos, target, 3, 3, is); }
+
+/* Beside: a liberty of an enemy string that is next to the target's string and has at most so many */
+static void add_beside(const Position *pos, int target, int most, char *is) {
+  char enemy[POINTS];
+  enemies_beside(pos, target, enemy);
+  add_liberties(pos, enemy, 0, most, is);
+}
+
+/* Rescue: the one liberty of a string of the target's colour, another than the target's, that has exactly one and is
+ * next to an enemy string with at most two liberties that is next to the target's */
+static void add_rescue(const Position *pos, int target, char *is) {
+  char own[POINTS], free[POINTS], enemy[POINTS], ally[POINTS];
+  enemies_beside(pos, target, enemy);
+  string_of(pos, target, own, free);
+  for (int q = 0; q < points; q++) {
+    if (!enemy[q] || liberties(pos, q) > 2) continue;
+    enemies_beside(pos, q, ally);
+    for (int r = 0; r < points; r++) if (own[r]) ally[r] = 0;
+    add_liberties(pos, ally, 1, 1, is);
+  }
+}
+
+/* a stone of a linked string: one of the target's colour, another than the target's, that is next to a liberty of the
+ * target and has at most four liberties */
+static void linked(const Position *pos, int target, char *is) {
+  char own[POINTS], free[POINTS];
+  string_of(pos, target, own, free);
+  stones_beside(pos, pos->cell[target], free, is);
+  for (int q = 0; q < points; q++) if (is[q] && (own[q] || liberties(pos, q) > 4)) is[q] = 0;
+}
+
+/* Join: a liberty of a linked string */
+static void add_join(const Position *pos, int target, char *is) {
+  char friend[POINTS];
+  linked(pos, target, friend);
+  add_liberties(pos, friend, 0, POINTS, is);
+}
+
+/* Cut: the one liberty of an enemy string that has exactly one and is next to a linked string */
+static void add_cut(const Position *pos, int target, char *is) {
+  char friend[POINTS], enemy[POINTS];
+  linked(pos, target, friend);
+  for (int q = 0; q < points; q++) {
+    if (!friend[q]) continue;
+    enemies_beside(pos, q, enemy);
+    add_liberties(pos, enemy, 1, 1, is);
+  }
+}
+
+/* the candidates at the node */
+static void candidates(const Node *node, const Position *pos, char *is) {
+  int target = node->target;
+  memset(is, 0, POINTS);
+  add_own(pos, target, is);
+  add_captures(pos, target, is);
+  if (node->wide == 0) return;
+  add_second(pos, target, is);
+  add_backfilling(pos, target, is);
+  if (!wider) return;
+  if (node->attacks) {
+    add_net(pos, target, is);
+    add_beside(pos, target, 2, is);
+    add_rescue(pos, target, is);
+  } else {
+    add_beside(pos, target, 4, is);
+    add_join(pos, target, is);
+    add_cut(pos, target, is);
   }
 }
 
@@ -124,12 +235,12 @@ static int attacker_wins(int n, const Node *node, const Position *pos) {
   if (n == 0) return 0;
   if (node->attacks) {
     int count = liberties(pos, node->target);
-    if (count > 4 || (node->wide == 0 && count > 2)) return 0;
+    if (count > 4 || (node->wide == 0 && count > (wider ? 3 : 2))) return 0;
   } else {
     pass(node, pos, &next, &new);
     if (!attacker_wins(n - 1, &next, &new)) return 0;
   }
-  candidates(pos, node->target, node->wide, is);
+  candidates(node, pos, is);
   for (int p = 0; p < points; p++)
     if (is[p] && child(node, pos, p, &next, &new) && attacker_wins(n - 1, &next, &new) == node->attacks)
       return node->attacks;
@@ -145,7 +256,7 @@ static int first_move(const Node *node, const Position *pos) {
     pass(node, pos, &next, &new);
     if (!attacker_wins(plies - 1, &next, &new)) return -1;
   }
-  candidates(pos, node->target, node->wide, is);
+  candidates(node, pos, is);
   for (int p = 0; p < points; p++)
     if (is[p] && child(node, pos, p, &next, &new) && attacker_wins(plies - 1, &next, &new) == node->attacks) return p;
   return -2;
@@ -170,9 +281,10 @@ static int point(const char *vertex) {
   return (size - atoi(vertex + 1)) * size + (int) (column - "ABCDEFGHJ");
 }
 
-int main(void) {
+int main(int words_given, char **word) {
   static Position pos, new;
   char line[200], command[50], a[50], b[50];
+  wider = words_given > 1 && !strcmp(word[1], "wider");
   pos.ban = -1;
   while (fgets(line, sizeof line, stdin)) {
     int words = sscanf(line, "%49s %49s %49s", command, a, b), ok = 1;
