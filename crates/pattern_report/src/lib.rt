@@ -16,8 +16,6 @@ mod part;
 mod port;
 mod report;
 mod shown;
-#[cfg(test)]
-mod tests;
 mod tokens;
 mod warning;
 mod written;

@@ -1,7 +1,7 @@
 //! What is told of texts, one row for each cause and each warning.
 
-use crate::{Report, parts, port_notes, port_of, report_on, warnings};
 use go_base::Bytes;
+use pattern_report::{Report, parts, port_notes, port_of, report_on, warnings};
 use std::test::Fail;
 
 /// The faults of a text, one a line: the number of its line, the place, the kind and the cause.
