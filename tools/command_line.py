@@ -12,16 +12,18 @@ def run(main: Callable[..., int | None], usage: str):
     status 2. Where nobody reads standard output any longer, as under `head`, the script ends with status 1 and says
     nothing."""
     words = sys.argv[1:]
-    if words == ["--help"]:
-        print(usage)
-        sys.exit(0)
+    if words != ["--help"]:
+        try:
+            inspect.signature(main).bind(*words)
+        except TypeError:
+            print(usage, file=sys.stderr)
+            sys.exit(2)
     try:
-        inspect.signature(main).bind(*words)
-    except TypeError:
-        print(usage, file=sys.stderr)
-        sys.exit(2)
-    try:
-        status = main(*words)
+        if words == ["--help"]:
+            print(usage)
+            status = 0
+        else:
+            status = main(*words)
         sys.stdout.flush()
     except BrokenPipeError:
         os.dup2(os.open(os.devnull, os.O_WRONLY), sys.stdout.fileno())
