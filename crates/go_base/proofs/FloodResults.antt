@@ -61,7 +61,8 @@ Finds-more s old mid new wait held waits a b = record {
 }
 
 -- one that was added is there
-is_there : (old : sets.FinSet nat_cmp) (r : ℕ) {new : sets.FinSet nat_cmp} → new ≡ sets.insert old r → sets.contains new r ≡ true
+is_there : (old : sets.FinSet nat_cmp) (r : ℕ) {new : sets.FinSet nat_cmp} → new ≡ sets.insert old r
+    → sets.contains new r ≡ true
 is_there old r is = ap (λ t. sets.contains t r) is ∙ contains-insert_nat old r r ∙ or_left _ _ (eq-eqb r r refl)
 
 -- and so is all that was there

@@ -68,7 +68,8 @@ module _ (s : ℕ) (cells : List Cell) (test : Cell → Bool) (q : ℕ) where
       subst (Gathers s cells test q (n + 1) old) (sym is) (elim (cases_Bool (test (cell_at cells r))) [
         | inl t ↦ rw t (Gathers-add n r old mid h on e t)
         | inr f ↦ rw f (Gathers-skip n old mid h (λ x e' t'.
-            both_ways (test (cell_at cells x)) (ap (λ y. test (cell_at cells y)) (sym (same_side (sym e ∙ e'))) ∙ f) t'))
+            both_ways (test (cell_at cells x))
+            (ap (λ y. test (cell_at cells y)) (sym (same_side (sym e ∙ e'))) ∙ f) t'))
       ])
 
 module _ (s : ℕ) (cells : List Cell) (own : Cell) (q : ℕ) where

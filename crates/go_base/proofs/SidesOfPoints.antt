@@ -69,7 +69,8 @@ left : (s p : ℕ) → p < s * s → (p % s ≡ 0 → ⊥) → (p - 1 < s * s) �
 left s p on l =
     let low = mod_below p s (has_rows s p on) in
     let its = row_column s (p - 1) (p / s) (p % s - 1) (omega (arith, low)) (omega (arith, div-add-mod' p s, l)) in
-    (omega arith, next_in_row s p (p - 1) (sym its.0) (are_one_apart-from _ ((p - 1) % s) (inl (omega (arith, its.1, l)))))
+    let apart = are_one_apart-from (p % s) ((p - 1) % s) (inl (omega (arith, its.1, l))) in
+    (omega arith, next_in_row s p (p - 1) (sym its.0) apart)
 
 -- the point after one that is not last in its row is its neighbour
 right : (s p : ℕ) → p < s * s → (p % s + 1 ≡ s → ⊥) → (p + 1 < s * s) × (are_neighbours s p (p + 1) ≡ true)
@@ -108,7 +109,8 @@ neighbour_at-near s p (suc zero) q h e =
 neighbour_at-near s p (suc (suc zero)) q h e =
     let at = given_unless (eqb (p % s) 0) (p - 1) q e in rw (← at.1) (left s p h (eqb-false _ _ at.0))
 neighbour_at-near s p (suc (suc (suc side))) q h e =
-    let at = given_unless (eqb (p % s + 1) s) (p + 1) q (sym (last_side s p side) ∙ e) in rw (← at.1) (right s p h (eqb-false _ _ at.0))
+    let at = given_unless (eqb (p % s + 1) s) (p + 1) q (sym (last_side s p side) ∙ e) in
+    rw (← at.1) (right s p h (eqb-false _ _ at.0))
 
 -- one of the four sides gives the point
 abbrev IsAtSide : ℕ → ℕ → ℕ → Type 0

@@ -11,7 +11,8 @@ use Rattle.go_base.proofs.FloodResults.{Begins, Begins-first, Steps, Steps-small
 use Rattle.go_base.proofs.FloodResults.{stone_from, on_board_one, on_board_more}
 use Rattle.go_base.proofs.FloodVisits.{none_at}
 use Rattle.go_base.specs.Views.{alone}
-use Rattle.go_base.proofs.BoundedSearches.{FloodsUnder, FloodsUnder-start, FloodsUnder-next, FloodsUnder-all, Searches-none}
+use Rattle.go_base.proofs.BoundedSearches.{FloodsUnder, FloodsUnder-start, FloodsUnder-next, FloodsUnder-all}
+use Rattle.go_base.proofs.BoundedSearches.{Searches-none}
 use Rattle.go_base.proofs.PointNeighbourhoods.{close_alone, close_around}
 use Rattle.go_base.proofs.LookSequences.{Looks-none, Looks-more, Looks-within}
 use Rattle.go_base.proofs.flood.search_into.Given.{Over}
@@ -43,7 +44,8 @@ returns-then-eq-clause-enemies_on_board g c = λ q h. absurd (none_at _ q c.requ
 pub returns-then-eq-clause-near : goal.returns-then-eq-clause-near
 returns-then-eq-clause-near g c =
     λ pos a. g.met.V.View.asks_within _ _ _ _ c.at-own.ensures.looks.asked
-    (λ r h. close_alone (g.V.View.rows c.args.board.now) (g.V.View.cells c.args.board.now pos) c.args.p r c.requires.on_board h)
+    (λ r h. close_alone (g.V.View.rows c.args.board.now) (g.V.View.cells c.args.board.now pos) c.args.p r
+    c.requires.on_board h)
 
 -- the search begins with the point
 begins : (g : Over) (c : After-add_stone g) → Begins c.args.p c.add_stone.new.stones c.add_stone.new.waiting

@@ -58,7 +58,8 @@ close g c pos a =
     let s = g.V.View.rows c.args.board.now in
     let cells = g.V.View.cells c.args.board.now pos in
     let i = c.loop-q.invariant in
-    let its = rw (g.met.V.View.asks_rows _ _ _ i.looks.asked, i.looks.same pos) at (c.add_last_liberty.ensures.near pos a) in
+    let rows = g.met.V.View.asks_rows _ _ _ i.looks.asked in
+    let its = rw (rows, i.looks.same pos) at (c.add_last_liberty.ensures.near pos a) in
     let beside = enemy_close s cells c.args.p c.in-Some.q c.flood-liberties.result.enemies c.requires (foes g c pos a)
     c.in-Some.ensures.some.2 in
     g.met.V.View.asks_more _ _ _ _ (i.near pos (agreed g c pos a)) (g.met.V.View.asks_within _ _ _ _ its
@@ -77,7 +78,8 @@ lasts g c pos a =
     let on = c.flood-liberties.ensures.enemies_on_board q first.2 in
     let enemies = c.flood-liberties.result.enemies in
     let its = enemy_beside s cells c.args.p q enemies (foes g c pos a) first.2 in
-    let adds = rw (g.met.V.View.asks_rows _ _ _ i.looks.asked, i.looks.same pos) at (c.add_last_liberty.ensures.adds pos a) in
+    let rows = g.met.V.View.asks_rows _ _ _ i.looks.asked in
+    let adds = rw (rows, i.looks.same pos) at (c.add_last_liberty.ensures.adds pos a) in
     Lasts-add s cells c.args.p q _ _ (Lasts-jump s cells c.args.p c.loop-q.next q _ (i.over pos (agreed g c pos a))
     (λ k l m. no_enemy s cells c.args.p k enemies (foes g c pos a) (omega (arith, m, on)) (first.3 k l m)))
     on its.0 its.1 (adds (i.knows pos (agreed g c pos a)))
