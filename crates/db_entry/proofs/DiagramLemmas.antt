@@ -47,21 +47,8 @@ kept-by_parts d line bytes = refl
 pub fault_is : (d : Diagram) (words : List (List ℕ)) (word : List ℕ) (line : DiagramLine) → Draws d words
     → Classifies line word → kept_fault d line (length word) ≡ diagram_fault words word
 fault_is d words word line s is =
-    let bytes = length word in
-    let count = length words in
-    let rows = length (rows_of words) in
-    let edge = is_edge line in
-    let shape = shape_on line in
-    kept-by_parts d line bytes
-    ∙ ap (λ n. by_parts n d.rows d.top d.bottom d.shape edge shape bytes) s.lines
-    ∙ ap (λ n. by_parts count n d.top d.bottom d.shape edge shape bytes) s.rows
-    ∙ ap (λ b. by_parts count rows b d.bottom d.shape edge shape bytes) s.top
-    ∙ ap (λ b. by_parts count rows (has_top words) b d.shape edge shape bytes) s.bottom
-    ∙ ap (λ o. by_parts count rows (has_top words) (has_bottom words) o edge shape bytes) s.shape
-    ∙ ap (λ b. by_parts count rows (has_top words) (has_bottom words) (wanted words) b shape bytes) is.edge
-    ∙ ap (λ t. by_parts count rows (has_top words) (has_bottom words) (wanted words) (is_edge_line word) t bytes)
-    is.shape
-    ∙ by_parts-is words word is.some
+    kept-by_parts d line (length word)
+    ∙ rw (s.lines, s.rows, s.top, s.bottom, s.shape, is.edge, is.shape) (by_parts-is words word is.some)
 
 -- the tests of a list of three faults of which none fits
 pub record AreThreeFalse (a b c : Bool) : Type 0 where

@@ -1,6 +1,6 @@
 -- A constraint diagram with one line more.
 use Rattle.std.proofs.Common.{◌≡◌, ◌≢◌, ℕ, suc, ◌+◌, ◌<◌, ◌≤◌, Bool, true, false, not, List, [], ◌∷◌, ◌++◌, length}
-use Rattle.std.proofs.Common.{get_or, take, Some, refl, sym, ap, ◌∙◌, append_assoc, add-zero, arith}
+use Rattle.std.proofs.Common.{get_or, take, Option, Some, refl, sym, ap, ◌∙◌, append_assoc, add-zero, arith}
 use Rattle.db_rules.proofs.ConstraintDiagrams.{length-rows_of-cons}
 use Rattle.std.specs.Prelude.{◌==◌, ◌&&◌, ◌||◌}
 use Rattle.std.proofs.lemmas.Bool.{and_right}
@@ -9,6 +9,8 @@ use Rattle.std.proofs.lemmas.Option.{slice_get-get_or, slice_get_past}
 use Rattle.pat_types.specs.Labels.{are_apart}
 use Rattle.pat_types.specs.Diagrams.{drawn_strip}
 use Rattle.db_entry.specs.declared.marks.Marks.{Marks}
+use Rattle.pat_types.specs.declared.pattern.LabelAt.{LabelAt}
+use Rattle.db_rules.specs.declared.kind.FaultKind.{FaultKind}
 use Rattle.db_rules.specs.declared.kind.FaultKind.TheVariants.{ConstraintShape}
 use Rattle.db_rules.specs.Kinds.{first_of}
 use Rattle.db_rules.specs.Diagram.{is_row, is_letter, rows_of}
@@ -63,18 +65,15 @@ labels_under-push row (main ∷ mains) [] word lt =
     ∙ ap (λ l. l ++ labels_of_line (row + 0) main word) (sym (under-nil row (main ∷ mains)))
 labels_under-push row (main ∷ mains) (w ∷ words) word lt =
     let one = drawn_strip (is_row main) in
-    let step = labels_under-push (row + one) mains words word (omega arith) in
-    let rows : row + one + length (rows_of (take (length words) mains)) ≡ row + length
-    (rows_of (main ∷ take (length words) mains)) =
+    let above = length (rows_of (main ∷ take (length words) mains)) in
+    let last = λ (n : ℕ). labels_of_line n (get_or mains (length words) []) word in
+    let rows : row + one + length (rows_of (take (length words) mains)) ≡ row + above =
     omega (arith, length-rows_of-cons main (take (length words) mains)) in
     under-cons row main mains w (words ++ word ∷ [])
-    ∙ ap (λ l. labels_of_line row main w ++ l) (step
-    ∙ ap (λ n. labels_under (row + one) mains words ++ labels_of_line n (get_or mains (length words) []) word) rows)
-    ∙ sym (append_assoc (labels_of_line row main w) (labels_under (row + one) mains words)
-    (labels_of_line (row + length (rows_of (main ∷ take (length words) mains)))
-    (get_or mains (length words) []) word))
-    ∙ ap (λ l. l ++ labels_of_line (row + length (rows_of (main ∷ take (length words) mains)))
-    (get_or mains (length words) []) word) (sym (under-cons row main mains w words))
+    ∙ ap (λ l. labels_of_line row main w ++ l) (labels_under-push (row + one) mains words word (omega arith)
+    ∙ ap (λ n. labels_under (row + one) mains words ++ last n) rows)
+    ∙ sym (append_assoc (labels_of_line row main w) (labels_under (row + one) mains words) (last (row + above)))
+    ∙ ap (λ l. l ++ last (row + above)) (sym (under-cons row main mains w words))
 
 -- the labels after a further line that has a main line
 pub labels_of-push : (mains words : List (List ℕ)) (word : List ℕ) → length words < length mains
@@ -132,6 +131,10 @@ kept_labels m mains words word main s lt main_is =
     ∙ ap (λ w. labels_of mains words ++ labels_of_line (length (rows_of (take (length words) mains))) w word) there
     ∙ sym (labels_of-push mains words word (omega (arith, s.lines)))
 
+-- the fault of a further line, by its main line and all labels
+abbrev fault_by : List ℕ → List ℕ → List LabelAt → Option FaultKind
+fault_by word main labels = first_of ((not (repeats main word && are_apart labels), ConstraintShape) ∷ [])
+
 -- the fault of a further line that has a main line
 pub kept_fault_at : (m : Marks) (mains words : List (List ℕ)) (word main : List ℕ) → IsMarked m mains words
     → m.lines < length mains → main ≡ get_or mains m.lines []
@@ -143,16 +146,8 @@ pub kept_fault_at : (m : Marks) (mains words : List (List ℕ)) (word main : Lis
 kept_fault_at m mains words word main s lt main_is =
     let there : main ≡ get_or mains (length words) [] = main_is ∙ ap (λ k. get_or mains k []) s.lines in
     constraint_fault-at mains words word (omega (arith, s.lines))
-    ∙ ap (λ w. first_of ((
-      not (repeats w word
-          && are_apart (labels_of mains (words ++ word ∷ []))),
-      ConstraintShape,
-    ) ∷ [])) (sym there)
-    ∙ ap (λ l. first_of ((
-      not (repeats main word
-          && are_apart l),
-      ConstraintShape,
-    ) ∷ [])) (sym (kept_labels m mains words word main s lt main_is))
+    ∙ ap (λ w. fault_by word w (labels_of mains (words ++ word ∷ []))) (sym there)
+    ∙ ap (fault_by word main) (sym (kept_labels m mains words word main s lt main_is))
 
 -- what is kept after a further line
 pub kept_push : (m n : Marks) (mains words : List (List ℕ)) (word main : List ℕ) → IsMarked m mains words

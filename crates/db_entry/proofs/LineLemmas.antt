@@ -1,6 +1,5 @@
 -- The line that a word is, and what the words of the grammar say of it.
-use Rattle.std.proofs.Common.{◌≡◌, ℕ, Bool, true, false, not, cond, List, [], ◌∷◌, length, Some, None, refl, sym, ap}
-use Rattle.std.proofs.Common.{◌∙◌}
+use Rattle.std.proofs.Common.{◌≡◌, ℕ, Bool, true, false, not, cond, List, [], ◌∷◌, length, Some, None, refl, sym, subst}
 use Rattle.std.specs.Prelude.{◌||◌, nat_lt, nat_le, is_some}
 use Rattle.go_rules.specs.Board.{largest_size}
 use Rattle.db_rules.specs.declared.shape.Shape.{Shape}
@@ -21,6 +20,17 @@ pub record Classifies (line : DiagramLine) (word : List ℕ) : Type 0 where
   pub shape : shape_on line ≡ line_shape word
   pub some : (is_edge_line word || is_row_word word) ≡ true
 
+-- a row has its kind and shape
+row_classifies : (word : List ℕ) → is_row_word word ≡ true → Classifies (Row (shape_of bar word)) word
+row_classifies word row =
+    let apart : is_edge_line word ≡ false = row_is_no_edge_line word row in
+    record { edge = sym apart; row = sym row; shape = rw row refl; some = rw (row, apart) refl }
+
+-- and so has an edge line
+edge_classifies : (word : List ℕ) → is_row_word word ≡ false → is_edge_line word ≡ true
+    → Classifies (Edge (shape_of plus word)) word
+edge_classifies word row edge = record { edge = sym edge; row = sym row; shape = rw row refl; some = rw edge refl }
+
 -- a word that is a line has its kind and shape
 pub line_classifies : (word : List ℕ) (line : DiagramLine) → line_of word ≡ Some line → Classifies line word
 line_classifies word line e = by_kind (is_row_word word) (is_edge_line word) refl refl e
@@ -28,23 +38,10 @@ line_classifies word line e = by_kind (is_row_word word) (is_edge_line word) ref
     by_kind : (row edge : Bool) → is_row_word word ≡ row → is_edge_line word ≡ edge
         → cond row (Some (Row (shape_of bar word))) (cond edge (Some (Edge (shape_of plus word))) None) ≡ Some line
         → Classifies line word
-    by_kind true edge r f e =
-        let same : line ≡ Row (shape_of bar word) = cc in
-        let apart : is_edge_line word ≡ false = row_is_no_edge_line word r in
-        record {
-          edge = ap is_edge same ∙ sym apart;
-          row = ap is_row same ∙ sym r;
-          shape = ap shape_on same ∙ rw r refl;
-          some = rw (r, apart) refl;
-        }
-    by_kind false true r f e =
-        let same : line ≡ Edge (shape_of plus word) = cc in
-        record {
-          edge = ap is_edge same ∙ sym f;
-          row = ap is_row same ∙ sym r;
-          shape = ap shape_on same ∙ rw r refl;
-          some = rw f refl;
-        }
+    by_kind true edge r f e = let same : Row (shape_of bar word) ≡ line = cc in
+        subst (λ l. Classifies l word) same (row_classifies word r)
+    by_kind false true r f e = let same : Edge (shape_of plus word) ≡ line = cc in
+        subst (λ l. Classifies l word) same (edge_classifies word r f)
     by_kind false false r f e = absurd cc
 
 -- where a test fails its fault is the first

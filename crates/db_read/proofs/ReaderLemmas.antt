@@ -189,6 +189,20 @@ begun_before_actions Labels byte next start = absurd cc
 begun_before_actions Expression byte next start = absurd cc
 begun_before_actions Actions byte next start = absurd cc
 
+-- an action line is none of those that a draft is of
+with_actions : (d : Draft) (b : Block) (k : KeptLine) → Drafts d b
+    → Drafts d (record b { actions = b.actions ++ k ∷ [] })
+with_actions d b k h = record {
+  name = h.name;
+  words = h.words;
+  diagram = h.diagram;
+  colon = h.colon;
+  marks = h.marks;
+  expression = h.expression;
+  drawn = h.drawn;
+  labelled = h.labelled;
+}
+
 -- an action line is passed over
 pub action_ok : (r n : Reader) (stage : Stage) (front : List KeptLine) (done : List Block) (k : KeptLine)
     (now : Option Block) (byte : ℕ) → table stage Action byte ≡ Next Actions → (stage ≡ Expression → ⊥)
@@ -203,19 +217,6 @@ action_ok r n stage front done k (Some b) byte next left s ns nd nb same =
     Shows-now r n stage Actions front done b (record b { actions = b.actions ++ k ∷ [] }) s ns nd nb
     (subst (λ (d : Draft). Drafts d (record b { actions = b.actions ++ k ∷ [] })) (sym same) drafts)
     (there.0, subst IsJudged (sym same) there.1) (λ h. absurd cc)
-  where
-    with_actions : (d : Draft) (b : Block) (k : KeptLine) → Drafts d b
-        → Drafts d (record b { actions = b.actions ++ k ∷ [] })
-    with_actions d b k h = record {
-      name = h.name;
-      words = h.words;
-      diagram = h.diagram;
-      colon = h.colon;
-      marks = h.marks;
-      expression = h.expression;
-      drawn = h.drawn;
-      labelled = h.labelled;
-    }
 
 -- the constraint diagram is at fault by the numbers of its lines
 pub labels_gathered : (r : Reader) (number : ℕ) (stage : Stage) (front : List KeptLine) (done : List Block)

@@ -216,12 +216,16 @@ nothing_found helpers s line none = by_bad line.is_bad refl none
         by_cell clean both.0 (cell_for s.stage line) refl (no_kind line.number _ both.1)
 
 module _ (helpers : List (List ℕ)) where
+  -- a named Pattern line, and a main diagram below it without a fault
+  record HasDiagram (line : KeptLine) (lines : List KeptLine) : Type 0 where
+    head : IsLineOf Pattern line
+    named : is_unnamed line.bytes ≡ false
+    diagram : All (IsLineOf Other) lines
+    drawn : IsDrawn (words_in lines)
+
   -- each line of the block so far is one of its part, without a fault
   record IsBegun (b : Block) : Type 0 where
-    head : IsLineOf Pattern b.head
-    named : is_unnamed b.head.bytes ≡ false
-    diagram : All (IsLineOf Other) b.diagram
-    drawn : IsDrawn (words_in b.diagram)
+    top : HasDiagram b.head b.diagram
     constraint : All (IsLineOf Other) b.constraint
     labelled : IsLabelled (words_in b.diagram) (words_in b.constraint)
     expression : All (IsLineOf Semicolon) b.expression
@@ -260,10 +264,10 @@ module _ (helpers : List (List ℕ)) where
   whole : (b : Block) → IsBegun b → IsColonLine helpers (words_in b.diagram) b.colon → IsClosed b
       → expression_kind b ≡ None → IsBlock helpers b
   whole b begun colon closed judged = record {
-    head = begun.head;
-    named = begun.named;
-    diagram = begun.diagram;
-    drawn = begun.drawn;
+    head = begun.top.head;
+    named = begun.top.named;
+    diagram = begun.top.diagram;
+    drawn = begun.top.drawn;
     colon = colon;
     constraint = begun.constraint;
     labelled = begun.labelled;
@@ -343,10 +347,12 @@ module _ (helpers : List (List ℕ)) where
           few = omega (arith, named.0, length-append (blocks_of s) (begun_with line ∷ []));
           fits = (
             record {
-              head = head;
-              named = named.1;
-              diagram = All-nil (IsLineOf Other);
-              drawn = accepted.no_line;
+              top = record {
+                head = head;
+                named = named.1;
+                diagram = All-nil (IsLineOf Other);
+                drawn = accepted.no_line;
+              };
               constraint = All-nil (IsLineOf Other);
               labelled = accepted.no_line;
               expression = All-nil (IsLineOf Semicolon);
@@ -371,7 +377,7 @@ module _ (helpers : List (List ℕ)) where
       let words : words_in b.diagram ++ word_of line.bytes ∷ [] ≡ words_in (b.diagram ++ line ∷ []) =
       sym (map-append (λ l. word_of l.bytes) b.diagram (line ∷ [])) in
       let drawn : IsDrawn (words_in (b.diagram ++ line ∷ [])) =
-      subst IsDrawn words (accepted.one_line_more (words_in b.diagram) (word_of line.bytes) begun.drawn none) in
+      subst IsDrawn words (accepted.one_line_more (words_in b.diagram) (word_of line.bytes) begun.top.drawn none) in
       let labelled : IsLabelled (words_in (b.diagram ++ line ∷ [])) (words_in b.constraint) =
       subst (λ c. IsLabelled (words_in (b.diagram ++ line ∷ [])) (words_in c)) (sym empty.1) accepted.no_line in
       grown Diagram Diagram front done b (record b {
@@ -379,10 +385,12 @@ module _ (helpers : List (List ℕ)) where
             b.diagram ++ line ∷ [];
       }) line stands (diagram_line_ends b line empty)
       (record {
-        head = begun.head;
-        named = begun.named;
-        diagram = All-push (IsLineOf Other) b.diagram line begun.diagram other;
-        drawn = drawn;
+        top = record {
+          head = begun.top.head;
+          named = begun.top.named;
+          diagram = All-push (IsLineOf Other) b.diagram line begun.top.diagram other;
+          drawn = drawn;
+        };
         constraint = begun.constraint;
         labelled = labelled;
         expression = begun.expression;
@@ -408,10 +416,7 @@ module _ (helpers : List (List ℕ)) where
             b.colon ++ line ∷ [];
       }) line stands (colon_line_ends b line empty)
       (record {
-        head = begun.head;
-        named = begun.named;
-        diagram = begun.diagram;
-        drawn = begun.drawn;
+        top = begun.top;
         constraint = begun.constraint;
         labelled = begun.labelled;
         expression = begun.expression;
@@ -440,10 +445,7 @@ module _ (helpers : List (List ℕ)) where
             b.constraint ++ line ∷ [];
       }) line stands (constraint_line_ends b line fits.1)
       (record {
-        head = begun.head;
-        named = begun.named;
-        diagram = begun.diagram;
-        drawn = begun.drawn;
+        top = begun.top;
         constraint = All-push (IsLineOf Other) b.constraint line begun.constraint other;
         labelled = labelled;
         expression = begun.expression;
@@ -466,10 +468,7 @@ module _ (helpers : List (List ℕ)) where
             b.expression ++ line ∷ [];
       }) line stands (expression_line_ends b line empty)
       (record {
-        head = begun.head;
-        named = begun.named;
-        diagram = begun.diagram;
-        drawn = begun.drawn;
+        top = begun.top;
         constraint = begun.constraint;
         labelled = begun.labelled;
         expression = All-push (IsLineOf Semicolon) b.expression line begun.expression semicolon;
@@ -492,10 +491,7 @@ module _ (helpers : List (List ℕ)) where
             b.actions ++ line ∷ [];
       }) line stands (action_line_ends b line)
       (record {
-        head = begun.head;
-        named = begun.named;
-        diagram = begun.diagram;
-        drawn = begun.drawn;
+        top = begun.top;
         constraint = begun.constraint;
         labelled = begun.labelled;
         expression = begun.expression;
@@ -616,21 +612,21 @@ module _ (helpers : List (List ℕ)) where
       (gathered_where_closed number None s.stage s.front s.done s.now (refl, refl) both.0)
       (not_in_diagram number s.stage both.1)
 
+-- before the first line there is no front and no block
+stands_at_start : (helpers : List (List ℕ)) → Stands helpers at_start
+stands_at_start helpers = record {
+  front = All-nil IsInFront;
+  done = All-nil (IsBlock helpers);
+  few = omega arith;
+  fits = (refl, refl);
+}
+
 -- a text without a fault is a database
 pub faultless_is_database : (helpers : List (List ℕ)) (text : List ℕ) → first_fault helpers text ≡ None
     → IsDatabase helpers text
 faultless_is_database helpers text none =
-    let at_front : Stands helpers at_start =
-    record {
-      front = All-nil IsInFront;
-      done = All-nil (IsBlock helpers);
-      few = omega arith;
-      fits =
-          (refl, refl);
-    } in
-    let ends =
-    goes_on helpers (end_number text) at_start (kept_lines text) (sym (first_fault-walk helpers text)
-    ∙ none) at_front in
+    let faultless = sym (first_fault-walk helpers text) ∙ none in
+    let ends = goes_on helpers (end_number text) at_start (kept_lines text) faultless (stands_at_start helpers) in
     let last = fold after_line at_start (kept_lines text) in
     record {
       front = last.front;

@@ -3,13 +3,12 @@ use Rattle.std.proofs.Common.{◌≡◌, ℕ, zero, suc, ◌+◌, ◌-◌, ◌<�
 use Rattle.std.proofs.Common.{◌∷◌, ◌++◌, length, take, drop, get_or, None, refl, sym, ap, subst, ◌∙◌, arith}
 use Rattle.std.specs.Prelude.{◌&&◌, ◌||◌, ◌==◌, nat_lt, slice_get, slice_index}
 use Rattle.std.specs.List.{list_all}
-use Rattle.std.proofs.Math.ListN.{get_or-append}
-use Rattle.std.proofs.Math.Seq.{get_or-append_seam}
 use Rattle.std.proofs.lemmas.Bool.{and_parts, lt-ltb, eqb-true, cases_lt, not-false}
-use Rattle.std.proofs.lemmas.List.{length-append, length-take, get_or-take}
+use Rattle.std.proofs.lemmas.List.{length-take, get_or-take}
 use Rattle.std.proofs.lemmas.List.Folds.{list_all-append}
 use Rattle.std.proofs.lemmas.Option.{slice_get-get_or, slice_get_past}
 use Rattle.pat_types.specs.Diagrams.{drawn_strip}
+use Rattle.pat_types.specs.declared.pattern.LabelAt.{LabelAt}
 use Rattle.pat_types.specs.Labels.{is_in, are_apart, are_labels}
 use Rattle.db_rules.specs.declared.kind.FaultKind.{FaultKind}
 use Rattle.db_rules.specs.declared.kind.FaultKind.TheVariants.{ConstraintShape}
@@ -20,7 +19,7 @@ use Rattle.db_rules.specs.Labels.{is_label, repeats, labels_from, labels_of_line
 use Rattle.db_rules.specs.Labels.{constraint_fault}
 use Rattle.db_rules.specs.Accepted.{IsDrawn, IsLabelled, no_line, one_line_more}
 use Rattle.db_rules.proofs.OneMoreLine.{shape_of-width, row_letters}
-use Rattle.db_rules.proofs.MainDiagrams.{drawn_even, drawn_line_kinds}
+use Rattle.db_rules.proofs.MainDiagrams.{each_more, drawn_even, drawn_line_kinds}
 
 -- where all elements pass, each does
 each_passes : (P : ℕ → Bool) (bytes : List ℕ) (k : ℕ) → k < length bytes → list_all P bytes ≡ true
@@ -30,27 +29,20 @@ each_passes P (b ∷ bytes) zero lt all = (and_parts (P b) (list_all P bytes) al
 each_passes P (b ∷ bytes) (suc k) lt all =
     each_passes P bytes k (omega (arith, lt)) (and_parts (P b) (list_all P bytes) all).1
 
+-- a byte among the first n passes where these do
+byte_within : (P : ℕ → Bool) (n : ℕ) (bytes : List ℕ) (k : ℕ) → k < n → k < length bytes
+    → list_all P (take n bytes) ≡ true → (k < length (take n bytes)) × (P (get_or bytes k 0) ≡ true)
+byte_within P n bytes k low lt all =
+    let within : k < length (take n bytes) = rw (length-take n bytes) (omega (arith, low, lt)) in
+    (within, ap P (sym (get_or-take n bytes k 0 low)) ∙ each_passes P (take n bytes) k within all)
+
 -- a byte of a rest is one of its inner part, or it is the edge's byte at the end
 byte_of_rest : (P : ℕ → Bool) (m : ℕ) (rest : List ℕ) (e : Bool) (k : ℕ) → (slice_index rest (length rest - 1) == m) ≡ e
     → list_all P (take (length rest - drawn_strip e) rest) ≡ true → k < length rest
     → ((k < length (take (length rest - drawn_strip e) rest)) × (P (get_or rest k 0) ≡ true)) ⊎ (get_or rest k 0 ≡ m)
-byte_of_rest P m rest false k end all lt =
-    let within : k < length (take (length rest - 0) rest) =
-    rw (length-take (length rest - 0) rest) (omega (arith, lt)) in
-    inl (
-      within,
-      ap P (sym (get_or-take (length rest - 0) rest k 0 (omega (arith, lt))))
-          ∙ each_passes P (take (length rest - 0) rest) k within all,
-    )
+byte_of_rest P m rest false k end all lt = inl (byte_within P (length rest - 0) rest k (omega (arith, lt)) lt all)
 byte_of_rest P m rest true k end all lt = elim (cases_lt k (length rest - 1)) [
-  | inl before ↦
-      let within : k < length (take (length rest - 1) rest) =
-      rw (length-take (length rest - 1) rest) (omega (arith, lt, before)) in
-      inl (
-        within,
-        ap P (sym (get_or-take (length rest - 1) rest k 0 before))
-            ∙ each_passes P (take (length rest - 1) rest) k within all,
-      )
+  | inl before ↦ inl (byte_within P (length rest - 1) rest k before lt all)
   | inr last ↦
       let is_last : k ≡ length rest - 1 = omega (arith, lt, last) in
       inr (ap (λ n. get_or rest n 0) is_last ∙ eqb-true _ m end)
@@ -120,32 +112,28 @@ edge_has_no_letter (b ∷ bs) edge k lt letter = by_begin (b == plus) refl (dash
         no_letter (get_or (b ∷ bs) k 0)
         (subst AreDashes (ap (λ x. drop (drawn_strip x) (b ∷ bs)) is) dashes k lt) letter
 
+-- a byte at this place is a letter
+abbrev HasLetter : List ℕ → ℕ → Type 0
+HasLetter bytes k = (k < length bytes) × (is_letter (get_or bytes k 0) ≡ true)
+
+-- a letter of a line without its left edge is one of the line
+letter_of_line : (main : List ℕ) (k : ℕ) → HasLetter (without_left bar main) k → (n : ℕ) × HasLetter main n
+letter_of_line [] k letter = absurd (omega (arith, letter.0))
+letter_of_line (b ∷ bs) k letter = by_begin (b == bar) letter
+  where
+    by_begin : (c : Bool) → HasLetter (drop (drawn_strip c) (b ∷ bs)) k → (n : ℕ) × HasLetter (b ∷ bs) n
+    by_begin true letter = (suc k, (omega (arith, letter.0), letter.1))
+    by_begin false letter = (k, letter)
+
 -- an edge line is a main line of any number of columns
 main_edge : (main : List ℕ) (cols : ℕ) → is_edge_line main ≡ true → IsMainLine cols main
-main_edge [] cols edge =
-    record {
-      in_columns = λ k lt letter. absurd (omega (arith, lt));
-      of_row =
-          λ k lt letter. absurd (omega (arith, lt));
-    }
-main_edge (b ∷ bs) cols edge =
-    record {
-      in_columns = λ k lt letter. absurd (none (b == bar) refl k lt letter);
-      of_row =
-          λ k lt letter. absurd (none (b == bar) refl k lt letter);
-    }
+main_edge main cols edge =
+    record { in_columns = λ k lt letter. absurd (none k lt letter); of_row = λ k lt letter. absurd (none k lt letter) }
   where
-    none : (c : Bool) → (b == bar) ≡ c → (k : ℕ) → k < length (without_left bar (b ∷ bs))
-        → is_letter (get_or (without_left bar (b ∷ bs)) k 0) ≡ true → ⊥
-    none true is k lt letter =
-        let rest : without_left bar (b ∷ bs) ≡ bs = ap (λ x. drop (drawn_strip x) (b ∷ bs)) is in
-        edge_has_no_letter (b ∷ bs) edge (suc k) (let within : k < length bs =
-        subst (λ (r : List ℕ). k < length r) rest lt in
-        omega (arith, within)) (subst (λ (r : List ℕ). is_letter (get_or r k 0) ≡ true) rest letter)
-    none false is k lt letter =
-        let rest : without_left bar (b ∷ bs) ≡ b ∷ bs = ap (λ x. drop (drawn_strip x) (b ∷ bs)) is in
-        edge_has_no_letter (b ∷ bs) edge k (subst (λ (r : List ℕ). k < length r) rest lt)
-        (subst (λ (r : List ℕ). is_letter (get_or r k 0) ≡ true) rest letter)
+    none : (k : ℕ) → k < length (without_left bar main) → is_letter (get_or (without_left bar main) k 0) ≡ true → ⊥
+    none k lt letter =
+        let there = letter_of_line main k (lt, letter) in
+        edge_has_no_letter main edge there.0 there.1.0 there.1.1
 
 -- each line of a main diagram without a fault is a main line of its width
 main_lines : (diagram : List (List ℕ)) → IsDrawn diagram → (k : ℕ) → k < length diagram
@@ -161,6 +149,16 @@ main_lines diagram drawn k lt =
         main_row (get_or diagram k []) (width_of (wanted diagram)) r (drawn_even diagram drawn k lt r)
     by_kind false false e r some = absurd cc
 
+-- a byte that repeats the line adds no label, and one over a letter adds one that stands where the letter does
+label_in : (row col total cols m w : ℕ) (rest : List LabelAt) (same : Bool)
+    → (same || is_label w && is_letter m) ≡ true → list_all (is_in total cols) rest ≡ true
+    → (is_letter m ≡ true → (row < total) × (col < cols))
+    → list_all (is_in total cols) (cond same rest (record { letter = w; row = row; col = col } ∷ rest)) ≡ true
+label_in row col total cols m w rest true over all here = all
+label_in row col total cols m w rest false over all here =
+    let place = here (and_parts (is_label w) (is_letter m) over).1 in
+    rw (lt-ltb row total place.0, lt-ltb col cols place.1) all
+
 -- where the letters of a line stand in so many columns, its labels do; they stand over letters alone
 labels_from_in : (row col total cols : ℕ) (main word : List ℕ) → repeats main word ≡ true
     → ((k : ℕ) → k < length main → is_letter (get_or main k 0) ≡ true → (row < total) × (col + k < cols))
@@ -169,29 +167,10 @@ labels_from_in row col total cols [] word same within = refl
 labels_from_in row col total cols (m ∷ ms) [] same within = refl
 labels_from_in row col total cols (m ∷ ms) (w ∷ ws) same within =
     let parts = and_parts (w == m || is_label w && is_letter m) (repeats ms ws) same in
-    let rest =
-    labels_from_in row (col + 1) total cols ms ws parts.1 (λ k lt letter. let far =
-    within (suc k) (omega (arith, lt)) letter in
-    (far.0, let next : col + suc k < cols = far.1 in omega (arith, next))) in
-    by_same (w == m) parts.0 rest (within zero (omega arith))
-  where
-    by_same : (same : Bool) → (same || is_label w && is_letter m) ≡ true
-        → list_all (is_in total cols) (labels_from row (col + 1) ms ws) ≡ true
-        → (is_letter m ≡ true → (row < total) × (col + zero < cols))
-        → list_all (is_in total cols) (cond same (labels_from row (col + 1) ms ws) (record {
-          letter = w;
-          row =
-              row;
-          col = col;
-        } ∷ labels_from row (col + 1) ms ws)) ≡ true
-    by_same true over rest here = rest
-    by_same false over rest here =
-        let place = here (and_parts (is_label w) (is_letter m) over).1 in
-        rw (
-          lt-ltb row total place.0,
-          lt-ltb col cols (let there : col + zero < cols = place.1 in
-              omega (arith, there)),
-        ) rest
+    let rest = labels_from_in row (col + 1) total cols ms ws parts.1
+    (λ k lt letter. let far = within (suc k) (omega (arith, lt)) letter in (far.0, omega (arith, far.1))) in
+    label_in row col total cols m w (labels_from row (col + 1) ms ws) (w == m) parts.0 rest
+    (λ letter. let here = within zero (omega arith) letter in (here.0, omega (arith, here.1)))
 
 -- the labels of a line stand in the diagram
 labels_of_line_in : (row total cols : ℕ) (main word : List ℕ) → repeats main word ≡ true → IsMainLine cols main
@@ -203,13 +182,9 @@ labels_of_line_in row total cols (m ∷ ms) (w ∷ ws) same fine above = by_edge
     within : (body : List ℕ) → without_left bar (m ∷ ms) ≡ body → (k : ℕ) → k < length body
         → is_letter (get_or body k 0) ≡ true → (row < total) × (0 + k < cols)
     within body is k lt letter =
-        let lt_there : k < length (without_left bar (m ∷ ms)) = subst (λ (r : List ℕ). k < length r) (sym is) lt in
-        let letter_there : is_letter (get_or (without_left bar (m ∷ ms)) k 0) ≡ true =
-        subst (λ (r : List ℕ). is_letter (get_or r k 0) ≡ true) (sym is) letter in (
-          above (fine.of_row k lt_there letter_there),
-          let column : k < cols = fine.in_columns k lt_there letter_there in
-              omega (arith, column),
-        )
+        let there = subst (λ r. HasLetter r k) (sym is) (lt, letter) in
+        let column = fine.in_columns k there.0 there.1 in
+        (above (fine.of_row k there.0 there.1), omega (arith, column))
 
     by_edge : (c : Bool) → (m == bar) ≡ c
         → list_all (is_in total cols) (cond c (labels_from row 0 ms ws) (labels_from row 0 (m ∷ ms) (w ∷ ws))) ≡ true
@@ -291,19 +266,8 @@ labelled_repeat : (diagram words : List (List ℕ)) → IsLabelled diagram words
 labelled_repeat diagram _ no_line k lt = absurd (omega (arith, lt))
 labelled_repeat diagram _ (one_line_more words word labelled none) k lt =
     let fine = fine_label_line diagram words word none in
-    elim (cases_lt k (length words)) [
-      | inl before ↦
-          let was = labelled_repeat diagram words labelled k before in
-          (was.0, ap (repeats (get_or diagram k [])) (get_or-append words (word ∷ []) [] k before) ∙ was.1)
-      | inr last ↦
-          let is_last : k ≡ length words = omega (arith, lt, last, length-append words (word ∷ [])) in
-          let there : get_or (words ++ word ∷ []) k [] ≡ word =
-          ap (λ n. get_or (words ++ word ∷ []) n []) is_last ∙ get_or-append_seam words word [] [] in (
-            omega (arith, is_last, fine.within),
-            ap (repeats (get_or diagram k [])) there
-                ∙ ap (λ n. repeats (get_or diagram n []) word) is_last ∙ fine.same,
-          )
-    ]
+    each_more (λ k w. (k < length diagram) × (repeats (get_or diagram k []) w ≡ true)) words word
+    (labelled_repeat diagram words labelled) (fine.within, fine.same) k lt
 
 -- the labels of a constraint diagram without a fault have different letters
 labelled_apart : (diagram words : List (List ℕ)) → IsLabelled diagram words → are_apart (labels_of diagram words) ≡ true

@@ -253,37 +253,34 @@ width_stays words word some fine =
 line_shape-row : (word : List ℕ) → is_row word ≡ true → shape_of bar word ≡ line_shape word
 line_shape-row word row = rw row refl
 
+-- what holds of each of some words, and of one more behind them, holds of each of them together
+pub each_more : (P : ℕ → List ℕ → Type 0) (words : List (List ℕ)) (word : List ℕ)
+    → ((k : ℕ) → k < length words → P k (get_or words k [])) → P (length words) word
+    → (k : ℕ) → k < length (words ++ word ∷ []) → P k (get_or (words ++ word ∷ []) k [])
+each_more P words word all last k lt = elim (cases_lt k (length words)) [
+  | inl before ↦ subst (P k) (sym (get_or-append words (word ∷ []) [] k before)) (all k before)
+  | inr behind ↦
+      let is_last : k ≡ length words = omega (arith, length-append words (word ∷ [])) in
+      subst (λ n. P n (get_or (words ++ word ∷ []) n [])) (sym is_last)
+      (subst (P (length words)) (sym (get_or-append_seam words word [] [])) last)
+]
+
 -- each row of the diagram has its width
 pub drawn_even : (words : List (List ℕ)) → IsDrawn words → (k : ℕ) → k < length words
     → is_row (get_or words k []) ≡ true → (shape_of bar (get_or words k [])).width ≡ width_of (wanted words)
-drawn_even _ no_line k lt row = absurd (omega arith)
-drawn_even _ (one_line_more words word drawn none) k lt row = elim (cases_lt k (length words)) [
-  | inl before ↦
-      let there = get_or-append words (word ∷ []) [] k before in
-      let was = drawn_even words drawn k before (subst (λ w. is_row w ≡ true) there row) in
-      ap (λ w. (shape_of bar w).width) there ∙ was
-      ∙ sym (width_stays words word (omega arith) (fine_line words word none))
-  | inr last ↦
-      let is_last : k ≡ length words = omega (arith, length-append words (word ∷ [])) in
-      let there : get_or (words ++ word ∷ []) k [] ≡ word =
-      ap (λ n. get_or (words ++ word ∷ []) n []) is_last ∙ get_or-append_seam words word [] [] in
-      ap (λ w. (shape_of bar w).width) there
-      ∙ ap (λ (s : Shape). s.width) (line_shape-row word (subst (λ w. is_row w ≡ true) there row))
-      ∙ width_now (is_kept words word) (line_shape word) (wanted words) (kept_there words word)
-      (fine_line words word none).even
-      ∙ ap width_of (sym (wanted-push words word))
-]
+drawn_even _ no_line k lt = absurd (omega arith)
+drawn_even _ (one_line_more words word drawn none) k lt =
+    let fine = fine_line words word none in
+    each_more (λ k w. is_row w ≡ true → (shape_of bar w).width ≡ width_of (wanted (words ++ word ∷ []))) words word
+    (λ k before row. drawn_even words drawn k before row ∙ sym (width_stays words word (omega arith) fine))
+    (λ row. ap (λ (s : Shape). s.width) (line_shape-row word row)
+    ∙ width_now (is_kept words word) (line_shape word) (wanted words) (kept_there words word) fine.even
+    ∙ ap width_of (sym (wanted-push words word))) k lt
 
 -- each line of the diagram is an edge line or a row
 pub drawn_line_kinds : (words : List (List ℕ)) → IsDrawn words → (k : ℕ) → k < length words
     → (is_edge_line (get_or words k []) || is_row (get_or words k [])) ≡ true
 drawn_line_kinds _ no_line k lt = absurd (omega arith)
-drawn_line_kinds _ (one_line_more words word drawn none) k lt = elim (cases_lt k (length words)) [
-  | inl before ↦ ap (λ w. is_edge_line w || is_row w) (get_or-append words (word ∷ []) [] k before)
-      ∙ drawn_line_kinds words drawn k before
-  | inr last ↦
-      let is_last : k ≡ length words = omega (arith, length-append words (word ∷ [])) in
-      ap (λ n. is_edge_line (get_or (words ++ word ∷ []) n []) || is_row (get_or (words ++ word ∷ []) n [])) is_last
-      ∙ ap (λ w. is_edge_line w || is_row w) (get_or-append_seam words word [] [])
-      ∙ (fine_line words word none).line
-]
+drawn_line_kinds _ (one_line_more words word drawn none) k lt =
+    each_more (λ k w. (is_edge_line w || is_row w) ≡ true) words word (drawn_line_kinds words drawn)
+    (fine_line words word none).line k lt

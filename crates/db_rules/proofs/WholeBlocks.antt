@@ -69,29 +69,28 @@ record Leads (helpers : List (List ℕ)) (s : SoFar) (lines : List KeptLine) (t 
   there : fold after_line s lines ≡ t
 
 -- no lines at all leave what there is as it is
-leads-none : (helpers : List (List ℕ)) (s : SoFar) → Leads helpers s [] s
+leads-none : {helpers : List (List ℕ)} {s : SoFar} → Leads helpers s [] s
 unfolding AreClean
-leads-none helpers s = record { clean = tt; there = refl }
+leads-none = record { clean = tt; there = refl }
 
 -- a line without a fault, and lines that lead on behind it, lead on together
-leads-more : (helpers : List (List ℕ)) (s t u : SoFar) (line : KeptLine) (lines : List KeptLine)
+leads-more : {helpers : List (List ℕ)} {s t u : SoFar} {line : KeptLine} {lines : List KeptLine}
     → (found helpers s line ≡ None) × (after_line s line ≡ t) → Leads helpers t lines u
     → Leads helpers s (line ∷ lines) u
 unfolding AreClean
-leads-more helpers s t u line lines one more = record {
+leads-more {helpers} {lines = lines} one more = record {
   clean = (one.0, subst (λ v. AreClean helpers v lines) (sym one.1) more.clean);
   there = ap (λ v. fold after_line v lines) one.1 ∙ more.there;
 }
 
 -- lines that lead on, and more behind them
-leads-append : (helpers : List (List ℕ)) (s t u : SoFar) (lines more : List KeptLine)
+leads-append : {helpers : List (List ℕ)} (lines : List KeptLine) {more : List KeptLine} {s t u : SoFar}
     → Leads helpers s lines t → Leads helpers t more u → Leads helpers s (lines ++ more) u
 unfolding AreClean
-leads-append helpers s t u [] more first second = subst (λ v. Leads helpers v more u) (sym first.there) second
-leads-append helpers s t u (line ∷ lines) more first second =
+leads-append {helpers} [] {more} {u = u} first second = subst (λ v. Leads helpers v more u) (sym first.there) second
+leads-append {helpers} (line ∷ lines) {s = s} {t = t} first second =
     let rest : Leads helpers (after_line s line) lines t = record { clean = first.clean.1; there = first.there } in
-    leads-more helpers s (after_line s line) u line (lines ++ more) (first.clean.0, refl)
-    (leads-append helpers (after_line s line) t u lines more rest second)
+    leads-more (first.clean.0, refl) (leads-append lines rest second)
 
 -- a line that the table takes, that closes nothing at fault and has none of its own, stands where its kind belongs
 taken : (helpers : List (List ℕ)) (s : SoFar) (line : KeptLine) (kind : LineKind) (stage : Stage) → IsLineOf kind line
@@ -145,11 +144,10 @@ leads_over : (helpers : List (List ℕ)) (at : List KeptLine → SoFar) (Fine : 
     → (above lines : List KeptLine) → AreFine Fine above lines → Leads helpers (at above) lines (at (above ++ lines))
 unfolding AreFine
 leads_over helpers at Fine step above [] fine =
-    subst (λ l. Leads helpers (at above) [] (at l)) (sym (append-nil above)) (leads-none helpers (at above))
+    subst (λ l. Leads helpers (at above) [] (at l)) (sym (append-nil above)) leads-none
 leads_over helpers at Fine step above (line ∷ lines) fine =
     let more = leads_over helpers at Fine step (above ++ line ∷ []) lines fine.1 in
-    leads-more helpers (at above) (at (above ++ line ∷ [])) (at (above ++ line ∷ lines)) line lines
-    (step above line fine.0)
+    leads-more (step above line fine.0)
     (subst (λ l. Leads helpers (at (above ++ line ∷ [])) lines (at l)) (append_assoc above (line ∷ []) lines) more)
 
 -- the lines in front stay there
@@ -182,12 +180,10 @@ module _ (helpers : List (List ℕ)) (front : List KeptLine) (done : List Block)
       → Leads helpers (parts Diagram front done (Some (record b { diagram = [] }))) lines
       (parts Diagram front done (Some (record b { diagram = lines })))
   over_diagram b lines all drawn =
-      leads_over helpers (λ d. parts Diagram front done (Some (record b { diagram = d })))
+      let at = λ (d : List KeptLine). parts Diagram front done (Some (record b { diagram = d })) in
+      leads_over helpers at
       (λ above line. IsLineOf Other line × (diagram_fault (words_in above) (word_of line.bytes) ≡ None))
-      (λ above line fine. taken helpers (parts Diagram front done (Some (record b {
-        diagram =
-            above;
-      }))) line Other Diagram fine.0 refl refl fine.1)
+      (λ above line fine. taken helpers (at above) line Other Diagram fine.0 refl refl fine.1)
       [] lines (fine_below diagram_fault [] lines all (drawn_below (words_in lines) drawn))
 
   -- the one colon line
@@ -196,11 +192,9 @@ module _ (helpers : List (List ℕ)) (front : List KeptLine) (done : List Block)
       (parts Labels front done (Some (record b { colon = lines })))
   over_colon b lines one =
       let start = parts Diagram front done (Some (record b { colon = [] })) in
-      let end = parts Labels front done (Some (record b { colon = one.line ∷ [] })) in
+      let end = λ (l : List KeptLine). parts Labels front done (Some (record b { colon = l })) in
       let step = taken helpers start one.line Colon Labels one.colon refl refl one.faultless in
-      let leads : Leads helpers start (one.line ∷ []) end =
-      leads-more helpers start end end one.line [] step (leads-none helpers end) in
-      subst (λ l. Leads helpers start l (parts Labels front done (Some (record b { colon = l })))) (sym one.alone) leads
+      subst (λ l. Leads helpers start l (end l)) (sym one.alone) (leads-more step leads-none)
 
   -- the lines of a constraint diagram
   over_constraint : (b : Block) (lines : List KeptLine) → All (IsLineOf Other) lines
@@ -208,13 +202,11 @@ module _ (helpers : List (List ℕ)) (front : List KeptLine) (done : List Block)
       → Leads helpers (parts Labels front done (Some (record b { constraint = [] }))) lines
       (parts Labels front done (Some (record b { constraint = lines })))
   over_constraint b lines all labelled =
-      leads_over helpers (λ c. parts Labels front done (Some (record b { constraint = c })))
+      let at = λ (l : List KeptLine). parts Labels front done (Some (record b { constraint = l })) in
+      leads_over helpers at
       (λ above line. IsLineOf Other line
       × (constraint_fault (words_in b.diagram) (words_in above) (word_of line.bytes) ≡ None))
-      (λ above line fine. taken helpers (parts Labels front done (Some (record b {
-        constraint =
-            above;
-      }))) line Other Labels fine.0 refl refl fine.1)
+      (λ above line fine. taken helpers (at above) line Other Labels fine.0 refl refl fine.1)
       [] lines (fine_below (constraint_fault (words_in b.diagram)) [] lines all
       (labelled_below (words_in b.diagram) (words_in lines) labelled))
 
@@ -223,14 +215,9 @@ module _ (helpers : List (List ℕ)) (front : List KeptLine) (done : List Block)
       → Leads helpers (parts Expression front done (Some (record b { expression = above }))) lines
       (parts Expression front done (Some (record b { expression = above ++ lines })))
   over_more_expression b above lines all =
-      leads_over helpers (λ e. parts Expression front done (Some (record b {
-        expression =
-            e;
-      }))) (λ above line. IsLineOf Semicolon line)
-      (λ above line fine. taken helpers (parts Expression front done (Some (record b {
-        expression =
-            above;
-      }))) line Semicolon Expression fine refl refl refl)
+      let at = λ (e : List KeptLine). parts Expression front done (Some (record b { expression = e })) in
+      leads_over helpers at (λ above line. IsLineOf Semicolon line)
+      (λ above line fine. taken helpers (at above) line Semicolon Expression fine refl refl refl)
       above lines (fine_anywhere (IsLineOf Semicolon) above lines all)
 
   -- more lines of actions
@@ -238,14 +225,9 @@ module _ (helpers : List (List ℕ)) (front : List KeptLine) (done : List Block)
       → Leads helpers (parts Actions front done (Some (record b { actions = above }))) lines
       (parts Actions front done (Some (record b { actions = above ++ lines })))
   over_more_actions b above lines all =
-      leads_over helpers (λ a. parts Actions front done (Some (record b {
-        actions =
-            a;
-      }))) (λ above line. IsLineOf Action line)
-      (λ above line fine. taken helpers (parts Actions front done (Some (record b {
-        actions =
-            above;
-      }))) line Action Actions fine refl refl refl)
+      let at = λ (a : List KeptLine). parts Actions front done (Some (record b { actions = a })) in
+      leads_over helpers at (λ above line. IsLineOf Action line)
+      (λ above line fine. taken helpers (at above) line Action Actions fine refl refl refl)
       above lines (fine_anywhere (IsLineOf Action) above lines all)
 
   -- the lines of an expression, the first of which closes the constraint diagram
@@ -253,15 +235,12 @@ module _ (helpers : List (List ℕ)) (front : List KeptLine) (done : List Block)
       → labels_closing_fault (words_in b.diagram) (words_in b.constraint) ≡ None
       → Leads helpers (parts Labels front done (Some (record b { expression = [] }))) lines
       (parts (moved Expression Labels lines) front done (Some (record b { expression = lines })))
-  over_expression b [] all closed = leads-none helpers (parts Labels front done (Some (record b { expression = [] })))
+  over_expression b [] all closed = leads-none
   over_expression b (line ∷ lines) all closed =
       let start = parts Labels front done (Some (record b { expression = [] })) in
-      let next = parts Expression front done (Some (record b { expression = line ∷ [] })) in
-      let end = parts Expression front done (Some (record b { expression = line ∷ lines })) in
-      let step =
-      taken helpers start line Semicolon Expression (All-head (IsLineOf Semicolon) line lines all) refl
-      (ap (at_line line.number) closed) refl in
-      leads-more helpers start next end line lines step
+      leads-more
+      (taken helpers start line Semicolon Expression (All-head (IsLineOf Semicolon) line lines all) refl
+      (ap (at_line line.number) closed) refl)
       (over_more_expression b (line ∷ []) lines (All-tail (IsLineOf Semicolon) line lines all))
 
   -- the lines of actions, the first of which closes what stands before them
@@ -271,17 +250,30 @@ module _ (helpers : List (List ℕ)) (front : List KeptLine) (done : List Block)
       → closing_fault number (Some Action) (parts stage front done (Some (record b { actions = [] }))) ≡ None)
       → Leads helpers (parts stage front done (Some (record b { actions = [] }))) lines
       (parts (moved Actions stage lines) front done (Some (record b { actions = lines })))
-  over_actions stage b [] all next settled =
-      leads-none helpers (parts stage front done (Some (record b { actions = [] })))
+  over_actions stage b [] all next settled = leads-none
   over_actions stage b (line ∷ lines) all next settled =
       let start = parts stage front done (Some (record b { actions = [] })) in
-      let then_one = parts Actions front done (Some (record b { actions = line ∷ [] })) in
-      let end = parts Actions front done (Some (record b { actions = line ∷ lines })) in
-      let step =
-      taken helpers start line Action Actions (All-head (IsLineOf Action) line lines all)
-      (next (slice_index line.bytes 0)) (settled line.number) refl in
-      leads-more helpers start then_one end line lines step
+      leads-more
+      (taken helpers start line Action Actions (All-head (IsLineOf Action) line lines all)
+      (next (slice_index line.bytes 0)) (settled line.number) refl)
       (over_more_actions b (line ∷ []) lines (All-tail (IsLineOf Action) line lines all))
+
+  -- the lines of a whole block up to its actions
+  over_to_expression : (b : Block) → IsBlock helpers b
+      → Leads helpers (parts Diagram front done (Some (begun_with b.head)))
+      (b.diagram ++ b.colon ++ b.constraint ++ b.expression)
+      (parts (moved Expression Labels b.expression) front done (Some (record b { actions = [] })))
+  over_to_expression b block =
+      let first : Block = begun_with b.head in
+      let second : Block = record first { diagram = b.diagram } in
+      let third : Block = record second { colon = b.colon } in
+      let fourth : Block = record third { constraint = b.constraint } in
+      leads-append (b.diagram ++ b.colon ++ b.constraint)
+      (leads-append (b.diagram ++ b.colon)
+      (leads-append b.diagram (over_diagram first b.diagram block.diagram block.drawn)
+      (over_colon second b.colon block.colon))
+      (over_constraint third b.constraint block.constraint block.labelled))
+      (over_expression fourth b.expression block.expression block.closed)
 
 -- where there is no fault none is found, whatever the condition
 on_condition : (c : Bool) (fault : Option Fault) → fault ≡ None → cond c fault None ≡ None
@@ -337,40 +329,16 @@ over_block : (helpers : List (List ℕ)) (s : SoFar) (b : Block) → IsReady s �
     → length (blocks_of s) < most_entries
     → Leads helpers s (lines_in b) (parts (behind b) s.front (blocks_of s) (Some b))
 over_block helpers s b ready block few =
-    let front = s.front in
     let done = blocks_of s in
-    let first : Block = begun_with b.head in
-    let second : Block = record first { diagram = b.diagram } in
-    let third : Block = record second { colon = b.colon } in
-    let fourth : Block = record third { constraint = b.constraint } in
-    let fifth : Block = record fourth { expression = b.expression } in
-    let head =
-    taken helpers s b.head Pattern Diagram block.head (ready.next (slice_index b.head.bytes 0))
+    let stage = moved Expression Labels b.expression in
+    let head = taken helpers s b.head Pattern Diagram block.head (ready.next (slice_index b.head.bytes 0))
     (ready.settled b.head.number (Some Pattern)) (named_line (length done) b.head.bytes few block.named) in
-    let diagram = over_diagram helpers front done first b.diagram block.diagram block.drawn in
-    let colon = over_colon helpers front done second b.colon block.colon in
-    let constraint = over_constraint helpers front done third b.constraint block.constraint block.labelled in
-    let expression = over_expression helpers front done fourth b.expression block.expression block.closed in
-    let settled = settled_before_actions helpers front done fifth b.expression block.closed block.judged in
-    let actions =
-    over_actions helpers front done (moved Expression Labels b.expression) fifth b.actions block.actions
-    (actions_next b.expression) (λ number. settled number (Some Action)) in
-    let to_colon =
-    leads-append helpers (parts Diagram front done (Some first)) (parts Diagram front done (Some second))
-    (parts Labels front done (Some third)) b.diagram b.colon diagram colon in
-    let to_constraint =
-    leads-append helpers (parts Diagram front done (Some first)) (parts Labels front done (Some third))
-    (parts Labels front done (Some fourth)) (b.diagram ++ b.colon) b.constraint to_colon constraint in
-    let to_expression =
-    leads-append helpers (parts Diagram front done (Some first)) (parts Labels front done (Some fourth))
-    (parts (moved Expression Labels b.expression) front done (Some fifth))
-    (b.diagram ++ b.colon ++ b.constraint) b.expression to_constraint expression in
-    let to_actions =
-    leads-append helpers (parts Diagram front done (Some first))
-    (parts (moved Expression Labels b.expression) front done (Some fifth)) (parts (behind b) front done (Some b))
-    (b.diagram ++ b.colon ++ b.constraint ++ b.expression) b.actions to_expression actions in
-    leads-more helpers s (parts Diagram front done (Some first)) (parts (behind b) front done (Some b)) b.head
-    (b.diagram ++ b.colon ++ b.constraint ++ b.expression ++ b.actions) head to_actions
+    let settled = settled_before_actions helpers s.front done (record b { actions = [] }) b.expression block.closed
+    block.judged in
+    let actions = over_actions helpers s.front done stage b b.actions block.actions (actions_next b.expression)
+    (λ number. settled number (Some Action)) in
+    leads-more head (leads-append (b.diagram ++ b.colon ++ b.constraint ++ b.expression)
+    (over_to_expression helpers s.front done b block) actions)
 
 -- where whole blocks lead to
 record Arrives (helpers : List (List ℕ)) (s : SoFar) (blocks : List Block) : Type 0 where
@@ -384,7 +352,7 @@ record Arrives (helpers : List (List ℕ)) (s : SoFar) (blocks : List Block) : T
 over_blocks : (helpers : List (List ℕ)) (s : SoFar) (blocks : List Block) → IsReady s → All (IsBlock helpers) blocks
     → length (blocks_of s) + length blocks ≤ most_entries → Arrives helpers s blocks
 over_blocks helpers s [] ready all few =
-    record { last = s; leads = leads-none helpers s; ready = ready; front = refl; all = sym (append-nil (blocks_of s)) }
+    record { last = s; leads = leads-none; ready = ready; front = refl; all = sym (append-nil (blocks_of s)) }
 over_blocks helpers s (b ∷ blocks) ready all few =
     let block = All-head (IsBlock helpers) b blocks all in
     let next = parts (behind b) s.front (blocks_of s) (Some b) in
@@ -394,7 +362,7 @@ over_blocks helpers s (b ∷ blocks) ready all few =
     (All-tail (IsBlock helpers) b blocks all) (omega (arith, few, length-append (blocks_of s) (b ∷ []))) in
     record {
       last = more.last;
-      leads = leads-append helpers s next more.last (lines_in b) (flat_map lines_in blocks) one more.leads;
+      leads = leads-append (lines_in b) one more.leads;
       ready = more.ready;
       front = more.front;
       all = more.all ∙ append_assoc (blocks_of s) (b ∷ []) blocks;
@@ -434,7 +402,7 @@ database_is_read helpers text d =
     over_blocks helpers (parts Start d.front [] None) d.blocks (ready_at_front d.front) d.whole
     (omega (arith, d.few)) in
     let whole =
-    leads-append helpers at_start (parts Start d.front [] None) blocks.last d.front (flat_map lines_in d.blocks)
+    leads-append d.front
     (over_front helpers d.front d.in_front) blocks.leads in
     let leads : Leads helpers at_start (kept_lines text) blocks.last =
     subst (λ l. Leads helpers at_start l blocks.last) (sym d.cut) whole in

@@ -2,9 +2,8 @@
 use Rattle.std.proofs.Common.{ℕ, Bool, refl, sym, subst, inl, inr}
 use Rattle.std.proofs.lemmas.Bool.{eq-eqb}
 use Rattle.go_rules.specs.declared.Cell.{Cell}
-use Rattle.go_rules.specs.declared.Colour.{Colour}
 use Rattle.go_base.specs.Views.{alone}
-use Rattle.go_base.specs.Facts.{Fact, CellIs, BanIs, IsAbout, AddsIn, AddsOnly, AddsNoBan, AddsBanOf}
+use Rattle.go_base.specs.Facts.{Fact, CellIs, BanIs, IsAbout, AddsIn, AddsOnly, AddsNoBan}
 
 -- a cell that is told is about its point alone
 pub cell_near : {before now : Fact → Bool} {p : ℕ} {cell : Cell} → AddsOnly before now (CellIs p cell)

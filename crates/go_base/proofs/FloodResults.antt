@@ -1,8 +1,8 @@
 -- A flood finds the string.
-use Rattle.std.proofs.Common.{◌≡◌, ℕ, ◌+◌, ◌-◌, ◌*◌, ◌<◌, ◌≤◌, ◌&&◌, true, false, not, cond, eqb, ltb, Some, List, refl}
+use Rattle.std.proofs.Common.{◌≡◌, ℕ, ◌+◌, ◌-◌, ◌*◌, ◌<◌, ◌≤◌, ◌≢◌, ◌&&◌, true, false, cond, eqb, ltb, Some, List, refl}
 use Rattle.std.proofs.Common.{sym, ap, subst, arith, inl, inr, ◌⊎◌, ◌∙◌}
 use Rattle.std.proofs.lemmas.Bool.{cases_Bool, cases_eq, eq-eqb, ne_eqb, eqb-true, or_cases, or_left, or_right}
-use Rattle.std.proofs.lemmas.Bool.{both_ways, and_parts, and_from, lt-ltb}
+use Rattle.std.proofs.lemmas.Bool.{both_ways, and_parts, and_from, lt-ltb, false_from_ne_true}
 use Rattle.std.specs.Ordering.{nat_cmp}
 use Rattle.std.specs.FinSet as sets
 use Rattle.go_rules.specs.declared.Cell.{Cell}
@@ -60,6 +60,38 @@ Finds-more s old mid new wait held waits a b = record {
   count = (a.count.0 + b.count.0, omega (arith, a.count, b.count), omega (arith, a.count, b.count));
 }
 
+-- one that was added is there
+is_there : (old : sets.FinSet nat_cmp) (r : ℕ) {new : sets.FinSet nat_cmp} → new ≡ sets.insert old r
+    → sets.contains new r ≡ true
+is_there old r is = ap (λ t. sets.contains t r) is ∙ contains-insert_nat old r r ∙ or_left _ _ (eq-eqb r r refl)
+
+-- and so is all that was there
+still_there : (old : sets.FinSet nat_cmp) (r : ℕ) {new : sets.FinSet nat_cmp} → new ≡ sets.insert old r
+    → (q : ℕ) → sets.contains old q ≡ true → sets.contains new q ≡ true
+still_there old r is q h = ap (λ t. sets.contains t q) is ∙ contains-insert_nat old r q ∙ or_right _ _ h
+
+-- and nothing else is
+there_only : (old : sets.FinSet nat_cmp) (r : ℕ) {new : sets.FinSet nat_cmp} → new ≡ sets.insert old r
+    → (q : ℕ) → sets.contains new q ≡ true → (q ≡ r) ⊎ (sets.contains old q ≡ true)
+there_only old r is q h =
+    elim (or_cases _ _ (sym (ap (λ t. sets.contains t q) is ∙ contains-insert_nat old r q) ∙ h))
+    [ inl e ↦ inl (eqb-true q r e) | inr before ↦ inr before ]
+
+-- a stone came that was not found before, and waits
+Finds-new : (s r : ℕ) (old new wait waits : sets.FinSet nat_cmp) → r < s * s → sets.contains old r ≡ false
+    → sets.contains wait r ≡ false → new ≡ sets.insert old r → waits ≡ sets.insert wait r → Finds s old new wait waits
+Finds-new s r old new wait waits on unfound unseen stones waiting = record {
+  kept = still_there old r stones;
+  on_board = λ q h. elim (there_only old r stones q h)
+      [ inl e ↦ inr (subst (λ x. x < s * s) (sym e) on) | inr before ↦ inl before ];
+  still = still_there wait r waiting;
+  fresh = λ q h. elim (there_only old r stones q h)
+      [ inl e ↦ inr (ap (sets.contains waits) e ∙ is_there wait r waiting) | inr before ↦ inl before ];
+  among = λ q h. elim (there_only wait r waiting q h)
+      [ inl e ↦ inr (ap (sets.contains new) e ∙ is_there old r stones) | inr before ↦ inl before ];
+  count = (1, ap sets.len stones ∙ len-insert_new old r unfound, ap sets.len waiting ∙ len-insert_new wait r unseen);
+}
+
 -- a stone came, unless it was found before
 pub Finds-one : (s r : ℕ) (old new wait waits : sets.FinSet nat_cmp) → r < s * s
     → ((q : ℕ) → sets.contains wait q ≡ true → sets.contains old q ≡ true) → new ≡ sets.insert old r
@@ -71,30 +103,8 @@ Finds-one s r old new wait waits on within stones waiting = elim (cases_Bool (se
       subst (λ x. Finds s old x wait waits) (sym again)
       (subst (λ x. Finds s old old wait x) (sym same) (Finds-none s old wait))
   | inr f ↦
-      let came : waits ≡ sets.insert wait r = rw f at waiting in
-      let unseen : sets.contains wait r ≡ false = elim (cases_Bool (sets.contains wait r)) [
-        | inl w ↦ absurd (both_ways (sets.contains old r) f (within r w))
-        | inr n ↦ n
-      ] in
-      let has = λ (q : ℕ). ap (λ t. sets.contains t q) stones ∙ contains-insert_nat old r q in
-      let held = λ (q : ℕ). ap (λ t. sets.contains t q) came ∙ contains-insert_nat wait r q in
-      record {
-        kept = λ q h. has q ∙ or_right _ _ h;
-        on_board = λ q h. elim (or_cases _ _ (sym (has q) ∙ h)) [
-          | inl e ↦ inr (subst (λ x. x < s * s) (sym (eqb-true q r e)) on)
-          | inr before ↦ inl before
-        ];
-        still = λ q h. held q ∙ or_right _ _ h;
-        fresh = λ q h. elim (or_cases _ _ (sym (has q) ∙ h)) [
-          | inl e ↦ inr (held q ∙ or_left _ _ e)
-          | inr before ↦ inl before
-        ];
-        among = λ q h. elim (or_cases _ _ (sym (held q) ∙ h)) [
-          | inl e ↦ inr (has q ∙ or_left _ _ e)
-          | inr before ↦ inl before
-        ];
-        count = (1, ap sets.len stones ∙ len-insert_new old r f, ap sets.len came ∙ len-insert_new wait r unseen);
-      }
+      let unseen = false_from_ne_true (sets.contains wait r) (λ w. both_ways (sets.contains old r) f (within r w)) in
+      Finds-new s r old new wait waits on f unseen stones (rw f at waiting)
 ]
 
 -- what waits was found, if what waited was
@@ -130,18 +140,13 @@ Begins-first p none stones wait waits e f is waiting = record {
 -- the first stone is the only one
 pub first_only : (p r : ℕ) (found : sets.FinSet nat_cmp) → found ≡ sets.insert sets.empty p
     → sets.contains found r ≡ true → r ≡ p
-first_only p r found is h =
-    elim (or_cases (eqb r p) (sets.contains {R = nat_cmp} sets.empty r) (sym (contains-insert_nat sets.empty p r)
-    ∙ ap (λ t. sets.contains t r) (sym is) ∙ h)) [
-      | inl e ↦ eqb-true r p e
-      | inr none ↦ absurd (both_ways _ (sets.contains-empty nat_cmp r) none)
-    ]
+first_only p r found is h = elim (there_only sets.empty p is r h)
+    [ inl e ↦ e | inr none ↦ absurd (both_ways _ (sets.contains-empty nat_cmp r) none) ]
 
 -- the first stone is found
 pub first_found : (p : ℕ) (found : sets.FinSet nat_cmp) → found ≡ sets.insert sets.empty p
     → sets.contains found p ≡ true
-first_found p found is =
-    ap (λ t. sets.contains t p) is ∙ contains-insert_nat sets.empty p p ∙ or_left _ _ (eq-eqb p p refl)
+first_found p found is = is_there sets.empty p is
 
 -- at first each stone waits
 pub none_visited : (p q : ℕ) (stones wait : sets.FinSet nat_cmp) → Begins p stones wait
@@ -182,6 +187,12 @@ Steps-smaller s q most old new wait held waits st member on few =
     let wait_now : sets.len waits ≡ sets.len held + st.finds.count.0 = st.finds.count.2 in
     omega (arith, fits, one, came, wait_now)
 
+-- what waited and was not visited waits still
+waits_still : (s q x : ℕ) (old new wait held waits : sets.FinSet nat_cmp) → Steps s q old new wait held waits
+    → sets.contains wait x ≡ true → x ≢ q → sets.contains waits x ≡ true
+waits_still s q x old new wait held waits h w ne =
+    h.finds.still x (ap (λ t. sets.contains t x) h.taken ∙ contains-remove_nat wait q x ∙ rw (ne_eqb x q ne) w)
+
 -- a stone that waits no longer is the one that was visited, or was found before and waited no longer then
 pub visited_before : (s q x : ℕ) (old new wait held waits : sets.FinSet nat_cmp) → Steps s q old new wait held waits
     → sets.contains new x ≡ true → sets.contains waits x ≡ false
@@ -193,14 +204,8 @@ visited_before s q x old new wait held waits h has gone = elim (cases_eq x q) [
       | inl before ↦ before
       | inr w ↦ absurd (both_ways (sets.contains waits x) gone w)
     ],
-    elim (cases_Bool (sets.contains wait x)) [
-      | inl w ↦
-          let other : (not (eqb x q) && sets.contains wait x) ≡ true = rw (ne_eqb x q ne) w in
-          let left : sets.contains held x ≡ true =
-          ap (λ t. sets.contains t x) h.taken ∙ contains-remove_nat wait q x ∙ other in
-          absurd (both_ways (sets.contains waits x) gone (h.finds.still x left))
-      | inr n ↦ n
-    ],
+    false_from_ne_true (sets.contains wait x)
+        (λ w. both_ways (sets.contains waits x) gone (waits_still s q x old new wait held waits h w ne)),
   )
 ]
 

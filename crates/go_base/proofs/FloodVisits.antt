@@ -1,7 +1,7 @@
 -- What a flood gathers as it visits the neighbours of its stones.
 use Rattle.std.proofs.Common.{◌≡◌, ◌≢◌, ℕ, ◌+◌, ◌*◌, ◌<◌, ◌&&◌, Bool, true, false, cond, ltb, Some, List, refl, sym, ap}
 use Rattle.std.proofs.Common.{subst, arith, inl, inr, ◌∙◌}
-use Rattle.std.proofs.lemmas.Bool.{cases_Bool, cases_eq, eq-eqb, eqb-true, or_cases, or_left, or_right, both_ways}
+use Rattle.std.proofs.lemmas.Bool.{cases_Bool, eq-eqb, eqb-true, or_cases, or_left, or_right, both_ways}
 use Rattle.std.proofs.lemmas.Bool.{and_parts, and_from, lt-ltb, ltb-true}
 use Rattle.std.specs.Ordering.{nat_cmp}
 use Rattle.std.specs.FinSet as sets
@@ -24,6 +24,7 @@ use Rattle.go_base.specs.declared.flood.Found.{Found}
 use Rattle.go_base.proofs.SidesOfPoints.{neighbour_at-all, neighbour_at-near}
 use Rattle.go_base.proofs.FloodResults.{Flooded, Flooded-start, Flooded-next, Flooded-all, Begins, Steps, none_visited}
 use Rattle.go_base.proofs.FloodResults.{visited_before}
+use Rattle.go_base.proofs.EachSide.{same_side, each_next, each_with}
 
 module _ (s : ℕ) (cells : List Cell) (test : Cell → Bool) (q : ℕ) where
   -- no side was visited
@@ -36,10 +37,8 @@ module _ (s : ℕ) (cells : List Cell) (test : Cell → Bool) (q : ℕ) where
       → Gathers s cells test q (n + 1) old new
   Gathers-skip n old new h none = record {
     kept = h.kept;
-    all = λ side l r e t. elim (cases_eq side n) [
-      | inl f ↦ absurd (none r (ap (neighbour_at s q) (sym f) ∙ e) t)
-      | inr ne ↦ h.all side (omega arith) r e t
-    ];
+    all = each_next s q n (λ r. test (cell_at cells r) ≡ true → sets.contains new r ≡ true) h.all
+        (λ r at t. absurd (none r at t));
     only = h.only;
   }
 
@@ -49,10 +48,9 @@ module _ (s : ℕ) (cells : List Cell) (test : Cell → Bool) (q : ℕ) where
       → Gathers s cells test q (n + 1) old (sets.insert new r)
   Gathers-add n r old new h on e t = record {
     kept = λ x k. contains-insert_nat new r x ∙ or_right _ _ (h.kept x k);
-    all = λ side l x e' t'. contains-insert_nat new r x ∙ elim (cases_eq side n) [
-      | inl f ↦ or_left _ _ (eq-eqb x r (let k : Some x ≡ Some r = sym e' ∙ ap (neighbour_at s q) f ∙ e in cc))
-      | inr ne ↦ or_right _ _ (h.all side (omega arith) x e' t')
-    ];
+    all = each_with s q n (λ x. test (cell_at cells x) ≡ true → sets.contains (sets.insert new r) x ≡ true)
+        (λ k l x at t'. contains-insert_nat new r x ∙ or_right _ _ (h.all k l x at t')) r e
+        (λ t'. contains-insert_nat new r r ∙ or_left _ _ (eq-eqb r r refl));
     only = λ x k. elim (or_cases _ _ (sym (contains-insert_nat new r x) ∙ k)) [
       | inl f ↦
           let near = neighbour_at-near s q n r on e in
@@ -70,8 +68,8 @@ module _ (s : ℕ) (cells : List Cell) (test : Cell → Bool) (q : ℕ) where
       subst (Gathers s cells test q (n + 1) old) (sym is) (elim (cases_Bool (test (cell_at cells r))) [
         | inl t ↦ rw t (Gathers-add n r old mid h on e t)
         | inr f ↦ rw f (Gathers-skip n old mid h (λ x e' t'.
-            let same : r ≡ x = (let k : Some r ≡ Some x = sym e ∙ e' in cc) in
-            both_ways (test (cell_at cells x)) (ap (λ y. test (cell_at cells y)) (sym same) ∙ f) t'))
+            both_ways (test (cell_at cells x))
+            (ap (λ y. test (cell_at cells y)) (sym (same_side (sym e ∙ e'))) ∙ f) t'))
       ])
 
 module _ (s : ℕ) (cells : List Cell) (own : Cell) (q : ℕ) where

@@ -7,6 +7,7 @@ pub mod Lowest
 pub mod WordBits
 pub mod UsedWords
 pub mod SidesOfPoints
+pub mod EachSide
 pub mod FloodResults
 pub mod FloodVisits
 pub mod Liberties

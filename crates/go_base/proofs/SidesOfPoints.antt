@@ -1,7 +1,7 @@
 -- The four sides of a point have its neighbours.
-use Rattle.std.proofs.Common.{◌≡◌, ℕ, zero, suc, ◌+◌, ◌-◌, ◌*◌, ◌/◌, ◌%◌, ◌<◌, ◌≤◌, true, eqb, ltb, Some, refl, sym, ap}
-use Rattle.std.proofs.Common.{arith, inl, inr, ◌⊎◌, ◌∙◌, lit<}
-use Rattle.std.proofs.lemmas.Bool.{cases_Bool, cases_eq, lt-ltb, le-ltb, eq-eqb, eqb-true, ne_eqb, and_parts, and_from}
+use Rattle.std.proofs.Common.{◌≡◌, ℕ, zero, suc, ◌+◌, ◌-◌, ◌*◌, ◌/◌, ◌%◌, ◌<◌, ◌≤◌, Bool, true, false, cond, eqb, ltb}
+use Rattle.std.proofs.Common.{Some, None, refl, sym, arith, inl, inr, ◌⊎◌, ◌∙◌, lit<}
+use Rattle.std.proofs.lemmas.Bool.{cases_eq, lt-ltb, le-ltb, eq-eqb, eqb-true, ne_eqb, and_parts, and_from}
 use Rattle.std.proofs.lemmas.Bool.{or_cases, or_left, or_right, ltb-true, ltb-false, eqb-false}
 use Rattle.std.proofs.lemmas.Nat.{div-mul-add, mod-mul-add, div_below, mod_below, div-add-mod', mul-add-lt, mul-le}
 use Rattle.go_rules.specs.Board.{largest_size, largest_points, are_neighbours, are_one_apart}
@@ -40,158 +40,110 @@ next_cases s p q h = elim (or_cases _ _ h) [
   | inr a ↦ let x = and_parts _ _ a in inr (eqb-true _ _ x.0, are_one_apart-true _ _ x.1)
 ]
 
+-- a board that has a point has a row
+has_rows : (s p : ℕ) → p < s * s → 0 < s
+has_rows s p on = elim (cases_eq s 0) [
+  | inl e ↦ absurd (let none : p < 0 * 0 = rw e at on in omega arith)
+  | inr ne ↦ omega arith
+]
+
+-- one row down is the next row, and the same column
+row_down : (s p : ℕ) → 0 < s → ((p + s) / s ≡ p / s + 1) × ((p + s) % s ≡ p % s)
+row_down s p pos =
+    row_column s (p + s) (p / s + 1) (p % s) (mod_below p s pos) (omega (arith, div-add-mod' p s))
+
 -- q = p - s, one row above
 above : (s p : ℕ) → p < s * s → s ≤ p → (p - s < s * s) × (are_neighbours s p (p - s) ≡ true)
-above s p h l =
-    let pos : 0 < s = elim (cases_eq s 0) [
-      | inl e ↦ absurd (let z : p < 0 * 0 = rw e at h in omega arith)
-      | inr ne ↦ omega arith
-    ] in
-    let split = div-add-mod' p s in
-    let low = mod_below p s pos in
-    go (p / s) (p % s) low (sym split) pos
-  where
-    go : (r c : ℕ) → c < s → p ≡ r * s + c → 0 < s → (p - s < s * s) × (are_neighbours s p (p - s) ≡ true)
-    go zero c low e pos = absurd (omega arith)
-    go (suc r) c low e pos =
-        let mine = row_column s p (suc r) c low e in
-        let f : p - s ≡ r * s + c = omega arith in
-        let its = row_column s (p - s) r c low f in (
-          omega arith,
-          next_in_column s p (p - s) (mine.1 ∙ sym its.1)
-              (are_one_apart-from _ _ (inl (mine.0 ∙ (let g : suc r ≡ r + 1 = omega arith in
-              g) ∙ ap (λ n. n + 1) (sym its.0)))),
-        )
-
--- a point by its row and column
-record Placed (s p : ℕ) : Type 0 where
-  r : ℕ
-  c : ℕ
-  place : p ≡ r * s + c
-  r_in : r < s
-  c_in : c < s
-  row_is : p / s ≡ r
-  column_is : p % s ≡ c
-  positive : 0 < s
-
--- a point of the board has a row and a column on it
-placed : (s p : ℕ) → p < s * s → Placed s p
-placed s p h =
-    let pos : 0 < s = elim (cases_eq s 0) [
-      | inl e ↦ absurd (let z : p < 0 * 0 = rw e at h in omega arith)
-      | inr ne ↦ omega arith
-    ] in
-    record {
-      r = p / s;
-      c = p % s;
-      place = sym (div-add-mod' p s);
-      r_in = div_below p s s pos h;
-      c_in = mod_below p s pos;
-      row_is = refl;
-      column_is = refl;
-      positive = pos;
-    }
+above s p on l =
+    let back : p - s + s ≡ p = omega arith in
+    let down = rw back at (row_down s (p - s) (has_rows s p on)) in
+    (omega arith, next_in_column s p (p - s) down.1 (are_one_apart-from _ _ (inl down.0)))
 
 -- q = p + s, one row below
-below : (s p : ℕ) → p < s * s → p + s < s * s → are_neighbours s p (p + s) ≡ true
-below s p h l =
-    let m = placed s p h in
-    let f : p + s ≡ suc m.r * s + m.c = omega (arith, m.place) in
-    let its = row_column s (p + s) (suc m.r) m.c m.c_in f in
-    next_in_column s p (p + s) (m.column_is ∙ sym its.1)
-    (are_one_apart-from _ _ (inr (its.0 ∙ (let g : suc m.r ≡ m.r + 1 = omega arith in
-    g) ∙ ap (λ n. n + 1) (sym m.row_is))))
+below : (s p : ℕ) → p < s * s → are_neighbours s p (p + s) ≡ true
+below s p on = let down = row_down s p (has_rows s p on) in
+    next_in_column s p (p + s) (sym down.1) (are_one_apart-from _ _ (inr down.0))
 
 -- the point before one that is not first in its row is its neighbour
 left : (s p : ℕ) → p < s * s → (p % s ≡ 0 → ⊥) → (p - 1 < s * s) × (are_neighbours s p (p - 1) ≡ true)
-left s p h l =
-    let m = placed s p h in
-    let c_pos : 0 < m.c = omega (arith, m.column_is, l) in
-    let f : p - 1 ≡ m.r * s + (m.c - 1) = omega (arith, m.place, c_pos) in
-    let its = row_column s (p - 1) m.r (m.c - 1) (omega (arith, m.c_in)) f in (
-      omega arith,
-      next_in_row s p (p - 1) (m.row_is ∙ sym its.0)
-          (are_one_apart-from (p % s) ((p - 1) % s) (inl (omega (arith, m.column_is, its.1, c_pos)))),
-    )
+left s p on l =
+    let low = mod_below p s (has_rows s p on) in
+    let its = row_column s (p - 1) (p / s) (p % s - 1) (omega (arith, low)) (omega (arith, div-add-mod' p s, l)) in
+    let apart = are_one_apart-from (p % s) ((p - 1) % s) (inl (omega (arith, its.1, l))) in
+    (omega arith, next_in_row s p (p - 1) (sym its.0) apart)
 
 -- the point after one that is not last in its row is its neighbour
 right : (s p : ℕ) → p < s * s → (p % s + 1 ≡ s → ⊥) → (p + 1 < s * s) × (are_neighbours s p (p + 1) ≡ true)
-right s p h l =
-    let m = placed s p h in
-    let c_in : m.c + 1 < s = omega (arith, m.column_is, l, m.c_in) in
-    let f : p + 1 ≡ m.r * s + (m.c + 1) = omega (arith, m.place) in
-    let its = row_column s (p + 1) m.r (m.c + 1) c_in f in (
-      rw f (mul-add-lt m.r s (m.c + 1) s m.r_in c_in),
-      next_in_row s p (p + 1) (m.row_is ∙ sym its.0)
-          (are_one_apart-from (p % s) ((p + 1) % s) (inr (omega (arith, m.column_is, its.1)))),
-    )
+right s p on l =
+    let pos = has_rows s p on in
+    let low : p % s + 1 < s = omega (arith, mod_below p s pos, l) in
+    let next : p + 1 ≡ p / s * s + (p % s + 1) = omega (arith, div-add-mod' p s) in
+    let its = row_column s (p + 1) (p / s) (p % s + 1) low next in
+    let on_board : p + 1 < s * s = rw next (mul-add-lt (p / s) s (p % s + 1) s (div_below p s s pos on) low) in
+    (on_board, next_in_row s p (p + 1) (sym its.0) (are_one_apart-from _ _ (inr its.1)))
+
+-- a side that gives its point where a test passes gives it there alone
+given_if : (test : Bool) (v q : ℕ) → cond test (Some v) None ≡ Some q → (test ≡ true) × (v ≡ q)
+given_if true v q e = (refl, cc)
+given_if false v q e = absurd (cc)
+
+-- and one that gives its point where a test fails
+given_unless : (test : Bool) (v q : ℕ) → cond test None (Some v) ≡ Some q → (test ≡ false) × (v ≡ q)
+given_unless true v q e = absurd (cc)
+given_unless false v q e = (refl, cc)
+
+-- every other side is the one to the right
+last_side : (s p side : ℕ)
+    → neighbour_at s p (suc (suc (suc side))) ≡ cond (eqb (p % s + 1) s) None (Some (p + 1))
+last_side s p side =
+    let n = suc (suc (suc side)) in
+    rw (ne_eqb n 0 (λ z. omega arith), ne_eqb n 1 (λ z. omega arith), ne_eqb n 2 (λ z. omega arith)) refl
 
 -- What a side gives is a neighbour on the board.
 pub neighbour_at-near : (s p side q : ℕ) → p < s * s → neighbour_at s p side ≡ Some q
     → (q < s * s) × (are_neighbours s p q ≡ true)
-neighbour_at-near s p side q h e =
-    elim (cases_Bool (eqb side 0)) [
-      | inl a ↦ elim (cases_Bool (ltb p s)) [
-        | inl b ↦ let f = rw (a, b) at e in absurd (cc)
-        | inr b ↦ let f : p - s ≡ q = (let g = rw (a, b) at e in cc) in rw (← f) (above s p h (ltb-false _ _ b))
-      ]
-      | inr a ↦ elim (cases_Bool (eqb side 1)) [
-        | inl a2 ↦ elim (cases_Bool (ltb (p + s) (s * s))) [
-          | inl b ↦ let f : p + s ≡ q = (let g = rw (a, a2, b) at e in cc) in
-              rw (← f) (ltb-true _ _ b, below s p h (ltb-true _ _ b))
-          | inr b ↦ let f = rw (a, a2, b) at e in absurd (cc)
-        ]
-        | inr a2 ↦ elim (cases_Bool (eqb side 2)) [
-          | inl a3 ↦ elim (cases_Bool (eqb (p % s) 0)) [
-            | inl b ↦ let f = rw (a, a2, a3, b) at e in absurd (cc)
-            | inr b ↦ let f : p - 1 ≡ q = (let g = rw (a, a2, a3, b) at e in cc) in
-                rw (← f) (left s p h (eqb-false _ _ b))
-          ]
-          | inr a3 ↦ elim (cases_Bool (eqb (p % s + 1) s)) [
-            | inl b ↦ let f = rw (a, a2, a3, b) at e in absurd (cc)
-            | inr b ↦ let f : p + 1 ≡ q = (let g = rw (a, a2, a3, b) at e in cc) in
-                rw (← f) (right s p h (eqb-false _ _ b))
-          ]
-        ]
-      ]
-    ]
+neighbour_at-near s p zero q h e =
+    let at = given_unless (ltb p s) (p - s) q e in rw (← at.1) (above s p h (ltb-false _ _ at.0))
+neighbour_at-near s p (suc zero) q h e =
+    let at = given_if (ltb (p + s) (s * s)) (p + s) q e in rw (← at.1) (ltb-true _ _ at.0, below s p h)
+neighbour_at-near s p (suc (suc zero)) q h e =
+    let at = given_unless (eqb (p % s) 0) (p - 1) q e in rw (← at.1) (left s p h (eqb-false _ _ at.0))
+neighbour_at-near s p (suc (suc (suc side))) q h e =
+    let at = given_unless (eqb (p % s + 1) s) (p + 1) q (sym (last_side s p side) ∙ e) in
+    rw (← at.1) (right s p h (eqb-false _ _ at.0))
+
+-- one of the four sides gives the point
+abbrev IsAtSide : ℕ → ℕ → ℕ → Type 0
+IsAtSide s p q = (side : ℕ) × (side < 4) × (neighbour_at s p side ≡ Some q)
+
+-- the point before or after p in its row is at a side
+side_in_row : (s p q : ℕ) → q < s * s → p / s ≡ q / s → (p % s ≡ q % s + 1) ⊎ (q % s ≡ p % s + 1) → IsAtSide s p q
+side_in_row s p q on row (inl e) =
+    let next : p ≡ q + 1 = sym (div-add-mod' p s) ∙ rw (row, e) (omega (arith, div-add-mod' q s)) in
+    let at : p - 1 ≡ q = omega arith in
+    (2, lit< tt, rw (ne_eqb (p % s) 0 (λ z. omega (arith, z, e)), at) refl)
+side_in_row s p q on row (inr e) =
+    let next : q ≡ p + 1 = sym (div-add-mod' q s) ∙ rw (← row, e) (omega (arith, div-add-mod' p s)) in
+    let low = mod_below q s (has_rows s q on) in
+    (3, lit< tt, rw (ne_eqb (p % s + 1) s (λ z. omega (arith, z, e, low)), ← next) refl)
+
+-- the point above or below p in its column is at a side
+side_in_column : (s p q : ℕ) → q < s * s → p % s ≡ q % s → (p / s ≡ q / s + 1) ⊎ (q / s ≡ p / s + 1) → IsAtSide s p q
+side_in_column s p q on column (inl e) =
+    let down : p ≡ q + s = sym (div-add-mod' p s) ∙ rw (column, e) (omega (arith, div-add-mod' q s)) in
+    let at : p - s ≡ q = omega arith in
+    (0, lit< tt, rw (le-ltb p s (omega arith), at) refl)
+side_in_column s p q on column (inr e) =
+    let down : q ≡ p + s = sym (div-add-mod' q s) ∙ rw (← column, e) (omega (arith, div-add-mod' p s)) in
+    (1, lit< tt, rw (← down, lt-ltb q (s * s) on) refl)
 
 -- Each neighbour is at some side.
 pub neighbour_at-all : (s p q : ℕ) → p < s * s → q < s * s → are_neighbours s p q ≡ true
     → (side : ℕ) × (side < 4) × (neighbour_at s p side ≡ Some q)
-neighbour_at-all s p q h k n =
-    let m = placed s p h in
-    let o = placed s q k in
-    elim (next_cases s p q n) [
-      | inl row ↦
-          let rows : m.r ≡ o.r = sym m.row_is ∙ row.0 ∙ o.row_is in
-          elim row.1 [
-            | inl e ↦
-                let cols : m.c ≡ o.c + 1 = sym m.column_is ∙ e ∙ ap (λ n. n + 1) o.column_is in
-                let v : p - 1 ≡ q = (let pl : p ≡ o.r * s + o.c + 1 = m.place ∙ rw (rows, cols) (omega arith) in
-                omega (arith, pl, o.place)) in
-                (2, lit< tt, rw (ne_eqb (p % s) 0 (λ z. omega (arith, z, cols, m.column_is)), v) refl)
-            | inr e ↦
-                let cols : o.c ≡ m.c + 1 = sym o.column_is ∙ e ∙ ap (λ n. n + 1) m.column_is in
-                let v : p + 1 ≡ q = (let pl : q ≡ m.r * s + m.c + 1 = o.place ∙ rw (← rows, cols) (omega arith) in
-                omega (arith, pl, m.place)) in
-                (3, lit< tt, rw (ne_eqb (p % s + 1) s (λ z. omega (arith, z, cols, m.column_is, o.c_in)), v) refl)
-          ]
-      | inr column ↦
-          let cols : m.c ≡ o.c = sym m.column_is ∙ column.0 ∙ o.column_is in
-          elim column.1 [
-            | inl e ↦
-                let rows : m.r ≡ o.r + 1 = sym m.row_is ∙ e ∙ ap (λ n. n + 1) o.row_is in
-                let pl : p ≡ o.r * s + s + o.c = m.place ∙ rw (rows, cols) (omega arith) in
-                let v : p - s ≡ q = omega (arith, pl, o.place) in
-                (0, lit< tt, rw (le-ltb p s (omega arith), v) refl)
-            | inr e ↦
-                let rows : o.r ≡ m.r + 1 = sym o.row_is ∙ e ∙ ap (λ n. n + 1) m.row_is in
-                let pl : q ≡ m.r * s + s + m.c = o.place ∙ rw (rows, ← cols) (omega arith) in
-                let v : p + s ≡ q = omega (arith, pl, m.place) in
-                (1, lit< tt, rw (v, lt-ltb q (s * s) k) refl)
-          ]
-    ]
+neighbour_at-all s p q h k n = elim (next_cases s p q n) [
+  | inl row ↦ side_in_row s p q k row.0 row.1
+  | inr column ↦ side_in_column s p q k column.0 column.1
+]
 
 -- a board has no more points than the largest one
 pub square_small : (s : ℕ) → s ≤ largest_size → s * s ≤ largest_points
@@ -211,7 +163,7 @@ near_above s t p e small h l = let l' : s ≤ p = rw e at l in rw e (near_from s
 
 -- the point below is a neighbour
 pub near_below : (s t p : ℕ) → t ≡ s → s ≤ largest_size → p < s * s → p + t < t * t → IsNear s p (p + t)
-near_below s t p e small h l = let l' = rw e at l in rw e (near_from s p (p + s) small (l', below s p h l'))
+near_below s t p e small h l = let l' = rw e at l in rw e (near_from s p (p + s) small (l', below s p h))
 
 -- the point to the left is a neighbour
 pub near_left : (s t p : ℕ) → t ≡ s → s ≤ largest_size → p < s * s → (p % t ≡ 0 → ⊥) → IsNear s p (p - 1)

@@ -1,14 +1,14 @@
 -- The strings that a play takes, gathered side by side.
 use Rattle.std.proofs.Common.{◌≡◌, ℕ, ◌+◌, ◌*◌, ◌<◌, ◌≤◌, true, false, cond, Some, None, List, refl, sym, ap, subst}
 use Rattle.std.proofs.Common.{arith, inl, inr, ◌∙◌}
-use Rattle.std.proofs.lemmas.Bool.{cases_Bool, cases_eq, or_cases, or_left, or_right, both_ways, and_parts, and_from}
+use Rattle.std.proofs.lemmas.Bool.{cases_Bool, or_cases, or_left, or_right, both_ways, and_parts, and_from}
 use Rattle.std.proofs.lemmas.Bool.{lt-ltb, ltb-true, eq-eqb, ne_eqb}
 use Rattle.std.specs.Ordering.{nat_cmp}
 use Rattle.std.specs.Cmp.{nat_cmp_total}
 use Rattle.std.specs.FinSet as sets
 use Rattle.go_rules.specs.declared.Cell.{Cell}
 use Rattle.go_rules.specs.declared.Colour.{Colour}
-use Rattle.go_rules.specs.Strings.{cell_at, is_stone, same_cell, is_in_string, string_at, liberties, Path}
+use Rattle.go_rules.specs.Strings.{cell_at, is_stone, same_cell, is_in_string, string_at, liberties, IsInString, Path}
 use Rattle.go_rules.specs.Play.{is_taken, taken_at}
 use Rattle.go_rules.specs.Position.{other, stone_of}
 use Rattle.go_rules.proofs.Sets.{contains-set_below, same_nat_set}
@@ -21,6 +21,7 @@ use Rattle.go_base.specs.Takes.{TakenBeside, HasWholeStrings}
 use Rattle.go_base.specs.WithoutLiberty.{stones_without_liberty}
 use Rattle.go_base.proofs.WithoutLiberty.{found_without, none_without}
 use Rattle.go_base.proofs.SidesOfPoints.{neighbour_at-all}
+use Rattle.go_base.proofs.EachSide.{same_side, each_next, each_with}
 use Rattle.go_base.proofs.FloodResults.{string_has}
 
 -- what the first n sides gave
@@ -47,18 +48,35 @@ Takes-skip : (s : ℕ) (put : List Cell) (c : Colour) (p n : ℕ) (taken : sets.
 Takes-skip s put c p n taken h none = record {
   only = h.only;
   whole = h.whole;
-  all = λ k l r e t q path. elim (cases_eq k n) [
-    | inl f ↦ absurd (none r (ap (neighbour_at s p) (sym f) ∙ e) t)
-    | inr ne ↦ h.all k (omega arith) r e t q path
-  ];
+  all = each_next s p n (λ r. is_taken s put c r ≡ true → (q : ℕ) → Path s put r q → sets.contains taken q ≡ true)
+      h.all (λ r at t. absurd (none r at t));
 }
 
--- a path leads to each point of the string
-string_path : (s : ℕ) (cells : List Cell) (r q : ℕ) → sets.contains (string_at s cells r) q ≡ true → Path s cells r q
+-- what is in the set of a string is a stone of it
+string_gives : (s : ℕ) (cells : List Cell) (r q : ℕ) → sets.contains (string_at s cells r) q ≡ true
+    → IsInString s cells r q
 unfolding string_at
-string_path s cells r q h =
-    (IsInString-from_test s cells r q (and_parts _ _
-    (sym (contains-set_below (s * s) (is_in_string s cells r) q) ∙ h)).1).path
+string_gives s cells r q h =
+    IsInString-from_test s cells r q (and_parts _ _ (sym (contains-set_below (s * s) (is_in_string s cells r) q) ∙ h)).1
+
+-- whole strings are whole strings still with the string of one more stone
+pub whole_with : (s : ℕ) (cells : List Cell) (r : ℕ) (stones joined : sets.FinSet nat_cmp) → r < s * s
+    → HasWholeStrings s cells stones → joined ≡ sets.union stones (string_at s cells r) → HasWholeStrings s cells joined
+whole_with s cells r stones joined on whole is =
+    let has = λ (q : ℕ). ap (λ x. sets.contains x q) is
+    ∙ sets.contains-union nat_cmp_total stones (string_at s cells r) q in
+    λ q b x i. has x ∙ elim (or_cases _ _ (sym (has q) ∙ b)) [
+      | inl before ↦ or_left _ _ (whole q before x i)
+      | inr now ↦
+          let of_r = string_gives s cells r q now in
+          or_right _ _ (string_has s cells r x on of_r.stone (path_on s cells r q of_r.path
+          (string_gives s cells q x i).path))
+    ]
+
+-- what is taken is a stone
+taken_stone : (s : ℕ) (put : List Cell) (c : Colour) (r : ℕ) → is_taken s put c r ≡ true
+    → is_stone (cell_at put r) ≡ true
+taken_stone s put c r t = ap is_stone (taken_parts s put c r t).0 ∙ stone_is (other c)
 
 -- the next side gave a string that is taken
 Takes-add : (s : ℕ) (put : List Cell) (c : Colour) (p n r : ℕ) (taken new : sets.FinSet nat_cmp)
@@ -71,21 +89,13 @@ Takes-add s put c p n r taken new h on e t is =
     record {
       only = λ q b. elim (or_cases _ _ (sym (has q) ∙ b)) [
         | inl before ↦ h.only q before
-        | inr now ↦ let path = string_path s put r q now in
+        | inr now ↦ let path = (string_gives s put r q now).path in
             (path_on_board s put r on path, taken_whole s put c r q on t path)
       ];
-      whole = λ q b x i. has x ∙ elim (or_cases _ _ (sym (has q) ∙ b)) [
-        | inl before ↦ or_left _ _ (h.whole q before x i)
-        | inr now ↦ or_right _ _ (string_has s put r x on (ap is_stone (taken_parts s put c r t).0 ∙ stone_is (other c))
-            (path_on s put r q (string_path s put r q now) (string_path s put q x i)))
-      ];
-      all = λ k l r' e' t' q path. has q ∙ elim (cases_eq k n) [
-        | inl f ↦
-            let g : r ≡ r' = (let k : Some r ≡ Some r' = sym e ∙ ap (neighbour_at s p) (sym f) ∙ e' in cc) in
-            or_right _ _ (string_has s put r q on (ap is_stone (taken_parts s put c r t).0 ∙ stone_is (other c))
-            (subst (λ x. Path s put x q) (sym g) path))
-        | inr ne ↦ or_left _ _ (h.all k (omega arith) r' e' t' q path)
-      ];
+      whole = whole_with s put r taken new on h.whole is;
+      all = each_with s p n (λ x. is_taken s put c x ≡ true → (q : ℕ) → Path s put x q → sets.contains new q ≡ true)
+          (λ k l x at t' q path. has q ∙ or_left _ _ (h.all k l x at t' q path)) r e
+          (λ t' q path. has q ∙ or_right _ _ (string_has s put r q on (taken_stone s put c r t) path));
     }
 
 -- the next side gave a point, whose string came where it is taken
@@ -97,8 +107,7 @@ Takes-next s put c p n r taken new h on e is = elim (cases_Bool (is_taken s put 
       (is ∙ ap (λ b. cond b (sets.union taken (string_at s put r)) taken) t)
   | inr f ↦ subst (Takes s put c p (n + 1)) (sym (is ∙ ap (λ b. cond b (sets.union taken (string_at s put r)) taken) f))
       (Takes-skip s put c p n taken h (λ x e' t.
-      let same : r ≡ x = (let k : Some r ≡ Some x = sym e ∙ e' in cc) in
-      both_ways (is_taken s put c x) (ap (is_taken s put c) (sym same) ∙ f) t))
+      both_ways (is_taken s put c x) (ap (is_taken s put c) (sym (same_side (sym e ∙ e'))) ∙ f) t))
 ]
 
 -- the next side gave nothing

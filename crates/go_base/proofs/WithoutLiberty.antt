@@ -1,7 +1,7 @@
 -- A search for a liberty sees one beside the stone, or searches the string.
 use Rattle.std.proofs.Common.{◌≡◌, ◌≢◌, ℕ, ◌+◌, ◌*◌, ◌<◌, ◌≤◌, ◌&&◌, Bool, true, false, cond, eqb, Some, None, List}
 use Rattle.std.proofs.Common.{refl, sym, ap, arith, inl, inr, ◌∙◌}
-use Rattle.std.proofs.lemmas.Bool.{cases_Bool, cases_eq, eq-eqb, eqb-true, ne_eqb, both_ways, and_parts, and_from}
+use Rattle.std.proofs.lemmas.Bool.{cases_Bool, eq-eqb, eqb-true, ne_eqb, both_ways, and_parts, and_from}
 use Rattle.std.specs.Option.{is_some}
 use Rattle.std.specs.Ordering.{nat_cmp}
 use Rattle.std.specs.FinSet as sets
@@ -16,6 +16,7 @@ use Rattle.go_base.specs.Floods.{Searches}
 use Rattle.go_base.specs.declared.flood.Found.{Found}
 use Rattle.go_base.specs.WithoutLiberty.{has_empty_neighbour, stones_without_liberty}
 use Rattle.go_base.proofs.SidesOfPoints.{neighbour_at-all, neighbour_at-near}
+use Rattle.go_base.proofs.EachSide.{each_next}
 use Rattle.go_base.proofs.BoundedSearches.{none_seen}
 
 -- the first n sides of q were looked at, and none of them is empty
@@ -26,10 +27,7 @@ NoneEmpty s cells q n = (k : ℕ) → k < n → (r : ℕ) → neighbour_at s q k
 -- the next side is off the board, or not empty
 pub NoneEmpty-next : (s : ℕ) (cells : List Cell) (q n : ℕ) → NoneEmpty s cells q n
     → ((r : ℕ) → neighbour_at s q n ≡ Some r → same_cell (cell_at cells r) Empty ≡ false) → NoneEmpty s cells q (n + 1)
-NoneEmpty-next s cells q n h next k l r e = elim (cases_eq k n) [
-  | inl f ↦ next r (ap (neighbour_at s q) (sym f) ∙ e)
-  | inr ne ↦ h k (omega arith) r e
-]
+NoneEmpty-next s cells q n h next = each_next s q n (λ r. same_cell (cell_at cells r) Empty ≡ false) h next
 
 -- the side gives an empty neighbour
 pub empty_found : (s : ℕ) (cells : List Cell) (q side r : ℕ) → q < s * s → neighbour_at s q side ≡ Some r

@@ -2,7 +2,7 @@
 use Rattle.std.proofs.Common.{◌≡◌, ℕ, zero, suc, ◌+◌, ◌*◌, ◌<◌, ◌&&◌, Bool, true, false, cond, eqb, Option, Some, None}
 use Rattle.std.proofs.Common.{List, Ok, refl, sym, ap, arith, inl, inr, ◌∙◌}
 use Rattle.std.proofs.Math.ListN.{set}
-use Rattle.std.proofs.lemmas.Bool.{cases_Bool, cases_eq, eqb-true, both_ways, and_parts}
+use Rattle.std.proofs.lemmas.Bool.{cases_Bool, cases_eq, eqb-true, both_ways, and_parts, false_from_ne_true}
 use Rattle.std.specs.Option.{option_map}
 use Rattle.go_rules.specs.declared.Cell.{Cell}
 use Rattle.go_rules.specs.declared.Colour.{Colour}
@@ -74,18 +74,12 @@ count_one : (n : ℕ) (test : ℕ → Bool) (k : ℕ) → IsOnly n test k → co
 count_one zero test k h = absurd (let l = h.below in omega arith)
 count_one (suc n) test k h = elim (cases_eq k n) [
   | inl e ↦
-      let none : count_below n test ≡ 0 = count_none n test (λ j l. elim (cases_Bool (test j)) [
-        | inl t ↦ absurd (let same = h.others j (omega arith) t in omega arith)
-        | inr f ↦ f
-      ]) in
+      let none : count_below n test ≡ 0 = count_none n test (λ j l. false_from_ne_true (test j)
+      (λ t. let same = h.others j (omega arith) t in omega arith)) in
       rw (ap test (sym e) ∙ h.passes, none) refl
   | inr ne ↦
       let below : k < n = (let l = h.below in omega arith) in
-      let miss : test n ≡ false =
-      elim (cases_Bool (test n)) [
-        | inl t ↦ absurd (let same = h.others n (omega arith) t in omega arith)
-        | inr f ↦ f
-      ] in
+      let miss = false_from_ne_true (test n) (λ t. let same = h.others n (omega arith) t in omega arith) in
       let rest : count_below n test ≡ 1 =
       count_one n test k (record {
         below = below;

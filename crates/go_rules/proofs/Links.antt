@@ -1,7 +1,7 @@
 -- Paths lead back and on, and a string has its liberties wherever it is looked at.
-use Rattle.std.proofs.Common.{◌≡◌, ℕ, zero, suc, ◌+◌, ◌*◌, ◌/◌, ◌%◌, ◌<◌, Bool, true, false, eqb, List, refl, sym}
+use Rattle.std.proofs.Common.{◌≡◌, ℕ, zero, suc, ◌+◌, ◌*◌, ◌/◌, ◌%◌, ◌<◌, ◌&&◌, Bool, true, false, eqb, List, refl, sym}
 use Rattle.std.proofs.Common.{arith, inl, inr, ◌∙◌}
-use Rattle.std.proofs.lemmas.Bool.{cases_Bool, both_ways}
+use Rattle.std.proofs.lemmas.Bool.{cases_Bool, both_ways, or_cases, and_parts, eqb-true}
 use Rattle.go_rules.specs.declared.Cell.{Cell}
 use Rattle.go_rules.specs.Board.{are_neighbours, are_one_apart}
 use Rattle.go_rules.specs.Below.{any_below, count_below}
@@ -24,6 +24,22 @@ are_neighbours_comm s p q =
       eqb_comm (p % s) (q % s),
       one_apart_comm (p / s) (q / s),
     ) refl
+
+-- no number follows itself
+not_apart : (a : ℕ) → are_one_apart a a ≡ true → ⊥
+not_apart a h = elim (or_cases _ _ h) [
+  | inl next ↦ omega (arith, eqb-true a (a + 1) next)
+  | inr next ↦ omega (arith, eqb-true a (a + 1) next)
+]
+
+-- no point is its own neighbour
+pub not_its_own : (s p : ℕ) → are_neighbours s p p ≡ true → ⊥
+unfolding are_neighbours
+not_its_own s p h = elim (or_cases (eqb (p / s) (p / s) && are_one_apart (p % s) (p % s))
+    (eqb (p % s) (p % s) && are_one_apart (p / s) (p / s)) h) [
+      | inl row ↦ not_apart (p % s) (and_parts (eqb (p / s) (p / s)) (are_one_apart (p % s) (p % s)) row).1
+      | inr column ↦ not_apart (p / s) (and_parts (eqb (p % s) (p % s)) (are_one_apart (p / s) (p / s)) column).1
+    ]
 
 -- a path leads over points that hold the same
 pub path_same : (s : ℕ) (cells : List Cell) (p : ℕ) {q : ℕ} → Path s cells p q → cell_at cells q ≡ cell_at cells p

@@ -8,6 +8,7 @@ use Rattle.std.specs.Ordering.{nat_cmp}
 use Rattle.std.specs.FinSet as sets
 use Rattle.go_rules.proofs.Sets.{contains-set_below}
 use Rattle.std.proofs.lemmas.Bool.{cases_Bool, cases_eq, eq-eqb, eqb-true, both_ways, and_parts, and_from, lt-ltb}
+use Rattle.std.proofs.lemmas.Bool.{false_from_ne_true}
 use Rattle.go_rules.specs.declared.Cell.{Cell}
 use Rattle.go_rules.specs.declared.Cell.TheVariants.{Empty, Black, White}
 use Rattle.go_rules.specs.declared.Colour.{Colour}
@@ -79,19 +80,13 @@ taken_from s put c q e z = and_from _ _ (same_cell-from _ _ e) (eq-eqb _ _ z)
 pub own_not_taken : (s : ℕ) (put : List Cell) (c : Colour) (q : ℕ) → cell_at put q ≡ stone_of c
     → is_taken s put c q ≡ false
 own_not_taken s put c q e =
-    elim (cases_Bool (is_taken s put c q)) [
-      | inl t ↦ absurd (enemy_differs c (sym (taken_parts s put c q t).0 ∙ e))
-      | inr f ↦ f
-    ]
+    false_from_ne_true (is_taken s put c q) (λ t. enemy_differs c (sym (taken_parts s put c q t).0 ∙ e))
 
 -- an empty point is not taken
 pub empty_not_taken : (s : ℕ) (put : List Cell) (c : Colour) (q : ℕ) → cell_at put q ≡ Empty
     → is_taken s put c q ≡ false
-empty_not_taken s put c q e = elim (cases_Bool (is_taken s put c q)) [
-  | inl t ↦ absurd (both_ways (is_stone Empty) refl
-      (ap is_stone (sym e ∙ (taken_parts s put c q t).0) ∙ stone_is (other c)))
-  | inr f ↦ f
-]
+empty_not_taken s put c q e = false_from_ne_true (is_taken s put c q) (λ t. both_ways (is_stone Empty) refl
+    (ap is_stone (sym e ∙ (taken_parts s put c q t).0) ∙ stone_is (other c)))
 
 -- a stone whose string has a liberty is not taken
 pub alive_not_taken : (s : ℕ) (put : List Cell) (c : Colour) (q : ℕ) → 0 < liberties s put q

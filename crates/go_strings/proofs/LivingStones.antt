@@ -1,21 +1,23 @@
 -- A stone that is put lives exactly where one of its sides gives it life.
-use Rattle.std.proofs.Common.{◌≡◌, ◌≢◌, ℕ, ◌+◌, ◌*◌, ◌<◌, ◌≤◌, true, eqb, ◌&&◌, Some, List, sym, ap, subst}
+use Rattle.std.proofs.Common.{◌≡◌, ℕ, ◌+◌, ◌*◌, ◌<◌, ◌≤◌, true, Some, List, sym, ap, subst}
 use Rattle.std.proofs.Common.{arith, inl, inr, ◌∙◌}
 use Rattle.std.proofs.Math.ListN.{set}
-use Rattle.std.proofs.lemmas.Bool.{cases_eq, both_ways, and_parts, or_cases, eqb-true}
+use Rattle.std.proofs.lemmas.Bool.{both_ways}
 use Rattle.std.specs.Ordering.{nat_cmp}
 use Rattle.std.specs.FinSet as sets
 use Rattle.go_rules.specs.declared.Cell.{Cell}
 use Rattle.go_rules.specs.declared.Cell.TheVariants.{Empty}
 use Rattle.go_rules.specs.declared.Colour.{Colour}
-use Rattle.go_rules.specs.Board.{row_of, column_of, are_neighbours, are_one_apart}
+use Rattle.go_rules.specs.Board.{are_neighbours}
 use Rattle.go_rules.specs.Strings.{cell_at, is_stone, liberty_points}
-use Rattle.go_rules.specs.Play.{is_taken, taken_at}
+use Rattle.go_rules.specs.Play.{is_taken}
 use Rattle.go_rules.specs.Position.{other, stone_of}
+use Rattle.go_rules.proofs.Links.{not_its_own}
 use Rattle.go_rules.proofs.Plays.{stone_is, enemy_differs, own_not_taken}
 use Rattle.go_base.specs.Sides.{neighbour_at}
-use Rattle.go_base.proofs.Takes.{Takes, Takes-all}
+use Rattle.go_base.proofs.Takes.{Takes-all}
 use Rattle.go_base.proofs.SidesOfPoints.{neighbour_at-all}
+use Rattle.go_base.proofs.EachSide.{each_next}
 use Rattle.go_strings.specs.Living.{IsAlive, IsDead, IsDeadSide}
 use Rattle.go_strings.specs.Puts.{Puts, IsFriend}
 use Rattle.go_strings.specs.Sets.{without}
@@ -23,26 +25,7 @@ use Rattle.go_strings.proofs.GoSets.{same_sets, liberty_has, liberty_gives}
 use Rattle.go_strings.proofs.PutStones.{at_q, below_all, in_without, from_without, own_liberty_from}
 use Rattle.go_strings.proofs.PutStones.{own_liberty_beside, own_liberty_only}
 use Rattle.go_strings.proofs.RenewedStrings.{taken_has}
-use Rattle.go_strings.proofs.Sides.{enemy_taken, enemy_kept}
-
--- no number follows itself
-not_apart : (a : ℕ) → are_one_apart a a ≡ true → ⊥
-not_apart a h = elim (or_cases (eqb a (a + 1)) (eqb a (a + 1)) h) [
-  | inl next ↦ omega (arith, eqb-true a (a + 1) next)
-  | inr next ↦ omega (arith, eqb-true a (a + 1) next)
-]
-
--- no point is its own neighbour
-not_beside : (s p : ℕ) → are_neighbours s p p ≡ true → ⊥
-unfolding are_neighbours
-not_beside s p h = elim (or_cases
-    (eqb (row_of s p) (row_of s p) && are_one_apart (column_of s p) (column_of s p))
-    (eqb (column_of s p) (column_of s p) && are_one_apart (row_of s p) (row_of s p)) h) [
-      | inl row ↦ not_apart (column_of s p)
-          (and_parts (eqb (row_of s p) (row_of s p)) (are_one_apart (column_of s p) (column_of s p)) row).1
-      | inr column ↦ not_apart (row_of s p)
-          (and_parts (eqb (column_of s p) (column_of s p)) (are_one_apart (row_of s p) (row_of s p)) column).1
-    ]
+use Rattle.go_strings.proofs.Sides.{not_p, enemy_taken, enemy_kept}
 
 -- nothing is in the empty set
 not_in_empty : (points : sets.FinSet nat_cmp) (q : ℕ) → points ≡ sets.empty → sets.contains points q ≡ true → ⊥
@@ -56,23 +39,16 @@ AreDeadSides s cells c p n = (k : ℕ) → k < n → (q : ℕ) → neighbour_at 
 -- one side more gives none, where it is on the board
 pub dead_next : (s : ℕ) (cells : List Cell) (c : Colour) (p n : ℕ) → AreDeadSides s cells c p n
     → ((q : ℕ) → neighbour_at s p n ≡ Some q → IsDeadSide s cells c p q) → AreDeadSides s cells c p (n + 1)
-dead_next s cells c p n before here = λ k l q at. elim (cases_eq k n) [
-  | inl same ↦ here q (ap (neighbour_at s p) (sym same) ∙ at)
-  | inr ne ↦ before k (omega arith) q at
-]
+dead_next s cells c p n before here = each_next s p n (IsDeadSide s cells c p) before here
 
 module _ {s : ℕ} {cells : List Cell} {c : Colour} {p : ℕ} (h : Puts s cells c p) where
-  -- the empty point is no stone
-  not_p : (q : ℕ) → is_stone (cell_at cells q) ≡ true → q ≢ p
-  not_p q stone e = both_ways (is_stone (cell_at cells q)) (ap is_stone (ap (cell_at cells) e ∙ h.free)) stone
-
   -- an empty side is a liberty
   pub alive_by_empty : (q : ℕ) → q < s * s → are_neighbours s p q ≡ true → cell_at cells q ≡ Empty
       → IsAlive s cells c p
   alive_by_empty q on near free = inl (
     q,
     liberty_has s (set cells p (stone_of c)) p q h.on_board (own_liberty_beside h q on near free
-        (λ e. not_beside s p (subst (λ x. are_neighbours s p x ≡ true) e near))),
+        (λ e. not_its_own s p (subst (λ x. are_neighbours s p x ≡ true) e near))),
   )
 
   -- a friend's other liberty is one too
@@ -102,7 +78,7 @@ module _ {s : ℕ} {cells : List Cell} {c : Colour} {p : ℕ} (h : Puts s cells 
       record {
         stone = stone;
         no_other = λ _. none;
-        stays = own_not_taken s (set cells p (stone_of c)) c q (at_q h q (not_p q stone) ∙ own);
+        stays = own_not_taken s (set cells p (stone_of c)) c q (at_q h q (not_p h q stone) ∙ own);
       }
 
   -- an enemy with another liberty gives none

@@ -12,6 +12,7 @@ use Rattle.db_rules.proofs.Walk.{Reaches-start, Reaches-end, Reaches-entries}
 use Rattle.db_read.proofs.ReaderProgress.{Walked}
 use Rattle.db_read.proofs.ReadLemmas.{bad_line, fine_line, found_bad, Walked-step, Walked-fault, Walked-blames}
 use Rattle.db_read.proofs.reader.read.Goals as goal
+use Rattle.db_read.proofs.reader.read.Goals.{After-line}
 
 -- before the first line nothing is read, and all lines are left
 pub loop-told-init : goal.loop-told-init
@@ -39,41 +40,43 @@ returns-in-Err-clause-err c =
     (found_bad c.args.helpers.now w.so_far h.line c.in-Err.bad (bad_line h.line c.in-Err.bad (sym h.told_is
     ∙ c.in-Err.is))))
 
+-- the lines that are left begin with the one that was read
+walked : (c : After-line) → Walked c.args.helpers.now c.args.text.now c.loop-told.reader
+    (c.in-Some.ensures.next.line ∷ c.next.new.self.left)
+walked c =
+    subst (λ left. Walked c.args.helpers.now c.args.text.now c.loop-told.reader left) c.in-Some.ensures.next.first
+    c.loop-told.invariant.1
+
+-- its bytes stand in the text where it says
+bytes_there : (c : After-line) → c.in-Some.ensures.next.line.bytes
+    ≡ slice_range c.args.text.now c.in-Ok.line.from c.in-Ok.line.to
+bytes_there c =
+    let spelled = subst (λ (r : Result Line BadByte). IfOk r
+    (λ l. IsSpelled c.loop-told.lexer.text l c.in-Some.ensures.next.line.bytes)) c.in-Ok.is
+    c.in-Some.ensures.next.spelled in
+    sym spelled.there ∙ ap (λ (t : List ℕ). slice_range t c.in-Ok.line.from c.in-Ok.line.to) c.loop-told.invariant.0
+
 -- a line without a fault is one more
 pub loop-told-preserved : goal.loop-told-preserved
 loop-told-preserved c =
+    let d = (goal.at.loop-told-preserved c).After-line in
     let h = c.in-Some.ensures.next in
-    let w : Walked c.args.helpers.now c.args.text.now c.loop-told.reader (h.line ∷ c.next.new.self.left) =
-    subst (λ left. Walked c.args.helpers.now c.args.text.now c.loop-told.reader left) h.first
-    c.loop-told.invariant.1 in
-    let fine = fine_line h.line c.in-Ok.line (sym h.told_is ∙ c.in-Ok.is) in
-    let spelled : IsSpelled c.loop-told.lexer.text c.in-Ok.line h.line.bytes =
-    subst (λ (r : Result Line BadByte). IfOk r
-    (λ l. IsSpelled c.loop-told.lexer.text l h.line.bytes)) c.in-Ok.is h.spelled in
-    let bytes : h.line.bytes ≡ slice_range c.args.text.now c.in-Ok.line.from c.in-Ok.line.to =
-    sym spelled.there
-    ∙ ap (λ (t : List ℕ). slice_range t c.in-Ok.line.from c.in-Ok.line.to) c.loop-told.invariant.0 in (
+    let w = walked d in
+    let fine = fine_line h.line c.in-Ok.line (sym h.told_is ∙ c.in-Ok.is) in (
       c.in-Some.ensures.text ∙ c.loop-told.invariant.0,
       Walked-step c.args.helpers.now c.args.text.now c.loop-told.reader c.line.new.self h.line c.next.new.self.left w
-          (c.in-Ok-line.ensures.ok w.so_far h.line fine.number fine.fine bytes fine.kind w.shown),
+          (c.in-Ok-line.ensures.ok w.so_far h.line fine.number fine.fine (bytes_there d) fine.kind w.shown),
     )
 
 -- a line with a fault is the first that has one
 pub returns-in-Err-line-clause-err : goal.returns-in-Err-line-clause-err
 returns-in-Err-line-clause-err c =
+    let d = (goal.at.returns-in-Err-line-clause-err c).After-line in
     let h = c.in-Some.ensures.next in
-    let w : Walked c.args.helpers.now c.args.text.now c.loop-told.reader (h.line ∷ c.next.new.self.left) =
-    subst (λ left. Walked c.args.helpers.now c.args.text.now c.loop-told.reader left) h.first
-    c.loop-told.invariant.1 in
+    let w = walked d in
     let fine = fine_line h.line c.in-Ok.line (sym h.told_is ∙ c.in-Ok.is) in
-    let spelled : IsSpelled c.loop-told.lexer.text c.in-Ok.line h.line.bytes =
-    subst (λ (r : Result Line BadByte). IfOk r
-    (λ l. IsSpelled c.loop-told.lexer.text l h.line.bytes)) c.in-Ok.is h.spelled in
-    let bytes : h.line.bytes ≡ slice_range c.args.text.now c.in-Ok.line.from c.in-Ok.line.to =
-    sym spelled.there
-    ∙ ap (λ (t : List ℕ). slice_range t c.in-Ok.line.from c.in-Ok.line.to) c.loop-told.invariant.0 in
     Walked-blames c.args.helpers.now c.args.text.now c.loop-told.reader h.line c.next.new.self.left c.in-Err-line.e w
-    (c.in-Err-line.ensures.err w.so_far h.line fine.number fine.fine bytes fine.kind w.shown)
+    (c.in-Err-line.ensures.err w.so_far h.line fine.number fine.fine (bytes_there d) fine.kind w.shown)
 
 -- where the end has no fault, the text has none, and the entries are those of the text
 pub returns-clause-ok : goal.returns-clause-ok

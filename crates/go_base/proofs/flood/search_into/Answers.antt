@@ -1,13 +1,18 @@
-use Rattle.std.proofs.Common.{◌*◌, ◌≤◌, inl, inr, ap, sym, refl, ◌∙◌, arith}
+use Rattle.std.proofs.Common.{◌≡◌, ◌*◌, ◌≤◌, inl, inr, ap, sym, refl, ◌∙◌, arith}
 use Rattle.std.specs.Ordering.{nat_cmp}
 use Rattle.std.specs.FinSet as set
 use Rattle.go_rules.specs.Board.{largest_points}
+use Rattle.go_rules.specs.Neighbourhood.{neighbourhood_of}
+use Rattle.go_rules.specs.Position.{BoardState}
+use Rattle.go_rules.specs.Strings.{cell_at}
 use Rattle.go_rules.proofs.Links.{path_same}
 use Rattle.go_rules.proofs.Cells.{cells_same, cells_differ}
 use Rattle.go_base.proofs.FloodResults.{Begins, Begins-first, Steps, Steps-smaller, waited_before, Finds-within}
 use Rattle.go_base.proofs.FloodResults.{stone_from, on_board_one, on_board_more}
 use Rattle.go_base.proofs.FloodVisits.{none_at}
-use Rattle.go_base.proofs.BoundedSearches.{FloodsUnder-start, FloodsUnder-next, FloodsUnder-all, Searches-none}
+use Rattle.go_base.specs.Views.{alone}
+use Rattle.go_base.proofs.BoundedSearches.{FloodsUnder, FloodsUnder-start, FloodsUnder-next, FloodsUnder-all}
+use Rattle.go_base.proofs.BoundedSearches.{Searches-none}
 use Rattle.go_base.proofs.PointNeighbourhoods.{close_alone, close_around}
 use Rattle.go_base.proofs.LookSequences.{Looks-none, Looks-more, Looks-within}
 use Rattle.go_base.proofs.flood.search_into.Given.{Over}
@@ -39,7 +44,8 @@ returns-then-eq-clause-enemies_on_board g c = λ q h. absurd (none_at _ q c.requ
 pub returns-then-eq-clause-near : goal.returns-then-eq-clause-near
 returns-then-eq-clause-near g c =
     λ pos a. g.met.V.View.asks_within _ _ _ _ c.at-own.ensures.looks.asked
-    (λ r h. close_alone (g.V.View.rows c.args.board.now) (g.V.View.cells c.args.board.now pos) c.args.p r c.requires.on_board h)
+    (λ r h. close_alone (g.V.View.rows c.args.board.now) (g.V.View.cells c.args.board.now pos) c.args.p r
+    c.requires.on_board h)
 
 -- the search begins with the point
 begins : (g : Over) (c : After-add_stone g) → Begins c.args.p c.add_stone.new.stones c.add_stone.new.waiting
@@ -89,43 +95,62 @@ loop-q-smaller g c =
     c.next_stone.new.waiting c.spread.new.waiting st c.in-Some.ensures.some.1
     (on_board_more s _ _ _ _ c.loop-q.invariant.stones_on_board st.finds) small
 
+-- a position that agrees with all that was asked agreed before the stone was visited
+agreed : (g : Over) (c : After-spread g) (pos : BoardState) → g.V.View.agrees c.spread.new.board pos
+    → g.V.View.agrees c.loop-q.board pos
+agreed g c pos a = g.met.V.View.asks_agrees _ _ _ c.spread.ensures.looks.asked pos a
+
+-- on it the point has the cell that was read first
+own_is : (g : Over) (c : After-spread g) (pos : BoardState) → g.V.View.agrees c.spread.new.board pos
+    → c.at-own.result ≡ cell_at (g.V.View.cells c.args.board.now pos) c.args.p
+own_is g c pos a = c.at-own.ensures.over pos
+    (g.met.V.View.asks_agrees _ _ _ c.loop-q.invariant.more.asked pos (agreed g c pos a))
+
+-- the neighbours of one more stone were found, or enough liberties were seen
+flooded : (g : Over) (c : After-spread g) (pos : BoardState) → g.V.View.agrees c.spread.new.board pos
+    → FloodsUnder (g.V.View.rows c.args.board.now) (g.V.View.cells c.args.board.now pos) c.at-own.result c.args.p
+    c.args.most c.spread.new.found c.spread.new.waiting
+flooded g c pos a =
+    let s = g.V.View.rows c.args.board.now in
+    let cells = g.V.View.cells c.args.board.now pos in
+    let i = c.loop-q.invariant in
+    let over = i.over pos (agreed g c pos a) in
+    let like = path_same s cells c.args.p (over.part c.in-Some.q (steps g c).waited) ∙ sym (own_is g c pos a) in
+    let came = rw (g.met.V.View.asks_rows _ _ _ i.looks.asked, i.looks.same pos) at (c.spread.ensures.over pos a) in
+    FloodsUnder-next s cells c.at-own.result c.args.p c.in-Some.q c.args.most c.loop-q.found c.spread.new.found
+    c.loop-q.waiting c.next_stone.new.waiting c.spread.new.waiting c.requires.on_board over (steps g c)
+    (omega (arith, c.count.ensures.value, c.in-Some.ensures.some.3)) like (came like)
+
+-- all that was asked for is close to the point's string
+close : (g : Over) (c : After-spread g) (pos : BoardState) → g.V.View.agrees c.spread.new.board pos
+    → g.V.View.asks c.args.board.now c.spread.new.board (neighbourhood_of (g.V.View.rows c.args.board.now)
+    (g.V.View.cells c.args.board.now pos) (alone c.args.p))
+close g c pos a =
+    let i = c.loop-q.invariant in
+    let stone = stone_from _ (λ e. cells_differ _ _ c.eq.result c.eq.ensures c.if-eq.false (own_is g c pos a ∙ e)) in
+    let path = (i.over pos (agreed g c pos a)).part c.in-Some.q (steps g c).waited in
+    g.met.V.View.asks_more _ _ _ _ (i.near pos (agreed g c pos a)) (g.met.V.View.asks_within _ _ _ _
+    (rw (g.met.V.View.asks_rows _ _ _ i.looks.asked) at c.spread.ensures.looks.asked)
+    (λ r h. close_around (g.V.View.rows c.args.board.now) (g.V.View.cells c.args.board.now pos) c.args.p c.in-Some.q r
+    c.requires.on_board stone path h))
+
 -- one more stone has its neighbours where they belong
 pub loop-q-preserved : goal.loop-q-preserved
 loop-q-preserved g c =
+    let d = (goal.at.loop-q-preserved g c).After-spread in
     let one = Looks-within g.met.V.View.asks_within c.spread.ensures.looks (λ q h. refl) in
     let i = c.loop-q.invariant in
-    let q = c.in-Some.q in
-    let first = c.in-Some.ensures.some in
-    let st = steps g (goal.at.loop-q-preserved g c).After-spread in
-    let s = g.V.View.rows c.args.board.now in
-    let rows = g.met.V.View.asks_rows _ _ _ i.looks.asked in
+    let finds = (steps g d).finds in
+    let enemies = rw (g.met.V.View.asks_rows _ _ _ i.looks.asked) at c.spread.ensures.enemies_on_board in
     record {
       looks = Looks-more g.met.V.View.asks_more i.looks one;
       more = Looks-more g.met.V.View.asks_more i.more one;
-      over = λ pos a.
-          let cells = g.V.View.cells c.args.board.now pos in
-          let a1 = g.met.V.View.asks_agrees _ _ _ one.asked pos a in
-          let a0 = g.met.V.View.asks_agrees _ _ _ i.more.asked pos a1 in
-          let like = path_same s cells c.args.p ((i.over pos a1).part q st.waited)
-          ∙ sym (c.at-own.ensures.over pos a0) in
-          let came = rw (rows, i.looks.same pos) at (c.spread.ensures.over pos a) in
-          FloodsUnder-next s cells c.at-own.result c.args.p q c.args.most c.loop-q.found c.spread.new.found
-          c.loop-q.waiting c.next_stone.new.waiting c.spread.new.waiting c.requires.on_board (i.over pos a1) st
-          (omega (arith, c.count.ensures.value, first.3)) like (came like);
-      near = λ pos a.
-          let cells = g.V.View.cells c.args.board.now pos in
-          let a1 = g.met.V.View.asks_agrees _ _ _ one.asked pos a in
-          let a0 = g.met.V.View.asks_agrees _ _ _ i.more.asked pos a1 in
-          let stone = stone_from _ (λ e. cells_differ _ _ c.eq.result c.eq.ensures c.if-eq.false
-          (c.at-own.ensures.over pos a0 ∙ e)) in
-          let path = (i.over pos a1).part q st.waited in
-          g.met.V.View.asks_more _ _ _ _ (i.near pos a1)
-          (g.met.V.View.asks_within _ _ _ _ (rw rows at c.spread.ensures.looks.asked)
-          (λ r h. close_around s cells c.args.p q r c.requires.on_board stone path h));
-      enemies_on_board = λ r h. elim (rw rows at (c.spread.ensures.enemies_on_board r h))
-          [ inl before ↦ i.enemies_on_board r before | inr on ↦ on ];
-      stones_on_board = on_board_more s _ _ _ _ i.stones_on_board st.finds;
-      waits = Finds-within s _ _ _ _ st.finds (λ r h. i.waits r (waited_before q r c.loop-q.waiting _ first.2 h));
+      over = flooded g d;
+      near = close g d;
+      enemies_on_board = λ r h. elim (enemies r h) [ inl before ↦ i.enemies_on_board r before | inr on ↦ on ];
+      stones_on_board = on_board_more (g.V.View.rows c.args.board.now) _ _ _ _ i.stones_on_board finds;
+      waits = Finds-within (g.V.View.rows c.args.board.now) _ _ _ _ finds
+          (λ r h. i.waits r (waited_before c.in-Some.q r c.loop-q.waiting _ c.in-Some.ensures.some.2 h));
     }
 
 -- no stone is left to visit, or more liberties than most were seen

@@ -1,13 +1,17 @@
-use Rattle.std.proofs.Common.{◌*◌, arith}
+use Rattle.std.proofs.Common.{◌≡◌, ◌+◌, ◌*◌, arith}
 use Rattle.go_rules.specs.Neighbourhood.{neighbourhood_of}
+use Rattle.go_rules.specs.Position.{BoardState}
 use Rattle.go_base.specs.Bits.{marked}
 use Rattle.go_base.proofs.Marks.{marked-nothing}
+use Rattle.go_base.specs.Floods.{enemy_points}
 use Rattle.go_base.specs.Views.{alone}
 use Rattle.go_base.proofs.PointNeighbourhoods.{close_again, close_point}
 use Rattle.go_base.proofs.FloodVisits.{enemy_beside, enemy_close, no_enemy}
-use Rattle.go_base.proofs.LastLiberties.{Lasts-none, Lasts-jump, Lasts-add, Lasts-all, KnowsLast-none}
+use Rattle.go_base.proofs.LastLiberties.{Lasts, Lasts-none, Lasts-jump, Lasts-add, Lasts-all, KnowsLast-none}
 use Rattle.go_base.proofs.LookSequences.{Looks-none, Looks-more}
+use Rattle.go_base.proofs.surroundings.surroundings_of.Given.{Over}
 use Rattle.go_base.proofs.surroundings.surroundings_of.Goals as goal
+use Rattle.go_base.proofs.surroundings.surroundings_of.Goals.{After-add_last_liberty}
 
 -- no string has come
 pub loop-q-init : goal.loop-q-init
@@ -32,45 +36,69 @@ add_last_liberty-requires g c = record {
   small = c.in-Some.ensures.some.1;
 }
 
--- the next enemy's string has its one liberty there
-pub loop-q-preserved : goal.loop-q-preserved
-loop-q-preserved g c =
+-- a position that agrees with all that was asked agreed before the enemy's string was looked at
+agreed : (g : Over) (c : After-add_last_liberty g) (pos : BoardState)
+    → g.V.View.agrees c.add_last_liberty.new.board pos → g.V.View.agrees c.loop-q.board pos
+agreed g c pos a = g.met.V.View.asks_agrees _ _ _ c.add_last_liberty.ensures.looks.asked pos a
+
+-- on it the enemies beside the string are those that were found
+foes : (g : Over) (c : After-add_last_liberty g) (pos : BoardState) → g.V.View.agrees c.add_last_liberty.new.board pos
+    → c.flood-liberties.result.enemies
+    ≡ enemy_points (g.V.View.rows c.args.board.now) (g.V.View.cells c.args.board.now pos) c.args.p
+foes g c pos a = c.flood-liberties.ensures.enemies pos
+    (g.met.V.View.asks_agrees _ _ _ c.loop-q.invariant.more.asked pos (agreed g c pos a))
+
+-- all that was asked for is close to the string, or close to that
+close : (g : Over) (c : After-add_last_liberty g) (pos : BoardState)
+    → g.V.View.agrees c.add_last_liberty.new.board pos
+    → g.V.View.asks c.args.board.now c.add_last_liberty.new.board (neighbourhood_of (g.V.View.rows c.args.board.now)
+    (g.V.View.cells c.args.board.now pos) (neighbourhood_of (g.V.View.rows c.args.board.now)
+    (g.V.View.cells c.args.board.now pos) (alone c.args.p)))
+close g c pos a =
     let s = g.V.View.rows c.args.board.now in
+    let cells = g.V.View.cells c.args.board.now pos in
     let i = c.loop-q.invariant in
     let rows = g.met.V.View.asks_rows _ _ _ i.looks.asked in
+    let its = rw (rows, i.looks.same pos) at (c.add_last_liberty.ensures.near pos a) in
+    let beside = enemy_close s cells c.args.p c.in-Some.q c.flood-liberties.result.enemies c.requires (foes g c pos a)
+    c.in-Some.ensures.some.2 in
+    g.met.V.View.asks_more _ _ _ _ (i.near pos (agreed g c pos a)) (g.met.V.View.asks_within _ _ _ _ its
+    (λ r h. close_point s cells (neighbourhood_of s cells (alone c.args.p)) c.in-Some.q beside r h))
+
+-- the last liberties of the strings of all enemies up to the next are there
+lasts : (g : Over) (c : After-add_last_liberty g) (pos : BoardState) → g.V.View.agrees c.add_last_liberty.new.board pos
+    → Lasts (g.V.View.rows c.args.board.now) (g.V.View.cells c.args.board.now pos) c.args.p (c.in-Some.q + 1)
+    c.add_last_liberty.new.last
+lasts g c pos a =
+    let s = g.V.View.rows c.args.board.now in
+    let cells = g.V.View.cells c.args.board.now pos in
+    let i = c.loop-q.invariant in
     let q = c.in-Some.q in
     let first = c.in-Some.ensures.some in
     let on = c.flood-liberties.ensures.enemies_on_board q first.2 in
+    let enemies = c.flood-liberties.result.enemies in
+    let its = enemy_beside s cells c.args.p q enemies (foes g c pos a) first.2 in
+    let rows = g.met.V.View.asks_rows _ _ _ i.looks.asked in
+    let adds = rw (rows, i.looks.same pos) at (c.add_last_liberty.ensures.adds pos a) in
+    Lasts-add s cells c.args.p q _ _ (Lasts-jump s cells c.args.p c.loop-q.next q _ (i.over pos (agreed g c pos a))
+    (λ k l m. no_enemy s cells c.args.p k enemies (foes g c pos a) (omega (arith, m, on)) (first.3 k l m)))
+    on its.0 its.1 (adds (i.knows pos (agreed g c pos a)))
+
+-- the next enemy's string has its one liberty there
+pub loop-q-preserved : goal.loop-q-preserved
+loop-q-preserved g c =
+    let d = (goal.at.loop-q-preserved g c).After-add_last_liberty in
+    let i = c.loop-q.invariant in
     let one = c.add_last_liberty.ensures.looks in
     record {
       looks = Looks-more g.met.V.View.asks_more i.looks one;
       more = Looks-more g.met.V.View.asks_more i.more one;
-      near = λ pos a.
-          let cells = g.V.View.cells c.args.board.now pos in
-          let a1 = g.met.V.View.asks_agrees _ _ _ one.asked pos a in
-          let a0 = g.met.V.View.asks_agrees _ _ _ i.more.asked pos a1 in
-          let close = rw (rows, i.looks.same pos) at (c.add_last_liberty.ensures.near pos a) in
-          g.met.V.View.asks_more _ _ _ _ (i.near pos a1)
-          (g.met.V.View.asks_within _ _ _ _ close (λ r h.
-          close_point s cells (neighbourhood_of s cells (alone c.args.p)) q
-          (enemy_close s cells c.args.p q c.flood-liberties.result.enemies c.requires
-          (c.flood-liberties.ensures.enemies pos a0) first.2) r h));
-      over = λ pos a.
-          let cells = g.V.View.cells c.args.board.now pos in
-          let a1 = g.met.V.View.asks_agrees _ _ _ one.asked pos a in
-          let a0 = g.met.V.View.asks_agrees _ _ _ i.more.asked pos a1 in
-          let foes = c.flood-liberties.ensures.enemies pos a0 in
-          let its = enemy_beside s cells c.args.p q c.flood-liberties.result.enemies foes first.2 in
-          let adds = rw (rows, i.looks.same pos) at (c.add_last_liberty.ensures.adds pos a) in
-          Lasts-add s cells c.args.p q _ _
-          (Lasts-jump s cells c.args.p c.loop-q.next q _ (i.over pos a1)
-          (λ k l m beside enemy. no_enemy s cells c.args.p k c.flood-liberties.result.enemies foes
-          (omega (arith, m, on)) (first.3 k l m) beside enemy))
-          on its.0 its.1 (adds (i.knows pos a1));
+      near = close g d;
+      over = lasts g d;
       knows = λ pos a.
-          let a1 = g.met.V.View.asks_agrees _ _ _ one.asked pos a in
-          let knows = rw (rows, i.looks.same pos) at (c.add_last_liberty.ensures.knows pos a) in
-          knows (i.knows pos a1);
+          let knows = rw (g.met.V.View.asks_rows _ _ _ i.looks.asked, i.looks.same pos)
+          at (c.add_last_liberty.ensures.knows pos a) in
+          knows (i.knows pos (agreed g d pos a));
     }
 
 -- no enemy is left

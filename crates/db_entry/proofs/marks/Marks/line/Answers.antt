@@ -10,6 +10,7 @@ use Rattle.pat_types.specs.Diagrams.{drawn_strip}
 use Rattle.db_entry.proofs.LineLemmas.{is_some-where}
 use Rattle.db_entry.proofs.LabelLemmas.{constraint_fault-past, kept_fault_at, kept_push, repeats-same}
 use Rattle.db_entry.proofs.marks.Marks.line.Goals as goal
+use Rattle.db_entry.proofs.marks.Marks.line.Goals.{After-are_apart}
 
 -- without a main line there is a fault
 pub returns-then-self-mains-clause-err : goal.returns-then-self-mains-clause-err
@@ -37,40 +38,36 @@ push_labels-requires-clause-short c = let short : length c.word_at-main.result.n
     subst (λ (w : List ℕ). length w ≤ largest_size) (sym c.word_at-main.ensures)
     (c.requires.short c.args.self.now.lines) in omega arith
 
+-- the word repeats its main line
+same_line : (c : After-are_apart) → repeats c.word_at-main.result.now c.args.word.now ≡ true
+same_line c = sym c.repeats.ensures ∙ c.if-not-repeats.false
+
+-- the letters are apart exactly where those of the kept labels with the line's own are
+all_apart : (c : After-are_apart) → c.are_apart.result
+    ≡ are_apart (c.args.self.now.labels
+    ++ labels_of_line c.args.self.now.rows c.word_at-main.result.now c.args.word.now)
+all_apart c = c.are_apart.ensures ∙ ap are_apart (c.as_slice.ensures ∙ c.in-Ok.ensures)
+
 -- two labels of one letter are a fault
 pub returns-then-not-are_apart-clause-err : goal.returns-then-not-are_apart-clause-err
 returns-then-not-are_apart-clause-err c = λ words s.
-    let m = c.args.self.now in
-    let passes : repeats c.word_at-main.result.now c.args.word.now ≡ true =
-    sym c.repeats.ensures ∙ c.if-not-repeats.false in
-    let all : c.as_slice.result.now ≡ m.labels ++ labels_of_line m.rows c.word_at-main.result.now c.args.word.now =
-    c.as_slice.ensures ∙ c.in-Ok.ensures in
-    let fails : are_apart (m.labels ++ labels_of_line m.rows c.word_at-main.result.now c.args.word.now) ≡ false =
-    ap are_apart (sym all) ∙ sym c.are_apart.ensures ∙ c.if-not-are_apart.true in
-    kept_fault_at m (map (λ f. f.now) c.args.mains.now) words c.args.word.now c.word_at-main.result.now s
+    let d = (goal.at.returns-then-not-are_apart-clause-err c).After-are_apart in
+    kept_fault_at c.args.self.now (map (λ f. f.now) c.args.mains.now) words c.args.word.now c.word_at-main.result.now s
     (omega (arith, length-map c.args.mains.now (λ f. f.now))) c.word_at-main.ensures
-    ∙ rw (passes, fails) refl
+    ∙ rw (same_line d, sym (all_apart d) ∙ c.if-not-are_apart.true) refl
 
 -- a word that repeats its main line, with no letter labelled twice, is one more line
 pub returns-clause-ok : goal.returns-clause-ok
 returns-clause-ok c = λ words s.
+    let d = (goal.at.returns-clause-ok c).After-are_apart in
     let m = c.args.self.now in
-    let lt : m.lines < length (map (λ f. f.now) c.args.mains.now) =
-    omega (arith, length-map c.args.mains.now (λ f. f.now)) in
-    let passes : repeats c.word_at-main.result.now c.args.word.now ≡ true =
-    sym c.repeats.ensures ∙ c.if-not-repeats.false in
-    let all : c.as_slice.result.now ≡ m.labels ++ labels_of_line m.rows c.word_at-main.result.now c.args.word.now =
-    c.as_slice.ensures ∙ c.in-Ok.ensures in
-    let row : c.is_some.result ≡ is_row c.word_at-main.result.now =
-    c.is_some.ensures ∙ ap is_some c.row_shape.ensures
-    ∙ is_some-where (is_row c.word_at-main.result.now) (shape_of bar c.word_at-main.result.now) in
-    let apart : are_apart (m.labels ++ labels_of_line m.rows c.word_at-main.result.now c.args.word.now) ≡ true =
-    ap are_apart (sym all) ∙ sym c.are_apart.ensures ∙ c.if-not-are_apart.false in (
-      kept_fault_at m
-          (map (λ f. f.now) c.args.mains.now) words c.args.word.now c.word_at-main.result.now s lt
-          c.word_at-main.ensures ∙ rw (passes, apart) refl,
-      kept_push m _
-          (map (λ f. f.now) c.args.mains.now) words c.args.word.now c.word_at-main.result.now s lt
-          c.word_at-main.ensures refl
+    let mains = map (λ f. f.now) c.args.mains.now in
+    let main = c.word_at-main.result.now in
+    let lt : m.lines < length mains = omega (arith, length-map c.args.mains.now (λ f. f.now)) in
+    let row : c.is_some.result ≡ is_row main =
+    c.is_some.ensures ∙ ap is_some c.row_shape.ensures ∙ is_some-where (is_row main) (shape_of bar main) in (
+      kept_fault_at m mains words c.args.word.now main s lt c.word_at-main.ensures
+          ∙ rw (same_line d, sym (all_apart d) ∙ c.if-not-are_apart.false) refl,
+      kept_push m _ mains words c.args.word.now main s lt c.word_at-main.ensures refl
           (c.rows_after-self.ensures ∙ ap (λ b. m.rows + drawn_strip b) row) c.in-Ok.ensures,
     )

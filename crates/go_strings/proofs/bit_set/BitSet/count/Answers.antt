@@ -1,4 +1,4 @@
-use Rattle.std.proofs.Common.{◌≡◌, arith}
+use Rattle.std.proofs.Common.{arith}
 use Rattle.go_strings.proofs.SetCopies.{counted_none, counted_next, counted_all}
 use Rattle.go_strings.proofs.bit_set.BitSet.count.Goals as goal
 
