@@ -1,5 +1,5 @@
 -- What one string adds, and that its stones all add the same.
-use Rattle.std.proofs.Common.{◌≡◌, ℕ, ◌*◌, ◌<◌, ◌≤◌, ◌&&◌, ◌||◌, Bool, true, false, not, leb, ltb, List, sym, ap}
+use Rattle.std.proofs.Common.{◌≡◌, ℕ, ◌+◌, ◌*◌, ◌<◌, ◌≤◌, ◌&&◌, ◌||◌, Bool, true, false, not, leb, ltb, List, sym, ap}
 use Rattle.std.proofs.Common.{arith, inl, inr, ◌∙◌}
 use Rattle.std.proofs.lemmas.Bool.{cases_Bool, or_cases, or_left, both_ways, and_parts, and_from}
 use Rattle.std.proofs.lemmas.Bool.{le-leb, leb-true, leb-false, lt-ltb, eqb-true, eq-eqb, not_from_false}
@@ -22,7 +22,7 @@ use Rattle.go_base.specs.Surroundings.{is_only_liberty}
 use Rattle.go_base.proofs.LastLiberties.{contains-liberty_points}
 use Rattle.trial_board.specs.SomeLiberties.{FindsLiberties}
 use Rattle.further_moves.specs.Strings.{is_few_liberty, is_few_enemy}
-use Rattle.further_moves.proofs.GatherLemmas.{Passes}
+use Rattle.further_moves.proofs.GatherLemmas.{Passes, Gathers, Gathers-next}
 
 -- the set of the liberties has the liberties
 pub has_liberty : (s : ℕ) (cells : List Cell) (q l : ℕ) (libs : sets.FinSet nat_cmp) → libs ≡ liberty_points s cells q
@@ -212,3 +212,12 @@ module _ (s : ℕ) (cells : List Cell) (p : ℕ) (left stones rest : sets.FinSet
       | inr outside ↦ inl (still q ∙ and_from _ _ h (not_from_false _ outside))
     ];
   }
+
+  -- what the test has at that string came
+  pub Gathers-string : (points : sets.FinSet nat_cmp) (n : ℕ) → n ≤ p → sets.contains left p ≡ true
+      → ((k : ℕ) → n ≤ k → k < p → sets.contains left k ≡ false) → (test : ℕ → ℕ → Bool)
+      → ((q : ℕ) → is_in_string s cells p q ≡ true → (x : ℕ) → test q x ≡ true → test p x ≡ true)
+      → (old new : sets.FinSet nat_cmp) → Gathers test points left n old
+      → ((x : ℕ) → sets.contains new x ≡ (sets.contains old x || test p x)) → Gathers test points rest (p + 1) new
+  Gathers-string points n up here none test shared old new i =
+      Gathers-next test points n p left rest old new up i here none (string_passes test shared)
