@@ -13,9 +13,13 @@ use Rattle.go_rules.specs.Strings.{cell_at, same_cell}
 use Rattle.go_rules.proofs.Counts.{any_below_gives}
 use Rattle.go_rules.proofs.Sets.{contains-insert_nat}
 use Rattle.go_rules.proofs.Tests.{same_tests}
+use Rattle.go_rules.specs.Position.{BoardState}
+use Rattle.go_base.specs.Facts.{Fact, SizeIs, Agrees, same_size}
 use Rattle.go_base.specs.Sides.{neighbour_at}
 use Rattle.go_base.specs.Views.{alone, neighbours_of}
 use Rattle.go_base.proofs.SidesOfPoints.{neighbour_at-all, neighbour_at-near}
+use Rattle.trial_board.specs.Trials.{Trying}
+use Rattle.trial_board.proofs.WalkLemmas.{Walked, Walked-same, Walked-next}
 use Rattle.further_rules.proofs.FurtherPlaces.{side_close}
 use Rattle.further_moves.specs.Strings.{holds_next}
 
@@ -33,7 +37,7 @@ side_found s l side q e on size value is = record {
 }
 
 -- where no side was found on a board of the same size this board has none
-pub no_side : (s l side : ℕ) {shown size : ℕ} {found : Option ℕ} → s ≡ shown → size ≡ shown
+no_side : (s l side : ℕ) {shown size : ℕ} {found : Option ℕ} → s ≡ shown → size ≡ shown
     → found ≡ neighbour_at size l side → ((q : ℕ) → found ≡ Some q → ⊥) → (q : ℕ) → neighbour_at s l side ≡ Some q → ⊥
 no_side s l side e size value none q at =
     none q (value ∙ ap (λ n. neighbour_at n l side) (size ∙ sym e) ∙ at)
@@ -44,6 +48,30 @@ side_near {s} {l} {side} {q} is r h =
     let near = neighbour_at-near s l side q is.on_board is.at in
     let is_q = eqb-true r q h in
     and_from _ _ (lt-ltb r (s * s) (subst (λ x. x < s * s) (sym is_q) near.0)) (ap (are_neighbours s l) is_q ∙ near.1)
+
+-- Looks from l, at one side after another, where the side was asked for by the size of the board that is shown.
+module _ {L : Type 0} {shows : L → BoardState} {seen : L → Fact → Bool} {area : ℕ → BoardState → ℕ → Bool}
+    {Found More : ℕ → BoardState → Type 0} {first mid : Trying L} {size : ℕ} {found : Option ℕ} (l side : ℕ)
+    (told : seen first.look (SizeIs (shows first.look).size) ≡ true)
+    (on : l < (shows first.look).size * (shows first.look).size) (sized : size ≡ (shows first.look).size)
+    (value : found ≡ neighbour_at size l side) (walk : Walked shows seen area Found first mid) where
+  -- one more side gave a point, which was looked at
+  pub Walked-side : {now : Trying L} {q : ℕ} (close : ℕ → BoardState → ℕ → Bool) (Says : ℕ → BoardState → Type 0)
+      → found ≡ Some q → Walked shows seen close Says mid now
+      → ((s : ℕ) (here : BoardState) → IsSide s l side q → (r : ℕ) → close s here r ≡ true → area s here r ≡ true)
+      → ((s : ℕ) (here : BoardState) → IsSide s l side q → Found s here → Says s here → More s here)
+      → Walked shows seen area More first now
+  Walked-side close Says is look inside more =
+      let here = λ (pos : BoardState) (a : Agrees (seen first.look) pos).
+      side_found pos.size l side _ (same_size told a) on sized value is in
+      Walked-next close Says walk look (λ pos a i. inside pos.size _ (here pos a)) (λ pos a. more pos.size _ (here pos a))
+
+  -- one more side is off the board
+  pub Walked-off : ((q : ℕ) → found ≡ Some q → ⊥)
+      → ((s : ℕ) (here : BoardState) → ((q : ℕ) → neighbour_at s l side ≡ Some q → ⊥) → Found s here → More s here)
+      → Walked shows seen area More first mid
+  Walked-off none more =
+      Walked-same walk (λ pos a. more pos.size _ (no_side pos.size l side (same_size told a) sized value none))
 
 -- the neighbours of points are in the neighbourhood of these
 pub sides_close : (s : ℕ) (cells : List Cell) (points : ℕ → Bool) (r : ℕ)

@@ -6,8 +6,8 @@ use Rattle.go_base.specs.Facts.{Agrees, agrees_before, same_size, AddsIn-trans, 
 use Rattle.go_base.specs.Views.{alone}
 use Rattle.go_base.proofs.SidesOfPoints.{neighbour_at-near}
 use Rattle.trial_board.specs.Trials.{after}
-use Rattle.trial_board.proofs.WalkLemmas.{Walked-same, Walked-next, on_agreed}
-use Rattle.further_moves.proofs.SideLemmas.{IsSide, side_found, no_side}
+use Rattle.trial_board.proofs.WalkLemmas.{on_agreed}
+use Rattle.further_moves.proofs.SideLemmas.{IsSide, side_found, Walked-side, Walked-off}
 use Rattle.read_moves.specs.Steps.{LivesWithout}
 use Rattle.read_moves.proofs.LiveLemmas.{LiveAtSides-next, LiveAtSides-all}
 use Rattle.read_moves.proofs.SideLemmas.{string_near}
@@ -48,29 +48,25 @@ pub loop-side-preserved : goal.loop-side-preserved
 loop-side-preserved g c =
     let l = c.args.l in
     let side = c.loop-side.side in
-    let size = λ (pos : BoardState) (a : Agrees (g.L.Look.seen c.args.board.now.look) pos).
-    same_size (g.met.L.Look.sized c.args.board.now.look) a in
-    let next = λ (pos : BoardState). LiveAtSides-next pos.size (after pos c.args.board.now.moves).cells c.args.c l side in
+    let told = g.met.L.Look.sized c.args.board.now.look in
     elim c.match-neighbour.branch [
       | in-Some+else-not-lives_without w ↦
           let q = w.in-Some.beside in
           let one = w.lives_without in
-          let here = λ (pos : BoardState) (a : Agrees (g.L.Look.seen c.args.board.now.look) pos).
-          side_found pos.size l side q (size pos a) c.requires c.size-size.ensures c.neighbour.ensures.value
-          w.in-Some.is in
-          rw w.board-is (Walked-next (λ s b. neighbourhood_of s b.cells (alone q))
-          (λ s b. LivesWithout s b.cells c.args.c l q) c.loop-side.invariant
+          rw w.board-is (Walked-side l side told c.requires c.size-size.ensures c.neighbour.ensures.value
+          c.loop-side.invariant (λ s b. neighbourhood_of s b.cells (alone q))
+          (λ s b. LivesWithout s b.cells c.args.c l q) w.in-Some.is
           (record {
             stays = one.ensures.stays;
             near = one.ensures.near;
             over = λ pos a. one.ensures.over pos a w.if-not-lives_without.false;
           })
-          (λ pos a i. string_near (after pos c.args.board.now.moves).cells (here pos a))
-          (λ pos a i came. next pos i (λ x at. subst (LivesWithout pos.size (after pos c.args.board.now.moves).cells
-          c.args.c l) (let same : Some q ≡ Some x = sym (here pos a).at ∙ at in cc) came)))
-      | in_default w ↦ rw w.board-is (Walked-same c.loop-side.invariant (λ pos a i.
-          next pos i (λ q at. absurd (no_side pos.size l side (size pos a) c.size-size.ensures c.neighbour.ensures.value
-          w.in_default.not-Some q at))))
+          (λ s b is. string_near b.cells is)
+          (λ s b is i came. LiveAtSides-next s b.cells c.args.c l side i (λ x at. subst (LivesWithout s b.cells c.args.c
+          l) (let same : Some q ≡ Some x = sym is.at ∙ at in cc) came)))
+      | in_default w ↦ rw w.board-is (Walked-off l side told c.requires c.size-size.ensures
+          c.neighbour.ensures.value c.loop-side.invariant w.in_default.not-Some (λ s b none i.
+          LiveAtSides-next s b.cells c.args.c l side i (λ q at. absurd (none q at))))
     ]
 
 -- all sides were visited

@@ -1,12 +1,11 @@
 -- The empty sides are told first, then the strings at the sides, one after another.
 use Rattle.std.proofs.Common.{sym, arith, ◌∙◌}
-use Rattle.go_rules.specs.Position.{BoardState}
 use Rattle.go_rules.specs.Neighbourhood.{neighbourhood_of}
-use Rattle.go_base.specs.Facts.{Agrees, agrees_before, AddsIn-mono, same_size}
+use Rattle.go_base.specs.Facts.{agrees_before, AddsIn-mono}
 use Rattle.go_base.specs.Views.{alone}
 use Rattle.trial_board.specs.Trials.{after}
-use Rattle.trial_board.proofs.WalkLemmas.{Walked-same, Walked-next, on_agreed}
-use Rattle.further_moves.proofs.SideLemmas.{side_found, no_side}
+use Rattle.trial_board.proofs.WalkLemmas.{on_agreed}
+use Rattle.further_moves.proofs.SideLemmas.{Walked-side, Walked-off}
 use Rattle.read_rules.specs.Candidates.{IsEmptyNeighbour}
 use Rattle.read_moves.specs.Reaches.{Tells, IsOtherLibertyOf, IsReached}
 use Rattle.read_moves.proofs.SideLemmas.{sides_near, string_near}
@@ -36,27 +35,23 @@ pub loop-side-preserved : goal.loop-side-preserved
 loop-side-preserved g c =
     let l = c.args.l in
     let side = c.loop-side.side in
-    let size = λ (pos : BoardState) (a : Agrees (g.L.Look.seen c.args.board.now.look) pos).
-    same_size (g.met.L.Look.sized c.args.board.now.look) a in
-    let empty = λ (pos : BoardState). IsEmptyNeighbour pos.size (after pos c.args.board.now.moves).cells l in
-    let its = λ (pos : BoardState). IsLibertyAtSide pos.size (after pos c.args.board.now.moves).cells c.args.c l in
+    let told = g.met.L.Look.sized c.args.board.now.look in
     elim c.match-neighbour.branch [
       | in-Some w ↦
           let q = w.in-Some.beside in
           let one = w.reach_of_string in
-          let here = λ (pos : BoardState) (a : Agrees (g.L.Look.seen c.args.board.now.look) pos).
-          side_found pos.size l side q (size pos a) c.requires c.size-size.ensures c.neighbour.ensures.value
-          w.in-Some.is in
-          rw (w.board-is, w.reach-is, w.with-reach.ensures) (Walked-next (λ s b. neighbourhood_of s b.cells (alone q))
-          (λ s b. Tells (IsOtherLibertyOf s b.cells c.args.c l q) one.result) c.loop-side.invariant
+          rw (w.board-is, w.reach-is, w.with-reach.ensures) (Walked-side l side told c.requires c.size-size.ensures
+          c.neighbour.ensures.value c.loop-side.invariant (λ s b. neighbourhood_of s b.cells (alone q))
+          (λ s b. Tells (IsOtherLibertyOf s b.cells c.args.c l q) one.result) w.in-Some.is
           (record { stays = one.ensures.stays; near = one.ensures.near; over = one.ensures.over })
-          (λ pos a i. string_near (after pos c.args.board.now.moves).cells (here pos a))
-          (λ pos a i came. SoFar-next (empty pos) (its pos) side c.loop-side.reach one.result i
-          (string_told pos.size (after pos c.args.board.now.moves).cells l (here pos a).on_board c.args.c side q
-          one.result (here pos a).at came)))
-      | in_default w ↦ rw (w.board-is, w.reach-is) (Walked-same c.loop-side.invariant (λ pos a i.
-          SoFar-skip (empty pos) (its pos) side c.loop-side.reach i (λ x found. no_side pos.size l side (size pos a)
-          c.size-size.ensures c.neighbour.ensures.value w.in_default.not-Some found.q found.at)))
+          (λ s b is. string_near b.cells is)
+          (λ s b is i came. SoFar-next (IsEmptyNeighbour s b.cells l) (IsLibertyAtSide s b.cells c.args.c l) side
+          c.loop-side.reach one.result i
+          (string_told s b.cells l is.on_board c.args.c side q one.result is.at came)))
+      | in_default w ↦ rw (w.board-is, w.reach-is) (Walked-off l side told c.requires c.size-size.ensures
+          c.neighbour.ensures.value c.loop-side.invariant w.in_default.not-Some (λ s b none i.
+          SoFar-skip (IsEmptyNeighbour s b.cells l) (IsLibertyAtSide s b.cells c.args.c l) side c.loop-side.reach i
+          (λ x its. none its.q its.at)))
     ]
 
 -- two points that were told are two that are reached
