@@ -5,7 +5,7 @@ use Rattle.std.proofs.Common.{List, length, refl, sym, ap, arith, inl, inr, ◌�
 use Rattle.std.proofs.Common.{get_or-set_other}
 use Rattle.std.specs.Prelude.{slice_index_or}
 use Rattle.std.proofs.Math.ListN.{set, length-set}
-use Rattle.std.proofs.lemmas.Bool.{cases_Bool, cases_eq, cases_lt, eq-eqb, lt-ltb, le-ltb}
+use Rattle.std.proofs.lemmas.Bool.{both_ways, cases_Bool, cases_eq, cases_lt, eq-eqb, lt-ltb, le-ltb}
 use Rattle.std.specs.Ordering.{nat_cmp}
 use Rattle.std.specs.FinSet as sets
 use Rattle.go_rules.specs.Below.{count_below, set_below}
@@ -87,25 +87,27 @@ count_below-less n (suc m) test l = elim (cases_eq n (suc m)) [
       (cases_Bool (test m)) [ inl t ↦ rw t (omega (arith, rest)) | inr f ↦ rw f (omega (arith, rest)) ]
 ]
 
+-- a number that passes at most one of two tests, and then a third, is counted no more often for the two
+apart : (a b all : Bool) → (a ≡ true → (b ≡ false) × (all ≡ true)) → (b ≡ true → all ≡ true)
+    → cond a 1 0 + cond b 1 0 ≤ cond all 1 0
+apart true b all h i = let both = h refl in rw (both.0, both.1) (omega arith)
+apart false true all h i = rw (i refl) (omega arith)
+apart false false all h i = omega arith
+
 -- two tests of which no number passes both, each within a third
 pub count_below-two : (n : ℕ) (a b all : ℕ → Bool) → ((k : ℕ) → k < n → a k ≡ true → (b k ≡ false) × (all k ≡ true))
     → ((k : ℕ) → k < n → b k ≡ true → all k ≡ true)
     → count_below n a + count_below n b ≤ count_below n all
 count_below-two zero a b all h i = omega arith
 count_below-two (suc n) a b all h i =
-    let rest : count_below n a + count_below n b ≤ count_below n all = count_below-two n a b all
-    (λ k l. h k (omega arith)) (λ k l. i k (omega arith)) in
-    elim (cases_Bool (a n)) [
-      | inl t ↦ let both = h n (omega arith) t in rw (t, both.0, both.1) (omega (arith, rest))
-      | inr f ↦ elim (cases_Bool (b n)) [
-        | inl t ↦ rw (f, t, i n (omega arith) t) (omega (arith, rest))
-        | inr g ↦ elim (cases_Bool (all n)) [
-          | inl t ↦ rw (f, g, t) (omega (arith, rest))
-          | inr o ↦ rw (f, g, o)
-              (omega (arith, rest))
-        ]
-      ]
-    ]
+    let rest = count_below-two n a b all (λ k l. h k (omega arith)) (λ k l. i k (omega arith)) in
+    let here = apart (a n) (b n) (all n) (h n (omega arith)) (i n (omega arith)) in
+    omega (arith, rest, here)
+
+-- a number is counted once at most
+once : (a : Bool) → cond a 1 0 ≤ 1
+once true = omega arith
+once false = omega arith
 
 -- a test that differs from another at one number counts at most one more
 pub count_below-one : (n p : ℕ) (a b : ℕ → Bool) → ((k : ℕ) → k < n → k ≢ p → a k ≡ true → b k ≡ true)
@@ -113,29 +115,13 @@ pub count_below-one : (n p : ℕ) (a b : ℕ → Bool) → ((k : ℕ) → k < n 
 count_below-one zero p a b h = omega arith
 count_below-one (suc n) p a b h = elim (cases_eq n p) [
   | inl e ↦
-      let rest : count_below n a ≤ count_below n b = count_below_mono n a b (λ k l. h k (omega arith) (omega arith)) in
-      elim (cases_Bool (a n)) [
-        | inl t ↦ elim (cases_Bool (b n)) [
-          | inl u ↦ rw (t, u) (omega (arith, rest))
-          | inr g ↦ rw (t, g)
-              (omega (arith, rest))
-        ]
-        | inr f ↦ elim (cases_Bool (b n)) [
-          | inl u ↦ rw (f, u) (omega (arith, rest))
-          | inr g ↦ rw (f, g)
-              (omega (arith, rest))
-        ]
-      ]
+      let rest = count_below_mono n a b (λ k l. h k (omega arith) (omega arith)) in
+      let here = once (a n) in
+      omega (arith, rest, here)
   | inr ne ↦
-      let rest : count_below n a ≤ count_below n b + 1 = count_below-one n p a b (λ k l. h k (omega arith)) in
-      elim (cases_Bool (a n)) [
-        | inl t ↦ rw (t, h n (omega arith) ne t) (omega (arith, rest))
-        | inr f ↦ elim (cases_Bool (b n)) [
-          | inl u ↦ rw (f, u) (omega (arith, rest))
-          | inr g ↦ rw (f, g)
-              (omega (arith, rest))
-        ]
-      ]
+      let rest = count_below-one n p a b (λ k l. h k (omega arith)) in
+      let here = apart (a n) false (b n) (λ t. (refl, h n (omega arith) ne t)) (λ f. absurd (both_ways false refl f)) in
+      omega (arith, rest, here)
 ]
 
 -- the points of the test below n are written into the row from the place `first` on, and what stands before it is as it
