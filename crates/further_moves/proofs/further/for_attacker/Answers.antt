@@ -3,6 +3,7 @@ use Rattle.std.proofs.Common.{◌*◌, ◌<◌, sym, subst, ◌∙◌}
 use Rattle.std.proofs.lemmas.Bool.{and_parts, ltb-true}
 use Rattle.std.specs.FinSet as set
 use Rattle.go_base.specs.Facts.{agrees_before, same_size, AddsIn-trans, AddsIn-mono}
+use Rattle.trial_board.proofs.WalkLemmas.{on_agreed}
 use Rattle.trial_board.specs.Trials.{after}
 use Rattle.further_rules.proofs.FurtherPlaces.{second_third}
 use Rattle.further_moves.proofs.SetLemmas.{rescue_is, attacker_is, joined_twice}
@@ -54,8 +55,7 @@ returns-clause-near g c = λ pos a.
     let m1 = c.net-found.ensures.stays.moves in
     let m2 = c.weak_enemies-weak.ensures.stays.moves ∙ m1 in
     let cells = (after pos c.args.board.now.moves).cells in
-    let size = same_size (g.met.L.Look.sized c.args.board.now.look) a0 in
-    let on = subst (λ n. c.args.target < n * n) (sym size) c.requires.on_board in
+    let on = on_agreed _ _ (g.met.L.Look.sized c.args.board.now.look) a0 c.requires.on_board in
     let beside = rw m1 at (c.weak_enemies-weak.ensures.near pos a2) in
     let allies = rw m1 at (c.weak_enemies-weak.ensures.allies pos a2) in
     let last = rw m2 at (c.last_liberties-rescues.ensures.near pos a) in

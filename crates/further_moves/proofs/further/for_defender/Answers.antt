@@ -4,6 +4,7 @@ use Rattle.std.proofs.lemmas.Bool.{and_parts, ltb-true}
 use Rattle.std.specs.FinSet as set
 use Rattle.go_rules.specs.Position.{BoardState}
 use Rattle.go_base.specs.Facts.{agrees_before, same_size, AddsIn-trans, AddsIn-mono}
+use Rattle.trial_board.proofs.WalkLemmas.{on_agreed}
 use Rattle.trial_board.specs.Trials.{after}
 use Rattle.further_rules.proofs.FurtherPlaces.{third_fourth}
 use Rattle.further_moves.proofs.SetLemmas.{cut_is, defender_is, joined_twice}
@@ -48,8 +49,7 @@ returns-clause-near g c = λ pos a.
     let m1 = c.linked_strings-linked.ensures.stays.moves in
     let m2 = c.weak_enemies-weak.ensures.stays.moves ∙ m1 in
     let cells = (after pos c.args.board.now.moves).cells in
-    let size = same_size (g.met.L.Look.sized c.args.board.now.look) a0 in
-    let on = subst (λ n. c.args.target < n * n) (sym size) c.requires.on_board in
+    let on = on_agreed _ _ (g.met.L.Look.sized c.args.board.now.look) a0 c.requires.on_board in
     let beside = rw m1 at (c.weak_enemies-weak.ensures.near pos a2) in
     let last = rw m2 at (c.last_liberties-cuts.ensures.near pos a) in
     AddsIn-trans (AddsIn-mono (c.linked_strings-linked.ensures.near pos a1)
