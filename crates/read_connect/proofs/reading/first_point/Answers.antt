@@ -9,8 +9,7 @@ use Rattle.read_rules.proofs.AreaLemmas.{AddsNear-trans}
 use Rattle.link_rules.specs.ConnectingMoves.{is_connecting_move}
 use Rattle.link_rules.proofs.MoveLemmas.{move_on}
 use Rattle.read_connect.specs.Stages.{attains, reaches_among}
-use Rattle.read_connect.proofs.StageLemmas.{in_both}
-use Rattle.read_connect.proofs.StageLemmas.{all_moves, liberty_inside}
+use Rattle.read_connect.proofs.StageLemmas.{stages_found, all_moves, liberty_inside}
 use Rattle.read_connect.proofs.TurnLemmas.{first_hit, first_none}
 use Rattle.read_connect.proofs.StandingNodes.{ready_node, near_captures}
 use Rattle.read_connect.proofs.WalkLemmas.{none_first, none_next, none_left, before_hit, ready_still}
@@ -37,14 +36,8 @@ all : (g : Over) (c : After-join-2 g) (pos : BoardState) → Agrees (g.L.Look.se
 all g c pos a p =
     let a0 = agrees_before c.captures_of.ensures.stays.grows a in
     let sized = c.size.ensures ∙ sym (same_size (g.met.L.Look.sized c.args.board.now.look) a0) in
-    all_moves c.args.link pos.size (after pos c.args.board.now.moves) c.args.of_a.now c.args.of_b.now
-    (size-after pos c.args.board.now.moves) (c.requires.liberties.a_liberties pos a0)
-    (c.requires.liberties.b_liberties pos a0) c.intersection-moves.result c.crossing.result c.captures_of.result
-    c.join.new.self c.join-2.new.self (in_both c.args.of_a.now c.args.of_b.now c.intersection-moves.result
-    c.intersection-moves.ensures)
-    (λ x. c.crossing.ensures x
-    ∙ ap (λ n. reaches_among n c.args.of_a.now c.args.of_b.now x || reaches_among n c.args.of_b.now c.args.of_a.now x)
-    sized) (c.captures_of.ensures.over pos a) c.join.ensures c.join-2.ensures p
+    all_moves (stages_found c.requires.liberties pos a0 sized c.intersection-moves.ensures c.crossing.ensures
+    (c.captures_of.ensures.over pos a)) c.join.new.self c.join-2.new.self c.join.ensures c.join-2.ensures p
 
 -- the captures are looked for near, and no move was tried
 pub loop-p-init : goal.loop-p-init
