@@ -6,6 +6,7 @@ use Rattle.std.specs.FinSet as sets
 use Rattle.go_rules.specs.declared.Cell.{Cell}
 use Rattle.go_rules.specs.Below.{any_below}
 use Rattle.go_rules.specs.Strings.{liberty_points, IsLiberty}
+use Rattle.go_rules.specs.Position.{BoardState}
 use Rattle.go_rules.specs.Neighbourhood.{neighbourhood_of}
 use Rattle.go_rules.proofs.Counts.{any_below_gives}
 use Rattle.go_rules.proofs.Paths.{IsLiberty-from_test, is_is_in_string-from_fact}
@@ -15,6 +16,11 @@ use Rattle.go_base.proofs.PointNeighbourhoods.{close_mono, alone_self}
 use Rattle.trial_board.specs.Overlays.{neighbourhood_twice}
 use Rattle.read_rules.specs.Candidates.{near_candidates}
 use Rattle.read_rules.proofs.StageLemmas.{has_liberty}
+
+-- the liberties of t, on a position of the size of the trial position
+pub its_liberties : (here : BoardState) (s t : ℕ) (libs : sets.FinSet nat_cmp) → here.size ≡ s
+    → libs ≡ liberty_points s here.cells t → libs ≡ liberty_points here.size here.cells t
+its_liberties here s t libs size e = e ∙ ap (λ n. liberty_points n here.cells t) (sym size)
 
 -- Where the candidates of t are looked for.
 module _ (s : ℕ) (cells : List Cell) (t : ℕ) (on : t < s * s) where

@@ -8,12 +8,13 @@ use Rattle.go_rules.specs.Strings.{liberty_points}
 use Rattle.go_rules.proofs.Paths.{IsLiberty-from_test}
 use Rattle.go_base.specs.Facts.{agrees_before, same_size, AddsIn-trans, AddsIn-mono}
 use Rattle.go_base.proofs.LastLiberties.{contains-liberty_points}
+use Rattle.trial_board.proofs.WalkLemmas.{on_agreed}
 use Rattle.trial_board.specs.Trials.{after}
 use Rattle.trial_board.proofs.AfterLemmas.{size-after}
 use Rattle.read_rules.specs.Candidates.{attacker_of, is_empty_beside}
 use Rattle.read_moves.specs.Steps.{is_left}
 use Rattle.read_rules.proofs.StageLemmas.{wide_is}
-use Rattle.read_moves.proofs.CandidateLemmas.{near_self, near_liberties, near_plays}
+use Rattle.read_moves.proofs.CandidateLemmas.{its_liberties, near_self, near_liberties, near_plays}
 use Rattle.read_moves.proofs.stages.stated_wide_candidates.Given.{Over}
 use Rattle.read_moves.proofs.stages.stated_wide_candidates.Goals as goal
 use Rattle.read_moves.proofs.stages.stated_wide_candidates.Goals.{After-new-found}
@@ -36,12 +37,6 @@ add_backfilling-requires g c = λ l h.
     subst (λ (pos : BoardState). l < pos.size * pos.size)
     (sym (c.cell.ensures.stays.shown ∙ c.add_beside_few.ensures.stays.shown))
     (inside g (goal.at.add_backfilling-requires g c).After-new-found l h)
-
--- the liberties, on a position of the size of the trial position
-its_liberties : (here : BoardState) (s target : ℕ) (libs : set.FinSet nat_cmp) → here.size ≡ s
-    → libs ≡ liberty_points s here.cells target
-    → libs ≡ liberty_points here.size here.cells target
-its_liberties here s target libs size e = e ∙ ap (λ n. liberty_points n here.cells target) (sym size)
 
 -- the neighbours and what the plays leave were gathered
 pub returns-clause-over : goal.returns-clause-over
@@ -77,8 +72,7 @@ returns-clause-near g c = λ pos a.
     let a1 = agrees_before c.cell.ensures.stays.grows a2 in
     let a0 = agrees_before c.add_beside_few.ensures.stays.grows a1 in
     let its = c.requires.liberties pos a0 in
-    let size = same_size (g.met.L.Look.sized c.args.board.now.look) a0 in
-    let on = subst (λ n. c.args.target < n * n) (sym size) c.requires.on_board in
+    let on = on_agreed _ _ (g.met.L.Look.sized c.args.board.now.look) a0 c.requires.on_board in
     let m2 = c.cell.ensures.stays.moves ∙ c.add_beside_few.ensures.stays.moves in
     let plays = rw m2 at (c.add_backfilling.ensures.near pos a) in
     AddsIn-trans (AddsIn-mono (c.add_beside_few.ensures.near pos a1)
