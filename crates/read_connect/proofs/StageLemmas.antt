@@ -181,15 +181,24 @@ pub liberty_inside : (s : ℕ) (cells : List Cell) (t p : ℕ) (known : set.FinS
 liberty_inside s cells t p known is has = (IsLiberty-from_test s cells t p
     (sym (ap (λ k. set.contains k p) is ∙ contains-liberty_points s cells t p) ∙ has)).on_board
 
--- a liberty that reaches across is on the board
-pub crossing_inside : (s : ℕ) (cells : List Cell) (link : Link) (of_a of_b : set.FinSet nat_cmp)
-    → of_a ≡ liberty_points s cells link.a → of_b ≡ liberty_points s cells link.b → (n p : ℕ)
-    → reaches_among n of_a of_b p || reaches_among n of_b of_a p ≡ true → p < s * s
-crossing_inside s cells link of_a of_b a_is b_is n p h =
-    elim (or_cases (reaches_among n of_a of_b p) (reaches_among n of_b of_a p) h) [
-      | inl x ↦ liberty_inside s cells link.a p of_a a_is (and_parts _ _ x).0
-      | inr x ↦ liberty_inside s cells link.b p of_b b_is (and_parts _ _ x).0
-    ]
+-- The liberties of the strings after the moves of a board, on a position that agrees with what was seen.
+module _ {L : Type 0} {seen : L → Fact → Bool} {board : Trying L} {link : Link} {of_a of_b : set.FinSet nat_cmp}
+    (its : AreLiberties seen board link of_a of_b) (pos : BoardState) (agrees : Agrees (seen board.look) pos) where
+  -- those of the one string are on the board
+  pub a_inside : (p : ℕ) → set.contains of_a p ≡ true → p < pos.size * pos.size
+  a_inside p h = liberty_inside pos.size (after pos board.moves).cells link.a p of_a (its.a_liberties pos agrees) h
+
+  -- and so are those of the other
+  pub b_inside : (p : ℕ) → set.contains of_b p ≡ true → p < pos.size * pos.size
+  b_inside p h = liberty_inside pos.size (after pos board.moves).cells link.b p of_b (its.b_liberties pos agrees) h
+
+  -- and those that reach across
+  pub crossing_inside : (n p : ℕ) → reaches_among n of_a of_b p || reaches_among n of_b of_a p ≡ true
+      → p < pos.size * pos.size
+  crossing_inside n p h = elim (or_cases (reaches_among n of_a of_b p) (reaches_among n of_b of_a p) h) [
+    | inl x ↦ a_inside p (and_parts _ _ x).0
+    | inr x ↦ b_inside p (and_parts _ _ x).0
+  ]
 
 -- The first two stages, where these are the liberties of the strings after the moves of a board.
 module _ {L : Type 0} {seen : L → Fact → Bool} {board : Trying L} {link : Link} {of_a of_b : set.FinSet nat_cmp}
@@ -211,7 +220,7 @@ module _ {L : Type 0} {seen : L → Fact → Bool} {board : Trying L} {link : Li
       (ap (λ m. reaches_among m of_a of_b p || reaches_among m of_b of_a p) (sym e) ∙ sym (is p) ∙ h)
 
 -- a capture is on the board
-pub capture_inside : (s : ℕ) (cells : List Cell) (link : Link) (p : ℕ) → is_capture s cells link.a link.b p ≡ true
+capture_inside : (s : ℕ) (cells : List Cell) (link : Link) (p : ℕ) → is_capture s cells link.a link.b p ≡ true
     → p < s * s
 capture_inside s cells link p h =
     move_on link (record { size = s; cells = cells; ban = None }) p (or_right _ _ h)
@@ -266,10 +275,19 @@ module _ {link : Link} {s : ℕ} {here : BoardState} {of_a of_b shared across ca
 
   -- The captures of which none was tried.
   module _ (tried rest : set.FinSet nat_cmp) (rest_is : rest ≡ set.difference captures tried) where
-    -- one of these is a connecting move
+    -- one of these is a capture
+    rest_is_capture : (p : ℕ) → set.contains rest p ≡ true → is_capture s here.cells link.a link.b p ≡ true
+    rest_is_capture p i =
+        sym (h.captures_is p) ∙ (and_parts _ _ (sym (in_first_alone captures tried rest rest_is p) ∙ i)).0
+
+    -- and so it is on the board
+    pub rest_inside : (p : ℕ) → set.contains rest p ≡ true → p < s * s
+    rest_inside p i = capture_inside s here.cells link p (rest_is_capture p i)
+
+    -- and a connecting move
     pub rest_is_move : (p : ℕ) → set.contains rest p ≡ true → is_connecting_move link here p ≡ true
     rest_is_move p i = capture_is_move link s here of_a of_b h.size h.a_is h.b_is p
-        (sym (h.captures_is p) ∙ (and_parts _ _ (sym (in_first_alone captures tried rest rest_is p) ∙ i)).0)
+        (rest_is_capture p i)
 
     -- a connecting move is of the first two stages, or one of these
     covered : tried ≡ set.union shared across → (p : ℕ) → is_connecting_move link here p ≡ true

@@ -9,7 +9,7 @@ use Rattle.read_rules.proofs.AreaLemmas.{AddsNear-trans}
 use Rattle.link_rules.specs.ConnectingMoves.{is_connecting_move}
 use Rattle.link_rules.proofs.MoveLemmas.{move_on}
 use Rattle.read_connect.specs.Stages.{attains, reaches_among}
-use Rattle.read_connect.proofs.StageLemmas.{stages_found, all_moves, liberty_inside}
+use Rattle.read_connect.proofs.StageLemmas.{a_inside, b_inside, stages_found, all_moves}
 use Rattle.read_connect.proofs.TurnLemmas.{first_hit, first_none}
 use Rattle.read_connect.proofs.StandingNodes.{ready_node, near_captures}
 use Rattle.read_connect.proofs.WalkLemmas.{none_first, none_next, none_left, before_hit, ready_still}
@@ -22,12 +22,9 @@ pub crossing-requires : goal.crossing-requires
 crossing-requires g c =
     let shown = g.L.Look.shows c.args.board.now.look in
     let holds = g.met.L.Look.holds c.args.board.now.look in
-    let here = after shown c.args.board.now.moves in
     record {
-      a_on = λ p h. subst (λ n. p < n * n) (sym c.size.ensures) (liberty_inside shown.size here.cells c.args.link.a p
-          c.args.of_a.now (c.requires.liberties.a_liberties shown holds) h);
-      b_on = λ p h. subst (λ n. p < n * n) (sym c.size.ensures) (liberty_inside shown.size here.cells c.args.link.b p
-          c.args.of_b.now (c.requires.liberties.b_liberties shown holds) h);
+      a_on = λ p h. subst (λ n. p < n * n) (sym c.size.ensures) (a_inside c.requires.liberties shown holds p h);
+      b_on = λ p h. subst (λ n. p < n * n) (sym c.size.ensures) (b_inside c.requires.liberties shown holds p h);
     }
 
 -- the set has the connecting moves, on each position that agrees with what was seen of the captures

@@ -15,10 +15,10 @@ use Rattle.link_rules.specs.ConnectionArea.{IsUndecided}
 use Rattle.link_rules.proofs.TreeLemmas.{connects-gone, connects-joined, connects-no_plies}
 use Rattle.go_rules.specs.Strings.{liberty_points}
 use Rattle.read_connect.specs.Stages.{attains, reaches_among}
-use Rattle.read_connect.specs.Walk.{AreOnBoard, AreLiberties, IsReady, IsNodeFor, LooksNear, LooksNearFrom}
+use Rattle.read_connect.specs.Walk.{IsPointOf, AreOnBoard, AreLiberties, IsReady, IsNodeFor, LooksNear, LooksNearFrom}
 use Rattle.read_connect.proofs.StageLemmas.{in_both, in_first_alone}
-use Rattle.read_connect.proofs.StageLemmas.{one_by, liberty_inside, shared_move, crossing_move, AreStages, stages_found}
-use Rattle.read_connect.proofs.StageLemmas.{crossing_inside, capture_inside, rest_is_move, last_stage}
+use Rattle.read_connect.proofs.StageLemmas.{one_by, shared_move, crossing_move, AreStages, stages_found}
+use Rattle.read_connect.proofs.StageLemmas.{a_inside, b_inside, crossing_inside, rest_inside, rest_is_move, last_stage}
 use Rattle.read_connect.proofs.StandingNodes.{point_on, standing_node, ready_node, near_ends, near_a, near_b}
 use Rattle.read_connect.proofs.StandingNodes.{near_captures, near_play, played_child, passed_child}
 use Rattle.read_connect.proofs.TurnLemmas.{own_by, parted_by, other_by}
@@ -390,8 +390,7 @@ pub some_move-some_of-requires : goal.some_move-some_of-requires
 some_move-some_of-requires g t c κs within =
     let shown = g.L.Look.shows c.args.board.now.look in
     let on : (p : ℕ) → set.contains c.intersection-tried.result p ≡ true → p < shown.size * shown.size =
-    λ p h. liberty_inside shown.size (after shown c.args.board.now.moves).cells c.args.link.a p c.args.of_a.now
-    (c.requires.liberties.a_liberties shown (g.met.L.Look.holds c.args.board.now.look))
+    λ p h. a_inside c.requires.liberties shown (g.met.L.Look.holds c.args.board.now.look) p
     (and_parts _ _ (sym (in_both c.args.of_a.now c.args.of_b.now c.intersection-tried.result
     c.intersection-tried.ensures p) ∙ h)).0 in
     search rules
@@ -401,30 +400,23 @@ pub some_move-crossing-crossing-requires : goal.some_move-crossing-crossing-requ
 some_move-crossing-crossing-requires g t c =
     let shown = g.L.Look.shows c.args.board.now.look in
     let holds = g.met.L.Look.holds c.args.board.now.look in
-    let here = after shown c.args.board.now.moves in
     let same = c.size.ensures ∙ ap (λ (pos : BoardState). pos.size) c.some_of.ensures.stays.shown in
     record {
-      a_on = λ p h. subst (λ n. p < n * n) (sym same) (liberty_inside shown.size here.cells c.args.link.a p
-          c.args.of_a.now (c.requires.liberties.a_liberties shown holds) h);
-      b_on = λ p h. subst (λ n. p < n * n) (sym same) (liberty_inside shown.size here.cells c.args.link.b p
-          c.args.of_b.now (c.requires.liberties.b_liberties shown holds) h);
+      a_on = λ p h. subst (λ n. p < n * n) (sym same) (a_inside c.requires.liberties shown holds p h);
+      b_on = λ p h. subst (λ n. p < n * n) (sym same) (b_inside c.requires.liberties shown holds p h);
     }
 
 -- so are those that reach across
 pub some_move-some_of-requires-2 : goal.some_move-some_of-requires-2
 some_move-some_of-requires-2 g t c κs within =
-    let shown = g.L.Look.shows c.args.board.now.look in
-    let holds = g.met.L.Look.holds c.args.board.now.look in
-    let here = after shown c.args.board.now.moves in
+    let look = c.args.board.now.look in
     let board = c.some_of.new.board in
     let stays = c.some_of.ensures.stays in
     let ready : IsReady g.L.Look.shows g.L.Look.seen board c.args.link c.args.plies =
     ready_still g.L.Look.shows g.L.Look.seen c.args.board.now board c.args.link c.args.plies stays c.requires.ready in
-    let on : (p : ℕ) → set.contains c.crossing-crossing.result p ≡ true
-    → p < (g.L.Look.shows board.look).size * (g.L.Look.shows board.look).size =
+    let on : (p : ℕ) → set.contains c.crossing-crossing.result p ≡ true → IsPointOf g.L.Look.shows board p =
     λ p h. subst (λ (pos : BoardState). p < pos.size * pos.size) (sym stays.shown)
-    (crossing_inside shown.size here.cells c.args.link c.args.of_a.now c.args.of_b.now
-    (c.requires.liberties.a_liberties shown holds) (c.requires.liberties.b_liberties shown holds) c.size.result p
+    (crossing_inside c.requires.liberties (g.L.Look.shows look) (g.met.L.Look.holds look) c.size.result p
     (sym (c.crossing-crossing.ensures p) ∙ h)) in
     search rules
 
@@ -434,24 +426,30 @@ some_move-captures_of-requires g t c =
     (ready_still g.L.Look.shows g.L.Look.seen c.args.board.now c.some_of-2.new.board c.args.link c.args.plies
     (Stays-trans c.some_of.ensures.stays c.some_of-2.ensures.stays) c.requires.ready).on_board
 
+-- the stages that were found, on a position that agrees with what was seen of the captures
+stages : (g : Over) (t : ℕ) (c : some_move-After-captures_of g t) (pos : BoardState)
+    → Agrees (g.L.Look.seen c.captures_of.new.board.look) pos
+    → AreStages c.args.link pos.size (after pos c.args.board.now.moves) c.args.of_a.now c.args.of_b.now
+    c.intersection-tried.result c.crossing-crossing.result c.captures_of.result
+stages g t c pos a =
+    let before = Stays-trans c.some_of.ensures.stays c.some_of-2.ensures.stays in
+    let a0 = agrees_before before.grows (agrees_before c.captures_of.ensures.stays.grows a) in
+    let sized = c.size.ensures ∙ ap (λ (x : BoardState). x.size) c.some_of.ensures.stays.shown
+    ∙ sym (same_size (g.met.L.Look.sized c.args.board.now.look) a0) in
+    stages_found c.requires.liberties pos a0 sized c.intersection-tried.ensures c.crossing-crossing.ensures
+    (λ p. rw before.moves at (c.captures_of.ensures.over pos a p))
+
 -- a capture is on the board
 pub some_move-some_of-requires-3 : goal.some_move-some_of-requires-3
 some_move-some_of-requires-3 g t c κs within =
-    let shown = g.L.Look.shows c.args.board.now.look in
-    let link = c.args.link in
     let board = c.captures_of.new.board in
-    let before = Stays-trans c.some_of.ensures.stays c.some_of-2.ensures.stays in
-    let stays = Stays-trans before c.captures_of.ensures.stays in
-    let ready : IsReady g.L.Look.shows g.L.Look.seen board link c.args.plies =
-    ready_still g.L.Look.shows g.L.Look.seen c.args.board.now board link c.args.plies stays c.requires.ready in
-    let agrees = subst (Agrees (g.L.Look.seen board.look)) stays.shown (g.met.L.Look.holds board.look) in
-    let on : (p : ℕ) → set.contains c.difference-captures.result p ≡ true
-    → p < (g.L.Look.shows board.look).size * (g.L.Look.shows board.look).size =
-    λ p h. subst (λ (pos : BoardState). p < pos.size * pos.size) (sym stays.shown)
-    (capture_inside shown.size (after shown c.args.board.now.moves).cells link p
-    (sym (rw before.moves at (c.captures_of.ensures.over shown agrees p))
-    ∙ (and_parts _ _ (sym (in_first_alone c.captures_of.result c.join.new.self c.difference-captures.result
-    c.difference-captures.ensures p) ∙ h)).0)) in
+    let stays = Stays-trans (Stays-trans c.some_of.ensures.stays c.some_of-2.ensures.stays) c.captures_of.ensures.stays in
+    let ready : IsReady g.L.Look.shows g.L.Look.seen board c.args.link c.args.plies =
+    ready_still g.L.Look.shows g.L.Look.seen c.args.board.now board c.args.link c.args.plies stays c.requires.ready in
+    let found = stages g t (goal.at.some_move-some_of-requires-3 g t c).After-captures_of (g.L.Look.shows board.look)
+    (g.met.L.Look.holds board.look) in
+    let on : (p : ℕ) → set.contains c.difference-captures.result p ≡ true → IsPointOf g.L.Look.shows board p =
+    rest_inside found c.join.new.self c.difference-captures.result c.difference-captures.ensures in
     search rules
 
 -- a liberty of both is looked at near
@@ -493,19 +491,6 @@ two_near g t c = λ pos a q root node.
 pub some_move-returns-then-some_of-2-clause-near : goal.some_move-returns-then-some_of-2-clause-near
 some_move-returns-then-some_of-2-clause-near g t c =
     two_near g t (goal.at.some_move-returns-then-some_of-2-clause-near g t c).After-some_of-2
-
--- the stages that were found, on a position that agrees with what was seen of the captures
-stages : (g : Over) (t : ℕ) (c : some_move-After-captures_of g t) (pos : BoardState)
-    → Agrees (g.L.Look.seen c.captures_of.new.board.look) pos
-    → AreStages c.args.link pos.size (after pos c.args.board.now.moves) c.args.of_a.now c.args.of_b.now
-    c.intersection-tried.result c.crossing-crossing.result c.captures_of.result
-stages g t c pos a =
-    let before = Stays-trans c.some_of.ensures.stays c.some_of-2.ensures.stays in
-    let a0 = agrees_before before.grows (agrees_before c.captures_of.ensures.stays.grows a) in
-    let sized = c.size.ensures ∙ ap (λ (x : BoardState). x.size) c.some_of.ensures.stays.shown
-    ∙ sym (same_size (g.met.L.Look.sized c.args.board.now.look) a0) in
-    stages_found c.requires.liberties pos a0 sized c.intersection-tried.ensures c.crossing-crossing.ensures
-    (λ p. rw before.moves at (c.captures_of.ensures.over pos a p))
 
 -- the captures are the last stage
 pub some_move-returns-clause-over : goal.some_move-returns-clause-over
