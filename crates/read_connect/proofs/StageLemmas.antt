@@ -71,6 +71,12 @@ stages_are false false true false f g = refl
 stages_are false false false true f g = refl
 stages_are false false false false f g = refl
 
+-- what is no member of the first set does not reach across
+pub none_reaches : (s : ℕ) (points others : set.FinSet nat_cmp) (p : ℕ) → set.contains points p ≡ false
+    → reaches_among s points others p ≡ false
+none_reaches s points others p none =
+    ap (λ b. b && (not (set.contains others p) && ((set.len points == 1) || is_beside_member s others p))) none
+
 -- a member of the first set is tested for what reaches across
 pub reach_test : (s : ℕ) (points others : set.FinSet nat_cmp) (p n : ℕ) (told : Bool)
     → told ≡ (not (set.contains others p) && ((n == 1) || is_beside_member s others p)) → n ≡ set.len points

@@ -1,11 +1,11 @@
 -- A string with enough liberties has one beside one given point, and beside two.
-use Rattle.std.proofs.Common.{◌≡◌, ◌≢◌, ◌⊎◌, ℕ, zero, suc, ◌+◌, ◌*◌, ◌<◌, ◌≤◌, ◌&&◌, Bool, true, false, not, cond, eqb}
-use Rattle.std.proofs.Common.{List, refl, ap, arith, inl, inr}
+use Rattle.std.proofs.Common.{◌≡◌, ◌≢◌, ◌⊎◌, ℕ, ◌+◌, ◌*◌, ◌<◌, ◌≤◌, ◌&&◌, Bool, true, not, eqb}
+use Rattle.std.proofs.Common.{List, ap, arith, inl, inr}
 use Rattle.std.proofs.lemmas.Bool.{cases_Bool, cases_eq, eq-eqb, ne_eqb, and_parts, and_from, both_ways}
 use Rattle.go_rules.specs.declared.Cell.{Cell}
 use Rattle.go_rules.specs.Below.{any_below, count_below}
 use Rattle.go_rules.specs.Strings.{is_liberty, liberties, IsLiberty}
-use Rattle.go_rules.proofs.Counts.{any_below_gives, any_below_none, count_below_mono, count_below_none}
+use Rattle.go_rules.proofs.Counts.{any_below_gives, any_below_none, count_below_none}
 use Rattle.trial_board.proofs.CapturedLemmas.{count_below-one}
 use Rattle.go_rules.proofs.Paths.{IsLiberty-from_test, is_liberty-from_fact}
 

@@ -1,7 +1,7 @@
 -- The stones next to the liberties that are not of the target's string are its near friends.
 use Rattle.std.proofs.Common.{◌*◌, ◌<◌, sym, subst, ◌∙◌}
 use Rattle.go_rules.specs.Position.{BoardState}
-use Rattle.go_base.specs.Facts.{agrees_before, same_size, AddsIn-trans, AddsIn-mono}
+use Rattle.go_base.specs.Facts.{agrees_before, AddsIn-trans, AddsIn-mono}
 use Rattle.trial_board.proofs.WalkLemmas.{on_agreed}
 use Rattle.trial_board.specs.Trials.{after}
 use Rattle.further_moves.proofs.SetLemmas.{friend_is}

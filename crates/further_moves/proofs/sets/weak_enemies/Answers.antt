@@ -1,7 +1,7 @@
 -- What stands around the enemies next to the target that have few liberties is Beside and the allies.
-use Rattle.std.proofs.Common.{◌*◌, ◌<◌, sym, subst, ◌∙◌}
+use Rattle.std.proofs.Common.{◌*◌, sym, ◌∙◌}
 use Rattle.std.proofs.lemmas.Bool.{and_parts, ltb-true}
-use Rattle.go_base.specs.Facts.{agrees_before, same_size, AddsIn-trans, AddsIn-mono}
+use Rattle.go_base.specs.Facts.{agrees_before, AddsIn-trans, AddsIn-mono}
 use Rattle.trial_board.proofs.WalkLemmas.{on_agreed}
 use Rattle.trial_board.specs.Trials.{after}
 use Rattle.further_moves.proofs.StringLemmas.{has_enemy}

@@ -1,8 +1,7 @@
 -- The first node is read by the rules of its turn.
-use Rattle.std.proofs.Common.{◌≡◌, ◌∙◌, ◌-◌, ◌*◌, ◌<◌, suc, false, IfSome, ap, sym, subst, arith, length}
+use Rattle.std.proofs.Common.{◌≡◌, ◌∙◌, ◌-◌, ◌*◌, ◌<◌, suc, false, IfSome, sym, subst, arith}
 use Rattle.std.proofs.lemmas.Bool.{and_parts}
 use Rattle.go_rules.specs.Position.{BoardState}
-use Rattle.go_rules.specs.Strings.{liberty_points}
 use Rattle.go_base.specs.Facts.{Agrees, agrees_before, same_size}
 use Rattle.go_base.proofs.SidesOfPoints.{square_small}
 use Rattle.trial_board.specs.Trials.{after, Stays-trans}

@@ -1,5 +1,5 @@
 -- The moves in reading order, each read to its end.
-use Rattle.std.proofs.Common.{◌≡◌, ◌∙◌, ◌*◌, ◌<◌, ◌||◌, ℕ, sym, ap, subst}
+use Rattle.std.proofs.Common.{◌≡◌, ◌∙◌, ◌*◌, ◌<◌, ℕ, sym, subst}
 use Rattle.std.specs.FinSet as set
 use Rattle.go_base.specs.Facts.{Agrees, agrees_before, Grows-refl, Grows-trans, same_size}
 use Rattle.go_rules.specs.Position.{BoardState}
@@ -8,7 +8,7 @@ use Rattle.trial_board.proofs.AfterLemmas.{size-after}
 use Rattle.read_rules.proofs.AreaLemmas.{AddsNear-trans}
 use Rattle.link_rules.specs.ConnectingMoves.{is_connecting_move}
 use Rattle.link_rules.proofs.MoveLemmas.{move_on}
-use Rattle.read_connect.specs.Stages.{attains, reaches_among}
+use Rattle.read_connect.specs.Stages.{attains}
 use Rattle.read_connect.proofs.StageLemmas.{a_inside, b_inside, stages_found, all_moves}
 use Rattle.read_connect.proofs.TurnLemmas.{first_hit, first_none}
 use Rattle.read_connect.proofs.StandingNodes.{ready_node, near_captures}

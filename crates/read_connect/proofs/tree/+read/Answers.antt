@@ -1,5 +1,5 @@
 -- The walk over the tree answers what the tree says, over every position that agrees with what was seen.
-use Rattle.std.proofs.Common.{arith, ◌||◌, ◌≡◌, ◌∙◌, ◌+◌, ◌-◌, ◌*◌, ◌<◌, ◌≤◌, ℕ, suc, inl, true, false, not}
+use Rattle.std.proofs.Common.{arith, ◌≡◌, ◌∙◌, ◌+◌, ◌-◌, ◌*◌, ◌<◌, ◌≤◌, ℕ, suc, inl, true, false, not}
 use Rattle.std.proofs.Common.{length, ap, sym, subst, refl, rules}
 use Rattle.std.proofs.lemmas.Bool.{and_parts}
 use Rattle.std.specs.FinSet as set
@@ -13,10 +13,9 @@ use Rattle.link_rules.specs.ConnectingMoves.{is_connecting_move}
 use Rattle.link_rules.specs.Connection.{can_connect, has_way, is_one_string, leads_to, mover_of}
 use Rattle.link_rules.specs.ConnectionArea.{IsUndecided}
 use Rattle.link_rules.proofs.TreeLemmas.{connects-gone, connects-joined, connects-no_plies}
-use Rattle.go_rules.specs.Strings.{liberty_points}
-use Rattle.read_connect.specs.Stages.{attains, reaches_among}
+use Rattle.read_connect.specs.Stages.{attains}
 use Rattle.read_connect.specs.Walk.{IsPointOf, AreOnBoard, AreLiberties, IsReady, IsNodeFor, LooksNear, LooksNearFrom}
-use Rattle.read_connect.proofs.StageLemmas.{in_both, in_first_alone}
+use Rattle.read_connect.proofs.StageLemmas.{in_both}
 use Rattle.read_connect.proofs.StageLemmas.{one_by, shared_move, crossing_move, AreStages, stages_found}
 use Rattle.read_connect.proofs.StageLemmas.{a_inside, b_inside, crossing_inside, rest_inside, rest_is_move, last_stage}
 use Rattle.read_connect.proofs.StandingNodes.{point_on, standing_node, ready_node, near_ends, near_a, near_b}

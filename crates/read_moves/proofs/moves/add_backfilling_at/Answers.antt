@@ -9,7 +9,7 @@ use Rattle.go_rules.specs.Strings.{cell_at}
 use Rattle.go_rules.proofs.Cells.{eq_is_same_cell, ne_false_same}
 use Rattle.go_rules.proofs.Paths.{same_cell-true, same_cell-from}
 use Rattle.go_rules.proofs.Sets.{contains-insert_nat}
-use Rattle.go_base.specs.Facts.{Agrees, AddsIn, agrees_before, AddsIn-trans, AddsIn-mono, same_size}
+use Rattle.go_base.specs.Facts.{Agrees, AddsIn, agrees_before, AddsIn-trans, AddsIn-mono}
 use Rattle.go_base.proofs.PointNeighbourhoods.{close_again, close_alone}
 use Rattle.trial_board.specs.Overlays.{neighbourhood_twice}
 use Rattle.go_rules.proofs.Tests.{or_comm}

@@ -1,13 +1,12 @@
 -- The string has another liberty, where it is of the other colour.
 use Rattle.std.proofs.Common.{◌≡◌, ℕ, ◌*◌, ◌<◌, true, Option, Some, None, IfSome, IfNone, is_some, false, ap, sym}
-use Rattle.std.proofs.Common.{subst, arith, ◌∙◌}
-use Rattle.std.specs.FinSet as set
+use Rattle.std.proofs.Common.{arith, ◌∙◌}
 use Rattle.go_rules.specs.Position.{BoardState, other, stone_of}
 use Rattle.go_rules.specs.Strings.{cell_at}
 use Rattle.go_rules.specs.Neighbourhood.{neighbourhood_of}
 use Rattle.go_rules.proofs.Cells.{ne_false_same}
 use Rattle.go_rules.proofs.Paths.{same_cell-true, IsLiberty-from_test, is_liberty-from_fact}
-use Rattle.go_base.specs.Facts.{Agrees, AddsIn, agrees_before, AddsIn-trans, AddsIn-mono, same_size}
+use Rattle.go_base.specs.Facts.{Agrees, AddsIn, agrees_before, AddsIn-trans, AddsIn-mono}
 use Rattle.go_base.specs.Views.{alone}
 use Rattle.go_base.proofs.PointNeighbourhoods.{close_alone}
 use Rattle.trial_board.proofs.WalkLemmas.{on_agreed}
