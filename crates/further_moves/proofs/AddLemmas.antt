@@ -23,7 +23,8 @@ any_below_skip test n m up none = same_tests _ _
 -- what is added to the empty set is all there is
 pub added_to_none : (none : sets.FinSet nat_cmp) (p : ℕ) (here : Bool) → none ≡ sets.empty
     → (sets.contains none p || here) ≡ here
-added_to_none none p here e = ap (λ t. sets.contains t p || here) e ∙ ap (λ b. b || here) (sets.contains-empty nat_cmp p)
+added_to_none none p here e =
+    ap (λ t. sets.contains t p || here) e ∙ ap (λ b. b || here) (sets.contains-empty nat_cmp p)
 
 module _ (test : ℕ → ℕ → Bool) (points old : sets.FinSet nat_cmp) where
   -- what the test has at the points of the set below n came, and nothing else

@@ -220,7 +220,8 @@ joined_twice first second third mid new p e f =
     joined mid third new p f ∙ ap (λ b. b || sets.contains third p) (joined first second mid p e)
 
 -- Net, Beside and Rescue joined are the attacker's
-pub attacker_joined : (s : ℕ) (cells : List Cell) (target p : ℕ) (net beside allies rescues mid new : sets.FinSet nat_cmp)
+pub attacker_joined : (s : ℕ) (cells : List Cell) (target p : ℕ)
+    (net beside allies rescues mid new : sets.FinSet nat_cmp)
     → mid ≡ sets.union net beside → new ≡ sets.union mid rescues → sets.contains net p ≡ is_net s cells target p
     → sets.contains beside p ≡ is_beside 2 s cells target p
     → ((r : ℕ) → sets.contains allies r ≡ (ltb r (s * s) && is_ally 2 s cells target r))
@@ -231,7 +232,8 @@ attacker_joined s cells target p net beside allies rescues mid new e f nets besi
     (joined_twice net beside rescues mid new p e f) nets besides (last ∙ rescue_is s cells target p allies allied)
 
 -- Beside, Join and Cut joined are the defender's
-pub defender_joined : (s : ℕ) (cells : List Cell) (target p : ℕ) (beside join cutters cuts mid new : sets.FinSet nat_cmp)
+pub defender_joined : (s : ℕ) (cells : List Cell) (target p : ℕ)
+    (beside join cutters cuts mid new : sets.FinSet nat_cmp)
     → mid ≡ sets.union beside join → new ≡ sets.union mid cuts
     → sets.contains beside p ≡ is_beside 4 s cells target p → sets.contains join p ≡ is_join s cells target p
     → ((r : ℕ) → sets.contains cutters r ≡ (ltb r (s * s) && is_cutter s cells target r))

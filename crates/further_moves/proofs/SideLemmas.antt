@@ -64,7 +64,8 @@ module _ {L : Type 0} {shows : L → BoardState} {seen : L → Fact → Bool} {a
   Walked-side close Says is look inside more =
       let here = λ (pos : BoardState) (a : Agrees (seen first.look) pos).
       side_found pos.size l side _ (same_size told a) on sized value is in
-      Walked-next close Says walk look (λ pos a i. inside pos.size _ (here pos a)) (λ pos a. more pos.size _ (here pos a))
+      Walked-next close Says walk look (λ pos a i. inside pos.size _ (here pos a))
+      (λ pos a. more pos.size _ (here pos a))
 
   -- one more side is off the board
   pub Walked-off : ((q : ℕ) → found ≡ Some q → ⊥)

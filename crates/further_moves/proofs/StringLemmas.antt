@@ -223,8 +223,8 @@ module _ (s : ℕ) (cells : List Cell) (p : ℕ) (left stones rest : sets.FinSet
       Gathers-next test points n p left rest old new up i here none (string_passes test shared)
 
 -- the stones of the string of q were told, and what stands around it came where it has few liberties
-pub record AddsAround (most s : ℕ) (cells : List Cell) (q : ℕ) (stones libs more_libs foes more_foes : sets.FinSet nat_cmp) :
-    Type 0 where
+pub record AddsAround (most s : ℕ) (cells : List Cell) (q : ℕ)
+    (stones libs more_libs foes more_foes : sets.FinSet nat_cmp) : Type 0 where
   pub its : stones ≡ string_at s cells q
   pub liberties : (p : ℕ) → sets.contains more_libs p ≡ (sets.contains libs p || is_few_liberty most s cells q p)
   pub enemies : (r : ℕ) → sets.contains more_foes r ≡ (sets.contains foes r || is_few_enemy most s cells q r)
@@ -242,8 +242,8 @@ pub GathersAround-next : {most s : ℕ} {cells : List Cell} {points left rest : 
     → ((k : ℕ) → n ≤ k → k < q → sets.contains left k ≡ false) → rest ≡ sets.difference left stones
     → AddsAround most s cells q stones libs more_libs foes more_foes
     → GathersAround most s cells points rest (q + 1) more_libs more_foes
-GathersAround-next {most} {s} {cells} {points} {left} {rest} {n} {q} {stones} {libs} {more_libs} {foes} {more_foes} on i up
-    here none taken one =
+GathersAround-next {most} {s} {cells} {points} {left} {rest} {n} {q} {stones} {libs} {more_libs} {foes} {more_foes} on
+    i up here none taken one =
     let next = Gathers-string s cells q left stones rest on one.its taken points n up here none in
     record {
       liberties = next (is_few_liberty most s cells) (λ x same. liberty_onward s cells q x on same most) libs more_libs

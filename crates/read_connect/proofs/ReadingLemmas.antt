@@ -134,7 +134,8 @@ module _ (q : LinkQuestion) (pos : BoardState) (a_on : q.a < pos.size * pos.size
 pub stands_too : {seen : Fact → Bool} {shown pos : BoardState} (p : ℕ) (cell : Cell) {stone : Cell}
     → seen (CellIs p cell) ≡ true → Agrees seen shown → Agrees seen pos → cell_at shown.cells p ≡ stone
     → cell_at pos.cells p ≡ stone
-stands_too p cell told here there stands = there.each (CellIs p cell) told ∙ sym (here.each (CellIs p cell) told) ∙ stands
+stands_too p cell told here there stands =
+    there.each (CellIs p cell) told ∙ sym (here.each (CellIs p cell) told) ∙ stands
 
 -- the question that the call makes is the one that is asked
 pub question_is : (shown : BoardState) (size a b plies : ℕ) (kind : LinkKind) (cell : Cell)

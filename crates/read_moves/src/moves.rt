@@ -1,4 +1,4 @@
-//! The points that a reading tries beside a target's liberties: the empty sides of a point, and the points that plays on
+//! The points that a reading tries beside a target's liberties: the empty sides of a point, and those that plays on
 //! them would leave.
 
 ghost use Rattle.std.specs.Prelude.{◌≡◌, ℕ, ◌*◌, ◌<◌, ◌≤◌, ◌&&◌, ◌||◌, IsTrue};

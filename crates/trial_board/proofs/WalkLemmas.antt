@@ -30,7 +30,8 @@ module _ {L : Type 0} {shows : L → BoardState} {seen : L → Fact → Bool} {a
   }
 
   -- what was found says more
-  pub Walked-same : {Found More : ℕ → BoardState → Type 0} {first now : Trying L} → Walked shows seen area Found first now
+  pub Walked-same : {Found More : ℕ → BoardState → Type 0} {first now : Trying L}
+      → Walked shows seen area Found first now
       → ((pos : BoardState) → Agrees (seen first.look) pos → Found pos.size (after pos first.moves)
       → More pos.size (after pos first.moves))
       → Walked shows seen area More first now

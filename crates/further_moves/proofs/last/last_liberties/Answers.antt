@@ -27,7 +27,8 @@ loop-r-preserved g c =
     Walked-next (λ s b. neighbourhood_of s b.cells (alone r)) (λ s b. (p : ℕ) → set.contains one.new.found p
     ≡ (set.contains c.loop-r.found p || is_only_liberty s b.cells r p)) c.loop-r.invariant
     (record { stays = one.ensures.stays; near = one.ensures.near; over = one.ensures.over })
-    (λ pos a i. close_point pos.size (after pos c.args.board.now.moves).cells (set.contains c.args.points.now) r first.2)
+    (λ pos a i. close_point pos.size (after pos c.args.board.now.moves).cells (set.contains c.args.points.now) r
+    first.2)
     (λ pos a i came. AddsBelow-next (is_only_liberty pos.size (after pos c.args.board.now.moves).cells)
     c.args.points.now set.empty c.loop-r.next r c.loop-r.found one.new.found first.0 i first.2 first.3 came)
 

@@ -22,7 +22,8 @@ use Rattle.read_connect.proofs.StandingNodes.{point_on, standing_node, ready_nod
 use Rattle.read_connect.proofs.StandingNodes.{near_captures, near_play, played_child, passed_child}
 use Rattle.read_connect.proofs.TurnLemmas.{own_by, parted_by, other_by}
 use Rattle.read_connect.proofs.WalkLemmas.{none_first, none_next, none_left, tells_none, tells_hit, tells_more}
-use Rattle.read_connect.proofs.WalkLemmas.{done_legal, refused_leads, one_more_move, ready_still, ready_after, liberties_after}
+use Rattle.read_connect.proofs.WalkLemmas.{done_legal, refused_leads, one_more_move, ready_still, ready_after}
+use Rattle.read_connect.proofs.WalkLemmas.{liberties_after}
 use Rattle.read_connect.proofs.WalkLemmas.{liberties_still}
 use Rattle.read_connect.proofs.tree.+read.Given.{Over}
 use Rattle.read_connect.proofs.tree.+read.Goals.{can_connect-After-string-stones, can_connect-After-has}
@@ -442,7 +443,8 @@ stages g t c pos a =
 pub some_move-some_of-requires-3 : goal.some_move-some_of-requires-3
 some_move-some_of-requires-3 g t c κs within =
     let board = c.captures_of.new.board in
-    let stays = Stays-trans (Stays-trans c.some_of.ensures.stays c.some_of-2.ensures.stays) c.captures_of.ensures.stays in
+    let before = Stays-trans c.some_of.ensures.stays c.some_of-2.ensures.stays in
+    let stays = Stays-trans before c.captures_of.ensures.stays in
     let ready : IsReady g.L.Look.shows g.L.Look.seen board c.args.link c.args.plies =
     ready_still g.L.Look.shows g.L.Look.seen c.args.board.now board c.args.link c.args.plies stays c.requires.ready in
     let found = stages g t (goal.at.some_move-some_of-requires-3 g t c).After-captures_of (g.L.Look.shows board.look)
@@ -518,5 +520,6 @@ some_move-returns-clause-near g t c = λ pos a q root node.
     node in
     AddsNear-trans (two_near g t d.After-some_of-2 pos a2 q root node)
     (AddsNear-trans (near_captures at (rw before.moves at (c.captures_of.ensures.near pos a3)))
-    ((rw all.moves at (c.some_of-3.ensures.near pos a q root)) node (rest_is_move (stages g t d.After-captures_of pos a3)
-    c.join.new.self c.difference-captures.result c.difference-captures.ensures)))
+    ((rw all.moves at (c.some_of-3.ensures.near pos a q root)) node
+    (rest_is_move (stages g t d.After-captures_of pos a3) c.join.new.self
+    c.difference-captures.result c.difference-captures.ensures)))

@@ -8,5 +8,5 @@ use Rattle.read_moves.proofs.reach.reach_of.Given as goal
 -- the empty sides and what the strings at the sides so far reach are told
 abbrev pub invariant-loop-side : goal.invariant-loop-side
 invariant-loop-side g l = Walked g.L.Look.shows g.L.Look.seen (λ s here. neighbourhood_twice s here.cells l.l)
-    (λ s here. Tells (IsSoFar (IsEmptyNeighbour s here.cells l.l) (IsLibertyAtSide s here.cells l.c l.l) l.side) l.reach)
-    l.fn.board l.board
+    (λ s here. Tells (IsSoFar (IsEmptyNeighbour s here.cells l.l) (IsLibertyAtSide s here.cells l.c l.l) l.side)
+    l.reach) l.fn.board l.board

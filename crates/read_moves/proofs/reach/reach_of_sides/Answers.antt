@@ -38,7 +38,8 @@ loop-side-preserved g c =
 -- no side was visited
 pub loop-side-init : goal.loop-side-init
 loop-side-init g c = Walked-none (λ pos.
-    SoFar-none Nowhere (IsEmptySide pos.size (after pos c.args.board.now.moves).cells c.args.l) Nothing (λ x none. none))
+    SoFar-none Nowhere (IsEmptySide pos.size (after pos c.args.board.now.moves).cells c.args.l) Nothing
+    (λ x none. none))
 
 -- all sides were visited
 pub returns-clause-over : goal.returns-clause-over
