@@ -40,10 +40,6 @@ module _ (test : ℕ → ℕ → Bool) (points : sets.FinSet nat_cmp) where
         absurd (omega arith);
   }
 
-  -- no point is passed over
-  pub Passes-none : (l : ℕ) (left : sets.FinSet nat_cmp) → Passes test l left left
-  Passes-none l left = record { fewer = λ q h. h; gone = λ q h. inl h }
-
   -- what the test has at the next point came
   pub Gathers-next : (n l : ℕ) (left rest old new : sets.FinSet nat_cmp) → n ≤ l → Gathers test points left n old
       → sets.contains left l ≡ true → ((k : ℕ) → n ≤ k → k < l → sets.contains left k ≡ false)

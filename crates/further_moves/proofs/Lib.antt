@@ -1,4 +1,5 @@
 pub mod GatherLemmas
+pub mod AddLemmas
 pub mod SideLemmas
 pub mod StringLemmas
 pub mod SetLemmas

@@ -1,7 +1,7 @@
 -- What was gathered is the sets of the rules.
-use Rattle.std.proofs.Common.{◌≡◌, ℕ, ◌*◌, ◌<◌, ◌&&◌, ◌||◌, Bool, true, false, not, eqb, leb, ltb, List}
+use Rattle.std.proofs.Common.{◌≡◌, ℕ, ◌*◌, ◌<◌, ◌&&◌, ◌||◌, Bool, true, false, not, leb, ltb, List}
 use Rattle.std.proofs.Common.{refl, sym, ap, inl, inr, ◌∙◌}
-use Rattle.std.proofs.lemmas.Bool.{cases_Bool, and_parts, and_from, lt-ltb, eqb-true, eq-eqb}
+use Rattle.std.proofs.lemmas.Bool.{cases_Bool, and_parts, lt-ltb, eqb-true, eq-eqb}
 use Rattle.std.specs.Ordering.{nat_cmp}
 use Rattle.std.specs.Cmp.{nat_cmp_total}
 use Rattle.std.specs.FinSet as sets
@@ -11,8 +11,7 @@ use Rattle.go_rules.specs.Below.{any_below}
 use Rattle.go_rules.specs.Board.{are_neighbours}
 use Rattle.go_rules.specs.Strings.{cell_at, same_cell, is_in_string, string_at, is_liberty, liberties, liberty_points}
 use Rattle.go_rules.specs.BesideStrings.{is_enemy, is_beside_string}
-use Rattle.go_rules.proofs.Counts.{any_below_gives, any_below_from, any_below_same}
-use Rattle.go_rules.proofs.Tests.{same_tests}
+use Rattle.go_rules.proofs.Counts.{any_below_same, any_below_false}
 use Rattle.go_base.specs.Floods.{enemy_points}
 use Rattle.go_base.specs.Surroundings.{is_only_liberty}
 use Rattle.further_rules.specs.Further.{is_net, is_weak_enemy, is_beside, is_ally, is_rescue, is_linked, is_join}
@@ -20,131 +19,90 @@ use Rattle.further_rules.specs.Further.{is_cutter, is_cut, is_further}
 use Rattle.further_moves.specs.Strings.{holds_next, is_few_liberty, is_few_enemy, is_near_friend}
 use Rattle.further_moves.proofs.StringLemmas.{has_liberty, how_many, has_enemy, has_stone, joined}
 
--- two tests that imply one another at each number below n are passed together
-any_same : (n : ℕ) (a b : ℕ → Bool) → ((k : ℕ) → k < n → a k ≡ true → b k ≡ true)
-    → ((k : ℕ) → k < n → b k ≡ true → a k ≡ true) → any_below n a ≡ any_below n b
-any_same n a b onward back = any_below_same n a b (λ k l. same_tests _ _ (onward k l) (back k l))
+-- which of two tests comes first does not matter
+and_comm : (a b : Bool) → (a && b) ≡ (b && a)
+and_comm true true = refl
+and_comm true false = refl
+and_comm false true = refl
+and_comm false false = refl
+
+-- nor in which order three are joined
+and_assoc : (a b c : Bool) → (a && (b && c)) ≡ ((a && b) && c)
+and_assoc true b c = refl
+and_assoc false b c = refl
+
+-- nor which of the first two is asked first
+and_first : (a b c : Bool) → (a && (b && c)) ≡ (b && (a && c))
+and_first a b c = and_assoc a b c ∙ ap (λ x. x && c) (and_comm a b) ∙ sym (and_assoc b a c)
+
+-- a test that is the same for all numbers may be asked once
+any_once : (n : ℕ) (b : Bool) (test : ℕ → Bool) → any_below n (λ q. b && test q) ≡ (b && any_below n test)
+any_once n true test = refl
+any_once n false test = any_below_false n (λ q. false && test q) (λ q l. refl)
 
 -- a member that is not of the other set
 left_of : (all gone rest : sets.FinSet nat_cmp) (q : ℕ) → rest ≡ sets.difference all gone
     → sets.contains rest q ≡ (sets.contains all q && not (sets.contains gone q))
 left_of all gone rest q e = ap (λ t. sets.contains t q) e ∙ sets.contains-difference nat_cmp_total all gone q
 
--- What the tests at one stone say, part by part.
-module _ (s : ℕ) (cells : List Cell) where
-  -- a weak enemy is an enemy, next to the string, of few liberties
-  weak_parts : (most target q : ℕ) → is_weak_enemy most s cells target q ≡ true
-      → (is_enemy (cell_at cells target) (cell_at cells q) ≡ true) × (is_beside_string s cells target q ≡ true)
-      × (leb (liberties s cells q) most ≡ true)
-  unfolding is_weak_enemy
-  weak_parts most target q h = let both = and_parts _ _ h in let foe = and_parts _ _ both.0 in (foe.0, foe.1, both.1)
+-- What stands around the stones of a set, which are those on the board that pass a test.
+module _ (s : ℕ) (cells : List Cell) (p : ℕ) (stones : sets.FinSet nat_cmp) (test : ℕ → Bool)
+    (is : (q : ℕ) → sets.contains stones q ≡ (ltb q (s * s) && test q)) where
+  -- on the board its members are those that pass
+  members : (q : ℕ) → q < s * s → sets.contains stones q ≡ test q
+  members q on = is q ∙ ap (λ b. b && test q) (lt-ltb q (s * s) on)
 
-  -- and the other way round
-  weak_made : (most target q : ℕ) → is_enemy (cell_at cells target) (cell_at cells q) ≡ true
-      → is_beside_string s cells target q ≡ true → leb (liberties s cells q) most ≡ true
-      → is_weak_enemy most s cells target q ≡ true
-  unfolding is_weak_enemy
-  weak_made most target q enemy beside few = and_from _ _ (and_from _ _ enemy beside) few
+  -- the last liberties of their strings
+  last_of : any_below (s * s) (λ q. sets.contains stones q && is_only_liberty s cells q p)
+      ≡ any_below (s * s) (λ q. test q && is_only_liberty s cells q p)
+  last_of = any_below_same (s * s) _ _ (λ q on. ap (λ b. b && is_only_liberty s cells q p) (members q on))
 
-  -- a liberty of a string that has few
-  liberty_parts : (most q p : ℕ) → is_few_liberty most s cells q p ≡ true
-      → (leb (liberties s cells q) most ≡ true) × (is_liberty s cells q p ≡ true)
+  -- the liberties of their strings that have few
+  few_liberties_of : (most : ℕ) → any_below (s * s) (λ q. sets.contains stones q && is_few_liberty most s cells q p)
+      ≡ any_below (s * s) (λ q. (test q && leb (liberties s cells q) most) && is_liberty s cells q p)
   unfolding is_few_liberty
-  liberty_parts most q p h = and_parts _ _ h
+  few_liberties_of most = any_below_same (s * s) _ _ (λ q on.
+      ap (λ b. b && is_few_liberty most s cells q p) (members q on)
+      ∙ and_assoc (test q) (leb (liberties s cells q) most) (is_liberty s cells q p))
 
-  -- and the other way round
-  liberty_made : (most q p : ℕ) → leb (liberties s cells q) most ≡ true → is_liberty s cells q p ≡ true
-      → is_few_liberty most s cells q p ≡ true
-  unfolding is_few_liberty
-  liberty_made most q p few its = and_from _ _ few its
-
-  -- an enemy next to a string that has few liberties
-  enemy_parts : (most q r : ℕ) → is_few_enemy most s cells q r ≡ true
-      → (leb (liberties s cells q) most ≡ true) × (ltb r (s * s) ≡ true) × (is_beside_string s cells q r ≡ true)
-      × (is_enemy (cell_at cells q) (cell_at cells r) ≡ true)
+  -- the enemies next to these
+  few_enemies_of : (most : ℕ) → any_below (s * s) (λ q. sets.contains stones q && is_few_enemy most s cells q p)
+      ≡ (ltb p (s * s) && any_below (s * s) (λ q. (test q && leb (liberties s cells q) most)
+      && (is_enemy (cell_at cells q) (cell_at cells p) && is_beside_string s cells q p)))
   unfolding is_few_enemy
-  enemy_parts most q r h =
-      let both = and_parts _ _ h in
-      let place = and_parts _ _ both.1 in
-      let foe = and_parts _ _ place.1 in
-      (both.0, place.0, foe.0, foe.1)
-
-  -- and the other way round
-  enemy_made : (most q r : ℕ) → leb (liberties s cells q) most ≡ true → ltb r (s * s) ≡ true
-      → is_beside_string s cells q r ≡ true → is_enemy (cell_at cells q) (cell_at cells r) ≡ true
-      → is_few_enemy most s cells q r ≡ true
-  unfolding is_few_enemy
-  enemy_made most q r few on beside enemy = and_from _ _ few (and_from _ _ on (and_from _ _ beside enemy))
-
-  -- a member of the enemies next to a string is one
-  foe_parts : (target q : ℕ) (foes : sets.FinSet nat_cmp) → foes ≡ enemy_points s cells target
-      → sets.contains foes q ≡ true
-      → (is_beside_string s cells target q ≡ true) × (is_enemy (cell_at cells target) (cell_at cells q) ≡ true)
-  foe_parts target q foes e h = and_parts _ _ (and_parts _ _ (sym (has_enemy s cells target q foes e) ∙ h)).1
-
-  -- and the other way round
-  foe_made : (target q : ℕ) (foes : sets.FinSet nat_cmp) → foes ≡ enemy_points s cells target → q < s * s
-      → is_beside_string s cells target q ≡ true → is_enemy (cell_at cells target) (cell_at cells q) ≡ true
-      → sets.contains foes q ≡ true
-  foe_made target q foes e on beside enemy =
-      has_enemy s cells target q foes e ∙ and_from _ _ (lt-ltb q (s * s) on) (and_from _ _ beside enemy)
-
-  -- a point at which a cell stands
-  next_parts : (cell : Cell) (l p : ℕ) → holds_next s cells cell l p ≡ true
-      → ((ltb p (s * s) && same_cell (cell_at cells p) cell) ≡ true) × (are_neighbours s l p ≡ true)
-  unfolding holds_next
-  next_parts cell l p h = and_parts _ _ h
-
-  -- and the other way round
-  next_made : (cell : Cell) (l p : ℕ) → (ltb p (s * s) && same_cell (cell_at cells p) cell) ≡ true
-      → are_neighbours s l p ≡ true → holds_next s cells cell l p ≡ true
-  unfolding holds_next
-  next_made cell l p place near = and_from _ _ place near
-
-  -- a linked stone is a near friend of few liberties
-  linked_is : (target q : ℕ)
-      → is_linked s cells target q ≡ (is_near_friend s cells target q && leb (liberties s cells q) 4)
-  unfolding is_linked is_near_friend
-  linked_is target q = refl
-
-  -- a linked stone, part by part
-  linked_parts : (target q : ℕ) → is_linked s cells target q ≡ true
-      → (is_near_friend s cells target q ≡ true) × (leb (liberties s cells q) 4 ≡ true)
-  linked_parts target q h = and_parts _ _ (sym (linked_is target q) ∙ h)
-
-  -- and the other way round
-  linked_made : (target q : ℕ) → is_near_friend s cells target q ≡ true → leb (liberties s cells q) 4 ≡ true
-      → is_linked s cells target q ≡ true
-  linked_made target q friend few = linked_is target q ∙ and_from _ _ friend few
+  few_enemies_of most = any_below_same (s * s) _ _ (λ q on.
+      let few = leb (liberties s cells q) most in
+      let beside = is_beside_string s cells q p in
+      let enemy = is_enemy (cell_at cells q) (cell_at cells p) in
+      ap (λ b. b && is_few_enemy most s cells q p) (members q on)
+      ∙ and_assoc (test q) few (ltb p (s * s) && (beside && enemy))
+      ∙ and_first (test q && few) (ltb p (s * s)) (beside && enemy)
+      ∙ ap (λ x. ltb p (s * s) && ((test q && few) && x)) (and_comm beside enemy)) ∙ any_once (s * s) (ltb p (s * s)) _
 
 -- What was gathered for a target.
 module _ (s : ℕ) (cells : List Cell) (target : ℕ) where
+  -- the points next to its liberties at which a cell stands
+  next_of : (cell : Cell) (p : ℕ) (libs : sets.FinSet nat_cmp) → libs ≡ liberty_points s cells target
+      → any_below (s * s) (λ l. sets.contains libs l && holds_next s cells cell l p)
+      ≡ ((ltb p (s * s) && same_cell (cell_at cells p) cell)
+      && any_below (s * s) (λ l. is_liberty s cells target l && are_neighbours s l p))
+  unfolding holds_next
+  next_of cell p libs e =
+      let place = ltb p (s * s) && same_cell (cell_at cells p) cell in
+      any_below_same (s * s) _ _ (λ l on.
+      ap (λ b. b && holds_next s cells cell l p) (has_liberty s cells target l libs e)
+      ∙ and_first (is_liberty s cells target l) place (are_neighbours s l p)) ∙ any_once (s * s) place _
+
   -- the empty neighbours of three liberties are Net
   pub net_is : (libs : sets.FinSet nat_cmp) (n p : ℕ) → libs ≡ liberty_points s cells target → n ≡ sets.len libs
       → n ≡ 3
       → any_below (s * s) (λ l. sets.contains libs l && holds_next s cells Empty l p) ≡ is_net s cells target p
   unfolding is_net
   net_is libs n p e count three =
-      let at = λ (l : ℕ). is_liberty s cells target l && are_neighbours s l p in
-      let exact = eqb (liberties s cells target) 3 in
       let place = ltb p (s * s) && same_cell (cell_at cells p) Empty in
-      same_tests _ _
-      (λ h.
-      let l = any_below_gives (s * s) _ h in
-      let both = and_parts _ _ l.2 in
-      let next = next_parts s cells Empty l.0 p both.1 in
-      and_from (exact && place) (any_below (s * s) at)
-      (and_from exact place (eq-eqb (liberties s cells target) 3
-      (sym (how_many s cells target libs e) ∙ sym count ∙ three)) next.0)
-      (any_below_from (s * s) at l.0 l.1
-      (and_from _ _ (sym (has_liberty s cells target l.0 libs e) ∙ both.0) next.1)))
-      (λ h.
-      let parts = and_parts (exact && place) (any_below (s * s) at) h in
-      let l = any_below_gives (s * s) at parts.1 in
-      let both = and_parts (is_liberty s cells target l.0) (are_neighbours s l.0 p) l.2 in
-      any_below_from (s * s) _ l.0 l.1
-      (and_from _ _ (has_liberty s cells target l.0 libs e ∙ both.0)
-      (next_made s cells Empty l.0 p (and_parts exact place parts.0).1 both.1)))
+      let at = λ (l : ℕ). is_liberty s cells target l && are_neighbours s l p in
+      let exact = eq-eqb (liberties s cells target) 3 (sym (how_many s cells target libs e) ∙ sym count ∙ three) in
+      next_of Empty p libs e ∙ sym (ap (λ b. (b && place) && any_below (s * s) at) exact)
 
   -- with another number of liberties there is none
   pub no_net : (libs none : sets.FinSet nat_cmp) (n p : ℕ) → libs ≡ liberty_points s cells target → n ≡ sets.len libs
@@ -158,23 +116,20 @@ module _ (s : ℕ) (cells : List Cell) (target : ℕ) where
         | inr fails ↦ fails
       ])
 
-  -- the liberties of the enemies next to the target that have few are Beside
+  -- the enemies next to the target
+  foes_are : (foes : sets.FinSet nat_cmp) → foes ≡ enemy_points s cells target → (q : ℕ)
+      → sets.contains foes q
+      ≡ (ltb q (s * s) && (is_enemy (cell_at cells target) (cell_at cells q) && is_beside_string s cells target q))
+  foes_are foes e q =
+      has_enemy s cells target q foes e ∙ ap (λ b. ltb q (s * s) && b)
+      (and_comm (is_beside_string s cells target q) (is_enemy (cell_at cells target) (cell_at cells q)))
+
+  -- the liberties of those that have few are Beside
   pub beside_is : (most p : ℕ) (foes : sets.FinSet nat_cmp) → foes ≡ enemy_points s cells target
       → any_below (s * s) (λ q. sets.contains foes q && is_few_liberty most s cells q p)
       ≡ is_beside most s cells target p
-  unfolding is_beside
-  beside_is most p foes e = any_same (s * s)
-      (λ q. sets.contains foes q && is_few_liberty most s cells q p)
-      (λ q. is_weak_enemy most s cells target q && is_liberty s cells q p)
-      (λ q on h.
-      let both = and_parts _ _ h in
-      let few = liberty_parts s cells most q p both.1 in
-      let foe = foe_parts s cells target q foes e both.0 in
-      and_from _ _ (weak_made s cells most target q foe.1 foe.0 few.0) few.1)
-      (λ q on h.
-      let both = and_parts _ _ h in
-      let weak = weak_parts s cells most target q both.0 in
-      and_from _ _ (foe_made s cells target q foes e on weak.1 weak.0) (liberty_made s cells most q p weak.2 both.1))
+  unfolding is_beside is_weak_enemy
+  beside_is most p foes e = few_liberties_of s cells p foes _ (foes_are foes e) most
 
   -- the enemies next to these that are not of the target's string are the allies
   pub ally_is : (most r : ℕ) (foes stones found allies : sets.FinSet nat_cmp) → target < s * s
@@ -182,49 +137,20 @@ module _ (s : ℕ) (cells : List Cell) (target : ℕ) where
       → sets.contains found r ≡ any_below (s * s) (λ q. sets.contains foes q && is_few_enemy most s cells q r)
       → allies ≡ sets.difference found stones
       → sets.contains allies r ≡ (ltb r (s * s) && is_ally most s cells target r)
-  unfolding is_ally
+  unfolding is_ally is_weak_enemy
   ally_is most r foes stones found allies on e its came taken =
       let apart = not (is_in_string s cells target r) in
-      let at = λ (q : ℕ). is_weak_enemy most s cells target q
-      && (is_enemy (cell_at cells q) (cell_at cells r) && is_beside_string s cells q r) in
-      let here = λ (q : ℕ). sets.contains foes q && is_few_enemy most s cells q r in
       left_of found stones allies r taken
       ∙ ap (λ b. sets.contains found r && not b) (has_stone s cells target r stones on its)
-      ∙ ap (λ b. b && apart) came
-      ∙ same_tests (any_below (s * s) here && apart) (ltb r (s * s) && (any_below (s * s) at && apart))
-      (λ h.
-      let parts = and_parts (any_below (s * s) here) apart h in
-      let q = any_below_gives (s * s) here parts.0 in
-      let both = and_parts (sets.contains foes q.0) (is_few_enemy most s cells q.0 r) q.2 in
-      let few = enemy_parts s cells most q.0 r both.1 in
-      let foe = foe_parts s cells target q.0 foes e both.0 in
-      and_from _ _ few.1 (and_from _ _ (any_below_from (s * s) at q.0 q.1
-      (and_from _ _ (weak_made s cells most target q.0 foe.1 foe.0 few.0) (and_from _ _ few.3 few.2))) parts.1))
-      (λ h.
-      let outer = and_parts (ltb r (s * s)) (any_below (s * s) at && apart) h in
-      let parts = and_parts (any_below (s * s) at) apart outer.1 in
-      let q = any_below_gives (s * s) at parts.0 in
-      let both = and_parts (is_weak_enemy most s cells target q.0) _ q.2 in
-      let weak = weak_parts s cells most target q.0 both.0 in
-      let next = and_parts (is_enemy (cell_at cells q.0) (cell_at cells r)) (is_beside_string s cells q.0 r) both.1 in
-      and_from _ _ (any_below_from (s * s) here q.0 q.1
-      (and_from _ _ (foe_made s cells target q.0 foes e q.1 weak.1 weak.0)
-      (enemy_made s cells most q.0 r weak.2 outer.0 next.1 next.0))) parts.1)
+      ∙ ap (λ b. b && apart) (came ∙ few_enemies_of s cells r foes _ (foes_are foes e) most)
+      ∙ sym (and_assoc (ltb r (s * s)) _ apart)
 
   -- the last liberties of the allies are Rescue
   pub rescue_is : (p : ℕ) (allies : sets.FinSet nat_cmp)
       → ((r : ℕ) → sets.contains allies r ≡ (ltb r (s * s) && is_ally 2 s cells target r))
       → any_below (s * s) (λ r. sets.contains allies r && is_only_liberty s cells r p) ≡ is_rescue s cells target p
   unfolding is_rescue
-  rescue_is p allies is = any_same (s * s)
-      (λ r. sets.contains allies r && is_only_liberty s cells r p)
-      (λ r. is_ally 2 s cells target r && is_only_liberty s cells r p)
-      (λ r on h.
-      let both = and_parts _ _ h in
-      and_from _ _ (and_parts _ _ (sym (is r) ∙ both.0)).1 both.1)
-      (λ r on h.
-      let both = and_parts _ _ h in
-      and_from _ _ (is r ∙ and_from _ _ (lt-ltb r (s * s) on) both.0) both.1)
+  rescue_is p allies is = last_of s cells p allies (is_ally 2 s cells target) is
 
   -- the stones next to the liberties that are not of the target's string are its near friends
   pub friend_is : (cell : Cell) (q : ℕ) (libs stones found friends : sets.FinSet nat_cmp) → target < s * s
@@ -235,34 +161,14 @@ module _ (s : ℕ) (cells : List Cell) (target : ℕ) where
   unfolding is_near_friend
   friend_is cell q libs stones found friends on same e its came taken =
       let apart = not (is_in_string s cells target q) in
-      let here = λ (l : ℕ). sets.contains libs l && holds_next s cells cell l q in
-      let at = λ (l : ℕ). is_liberty s cells target l && are_neighbours s l q in
+      let place = ltb q (s * s) in
       let alike = same_cell (cell_at cells q) (cell_at cells target) in
+      let at = any_below (s * s) (λ l. is_liberty s cells target l && are_neighbours s l q) in
       left_of found stones friends q taken
       ∙ ap (λ b. sets.contains found q && not b) (has_stone s cells target q stones on its)
-      ∙ ap (λ b. b && apart) came
-      ∙ same_tests (any_below (s * s) here && apart) (ltb q (s * s) && ((alike && any_below (s * s) at) && apart))
-      (λ h.
-      let parts = and_parts (any_below (s * s) here) apart h in
-      let l = any_below_gives (s * s) here parts.0 in
-      let both = and_parts (sets.contains libs l.0) (holds_next s cells cell l.0 q) l.2 in
-      let next = next_parts s cells cell l.0 q both.1 in
-      let place = and_parts (ltb q (s * s)) (same_cell (cell_at cells q) cell) next.0 in
-      and_from _ _ place.0 (and_from _ _
-      (and_from _ _ (ap (same_cell (cell_at cells q)) (sym same) ∙ place.1)
-      (any_below_from (s * s) at l.0 l.1
-      (and_from _ _ (sym (has_liberty s cells target l.0 libs e) ∙ both.0) next.1))) parts.1))
-      (λ h.
-      let outer = and_parts (ltb q (s * s)) ((alike && any_below (s * s) at) && apart) h in
-      let parts = and_parts (alike && any_below (s * s) at) apart outer.1 in
-      let stone = and_parts alike (any_below (s * s) at) parts.0 in
-      let l = any_below_gives (s * s) at stone.1 in
-      let both = and_parts (is_liberty s cells target l.0) (are_neighbours s l.0 q) l.2 in
-      and_from _ _
-      (any_below_from (s * s) here l.0 l.1
-      (and_from _ _ (has_liberty s cells target l.0 libs e ∙ both.0)
-      (next_made s cells cell l.0 q
-      (and_from _ _ outer.0 (ap (same_cell (cell_at cells q)) same ∙ stone.0)) both.1))) parts.1)
+      ∙ ap (λ b. b && apart) (came ∙ next_of cell q libs e
+      ∙ ap (λ k. (place && same_cell (cell_at cells q) k) && at) same ∙ sym (and_assoc place alike at))
+      ∙ sym (and_assoc place (alike && at) apart)
 
   -- What stands around the near friends that have few liberties.
   module _ (p : ℕ) (friends : sets.FinSet nat_cmp)
@@ -270,60 +176,21 @@ module _ (s : ℕ) (cells : List Cell) (target : ℕ) where
     -- their liberties are Join
     pub join_is : any_below (s * s) (λ q. sets.contains friends q && is_few_liberty 4 s cells q p)
         ≡ is_join s cells target p
-    unfolding is_join
-    join_is = any_same (s * s)
-        (λ q. sets.contains friends q && is_few_liberty 4 s cells q p)
-        (λ q. is_linked s cells target q && is_liberty s cells q p)
-        (λ q on h.
-        let both = and_parts _ _ h in
-        let few = liberty_parts s cells 4 q p both.1 in
-        and_from _ _ (linked_made s cells target q (and_parts _ _ (sym (is q) ∙ both.0)).1 few.0) few.1)
-        (λ q on h.
-        let both = and_parts _ _ h in
-        let linked = linked_parts s cells target q both.0 in
-        and_from _ _ (is q ∙ and_from _ _ (lt-ltb q (s * s) on) linked.0)
-        (liberty_made s cells 4 q p linked.1 both.1))
+    unfolding is_join is_linked is_near_friend
+    join_is = few_liberties_of s cells p friends (is_near_friend s cells target) is 4
 
     -- the enemies next to them may cut
     pub cutter_is : any_below (s * s) (λ q. sets.contains friends q && is_few_enemy 4 s cells q p)
         ≡ (ltb p (s * s) && is_cutter s cells target p)
-    unfolding is_cutter
-    cutter_is =
-        let here = λ (q : ℕ). sets.contains friends q && is_few_enemy 4 s cells q p in
-        let at = λ (q : ℕ). is_linked s cells target q
-        && (is_enemy (cell_at cells q) (cell_at cells p) && is_beside_string s cells q p) in
-        same_tests (any_below (s * s) here) (ltb p (s * s) && any_below (s * s) at)
-        (λ h.
-        let q = any_below_gives (s * s) here h in
-        let both = and_parts (sets.contains friends q.0) (is_few_enemy 4 s cells q.0 p) q.2 in
-        let few = enemy_parts s cells 4 q.0 p both.1 in
-        and_from _ _ few.1 (any_below_from (s * s) at q.0 q.1
-        (and_from _ _ (linked_made s cells target q.0 (and_parts _ _ (sym (is q.0) ∙ both.0)).1 few.0)
-        (and_from _ _ few.3 few.2))))
-        (λ h.
-        let outer = and_parts (ltb p (s * s)) (any_below (s * s) at) h in
-        let q = any_below_gives (s * s) at outer.1 in
-        let both = and_parts (is_linked s cells target q.0) _ q.2 in
-        let linked = linked_parts s cells target q.0 both.0 in
-        let next = and_parts (is_enemy (cell_at cells q.0) (cell_at cells p)) (is_beside_string s cells q.0 p) both.1 in
-        any_below_from (s * s) here q.0 q.1
-        (and_from _ _ (is q.0 ∙ and_from _ _ (lt-ltb q.0 (s * s) q.1) linked.0)
-        (enemy_made s cells 4 q.0 p linked.1 outer.0 next.1 next.0)))
+    unfolding is_cutter is_linked is_near_friend
+    cutter_is = few_enemies_of s cells p friends (is_near_friend s cells target) is 4
 
   -- the last liberties of those that may cut are Cut
   pub cut_is : (p : ℕ) (cutters : sets.FinSet nat_cmp)
       → ((r : ℕ) → sets.contains cutters r ≡ (ltb r (s * s) && is_cutter s cells target r))
       → any_below (s * s) (λ r. sets.contains cutters r && is_only_liberty s cells r p) ≡ is_cut s cells target p
   unfolding is_cut
-  cut_is p cutters is = any_same (s * s)
-      (λ r. sets.contains cutters r && is_only_liberty s cells r p)
-      (λ r. is_cutter s cells target r && is_only_liberty s cells r p)
-      (λ r on h.
-      let both = and_parts _ _ h in
-      and_from _ _ (and_parts _ _ (sym (is r) ∙ both.0)).1 both.1)
-      (λ r on h.
-      let both = and_parts _ _ h in
-      and_from _ _ (is r ∙ and_from _ _ (lt-ltb r (s * s) on) both.0) both.1)
+  cut_is p cutters is = last_of s cells p cutters (is_cutter s cells target) is
 
   -- Net, Beside and Rescue are the attacker's
   pub attacker_is : (p : ℕ) (x net beside rescue : Bool) → x ≡ ((net || beside) || rescue)
@@ -351,3 +218,27 @@ pub joined_twice : (first second third mid new : sets.FinSet nat_cmp) (p : ℕ) 
     → sets.contains new p ≡ ((sets.contains first p || sets.contains second p) || sets.contains third p)
 joined_twice first second third mid new p e f =
     joined mid third new p f ∙ ap (λ b. b || sets.contains third p) (joined first second mid p e)
+
+-- Net, Beside and Rescue joined are the attacker's
+pub attacker_joined : (s : ℕ) (cells : List Cell) (target p : ℕ)
+    (net beside allies rescues mid new : sets.FinSet nat_cmp)
+    → mid ≡ sets.union net beside → new ≡ sets.union mid rescues → sets.contains net p ≡ is_net s cells target p
+    → sets.contains beside p ≡ is_beside 2 s cells target p
+    → ((r : ℕ) → sets.contains allies r ≡ (ltb r (s * s) && is_ally 2 s cells target r))
+    → sets.contains rescues p ≡ any_below (s * s) (λ r. sets.contains allies r && is_only_liberty s cells r p)
+    → sets.contains new p ≡ is_further true s cells target p
+attacker_joined s cells target p net beside allies rescues mid new e f nets besides allied last =
+    attacker_is s cells target p _ (sets.contains net p) (sets.contains beside p) (sets.contains rescues p)
+    (joined_twice net beside rescues mid new p e f) nets besides (last ∙ rescue_is s cells target p allies allied)
+
+-- Beside, Join and Cut joined are the defender's
+pub defender_joined : (s : ℕ) (cells : List Cell) (target p : ℕ)
+    (beside join cutters cuts mid new : sets.FinSet nat_cmp)
+    → mid ≡ sets.union beside join → new ≡ sets.union mid cuts
+    → sets.contains beside p ≡ is_beside 4 s cells target p → sets.contains join p ≡ is_join s cells target p
+    → ((r : ℕ) → sets.contains cutters r ≡ (ltb r (s * s) && is_cutter s cells target r))
+    → sets.contains cuts p ≡ any_below (s * s) (λ r. sets.contains cutters r && is_only_liberty s cells r p)
+    → sets.contains new p ≡ is_further false s cells target p
+defender_joined s cells target p beside join cutters cuts mid new e f besides joins cutting last =
+    defender_is s cells target p _ (sets.contains beside p) (sets.contains join p) (sets.contains cuts p)
+    (joined_twice beside join cuts mid new p e f) besides joins (last ∙ cut_is s cells target p cutters cutting)

@@ -1,5 +1,5 @@
 -- What one string adds, and that its stones all add the same.
-use Rattle.std.proofs.Common.{◌≡◌, ℕ, ◌*◌, ◌<◌, ◌≤◌, ◌&&◌, ◌||◌, Bool, true, false, not, leb, ltb, List, sym, ap}
+use Rattle.std.proofs.Common.{◌≡◌, ℕ, ◌+◌, ◌*◌, ◌<◌, ◌≤◌, ◌&&◌, ◌||◌, Bool, true, false, not, leb, ltb, List, sym, ap}
 use Rattle.std.proofs.Common.{arith, inl, inr, ◌∙◌}
 use Rattle.std.proofs.lemmas.Bool.{cases_Bool, or_cases, or_left, both_ways, and_parts, and_from}
 use Rattle.std.proofs.lemmas.Bool.{le-leb, leb-true, leb-false, lt-ltb, eqb-true, eq-eqb, not_from_false}
@@ -22,7 +22,7 @@ use Rattle.go_base.specs.Surroundings.{is_only_liberty}
 use Rattle.go_base.proofs.LastLiberties.{contains-liberty_points}
 use Rattle.trial_board.specs.SomeLiberties.{FindsLiberties}
 use Rattle.further_moves.specs.Strings.{is_few_liberty, is_few_enemy}
-use Rattle.further_moves.proofs.GatherLemmas.{Passes}
+use Rattle.further_moves.proofs.GatherLemmas.{Passes, Gathers, Gathers-next}
 
 -- the set of the liberties has the liberties
 pub has_liberty : (s : ℕ) (cells : List Cell) (q l : ℕ) (libs : sets.FinSet nat_cmp) → libs ≡ liberty_points s cells q
@@ -212,3 +212,42 @@ module _ (s : ℕ) (cells : List Cell) (p : ℕ) (left stones rest : sets.FinSet
       | inr outside ↦ inl (still q ∙ and_from _ _ h (not_from_false _ outside))
     ];
   }
+
+  -- what the test has at that string came
+  Gathers-string : (points : sets.FinSet nat_cmp) (n : ℕ) → n ≤ p → sets.contains left p ≡ true
+      → ((k : ℕ) → n ≤ k → k < p → sets.contains left k ≡ false) → (test : ℕ → ℕ → Bool)
+      → ((q : ℕ) → is_in_string s cells p q ≡ true → (x : ℕ) → test q x ≡ true → test p x ≡ true)
+      → (old new : sets.FinSet nat_cmp) → Gathers test points left n old
+      → ((x : ℕ) → sets.contains new x ≡ (sets.contains old x || test p x)) → Gathers test points rest (p + 1) new
+  Gathers-string points n up here none test shared old new i =
+      Gathers-next test points n p left rest old new up i here none (string_passes test shared)
+
+-- the stones of the string of q were told, and what stands around it came where it has few liberties
+pub record AddsAround (most s : ℕ) (cells : List Cell) (q : ℕ)
+    (stones libs more_libs foes more_foes : sets.FinSet nat_cmp) : Type 0 where
+  pub its : stones ≡ string_at s cells q
+  pub liberties : (p : ℕ) → sets.contains more_libs p ≡ (sets.contains libs p || is_few_liberty most s cells q p)
+  pub enemies : (r : ℕ) → sets.contains more_foes r ≡ (sets.contains foes r || is_few_enemy most s cells q r)
+
+-- what stands around strings of few liberties came, but for those of the points that are left from n on
+pub record GathersAround (most s : ℕ) (cells : List Cell) (points left : sets.FinSet nat_cmp) (n : ℕ)
+    (libs foes : sets.FinSet nat_cmp) : Type 0 where
+  pub liberties : Gathers (is_few_liberty most s cells) points left n libs
+  pub enemies : Gathers (is_few_enemy most s cells) points left n foes
+
+-- what stands around the next string came, and its stones are taken off
+pub GathersAround-next : {most s : ℕ} {cells : List Cell} {points left rest : sets.FinSet nat_cmp} {n q : ℕ}
+    {stones libs more_libs foes more_foes : sets.FinSet nat_cmp} → q < s * s
+    → GathersAround most s cells points left n libs foes → n ≤ q → sets.contains left q ≡ true
+    → ((k : ℕ) → n ≤ k → k < q → sets.contains left k ≡ false) → rest ≡ sets.difference left stones
+    → AddsAround most s cells q stones libs more_libs foes more_foes
+    → GathersAround most s cells points rest (q + 1) more_libs more_foes
+GathersAround-next {most} {s} {cells} {points} {left} {rest} {n} {q} {stones} {libs} {more_libs} {foes} {more_foes} on
+    i up here none taken one =
+    let next = Gathers-string s cells q left stones rest on one.its taken points n up here none in
+    record {
+      liberties = next (is_few_liberty most s cells) (λ x same. liberty_onward s cells q x on same most) libs more_libs
+          i.liberties one.liberties;
+      enemies = next (is_few_enemy most s cells) (λ x same. enemy_onward s cells q x on same most) foes more_foes
+          i.enemies one.enemies;
+    }

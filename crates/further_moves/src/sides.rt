@@ -33,8 +33,8 @@ fn add_where<L: Look>(board: &mut Trial<L>, cell: Cell, q: Point, found: &mut Po
     }
 }
 
-/// Adds the neighbours of l at which this cell stands.
-fn add_sides<L: Look>(board: &mut Trial<L>, cell: Cell, l: Point, found: &mut PointSet)
+/// Adds the neighbours of l at which this cell stands. The trial moves stay as they were, and it takes no memory.
+pub fn add_sides<L: Look>(board: &mut Trial<L>, cell: Cell, l: Point, found: &mut PointSet)
     requires { l < (L.shows board.old.look).size * (L.shows board.old.look).size }
     ensures stays { Stays L.shows L.seen board.old board.new }
     ensures over { (pos : BoardState) → Agrees (L.seen board.new.look) pos → (p : ℕ)
@@ -51,6 +51,31 @@ fn add_sides<L: Look>(board: &mut Trial<L>, cell: Cell, l: Point, found: &mut Po
     }
 }
 
+/// Adds the points next to a point of the set at which this cell stands. The trial moves stay as they were, and it
+/// takes no memory.
+pub fn add_sides_of<L: Look>(
+    board: &mut Trial<L>,
+    cell: Cell,
+    points: &PointSet,
+    found: &mut PointSet,
+)
+    requires { (l : ℕ) → IsTrue (set.contains points.now l)
+        → l < (L.shows board.old.look).size * (L.shows board.old.look).size }
+    ensures stays { Stays L.shows L.seen board.old board.new }
+    ensures over { (pos : BoardState) → Agrees (L.seen board.new.look) pos → (p : ℕ)
+        → set.contains found.new p ≡ (set.contains found.old p || any_below (pos.size * pos.size)
+        (λ l. set.contains points.now l && holds_next pos.size (after pos board.old.moves).cells cell l p)) }
+    ensures near { (pos : BoardState) → Agrees (L.seen board.new.look) pos
+        → AddsIn (L.seen board.old.look) (L.seen board.new.look)
+        (λ r. any_below (pos.size * pos.size) (λ l. set.contains points.now l && neighbours_of pos.size l r)) }
+{
+    let mut next = 0;
+    while let Some(l) = points.first_from(next) {
+        add_sides(board, cell, l, found);
+        next = l + 1;
+    }
+}
+
 /// The points next to a point of the set at which this cell stands.
 pub(crate) fn sides_of<L: Look>(board: &mut Trial<L>, cell: Cell, points: &PointSet) -> PointSet
     requires { (l : ℕ) → IsTrue (set.contains points.now l)
@@ -64,10 +89,6 @@ pub(crate) fn sides_of<L: Look>(board: &mut Trial<L>, cell: Cell, points: &Point
         (neighbourhood_of pos.size (after pos board.old.moves).cells (set.contains points.now)) }
 {
     let mut found = PointSet::new();
-    let mut next = 0;
-    while let Some(l) = points.first_from(next) {
-        add_sides(board, cell, l, &mut found);
-        next = l + 1;
-    }
+    add_sides_of(board, cell, points, &mut found);
     found
 }

@@ -1,14 +1,18 @@
 -- The answer at the first node.
 use Rattle.std.proofs.Common.{◌≡◌, ◌≢◌, ◌∙◌, ◌↔◌, ℕ, ◌-◌, ◌*◌, ◌<◌}
 use Rattle.std.proofs.Common.{◌&&◌, Bool, true, false, not, cond, Option, Some, None}
-use Rattle.std.proofs.Common.{is_some, IfSome, refl, sym, ap}
+use Rattle.std.proofs.Common.{is_some, IfSome, refl, sym, ap, subst}
 use Rattle.std.specs.Prelude.{IsNone}
-use Rattle.std.proofs.lemmas.Bool.{both_ways, and_from, and_parts, eq-eqb}
+use Rattle.std.proofs.lemmas.Bool.{both_ways, and_from, and_parts, eq-eqb, eqb-true}
 use Rattle.go_rules.specs.declared.Cell.{Cell}
 use Rattle.go_rules.specs.declared.Colour.{Colour}
 use Rattle.go_rules.specs.Strings.{cell_at}
 use Rattle.go_rules.specs.Position.{BoardState, stone_of, colour_of}
 use Rattle.go_rules.proofs.Paths.{same_cell-from}
+use Rattle.go_base.specs.Facts.{Fact, CellIs, Agrees, AddsOnly}
+use Rattle.go_base.proofs.AddedFacts.{cell_near}
+use Rattle.read_rules.specs.ActiveArea.{AddsNear}
+use Rattle.read_rules.proofs.AreaLemmas.{AddsNear-in}
 use Rattle.read_rules.specs.declared.question.Spot.{Spot}
 use Rattle.read_rules.specs.declared.question.Spot.TheVariants.{Pass}
 use Rattle.read_rules.specs.GameTree.{at_point}
@@ -107,12 +111,31 @@ module _ (q : LinkQuestion) (pos : BoardState) (a_on : q.a < pos.size * pos.size
   }
 
   -- the first point lies in the active area
-  pub area_a : InConnectionArea q pos q.a
+  area_a : InConnectionArea q pos q.a
   area_a = a_in root
 
   -- and so does the second
-  pub area_b : InConnectionArea q pos q.b
+  area_b : InConnectionArea q pos q.b
   area_b = b_in root
+
+  -- so a look at the first lies there
+  pub look_a : {first next : Fact → Bool} {cell : Cell} → AddsOnly first next (CellIs q.a cell)
+      → AddsNear first next (InConnectionArea q pos)
+  look_a only = AddsNear-in (InConnectionArea q pos) (cell_near only)
+      (λ p h. subst (InConnectionArea q pos) (sym (eqb-true p q.a h)) area_a)
+
+  -- and one at the second
+  pub look_b : {first next : Fact → Bool} {cell : Cell} → AddsOnly first next (CellIs q.b cell)
+      → AddsNear first next (InConnectionArea q pos)
+  look_b only = AddsNear-in (InConnectionArea q pos) (cell_near only)
+      (λ p h. subst (InConnectionArea q pos) (sym (eqb-true p q.b h)) area_b)
+
+-- a stone of the position shown that was looked at stands on each position that agrees
+pub stands_too : {seen : Fact → Bool} {shown pos : BoardState} (p : ℕ) (cell : Cell) {stone : Cell}
+    → seen (CellIs p cell) ≡ true → Agrees seen shown → Agrees seen pos → cell_at shown.cells p ≡ stone
+    → cell_at pos.cells p ≡ stone
+stands_too p cell told here there stands =
+    there.each (CellIs p cell) told ∙ sym (here.each (CellIs p cell) told) ∙ stands
 
 -- the question that the call makes is the one that is asked
 pub question_is : (shown : BoardState) (size a b plies : ℕ) (kind : LinkKind) (cell : Cell)

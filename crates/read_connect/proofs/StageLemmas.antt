@@ -71,6 +71,12 @@ stages_are false false true false f g = refl
 stages_are false false false true f g = refl
 stages_are false false false false f g = refl
 
+-- what is no member of the first set does not reach across
+pub none_reaches : (s : ℕ) (points others : set.FinSet nat_cmp) (p : ℕ) → set.contains points p ≡ false
+    → reaches_among s points others p ≡ false
+none_reaches s points others p none =
+    ap (λ b. b && (not (set.contains others p) && ((set.len points == 1) || is_beside_member s others p))) none
+
 -- a member of the first set is tested for what reaches across
 pub reach_test : (s : ℕ) (points others : set.FinSet nat_cmp) (p n : ℕ) (told : Bool)
     → told ≡ (not (set.contains others p) && ((n == 1) || is_beside_member s others p)) → n ≡ set.len points
@@ -181,34 +187,24 @@ pub liberty_inside : (s : ℕ) (cells : List Cell) (t p : ℕ) (known : set.FinS
 liberty_inside s cells t p known is has = (IsLiberty-from_test s cells t p
     (sym (ap (λ k. set.contains k p) is ∙ contains-liberty_points s cells t p) ∙ has)).on_board
 
--- the three stages joined are all connecting moves
-pub all_moves : (link : Link) (s : ℕ) (here : BoardState) (of_a of_b : set.FinSet nat_cmp) → here.size ≡ s
-    → of_a ≡ liberty_points s here.cells link.a → of_b ≡ liberty_points s here.cells link.b
-    → (shared across captures two three : set.FinSet nat_cmp)
-    → ((p : ℕ) → set.contains shared p ≡ (set.contains of_a p && set.contains of_b p))
-    → ((p : ℕ) → set.contains across p ≡ (reaches_among s of_a of_b p || reaches_among s of_b of_a p))
-    → ((p : ℕ) → set.contains captures p ≡ is_capture s here.cells link.a link.b p)
-    → two ≡ set.union shared across → three ≡ set.union two captures
-    → (p : ℕ) → set.contains three p ≡ is_connecting_move link here p
-all_moves link s here of_a of_b size a_is b_is shared across captures two three s_is c_is x_is two_is three_is p =
-    ap (λ k. set.contains k p) three_is ∙ set.contains-union nat_cmp_total two captures p
-    ∙ ap (λ b. b || set.contains captures p)
-    (ap (λ k. set.contains k p) two_is ∙ set.contains-union nat_cmp_total shared across p)
-    ∙ ap (λ b. (b || set.contains across p) || set.contains captures p) (s_is p)
-    ∙ ap (λ b. ((set.contains of_a p && set.contains of_b p) || b) || set.contains captures p) (c_is p)
-    ∙ ap (λ b. ((set.contains of_a p && set.contains of_b p)
-    || (reaches_among s of_a of_b p || reaches_among s of_b of_a p)) || b) (x_is p)
-    ∙ sym (stage_moves link s here of_a of_b size a_is b_is p)
+-- The liberties of the strings after the moves of a board, on a position that agrees with what was seen.
+module _ {L : Type 0} {seen : L → Fact → Bool} {board : Trying L} {link : Link} {of_a of_b : set.FinSet nat_cmp}
+    (its : AreLiberties seen board link of_a of_b) (pos : BoardState) (agrees : Agrees (seen board.look) pos) where
+  -- those of the one string are on the board
+  pub a_inside : (p : ℕ) → set.contains of_a p ≡ true → p < pos.size * pos.size
+  a_inside p h = liberty_inside pos.size (after pos board.moves).cells link.a p of_a (its.a_liberties pos agrees) h
 
--- a liberty that reaches across is on the board
-pub crossing_inside : (s : ℕ) (cells : List Cell) (link : Link) (of_a of_b : set.FinSet nat_cmp)
-    → of_a ≡ liberty_points s cells link.a → of_b ≡ liberty_points s cells link.b → (n p : ℕ)
-    → reaches_among n of_a of_b p || reaches_among n of_b of_a p ≡ true → p < s * s
-crossing_inside s cells link of_a of_b a_is b_is n p h =
-    elim (or_cases (reaches_among n of_a of_b p) (reaches_among n of_b of_a p) h) [
-      | inl x ↦ liberty_inside s cells link.a p of_a a_is (and_parts _ _ x).0
-      | inr x ↦ liberty_inside s cells link.b p of_b b_is (and_parts _ _ x).0
-    ]
+  -- and so are those of the other
+  pub b_inside : (p : ℕ) → set.contains of_b p ≡ true → p < pos.size * pos.size
+  b_inside p h = liberty_inside pos.size (after pos board.moves).cells link.b p of_b (its.b_liberties pos agrees) h
+
+  -- and those that reach across
+  pub crossing_inside : (n p : ℕ) → reaches_among n of_a of_b p || reaches_among n of_b of_a p ≡ true
+      → p < pos.size * pos.size
+  crossing_inside n p h = elim (or_cases (reaches_among n of_a of_b p) (reaches_among n of_b of_a p) h) [
+    | inl x ↦ a_inside p (and_parts _ _ x).0
+    | inr x ↦ b_inside p (and_parts _ _ x).0
+  ]
 
 -- The first two stages, where these are the liberties of the strings after the moves of a board.
 module _ {L : Type 0} {seen : L → Fact → Bool} {board : Trying L} {link : Link} {of_a of_b : set.FinSet nat_cmp}
@@ -230,7 +226,7 @@ module _ {L : Type 0} {seen : L → Fact → Bool} {board : Trying L} {link : Li
       (ap (λ m. reaches_among m of_a of_b p || reaches_among m of_b of_a p) (sym e) ∙ sym (is p) ∙ h)
 
 -- a capture is on the board
-pub capture_inside : (s : ℕ) (cells : List Cell) (link : Link) (p : ℕ) → is_capture s cells link.a link.b p ≡ true
+capture_inside : (s : ℕ) (cells : List Cell) (link : Link) (p : ℕ) → is_capture s cells link.a link.b p ≡ true
     → p < s * s
 capture_inside s cells link p h =
     move_on link (record { size = s; cells = cells; ban = None }) p (or_right _ _ h)
@@ -241,35 +237,87 @@ in_union : (a b both : set.FinSet nat_cmp) (p : ℕ) → both ≡ set.union a b 
 in_union a b both p is h = or_cases (set.contains a p) (set.contains b p)
     (sym (ap (λ k. set.contains k p) is ∙ set.contains-union nat_cmp_total a b p) ∙ h)
 
--- what the captures that were not tried tell, where the first two stages have nothing
-pub last_stage : (link : Link) (s : ℕ) (here : BoardState) (of_a of_b : set.FinSet nat_cmp) → here.size ≡ s
-    → of_a ≡ liberty_points s here.cells link.a → of_b ≡ liberty_points s here.cells link.b
-    → (shared across tried captures rest : set.FinSet nat_cmp)
-    → ((p : ℕ) → set.contains shared p ≡ (set.contains of_a p && set.contains of_b p))
-    → ((p : ℕ) → set.contains across p ≡ (reaches_among s of_a of_b p || reaches_among s of_b of_a p))
-    → ((p : ℕ) → set.contains captures p ≡ is_capture s here.cells link.a link.b p)
-    → tried ≡ set.union shared across
-    → ((p : ℕ) → set.contains rest p ≡ (set.contains captures p && not (set.contains tried p)))
-    → (test : ℕ → Bool) (one two told : Bool)
-    → TellsSome (set.contains shared) test one → one ≡ false
-    → TellsSome (set.contains across) test two → two ≡ false
-    → TellsSome (set.contains rest) test told → TellsSome (is_connecting_move link here) test told
-last_stage link s here of_a of_b size a_is b_is shared across tried captures rest s_is c_is x_is t_is r_is test one two
-    told a a_none b b_none c =
-    tells_last (set.contains shared) (set.contains across) (set.contains rest) (is_connecting_move link here) test one
-    two told a a_none b b_none c
-    (λ p h. capture_is_move link s here of_a of_b size a_is b_is p
-    (sym (x_is p) ∙ (and_parts _ _ (sym (r_is p) ∙ h)).0))
-    (λ p h. elim (move_stage link s here of_a of_b size a_is b_is p h) [
-      | inl x ↦ inl (s_is p ∙ x)
+-- the sets of the three stages, found on a board of s rows by the liberties of the two strings
+pub record AreStages (link : Link) (s : ℕ) (here : BoardState) (of_a of_b shared across captures : set.FinSet nat_cmp) :
+    Type 0 where
+  pub size : here.size ≡ s
+  pub a_is : of_a ≡ liberty_points s here.cells link.a
+  pub b_is : of_b ≡ liberty_points s here.cells link.b
+  pub shared_is : shared ≡ set.intersection of_a of_b
+  pub across_is : (p : ℕ) → set.contains across p ≡ (reaches_among s of_a of_b p || reaches_among s of_b of_a p)
+  pub captures_is : (p : ℕ) → set.contains captures p ≡ is_capture s here.cells link.a link.b p
+
+-- so they are found by the liberties after the moves of a board, on a position that agrees with what was seen
+pub stages_found : {L : Type 0} {seen : L → Fact → Bool} {board : Trying L} {link : Link}
+    {of_a of_b shared across captures : set.FinSet nat_cmp} {n : ℕ} → AreLiberties seen board link of_a of_b
+    → (pos : BoardState) → Agrees (seen board.look) pos → n ≡ pos.size → shared ≡ set.intersection of_a of_b
+    → ((p : ℕ) → set.contains across p ≡ (reaches_among n of_a of_b p || reaches_among n of_b of_a p))
+    → ((p : ℕ) → set.contains captures p ≡ is_capture pos.size (after pos board.moves).cells link.a link.b p)
+    → AreStages link pos.size (after pos board.moves) of_a of_b shared across captures
+stages_found {board = board} {of_a = of_a} {of_b = of_b} its pos a e shared_is across_is captures_is = record {
+  size = size-after pos board.moves;
+  a_is = its.a_liberties pos a;
+  b_is = its.b_liberties pos a;
+  shared_is = shared_is;
+  across_is = λ p. across_is p ∙ ap (λ m. reaches_among m of_a of_b p || reaches_among m of_b of_a p) e;
+  captures_is = captures_is;
+}
+
+-- The three stages of the connecting moves.
+module _ {link : Link} {s : ℕ} {here : BoardState} {of_a of_b shared across captures : set.FinSet nat_cmp}
+    (h : AreStages link s here of_a of_b shared across captures) where
+  -- joined they are all connecting moves
+  pub all_moves : (two three : set.FinSet nat_cmp) → two ≡ set.union shared across → three ≡ set.union two captures
+      → (p : ℕ) → set.contains three p ≡ is_connecting_move link here p
+  all_moves two three two_is three_is p =
+      ap (λ k. set.contains k p) three_is ∙ set.contains-union nat_cmp_total two captures p
+      ∙ ap (λ b. b || set.contains captures p)
+      (ap (λ k. set.contains k p) two_is ∙ set.contains-union nat_cmp_total shared across p)
+      ∙ ap (λ b. (b || set.contains across p) || set.contains captures p) (in_both of_a of_b shared h.shared_is p)
+      ∙ ap (λ b. ((set.contains of_a p && set.contains of_b p) || b) || set.contains captures p) (h.across_is p)
+      ∙ ap (λ b. ((set.contains of_a p && set.contains of_b p)
+      || (reaches_among s of_a of_b p || reaches_among s of_b of_a p)) || b) (h.captures_is p)
+      ∙ sym (stage_moves link s here of_a of_b h.size h.a_is h.b_is p)
+
+  -- The captures of which none was tried.
+  module _ (tried rest : set.FinSet nat_cmp) (rest_is : rest ≡ set.difference captures tried) where
+    -- one of these is a capture
+    rest_is_capture : (p : ℕ) → set.contains rest p ≡ true → is_capture s here.cells link.a link.b p ≡ true
+    rest_is_capture p i =
+        sym (h.captures_is p) ∙ (and_parts _ _ (sym (in_first_alone captures tried rest rest_is p) ∙ i)).0
+
+    -- and so it is on the board
+    pub rest_inside : (p : ℕ) → set.contains rest p ≡ true → p < s * s
+    rest_inside p i = capture_inside s here.cells link p (rest_is_capture p i)
+
+    -- and a connecting move
+    pub rest_is_move : (p : ℕ) → set.contains rest p ≡ true → is_connecting_move link here p ≡ true
+    rest_is_move p i = capture_is_move link s here of_a of_b h.size h.a_is h.b_is p
+        (rest_is_capture p i)
+
+    -- a connecting move is of the first two stages, or one of these
+    covered : tried ≡ set.union shared across → (p : ℕ) → is_connecting_move link here p ≡ true
+        → (set.contains shared p ≡ true) ⊎ ((set.contains across p ≡ true) ⊎ (set.contains rest p ≡ true))
+    covered tried_is p i = elim (move_stage link s here of_a of_b h.size h.a_is h.b_is p i) [
+      | inl x ↦ inl (in_both of_a of_b shared h.shared_is p ∙ x)
       | inr more ↦ elim more [
-        | inl x ↦ inr (inl (c_is p ∙ x))
+        | inl x ↦ inr (inl (h.across_is p ∙ x))
         | inr x ↦ elim (cases_Bool (set.contains tried p)) [
-          | inl t ↦ elim (in_union shared across tried p t_is t) [ inl y ↦ inl y | inr y ↦ inr (inl y) ]
-          | inr f ↦ inr (inr (r_is p ∙ and_from _ _ (x_is p ∙ x) (ap not f)))
+          | inl t ↦ elim (in_union shared across tried p tried_is t) [ inl y ↦ inl y | inr y ↦ inr (inl y) ]
+          | inr f ↦ inr (inr (in_first_alone captures tried rest rest_is p
+              ∙ and_from _ _ (h.captures_is p ∙ x) (ap not f)))
         ]
       ]
-    ])
+    ]
+
+    -- what these tell, where the first two stages have nothing
+    pub last_stage : tried ≡ set.union shared across → (test : ℕ → Bool) (one two told : Bool)
+        → TellsSome (set.contains shared) test one → one ≡ false
+        → TellsSome (set.contains across) test two → two ≡ false
+        → TellsSome (set.contains rest) test told → TellsSome (is_connecting_move link here) test told
+    last_stage tried_is test one two told a a_none b b_none c =
+        tells_last (set.contains shared) (set.contains across) (set.contains rest) (is_connecting_move link here) test
+        one two told a a_none b b_none c rest_is_move (covered tried_is)
 
 -- the last liberties beside the one string and beside the other are the captures
 pub captures_are : (s : ℕ) (cells : List Cell) (link : Link) (of_a of_b both : set.FinSet nat_cmp) (p : ℕ)

@@ -246,8 +246,8 @@ pub fn connect<L: Look>(look: L, a: Point, b: Point, plies: u8) -> LinkTold<L>
     answered(look, LinkKind::Connect, a, b, plies)
 }
 
-/// Reads whether the strings of `a` and `b`, of one colour, can be kept apart when the other colour plays first, `plies`
-/// plies deep.
+/// Reads whether the strings of `a` and `b`, of one colour, can be kept apart when the other colour plays first,
+/// `plies` plies deep.
 ///
 /// The move is the pass where no stone need be put, else the first in reading order that attains it. Takes no memory.
 pub fn disconnect<L: Look>(look: L, a: Point, b: Point, plies: u8) -> LinkTold<L>

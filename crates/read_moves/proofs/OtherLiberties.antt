@@ -1,11 +1,12 @@
 -- A string with enough liberties has one beside one given point, and beside two.
-use Rattle.std.proofs.Common.{◌≡◌, ◌≢◌, ◌⊎◌, ℕ, zero, suc, ◌+◌, ◌*◌, ◌<◌, ◌≤◌, ◌&&◌, Bool, true, false, not, cond, eqb}
-use Rattle.std.proofs.Common.{List, refl, ap, arith, inl, inr}
+use Rattle.std.proofs.Common.{◌≡◌, ◌≢◌, ◌⊎◌, ℕ, ◌+◌, ◌*◌, ◌<◌, ◌≤◌, ◌&&◌, Bool, true, not, eqb}
+use Rattle.std.proofs.Common.{List, ap, arith, inl, inr}
 use Rattle.std.proofs.lemmas.Bool.{cases_Bool, cases_eq, eq-eqb, ne_eqb, and_parts, and_from, both_ways}
 use Rattle.go_rules.specs.declared.Cell.{Cell}
 use Rattle.go_rules.specs.Below.{any_below, count_below}
 use Rattle.go_rules.specs.Strings.{is_liberty, liberties, IsLiberty}
-use Rattle.go_rules.proofs.Counts.{any_below_gives, any_below_none, count_below_mono, count_below_none}
+use Rattle.go_rules.proofs.Counts.{any_below_gives, any_below_none, count_below_none}
+use Rattle.trial_board.proofs.CapturedLemmas.{count_below-one}
 use Rattle.go_rules.proofs.Paths.{IsLiberty-from_test, is_liberty-from_fact}
 
 -- the numbers that pass and are not a
@@ -35,27 +36,7 @@ some_passes n test some = elim (cases_Bool (any_below n test)) [
 
 -- all numbers that pass but a are at most one fewer
 but_one : (n : ℕ) (test : ℕ → Bool) (a : ℕ) → count_below n test ≤ count_below n (but test a) + 1
-but_one zero test a = omega arith
-but_one (suc n) test a = elim (cases_eq n a) [
-  | inl e ↦
-      let rest = count_below_mono n test (but test a)
-      (λ k below passes. but_from test a k passes (λ same. omega (arith, below, same, e))) in
-      let here = at_most_one (test n) in
-      omega (arith, rest, here)
-  | inr ne ↦
-      let rest = but_one n test a in
-      let here = kept (test n) (but test a n) (λ t. but_from test a n t ne) in
-      omega (arith, rest, here)
-]
-  where
-    at_most_one : (b : Bool) → cond b 1 0 ≤ 1
-    at_most_one true = omega arith
-    at_most_one false = omega arith
-
-    kept : (b d : Bool) → (b ≡ true → d ≡ true) → cond b 1 0 ≤ cond d 1 0
-    kept true d h = rw (h refl) (omega arith)
-    kept false true h = omega arith
-    kept false false h = omega arith
+but_one n test a = count_below-one n a test (but test a) (λ k _ ne t. but_from test a k t ne)
 
 -- The string of q.
 module _ (s : ℕ) (cells : List Cell) (q : ℕ) where

@@ -36,7 +36,7 @@ use Rattle.read_moves.specs.declared.reach.Reach.TheVariants.{Nothing, More}
 use Rattle.read_moves.specs.Steps.{is_left, LivesWithout, AllLive, IsQuiet}
 use Rattle.read_rules.proofs.AfterPlays.{put_liberty, after_liberty}
 use Rattle.read_rules.proofs.OneMember.{one_member}
-use Rattle.go_rules.proofs.Tests.{same_tests}
+use Rattle.go_rules.proofs.Tests.{same_tests, and-false}
 use Rattle.read_moves.proofs.OtherLiberties.{other_or_only}
 use Rattle.read_moves.proofs.SideLemmas.{not_its_own}
 
@@ -355,12 +355,8 @@ pub unless_one : (here : BoardState) (c : Colour) (l p : ℕ) (r : Reach) → l 
     → is_left here c l p ≡ false
 unless_one here c l p r on sound vacant (inr two) reaches =
     let other = subst (Reaches here.size here.cells c l) two reaches in
-    none_left (same_cell (cell_at here.cells p) Empty) _
-    (reached_leave_none here c l p on sound.cells (other p))
-  where
-    none_left : (a b : Bool) → b ≡ false → (a && b) ≡ false
-    none_left true b e = e
-    none_left false b e = refl
+    ap (λ b. same_cell (cell_at here.cells p) Empty && b) (reached_leave_none here c l p on sound.cells (other p))
+    ∙ and-false (same_cell (cell_at here.cells p) Empty)
 unless_one here c l p r on sound vacant (inl none) reaches = elim (cases_Bool (is_left here c l p)) [
   | inr f ↦ f
   | inl t ↦ quiet_none here c l on

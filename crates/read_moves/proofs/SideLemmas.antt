@@ -1,20 +1,52 @@
 -- The empty sides of a point.
 use Rattle.std.proofs.Common.{◌≡◌, ℕ, ◌+◌, ◌*◌, ◌/◌, ◌%◌, ◌<◌, ◌||◌, ◌&&◌, Bool, true, false, eqb, ltb, List, refl, sym}
 use Rattle.std.proofs.Common.{ap, subst, arith, inl, inr, ◌∙◌}
-use Rattle.std.proofs.lemmas.Bool.{or_cases, eqb-true, and_parts, ltb-true}
+use Rattle.std.proofs.lemmas.Bool.{or_cases, eqb-true, and_parts, and_from, ltb-true}
 use Rattle.std.specs.Ordering.{nat_cmp}
 use Rattle.std.specs.FinSet as sets
 use Rattle.go_rules.specs.declared.Cell.{Cell}
+use Rattle.go_rules.specs.declared.Cell.TheVariants.{Empty}
 use Rattle.go_rules.specs.Board.{are_neighbours, are_one_apart}
-use Rattle.go_rules.proofs.Counts.{any_below_gives}
+use Rattle.go_rules.proofs.Counts.{any_below_gives, any_below_from}
 use Rattle.go_rules.proofs.Sets.{same_nat_set, contains-set_below, len-set_below}
-use Rattle.go_rules.specs.Below.{set_below, count_below}
+use Rattle.go_rules.proofs.Tests.{same_tests}
+use Rattle.go_rules.specs.Below.{any_below, set_below, count_below}
 use Rattle.go_rules.proofs.Paths.{same_cell-true}
 use Rattle.go_base.specs.Views.{alone, neighbours_of}
+use Rattle.go_base.proofs.SidesOfPoints.{neighbour_at-near}
 use Rattle.go_base.proofs.PointNeighbourhoods.{whole_self, close_next, close_again, close_mono, alone_self}
 use Rattle.go_rules.specs.Neighbourhood.{neighbourhood_of}
 use Rattle.trial_board.specs.Overlays.{neighbourhood_twice}
+use Rattle.further_moves.specs.Strings.{holds_next}
+use Rattle.further_moves.proofs.SideLemmas.{IsSide}
 use Rattle.read_rules.specs.Candidates.{is_empty_beside, IsEmptyNeighbour}
+
+-- the points next to those of S at which nothing stands are the empty ones
+pub empty_beside_are : (s : ℕ) (cells : List Cell) (S : ℕ → Bool) (p : ℕ)
+    → any_below (s * s) (λ l. S l && holds_next s cells Empty l p) ≡ is_empty_beside s cells S p
+unfolding holds_next is_empty_beside
+empty_beside_are s cells S p = same_tests _ _
+    (λ h.
+    let l = any_below_gives (s * s) _ h in
+    let both = and_parts _ _ l.2 in
+    let next = and_parts _ _ both.1 in
+    and_from _ _ next.0 (any_below_from (s * s) _ l.0 l.1 (and_from _ _ both.0 next.1)))
+    (λ h.
+    let place = and_parts _ _ h in
+    let l = any_below_gives (s * s) _ place.1 in
+    let both = and_parts _ _ l.2 in
+    any_below_from (s * s) _ l.0 l.1 (and_from _ _ both.0 (and_from _ _ place.0 both.1)))
+
+-- and so are the neighbours of one point
+pub empty_sides_are : (s : ℕ) (cells : List Cell) (l p : ℕ) → l < s * s
+    → holds_next s cells Empty l p ≡ is_empty_beside s cells (alone l) p
+empty_sides_are s cells l p on = same_tests _ _
+    (λ h. any_below_from (s * s) _ l on (and_from _ _ (alone_self l) h))
+    (λ h.
+    let k = any_below_gives (s * s) _ h in
+    let both = and_parts _ _ k.2 in
+    subst (λ x. holds_next s cells Empty x p ≡ true) (eqb-true k.0 l both.0) both.1)
+    ∙ empty_beside_are s cells (alone l) p
 
 -- the test for an empty neighbour of l
 pub side_gives : (s : ℕ) (cells : List Cell) (l x : ℕ) → is_empty_beside s cells (alone l) x ≡ true
@@ -76,10 +108,12 @@ sides_near s cells l on r h =
     close_again s cells (alone l) r (close_next s cells (alone l) l r (ltb-true r (s * s) near.0)
     (whole_self s cells (alone l) l on (alone_self l)) near.1)
 
--- and so is what is looked at around the string of a neighbour
-pub string_near : (s : ℕ) (cells : List Cell) (l q : ℕ) → l < s * s → q < s * s → are_neighbours s l q ≡ true
-    → (r : ℕ) → neighbourhood_of s cells (alone q) r ≡ true → neighbourhood_twice s cells l r ≡ true
-string_near s cells l q on q_on beside r h =
+-- and so is what is looked at around the string of the neighbour at a side
+pub string_near : {s l side q : ℕ} (cells : List Cell) → IsSide s l side q → (r : ℕ)
+    → neighbourhood_of s cells (alone q) r ≡ true → neighbourhood_twice s cells l r ≡ true
+string_near {s} {l} {side} {q} cells is r h =
     let first = neighbourhood_of s cells (alone l) in
-    let q_near = close_next s cells (alone l) l q q_on (whole_self s cells (alone l) l on (alone_self l)) beside in
+    let near = neighbour_at-near s l side q is.on_board is.at in
+    let q_near = close_next s cells (alone l) l q near.0 (whole_self s cells (alone l) l is.on_board (alone_self l))
+    near.1 in
     close_mono s cells (alone q) first (λ x same. ap first (eqb-true x q same) ∙ q_near) r h

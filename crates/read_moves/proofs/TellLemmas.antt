@@ -1,6 +1,6 @@
 -- What is told of points, side by side.
 use Rattle.std.proofs.Common.{◌≡◌, ◌⊎◌, ℕ, ◌+◌, ◌*◌, ◌<◌, ◌≤◌, true, cond, Some, List, sym, ap, subst, arith, inl, inr}
-use Rattle.std.proofs.Common.{◌∙◌}
+use Rattle.std.proofs.Common.{refl, ◌∙◌}
 use Rattle.std.proofs.lemmas.Bool.{cases_Bool, cases_eq, eq-eqb, ne_eqb, both_ways}
 use Rattle.go_rules.specs.declared.Cell.{Cell}
 use Rattle.go_rules.specs.declared.Cell.TheVariants.{Empty}
@@ -50,6 +50,12 @@ Tells-together P Q (Only p) (Only q) h k = elim (cases_eq p q) [
 Tells-together P Q (Only p) More h k = λ z. other_within Q (λ x. P x ⊎ Q x) (λ x i. inr i) z (k z)
 Tells-together P Q More b h k = λ z. other_within P (λ x. P x ⊎ Q x) (λ x i. inl i) z (h z)
 
+-- what is told together with nothing is told
+together-nothing : (r : Reach) → together r Nothing ≡ r
+together-nothing Nothing = refl
+together-nothing (Only p) = refl
+together-nothing More = refl
+
 -- x is of P, or of S at one of the first n sides
 pub data IsSoFar (P : ℕ → Type 0) (S : ℕ → ℕ → Type 0) (n x : ℕ) : Type 0 where
   before : P x → IsSoFar P S n x
@@ -86,18 +92,7 @@ module _ (P : ℕ → Type 0) (S : ℕ → ℕ → Type 0) where
   -- the next side has no points
   pub SoFar-skip : (n : ℕ) (r : Reach) → Tells (IsSoFar P S n) r → ((x : ℕ) → S n x → ⊥)
       → Tells (IsSoFar P S (n + 1)) r
-  SoFar-skip n r h none = Tells-same (IsSoFar P S n) (IsSoFar P S (n + 1)) r to from h
-    where
-      to : (x : ℕ) → IsSoFar P S n x → IsSoFar P S (n + 1) x
-      to x (before i) = before i
-      to x (at_side side below i) = at_side side (omega (arith, below)) i
-
-      from : (x : ℕ) → IsSoFar P S (n + 1) x → IsSoFar P S n x
-      from x (before i) = before i
-      from x (at_side side below i) = elim (cases_eq side n) [
-        | inl e ↦ absurd (none x (subst (λ k. S k x) e i))
-        | inr ne ↦ at_side side (omega (arith, below, ne)) i
-      ]
+  SoFar-skip n r h none = subst (Tells (IsSoFar P S (n + 1))) (together-nothing r) (SoFar-next n r Nothing h none)
 
 -- no point
 abbrev pub Nowhere : ℕ → Type 0

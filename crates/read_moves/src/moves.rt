@@ -1,11 +1,10 @@
-//! The points that a reading tries beside a target's liberties: their empty neighbours, and those that plays on them
-//! would leave.
+//! The points that a reading tries beside a target's liberties: the empty sides of a point, and those that plays on
+//! them would leave.
 
-ghost use Rattle.std.specs.Prelude.{◌≡◌, ℕ, ◌*◌, ◌<◌, ◌≤◌, ◌&&◌, ◌||◌, IsTrue, if◌then◌else◌};
+ghost use Rattle.std.specs.Prelude.{◌≡◌, ℕ, ◌*◌, ◌<◌, ◌≤◌, ◌&&◌, ◌||◌, IsTrue};
 ghost use Rattle.std.specs.FinSet as set;
 ghost use Rattle.go_rules.specs.Below.{any_below, count_below};
 ghost use Rattle.go_rules.specs.Board.{largest_points};
-ghost use Rattle.go_rules.specs.Strings.{cell_at, same_cell};
 ghost use Rattle.go_rules.specs.Position.{BoardState};
 ghost use Rattle.go_base.specs.Facts.{Agrees, AddsIn};
 ghost use Rattle.go_base.specs.Views.{alone, neighbours_of};
@@ -16,26 +15,11 @@ ghost use Rattle.read_moves.specs.Steps.{is_left};
 
 use crate::quiet::is_quiet;
 use crate::reach::{Reach, reach_of};
+use further_moves::sides;
 use go_base::points::PointSet;
-use go_base::sides::neighbour;
 use go_base::size::Point;
 use go_base::{Cell, Colour, Look};
 use trial_board::Trial;
-
-/// Adds q where it is empty.
-fn add_empty<L: Look>(board: &mut Trial<L>, q: Point, found: &mut PointSet)
-    requires on_board { q < (L.shows board.old.look).size * (L.shows board.old.look).size }
-    requires small { q < largest_points }
-    ensures stays { Stays L.shows L.seen board.old board.new }
-    ensures over { (pos : BoardState) → Agrees (L.seen board.new.look) pos
-        → found.new ≡ (if same_cell (cell_at (after pos board.old.moves).cells q) Cell.Empty then set.insert found.old q
-        else found.old) }
-    ensures near { AddsIn (L.seen board.old.look) (L.seen board.new.look) (alone q) }
-{
-    if board.cell(q) == Cell::Empty {
-        found.add(q);
-    }
-}
 
 /// Adds the empty neighbours of l.
 pub fn add_sides<L: Look>(board: &mut Trial<L>, l: Point, found: &mut PointSet)
@@ -47,32 +31,7 @@ pub fn add_sides<L: Look>(board: &mut Trial<L>, l: Point, found: &mut PointSet)
     ensures near { (pos : BoardState) → Agrees (L.seen board.new.look) pos
         → AddsIn (L.seen board.old.look) (L.seen board.new.look) (neighbours_of pos.size l) }
 {
-    let size = board.size();
-    for side in 0..4 {
-        if let Some(q) = neighbour(size, l, side) {
-            add_empty(board, q, found);
-        }
-    }
-}
-
-/// Adds the empty points next to a point of the set.
-pub(crate) fn add_beside<L: Look>(board: &mut Trial<L>, points: &PointSet, found: &mut PointSet)
-    requires { (l : ℕ) → IsTrue (set.contains points.now l)
-        → l < (L.shows board.old.look).size * (L.shows board.old.look).size }
-    ensures stays { Stays L.shows L.seen board.old board.new }
-    ensures over { (pos : BoardState) → Agrees (L.seen board.new.look) pos → (p : ℕ)
-        → set.contains found.new p
-        ≡ (set.contains found.old p || is_empty_beside pos.size (after pos board.old.moves).cells
-        (set.contains points.now) p) }
-    ensures near { (pos : BoardState) → Agrees (L.seen board.new.look) pos
-        → AddsIn (L.seen board.old.look) (L.seen board.new.look)
-        (λ r. any_below (pos.size * pos.size) (λ l. set.contains points.now l && neighbours_of pos.size l r)) }
-{
-    let mut next = 0;
-    while let Some(l) = points.first_from(next) {
-        add_sides(board, l, found);
-        next = l + 1;
-    }
+    sides::add_sides(board, Cell::Empty, l, found);
 }
 
 /// How many sides of l are empty.

@@ -11,8 +11,9 @@ ghost use Rattle.trial_board.specs.Trials.{Stays, after};
 ghost use Rattle.read_rules.specs.Candidates.{attacker_of, is_empty_beside, is_candidate, near_candidates};
 ghost use Rattle.read_rules.specs.Stages.{is_wide_candidate};
 
-use crate::moves::{add_backfilling, add_beside};
+use crate::moves::add_backfilling;
 use further_moves::further_candidates;
+use further_moves::sides::add_sides_of;
 use go_base::points::PointSet;
 use go_base::size::Point;
 use go_base::surroundings::Surroundings;
@@ -34,7 +35,7 @@ fn add_beside_few<L: Look>(board: &mut Trial<L>, points: &PointSet, found: &mut 
         (λ r. any_below (pos.size * pos.size) (λ l. set.contains points.now l && neighbours_of pos.size l r)) }
 {
     if points.count() < 3 {
-        add_beside(board, points, found);
+        add_sides_of(board, Cell::Empty, points, found);
     }
 }
 

@@ -1,11 +1,10 @@
 -- The row of captured stones: what a play writes there, and that there is room for it.
-use Rattle.std.proofs.Common.{◌≡◌, ◌≢◌, ℕ, zero, suc, ◌+◌, ◌<◌, ◌≤◌, ◌&&◌, ◌||◌, Bool, IsTrue, true, false, cond}
-use Rattle.std.proofs.Common.{eqb}
-use Rattle.std.proofs.Common.{List, length, refl, sym, ap, arith, inl, inr, ◌∙◌, get_or-set_same}
+use Rattle.std.proofs.Common.{◌≡◌, ◌≢◌, ℕ, zero, suc, ◌+◌, ◌<◌, ◌≤◌, ◌&&◌, Bool, IsTrue, true, false, cond}
+use Rattle.std.proofs.Common.{List, length, refl, sym, ap, arith, inl, inr, ◌∙◌, add-one, get_or-set_same}
 use Rattle.std.proofs.Common.{get_or-set_other}
 use Rattle.std.specs.Prelude.{slice_index_or}
 use Rattle.std.proofs.Math.ListN.{set, length-set}
-use Rattle.std.proofs.lemmas.Bool.{cases_Bool, cases_eq, cases_lt, eq-eqb, lt-ltb, le-ltb}
+use Rattle.std.proofs.lemmas.Bool.{both_ways, or_left, or_right, cases_Bool, cases_eq, cases_lt, eq-eqb, lt-ltb, le-ltb}
 use Rattle.std.specs.Ordering.{nat_cmp}
 use Rattle.std.specs.FinSet as sets
 use Rattle.go_rules.specs.Below.{count_below, set_below}
@@ -26,7 +25,7 @@ points_in-same a b first (suc n) h =
 -- one place more has one point more
 pub points_in-more : (row : List ℕ) (first n : ℕ) → sets.insert (points_in row first n)
     (slice_index_or row (first + n) 0) ≡ points_in row first (n + 1)
-points_in-more row first n = let one : suc n ≡ n + 1 = omega arith in ap (points_in row first) one
+points_in-more row first n = ap (points_in row first) (sym (add-one n))
 
 -- each of the places has one of the points
 pub points_in-has : (row : List ℕ) (first n i : ℕ) → i < n
@@ -34,19 +33,11 @@ pub points_in-has : (row : List ℕ) (first n i : ℕ) → i < n
 points_in-has row first zero i h = absurd (omega arith)
 points_in-has row first (suc n) i h =
     let x = slice_index_or row (first + n) 0 in
-    elim (cases_eq i n) [
-      | inl e ↦ ap (λ m. sets.contains (points_in row first (suc n)) (slice_index_or row (first + m) 0)) e
-          ∙ contains-insert_nat (points_in row first n) x x ∙ ap (λ b. b || sets.contains (points_in row first n) x)
-          (eq-eqb x x refl)
-      | inr ne ↦
-          let y = slice_index_or row (first + i) 0 in
-          contains-insert_nat (points_in row first n) x y
-          ∙ ap (λ b. eqb y x || b) (points_in-has row first n i (omega arith)) ∙ or_true (eqb y x)
+    let y = slice_index_or row (first + i) 0 in
+    contains-insert_nat (points_in row first n) x y ∙ elim (cases_eq i n) [
+      | inl e ↦ or_left _ _ (eq-eqb y x (ap (λ m. slice_index_or row (first + m) 0) e))
+      | inr ne ↦ or_right _ _ (points_in-has row first n i (omega arith))
     ]
-  where
-    or_true : (b : Bool) → (b || true) ≡ true
-    or_true true = refl
-    or_true false = refl
 
 -- where no number from n on passes, the set is whole
 pub set_below-rest : (n m : ℕ) (test : ℕ → Bool) → n ≤ m → ((k : ℕ) → n ≤ k → k < m → test k ≡ false)
@@ -87,25 +78,27 @@ count_below-less n (suc m) test l = elim (cases_eq n (suc m)) [
       (cases_Bool (test m)) [ inl t ↦ rw t (omega (arith, rest)) | inr f ↦ rw f (omega (arith, rest)) ]
 ]
 
+-- a number that passes at most one of two tests, and then a third, is counted no more often for the two
+apart : (a b all : Bool) → (a ≡ true → (b ≡ false) × (all ≡ true)) → (b ≡ true → all ≡ true)
+    → cond a 1 0 + cond b 1 0 ≤ cond all 1 0
+apart true b all h i = let both = h refl in rw (both.0, both.1) (omega arith)
+apart false true all h i = rw (i refl) (omega arith)
+apart false false all h i = omega arith
+
 -- two tests of which no number passes both, each within a third
 pub count_below-two : (n : ℕ) (a b all : ℕ → Bool) → ((k : ℕ) → k < n → a k ≡ true → (b k ≡ false) × (all k ≡ true))
     → ((k : ℕ) → k < n → b k ≡ true → all k ≡ true)
     → count_below n a + count_below n b ≤ count_below n all
 count_below-two zero a b all h i = omega arith
 count_below-two (suc n) a b all h i =
-    let rest : count_below n a + count_below n b ≤ count_below n all = count_below-two n a b all
-    (λ k l. h k (omega arith)) (λ k l. i k (omega arith)) in
-    elim (cases_Bool (a n)) [
-      | inl t ↦ let both = h n (omega arith) t in rw (t, both.0, both.1) (omega (arith, rest))
-      | inr f ↦ elim (cases_Bool (b n)) [
-        | inl t ↦ rw (f, t, i n (omega arith) t) (omega (arith, rest))
-        | inr g ↦ elim (cases_Bool (all n)) [
-          | inl t ↦ rw (f, g, t) (omega (arith, rest))
-          | inr o ↦ rw (f, g, o)
-              (omega (arith, rest))
-        ]
-      ]
-    ]
+    let rest = count_below-two n a b all (λ k l. h k (omega arith)) (λ k l. i k (omega arith)) in
+    let here = apart (a n) (b n) (all n) (h n (omega arith)) (i n (omega arith)) in
+    omega (arith, rest, here)
+
+-- a number is counted once at most
+once : (a : Bool) → cond a 1 0 ≤ 1
+once true = omega arith
+once false = omega arith
 
 -- a test that differs from another at one number counts at most one more
 pub count_below-one : (n p : ℕ) (a b : ℕ → Bool) → ((k : ℕ) → k < n → k ≢ p → a k ≡ true → b k ≡ true)
@@ -113,29 +106,13 @@ pub count_below-one : (n p : ℕ) (a b : ℕ → Bool) → ((k : ℕ) → k < n 
 count_below-one zero p a b h = omega arith
 count_below-one (suc n) p a b h = elim (cases_eq n p) [
   | inl e ↦
-      let rest : count_below n a ≤ count_below n b = count_below_mono n a b (λ k l. h k (omega arith) (omega arith)) in
-      elim (cases_Bool (a n)) [
-        | inl t ↦ elim (cases_Bool (b n)) [
-          | inl u ↦ rw (t, u) (omega (arith, rest))
-          | inr g ↦ rw (t, g)
-              (omega (arith, rest))
-        ]
-        | inr f ↦ elim (cases_Bool (b n)) [
-          | inl u ↦ rw (f, u) (omega (arith, rest))
-          | inr g ↦ rw (f, g)
-              (omega (arith, rest))
-        ]
-      ]
+      let rest = count_below_mono n a b (λ k l. h k (omega arith) (omega arith)) in
+      let here = once (a n) in
+      omega (arith, rest, here)
   | inr ne ↦
-      let rest : count_below n a ≤ count_below n b + 1 = count_below-one n p a b (λ k l. h k (omega arith)) in
-      elim (cases_Bool (a n)) [
-        | inl t ↦ rw (t, h n (omega arith) ne t) (omega (arith, rest))
-        | inr f ↦ elim (cases_Bool (b n)) [
-          | inl u ↦ rw (f, u) (omega (arith, rest))
-          | inr g ↦ rw (f, g)
-              (omega (arith, rest))
-        ]
-      ]
+      let rest = count_below-one n p a b (λ k l. h k (omega arith)) in
+      let here = apart (a n) false (b n) (λ t. (refl, h n (omega arith) ne t)) (λ f. absurd (both_ways false refl f)) in
+      omega (arith, rest, here)
 ]
 
 -- the points of the test below n are written into the row from the place `first` on, and what stands before it is as it
@@ -162,25 +139,25 @@ Noted-jump {test = test} {n = n} m noted l none = record {
   before = noted.before;
 }
 
+-- a place more, into which n was written, has n more
+points_in-put : (row : List ℕ) (first count n : ℕ) → first + count < length row
+    → points_in (set row (first + count) n) first (count + 1) ≡ sets.insert (points_in row first count) n
+points_in-put row first count n room =
+    let new = set row (first + count) n in
+    sym (points_in-more new first count)
+    ∙ ap (λ t. sets.insert t (slice_index_or new (first + count) 0)) (points_in-same new row first count
+    (λ i l. get_or-set_other row (first + count) i n 0 (λ e. omega arith)))
+    ∙ ap (sets.insert (points_in row first count)) (get_or-set_same row (first + count) n 0 room)
+
 -- one more point of the test was written
 Noted-hit : {test : ℕ → Bool} {first : ℕ} {old new : List ℕ} {count n : ℕ} → Noted test first old new count n
     → first + count < length new → test n ≡ true → Noted test first old (set new (first + count) n) (count + 1) (n + 1)
 Noted-hit {test} {first} {old} {new} {count} {n} noted room hit = record {
   whole = length-set new (first + count) n ∙ noted.whole;
-  counted = let one : n + 1 ≡ suc n = omega arith in omega (
-    arith,
-    noted.counted,
-    count_below-hit n test hit,
-    ap
-        (λ k. count_below k test) one,
-  );
-  points =
-      let one : count + 1 ≡ suc count = omega arith in
-      ap (points_in (set new (first + count) n) first) one
-      ∙ ap (λ t. sets.insert t (slice_index_or (set new (first + count) n) (first + count) 0))
-      (points_in-same (set new (first + count) n) new first count (λ i l. get_or-set_other new (first + count) i n 0
-      (λ e. omega arith)) ∙ noted.points)
-      ∙ ap (sets.insert (set_below n test)) (get_or-set_same new (first + count) n 0 room) ∙ set_below-hit n test hit;
+  counted =
+      let one = ap (λ k. count_below k test) (add-one n) in
+      omega (arith, noted.counted, count_below-hit n test hit, one);
+  points = points_in-put new first count n room ∙ ap (λ t. sets.insert t n) noted.points ∙ set_below-hit n test hit;
   before = λ i l. get_or-set_other new (first + count) i n 0 (λ e. omega arith) ∙ noted.before i l;
 }
 
@@ -199,6 +176,28 @@ members_below points n h = same_nat_set (set_below n (sets.contains points)) poi
       | inr g ↦ ap (λ b. b && sets.contains points q) (le-ltb q n g) ∙ sym (h q g)
     ])
 
+-- a set whose members are below m has as many as are counted below m
+len_counted : (points : sets.FinSet nat_cmp) (m : ℕ) → ((r : ℕ) → IsTrue (sets.contains points r) → r < m)
+    → sets.len points ≡ count_below m (sets.contains points)
+len_counted points m small =
+    ap sets.len (sym (members_below points m past)) ∙ len-set_below m (sets.contains points)
+  where
+    past : (r : ℕ) → m ≤ r → sets.contains points r ≡ false
+    past r g = elim (cases_Bool (sets.contains points r)) [
+      | inl t ↦ absurd (let h = small r t in omega (arith, h, g))
+      | inr f ↦ f
+    ]
+
+-- where q passes, more pass below a bound above q than below n, where none from n on comes before q
+counted_more : (n q m : ℕ) (test : ℕ → Bool) → n ≤ q → ((k : ℕ) → n ≤ k → k < q → test k ≡ false) → test q ≡ true
+    → q < m → count_below n test < count_below m test
+counted_more n q m test l none hit below = omega (
+  arith,
+  count_below-rest n q test l none,
+  count_below-hit q test hit,
+  count_below-less (suc q) m test below,
+)
+
 -- there is a place for the next member, where there are places for all, which are below m
 pub Noted-room : (points : sets.FinSet nat_cmp) {first : ℕ} {old row : List ℕ} {count n : ℕ} (q m places : ℕ)
     → Noted (sets.contains points) first old row count n → n ≤ q
@@ -206,23 +205,8 @@ pub Noted-room : (points : sets.FinSet nat_cmp) {first : ℕ} {old row : List �
     → ((r : ℕ) → IsTrue (sets.contains points r) → r < m)
     → first + sets.len points ≤ places → first + count < places
 Noted-room points {n = n} q m places noted l none hit small room =
-    let test = sets.contains points in
-    let all : sets.len points ≡ count_below m test =
-    ap sets.len (sym (members_below points m past)) ∙ len-set_below m test in
-    omega (
-      arith,
-      noted.counted,
-      count_below-rest n q test l none,
-      count_below-hit q test hit,
-      count_below-less (suc q) m test (small q hit),
-      all,
-    )
-  where
-    past : (r : ℕ) → m ≤ r → sets.contains points r ≡ false
-    past r g = elim (cases_Bool (sets.contains points r)) [
-      | inl t ↦ absurd (let h = small r t in omega (arith, h, g))
-      | inr f ↦ f
-    ]
+    let more = counted_more n q m (sets.contains points) l none hit (small q hit) in
+    omega (arith, noted.counted, more, len_counted points m small)
 
 -- where no member is left, as many were written as there are
 pub Noted-all : (points : sets.FinSet nat_cmp) {first : ℕ} {old row : List ℕ} {count n : ℕ}

@@ -1,11 +1,11 @@
 -- Net, Beside and Rescue were gathered.
-use Rattle.std.proofs.Common.{◌*◌, ◌<◌, sym, subst, ◌∙◌}
+use Rattle.std.proofs.Common.{◌*◌, sym, ◌∙◌}
 use Rattle.std.proofs.lemmas.Bool.{and_parts, ltb-true}
-use Rattle.std.specs.FinSet as set
-use Rattle.go_base.specs.Facts.{agrees_before, same_size, AddsIn-trans, AddsIn-mono}
+use Rattle.go_base.specs.Facts.{agrees_before, AddsIn-trans, AddsIn-mono}
+use Rattle.trial_board.proofs.WalkLemmas.{on_agreed}
 use Rattle.trial_board.specs.Trials.{after}
 use Rattle.further_rules.proofs.FurtherPlaces.{second_third}
-use Rattle.further_moves.proofs.SetLemmas.{rescue_is, attacker_is, joined_twice}
+use Rattle.further_moves.proofs.SetLemmas.{attacker_joined}
 use Rattle.further_moves.proofs.NearLemmas.{liberty_on, around_liberties, around_allies}
 use Rattle.further_moves.proofs.further.for_attacker.Goals as goal
 
@@ -29,21 +29,15 @@ pub returns-clause-over : goal.returns-clause-over
 returns-clause-over g c = λ pos a p.
     let a2 = agrees_before c.last_liberties-rescues.ensures.stays.grows a in
     let a1 = agrees_before c.weak_enemies-weak.ensures.stays.grows a2 in
-    let a0 = agrees_before c.net-found.ensures.stays.grows a1 in
     let m1 = c.net-found.ensures.stays.moves in
     let m2 = c.weak_enemies-weak.ensures.stays.moves ∙ m1 in
-    let cells = (after pos c.args.board.now.moves).cells in
-    let net = c.net-found.result in
-    let weak = c.weak_enemies-weak.result in
-    let rescues = c.last_liberties-rescues.result in
-    let beside = rw m1 at (c.weak_enemies-weak.ensures.liberties pos a2 p) in
-    let allies = rw m1 at (c.weak_enemies-weak.ensures.allies pos a2) in
-    let last = rw m2 at (c.last_liberties-rescues.ensures.over pos a p) in
-    attacker_is pos.size cells c.args.target p (set.contains c.join-2.new.self p) (set.contains net p)
-    (set.contains weak.liberties p) (set.contains rescues p)
-    (joined_twice net weak.liberties rescues c.join.new.self c.join-2.new.self p c.join.ensures c.join-2.ensures)
-    (c.net-found.ensures.over pos a1 c.args.target (c.requires.liberties pos a0) p) beside
-    (last ∙ rescue_is pos.size cells c.args.target p weak.allies allies)
+    let weak = c.weak_enemies-weak in
+    attacker_joined pos.size (after pos c.args.board.now.moves).cells c.args.target p c.net-found.result
+    weak.result.liberties weak.result.allies c.last_liberties-rescues.result c.join.new.self c.join-2.new.self
+    c.join.ensures c.join-2.ensures (c.net-found.ensures.over pos a1 c.args.target
+    (c.requires.liberties pos (agrees_before c.net-found.ensures.stays.grows a1)) p)
+    (rw m1 at (weak.ensures.liberties pos a2 p)) (rw m1 at (weak.ensures.allies pos a2))
+    (rw m2 at (c.last_liberties-rescues.ensures.over pos a p))
 
 -- each look is in the third area
 pub returns-clause-near : goal.returns-clause-near
@@ -54,8 +48,7 @@ returns-clause-near g c = λ pos a.
     let m1 = c.net-found.ensures.stays.moves in
     let m2 = c.weak_enemies-weak.ensures.stays.moves ∙ m1 in
     let cells = (after pos c.args.board.now.moves).cells in
-    let size = same_size (g.met.L.Look.sized c.args.board.now.look) a0 in
-    let on = subst (λ n. c.args.target < n * n) (sym size) c.requires.on_board in
+    let on = on_agreed _ _ (g.met.L.Look.sized c.args.board.now.look) a0 c.requires.on_board in
     let beside = rw m1 at (c.weak_enemies-weak.ensures.near pos a2) in
     let allies = rw m1 at (c.weak_enemies-weak.ensures.allies pos a2) in
     let last = rw m2 at (c.last_liberties-rescues.ensures.near pos a) in

@@ -1,12 +1,12 @@
 -- Beside, Join and Cut were gathered.
 use Rattle.std.proofs.Common.{◌*◌, ◌<◌, sym, subst, ◌∙◌}
 use Rattle.std.proofs.lemmas.Bool.{and_parts, ltb-true}
-use Rattle.std.specs.FinSet as set
 use Rattle.go_rules.specs.Position.{BoardState}
-use Rattle.go_base.specs.Facts.{agrees_before, same_size, AddsIn-trans, AddsIn-mono}
+use Rattle.go_base.specs.Facts.{agrees_before, AddsIn-trans, AddsIn-mono}
+use Rattle.trial_board.proofs.WalkLemmas.{on_agreed}
 use Rattle.trial_board.specs.Trials.{after}
 use Rattle.further_rules.proofs.FurtherPlaces.{third_fourth}
-use Rattle.further_moves.proofs.SetLemmas.{cut_is, defender_is, joined_twice}
+use Rattle.further_moves.proofs.SetLemmas.{defender_joined}
 use Rattle.further_moves.proofs.NearLemmas.{around_cutters, second_fourth}
 use Rattle.further_moves.proofs.further.for_defender.Goals as goal
 
@@ -26,18 +26,12 @@ returns-clause-over g c = λ pos a p.
     let a1 = agrees_before c.weak_enemies-weak.ensures.stays.grows a2 in
     let m1 = c.linked_strings-linked.ensures.stays.moves in
     let m2 = c.weak_enemies-weak.ensures.stays.moves ∙ m1 in
-    let cells = (after pos c.args.board.now.moves).cells in
-    let linked = c.linked_strings-linked.result in
-    let weak = c.weak_enemies-weak.result in
-    let cuts = c.last_liberties-cuts.result in
-    let beside = rw m1 at (c.weak_enemies-weak.ensures.liberties pos a2 p) in
-    let last = rw m2 at (c.last_liberties-cuts.ensures.over pos a p) in
-    defender_is pos.size cells c.args.target p (set.contains c.join-2.new.self p) (set.contains weak.liberties p)
-    (set.contains linked.liberties p) (set.contains cuts p)
-    (joined_twice weak.liberties linked.liberties cuts c.join.new.self c.join-2.new.self p c.join.ensures
-    c.join-2.ensures)
-    beside (c.linked_strings-linked.ensures.liberties pos a1 p)
-    (last ∙ cut_is pos.size cells c.args.target p linked.enemies (c.linked_strings-linked.ensures.enemies pos a1))
+    let linked = c.linked_strings-linked in
+    defender_joined pos.size (after pos c.args.board.now.moves).cells c.args.target p
+    c.weak_enemies-weak.result.liberties linked.result.liberties linked.result.enemies c.last_liberties-cuts.result
+    c.join.new.self c.join-2.new.self c.join.ensures c.join-2.ensures
+    (rw m1 at (c.weak_enemies-weak.ensures.liberties pos a2 p)) (linked.ensures.liberties pos a1 p)
+    (linked.ensures.enemies pos a1) (rw m2 at (c.last_liberties-cuts.ensures.over pos a p))
 
 -- each look is in the fourth area
 pub returns-clause-near : goal.returns-clause-near
@@ -48,8 +42,7 @@ returns-clause-near g c = λ pos a.
     let m1 = c.linked_strings-linked.ensures.stays.moves in
     let m2 = c.weak_enemies-weak.ensures.stays.moves ∙ m1 in
     let cells = (after pos c.args.board.now.moves).cells in
-    let size = same_size (g.met.L.Look.sized c.args.board.now.look) a0 in
-    let on = subst (λ n. c.args.target < n * n) (sym size) c.requires.on_board in
+    let on = on_agreed _ _ (g.met.L.Look.sized c.args.board.now.look) a0 c.requires.on_board in
     let beside = rw m1 at (c.weak_enemies-weak.ensures.near pos a2) in
     let last = rw m2 at (c.last_liberties-cuts.ensures.near pos a) in
     AddsIn-trans (AddsIn-mono (c.linked_strings-linked.ensures.near pos a1)

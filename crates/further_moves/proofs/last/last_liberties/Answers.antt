@@ -1,51 +1,42 @@
 -- The last liberties came, point by point.
-use Rattle.std.proofs.Common.{◌*◌, ◌<◌, ap, refl, sym, subst, ◌∙◌}
+use Rattle.std.proofs.Common.{◌≡◌, ◌*◌, ◌||◌, ℕ, subst, sym, ◌∙◌, refl}
 use Rattle.std.specs.FinSet as set
-use Rattle.go_base.specs.Facts.{agrees_before, Grows-refl, AddsIn-refl, AddsIn-trans, AddsIn-mono, same_size}
+use Rattle.go_rules.specs.Neighbourhood.{neighbourhood_of}
+use Rattle.go_base.specs.Facts.{agrees_before}
 use Rattle.go_base.specs.Surroundings.{is_only_liberty}
+use Rattle.go_base.specs.Views.{alone}
 use Rattle.go_base.proofs.PointNeighbourhoods.{close_point}
-use Rattle.trial_board.specs.Trials.{after, Stays-trans}
-use Rattle.further_moves.proofs.GatherLemmas.{Gathers-none, Gathers-next, Gathers-all, Passes-none}
+use Rattle.trial_board.specs.Trials.{after}
+use Rattle.trial_board.proofs.WalkLemmas.{Walked-none, Walked-next, on_agreed}
+use Rattle.further_moves.proofs.AddLemmas.{AddsBelow, AddsBelow-none, AddsBelow-next, AddsBelow-all, added_to_none}
 use Rattle.further_moves.proofs.last.last_liberties.Goals as goal
 
 -- nothing came
 pub loop-r-init : goal.loop-r-init
-loop-r-init g c = record {
-  stays = record { moves = refl; shown = refl; grows = Grows-refl _ };
-  near = λ pos a. AddsIn-refl _ _;
-  over = λ pos a.
-      let points = c.args.points.now in
-      Gathers-none (is_only_liberty pos.size (after pos c.args.board.now.moves).cells) points points
-      c.new-found.result refl c.new-found.ensures;
-}
+loop-r-init g c = Walked-none (λ pos.
+    let test = is_only_liberty pos.size (after pos c.args.board.now.moves).cells in
+    subst (AddsBelow test c.args.points.now set.empty 0) (sym c.new-found.ensures)
+    (AddsBelow-none test c.args.points.now set.empty))
 
 -- the one liberty of the next point's string came
 pub loop-r-preserved : goal.loop-r-preserved
 loop-r-preserved g c =
-    let i = c.loop-r.invariant in
     let r = c.in-Some.r in
     let first = c.in-Some.ensures.some in
-    let points = c.args.points.now in
-    record {
-      stays = Stays-trans i.stays c.add_last_liberty.ensures.stays;
-      near = λ pos a.
-          let a0 = agrees_before c.add_last_liberty.ensures.stays.grows a in
-          let looked = rw i.stays.moves at (c.add_last_liberty.ensures.near pos a) in
-          AddsIn-trans (i.near pos a0) (AddsIn-mono looked
-          (close_point pos.size (after pos c.args.board.now.moves).cells (set.contains points) r first.2));
-      over = λ pos a.
-          let a0 = agrees_before c.add_last_liberty.ensures.stays.grows a in
-          let came = rw i.stays.moves at (c.add_last_liberty.ensures.over pos a) in
-          let test = is_only_liberty pos.size (after pos c.args.board.now.moves).cells in
-          Gathers-next test points c.loop-r.next r points points c.loop-r.found c.add_last_liberty.new.found first.0
-          (i.over pos a0) first.2 first.3 (Passes-none test points r points) came;
-    }
+    let one = c.add_last_liberty in
+    Walked-next (λ s b. neighbourhood_of s b.cells (alone r)) (λ s b. (p : ℕ) → set.contains one.new.found p
+    ≡ (set.contains c.loop-r.found p || is_only_liberty s b.cells r p)) c.loop-r.invariant
+    (record { stays = one.ensures.stays; near = one.ensures.near; over = one.ensures.over })
+    (λ pos a i. close_point pos.size (after pos c.args.board.now.moves).cells (set.contains c.args.points.now) r
+    first.2)
+    (λ pos a i came. AddsBelow-next (is_only_liberty pos.size (after pos c.args.board.now.moves).cells)
+    c.args.points.now set.empty c.loop-r.next r c.loop-r.found one.new.found first.0 i first.2 first.3 came)
 
 -- no point is left
 pub returns-clause-over : goal.returns-clause-over
-returns-clause-over g c = λ pos a.
-    let e = same_size (g.met.L.Look.sized c.loop-r.board.look) a ∙ ap (λ x. x.size) c.loop-r.invariant.stays.shown in
-    let points = c.args.points.now in
-    Gathers-all (is_only_liberty pos.size (after pos c.args.board.now.moves).cells) points c.loop-r.next
-    (pos.size * pos.size) points c.loop-r.found (c.loop-r.invariant.over pos a) c.in_default.ensures.none
-    (λ k h. subst (λ n. k < n * n) (sym e) (c.requires k h))
+returns-clause-over g c = λ pos a p.
+    let i = c.loop-r.invariant in
+    AddsBelow-all (is_only_liberty pos.size (after pos c.args.board.now.moves).cells) c.args.points.now set.empty
+    c.loop-r.next (pos.size * pos.size) c.loop-r.found (i.over pos a) c.in_default.ensures.none
+    (λ k h. on_agreed _ _ (g.met.L.Look.sized c.args.board.now.look) (agrees_before i.stays.grows a) (c.requires k h)) p
+    ∙ added_to_none set.empty p _ refl

@@ -1,7 +1,8 @@
 -- What stands around the near friends that have few liberties is Join and the enemies that may cut.
-use Rattle.std.proofs.Common.{◌*◌, ◌<◌, sym, subst, ◌∙◌}
+use Rattle.std.proofs.Common.{◌*◌, sym, ◌∙◌}
 use Rattle.std.proofs.lemmas.Bool.{and_parts, ltb-true}
-use Rattle.go_base.specs.Facts.{agrees_before, same_size, AddsIn-trans, AddsIn-mono}
+use Rattle.go_base.specs.Facts.{agrees_before, AddsIn-trans, AddsIn-mono}
+use Rattle.trial_board.proofs.WalkLemmas.{on_agreed}
 use Rattle.trial_board.specs.Trials.{after}
 use Rattle.further_rules.proofs.FurtherPlaces.{second_third}
 use Rattle.further_moves.proofs.SetLemmas.{join_is, cutter_is}
@@ -38,8 +39,7 @@ returns-clause-near g c = λ pos a.
     let a1 = agrees_before c.around_strings.ensures.stays.grows a in
     let a0 = agrees_before c.near_friends-friends.ensures.stays.grows a1 in
     let cells = (after pos c.args.board.now.moves).cells in
-    let size = same_size (g.met.L.Look.sized c.args.board.now.look) a0 in
-    let on = subst (λ n. c.args.target < n * n) (sym size) c.requires.on_board in
+    let on = on_agreed _ _ (g.met.L.Look.sized c.args.board.now.look) a0 c.requires.on_board in
     let strings = rw c.near_friends-friends.ensures.stays.moves at (c.around_strings.ensures.near pos a) in
     AddsIn-trans (AddsIn-mono (c.near_friends-friends.ensures.near pos a1)
     (second_third pos.size cells c.args.target on))

@@ -1,7 +1,8 @@
 -- The stones next to the liberties that are not of the target's string are its near friends.
 use Rattle.std.proofs.Common.{◌*◌, ◌<◌, sym, subst, ◌∙◌}
 use Rattle.go_rules.specs.Position.{BoardState}
-use Rattle.go_base.specs.Facts.{agrees_before, same_size, AddsIn-trans, AddsIn-mono}
+use Rattle.go_base.specs.Facts.{agrees_before, AddsIn-trans, AddsIn-mono}
+use Rattle.trial_board.proofs.WalkLemmas.{on_agreed}
 use Rattle.trial_board.specs.Trials.{after}
 use Rattle.further_moves.proofs.SetLemmas.{friend_is}
 use Rattle.further_moves.proofs.NearLemmas.{liberty_on, self_second, first_second, around_liberties}
@@ -26,8 +27,7 @@ returns-clause-over g c = λ pos a q.
     let m2 = c.string-stones.ensures.stays.moves ∙ m1 in
     let its = rw m1 at (c.string-stones.ensures.over pos a2) in
     let came = rw m2 at (c.sides_of-friends.ensures.over pos a q) in
-    let size = same_size (g.met.L.Look.sized c.args.board.now.look) a0 in
-    let on = subst (λ n. c.args.target < n * n) (sym size) c.requires.on_board in
+    let on = on_agreed _ _ (g.met.L.Look.sized c.args.board.now.look) a0 c.requires.on_board in
     friend_is pos.size (after pos c.args.board.now.moves).cells c.args.target c.cell-cell.result q c.args.liberties.now
     c.string-stones.result.stones c.sides_of-friends.result c.difference.result on (c.cell-cell.ensures.over pos a1)
     (c.requires.liberties pos a0) its.0 came c.difference.ensures
@@ -41,8 +41,7 @@ returns-clause-near g c = λ pos a.
     let m1 = c.cell-cell.ensures.stays.moves in
     let m2 = c.string-stones.ensures.stays.moves ∙ m1 in
     let cells = (after pos c.args.board.now.moves).cells in
-    let size = same_size (g.met.L.Look.sized c.args.board.now.look) a0 in
-    let on = subst (λ n. c.args.target < n * n) (sym size) c.requires.on_board in
+    let on = on_agreed _ _ (g.met.L.Look.sized c.args.board.now.look) a0 c.requires.on_board in
     let string = rw m1 at (c.string-stones.ensures.near pos a2) in
     let sides = rw m2 at (c.sides_of-friends.ensures.near pos a) in
     AddsIn-trans (AddsIn-mono c.cell-cell.ensures.near (self_second pos.size cells c.args.target on))

@@ -1,7 +1,8 @@
 -- What stands around the enemies next to the target that have few liberties is Beside and the allies.
-use Rattle.std.proofs.Common.{◌*◌, ◌<◌, sym, subst, ◌∙◌}
+use Rattle.std.proofs.Common.{◌*◌, sym, ◌∙◌}
 use Rattle.std.proofs.lemmas.Bool.{and_parts, ltb-true}
-use Rattle.go_base.specs.Facts.{agrees_before, same_size, AddsIn-trans, AddsIn-mono}
+use Rattle.go_base.specs.Facts.{agrees_before, AddsIn-trans, AddsIn-mono}
+use Rattle.trial_board.proofs.WalkLemmas.{on_agreed}
 use Rattle.trial_board.specs.Trials.{after}
 use Rattle.further_moves.proofs.StringLemmas.{has_enemy}
 use Rattle.further_moves.proofs.SetLemmas.{beside_is, ally_is}
@@ -31,8 +32,7 @@ pub returns-clause-allies : goal.returns-clause-allies
 returns-clause-allies g c = λ pos a r.
     let a1 = agrees_before c.around_strings-weak.ensures.stays.grows a in
     let a0 = agrees_before c.string-stones.ensures.stays.grows a1 in
-    let size = same_size (g.met.L.Look.sized c.args.board.now.look) a0 in
-    let on = subst (λ n. c.args.target < n * n) (sym size) c.requires in
+    let on = on_agreed _ _ (g.met.L.Look.sized c.args.board.now.look) a0 c.requires in
     let its = c.string-stones.ensures.over pos a1 in
     let came = rw c.string-stones.ensures.stays.moves at (c.around_strings-weak.ensures.enemies pos a r) in
     ally_is pos.size (after pos c.args.board.now.moves).cells c.args.target c.args.most r c.string-stones.result.enemies
@@ -45,8 +45,7 @@ returns-clause-near g c = λ pos a.
     let a1 = agrees_before c.around_strings-weak.ensures.stays.grows a in
     let a0 = agrees_before c.string-stones.ensures.stays.grows a1 in
     let cells = (after pos c.args.board.now.moves).cells in
-    let size = same_size (g.met.L.Look.sized c.args.board.now.look) a0 in
-    let on = subst (λ n. c.args.target < n * n) (sym size) c.requires in
+    let on = on_agreed _ _ (g.met.L.Look.sized c.args.board.now.look) a0 c.requires in
     let strings = rw c.string-stones.ensures.stays.moves at (c.around_strings-weak.ensures.near pos a) in
     AddsIn-trans (AddsIn-mono (c.string-stones.ensures.near pos a1) (first_second pos.size cells c.args.target on))
     (AddsIn-mono strings (λ r h. around_enemies pos.size cells c.args.target on c.string-stones.result.enemies r

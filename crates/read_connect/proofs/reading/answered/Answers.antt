@@ -1,17 +1,15 @@
 -- The question that is read is the one that is asked.
 use Rattle.std.proofs.Common.{◌≡◌, ◌∙◌, ap, sym, subst}
-use Rattle.std.proofs.lemmas.Bool.{eqb-true}
 use Rattle.go_rules.specs.Strings.{cell_at}
 use Rattle.go_rules.specs.Position.{BoardState, stone_of}
 use Rattle.go_base.specs.Facts.{CellIs, same_size}
-use Rattle.go_base.proofs.AddedFacts.{cell_near}
 use Rattle.read_rules.specs.ActiveArea.{AddsNear}
-use Rattle.read_rules.proofs.AreaLemmas.{AddsNear-in, AddsNear-trans}
+use Rattle.read_rules.proofs.AreaLemmas.{AddsNear-trans}
 use Rattle.link_rules.specs.declared.question.LinkQuestion.{LinkQuestion}
 use Rattle.link_rules.specs.ConnectionArea.{InConnectionArea}
 use Rattle.link_rules.specs.Linkages.{linkage_of, asked_on}
 use Rattle.read_connect.proofs.StandingNodes.{point_on}
-use Rattle.read_connect.proofs.ReadingLemmas.{about_stones, area_a, question_is}
+use Rattle.read_connect.proofs.ReadingLemmas.{about_stones, look_a, question_is}
 use Rattle.read_connect.proofs.reading.answered.Given.{Over}
 use Rattle.read_connect.proofs.reading.answered.Goals as goal
 use Rattle.read_connect.proofs.reading.answered.Goals.{After-size}
@@ -60,9 +58,7 @@ returns-clause-near g c = λ pos a.
     (c.size.ensures ∙ ap (λ (p : BoardState). p.size) c.cell.ensures.same ∙ sym size)
     (a.each (CellIs q.a (stone_of q.colour)) c.read.ensures.a)
     (a.each (CellIs q.b (stone_of q.colour)) c.read.ensures.b) in
-    let area = InConnectionArea q pos in
-    let at_a = AddsNear-in area (cell_near c.cell.ensures.only) (λ p h. subst area (sym (eqb-true p q.a h))
-    (area_a q pos (point_on pos.size shown.size q.a size c.requires.a_on)
-    (point_on pos.size shown.size q.b size c.requires.b_on) about)) in
+    let at_a = look_a q pos (point_on pos.size shown.size q.a size c.requires.a_on)
+    (point_on pos.size shown.size q.b size c.requires.b_on) about c.cell.ensures.only in
     subst (λ (asked : LinkQuestion). AddsNear (g.L.Look.seen c.args.look) (g.L.Look.seen c.read.result.look)
     (InConnectionArea asked pos)) (is_asked g s) (AddsNear-trans at_a (c.read.ensures.near pos a))

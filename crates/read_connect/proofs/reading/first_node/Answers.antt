@@ -1,11 +1,10 @@
 -- The first node is read by the rules of its turn.
-use Rattle.std.proofs.Common.{◌≡◌, ◌∙◌, ◌-◌, ◌*◌, ◌<◌, suc, IfSome, ap, sym, subst, arith, length}
+use Rattle.std.proofs.Common.{◌≡◌, ◌∙◌, ◌-◌, ◌*◌, ◌<◌, suc, false, IfSome, sym, subst, arith}
 use Rattle.std.proofs.lemmas.Bool.{and_parts}
 use Rattle.go_rules.specs.Position.{BoardState}
-use Rattle.go_rules.specs.Strings.{liberty_points}
 use Rattle.go_base.specs.Facts.{Agrees, agrees_before, same_size}
 use Rattle.go_base.proofs.SidesOfPoints.{square_small}
-use Rattle.trial_board.specs.Trials.{after}
+use Rattle.trial_board.specs.Trials.{after, Stays-trans}
 use Rattle.trial_board.proofs.AfterLemmas.{size-after}
 use Rattle.read_rules.specs.GoodMoves.{IsOnBoard}
 use Rattle.read_rules.proofs.AreaLemmas.{AddsNear-trans}
@@ -16,6 +15,7 @@ use Rattle.read_connect.specs.Walk.{IsNodeFor}
 use Rattle.read_connect.proofs.StageLemmas.{one_by}
 use Rattle.read_connect.proofs.StandingNodes.{standing_node, near_a, near_b, point_on}
 use Rattle.read_connect.proofs.ReadingLemmas.{one_told, apart_told, told_none, one_none, one_on}
+use Rattle.read_connect.proofs.WalkLemmas.{ready_after, liberties_after}
 use Rattle.read_connect.proofs.reading.first_node.Given.{Over}
 use Rattle.read_connect.proofs.reading.first_node.Goals as goal
 use Rattle.read_connect.proofs.reading.first_node.Goals.{After-has}
@@ -38,6 +38,15 @@ one g c pos a =
     (same_size (g.met.L.Look.sized c.args.board.now.look) a0) c.requires.on_board.b in
     sym (c.has.ensures ∙ one_by link pos.size (after pos c.args.board.now.moves) c.string-stones.result.stones
     (size-after pos c.args.board.now.moves) b_on (c.string-stones.ensures.over pos a).0)
+
+-- they are undecided where they are not
+apart : (g : Over) (c : After-has g) → c.has.result ≡ false → (pos : BoardState)
+    → Agrees (g.L.Look.seen c.string-stones.new.self.look) pos
+    → IsUndecided (link_of c.args.question.now) (after pos c.args.board.now.moves)
+apart g c none pos a = record {
+  stand = (and_parts _ _ (c.requires.about pos (agrees_before c.string-stones.ensures.stays.grows a))).1;
+  apart = one g c pos a ∙ none;
+}
 
 -- the answer about one string
 pub returns-then-has : goal.returns-then-has
@@ -65,31 +74,14 @@ liberties-of_b-requires g c = subst (λ (pos : BoardState). c.args.question.now.
 -- the first node is undecided, and these are the liberties
 pub first_move-at-requires : goal.first_move-at-requires
 first_move-at-requires g c =
-    let link = link_of c.args.question.now in
-    let shown = c.liberties-of_b.ensures.stays.shown ∙ c.string-stones.ensures.stays.shown in
-    let moves = c.liberties-of_b.ensures.stays.moves ∙ c.string-stones.ensures.stays.moves in
+    let first = c.string-stones.ensures.stays in
+    let second = c.liberties-of_b.ensures.stays in
     record {
-      ready = record {
-        room = omega (arith, c.requires.room, c.requires.plies, ap length moves);
-        on_board = record {
-          a = subst (λ (pos : BoardState). link.a < pos.size * pos.size) (sym shown) c.requires.on_board.a;
-          b = subst (λ (pos : BoardState). link.b < pos.size * pos.size) (sym shown) c.requires.on_board.b;
-        };
-        undecided = λ pos a.
-            let a1 = agrees_before c.liberties-of_b.ensures.stays.grows a in
-            let a0 = agrees_before c.string-stones.ensures.stays.grows a1 in
-            subst (λ ms. IsUndecided link (after pos ms)) (sym moves) (record {
-              stand = (and_parts _ _ (c.requires.about pos a0)).1;
-              apart = one g (goal.at.first_move-at-requires g c).After-has pos a1 ∙ c.if-has.false;
-            });
-      };
-      liberties = record {
-        a_liberties = λ pos a.
-            (c.string-stones.ensures.over pos (agrees_before c.liberties-of_b.ensures.stays.grows a)).1
-            ∙ ap (λ ms. liberty_points pos.size (after pos ms).cells link.a) (sym moves);
-        b_liberties = λ pos a. c.liberties-of_b.ensures.over pos a
-            ∙ ap (λ ms. liberty_points pos.size (after pos ms).cells link.b) (sym c.liberties-of_b.ensures.stays.moves);
-      };
+      ready = ready_after _ (Stays-trans first second) (omega (arith, c.requires.room, c.requires.plies))
+          c.requires.on_board (λ pos a. apart g (goal.at.first_move-at-requires g c).After-has c.if-has.false pos
+          (agrees_before second.grows a));
+      liberties = liberties_after first second (λ pos a. (c.string-stones.ensures.over pos a).1)
+          c.liberties-of_b.ensures.over;
     }
 
 -- the answer about strings that are apart

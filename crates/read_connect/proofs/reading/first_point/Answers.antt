@@ -1,5 +1,5 @@
 -- The moves in reading order, each read to its end.
-use Rattle.std.proofs.Common.{◌≡◌, ◌∙◌, ◌*◌, ◌<◌, ◌||◌, ℕ, sym, ap, subst}
+use Rattle.std.proofs.Common.{◌≡◌, ◌∙◌, ◌*◌, ◌<◌, ℕ, sym, subst}
 use Rattle.std.specs.FinSet as set
 use Rattle.go_base.specs.Facts.{Agrees, agrees_before, Grows-refl, Grows-trans, same_size}
 use Rattle.go_rules.specs.Position.{BoardState}
@@ -8,9 +8,8 @@ use Rattle.trial_board.proofs.AfterLemmas.{size-after}
 use Rattle.read_rules.proofs.AreaLemmas.{AddsNear-trans}
 use Rattle.link_rules.specs.ConnectingMoves.{is_connecting_move}
 use Rattle.link_rules.proofs.MoveLemmas.{move_on}
-use Rattle.read_connect.specs.Stages.{attains, reaches_among}
-use Rattle.read_connect.proofs.StageLemmas.{in_both}
-use Rattle.read_connect.proofs.StageLemmas.{all_moves, liberty_inside}
+use Rattle.read_connect.specs.Stages.{attains}
+use Rattle.read_connect.proofs.StageLemmas.{a_inside, b_inside, stages_found, all_moves}
 use Rattle.read_connect.proofs.TurnLemmas.{first_hit, first_none}
 use Rattle.read_connect.proofs.StandingNodes.{ready_node, near_captures}
 use Rattle.read_connect.proofs.WalkLemmas.{none_first, none_next, none_left, before_hit, ready_still}
@@ -23,12 +22,9 @@ pub crossing-requires : goal.crossing-requires
 crossing-requires g c =
     let shown = g.L.Look.shows c.args.board.now.look in
     let holds = g.met.L.Look.holds c.args.board.now.look in
-    let here = after shown c.args.board.now.moves in
     record {
-      a_on = λ p h. subst (λ n. p < n * n) (sym c.size.ensures) (liberty_inside shown.size here.cells c.args.link.a p
-          c.args.of_a.now (c.requires.liberties.a_liberties shown holds) h);
-      b_on = λ p h. subst (λ n. p < n * n) (sym c.size.ensures) (liberty_inside shown.size here.cells c.args.link.b p
-          c.args.of_b.now (c.requires.liberties.b_liberties shown holds) h);
+      a_on = λ p h. subst (λ n. p < n * n) (sym c.size.ensures) (a_inside c.requires.liberties shown holds p h);
+      b_on = λ p h. subst (λ n. p < n * n) (sym c.size.ensures) (b_inside c.requires.liberties shown holds p h);
     }
 
 -- the set has the connecting moves, on each position that agrees with what was seen of the captures
@@ -37,14 +33,8 @@ all : (g : Over) (c : After-join-2 g) (pos : BoardState) → Agrees (g.L.Look.se
 all g c pos a p =
     let a0 = agrees_before c.captures_of.ensures.stays.grows a in
     let sized = c.size.ensures ∙ sym (same_size (g.met.L.Look.sized c.args.board.now.look) a0) in
-    all_moves c.args.link pos.size (after pos c.args.board.now.moves) c.args.of_a.now c.args.of_b.now
-    (size-after pos c.args.board.now.moves) (c.requires.liberties.a_liberties pos a0)
-    (c.requires.liberties.b_liberties pos a0) c.intersection-moves.result c.crossing.result c.captures_of.result
-    c.join.new.self c.join-2.new.self (in_both c.args.of_a.now c.args.of_b.now c.intersection-moves.result
-    c.intersection-moves.ensures)
-    (λ x. c.crossing.ensures x
-    ∙ ap (λ n. reaches_among n c.args.of_a.now c.args.of_b.now x || reaches_among n c.args.of_b.now c.args.of_a.now x)
-    sized) (c.captures_of.ensures.over pos a) c.join.ensures c.join-2.ensures p
+    all_moves (stages_found c.requires.liberties pos a0 sized c.intersection-moves.ensures c.crossing.ensures
+    (c.captures_of.ensures.over pos a)) c.join.new.self c.join-2.new.self c.join.ensures c.join-2.ensures p
 
 -- the captures are looked for near, and no move was tried
 pub loop-p-init : goal.loop-p-init

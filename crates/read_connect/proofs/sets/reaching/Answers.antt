@@ -1,9 +1,8 @@
 -- One more member came where it reaches across.
-use Rattle.std.proofs.Common.{◌≡◌, ℕ, ◌&&◌, ◌||◌, ◌==◌, ◌<◌, ◌≤◌, false, not, ap, ◌∙◌}
-use Rattle.std.specs.FinSet as set
-use Rattle.read_connect.specs.Stages.{reaches_among, is_beside_member}
+use Rattle.std.proofs.Common.{◌≡◌, ℕ, ◌<◌, ◌≤◌, false, ◌∙◌}
+use Rattle.read_connect.specs.Stages.{reaches_among}
 use Rattle.go_base.proofs.FilteredSets.{none_apart, added_apart, skipped_apart, all_apart}
-use Rattle.read_connect.proofs.StageLemmas.{reach_test}
+use Rattle.read_connect.proofs.StageLemmas.{none_reaches, reach_test}
 use Rattle.read_connect.proofs.sets.reaching.Goals as goal
 use Rattle.read_connect.proofs.sets.reaching.Goals.{then-reaches, else-reaches}
 
@@ -22,8 +21,7 @@ loop-p-preserved c =
     let tested = reach_test s points others c.in-Some.p c.count-only.result c.reaches.result c.reaches.ensures
     c.count-only.ensures.value first.2 in
     let between : (k : ℕ) → c.loop-p.next ≤ k → k < c.in-Some.p → test k ≡ false =
-    λ k lo hi. ap (λ b. b && (not (set.contains others k)
-    && ((set.len points == 1) || is_beside_member s others k))) (first.3 k lo hi) in
+    λ k lo hi. none_reaches s points others k (first.3 k lo hi) in
     elim c.if-reaches.branch [
       | then-reaches w ↦ rw w.found-is
           (added_apart test c.loop-p.next c.in-Some.p c.loop-p.found w.add.new.self c.loop-p.invariant first.0
@@ -36,6 +34,4 @@ loop-p-preserved c =
 -- no member is left, and each that reaches across has come
 pub returns : goal.returns
 returns c = λ p. all_apart _ c.loop-p.next c.loop-p.found c.loop-p.invariant
-    (λ k past. ap (λ b. b && (not (set.contains c.args.others.now k)
-    && ((set.len c.args.points.now == 1) || is_beside_member c.args.size c.args.others.now k)))
-    (c.in_default.ensures.none k past)) p
+    (λ k past. none_reaches c.args.size c.args.points.now c.args.others.now k (c.in_default.ensures.none k past)) p

@@ -1,5 +1,5 @@
 -- The walk over the tree answers what the tree says, over every position that agrees with what was seen.
-use Rattle.std.proofs.Common.{arith, ◌||◌, ◌≡◌, ◌∙◌, ◌+◌, ◌-◌, ◌*◌, ◌<◌, ◌≤◌, ℕ, suc, inl, true, false, not}
+use Rattle.std.proofs.Common.{arith, ◌≡◌, ◌∙◌, ◌+◌, ◌-◌, ◌*◌, ◌<◌, ◌≤◌, ℕ, suc, inl, true, false, not}
 use Rattle.std.proofs.Common.{length, ap, sym, subst, refl, rules}
 use Rattle.std.proofs.lemmas.Bool.{and_parts}
 use Rattle.std.specs.FinSet as set
@@ -13,20 +13,21 @@ use Rattle.link_rules.specs.ConnectingMoves.{is_connecting_move}
 use Rattle.link_rules.specs.Connection.{can_connect, has_way, is_one_string, leads_to, mover_of}
 use Rattle.link_rules.specs.ConnectionArea.{IsUndecided}
 use Rattle.link_rules.proofs.TreeLemmas.{connects-gone, connects-joined, connects-no_plies}
-use Rattle.go_rules.specs.Strings.{liberty_points}
-use Rattle.read_connect.specs.Stages.{attains, reaches_among}
-use Rattle.read_connect.specs.Walk.{AreOnBoard, AreLiberties, IsReady, IsNodeFor, LooksNear, LooksNearFrom}
-use Rattle.read_connect.proofs.StageLemmas.{in_both, in_first_alone}
-use Rattle.read_connect.proofs.StageLemmas.{one_by, liberty_inside, shared_move, crossing_move, capture_is_move}
-use Rattle.read_connect.proofs.StageLemmas.{crossing_inside, capture_inside, last_stage}
+use Rattle.read_connect.specs.Stages.{attains}
+use Rattle.read_connect.specs.Walk.{IsPointOf, AreOnBoard, AreLiberties, IsReady, IsNodeFor, LooksNear, LooksNearFrom}
+use Rattle.read_connect.proofs.StageLemmas.{in_both}
+use Rattle.read_connect.proofs.StageLemmas.{one_by, shared_move, crossing_move, AreStages, stages_found}
+use Rattle.read_connect.proofs.StageLemmas.{a_inside, b_inside, crossing_inside, rest_inside, rest_is_move, last_stage}
 use Rattle.read_connect.proofs.StandingNodes.{point_on, standing_node, ready_node, near_ends, near_a, near_b}
 use Rattle.read_connect.proofs.StandingNodes.{near_captures, near_play, played_child, passed_child}
 use Rattle.read_connect.proofs.TurnLemmas.{own_by, parted_by, other_by}
 use Rattle.read_connect.proofs.WalkLemmas.{none_first, none_next, none_left, tells_none, tells_hit, tells_more}
-use Rattle.read_connect.proofs.WalkLemmas.{done_legal, refused_leads, one_more_move, ready_still, liberties_still}
+use Rattle.read_connect.proofs.WalkLemmas.{done_legal, refused_leads, one_more_move, ready_still, ready_after}
+use Rattle.read_connect.proofs.WalkLemmas.{liberties_after}
+use Rattle.read_connect.proofs.WalkLemmas.{liberties_still}
 use Rattle.read_connect.proofs.tree.+read.Given.{Over}
 use Rattle.read_connect.proofs.tree.+read.Goals.{can_connect-After-string-stones, can_connect-After-has}
-use Rattle.read_connect.proofs.tree.+read.Goals.{some_move-After-some_of-2}
+use Rattle.read_connect.proofs.tree.+read.Goals.{some_move-After-some_of-2, some_move-After-captures_of}
 use Rattle.read_connect.proofs.tree.+read.Goals as goal
 
 -- a play that is made and taken back: the side has its way where the tree says so of the position after it
@@ -178,6 +179,16 @@ one g t c pos a =
     sym (c.has.ensures ∙ one_by c.args.link pos.size (after pos c.args.board.now.moves) c.string-stones.result.stones
     (size-after pos c.args.board.now.moves) b_on found.0)
 
+-- they are undecided where they are not
+apart : (g : Over) (t : ℕ) (c : can_connect-After-has g t) → c.has.result ≡ false → (pos : BoardState)
+    → Agrees (g.L.Look.seen c.string-stones.new.self.look) pos
+    → IsUndecided c.args.link (after pos c.args.board.now.moves)
+apart g t c none pos a = record {
+  stand = sym (c.both_stand.ensures.over pos (agrees_before c.string-stones.ensures.stays.grows a))
+      ∙ c.if-not-both_stand.false;
+  apart = one g t c pos a ∙ none;
+}
+
 -- the two are one string
 pub can_connect-returns-then-has-clause-over : goal.can_connect-returns-then-has-clause-over
 can_connect-returns-then-has-clause-over g t c = λ pos a.
@@ -262,36 +273,16 @@ can_connect-liberties-of_b-requires g t c = subst (λ (pos : BoardState). c.args
 pub can_connect-goes_on-requires : goal.can_connect-goes_on-requires
 can_connect-goes_on-requires g t c κs within =
     let link = c.args.link in
-    let shown = c.liberties-of_b.ensures.stays.shown ∙ c.string-stones.ensures.stays.shown
-    ∙ c.both_stand.ensures.stays.shown in
-    let moves = c.liberties-of_b.ensures.stays.moves ∙ c.string-stones.ensures.stays.moves
-    ∙ c.both_stand.ensures.stays.moves in
     let board = c.liberties-of_b.new.self in
+    let first = c.string-stones.ensures.stays in
+    let second = c.liberties-of_b.ensures.stays in
     let ready : IsReady g.L.Look.shows g.L.Look.seen board link (c.args.plies - 1) =
-    record {
-      room = omega (arith, c.requires.room, c.if-plies-eq0.false, ap length moves);
-      on_board = record {
-        a = subst (λ (pos : BoardState). link.a < pos.size * pos.size) (sym shown) c.requires.on_board.a;
-        b = subst (λ (pos : BoardState). link.b < pos.size * pos.size) (sym shown) c.requires.on_board.b;
-      };
-      undecided = λ pos a.
-          let a2 = agrees_before c.liberties-of_b.ensures.stays.grows a in
-          let a1 = agrees_before c.string-stones.ensures.stays.grows a2 in
-          subst (λ ms. IsUndecided link (after pos ms)) (sym moves) (record {
-            stand = sym (c.both_stand.ensures.over pos a1) ∙ c.if-not-both_stand.false;
-            apart = one g t (goal.at.can_connect-goes_on-requires g t c).After-has pos a2 ∙ c.if-has.false;
-          });
-    } in
+    ready_after _ (Stays-trans c.both_stand.ensures.stays (Stays-trans first second))
+    (omega (arith, c.requires.room, c.if-plies-eq0.false)) c.requires.on_board
+    (λ pos a. apart g t (goal.at.can_connect-goes_on-requires g t c).After-has c.if-has.false pos
+    (agrees_before second.grows a)) in
     let found : AreLiberties g.L.Look.seen board link c.string-stones.result.liberties c.liberties-of_b.result =
-    record {
-      a_liberties = λ pos a.
-          let a2 = agrees_before c.liberties-of_b.ensures.stays.grows a in
-          (c.string-stones.ensures.over pos a2).1
-          ∙ ap (λ ms. liberty_points pos.size (after pos ms).cells link.a)
-          (sym (c.liberties-of_b.ensures.stays.moves ∙ c.string-stones.ensures.stays.moves));
-      b_liberties = λ pos a. c.liberties-of_b.ensures.over pos a
-          ∙ ap (λ ms. liberty_points pos.size (after pos ms).cells link.b) (sym c.liberties-of_b.ensures.stays.moves);
-    } in
+    liberties_after first second (λ pos a. (c.string-stones.ensures.over pos a).1) c.liberties-of_b.ensures.over in
     search rules
 
 -- the strings and what follows are looked at near
@@ -399,8 +390,7 @@ pub some_move-some_of-requires : goal.some_move-some_of-requires
 some_move-some_of-requires g t c κs within =
     let shown = g.L.Look.shows c.args.board.now.look in
     let on : (p : ℕ) → set.contains c.intersection-tried.result p ≡ true → p < shown.size * shown.size =
-    λ p h. liberty_inside shown.size (after shown c.args.board.now.moves).cells c.args.link.a p c.args.of_a.now
-    (c.requires.liberties.a_liberties shown (g.met.L.Look.holds c.args.board.now.look))
+    λ p h. a_inside c.requires.liberties shown (g.met.L.Look.holds c.args.board.now.look) p
     (and_parts _ _ (sym (in_both c.args.of_a.now c.args.of_b.now c.intersection-tried.result
     c.intersection-tried.ensures p) ∙ h)).0 in
     search rules
@@ -410,30 +400,23 @@ pub some_move-crossing-crossing-requires : goal.some_move-crossing-crossing-requ
 some_move-crossing-crossing-requires g t c =
     let shown = g.L.Look.shows c.args.board.now.look in
     let holds = g.met.L.Look.holds c.args.board.now.look in
-    let here = after shown c.args.board.now.moves in
     let same = c.size.ensures ∙ ap (λ (pos : BoardState). pos.size) c.some_of.ensures.stays.shown in
     record {
-      a_on = λ p h. subst (λ n. p < n * n) (sym same) (liberty_inside shown.size here.cells c.args.link.a p
-          c.args.of_a.now (c.requires.liberties.a_liberties shown holds) h);
-      b_on = λ p h. subst (λ n. p < n * n) (sym same) (liberty_inside shown.size here.cells c.args.link.b p
-          c.args.of_b.now (c.requires.liberties.b_liberties shown holds) h);
+      a_on = λ p h. subst (λ n. p < n * n) (sym same) (a_inside c.requires.liberties shown holds p h);
+      b_on = λ p h. subst (λ n. p < n * n) (sym same) (b_inside c.requires.liberties shown holds p h);
     }
 
 -- so are those that reach across
 pub some_move-some_of-requires-2 : goal.some_move-some_of-requires-2
 some_move-some_of-requires-2 g t c κs within =
-    let shown = g.L.Look.shows c.args.board.now.look in
-    let holds = g.met.L.Look.holds c.args.board.now.look in
-    let here = after shown c.args.board.now.moves in
+    let look = c.args.board.now.look in
     let board = c.some_of.new.board in
     let stays = c.some_of.ensures.stays in
     let ready : IsReady g.L.Look.shows g.L.Look.seen board c.args.link c.args.plies =
     ready_still g.L.Look.shows g.L.Look.seen c.args.board.now board c.args.link c.args.plies stays c.requires.ready in
-    let on : (p : ℕ) → set.contains c.crossing-crossing.result p ≡ true
-    → p < (g.L.Look.shows board.look).size * (g.L.Look.shows board.look).size =
+    let on : (p : ℕ) → set.contains c.crossing-crossing.result p ≡ true → IsPointOf g.L.Look.shows board p =
     λ p h. subst (λ (pos : BoardState). p < pos.size * pos.size) (sym stays.shown)
-    (crossing_inside shown.size here.cells c.args.link c.args.of_a.now c.args.of_b.now
-    (c.requires.liberties.a_liberties shown holds) (c.requires.liberties.b_liberties shown holds) c.size.result p
+    (crossing_inside c.requires.liberties (g.L.Look.shows look) (g.met.L.Look.holds look) c.size.result p
     (sym (c.crossing-crossing.ensures p) ∙ h)) in
     search rules
 
@@ -443,24 +426,31 @@ some_move-captures_of-requires g t c =
     (ready_still g.L.Look.shows g.L.Look.seen c.args.board.now c.some_of-2.new.board c.args.link c.args.plies
     (Stays-trans c.some_of.ensures.stays c.some_of-2.ensures.stays) c.requires.ready).on_board
 
+-- the stages that were found, on a position that agrees with what was seen of the captures
+stages : (g : Over) (t : ℕ) (c : some_move-After-captures_of g t) (pos : BoardState)
+    → Agrees (g.L.Look.seen c.captures_of.new.board.look) pos
+    → AreStages c.args.link pos.size (after pos c.args.board.now.moves) c.args.of_a.now c.args.of_b.now
+    c.intersection-tried.result c.crossing-crossing.result c.captures_of.result
+stages g t c pos a =
+    let before = Stays-trans c.some_of.ensures.stays c.some_of-2.ensures.stays in
+    let a0 = agrees_before before.grows (agrees_before c.captures_of.ensures.stays.grows a) in
+    let sized = c.size.ensures ∙ ap (λ (x : BoardState). x.size) c.some_of.ensures.stays.shown
+    ∙ sym (same_size (g.met.L.Look.sized c.args.board.now.look) a0) in
+    stages_found c.requires.liberties pos a0 sized c.intersection-tried.ensures c.crossing-crossing.ensures
+    (λ p. rw before.moves at (c.captures_of.ensures.over pos a p))
+
 -- a capture is on the board
 pub some_move-some_of-requires-3 : goal.some_move-some_of-requires-3
 some_move-some_of-requires-3 g t c κs within =
-    let shown = g.L.Look.shows c.args.board.now.look in
-    let link = c.args.link in
     let board = c.captures_of.new.board in
     let before = Stays-trans c.some_of.ensures.stays c.some_of-2.ensures.stays in
     let stays = Stays-trans before c.captures_of.ensures.stays in
-    let ready : IsReady g.L.Look.shows g.L.Look.seen board link c.args.plies =
-    ready_still g.L.Look.shows g.L.Look.seen c.args.board.now board link c.args.plies stays c.requires.ready in
-    let agrees = subst (Agrees (g.L.Look.seen board.look)) stays.shown (g.met.L.Look.holds board.look) in
-    let on : (p : ℕ) → set.contains c.difference-captures.result p ≡ true
-    → p < (g.L.Look.shows board.look).size * (g.L.Look.shows board.look).size =
-    λ p h. subst (λ (pos : BoardState). p < pos.size * pos.size) (sym stays.shown)
-    (capture_inside shown.size (after shown c.args.board.now.moves).cells link p
-    (sym (rw before.moves at (c.captures_of.ensures.over shown agrees p))
-    ∙ (and_parts _ _ (sym (in_first_alone c.captures_of.result c.join.new.self c.difference-captures.result
-    c.difference-captures.ensures p) ∙ h)).0)) in
+    let ready : IsReady g.L.Look.shows g.L.Look.seen board c.args.link c.args.plies =
+    ready_still g.L.Look.shows g.L.Look.seen c.args.board.now board c.args.link c.args.plies stays c.requires.ready in
+    let found = stages g t (goal.at.some_move-some_of-requires-3 g t c).After-captures_of (g.L.Look.shows board.look)
+    (g.met.L.Look.holds board.look) in
+    let on : (p : ℕ) → set.contains c.difference-captures.result p ≡ true → IsPointOf g.L.Look.shows board p =
+    rest_inside found c.join.new.self c.difference-captures.result c.difference-captures.ensures in
     search rules
 
 -- a liberty of both is looked at near
@@ -508,45 +498,28 @@ pub some_move-returns-clause-over : goal.some_move-returns-clause-over
 some_move-returns-clause-over g t c = λ pos a.
     let a3 = agrees_before c.some_of-3.ensures.stays.grows a in
     let a2 = agrees_before c.captures_of.ensures.stays.grows a3 in
-    let a1 = agrees_before c.some_of-2.ensures.stays.grows a2 in
-    let a0 = agrees_before c.some_of.ensures.stays.grows a1 in
-    let here = after pos c.args.board.now.moves in
-    let link = c.args.link in
-    let before = Stays-trans c.some_of.ensures.stays c.some_of-2.ensures.stays in
-    let all = Stays-trans before c.captures_of.ensures.stays in
-    let sized = c.size.ensures ∙ ap (λ (x : BoardState). x.size) c.some_of.ensures.stays.shown
-    ∙ sym (same_size (g.met.L.Look.sized c.args.board.now.look) a0) in
-    last_stage link pos.size here c.args.of_a.now c.args.of_b.now (size-after pos c.args.board.now.moves)
-    (c.requires.liberties.a_liberties pos a0) (c.requires.liberties.b_liberties pos a0) c.intersection-tried.result
-    c.crossing-crossing.result c.join.new.self c.captures_of.result c.difference-captures.result
-    (in_both c.args.of_a.now c.args.of_b.now c.intersection-tried.result c.intersection-tried.ensures)
-    (λ p. c.crossing-crossing.ensures p
-    ∙ ap (λ n. reaches_among n c.args.of_a.now c.args.of_b.now p || reaches_among n c.args.of_b.now c.args.of_a.now p)
-    sized) (λ p. rw before.moves at (c.captures_of.ensures.over pos a3 p)) c.join.ensures
-    (in_first_alone c.captures_of.result c.join.new.self c.difference-captures.result c.difference-captures.ensures)
-    (attains c.args.plies link c.args.own here) c.some_of.result c.some_of-2.result c.some_of-3.result
-    (c.some_of.ensures.over pos a1) c.if-some_of.false
-    (rw c.some_of.ensures.stays.moves at (c.some_of-2.ensures.over pos a2)) c.if-some_of-2.false
+    let first = c.some_of.ensures.stays in
+    let second = c.some_of-2.ensures.stays in
+    let all = Stays-trans (Stays-trans first second) c.captures_of.ensures.stays in
+    last_stage (stages g t (goal.at.some_move-returns-clause-over g t c).After-captures_of pos a3) c.join.new.self
+    c.difference-captures.result c.difference-captures.ensures c.join.ensures
+    (attains c.args.plies c.args.link c.args.own (after pos c.args.board.now.moves)) c.some_of.result c.some_of-2.result
+    c.some_of-3.result (c.some_of.ensures.over pos (agrees_before second.grows a2)) c.if-some_of.false
+    (rw first.moves at (c.some_of-2.ensures.over pos a2)) c.if-some_of-2.false
     (rw all.moves at (c.some_of-3.ensures.over pos a))
 
 -- and all three are looked at near
 pub some_move-returns-clause-near : goal.some_move-returns-clause-near
 some_move-returns-clause-near g t c = λ pos a q root node.
+    let d = goal.at.some_move-returns-clause-near g t c in
     let a3 = agrees_before c.some_of-3.ensures.stays.grows a in
     let a2 = agrees_before c.captures_of.ensures.stays.grows a3 in
-    let a1 = agrees_before c.some_of-2.ensures.stays.grows a2 in
-    let a0 = agrees_before c.some_of.ensures.stays.grows a1 in
-    let here = after pos c.args.board.now.moves in
     let before = Stays-trans c.some_of.ensures.stays c.some_of-2.ensures.stays in
     let all = Stays-trans before c.captures_of.ensures.stays in
-    let at = ready_node c.requires.ready (g.met.L.Look.sized c.args.board.now.look) a0 node in
-    AddsNear-trans
-    (two_near g t (goal.at.some_move-returns-clause-near g t c).After-some_of-2 pos a2 q root node)
+    let at = ready_node c.requires.ready (g.met.L.Look.sized c.args.board.now.look) (agrees_before before.grows a2)
+    node in
+    AddsNear-trans (two_near g t d.After-some_of-2 pos a2 q root node)
     (AddsNear-trans (near_captures at (rw before.moves at (c.captures_of.ensures.near pos a3)))
     ((rw all.moves at (c.some_of-3.ensures.near pos a q root)) node
-    (λ p h. capture_is_move c.args.link pos.size here c.args.of_a.now c.args.of_b.now
-    (size-after pos c.args.board.now.moves) (c.requires.liberties.a_liberties pos a0)
-    (c.requires.liberties.b_liberties pos a0) p
-    (sym (rw before.moves at (c.captures_of.ensures.over pos a3 p))
-    ∙ (and_parts _ _ (sym (in_first_alone c.captures_of.result c.join.new.self c.difference-captures.result
-    c.difference-captures.ensures p) ∙ h)).0))))
+    (rest_is_move (stages g t d.After-captures_of pos a3) c.join.new.self
+    c.difference-captures.result c.difference-captures.ensures)))

@@ -2,25 +2,17 @@ use Rattle.std.specs.Prelude.{◌-◌, ◌*◌, ◌&&◌}
 use Rattle.std.specs.FinSet as set
 use Rattle.go_rules.specs.Below.{any_below}
 use Rattle.go_rules.specs.Board.{largest_points}
-use Rattle.go_rules.specs.Position.{BoardState}
-use Rattle.go_base.specs.Facts.{Agrees, AddsIn}
+use Rattle.trial_board.proofs.WalkLemmas.{Walked}
 use Rattle.trial_board.specs.Overlays.{neighbourhood_twice}
-use Rattle.trial_board.specs.Trials.{Stays, after}
+use Rattle.further_moves.proofs.AddLemmas.{AddsBelow}
 use Rattle.read_moves.specs.Steps.{is_left}
-use Rattle.read_moves.proofs.BackfillingLemmas.{LeftBelow}
 use Rattle.read_moves.proofs.moves.add_backfilling.Given as goal
 
 -- the points that the plays at the points below the next one leave came
 abbrev pub invariant-loop-l : goal.invariant-loop-l
-invariant-loop-l g l = record {
-  stays : Stays g.L.Look.shows g.L.Look.seen l.fn.board l.board;
-  near : (pos : BoardState) → Agrees (g.L.Look.seen l.board.look) pos
-      → AddsIn (g.L.Look.seen l.fn.board.look) (g.L.Look.seen l.board.look)
-      (λ r. any_below (pos.size * pos.size) (λ k.
-      set.contains l.points k && neighbourhood_twice pos.size (after pos l.fn.board.moves).cells k r));
-  over : (pos : BoardState) → Agrees (g.L.Look.seen l.board.look) pos
-      → LeftBelow (is_left (after pos l.fn.board.moves) l.c) l.points l.fn.found l.from l.found;
-}
+invariant-loop-l g l = Walked g.L.Look.shows g.L.Look.seen
+    (λ s here r. any_below (s * s) (λ k. set.contains l.points k && neighbourhood_twice s here.cells k r))
+    (λ s here. AddsBelow (is_left here l.c) l.points l.fn.found l.from l.found) l.fn.board l.board
 
 -- how many points are left
 abbrev pub decreases-loop-l : goal.decreases-loop-l

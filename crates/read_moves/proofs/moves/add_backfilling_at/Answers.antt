@@ -9,9 +9,11 @@ use Rattle.go_rules.specs.Strings.{cell_at}
 use Rattle.go_rules.proofs.Cells.{eq_is_same_cell, ne_false_same}
 use Rattle.go_rules.proofs.Paths.{same_cell-true, same_cell-from}
 use Rattle.go_rules.proofs.Sets.{contains-insert_nat}
-use Rattle.go_base.specs.Facts.{Agrees, AddsIn, agrees_before, AddsIn-trans, AddsIn-mono, same_size}
+use Rattle.go_base.specs.Facts.{Agrees, AddsIn, agrees_before, AddsIn-trans, AddsIn-mono}
 use Rattle.go_base.proofs.PointNeighbourhoods.{close_again, close_alone}
 use Rattle.trial_board.specs.Overlays.{neighbourhood_twice}
+use Rattle.go_rules.proofs.Tests.{or_comm}
+use Rattle.trial_board.proofs.WalkLemmas.{on_agreed}
 use Rattle.trial_board.specs.Trials.{after, Stays-trans}
 use Rattle.trial_board.proofs.AfterLemmas.{size-after}
 use Rattle.read_moves.specs.Steps.{AllLive, is_left}
@@ -48,8 +50,8 @@ returns-then-ne-clause-over g c = λ pos a p.
 pub returns-then-ne-clause-near : goal.returns-then-ne-clause-near
 returns-then-ne-clause-near g c = λ pos a.
     let cells = (after pos c.args.board.now.moves).cells in
-    let e = same_size (g.met.L.Look.sized c.cell.new.self.look) a ∙ ap (λ y. y.size) c.cell.ensures.stays.shown in
-    let on = subst (λ n. c.args.l < n * n) (sym e) c.requires in
+    let on = on_agreed _ _ (g.met.L.Look.sized c.args.board.now.look)
+    (agrees_before c.cell.ensures.stays.grows a) c.requires in
     AddsIn-mono c.cell.ensures.near (λ r h. close_again pos.size cells _ r (close_alone pos.size cells c.args.l r on h))
 
 -- What is reached at an empty point.
@@ -65,10 +67,8 @@ module _ (g : Over) (c : After-reach_of g) (pos : BoardState)
 
   -- the point is on the board
   on_board : c.args.l < pos.size * pos.size
-  on_board =
-      let e = same_size (g.met.L.Look.sized c.cell.new.self.look) before
-      ∙ ap (λ y. y.size) c.cell.ensures.stays.shown in
-      subst (λ n. c.args.l < n * n) (sym e) c.requires
+  on_board = on_agreed _ _ (g.met.L.Look.sized c.args.board.now.look) (agrees_before c.cell.ensures.stays.grows before)
+      c.requires
 
   -- and on that of the position after the trial moves
   inside : c.args.l < here.size * here.size
@@ -116,17 +116,11 @@ returns-then-is_quiet-clause-over g c = λ pos a p.
     let live = subst (λ n. AllLive n place.cells c.args.c c.args.l) (sym (size-after pos c.args.board.now.moves))
     (rw moves at (c.is_quiet.ensures.over pos a c.if-is_quiet.true)) in
     ap (λ t. set.contains t p) c.add.ensures ∙ contains-insert_nat c.args.found.now c.in-Only.p p
-    ∙ turned (eqb p c.in-Only.p) (set.contains c.args.found.now p)
+    ∙ or_comm (eqb p c.in-Only.p) (set.contains c.args.found.now p)
     ∙ ap (λ b. set.contains c.args.found.now p || b)
     (sym (quiet_one place c.args.c c.args.l (inside g d pos a1)
     (record { sound = c.cell.ensures.sound pos (before g d pos a1); is_empty = vacant g d pos a1; live = live })
     c.in-Only.p one.0 one.1 p))
-  where
-    turned : (a b : Bool) → (a || b) ≡ (b || a)
-    turned true true = refl
-    turned true false = refl
-    turned false true = refl
-    turned false false = refl
 
 -- a play that takes something leaves nothing that was empty
 pub returns-else-is_quiet-clause-over : goal.returns-else-is_quiet-clause-over

@@ -1,17 +1,9 @@
-use Rattle.go_rules.specs.Position.{BoardState}
-use Rattle.go_base.specs.Facts.{Agrees, AddsIn}
+use Rattle.trial_board.proofs.WalkLemmas.{Walked}
 use Rattle.trial_board.specs.Overlays.{neighbourhood_twice}
-use Rattle.trial_board.specs.Trials.{Stays, after}
 use Rattle.read_moves.proofs.LiveLemmas.{LiveAtSides}
 use Rattle.read_moves.proofs.quiet.is_quiet.Given as goal
 
 -- the enemy strings at the sides so far live
 abbrev pub invariant-loop-side : goal.invariant-loop-side
-invariant-loop-side g l = record {
-  stays : Stays g.L.Look.shows g.L.Look.seen l.fn.board l.board;
-  near : (pos : BoardState) → Agrees (g.L.Look.seen l.board.look) pos
-      → AddsIn (g.L.Look.seen l.fn.board.look) (g.L.Look.seen l.board.look)
-      (neighbourhood_twice pos.size (after pos l.fn.board.moves).cells l.l);
-  live : (pos : BoardState) → Agrees (g.L.Look.seen l.board.look) pos
-      → LiveAtSides pos.size (after pos l.fn.board.moves).cells l.c l.l l.side;
-}
+invariant-loop-side g l = Walked g.L.Look.shows g.L.Look.seen (λ s here. neighbourhood_twice s here.cells l.l)
+    (λ s here. LiveAtSides s here.cells l.c l.l l.side) l.fn.board l.board

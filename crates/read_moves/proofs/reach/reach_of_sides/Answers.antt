@@ -1,14 +1,15 @@
 -- The sides of l, one after another.
-use Rattle.std.proofs.Common.{◌*◌, ◌<◌, refl, ap, sym, subst, ◌∙◌, arith}
-use Rattle.go_rules.specs.Position.{BoardState}
-use Rattle.go_base.specs.Facts.{Agrees, agrees_before, Grows-refl, AddsIn-refl}
-use Rattle.go_base.specs.Facts.{same_size}
-use Rattle.go_base.specs.Sides.{neighbour_at}
-use Rattle.trial_board.specs.Trials.{after, Stays-trans}
-use Rattle.read_moves.specs.declared.reach.Reach.TheVariants.{Nothing}
+use Rattle.std.proofs.Common.{◌≡◌, cond, arith}
+use Rattle.go_rules.specs.declared.Cell.TheVariants.{Empty}
+use Rattle.go_rules.specs.Strings.{cell_at, same_cell}
+use Rattle.go_base.specs.Facts.{agrees_before}
+use Rattle.go_base.specs.Views.{alone}
+use Rattle.trial_board.specs.Trials.{after}
+use Rattle.trial_board.proofs.WalkLemmas.{Walked-none, on_agreed}
+use Rattle.further_moves.proofs.SideLemmas.{side_near, Walked-side, Walked-off}
+use Rattle.read_moves.specs.declared.reach.Reach.TheVariants.{Nothing, Only}
 use Rattle.read_moves.proofs.TellLemmas.{IsEmptySide, Nowhere, SoFar-none, SoFar-skip, SoFar-next, side_told}
 use Rattle.read_moves.proofs.TellLemmas.{sides_told}
-use Rattle.read_moves.proofs.FoundSides.{side_found, side_looked}
 use Rattle.read_moves.proofs.reach.reach_of_sides.Goals as goal
 use Rattle.read_moves.proofs.reach.reach_of_sides.Goals.{in-Some, in_default}
 
@@ -17,55 +18,33 @@ pub loop-side-preserved : goal.loop-side-preserved
 loop-side-preserved g c =
     let l = c.args.l in
     let side = c.loop-side.side in
-    let i = c.loop-side.invariant in
+    let told = g.met.L.Look.sized c.args.board.now.look in
     elim c.match-neighbour.branch [
       | in-Some w ↦
-          let here = λ (pos : BoardState) (a : Agrees (g.L.Look.seen c.loop-side.board.look) pos).
-          side_found pos.size l side w.in-Some.q (same_size (g.met.L.Look.sized c.loop-side.board.look) a
-          ∙ ap (λ x. x.size) i.stays.shown) c.requires c.size-size.ensures c.neighbour.ensures.value w.in-Some.is in
-          record {
-            stays = rw w.board-is (Stays-trans i.stays w.reach_of_side.ensures.stays);
-            near = λ pos a.
-                let a1 = rw w.board-is at a in
-                let a0 = agrees_before w.reach_of_side.ensures.stays.grows a1 in
-                rw w.board-is (side_looked (here pos a0) (i.near pos a0) w.reach_of_side.ensures.near);
-            over = λ pos a.
-                let a1 = rw w.board-is at a in
-                let a0 = agrees_before w.reach_of_side.ensures.stays.grows a1 in
-                let cells = (after pos c.args.board.now.moves).cells in
-                let one = w.reach_of_side.result in
-                let came = rw i.stays.moves at (w.reach_of_side.ensures.over pos a1) in
-                rw (w.reach-is, w.with-reach.ensures) (SoFar-next Nowhere (IsEmptySide pos.size cells l) side
-                c.loop-side.reach one (i.over pos a0)
-                (side_told pos.size cells l (here pos a0).on_board side w.in-Some.q one (here pos a0).at came));
-          }
-      | in_default w ↦ record {
-        stays = rw w.board-is i.stays;
-        near = λ pos a. rw w.board-is (i.near pos (rw w.board-is at a));
-        over = λ pos a.
-            let a0 = rw w.board-is at a in
-            let e = same_size (g.met.L.Look.sized c.loop-side.board.look) a0 ∙ ap (λ x. x.size) i.stays.shown in
-            rw w.reach-is (SoFar-skip Nowhere (IsEmptySide pos.size (after pos c.args.board.now.moves).cells l) side
-            c.loop-side.reach (i.over pos a0)
-            (λ x empty. w.in_default.not-Some x (c.neighbour.ensures.value
-            ∙ ap (λ n. neighbour_at n l side) (c.size-size.ensures ∙ sym e) ∙ empty.at)));
-      }
+          let q = w.in-Some.q in
+          let one = w.reach_of_side in
+          rw (w.board-is, w.reach-is, w.with-reach.ensures) (Walked-side l side told c.requires c.size-size.ensures
+          c.neighbour.ensures.value c.loop-side.invariant (λ s b. alone q)
+          (λ s b. one.result ≡ cond (same_cell (cell_at b.cells q) Empty) (Only q) Nothing) w.in-Some.is
+          (record { stays = one.ensures.stays; near = λ pos a. one.ensures.near; over = one.ensures.over })
+          (λ s b is. side_near is)
+          (λ s b is i came. SoFar-next Nowhere (IsEmptySide s b.cells l) side c.loop-side.reach one.result i
+          (side_told s b.cells l is.on_board side q one.result is.at came)))
+      | in_default w ↦ rw (w.board-is, w.reach-is) (Walked-off l side told c.requires c.size-size.ensures
+          c.neighbour.ensures.value c.loop-side.invariant w.in_default.not-Some (λ s b none i.
+          SoFar-skip Nowhere (IsEmptySide s b.cells l) side c.loop-side.reach i (λ x its. none x its.at)))
     ]
 
 -- no side was visited
 pub loop-side-init : goal.loop-side-init
-loop-side-init g c = record {
-  stays = record { moves = refl; shown = refl; grows = Grows-refl _ };
-  near = λ pos a. AddsIn-refl _ _;
-  over = λ pos a. SoFar-none Nowhere (IsEmptySide pos.size (after pos c.args.board.now.moves).cells c.args.l) Nothing
-      (λ x none. none);
-}
+loop-side-init g c = Walked-none (λ pos.
+    SoFar-none Nowhere (IsEmptySide pos.size (after pos c.args.board.now.moves).cells c.args.l) Nothing
+    (λ x none. none))
 
 -- all sides were visited
 pub returns-clause-over : goal.returns-clause-over
 returns-clause-over g c = λ pos a.
-    let e = same_size (g.met.L.Look.sized c.loop-side.board.look) a
-    ∙ ap (λ x. x.size) c.loop-side.invariant.stays.shown in
+    let i = c.loop-side.invariant in
     sides_told pos.size (after pos c.args.board.now.moves).cells c.args.l
-    (subst (λ n. c.args.l < n * n) (sym e) c.requires)
-    c.loop-side.side c.loop-side.reach (omega arith) (c.loop-side.invariant.over pos a)
+    (on_agreed _ _ (g.met.L.Look.sized c.args.board.now.look) (agrees_before i.stays.grows a) c.requires)
+    c.loop-side.side c.loop-side.reach (omega arith) (i.over pos a)

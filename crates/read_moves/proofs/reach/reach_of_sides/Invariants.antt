@@ -1,17 +1,10 @@
-use Rattle.go_rules.specs.Position.{BoardState}
-use Rattle.go_base.specs.Facts.{Agrees, AddsIn}
 use Rattle.go_base.specs.Views.{neighbours_of}
-use Rattle.trial_board.specs.Trials.{Stays, after}
+use Rattle.trial_board.proofs.WalkLemmas.{Walked}
 use Rattle.read_moves.specs.Reaches.{Tells}
 use Rattle.read_moves.proofs.TellLemmas.{IsSoFar, IsEmptySide, Nowhere}
 use Rattle.read_moves.proofs.reach.reach_of_sides.Given as goal
 
 -- the empty neighbours at the sides so far are told
 abbrev pub invariant-loop-side : goal.invariant-loop-side
-invariant-loop-side g l = record {
-  stays : Stays g.L.Look.shows g.L.Look.seen l.fn.board l.board;
-  near : (pos : BoardState) → Agrees (g.L.Look.seen l.board.look) pos
-      → AddsIn (g.L.Look.seen l.fn.board.look) (g.L.Look.seen l.board.look) (neighbours_of pos.size l.l);
-  over : (pos : BoardState) → Agrees (g.L.Look.seen l.board.look) pos
-      → Tells (IsSoFar Nowhere (IsEmptySide pos.size (after pos l.fn.board.moves).cells l.l) l.side) l.reach;
-}
+invariant-loop-side g l = Walked g.L.Look.shows g.L.Look.seen (λ s here. neighbours_of s l.l)
+    (λ s here. Tells (IsSoFar Nowhere (IsEmptySide s here.cells l.l) l.side) l.reach) l.fn.board l.board

@@ -1,5 +1,5 @@
 -- The string is told by its liberties, where it is of the colour.
-use Rattle.std.proofs.Common.{ℕ, ◌≡◌, ◌*◌, ◌<◌, true, not, List, ap, sym, subst, arith, ◌∙◌}
+use Rattle.std.proofs.Common.{ℕ, ◌≡◌, ◌*◌, ◌<◌, true, not, List, ap, sym, arith, ◌∙◌}
 use Rattle.std.proofs.lemmas.Bool.{both_ways}
 use Rattle.std.specs.FinSet as set
 use Rattle.std.specs.Ordering.{nat_cmp}
@@ -10,12 +10,13 @@ use Rattle.go_rules.specs.Position.{BoardState, stone_of}
 use Rattle.go_rules.specs.Neighbourhood.{neighbourhood_of}
 use Rattle.go_rules.proofs.Cells.{eq_is_same_cell, ne_false_same}
 use Rattle.go_rules.proofs.Paths.{same_cell-true, same_cell-from, IsLiberty-from_test, is_liberty-from_fact}
-use Rattle.go_base.specs.Facts.{Agrees, AddsIn, agrees_before, AddsIn-trans, AddsIn-mono, same_size}
+use Rattle.go_base.specs.Facts.{Agrees, AddsIn, agrees_before, AddsIn-trans, AddsIn-mono}
 use Rattle.go_base.specs.Views.{alone}
 use Rattle.go_base.proofs.PointNeighbourhoods.{close_alone}
-use Rattle.go_base.proofs.LastLiberties.{contains-liberty_points}
+use Rattle.trial_board.proofs.WalkLemmas.{on_agreed}
 use Rattle.trial_board.specs.Trials.{after}
 use Rattle.read_moves.specs.Reaches.{IsOtherMember, IsOtherLibertyOf}
+use Rattle.further_moves.proofs.StringLemmas.{has_liberty}
 use Rattle.read_moves.proofs.OtherLiberties.{other_of_three}
 use Rattle.read_moves.proofs.TellLemmas.{Tells-same}
 use Rattle.read_moves.proofs.reach.reach_of_string.Given.{Over}
@@ -25,10 +26,9 @@ use Rattle.read_moves.proofs.reach.reach_of_string.Goals.{After-some_liberties-f
 -- the point is on the board
 inside : (g : Over) (c : After-some_liberties-found g) (pos : BoardState)
     → Agrees (g.L.Look.seen c.some_liberties-found.new.self.look) pos → c.args.q < pos.size * pos.size
-inside g c pos a =
-    let a0 = agrees_before c.some_liberties-found.ensures.stays.grows a in
-    let e = same_size (g.met.L.Look.sized c.cell.new.self.look) a0 ∙ ap (λ y. y.size) c.cell.ensures.stays.shown in
-    subst (λ n. c.args.q < n * n) (sym e) c.requires.on_board
+inside g c pos a = on_agreed _ _ (g.met.L.Look.sized c.args.board.now.look)
+    (agrees_before c.cell.ensures.stays.grows (agrees_before c.some_liberties-found.ensures.stays.grows a))
+    c.requires.on_board
 
 -- a stone of the colour is there
 stone : (g : Over) (c : After-some_liberties-found g) (pos : BoardState)
@@ -60,8 +60,8 @@ returns-then-ne-clause-over g c = λ pos a x i.
 pub returns-then-ne-clause-near : goal.returns-then-ne-clause-near
 returns-then-ne-clause-near g c = λ pos a.
     let cells = (after pos c.args.board.now.moves).cells in
-    let e = same_size (g.met.L.Look.sized c.cell.new.self.look) a ∙ ap (λ y. y.size) c.cell.ensures.stays.shown in
-    let on = subst (λ n. c.args.q < n * n) (sym e) c.requires.on_board in
+    let on = on_agreed _ _ (g.met.L.Look.sized c.args.board.now.look)
+    (agrees_before c.cell.ensures.stays.grows a) c.requires.on_board in
     AddsIn-mono c.cell.ensures.near (λ r h. close_alone pos.size cells c.args.q r on h)
 
 -- of three liberties one is neither l nor the given point
@@ -92,7 +92,7 @@ module _ (s : ℕ) (cells : List Cell) (c : Colour) (l q : ℕ) (on : q < s * s)
   -- the set has the liberties
   has : (x : ℕ) → set.contains found x ≡ true → IsLiberty s cells q x
   has x h = IsLiberty-from_test s cells q x
-      (sym (ap (λ t. set.contains t x) all ∙ contains-liberty_points s cells q x) ∙ h)
+      (sym (has_liberty s cells q x found all) ∙ h)
 
   -- another member is another liberty
   to_liberty : (x : ℕ) → IsOtherMember found l x → IsOtherLibertyOf s cells c l q x
@@ -104,8 +104,7 @@ module _ (s : ℕ) (cells : List Cell) (c : Colour) (l q : ℕ) (on : q < s * s)
   -- and back
   to_member : (x : ℕ) → IsOtherLibertyOf s cells c l q x → IsOtherMember found l x
   to_member x i = record {
-    member = ap (λ t. set.contains t x) all ∙ contains-liberty_points s cells q x
-        ∙ is_liberty-from_fact s cells q x on i.its.liberty;
+    member = has_liberty s cells q x found all ∙ is_liberty-from_fact s cells q x on i.its.liberty;
     other = i.other;
   }
 

@@ -1,29 +1,22 @@
 -- What was gathered are the candidates, on every position that agrees with what was seen.
-use Rattle.std.proofs.Common.{◌≡◌, ◌<◌, ◌*◌, ◌||◌, ℕ, ap, sym, subst, ◌∙◌}
+use Rattle.std.proofs.Common.{◌||◌, ap, sym, subst, ◌∙◌}
 use Rattle.std.proofs.lemmas.Bool.{lt-ltb, le-ltb}
 use Rattle.std.specs.Cmp.{nat_cmp_total}
-use Rattle.std.specs.Ordering.{nat_cmp}
 use Rattle.std.specs.FinSet as set
 use Rattle.go_rules.specs.Position.{BoardState}
-use Rattle.go_rules.specs.Strings.{liberty_points}
-use Rattle.go_base.specs.Facts.{Agrees, agrees_before, same_size, AddsIn-trans, AddsIn-mono}
+use Rattle.go_base.specs.Facts.{Agrees, agrees_before, AddsIn-trans, AddsIn-mono}
 use Rattle.go_base.specs.Surroundings.{is_last_liberty_of_enemy}
 use Rattle.trial_board.specs.Trials.{after}
+use Rattle.trial_board.proofs.WalkLemmas.{on_agreed}
 use Rattle.trial_board.proofs.AfterLemmas.{size-after}
 use Rattle.read_rules.proofs.StageLemmas.{candidate_plain, candidate_wide}
-use Rattle.read_moves.proofs.CandidateLemmas.{near_twice}
+use Rattle.read_moves.proofs.CandidateLemmas.{its_liberties, near_twice}
 use Rattle.read_moves.proofs.stages.candidates.Goals as goal
 
 -- the liberties of the target were found
 pub wide_candidates-requires-clause-liberties : goal.wide_candidates-requires-clause-liberties
 wide_candidates-requires-clause-liberties g c = λ pos a.
     rw c.surroundings-liberties.ensures.stays.moves (c.surroundings-liberties.ensures.over pos a).0
-
--- the liberties, on a position of the size of the trial position
-its_liberties : (here : BoardState) (s target : ℕ) (libs : set.FinSet nat_cmp) → here.size ≡ s
-    → libs ≡ liberty_points s here.cells target
-    → libs ≡ liberty_points here.size here.cells target
-its_liberties here s target libs size e = e ∙ ap (λ n. liberty_points n here.cells target) (sym size)
 
 -- a wide ply is left
 pub returns-then-wide-gt0-clause-over : goal.returns-then-wide-gt0-clause-over
@@ -64,9 +57,8 @@ pub returns-then-wide-gt0-clause-near : goal.returns-then-wide-gt0-clause-near
 returns-then-wide-gt0-clause-near g c = λ pos a.
     let here = after pos c.args.board.now.moves in
     let a1 = agrees_before c.wide_candidates.ensures.stays.grows a in
-    let e = same_size (g.met.L.Look.sized c.surroundings-liberties.new.self.look) a1
-    ∙ ap (λ x. x.size) c.surroundings-liberties.ensures.stays.shown in
-    let on = subst (λ n. c.args.target < n * n) (sym e) c.requires.on_board in
+    let on = on_agreed _ _ (g.met.L.Look.sized c.args.board.now.look)
+    (agrees_before c.surroundings-liberties.ensures.stays.grows a1) c.requires.on_board in
     AddsIn-trans (AddsIn-mono (c.surroundings-liberties.ensures.near pos a1)
     (near_twice pos.size here.cells c.args.target on))
     (rw c.surroundings-liberties.ensures.stays.moves at (c.wide_candidates.ensures.near pos a))
@@ -75,9 +67,8 @@ returns-then-wide-gt0-clause-near g c = λ pos a.
 pub returns-else-wide-gt0-clause-near : goal.returns-else-wide-gt0-clause-near
 returns-else-wide-gt0-clause-near g c = λ pos a.
     let here = after pos c.args.board.now.moves in
-    let e = same_size (g.met.L.Look.sized c.surroundings-liberties.new.self.look) a
-    ∙ ap (λ x. x.size) c.surroundings-liberties.ensures.stays.shown in
-    let on = subst (λ n. c.args.target < n * n) (sym e) c.requires.on_board in
+    let on = on_agreed _ _ (g.met.L.Look.sized c.args.board.now.look)
+    (agrees_before c.surroundings-liberties.ensures.stays.grows a) c.requires.on_board in
     AddsIn-mono (c.surroundings-liberties.ensures.near pos a) (near_twice pos.size here.cells c.args.target on)
 
 -- the position shown is one of those that agree

@@ -1,8 +1,9 @@
 -- What was gathered are the wide candidates of the wider tree, on every position that agrees with what was seen.
-use Rattle.std.proofs.Common.{◌≡◌, ◌<◌, ◌*◌, ◌&&◌, ◌||◌, ℕ, true, ap, sym, subst, ◌∙◌}
+use Rattle.std.proofs.Common.{ap, sym, ◌∙◌}
 use Rattle.std.specs.Cmp.{nat_cmp_total}
 use Rattle.std.specs.FinSet as set
-use Rattle.go_base.specs.Facts.{agrees_before, same_size, AddsIn-trans, AddsIn-mono}
+use Rattle.go_base.specs.Facts.{agrees_before, AddsIn-trans, AddsIn-mono}
+use Rattle.trial_board.proofs.WalkLemmas.{on_agreed}
 use Rattle.trial_board.specs.Trials.{after}
 use Rattle.trial_board.proofs.AfterLemmas.{size-after}
 use Rattle.further_rules.specs.Further.{is_further}
@@ -38,8 +39,7 @@ returns-clause-near g c = λ pos a.
     let first = c.stated_wide_candidates-found in
     let a1 = agrees_before c.further_candidates-further.ensures.stays.grows a in
     let a0 = agrees_before first.ensures.stays.grows a1 in
-    let size = same_size (g.met.L.Look.sized c.args.board.now.look) a0 in
-    let on = subst (λ n. c.args.target < n * n) (sym size) c.requires.on_board in
+    let on = on_agreed _ _ (g.met.L.Look.sized c.args.board.now.look) a0 c.requires.on_board in
     let later = rw first.ensures.stays.moves at (c.further_candidates-further.ensures.near pos a) in
     AddsIn-trans (first.ensures.near pos a1)
     (AddsIn-mono later (search_further pos.size here.cells c.args.target on c.args.attacker_to_play))

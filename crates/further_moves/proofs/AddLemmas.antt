@@ -1,4 +1,4 @@
--- The points that plays leave, and how they are gathered.
+-- Points for which a test holds at a point of a set, added at one point of the set after another.
 use Rattle.std.proofs.Common.{◌≡◌, ℕ, ◌+◌, ◌<◌, ◌≤◌, ◌&&◌, ◌||◌, Bool, true, false, refl, sym, ap}
 use Rattle.std.proofs.Common.{arith, inl, inr, ◌∙◌, add-one}
 use Rattle.std.proofs.lemmas.Bool.{cases_lt, both_ways, and_parts}
@@ -20,27 +20,32 @@ any_below_skip test n m up none = same_tests _ _
     ])
     (λ h. let k = any_below_gives n test h in any_below_from m test k.0 (omega (arith, k.1, up)) k.2)
 
--- The points for which a test holds at a point of the set, added point by point.
+-- what is added to the empty set is all there is
+pub added_to_none : (none : sets.FinSet nat_cmp) (p : ℕ) (here : Bool) → none ≡ sets.empty
+    → (sets.contains none p || here) ≡ here
+added_to_none none p here e =
+    ap (λ t. sets.contains t p || here) e ∙ ap (λ b. b || here) (sets.contains-empty nat_cmp p)
+
 module _ (test : ℕ → ℕ → Bool) (points old : sets.FinSet nat_cmp) where
   -- what the test has at the points of the set below n came, and nothing else
-  abbrev pub LeftBelow : ℕ → sets.FinSet nat_cmp → Type 0
-  LeftBelow n new = (p : ℕ)
+  abbrev pub AddsBelow : ℕ → sets.FinSet nat_cmp → Type 0
+  AddsBelow n new = (p : ℕ)
       → sets.contains new p ≡ (sets.contains old p || any_below n (λ l. sets.contains points l && test l p))
 
   -- no point is below 0
-  pub LeftBelow-none : LeftBelow 0 old
-  LeftBelow-none p = or_false (sets.contains old p)
+  pub AddsBelow-none : AddsBelow 0 old
+  AddsBelow-none p = or_false (sets.contains old p)
     where
       or_false : (a : Bool) → a ≡ (a || false)
       or_false true = refl
       or_false false = refl
 
   -- what the test has at the next point came
-  pub LeftBelow-next : (n l : ℕ) (mid new : sets.FinSet nat_cmp) → n ≤ l → LeftBelow n mid
+  pub AddsBelow-next : (n l : ℕ) (mid new : sets.FinSet nat_cmp) → n ≤ l → AddsBelow n mid
       → sets.contains points l ≡ true
       → ((k : ℕ) → n ≤ k → k < l → sets.contains points k ≡ false)
-      → ((p : ℕ) → sets.contains new p ≡ (sets.contains mid p || test l p)) → LeftBelow (l + 1) new
-  LeftBelow-next n l mid new up h has none came p =
+      → ((p : ℕ) → sets.contains new p ≡ (sets.contains mid p || test l p)) → AddsBelow (l + 1) new
+  AddsBelow-next n l mid new up h has none came p =
       let at = λ (k : ℕ). sets.contains points k && test k p in
       let skip = any_below_skip at n l up (λ k lo hi. ap (λ b. b && test k p) (none k lo hi)) in
       came p ∙ ap (λ b. b || test l p) (h p ∙ ap (λ b. sets.contains old p || b) (sym skip))
@@ -56,10 +61,10 @@ module _ (test : ℕ → ℕ → Bool) (points old : sets.FinSet nat_cmp) where
       turned a b t false e = absurd (let w = e in cc)
 
   -- no point is left, and all are below the bound
-  pub LeftBelow-all : (n m : ℕ) (new : sets.FinSet nat_cmp) → LeftBelow n new
+  pub AddsBelow-all : (n m : ℕ) (new : sets.FinSet nat_cmp) → AddsBelow n new
       → ((k : ℕ) → n ≤ k → sets.contains points k ≡ false)
-      → ((k : ℕ) → sets.contains points k ≡ true → k < m) → LeftBelow m new
-  LeftBelow-all n m new h none inside p =
+      → ((k : ℕ) → sets.contains points k ≡ true → k < m) → AddsBelow m new
+  AddsBelow-all n m new h none inside p =
       h p ∙ ap (λ b. sets.contains old p || b) (same_tests _ _
       (λ i.
       let k = any_below_gives n _ i in
