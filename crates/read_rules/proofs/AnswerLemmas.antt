@@ -1,6 +1,6 @@
 -- What a reading under one code finds, and which answer the codes come to.
-use Rattle.std.proofs.Common.{◌≡◌, ◌≢◌, ◌∙◌, ℕ, zero, suc, ◌-◌, Bool, true, false, not, cond, Option, None, is_some, ◌<◌}
-use Rattle.std.proofs.Common.{◌≤◌, ap, sym, refl, arith, inl, inr, eq-eqb}
+use Rattle.std.proofs.Common.{◌≡◌, ◌≢◌, ◌∙◌, ℕ, zero, suc, ◌-◌, ◌<◌, ◌≤◌, Bool, true, false, not, cond, Option, None}
+use Rattle.std.proofs.Common.{is_some, ap, sym, refl, arith, inl, inr, eq-eqb}
 use Rattle.std.proofs.lemmas.Bool.{cases_Bool, cases_eq, ne_eqb, and_parts, and_from}
 use Rattle.go_rules.specs.declared.Cell.{Cell}
 use Rattle.go_rules.specs.declared.Cell.TheVariants.{Empty, Black, White}
@@ -45,7 +45,7 @@ reads q pos code found ne h e =
     }
 
 -- a cell that holds a stone is not empty
-stone_stands : (cell : Cell) (c : Colour) → cell ≡ stone_of c → same_cell cell Empty ≡ false
+pub stone_stands : (cell : Cell) (c : Colour) → cell ≡ stone_of c → same_cell cell Empty ≡ false
 stone_stands cell black e = ap (λ k. same_cell k Empty) e
 stone_stands cell white e = ap (λ k. same_cell k Empty) e
 

@@ -85,7 +85,7 @@ pub area-is : (q : ReadingQuestion) (pos : BoardState) (p : ℕ) → q.target < 
 area-is q pos p on = (area_gives q pos p on, area_from q pos p on)
 
 -- the same question, asked as an attack or as a defence
-abbrev asked_as : ReadingQuestion → Kind → ReadingQuestion
+abbrev pub asked_as : ReadingQuestion → Kind → ReadingQuestion
 asked_as q kind = record {
   tree = q.tree;
   size = q.size;

@@ -258,8 +258,8 @@ bounded_defender n node pos ih on stands turn h = elim (cases_Bool (attacker_win
   | inl t ↦
       let w = defender_gives n node pos stands turn (ap (λ m. attacker_wins m node pos) (add-one n) ∙ t) in
       let bound = pass_outlasts node.tree n node.wide (liberties pos.size pos.cells node.target) h in
-      let lost = ih (next_node node (allowance_of node)) (pass pos) on
-      (ap (λ b. outlasts node.tree (not b) n (node.wide - 1) (liberties pos.size pos.cells node.target)) turn ∙ bound) in
+      let lost = ih (next_node node (allowance_of node)) (pass pos) on (ap (λ b. outlasts node.tree (not b) n
+      (node.wide - 1) (liberties pos.size pos.cells node.target)) turn ∙ bound) in
       absurd (both_ways (attacker_wins n (next_node node (allowance_of node)) (pass pos)) lost w.passed)
 ]
 

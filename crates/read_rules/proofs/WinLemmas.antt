@@ -195,6 +195,15 @@ none_before cands wins next p before between q h = elim (cases_lt q next) [
   | inr g ↦ rw (between q g h) refl
 ]
 
+-- nor is p, where it does not succeed
+pub none_up_to : (cands wins : ℕ → Bool) (next p : ℕ) → ((q : ℕ) → q < next → (cands q && wins q) ≡ false)
+    → ((q : ℕ) → next ≤ q → q < p → cands q ≡ false) → cands p ≡ true → wins p ≡ false
+    → (q : ℕ) → q < p + 1 → (cands q && wins q) ≡ false
+none_up_to cands wins next p before between c fails q h = elim (cases_eq q p) [
+  | inl e ↦ ap (λ k. cands k && wins k) e ∙ ap (λ b. b && wins p) c ∙ fails
+  | inr ne ↦ none_before cands wins next p before between q (omega (arith, h, ne))
+]
+
 -- the first that succeeds, found by a walk over the candidates
 pub first_success-found : (n : ℕ) (node : Node) (pos : BoardState) (next p : ℕ) (cands : ℕ → Bool)
     → ((q : ℕ) → cands q ≡ is_candidate_at node pos q)

@@ -14,9 +14,10 @@ use Rattle.read_rules.proofs.CandidateLaws.{candidate_at_on}
 use Rattle.read_tree.specs.declared.table.Entry.{Entry}
 use Rattle.read_tree.specs.declared.turn.Turn.{Turn}
 use Rattle.read_tree.specs.declared.allowances.Allowances.{Allowances}
-use Rattle.read_tree.specs.Allowances.{has_some}
+use Rattle.read_tree.specs.Allowances.{neither_may, has_some, under}
+use Rattle.read_tree.specs.Stages.{is_candidate_on}
 use Rattle.read_tree.specs.Table.{IsTrueTable}
-use Rattle.read_tree.specs.Walk.{IsReady, IsPointOf, AreLibertiesOf}
+use Rattle.read_tree.specs.Walk.{IsReady, IsPointOf, AreLibertiesOf, OnEachAgreeing}
 
 -- a candidate is on the board
 pub candidate_inside : (node : Node) (shown : BoardState) (moves : List TrialMove) (p : ℕ)
@@ -37,6 +38,15 @@ module _ {L : Type 0} {shows : L → BoardState} {seen : L → Fact → Bool} {o
   -- a point of the board is still one
   pub point_after : (p : ℕ) → IsPointOf shows old p → IsPointOf shows new p
   point_after p on = subst (λ (pos : BoardState). p < pos.size * pos.size) (sym stays.shown) on
+
+  -- points that are candidates at a turn, on each position that agrees with what is seen now, are on it
+  pub candidates_inside : (turn : Turn) (points : sets.FinSet nat_cmp) → Agrees (seen new.look) (shows new.look)
+      → OnEachAgreeing seen old new (λ here. (p : ℕ) → sets.contains points p ≡ true
+      → is_candidate_on turn here p ≡ true)
+      → (p : ℕ) → sets.contains points p ≡ true → IsPointOf shows new p
+  candidates_inside turn points holds each p h =
+      point_after p (candidate_inside (under turn neither_may) (shows old.look) old.moves p
+      (each (shows old.look) (subst (Agrees (seen new.look)) stays.shown holds) p h))
 
   -- the liberties that are known are still the target's
   pub liberties_after : (target : ℕ) (points : sets.FinSet nat_cmp) → AreLibertiesOf seen old target points
