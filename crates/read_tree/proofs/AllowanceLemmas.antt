@@ -143,6 +143,19 @@ Tells-own attacker asked there test h e none = record { each = by attacker h e n
     by false h e none defender_may = found_as asked.defender (test defender_may) there h e
     by false h e none attacker_may = found_not asked.attacker (test attacker_may) (none attacker_may (λ w. cc))
 
+-- what is found after a play by the own allowance alone is told of the asked
+pub told_allowed : (n : ℕ) (turn : Turn) (here new : BoardState) (p : ℕ) (asked : Allowances) (way : Bool)
+    → let own = own_ko turn.attacker_to_play in has asked own ≡ true
+    → (child_of (under turn own) here p ≡ Some (under (next_turn turn) neither_may, new))
+    × ((ko : Ko) → ko ≢ own → child_of (under turn ko) here p ≡ None)
+    → way ≡ has_way turn.attacker_to_play (attacker_wins n (under (next_turn turn) neither_may) new)
+    → Tells asked (own_where turn.attacker_to_play way) (λ ko. succeeds n (under turn ko) here p)
+told_allowed n turn here new p asked way own made is =
+    Tells-own turn.attacker_to_play asked way (λ ko. succeeds n (under turn ko) here p) own
+    (is ∙ suits_child n turn.attacker_to_play (child_of (under turn (own_ko turn.attacker_to_play)) here p)
+    (under (next_turn turn) neither_may) new made.0)
+    (λ ko ne. suits_none n turn.attacker_to_play (child_of (under turn ko) here p) (made.1 ko ne))
+
 -- Each pass of the walk over the candidates.
 pub left_first : (n : ℕ) (turn : Turn) (here : BoardState) (candidate tried : ℕ → Bool) (asked : Allowances)
     → ((q : ℕ) → tried q ≡ false)
@@ -235,8 +248,8 @@ legal_nodes {new} {turn} p tree und candidate made = record {
 }
 
 -- after one that spends the own allowance, the node under no allowance is
-pub allowed_nodes : {q : ReadingQuestion} {root here new : BoardState} {n : ℕ} {turn : Turn} {asked : Allowances} (p : ℕ)
-    → AreNodesOf q root (suc n) turn asked here → ((ko : Ko) → IsUndecided (under turn ko) here)
+pub allowed_nodes : {q : ReadingQuestion} {root here new : BoardState} {n : ℕ} {turn : Turn} {asked : Allowances}
+    (p : ℕ) → AreNodesOf q root (suc n) turn asked here → ((ko : Ko) → IsUndecided (under turn ko) here)
     → is_candidate_on turn here p ≡ true → has asked (own_ko turn.attacker_to_play) ≡ true
     → child_of (under turn (own_ko turn.attacker_to_play)) here p ≡ Some (under (next_turn turn) neither_may, new)
     → AreNodesOf q root n (next_turn turn) (record { defender = false; neither = true; attacker = false }) new

@@ -19,7 +19,7 @@ use Rattle.read_tree.specs.declared.allowances.Allowances.{Allowances}
 use Rattle.read_rules.specs.GameTree.{is_captured, has_many_liberties, next_node, allowance_of, attacker_wins, succeeds}
 use Rattle.read_rules.specs.GameTree.{pass_saves, first_success, first_move, at_point}
 use Rattle.read_rules.specs.Answer.{is_attack, first_node, attains_code, is_about, answer_of}
-use Rattle.read_rules.specs.ActiveArea.{IsNodeOf, first}
+use Rattle.read_rules.specs.ActiveArea.{IsNodeOf, IsUndecided, first}
 use Rattle.read_rules.specs.Bound.{outlasts}
 use Rattle.read_tree.specs.Allowances.{all_three}
 use Rattle.read_tree.specs.Allowances.{Ko, defender_may, neither_may, attacker_may, has, has_some, own_ko, under, ko_of}
@@ -27,7 +27,7 @@ use Rattle.read_tree.specs.Allowances.{codes_above, best_code, Tells}
 use Rattle.read_rules.specs.GoodMoves.{IsOnBoard, good_move}
 use Rattle.read_tree.specs.Stages.{is_candidate_on}
 use Rattle.read_tree.specs.Steps.{first_turn, unread, better, node_of, IsBest, AreNodesOf}
-use Rattle.read_tree.proofs.AllowanceLemmas.{none_of, has_all}
+use Rattle.read_tree.proofs.AllowanceLemmas.{none_of, has_all, and_false_right}
 use Rattle.read_rules.proofs.LibertyLemmas.{bounded, pass_outlasts}
 use Rattle.read_rules.proofs.WinLemmas.{none_up_to, first_success-found, first_success-none}
 use Rattle.read_rules.proofs.AnswerLemmas.{attained_by, answer_best, about_stands}
@@ -338,7 +338,7 @@ not_attained q pos code is ne stands few pass points =
     (points p))
 
 -- the best of all moves at the first turn is the answer, unless an attack's target has many liberties
-pub best_answer : (q : ReadingQuestion) (pos : BoardState) (best : Answer) → q.plies ≢ 0 → is_about q pos ≡ true
+best_answer : (q : ReadingQuestion) (pos : BoardState) (best : Answer) → q.plies ≢ 0 → is_about q pos ≡ true
     → (is_attack q.kind && has_many_liberties q.tree pos q.target q.wide) ≡ false
     → IsBest (q.plies - 1) (first_turn q) pos (is_candidate_on (first_turn q) pos) best → best ≡ answer_of q pos
 best_answer q pos best ne about few i =
@@ -353,6 +353,22 @@ best_answer q pos best ne about few i =
     (λ more lo hi. not_attained q pos more (code_cases more (omega arith) hi) ne stands few
     (i.no_pass more lo hi) (i.no_point more lo hi))
     i.no_move (λ some. (i.move some).1 ∙ moved some)
+
+-- the best move of an attack at an undecided first turn is the answer
+pub attack_answer : (q : ReadingQuestion) (pos : BoardState) (best : Answer) → q.plies ≢ 0 → is_about q pos ≡ true
+    → is_attack q.kind ≡ true → IsUndecided (under (first_turn q) neither_may) pos
+    → (IsBest (q.plies - 1) (first_turn q) pos nowhere (record { code = 0; at = None })
+    → IsBest (q.plies - 1) (first_turn q) pos (is_candidate_on (first_turn q) pos) best) → best ≡ answer_of q pos
+attack_answer q pos best ne about attacks und moves =
+    best_answer q pos best ne about (and_false_right (is_attack q.kind) _ (und.few attacks))
+    (moves (best_nothing (q.plies - 1) (first_turn q) pos attacks))
+
+-- the best move of a defence is the answer
+pub defence_answer : (q : ReadingQuestion) (pos : BoardState) (best : Answer) → q.plies ≢ 0 → is_about q pos ≡ true
+    → is_attack q.kind ≡ false
+    → IsBest (q.plies - 1) (first_turn q) pos (is_candidate_on (first_turn q) pos) best → best ≡ answer_of q pos
+defence_answer q pos best ne about defends i =
+    best_answer q pos best ne about (ap (λ b. b && has_many_liberties q.tree pos q.target q.wide) defends) i
 
 -- the first turn is one of the trees under each allowance
 pub first_nodes : (q : ReadingQuestion) (pos : BoardState) → q.plies ≢ 0

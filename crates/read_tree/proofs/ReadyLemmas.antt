@@ -55,8 +55,8 @@ module _ {L : Type 0} {shows : L → BoardState} {seen : L → Fact → Bool} {o
 
   -- the walk may go on, where some allowance is left, by a table that is true of what is seen
   pub ready_after : {turn : Turn} {n : ℕ} {asked : Allowances} {points : sets.FinSet nat_cmp}
-      {entries later : List Entry} (left : Allowances) → IsReady shows seen old turn n asked points entries → has_some left ≡ true
-      → IsTrueTable (seen new.look) turn.tree turn.target turn.defender later
+      {entries later : List Entry} (left : Allowances) → IsReady shows seen old turn n asked points entries
+      → has_some left ≡ true → IsTrueTable (seen new.look) turn.tree turn.target turn.defender later
       → IsReady shows seen new turn n left points later
   ready_after {turn} {points} left ready some table = record {
     room = rw stays.moves ready.room;

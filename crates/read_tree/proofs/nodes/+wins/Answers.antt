@@ -9,8 +9,8 @@ use Rattle.read_rules.specs.GameTree.{succeeds}
 use Rattle.read_rules.proofs.WinLemmas.{wins-captured, wins-no_plies, wins-by_move, none_up_to, first_success-found}
 use Rattle.read_rules.proofs.WinLemmas.{first_success-none}
 use Rattle.read_tree.proofs.TableLemmas.{table_more}
-use Rattle.read_tree.proofs.NodeLemmas.{play_made, play_refused, no_pass, pass_made, first_pass, first_point, good_barred}
-use Rattle.read_tree.proofs.NodeLemmas.{good_first}
+use Rattle.read_tree.proofs.NodeLemmas.{play_made, play_refused, no_pass, pass_made, first_pass, first_point}
+use Rattle.read_tree.proofs.NodeLemmas.{good_barred, good_first}
 use Rattle.trial_board.specs.Trials.{Stays-trans}
 use Rattle.read_tree.proofs.ReadyLemmas.{candidate_inside, point_after}
 use Rattle.read_tree.proofs.nodes.+wins.Goals as goal

@@ -17,10 +17,10 @@ use Rattle.read_tree.specs.Table.{IsTrueOf}
 use Rattle.read_tree.specs.Allowances.{Ko, under, next_turn, own_ko, neither_may, has_some, without}
 use Rattle.read_rules.specs.GoodMoves.{good_move}
 use Rattle.read_tree.specs.Steps.{AreNodesOf, TellsBy, is_off_liberties, is_safe}
-use Rattle.read_rules.specs.GameTree.{has_many_liberties, attacker_wins, child_of, succeeds, first_success}
-use Rattle.read_tree.proofs.AllowanceLemmas.{success_some, good_by_success, suits_child, suits_none}
-use Rattle.read_tree.proofs.AllowanceLemmas.{Tells-same, Tells-own, Tells-good, Tells-attackers, Tells-all, Tells-none}
-use Rattle.read_tree.proofs.AllowanceLemmas.{good_attacker, legal_nodes, allowed_nodes, pass_nodes, fewer_nodes}
+use Rattle.read_rules.specs.GameTree.{has_many_liberties, attacker_wins, child_of, first_success}
+use Rattle.read_tree.proofs.AllowanceLemmas.{success_some, good_by_success, suits_child}
+use Rattle.read_tree.proofs.AllowanceLemmas.{Tells-same, Tells-good, Tells-attackers, Tells-all, Tells-none}
+use Rattle.read_tree.proofs.AllowanceLemmas.{good_attacker, told_allowed, legal_nodes, allowed_nodes, pass_nodes}
 use Rattle.read_tree.proofs.AllowanceLemmas.{left_first, left_next}
 use Rattle.read_tree.proofs.StageLemmas.{by_done, by_over, by_none, by_same, by_more, by_enough, by_both, stage_done}
 use Rattle.read_tree.proofs.StageLemmas.{stage_over, none_other, nothing_near, liberty_is_candidate}
@@ -41,7 +41,7 @@ use Rattle.std.specs.Ordering.{nat_cmp}
 use Rattle.read_rules.specs.GameTree.{is_captured}
 use Rattle.trial_board.specs.Trials.{Stays-trans}
 use Rattle.read_tree.specs.Walk.{AreLibertiesOf, OnEachAgreeing, LooksNear, LooksNearWhere, LooksNearOrAt}
-use Rattle.read_tree.proofs.AllowanceLemmas.{left_nodes}
+use Rattle.read_tree.proofs.AllowanceLemmas.{fewer_nodes, left_nodes}
 use Rattle.read_tree.proofs.CarryLemmas.{carried_on}
 use Rattle.read_tree.proofs.ReadyLemmas.{on_after, point_after, candidates_inside, ready_after}
 use Rattle.read_tree.proofs.StandingNodes.{standing_node, ready_node, near_target, near_captures, near_play, near_sides}
@@ -93,22 +93,14 @@ succeeds-returns-in-Legal-clause-over g t c = λ pos a.
 -- a play by the own allowance
 pub succeeds-returns-in-Allowed-clause-over : goal.succeeds-returns-in-Allowed-clause-over
 succeeds-returns-in-Allowed-clause-over g t c = λ pos a.
+    let next = c.liberties_after-next-in-Allowed.ensures in
     let a2 = rw c.back-in-Allowed.ensures.moves at a in
-    let a3 = agrees_before c.has_way-good-in-Allowed.ensures.stays.grows a2 in
-    let a1 = agrees_before c.liberties_after-next-in-Allowed.ensures.stays.grows a3 in
-    let here = after pos c.args.board.now.moves in
-    let new = after pos c.make.new.board.moves in
-    let turn = c.args.turn in
-    let own = own_ko turn.attacker_to_play in
-    let made = rw c.in-Allowed.is at (c.make.ensures.over pos a1) in
-    let good = rw (c.neither_alone.ensures, c.liberties_after-next-in-Allowed.ensures.stays.moves) at
-    (c.has_way-good-in-Allowed.ensures.over pos a2) in
-    let asked = sym c.has_own-own.ensures ∙ c.make.ensures.own c.in-Allowed.is in
-    rw c.own_where.ensures (Tells-own turn.attacker_to_play c.args.asked c.has_way-good-in-Allowed.result.neither
-    (λ ko. succeeds c.args.plies (under turn ko) here c.args.p) asked
-    (good.each neither_may ∙ suits_child c.args.plies turn.attacker_to_play (child_of (under turn own) here c.args.p)
-    (under (next_turn turn) neither_may) new made.0)
-    (λ ko ne. suits_none c.args.plies turn.attacker_to_play (child_of (under turn ko) here c.args.p) (made.1 ko ne)))
+    let a1 = agrees_before (Stays-trans next.stays c.has_way-good-in-Allowed.ensures.stays).grows a2 in
+    let way = rw (c.neither_alone.ensures, next.stays.moves) at (c.has_way-good-in-Allowed.ensures.over pos a2) in
+    rw c.own_where.ensures (told_allowed c.args.plies c.args.turn (after pos c.args.board.now.moves)
+    (after pos c.make.new.board.moves) c.args.p c.args.asked c.has_way-good-in-Allowed.result.neither
+    (sym c.has_own-own.ensures ∙ c.make.ensures.own c.in-Allowed.is)
+    (rw c.in-Allowed.is at (c.make.ensures.over pos a1)) (way.each neither_may))
 
 -- a refused play looks near its candidate
 pub succeeds-returns-in-Not-clause-near : goal.succeeds-returns-in-Not-clause-near
@@ -140,7 +132,8 @@ succeeds-returns-in-Allowed-clause-near g t c = λ pos a q root tree und candida
     let node = ready_node c.requires.ready (g.met.L.Look.sized c.args.board.now.look)
     (agrees_before c.make.ensures.grows a1) tree (und neither_may).stands in
     let asked = sym c.has_own-own.ensures ∙ c.make.ensures.own c.in-Allowed.is in
-    let nodes = allowed_nodes c.args.p tree und candidate asked (rw c.in-Allowed.is at (c.make.ensures.over pos a1)).0 in
+    let nodes = allowed_nodes c.args.p tree und candidate asked
+    (rw c.in-Allowed.is at (c.make.ensures.over pos a1)).0 in
     let below = (rw (c.neither_alone.ensures, next.stays.moves) at
     (c.has_way-good-in-Allowed.ensures.near pos a2 q root)) nodes in
     rw c.back-in-Allowed.ensures.moves (AddsNear-trans (near_play node c.args.p candidate (c.make.ensures.near pos a1))
@@ -321,7 +314,8 @@ some_other-some_of-rest-requires g t c κs within =
     let inside = candidates_inside stays c.args.turn c.others_of-others.result
     (g.met.L.Look.holds c.others_of-others.new.board.look)
     (λ pos a p h. other_is_candidate c.args.turn (after pos c.args.board.now.moves) p
-    (lt-ltb 0 c.args.turn.wide (omega (arith, c.if-turn-eq0.false))) (sym (rw before.moves at (others.over pos a p)) ∙ h)) in
+    (lt-ltb 0 c.args.turn.wide (omega (arith, c.if-turn-eq0.false)))
+    (sym (rw before.moves at (others.over pos a p)) ∙ h)) in
     search rules
 
 -- too many liberties would be left
@@ -385,12 +379,13 @@ off_found : (g : Over) (t : ℕ) (c : some_other-After-others_of-others g t) →
 off_found g t c = λ pos a q.
     let turn = c.args.turn in
     let here = after pos c.args.board.now.moves in
+    let others = c.others_of-others.ensures in
     let good = Stays-trans c.some_of-good.ensures.stays c.is_in_atari.ensures.stays in
     off_by_stages turn here q (lt-ltb 0 turn.wide (omega (arith, c.if-turn-eq0.false)))
     ∙ ap (λ b. b || is_other turn here q) (sym (c.captures_of-captures.ensures.over pos
-    (agrees_before (Stays-trans good c.others_of-others.ensures.stays).grows a) q))
+    (agrees_before (Stays-trans good others.stays).grows a) q))
     ∙ ap (λ b. set.contains c.captures_of-captures.result q || b)
-    (sym (rw (Stays-trans c.captures_of-captures.ensures.stays good).moves at (c.others_of-others.ensures.over pos a q)))
+    (sym (rw (Stays-trans c.captures_of-captures.ensures.stays good).moves at (others.over pos a q)))
 
 -- what the captures left is asked of the others
 pub some_other-returns-clause-over : goal.some_other-returns-clause-over
@@ -612,7 +607,8 @@ has_good_move-returns-clause-near g t c = λ pos a q root tree und.
       c.pass_saves.ensures.stays.moves,
       c.escapes.ensures.stays.moves,
     ) at (c.some_success.ensures.near pos a q root))
-    (left_nodes c.pass_saves.result tree c.without-lost.ensures) (λ ko. undecided_defender (und neither_may).stands c.if-turn.false))
+    (left_nodes c.pass_saves.result tree c.without-lost.ensures)
+    (λ ko. undecided_defender (und neither_may).stands c.if-turn.false))
 
 -- the target is captured
 pub attacker_wins-returns-then-eq-clause-over : goal.attacker_wins-returns-then-eq-clause-over
@@ -724,8 +720,8 @@ attacker_wins-returns-in-Open-clause-near g t c = λ pos a q root tree.
     record { each = λ ko h. pred_tree c.args.plies c.if-plies-eq0.false (tree.each ko h) } in
     AddsNear-trans (outlook_near g t d pos a1 q root tree)
     (near_at c.args.turn.target (InActiveArea q root)
-    ((rw (Stays-trans before c.outlook_of.ensures.stays).moves at (c.has_good_move-good.ensures.near pos a q root)) nodes
-    (outlook_undecided g t d (ap is_safe c.in-Open.is) pos a1)))
+    ((rw (Stays-trans before c.outlook_of.ensures.stays).moves at (c.has_good_move-good.ensures.near pos a q root))
+    nodes (outlook_undecided g t d (ap is_safe c.in-Open.is) pos a1)))
 
 -- What the table tells stays true while more is seen: after a play that is not made,
 pub succeeds-returns-in-Not-clause-table : goal.succeeds-returns-in-Not-clause-table
@@ -834,4 +830,5 @@ some_by_table-returns-clause-over g t c = λ pos a.
 -- the rest is read in the active area
 pub some_by_table-returns-clause-near : goal.some_by_table-returns-clause-near
 some_by_table-returns-clause-near g t c = λ pos a q root tree und.
-    c.some_success-good.ensures.near pos a q root (left_nodes c.find-before.result.known tree c.without-missing.ensures) und
+    c.some_success-good.ensures.near pos a q root
+    (left_nodes c.find-before.result.known tree c.without-missing.ensures) und
