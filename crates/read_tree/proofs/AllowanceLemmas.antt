@@ -56,6 +56,19 @@ has-without a b defender_may = refl
 has-without a b neither_may = refl
 has-without a b attacker_may = refl
 
+-- what two stages tell: of the asked all but what neither gives
+pub has-two : (asked found rest : Allowances) (ko : Ko) → has (without asked (without (without asked found) rest)) ko
+    ≡ (has asked ko && not ((has asked ko && not (has found ko)) && not (has rest ko)))
+has-two asked found rest ko = has-without asked (without (without asked found) rest) ko
+    ∙ ap (λ x. has asked ko && not x) (has-without (without asked found) rest ko
+    ∙ ap (λ x. x && not (has rest ko)) (has-without asked found ko))
+
+-- what is in a set, and is not left without another, is in the other
+pub in_other : (a b : Bool) → a ≡ true → (a && not b) ≡ false → b ≡ true
+in_other true true e h = refl
+in_other true false e h = cc
+in_other false b e h = cc
+
 -- the side to play has nothing left under another's allowance
 pub nothing_left : (attacker : Bool) (ko : Ko) → ko ≢ own_ko attacker
     → cond attacker (attacker_ko_of ko) (defender_ko_of ko) ≡ 0
@@ -326,9 +339,7 @@ pub Tells-good : (n : ℕ) (turn : Turn) (here : BoardState) (asked saved some :
     (λ ko. is_some (good_move n (under turn ko) here))
 Tells-good n turn here asked saved some defends s m = record {
   each = λ ko.
-      has-without asked (without (without asked saved) some) ko
-      ∙ ap (λ x. has asked ko && not x) (has-without (without asked saved) some ko
-      ∙ ap (λ x. x && not (has some ko)) (has-without asked saved ko))
+      has-two asked saved some ko
       ∙ count (has asked ko) (pass_saves n (under turn ko) here) (is_some (first_success n (under turn ko) here))
       (has saved ko) (has some ko) (s.each ko)
       (m.each ko ∙ ap (λ x. x && is_some (first_success n (under turn ko) here)) (has-without asked saved ko))

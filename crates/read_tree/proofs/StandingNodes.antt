@@ -16,7 +16,7 @@ use Rattle.trial_board.specs.Overlays.{neighbourhood_twice}
 use Rattle.trial_board.specs.Trials.{Trying, after}
 use Rattle.trial_board.proofs.AfterLemmas.{size-after}
 use Rattle.read_rules.specs.declared.question.ReadingQuestion.{ReadingQuestion}
-use Rattle.read_rules.specs.ActiveArea.{IsNodeOf, first as by_code, InActiveArea, AddsNear}
+use Rattle.read_rules.specs.ActiveArea.{IsNodeOf, IsUndecided, first as by_code, InActiveArea, AddsNear}
 use Rattle.read_rules.specs.Answer.{is_about, first_node}
 use Rattle.read_rules.proofs.AnswerLemmas.{about_stands}
 use Rattle.read_rules.specs.Candidates.{near_candidates}
@@ -27,7 +27,7 @@ use Rattle.read_moves.proofs.CandidateLemmas.{near_twice, near_liberties}
 use Rattle.read_tree.specs.declared.table.Entry.{Entry}
 use Rattle.read_tree.specs.declared.turn.Turn.{Turn}
 use Rattle.read_tree.specs.declared.allowances.Allowances.{Allowances}
-use Rattle.read_tree.specs.Allowances.{Ko, under, has_some}
+use Rattle.read_tree.specs.Allowances.{Ko, neither_may, under, has_some}
 use Rattle.read_tree.specs.Stages.{is_candidate_on}
 use Rattle.read_tree.specs.Steps.{AreNodesOf}
 use Rattle.read_tree.specs.Walk.{IsReady}
@@ -68,6 +68,16 @@ pub ready_node : {L : Type 0} {shows : L → BoardState} {seen : L → Fact → 
     → IsStandingNode q root (after pos board.moves) (suc n) pos.size turn
 ready_node {board} ready told agrees nodes stands =
     standing_node _ told agrees board.moves ready.target ready.some nodes stands
+
+-- and where it is undecided
+pub undecided_node : {L : Type 0} {shows : L → BoardState} {seen : L → Fact → Bool} {board : Trying L} {turn : Turn}
+    {n : ℕ} {asked : Allowances} {points : sets.FinSet nat_cmp} {entries : List Entry} {q : ReadingQuestion}
+    {root pos : BoardState} → IsReady shows seen board turn n asked points entries
+    → seen board.look (SizeIs (shows board.look).size) ≡ true → Agrees (seen board.look) pos
+    → AreNodesOf q root (suc n) turn asked (after pos board.moves)
+    → ((ko : Ko) → IsUndecided (under turn ko) (after pos board.moves))
+    → IsStandingNode q root (after pos board.moves) (suc n) pos.size turn
+undecided_node ready told agrees nodes und = ready_node ready told agrees nodes (und neither_may).stands
 
 -- What is looked at there.
 module _ {q : ReadingQuestion} {root here : BoardState} {n s : ℕ} {turn : Turn}

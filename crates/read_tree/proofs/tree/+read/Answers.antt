@@ -44,7 +44,8 @@ use Rattle.read_tree.specs.Walk.{AreLibertiesOf, OnEachAgreeing, LooksNear, Look
 use Rattle.read_tree.proofs.AllowanceLemmas.{fewer_nodes, left_nodes}
 use Rattle.read_tree.proofs.CarryLemmas.{carried_on}
 use Rattle.read_tree.proofs.ReadyLemmas.{on_after, point_after, candidates_inside, ready_after}
-use Rattle.read_tree.proofs.StandingNodes.{standing_node, ready_node, near_target, near_captures, near_play, near_sides}
+use Rattle.read_tree.proofs.StandingNodes.{standing_node, ready_node, undecided_node, near_target, near_captures}
+use Rattle.read_tree.proofs.StandingNodes.{near_play, near_sides}
 use Rattle.read_tree.proofs.StandingNodes.{near_wide, near_escape, near_child, near_outlook, near_at}
 use Rattle.read_tree.proofs.tree.+read.Given.{Over}
 use Rattle.read_tree.proofs.tree.+read.Goals.{some_of-After-succeeds-good, some_other-After-some_of-good}
@@ -106,8 +107,7 @@ succeeds-returns-in-Allowed-clause-over g t c = λ pos a.
 pub succeeds-returns-in-Not-clause-near : goal.succeeds-returns-in-Not-clause-near
 succeeds-returns-in-Not-clause-near g t c = λ pos a q root tree und candidate.
     let a0 = agrees_before c.make.ensures.grows a in
-    let node = ready_node c.requires.ready (g.met.L.Look.sized c.args.board.now.look) a0 tree
-    (und neither_may).stands in
+    let node = undecided_node c.requires.ready (g.met.L.Look.sized c.args.board.now.look) a0 tree und in
     near_play node c.args.p candidate (c.make.ensures.near pos a)
 
 -- a play that is made leads to nodes of the trees
@@ -116,8 +116,8 @@ succeeds-returns-in-Legal-clause-near g t c = λ pos a q root tree und candidate
     let later = Stays-trans c.liberties_after-next.ensures.stays c.has_way-good.ensures.stays in
     let a2 = rw c.back.ensures.moves at a in
     let a1 = agrees_before later.grows a2 in
-    let node = ready_node c.requires.ready (g.met.L.Look.sized c.args.board.now.look)
-    (agrees_before c.make.ensures.grows a1) tree (und neither_may).stands in
+    let node = undecided_node c.requires.ready (g.met.L.Look.sized c.args.board.now.look)
+    (agrees_before c.make.ensures.grows a1) tree und in
     let nodes = legal_nodes c.args.p tree und candidate (rw c.in-Legal.is at (c.make.ensures.over pos a1)) in
     let below = (rw c.liberties_after-next.ensures.stays.moves at (c.has_way-good.ensures.near pos a2 q root)) nodes in
     rw c.back.ensures.moves (AddsNear-trans (near_play node c.args.p candidate (c.make.ensures.near pos a1))
@@ -129,8 +129,8 @@ succeeds-returns-in-Allowed-clause-near g t c = λ pos a q root tree und candida
     let next = c.liberties_after-next-in-Allowed.ensures in
     let a2 = rw c.back-in-Allowed.ensures.moves at a in
     let a1 = agrees_before (Stays-trans next.stays c.has_way-good-in-Allowed.ensures.stays).grows a2 in
-    let node = ready_node c.requires.ready (g.met.L.Look.sized c.args.board.now.look)
-    (agrees_before c.make.ensures.grows a1) tree (und neither_may).stands in
+    let node = undecided_node c.requires.ready (g.met.L.Look.sized c.args.board.now.look)
+    (agrees_before c.make.ensures.grows a1) tree und in
     let asked = sym c.has_own-own.ensures ∙ c.make.ensures.own c.in-Allowed.is in
     let nodes = allowed_nodes c.args.p tree und candidate asked
     (rw c.in-Allowed.is at (c.make.ensures.over pos a1)).0 in
@@ -203,8 +203,7 @@ tried_near g t c = λ pos a q root tree und its.
     let a2 = agrees_before c.succeeds-good.ensures.stays.grows a in
     let a1 = agrees_before chosen.grows a2 in
     let a0 = agrees_before i.stays.grows a1 in
-    let node = ready_node c.requires.ready (g.met.L.Look.sized c.args.board.now.look) a0 tree
-    (und neither_may).stands in
+    let node = undecided_node c.requires.ready (g.met.L.Look.sized c.args.board.now.look) a0 tree und in
     AddsNear-trans (i.near pos a1 q root tree und its)
     (AddsNear-trans (near_sides node c.args.known.now (c.requires.ready.liberties pos a0)
     (c.next_to_try.ensures.near pos a2))
@@ -277,8 +276,7 @@ some_of-returns-clause-near g t c = λ pos a q root tree und its.
     let i = c.loop-p.invariant in
     let a1 = agrees_before c.next_to_try.ensures.stays.grows a in
     let a0 = agrees_before i.stays.grows a1 in
-    let node = ready_node c.requires.ready (g.met.L.Look.sized c.args.board.now.look) a0 tree
-    (und neither_may).stands in
+    let node = undecided_node c.requires.ready (g.met.L.Look.sized c.args.board.now.look) a0 tree und in
     AddsNear-trans (i.near pos a1 q root tree und its)
     (near_sides node c.args.known.now (c.requires.ready.liberties pos a0) (c.next_to_try.ensures.near pos a))
 
@@ -411,7 +409,7 @@ good_near g t c = λ pos a q root tree und.
     let captures = c.captures_of-captures.ensures in
     let a1 = agrees_before c.some_of-good.ensures.stays.grows a in
     let a0 = agrees_before captures.stays.grows a1 in
-    let node = ready_node c.requires (g.met.L.Look.sized c.args.board.now.look) a0 tree (und neither_may).stands in
+    let node = undecided_node c.requires (g.met.L.Look.sized c.args.board.now.look) a0 tree und in
     AddsNear-trans (near_captures node (captures.near pos a1))
     ((rw captures.stays.moves at (c.some_of-good.ensures.near pos a q root)) tree und
     (λ p h. capture_is_candidate c.args.turn (after pos c.args.board.now.moves) p
@@ -434,8 +432,7 @@ some_other-returns-then-is_in_atari-clause-near g t c = λ pos a q root tree und
     let a2 = agrees_before c.is_in_atari.ensures.stays.grows a in
     let a0 = agrees_before c.captures_of-captures.ensures.stays.grows
     (agrees_before c.some_of-good.ensures.stays.grows a2) in
-    let node = ready_node c.requires (g.met.L.Look.sized c.args.board.now.look) a0 tree
-    (und neither_may).stands in
+    let node = undecided_node c.requires (g.met.L.Look.sized c.args.board.now.look) a0 tree und in
     AddsNear-trans (good_near g t d pos a2 q root tree und) (near_target node c.is_in_atari.ensures.near)
 
 -- and so do the looks for the others
@@ -445,8 +442,8 @@ others_near : (g : Over) (t : ℕ) (c : some_other-After-others_of-others g t)
 others_near g t c good = λ pos a q root tree und.
     let before = Stays-trans c.captures_of-captures.ensures.stays c.some_of-good.ensures.stays in
     let a2 = agrees_before (Stays-trans c.is_in_atari.ensures.stays c.others_of-others.ensures.stays).grows a in
-    let node = ready_node c.requires (g.met.L.Look.sized c.args.board.now.look) (agrees_before before.grows a2) tree
-    (und neither_may).stands in
+    let node = undecided_node c.requires (g.met.L.Look.sized c.args.board.now.look)
+    (agrees_before before.grows a2) tree und in
     AddsNear-trans (good pos a2 q root tree und) (AddsNear-trans (near_target node c.is_in_atari.ensures.near)
     (near_wide node (rw (Stays-trans before c.is_in_atari.ensures.stays).moves at
     (c.others_of-others.ensures.near pos a))))
@@ -564,8 +561,7 @@ has_good_move-returns-then-escapes-clause-over g t c = λ pos a und.
 pub has_good_move-returns-then-escapes-clause-near : goal.has_good_move-returns-then-escapes-clause-near
 has_good_move-returns-then-escapes-clause-near g t c = λ pos a q root tree und.
     let a0 = agrees_before c.escapes.ensures.stays.grows a in
-    let node = ready_node c.requires (g.met.L.Look.sized c.args.board.now.look) a0 tree
-    (und neither_may).stands in
+    let node = undecided_node c.requires (g.met.L.Look.sized c.args.board.now.look) a0 tree und in
     near_escape node c.args.known.now (c.requires.liberties pos a0) (c.escapes.ensures.near pos a)
 
 -- the looks for an escape and after the pass lie in the active area
